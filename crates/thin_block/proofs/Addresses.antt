@@ -36,8 +36,8 @@ near E xs i fits le = let low = reach (R E) i (length xs) fits le in omega arith
 module _ (E : El) (Y : Al) {M : Type 1} {𝓤 : Ura M} {𝓛 : Logic 𝓤} {K : Type 0}
     {Γ : List (Item 𝓤)} {h s : Item 𝓤} where
   -- Symbolically evaluates an operand that reads a block's pointer through the reference in the
-  -- local variable `p`. This reference points to the offset `ro` of the allocation `rb`. The result
-  -- is the block's pointer, which points to the offset `o` of the allocation `b`.
+  -- local variable `p`. The reference points into the allocation `rb`, at the offset `ro`. The
+  -- result is the block's pointer, which points into the allocation `b`, at the offset `o`.
   pub its_ptr : K → {Ev : Env 𝓤 𝓛.H} {p b o rb ro : ℕ} {q : Share}
       → at 𝓛 p (h ∷ s ∷ ‵
       (cell_at full_share (Br E Y).mir (block_val (block_ptr b o) ∷ []) rb ro) ∷ Γ)

@@ -3,7 +3,8 @@
 -- - `carve` splits the memory of a whole block into its parts.
 -- - `header` states what a block owns besides its slots.
 -- - `block_had` splits a block into its header and its slots, and `block_made` is the inverse.
--- - `block_opens` splits the block behind a mutable reference, and `block_closes` is the inverse.
+-- - `block_opens` splits the block behind a mutable reference into its header, its slots and the
+--   parts of the borrow, and `block_closes` is the inverse.
 use Rattle.std.proofs.Common.{◌≡◌, Bool, true, ℕ, Some, None, ◌+◌, ◌*◌, ◌<◌, List, [], ◌∷◌, ◌++◌, length, refl, sym, ap, subst, ◌∙◌, arith, w64}
 use seplogic.Ra.Ura.{Ura}
 use mir.Syntax.{Ty, Tys, Width, Args, w8, w16, w32, w128, a_type, dcons, dnil, ty_int, ty_array, tcons, tnil}

@@ -196,8 +196,7 @@ module _ (E : El) (Y : Al) {M : Type 1} {𝓤 : Ura M} (𝓛 : Logic 𝓤) {n : 
       (owns (types_at ss x.0) x.3.1 x.4.1) ∷ Γ
 
   -- Begins the proof of a method that takes `&mut self`. After this step, the proof context holds
-  -- everything that the method owns at the start of a call (`Entered`), and then the `requires`
-  -- clauses.
+  -- what the method owns at the start of a call (`Entered`), followed by the `requires` clauses.
   pub starts : {Bd : Lfts (suc n) → Type 0} {P : SProp 𝓤} (x : Passed lent ss Bd) (Q : SProp 𝓤)
       → Sq 𝓛 (Entered x (raw Q ∷ [])) (prop P) → ent 𝓤 (sep 𝓤 (Entry lent ss 𝓛 x) Q) P
   starts x Q next = arrives lent ss 𝓛 x Q (fsplit3 ! $ drop ! $ next)

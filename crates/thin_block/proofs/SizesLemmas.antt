@@ -23,7 +23,7 @@ use Rattle.std.proofs.lemmas.Bool.Decides.{nat_tests}
 use Rattle.thin_block.specs.Capacity.{IsAlign, items_offset, block_align, block_bytes, is_small, fits, Fits, first}
 use Rattle.thin_block.specs.Growth.{fitting, doubling}
 
--- The next lemmas are about rounding up.
+-- The next lemmas are about rounding a size up to a multiple of an alignment.
 
 -- Suppose that the items of a block take `x` bytes in total, and that each item has the alignment
 -- `a`. `Rounded a x` collects bounds on the alignment and the size of this block.
@@ -231,7 +231,7 @@ fits_none R =
     let nothing = zero-mul (type_size R) in
     fits_yes R 0 (omega arith) (omega arith)
 
--- The next lemmas are about the first capacity of a block.
+-- The next lemmas are about the capacity that a growth rule chooses for the first block of a list.
 
 -- `first s` is the least capacity that the rule `doubling` chooses for the first allocation of a
 -- block whose items have the size `s`. `capped s` is the lesser of `s` and `usize::MAX`. If `capped

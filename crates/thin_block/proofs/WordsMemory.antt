@@ -420,9 +420,9 @@ module _ {M : Type 1} {𝓤 : Ura M} (𝓛 : Logic 𝓤) (T : RattleType) (L : L
         ap (λ (n : ℕ). n * s) (length-map (take m xs) Some ∙ first_long) in
         let e = wide in omega arith
 
-  -- Groups the slots that hold the items `xs` into `n` words, and combines the slots of each word
-  -- with the right (`way`) to convert them into memory for a word. There are `w` such rights, and
-  -- `w` is `j + n`. So `j` rights are left over.
+  -- Groups the slots that hold the items `xs` into `n` words. Each group is paired with one right
+  -- (`way`) to convert it into memory for a word. There are `w = j + n` rights, so `j` of them are
+  -- left over.
   to_runs : (n w j : ℕ) (xs : List X) (o at : ℕ) → length xs ≡ n * m → w ≡ j + n → at ≡ n * u' + o
       → ent 𝓤 (sep 𝓤 (sem 𝓛 (places (R E) (full xs) b o)) (sem 𝓛 (ways τ' m w b o)))
       (sep 𝓤 (sem 𝓛 (runs_at (R E) N (chunks n xs) b o)) (sem 𝓛 (ways τ' m j b at)))
@@ -572,9 +572,9 @@ module _ {M : Type 1} {𝓤 : Ura M} (𝓛 : Logic 𝓤) (T : RattleType) (L : L
         use1 𝓛 (‵ (places (R E) (full xs) b o) ⊛ ‵ (places (R E) (empty j) b after))
         (cut E 𝓛 b (full xs) (empty j) o after last) $ split ! $ move ! (2 ∷ []) $ fsplit ! $
         -- The previous steps have separated the filled slots from the empty slots. They have also
-        -- split `slots_way` into the rights (`ways`) to convert memory for items into words, and
-        -- the unused memory after the last slot. The proof context now holds these entries, in this
-        -- order: the rights; the unused memory; the filled slots; the empty slots.
+        -- split `slots_way` into two parts: the rights (`ways`) to convert memory for items into
+        -- words; and the unused memory after the last slot. The proof context now holds these
+        -- entries, in this order: the rights; the unused memory; the filled slots; the empty slots.
         move ! (2 ∷ 0 ∷ []) $
         use2 𝓛 (‵ (runs_at (R E) N (chunks n xs) b o) ⊛ ‵ (ways τ' m v b after))
         (to_runs n w v xs o after long total at_after) $ split ! $ move ! (3 ∷ 1 ∷ 2 ∷ []) $

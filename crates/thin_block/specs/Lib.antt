@@ -1,6 +1,6 @@
 -- These modules contain the definitions that the contracts use, the proofs that the growth rules
--- satisfy their law, and the type former of `Block`. The type former states which values a block
--- contains.
+-- keep their law (`KeepsLaw`), and the type former of `Block`. The type former says which values a
+-- block contains.
 pub mod Capacity
 pub mod Growth
 pub mod GrowthLaws

@@ -134,9 +134,10 @@ impl<T, A: Allocator> Block<T, A> {
         self.resize(alloc, cap)
     }
 
-    // Changes the number of slots to `cap`. If there are many items and they form whole words, the
-    // allocator may leave the block at its address. Otherwise the items are moved to a new block.
-    // The call fails only if the allocator fails. In this case, the block is unchanged.
+    // Changes the number of slots to `cap`. If the items form whole words and are at least as large
+    // as `LONG` words of 8 bytes, the allocator resizes the block, and may leave it at its address.
+    // In all other cases, the items are moved to a new block. The call fails only if the allocator
+    // fails. The block is then unchanged.
     #[inline(always)]
     fn resize(&mut self, alloc: &A, cap: usize) -> Result<(), ThinVecError>
         requires from { IsFrom self.old.alloc alloc.now }

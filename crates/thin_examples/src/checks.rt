@@ -3,8 +3,8 @@
 use std::alloc::Allocator;
 use thin_vec::{Growth, ThinVec};
 
-/// A counter of the comparisons in a worked example. It contains the number of all comparisons, and
-/// the number of comparisons in which a result differed from the expected value.
+/// Counts the comparisons in a worked example: how many were made, and in how many the result
+/// differed from the expected value.
 #[derive(Clone, Copy)]
 pub struct Checks {
     compared: u32,

@@ -146,7 +146,8 @@ pub fn pad<A: Allocator, G: Growth>(
 ///
 /// # Errors
 ///
-/// Fails if there is no room for the line. On failure, the text and its capacity are unchanged.
+/// Fails if room for the line cannot be reserved. On failure, the text and its capacity are
+/// unchanged.
 pub fn append_line<A: Allocator, G: Growth>(
     text: &mut ThinVec<u8, A, G>,
     line: &[u8],

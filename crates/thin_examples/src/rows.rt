@@ -25,7 +25,7 @@ use crate::rows::splices::{row_10, row_11, row_22, row_32};
 use std::alloc::Allocator;
 use thin_vec::{ThinVec, ThinVecError};
 
-/// The numbers of the worked examples that the program `thin_bench` runs.
+/// The worked examples that the program `thin_bench` runs, each given by its number.
 pub const ROWS: [u32; 35] = [
     1, 2, 3, 4, 5, 6, 7, 8, 9, 10, 11, 13, 14, 15, 17, 18, 19, 20, 21, 22, 23, 24, 25, 27, 28, 29,
     30, 31, 32, 33, 34, 35, 36, 40, 41,

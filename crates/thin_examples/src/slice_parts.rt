@@ -1,4 +1,4 @@
-//! Example functions that overwrite a part of a list with methods of slices.
+//! Example functions that use methods of slices to overwrite a part of a list.
 ghost use Rattle.std.specs.Prelude.{◌≡◌, ◌-◌, ◌<◌, ◌≤◌, ◌++◌, drop, length, replicate, slice_set, take};
 
 use std::alloc::Allocator;

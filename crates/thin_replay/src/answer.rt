@@ -8,7 +8,8 @@ use thin_runner::hinted::Hinted;
 use thin_vec::{ThinVec, ThinVecError};
 
 /// Writes the text that the program prints for the line `help`. The text lists the forms that a
-/// line can have, and then explains the words in capital letters in these forms.
+/// line can have. It then explains the placeholders in these forms, which are written in capital
+/// letters.
 pub fn write_help(out: &mut impl Write) -> io::Result<()> {
     for form in &FORMS {
         writeln!(out, "{form}")?;

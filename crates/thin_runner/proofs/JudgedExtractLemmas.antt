@@ -152,9 +152,8 @@ module _ {S T J : Type 0} (R : S → T → Bool → S → T → Type 0) (judge_o
             ∙ ap (left_at false) (none-left (judge_of t) k) in
             subst (λ l. handed_out (suc k) l ≡ None ∷ handed_out k l) (sym empty) refl
 
--- Suppose that `m` moves are added to the cost `c`. If `gone`, the number of removed items, is not
--- 0, then `k` more moves are added. The result is the same as if all these moves were added at
--- once.
+-- Let `gone` be the number of removed items. Adding `m` moves to the cost `c`, and then `k` more
+-- moves if `gone` is not 0, yields the same cost as adding all these moves at once.
 charged : (gone m k : ℕ) (c : Cost)
     → (if gone == 0 then moving m c else moving k (moving m c))
     ≡ moving (m + (if gone == 0 then 0 else k)) c

@@ -86,8 +86,9 @@ module _ {S T J : Type 0} (R : S → T → T → Bool → S → T → T → Type
           by a.1 m.0 m.1 in (e ∙ ap (λ l. true ∷ l) h.0, m.2 ∙ ap (λ l. a.2 ∷ l) h.1)
 
   -- Suppose that a closure asks a judge to compare each item of `xs`, except the first one, with
-  -- the last item kept before it. Then `ys` contains exactly the items that the judge keeps. The
-  -- number of moves for `flags` equals the number of moves for the decisions of the judge.
+  -- the last item kept before it. Let `flags` say which of these items are kept, and let `ys` be
+  -- the list of the remaining items. Then `ys` contains exactly the items that the judge keeps, and
+  -- the removals by `flags` take as many moves as the removals by the decisions of the judge.
   pub asked-pairs-by : (s t : S) (xs : List T) (flags : List Bool) (ys : List T)
       → AskedPairs R s xs flags ys t
       → (moved_down flags ≡ moved_down (flags_of (asked_pairs same (judge_of s) xs)))
@@ -153,9 +154,10 @@ module _ {T : Type 0} where
   few-left ((true, x) ∷ verdicts) = omega (arith, few-left verdicts)
   few-left ((false, x) ∷ verdicts) = omega (arith, few-left verdicts)
 
-  -- `next b x k a` adds the verdict on the item `x` to the pair `a`, which contains the verdicts on
-  -- the items after `x`. If `b` is true, the new verdict removes `x`. Otherwise, it keeps `x`. The
-  -- item `k` is the last item kept before `x`, and `x` was compared with it.
+  -- The pair `a` consists of the final value of an item, and the verdicts on the items after `x`.
+  -- `next b x k a` adds the verdict on the item `x`, which was compared with the last kept item
+  -- `k`. If `b` is true, `x` is removed. Otherwise, `x` is kept with the final value in `a`, and
+  -- the new pair begins with `k`.
   abbrev next : Bool → T → T → T × Verdicts T → T × Verdicts T
   next b x k a = if b then (a.0, (false, x) ∷ a.1) else (k, (true, a.0) ∷ a.1)
 

@@ -65,8 +65,8 @@ module _ {T A G J : Type 0} (here : Setting T A J) (like : T → T → Type 0)
 
 -- In this module, each clone equals its source.
 module _ {T A G J : Type 0} (here : Setting T A J) (equal : ClonesEqual here.clones) where
-  -- Every run that is possible with the clone relation of `here` is also possible with equality as
-  -- the clone relation. The lists and the replies of the run are the same with both relations.
+  -- If a run is possible in the setting `here`, then the same run, with the same lists and replies,
+  -- is also possible in the setting in which every clone must equal its source.
   pub run-equal : (old new : Thin T A) (commands : List (Command T A G))
       (replies : List (Reply T A G)) → Runs here old commands replies new
       → Runs (record here { clones = λ x y. y ≡ x }) old commands replies new

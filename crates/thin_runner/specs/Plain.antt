@@ -88,8 +88,8 @@ module _ {T A G J : Type 0} (here : Setting T A J) where
   plain_step xs command =
       if in_range xs command then granted xs command else (says (OutOfRange command), xs)
 
-  -- `reply_to xs command` is the reply to a command that runs on a list with the items `xs` and
-  -- does not fail. The reply is a value of the type `Seen`.
+  -- `reply_to xs command` is the reply to `command` if it runs on a list with the items `xs` and
+  -- does not fail.
   abbrev pub reply_to : List T → Command T A G → Seen T A G
   reply_to xs command = (plain_step xs command).0
 

@@ -142,9 +142,9 @@ module _ {T A : Type 0} where
     pub cap : length b.slots ≡ c
 
   -- Suppose that the slots of the block `b` are `front xs c`: the slots of the items `xs`, followed
-  -- by empty slots up to the capacity `c`. If `b` stores the length of `xs`, this length is at most
-  -- `c`, and the memory of `b` came from the allocator `a`, then `b` is the block of a list with
-  -- the items `xs` and the capacity `c`.
+  -- by empty slots up to the capacity `c`. Suppose also that `b` stores the length of `xs`, that
+  -- `length xs ≤ c`, and that the memory of `b` came from the allocator `a`. Then `b` is the block
+  -- of a list with the items `xs` and the capacity `c`.
   pub settled : (b : Block T A) (a : A) (xs : List T) (c : ℕ) → b.slots ≡ front xs c
       → b.len ≡ length xs → length xs ≤ c → IsFrom b.alloc a → Settled b a xs c
   settled b a xs c e n h f =

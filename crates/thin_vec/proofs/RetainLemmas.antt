@@ -172,9 +172,9 @@ module _ {S T : Type 0} (R : S → T → Bool → S → T → Type 0) where
     parted : ys ≡ asked-part ++ h.more
     parted = h.now ∙ sym (append_assoc h.before h.left h.more)
 
-    -- Suppose that `a` is the test of the item at index `m`. Then `asked-part` is the list of the
-    -- items before this item. The list `h.more` consists of the item that `a` tests, followed by
-    -- the items `a.after`.
+    -- Suppose that `a` is the test of the item at index `m` of the tested list. Then this list is
+    -- split directly before this item: `asked-part` contains the items before it, and `h.more`
+    -- contains the item itself, followed by the items `a.after`.
     next-parts : (b : Bool) (u : S) (zs : List T) (a : IsAskedAt R m t ys b u zs)
         → (a.before ≡ asked-part) × (h.more ≡ a.item ∷ a.after)
     next-parts b u zs a =
@@ -498,10 +498,10 @@ module _ {S T : Type 0} (R : S → T → Bool → S → T → Type 0) where
     moved : w.cost ≡ moving h.count v.cost
     moved = ap (λ u. u.cost) h.now ∙ moving-after v.gap h.count v.cost gap
 
-    -- `Sifts` relates an open block before some tests and removals to the open block after them.
-    -- Suppose that tests turned the open block `v` into `w`, which still has middle items. Then the
-    -- first middle item of `w`, `value`, is to be removed. If its removal turns `w` into `z`, then
-    -- `Sifts` relates `v` to `z`.
+    -- `Sifts` relates an open block to the open block after some tests and removals. Suppose that
+    -- tests turned the open block `v` into `w`, and stopped at `value`, the first middle item of
+    -- `w`, because it is to be removed. If removing `value` turns `w` into `z`, then `Sifts`
+    -- relates `v` to `z`.
     pub advanced-goes : (value : T) (z : Open T A) → w.rest ≡ value ∷ z.rest
         → z ≡ record w { rest = z.rest; gap = w.gap + 1 } → Sifts R s v t z
     advanced-goes value z rest same =
@@ -578,17 +578,17 @@ module _ {S T : Type 0} (R : S → T → Bool → S → T → Type 0) where
 
   module _ {A : Type 0} (v w : Open T A) (m : ℕ) (s t : S) (ys : List T)
       (run : AskedUpTo R 0 m s v.rest t ys) where
-    -- `Passed` holds if the front items of the open block `w` are the front items of the open block
-    -- `v`, followed by the `m` kept items. Apart from the front items, `w` may differ from `v` only
-    -- in the gap and the middle items. The cost is the same, because the kept items were not moved.
+    -- `Passed` states that the open block `w` is `v` after the first `m` tested items were kept
+    -- without being moved. These items are added to the front items. Apart from this, `w` may
+    -- differ from `v` only in its gap and its middle items.
     abbrev Passed : Type 0
     Passed = w ≡ record v
         { front = v.front ++ take m ys; gap = w.gap; rest = w.rest }
 
-    -- `IsSifted` relates an open block before tests of all its middle items to the open block after
-    -- them. Suppose that the first item to be removed, `value`, was removed from the open block
-    -- `v`, and that all later middle items were then tested. If this resulted in the open block
-    -- `z`, then `IsSifted` relates `v` to `z`.
+    -- `IsSifted` relates an open block to the open block that results from testing all its middle
+    -- items. Let `value` be the first middle item of `v` that is to be removed. If removing `value`
+    -- and then testing all later middle items results in the open block `z`, then `IsSifted`
+    -- relates `v` to `z`.
     pub sifted-goes : (value : T) (u : S) (z : Open T A) → Passed → drop m ys ≡ value ∷ w.rest
         → Sifts R t w u z → z.rest ≡ [] → IsSifted R s v u z
     unfolding part-goes

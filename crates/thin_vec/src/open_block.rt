@@ -1,6 +1,6 @@
-//! The type `OpenBlock`. It owns the block of a list (the pointer to the slots) while a method such
-//! as `retain` edits a range of the list. During this time, there may be empty slots between the
-//! items.
+//! Defines the type `OpenBlock`. While a method such as `retain` edits a range of a list, an
+//! `OpenBlock` owns the block of the list, which is the pointer to the slots. During this time,
+//! there may be empty slots between the items.
 ghost use Rattle.std.specs.Prelude.{◌≡◌, ◌↔◌, ◌+◌, ◌-◌, ◌==◌, ◌<◌, ◌≤◌, ◌∷◌, ◌++◌, [], IsTrue, drop, if◌then◌else◌, length, slice_range, take};
 ghost use Rattle.std.specs.Iterator.{YieldsFirst, YieldsLast};
 ghost use Rattle.thin_block.specs.Cost.{moving, no_cost};

@@ -164,12 +164,11 @@ impl<T: Sample, G: Ruled> Case<T, G> {
         self.requests != self.at.refused
     }
 
-    /// Returns the expected outcome of one growth of the list to `capacity`, in a call that may
-    /// grow the list several times. Also updates the expected capacity and the expected number of
-    /// requests.
+    /// Returns the expected outcome when a call that may grow the list several times grows it once,
+    /// to `capacity`. Also updates the expected capacity and the expected number of requests. The
+    /// caller passes `None` if the computation of the new capacity overflows.
     ///
-    /// If computing the new capacity overflows, `capacity` is `None`. If the expected capacity is
-    /// already `capacity`, the list does not grow, and no request is expected.
+    /// If the expected capacity is already `capacity`, no growth and no request are expected.
     pub fn further_growth(&mut self, capacity: Option<usize>) -> Verdict {
         let Some(wanted) = capacity else {
             return Verdict::Overflow;
@@ -181,8 +180,9 @@ impl<T: Sample, G: Ruled> Case<T, G> {
         }
     }
 
-    /// Returns the expected outcome of a call that allocates a new list or `Vec` of capacity
-    /// `capacity` and then clones `clones` items. `capacity` is `None` if the capacity overflows.
+    /// Returns the expected outcome of a call that allocates a new list or `Vec` with the given
+    /// capacity, and then clones `clones` items. The caller passes `None` if the computation of the
+    /// capacity overflows.
     pub fn fresh(&mut self, capacity: Option<usize>, clones: usize) -> Verdict {
         match capacity {
             Some(capacity) => self.verdict(u64::from(capacity != 0), clones),

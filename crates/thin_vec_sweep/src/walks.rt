@@ -62,8 +62,8 @@ impl Walk {
     }
 }
 
-/// Returns one of five numbers of steps for a walk over `count` items. `number` (0 to 4) selects
-/// one of the five. This function is only for a `count` greater than 6.
+/// Returns how many steps to take in a walk over `count` items. There are five choices, and
+/// `number` (0 to 4) selects one of them. `count` must be greater than 6.
 pub fn some_steps(count: usize, number: usize) -> usize {
     match number {
         0 => count / 2,

@@ -43,9 +43,9 @@ pub fn first_capacity<T>() -> usize
     }
 }
 
-/// Returns the capacity of a list of capacity `cap` after the list has reserved room for `want`
-/// items under the rule `Doubling`. The result is `cap` if `cap` is at least `want`. It is `None`
-/// if the new capacity is too large.
+/// Returns the capacity that the rule `Doubling` chooses for a list that has the capacity `cap` and
+/// needs room for `want` items in total. If `cap` is at least `want`, this is `cap`. Returns `None`
+/// if the new capacity would be too large.
 pub fn next_capacity<T>(cap: usize, want: usize) -> Option<usize>
     ensures value { result ≡ ruled_capacity doubling T.row cap want }
 {

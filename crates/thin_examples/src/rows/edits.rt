@@ -53,8 +53,8 @@ pub fn row_9<A: Allocator + Copy>(alloc: A) -> Outcome {
     Ok(checks)
 }
 
-/// Checks `bounds` for a list of five items. This function must return the start and the end of the
-/// range that two `Bound`s describe, or `None` if the list has no such range.
+/// Checks the function `bounds` on a list of five items. `bounds` must return the start and the end
+/// of the range that two `Bound`s describe, or `None` if the list has no such range.
 pub fn row_18<A: Allocator + Copy>(_alloc: A) -> Outcome {
     let mut checks = Checks::new();
     for (start, end, wanted) in [

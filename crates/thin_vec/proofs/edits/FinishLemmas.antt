@@ -93,10 +93,11 @@ module _ {S T A : Type 0} {steps : S → Option T → S → Type 0} {can : S →
           taken-spare rule R (left_of v a) w (length p.0.items) p.1.cost.0 n left p.1.cost.1
           p.1.capacity (omega (arith, filled-long, length-append v.front v.tail)) few p.1.alloc
 
-      -- `HasTaken` describes how adding items changed a list. Suppose that a gap was opened in the
-      -- list `u` before index `at`, and that items were put into this gap. Closing the gap then
-      -- took `m` moves of old items. If `m + (length u.items - at) ≤ n`, then `HasTaken` relates
-      -- `u` to the new list `w`, and bounds the number of moves of old items by `n`.
+      -- `HasTaken` describes how adding items changed a list. Suppose that opening a gap in the
+      -- list `u` before index `at` moved the `length u.items - at` items after it, that new items
+      -- were put into the gap, and that closing the gap took `m` moves of old items. If the sum of
+      -- these moves is at most `n`, then `HasTaken` relates `u` to the new list `w`, with the bound
+      -- `n` on the moves of old items.
       pub wide-taken : (u : Thin T A) (at count : ℕ) → IsWide v u at count → a ≡ u.alloc
           → p.1.cost.0 + (length u.items - at) ≤ n → HasTaken rule R u w n left
       wide-taken u at count wide from few =

@@ -114,9 +114,9 @@ module _ {S X : Type 0} (steps : S → Option X → S → Type 0) where
   -- items `xs`. Suppose also that `x ∷ xs` is the list `held`, followed by the item in `o`, if
   -- there is one.
   --
-  -- - If `o` is `Some y`, then all these calls together yielded `held ++ y ∷ []`.
-  -- - If `o` is `None`, and one more call returned `None`, then all these calls together yielded
-  --   `held` and then returned `None`.
+  -- - If `o` is `Some y`, then these calls yielded `held ++ y ∷ []`.
+  -- - If `o` is `None`, and the next call returned `None`, then the calls including this one
+  --   yielded `held` and ended with `None`.
   pub drawn-after : (s t u : S) (x : X) (xs held : List X) (o : Option X) → steps s (Some x) t
       → held ++ option_to_list o ≡ x ∷ xs
       → MatchOption o (YieldsThen steps t xs None u) (λ _. Yields steps t xs u)
@@ -180,10 +180,11 @@ module _ {S X : Type 0} (steps : S → Option X → S → Type 0) where
 
 module _ {S X A : Type 0} (steps : S → Option X → S → Type 0) (can : S → Type 0)
     (remaining : S → Count) where
-  -- `Stopped` describes a call to `finish` that failed with `error`. It names the iterator before
-  -- the call, and the list of the items that the call had inserted. Suppose that calls to `next`
-  -- yielded the items `xs` and changed the iterator from `s` to `t`. If `Stopped` holds for the
-  -- iterator `t` and the empty list, then it also holds for the iterator `s` and the list `xs`.
+  -- `Stopped` describes a call to `finish` that failed with `error`. Two of its arguments are the
+  -- iterator before the call, and the list of the items that the call inserted before it failed.
+  -- Suppose that calls to `next` yielded the items `xs` and changed the iterator from `s` to `t`.
+  -- If `Stopped` holds for the iterator `t` and the empty list, then it also holds for the iterator
+  -- `s` and the list `xs`.
   pub stopped-more : (s t : S) (xs : List X) (error : SpliceRefused X S A) → Yields steps s xs t
       → Stopped steps can remaining t [] error → Stopped steps can remaining s xs error
   stopped-more s t xs error before (inl now) =
@@ -387,10 +388,10 @@ module _ (rule : Rule) (R : RattleType) {T A : Type 0} where
       (ap (λ z. z.alloc) e)
 
   module _ (law : KeepsLaw rule) where
-    -- `HasTaken rule R v w n left` states that adding items of an iterator turned the list `v` into
-    -- `w`, and that the old items were moved at most `n` times in total. The iterator could yield
-    -- at most `left` items. Suppose that reserving room for `h` more items turned `v` into `w`. If
-    -- `h ≤ size left`, then `HasTaken rule R v w 0 left` holds.
+    -- `HasTaken rule R v w n left` holds if the list `v` may become `w` while items of an iterator
+    -- are added, if the iterator could yield at most `left` items, and if at most `n` moves of old
+    -- items were counted. Reserving room counts no moves. So if reserving room for `h` more items
+    -- turned `v` into `w`, and `h ≤ size left`, then `HasTaken rule R v w 0 left` holds.
     pub taken-reserved : (v w : Thin T A) (h : ℕ) (left : Count)
         → capacity_for rule R v h ≡ Some w.capacity → w.items ≡ v.items → w.alloc ≡ v.alloc
         → w.cost ≡ cost_at v w.capacity → (IsCheap v → IsCheap w) → h ≤ size left

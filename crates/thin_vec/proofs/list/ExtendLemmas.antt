@@ -202,11 +202,11 @@ module _ (rule : Rule) (R : RattleType) (law : KeepsLaw rule) where
   ruled-after c d e n P (inl same) f = inr (f same)
   ruled-after c d e n P (inr p) f = inl (inr p)
 
-  -- `IsCollected rule R d n left` states that `d` is a possible capacity of a list that was made
-  -- from the items of an iterator. The list has `n` items, and the iterator could yield at most
-  -- `left` items. Suppose that the list was made with the capacity `c`, which is exactly enough for
-  -- `h` items, and that `h` is a possible lower bound in the iterator's size hint. If
-  -- `IsKeptOrRuled` allows the change from `c` to `d`, then `IsCollected` holds.
+  -- `IsCollected rule R d n left` states that a list made from the items of an iterator may have
+  -- the capacity `d`, if it has `n` items and the iterator could yield at most `left` items. Let
+  -- `h` be a possible lower bound in the iterator's size hint, and let `c` be the capacity that is
+  -- exactly enough for `h` items. If the list was made with the capacity `c`, and `IsKeptOrRuled`
+  -- allows the change from `c` to `d`, then `IsCollected rule R d n left` holds.
   pub collected-after : {c d : ℕ} (n h : ℕ) (left : Count) → IsWithinCount h left
       → exact_capacity R 0 h ≡ Some c → IsKeptOrRuled rule R c d n → IsCollected rule R d n left
   collected-after n h left hint e (inl same) = inr (h, hint, e ∙ ap Some (sym same))

@@ -146,8 +146,8 @@ module _ {T A : Type 0} where
     abbrev u : Open T A
     u = open_of h
 
-    -- `moved_run b` is the open block `h` after its first `k` middle items have become front items.
-    -- Its slots are the slots of the block `b`.
+    -- `moved_run b` is the open block `h` after the first `k` middle items of `h` have become front
+    -- items. The slots of `moved_run b` are the slots of the block `b`.
     abbrev pub moved_run : Block T A → Inside T A
     moved_run b = record {
       block = b;

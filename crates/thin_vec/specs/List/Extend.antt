@@ -29,10 +29,10 @@ pub record PausedAfter {S X : Type 0} (steps : S → Option X → S → Type 0) 
   pub can_next : can t
   pub finite : IsFinite (remaining t)
 
--- `IsLoose rule R c d` compares the old capacity `c` of a list with its new capacity `d`. `R` is
--- the type of the items. Either the two capacities are equal, or `d` is at least a capacity that
--- the growth rule `rule` chooses for a block of capacity `c` that has to grow. In the second case,
--- `d` is at least `2 * c`, because a growth rule at least doubles the capacity.
+-- `IsLoose rule R c d` states that the new capacity `d` of a list equals the old capacity `c`, or
+-- is at least one of the capacities that the growth rule `rule` may choose when a block of capacity
+-- `c` has to grow. In the second case, `d` is at least `2 * c`, because every growth rule at least
+-- doubles the capacity. `R` is the type of the items.
 abbrev pub IsLoose : Rule → RattleType → ℕ → ℕ → Type 0
 IsLoose rule R c d =
     (d ≡ c) ⊎ ((w : ℕ) × (n : ℕ) × (c < w) × (ruled_capacity rule R c w ≡ Some n) × (n ≤ d))
@@ -52,8 +52,8 @@ IsKeptOrRuled rule R c d n = (d ≡ c) ⊎ IsRuled rule R d n
 
 -- `IsExtended rule R v d n left` states that `d` is a possible capacity of a list after a call that
 -- added items of an iterator. The list was `v` before the call, and has `n` items after the call.
--- The items have the type `R`, and the iterator could yield at most `left` items. At least one of
--- two conditions holds:
+-- The items have the type `R`, and the iterator could yield at most `left` items. This means that
+-- at least one of the following conditions holds:
 --
 -- - `d` is the old capacity, or a capacity that the growth rule `rule` may choose for a list that
 --   needs room for at most `n` items (`IsKeptOrRuled`).
@@ -121,7 +121,7 @@ module _ {T A : Type 0} where
   -- items. The iterator could yield at most `left` items.
   pub record IsCollectedList (rule : Rule) (R : RattleType) (a : A) (w : Thin T A) (left : Count)
       : Type 0 where
-    -- If the iterator cannot yield any item, the list has the capacity 0.
+    -- If the iterator cannot yield any items, the list has the capacity 0 after the call.
     pub none : size left ≡ 0 → w.capacity ≡ 0
     -- The capacity of the list is one of the following:
     --

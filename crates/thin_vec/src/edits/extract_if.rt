@@ -1,9 +1,9 @@
 //! The method `extract_if`, and the iterator `ExtractIf` that it returns. The iterator tests the
 //! items of a range with a closure, and removes each item for which the closure returns true.
 //!
-//! No item moves before the first item is removed. The removed items leave a gap of empty slots.
+//! No item is moved before the first item is removed. The removed items leave a gap of empty slots.
 //! When the next item is removed, or when all items of the range have been tested, the items that
-//! were kept since the previous removal are moved down to the start of the gap.
+//! have been kept since the previous removal are moved down to the start of the gap.
 ghost use Rattle.std.specs.Prelude.{◌≡◌, ◌≤◌, IfSome, Some, drop, length, not, slice_range, take};
 ghost use Rattle.std.specs.Fn.{CalledAtMut};
 ghost use Rattle.std.specs.Iterator.{UpTo, at_most};

@@ -110,8 +110,7 @@ impl<'a, T, I, A: Allocator, G: Growth> Splice<'a, I, T, A, G> {
         self.holder.value.next()
     }
 
-    /// Yields the last item of the range that has not been yielded yet, or returns `None` if all
-    /// items have been yielded.
+    /// Yields the last of the remaining items of the range, or returns `None` if no item remains.
     pub fn next_back(&mut self) -> Option<T>
         ensures steps { SpliceStepsBack self.old result self.new }
     {

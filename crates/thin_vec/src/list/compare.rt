@@ -66,7 +66,7 @@ impl<T: Hash, A: Allocator, G: Growth> Hash for ThinVec<T, A, G> {
 }
 
 impl<T: fmt::Debug, A: Allocator, G: Growth> fmt::Debug for ThinVec<T, A, G> {
-    // Prints the list like the slice of its items.
+    // Formats the list in the same way as the slice of its items.
     fn fmt<W: fmt::Write>(&self, f: &mut fmt::Formatter<W>) -> fmt::Result {
         self.as_slice().fmt(f)
     }

@@ -1,5 +1,5 @@
-//! Orders. An order describes a command by plain numbers. The commands that the runner executes on
-//! a `ThinVec` are made from orders.
+//! Defines orders. An order is a description of a command in plain numbers. The commands that the
+//! runner executes on a `ThinVec` are made from orders.
 use crate::runs::samples::{Numbered, put, samples};
 use std::alloc::{AllocError, Allocator};
 use thin_runner::command::{Command, Step};

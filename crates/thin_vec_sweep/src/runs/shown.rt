@@ -201,8 +201,8 @@ fn show_list<T: Drop, A: Allocator + Copy, G: Growth>(
     }
 }
 
-// Returns the parts of the reply to a command that failed before it moved all new items into the
-// list.
+// Takes apart the reply to a command that failed before all new items were in the list, and returns
+// the parts that are compared.
 fn show_stopped<T: Drop, A: Allocator + Copy>(
     answers: Vec<Option<T>, A>,
     cause: ThinVecError,

@@ -34,9 +34,9 @@ use Rattle.thin_vec.specs.declared.list.ThinVec.TheView.{view, invariant}
 use Rattle.thin_vec.specs.contracts.list.ThinVec as C
 use Rattle.thin_vec.specs.contracts.list.ThinVec.TheInside as I
 
--- `the_former g Z Q` is the type former of lists whose items have the type former `g`. A type
--- former says which values are contained in each value of a type. `Z` is the type of the allocator,
--- and `Q` is the type of the growth rule.
+-- For each value of a type, the type former says which other values this value contains.
+-- `the_former g Z Q` is the type former of lists. `g` is the type former of the items, `Z` is the
+-- type of the allocator, and `Q` is the type of the growth rule.
 abbrev pub the_former : Former {0} → Type 0 → Type 0 → Former {0}
 the_former g Z Q =
     via (pair (list g) (const (ℕ × (Z × Cost)))) (λ X. Thin (g.Of X) Z)

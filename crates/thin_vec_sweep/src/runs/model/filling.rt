@@ -1,6 +1,6 @@
-//! The commands `Splice` and `Extend` in the model. The model is a program that specifies the
-//! commands. It treats an `Extend` as a splice at the end of the list, without calls to `next` and
-//! `next_back`.
+//! The commands `Splice` and `Extend` in the model, which is a program that says what each command
+//! has to do. The model treats an `Extend` as a splice at the end of the list, on which neither
+//! `Splice::next` nor `Splice::next_back` is called.
 use super::{Model, walked};
 use crate::runs::orders::{Kind, Order};
 use crate::runs::samples::{Numbered, samples};

@@ -169,9 +169,9 @@ move_run_charging_spec 𝓤 𝓛 𝓜 𝓡 wired T A LT LA g d dd met md =
     move ! (0 ∷ 2 ∷ []) $ move ! (14 ∷ []) $ split ! $ move ! (2 ∷ 3 ∷ 0 ∷ []) $
     -- The proof has separated the items in `self` and their new slots in `to_block` from all other
     -- slots. The proof context now holds, in this order: the items; the empty new slots; the
-    -- lifetime tokens of `T` and `A`; the other slots of `self`; the other slots of `to_block`; the
-    -- header, the memory that stores the pointer, the right to close the borrow, and two ghost
-    -- resources of `to_block`; the same five entries for `self`.
+    -- lifetime tokens of `T` and `A`; the other slots of `self`; the other slots of `to_block`;
+    -- five entries for `to_block` (its header, the memory that stores its pointer, the right to
+    -- close its borrow, and two ghost resources); the same five entries for `self`.
     let G = Copies T 𝓛 𝓜.mem 𝓡.returns in
     let y₀ : G.Ghost = at_copies T 𝓛 𝓜.mem 𝓡.returns κ₂ q₂ b src b' dst k xs in
     use3 𝓛 (raw (G.pre y₀)) (Copies-goes T 𝓛 𝓜.mem 𝓡.returns κ₂ q₂ b src b' dst k xs lives fk light)
@@ -218,10 +218,10 @@ move_run_charging_spec 𝓤 𝓛 𝓜 𝓡 wired T A LT LA g d dd met md =
     move ! (6 ∷ 0 ∷ 7 ∷ 8 ∷ 9 ∷ 10 ∷ []) $
     rewrite ! 0 (λ (n : ℕ). ‵ (header (t E Y) (R E) x.len n x.alloc b o)) (sym long_left) refl $
     block_closes E Y ! tt x' b o rb ro at $
-    -- The proof has also closed the borrow of `self`. The proof context now holds, in this order: a
-    -- ghost resource that records the current value of `self`; the borrow of `self`; the lifetime
-    -- token of this borrow; the same three entries for `to_block`; the lifetime tokens of `T` and
-    -- `A`.
+    -- The borrows of `to_block` and of `self` are now closed. The proof context now holds, in this
+    -- order: a ghost resource that records the current value of `self`; the borrow of `self`; the
+    -- lifetime token of this borrow; the same three entries for `to_block`; the lifetime tokens of
+    -- `T` and `A`.
     returns ! (look_at ! 0 refl) $ free_all ! refl $
     feq_i ! (List Val) vss.0 (vptr rb ro ∷ []) are.0.0 $ fjoin3 ! $ move ! (2 ∷ 3 ∷ []) $
     feq_i ! (List Val) vss.1.1.0 (vptr sb so ∷ []) are.1.1.0.0 $ fjoin3 ! $

@@ -1,5 +1,6 @@
 -- This file proves the contract of `none`, which returns a block without slots. The block points to
--- a static header of capacity 0 and length 0, which is lent for the lifetime `'static`.
+-- a static header, which states the capacity 0 and the length 0, and which is borrowed for the
+-- lifetime `'static`.
 use Rattle.std.proofs.Common.{[], ◌∷◌, refl, arith, lit<, w64, None}
 use mir.Syntax.{Ty, Fn, Tys, ty_int, ty_array, ty_struct, tcons, tnil, w128}
 use mir.Val.{Val, Vals, vint, vstruct, vcons, vnil}

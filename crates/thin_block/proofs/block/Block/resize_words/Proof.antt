@@ -1,6 +1,6 @@
 -- This file proves the contract of `resize_words`. The function converts a block into an array of
--- words by moving the last words into the header. It resizes this array, and converts the result
--- back into a block.
+-- words. For this purpose, it moves the last words into the memory of the header. It resizes the
+-- array, and converts the result back into a block.
 use Rattle.std.proofs.Common.{◌≡◌, ℕ, ◌+◌, ◌-◌, ◌*◌, ◌^◌, ◌<◌, ◌≤◌, List, [], ◌∷◌, ◌++◌, length, true, refl, sym, ap, subst, ◌∙◌, arith, lit<, w64, Some, None, Option}
 use Rattle.std.specs.Prelude.{take, drop as rest}
 use Rattle.std.specs.Int.{div_ceil}

@@ -1,5 +1,5 @@
--- `dedup_by_key` calls `dedup_those` with a test that compares the keys of two items. The closure
--- `key` returns these keys. So what `dedup_those` guarantees about the test also holds for `key`.
+-- `dedup_by_key` calls `dedup_those` with a test that calls `key` on two items and compares the
+-- results. Therefore, what `dedup_those` guarantees about this test implies the contract for `key`.
 -- The list never becomes longer.
 use Rattle.std.specs.Fn.{ComparesKeys}
 use Rattle.thin_vec.proofs.edits.DedupLemmas.{deduped-through, few-deduped}

@@ -1,5 +1,5 @@
--- The slots of the first `k` middle items are not empty. `close_gap` moves these items into the
--- slots directly after the front items, so they become front items.
+-- Each of the first `k` slots of the middle run holds an item. `close_gap` moves these items into
+-- the slots directly after the front items, so they become front items.
 use Rattle.thin_block.specs.Block.{seen}
 use Rattle.std.proofs.Common.{◌≡◌, ◌≤◌, ◌+◌, ◌-◌, ◌++◌, ap, sym, subst, ◌∙◌, arith, length, take, drop}
 use Rattle.std.specs.Prelude.{IsSome}

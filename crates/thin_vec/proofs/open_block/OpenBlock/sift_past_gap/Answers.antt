@@ -1,5 +1,5 @@
--- `Sifts` describes what iterations of the loop have done. If `Sifts` holds for all earlier
--- iterations, and also for the next iteration, then it holds for all these iterations together.
+-- `Sifts` describes the combined effect of consecutive iterations of the loop. If it holds for the
+-- iterations so far, and for the next iteration alone, then it holds for all of them together.
 -- After the loop, `sift_last` tests the remaining item, if there is one.
 use Rattle.thin_vec.proofs.RetainLemmas.{sifts-start, sifts-then}
 use Rattle.thin_vec.proofs.open_block.OpenBlock.sift_past_gap.Goals as goal
