@@ -12,9 +12,8 @@ if_true x y e = ap (λ (b : Bool). if b then x else y) e
 if_false : {b : Bool} (x y : ℕ) → b ≡ false → (if b then x else y) ≡ y
 if_false x y e = ap (λ (b : Bool). if b then x else y) e
 
--- Suppose that the functions `f` and `g` map a row and a column to a number, and that they may
--- differ only at row `i` and column `j`. If `f i j` is `v`, then, for all `k` and `l`, the value of
--- `f k l` is `if k == i && l == j then v else g k l`.
+-- Suppose that `f` and `g` differ at most at `(i, j)`, and that `f i j` is `v`. Then `f k l` is
+-- `if k == i && l == j then v else g k l`.
 pub at_place : (f g : ℕ → ℕ → ℕ) (i j v : ℕ) → f i j ≡ v → ((k l : ℕ) → l ≢ j → f k l ≡ g k l)
     → ((k l : ℕ) → k ≢ i → f k l ≡ g k l)
     → (k l : ℕ) → f k l ≡ (if k == i && l == j then v else g k l)
@@ -29,8 +28,8 @@ at_place f g i j v here columns rows k l = elim (cases_eq k i) [
       ∙ sym (if_false v (g k l) (and_left (k == i) (l == j) (ne_eqb k i other)))
 ]
 
--- In this module, the functions `f` and `g` map a row and a column to a number. At row `i` and
--- column `j`, the value of `f` is `v`. Everywhere else, `f` and `g` agree.
+-- In this module, the functions `f` and `g` of a row and a column agree everywhere, except that
+-- `f i j` is `v`.
 module _ (f g : ℕ → ℕ → ℕ) (i j v : ℕ)
     (told : (k l : ℕ) → f k l ≡ (if k == i && l == j then v else g k l)) where
   pub here : f i j ≡ v
@@ -44,9 +43,8 @@ module _ (f g : ℕ → ℕ → ℕ) (i j v : ℕ)
   other_rows k l other =
       told k l ∙ if_false v (g k l) (and_left (k == i) (l == j) (ne_eqb k i other))
 
--- Suppose that the functions `f`, `g` and `h` map a row and a column to a number. If `f` agrees
--- with `h` in row `i`, and with `g` in all other rows, then, for all `k` and `l`, the value of
--- `f k l` is `if k == i then h k l else g k l`.
+-- If `f` agrees with `h` in row `i`, and with `g` in all other rows, then `f k l` is
+-- `if k == i then h k l else g k l`.
 pub at_row : (f g h : ℕ → ℕ → ℕ) (i : ℕ) → ((l : ℕ) → f i l ≡ h i l)
     → ((k l : ℕ) → k ≢ i → f k l ≡ g k l)
     → (k l : ℕ) → f k l ≡ (if k == i then h k l else g k l)
@@ -57,8 +55,8 @@ at_row f g h i here rows k l = elim (cases_eq k i) [
 ]
 
 module _ (t : Table ℕ) (i j : ℕ) where
-  -- If the table `t` has a row `i`, then writing `v` at row `i` and column `j` sets the number at
-  -- this place to `v`. All other numbers are unchanged.
+  -- If row `i` of the table `t` exists, then writing `v` at `(i, j)` changes the number there to
+  -- `v`, and changes no other number.
   pub number-with_value : (v : ℕ) → i < length t → (k l : ℕ)
       → number_at (with_value t i j v) k l ≡ (if k == i && l == j then v else number_at t k l)
   number-with_value v inside =
@@ -67,8 +65,8 @@ module _ (t : Table ℕ) (i j : ℕ) where
       (λ k l other. ap (λ o. unwrap_or o 0) (columns_unchanged t i j k l v other))
       (λ k l other. ap (λ o. unwrap_or o 0) (rows_unchanged t i j k l v other))
 
-  -- Suppose that `v` is 0. If the entry at row `i` and column `j` of the table `t` is removed, then
-  -- the number at this place becomes `v`. All other numbers are unchanged.
+  -- Removing the entry at row `i` and column `j` of the table `t` changes the number there to `v`,
+  -- which is 0, and changes no other number.
   pub number-without_value : (v : ℕ) → v ≡ 0 → (k l : ℕ)
       → number_at (without_value t i j) k l ≡ (if k == i && l == j then v else number_at t k l)
   number-without_value v zero =
@@ -83,9 +81,8 @@ either_below : (b : Bool) (x y n : ℕ) → x < n → y < n → (if b then x els
 either_below true x y n first second = first
 either_below false x y n first second = second
 
--- Suppose that the table `u` has the same numbers as the table `t`, except that its number at row
--- `i` and column `j` is `v`. If `v` and all numbers of `t` are less than `2 ^ 64`, then so are all
--- numbers of `u`.
+-- Suppose that the tables `t` and `u` differ only at `(i, j)`, where `u` has the number `v`. If `v`
+-- and all numbers of `t` are less than `2 ^ 64`, so are all numbers of `u`.
 pub still_small : (t u : Table ℕ) (i j v : ℕ) → v < 2 ^ 64
     → ((k l : ℕ) → number_at t k l < 2 ^ 64)
     → ((k l : ℕ) → number_at u k l ≡ (if k == i && l == j then v else number_at t k l))
@@ -93,10 +90,8 @@ pub still_small : (t u : Table ℕ) (i j v : ℕ) → v < 2 ^ 64
 still_small t u i j v fits small told k l =
     rw (told k l) (either_below (k == i && l == j) v (number_at t k l) (2 ^ 64) fits (small k l))
 
--- Suppose that a call returns `result`. If the call succeeds, it writes `v` at row `i` and column
--- `j` of the table `t`, which has a row `i`. If the call fails, it changes nothing. Let `u` be the
--- table after the call. If `v` and all numbers of `t` are less than `2 ^ 64`, then so are all
--- numbers of `u`.
+-- If a call writes a number `v` less than `2 ^ 64` or fails without effect, then all numbers of the
+-- table stay less than `2 ^ 64`. The table is `t` before the call and `u` after it.
 pub small_if_written : {X E : Type 0} (result : Result X E) (t u : Table ℕ) (i j v : ℕ)
     → i < length t → v < 2 ^ 64 → ((k l : ℕ) → number_at t k l < 2 ^ 64)
     → OnOk result (u ≡ with_value t i j v) → OnErr result (u ≡ t)

@@ -53,8 +53,8 @@ no_sum f zero = refl
 no_sum f (suc n) = let rest = no_sum f n in omega arith
 
 module _ (f : ℕ → ℕ) where
-  -- `term entries j` is the product of `f j` and the number that `entries` contains in column `j`.
-  -- If `entries` contains no number in this column, then `term entries j` is 0.
+  -- `term entries j` is `x * f j`, where `x` is the number in column `j` of the row `entries`, or 0
+  -- if there is none.
   abbrev term : List (ℕ × ℕ) → ℕ → ℕ
   term entries j = unwrap_or (find nat_cmp j entries) 0 * f j
 
@@ -66,9 +66,8 @@ module _ (f : ℕ → ℕ) where
       (is_less (nat_cmp x e.0) (both_hold _ _ below).0)
       ∙ none_found x entries (both_hold _ _ below).1
 
-  -- Each entry `(c, x)` of the list `entries` contains the number `x` in column `c`. Suppose that
-  -- the columns in this list are strictly increasing and less than `n`. Then the sum of `x * f c`
-  -- over all entries equals the sum of `term entries j` over all columns `j` less than `n`.
+  -- If the columns in `entries` are increasing and less than `n`, then the sum of `x * f c` over
+  -- all entries `(c, x)` is the sum of `term entries j` over all `j < n`.
   entries_sum : (entries : List (ℕ × ℕ)) (n : ℕ) → T (is_sorted nat_cmp entries)
       → ((k : ℕ) → k < length entries → (slice_index_or entries k (0, 0)).0 < n)
       → sum_by (λ e. e.1 * f e.0) entries ≡ sum_below n (term entries)
@@ -97,10 +96,9 @@ module _ (f : ℕ → ℕ) where
           ∙ (let nothing : term entries e.0 ≡ 0 * f e.0 = ap (λ o. unwrap_or o 0 * f e.0) none in
           omega (arith, nothing))
 
--- Suppose that `entries` is the list of the entries of `row`, and that all of them are in columns
--- less than `n`. Let `y` be the number of `row` in column `j`, or 0 if column `j` has no entry.
--- Then the sum of `x * f c` over all entries `(c, x)` equals the sum of `y * f j` over all columns
--- `j` less than `n`.
+-- If all entries of `row` are in columns less than `n`, then the sum of `x * f c` over its entries
+-- `(c, x)` is the sum of `y * f j` over all `j < n`. Here, `y` is the number of `row` in column
+-- `j`, or 0.
 pub row_sum : (f : ℕ → ℕ) (row : Columns ℕ) (n : ℕ) (entries : List (ℕ × ℕ))
     → entries ≡ columns.entries row
     → ((k : ℕ) → k < length entries → (slice_index_or entries k (0, 0)).0 < n)

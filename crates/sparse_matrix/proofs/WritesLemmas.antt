@@ -12,9 +12,8 @@ use Rattle.thin_rows.proofs.TableLemmas.{in_order, is_listed, listed}
 never : {P : Type 0} {x : ℕ} → None ≡ Some x → P
 never e = cc
 
--- In this module, a loop writes the entries of `row` into a matrix, each at its own place. Before
--- the loop, the number at the place for column `j` is `old j`. If the number at a place is `u`,
--- then writing `v` at this place changes the number to `write u v`.
+-- In this module, a loop writes the entries of `row` into a matrix. Before the loop, the number at
+-- column `j` is `old j`. Writing `v` over `u` results in `write u v`.
 module _ (write : ℕ → ℕ → ℕ) (row : Columns ℕ) (old : ℕ → ℕ) where
   abbrev column : ℕ → ℕ
   column k = (slice_index_or (columns.entries row) k (0, 0)).0
@@ -52,9 +51,8 @@ module _ (write : ℕ → ℕ → ℕ) (row : Columns ℕ) (old : ℕ → ℕ) w
         ∙ h.left j (λ k less. none k (omega (arith, less)));
   }
 
-  -- Suppose that `entries` is the list of the entries of `row`, and that `IsWritten n now` holds.
-  -- If the entry at index `n` is written next, and the number at each column `j` is then `next j`,
-  -- then `IsWritten (n + 1) next` holds.
+  -- Suppose that the numbers are `now` after `n` writes, and `next` after the entry at index `n`
+  -- has been written. Then `IsWritten (n + 1) next` holds.
   pub next_written : (entries : List (ℕ × ℕ)) → entries ≡ columns.entries row → (n : ℕ)
       (now next : ℕ → ℕ) → n < length entries → IsWritten n now
       → next (slice_index_or entries n (0, 0)).0
@@ -82,8 +80,8 @@ module _ (write : ℕ → ℕ → ℕ) (row : Columns ℕ) (old : ℕ → ℕ) w
             ∙ listed row k (0, 0) (omega (arith, less, all))))) ∙ sym zero
       ] refl
 
--- Suppose that the table `t` has no value in column `n` or in any later column. Then all entries in
--- each row of `t` are in columns less than `n`.
+-- If the table `t` has no value in the columns from `n` onward, then all entries of each row are in
+-- columns less than `n`.
 pub columns_below : (t : Table ℕ) (n : ℕ) → ((i j : ℕ) → n ≤ j → value_at t i j ≡ None) → (i : ℕ)
     (entries : List (ℕ × ℕ)) → entries ≡ columns.entries (row_of t i) → (k : ℕ)
     → k < length entries → (slice_index_or entries k (0, 0)).0 < n

@@ -17,7 +17,6 @@ abbrev pub sum_below : ℕ → (ℕ → ℕ) → ℕ
 sum_below zero f = 0
 sum_below (suc n) f = sum_below n f + f n
 
--- `dot table i vector` is the product of row `i` of the table with the vector. Each number of the
--- row is multiplied by the number of the vector at the same index, and the products are added.
+-- `dot table i vector` is the dot product of row `i` of the table and the vector.
 abbrev pub dot : Table ℕ → ℕ → List ℕ → ℕ
 dot table i vector = sum_below (length vector) (λ j. number_at table i j * slice_index vector j)

@@ -126,8 +126,8 @@ impl<A: Allocator> Matrix<A> {
         Ok(())
     }
 
-    // Adds the numbers in row `row` of `other` to the numbers in the same row of this matrix. If
-    // the call fails, some of the numbers may already have been added.
+    // Adds row `row` of `other` to the same row of this matrix. If the call fails, some numbers may
+    // already have been added.
     fn add_row(&mut self, row: usize, other: &Matrix<A>) -> Result<(), ThinVecError>
         requires row_in_bounds { row < length self.old.numbers }
         requires other_row_in_bounds { row < length other.now.numbers }

@@ -103,8 +103,8 @@ texts_along-take (suc k) (change ∷ changes) text =
     ap (λ (ts : List (List ℕ)). changed change text ∷ ts)
     (texts_along-take k changes (changed change text))
 
--- Suppose that `changes` are applied to `text` in order. If each change fits the text to which it
--- is applied, then this also holds for the list of the first `k` changes.
+-- If all changes in the list `changes` fit when they are applied to `text` in order, then so do the
+-- first `k` of them.
 FitAlong-take : (k : ℕ) (changes : List Change) (text : List ℕ) → FitAlong changes text
     → FitAlong (take k changes) text
 FitAlong-take zero changes text all = tt
@@ -127,17 +127,16 @@ reverse-drop m changes =
 -- In this module, the first `m` changes are removed from the list `changes`. Only the other changes
 -- are applied to the text `text`.
 module _ (m : ℕ) (changes : List Change) (text : List ℕ) where
-  -- `texts_of` applies the changes of a list from the last to the first. So if the first `m`
-  -- changes are removed from the list, only the last `m` of the resulting texts are lost.
+  -- `texts_of` applies the last change in a list first. If the first `m` changes are removed from
+  -- the list, the result loses its last `m` texts.
   pub texts_of-drop : texts_of (drop m changes) text
       ≡ take (length changes - m) (texts_of changes text)
   texts_of-drop =
       ap (λ (cs : List Change). texts_along cs text) (reverse-drop m changes)
       ∙ texts_along-take (length changes - m) (reverse changes) text
 
-  -- Suppose that `changes` are applied to `text` from the last to the first. If each change fits
-  -- the text to which it is applied, then this also holds for the list without its first `m`
-  -- changes.
+  -- If all `changes` fit when they are applied to `text` from the last to the first, then so do the
+  -- changes without the first `m`.
   pub AllFit-drop : AllFit changes text → AllFit (drop m changes) text
   AllFit-drop all =
       subst (λ (cs : List Change). FitAlong cs text) (sym (reverse-drop m changes))

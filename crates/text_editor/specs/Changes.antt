@@ -19,20 +19,18 @@ texts_along [] text = []
 texts_along (change ∷ changes) text =
     changed change text ∷ texts_along changes (changed change text)
 
--- `FitAlong changes text` holds if each change fits the text to which it is applied. The first
--- change is applied to `text`, and each later change to the text that results from the previous
--- change.
+-- `FitAlong changes text` holds if each change fits when `changes` are applied to `text` one after
+-- another, in the order of the list.
 abbrev pub FitAlong : List Change → List ℕ → Type 0
 FitAlong [] text = Unit {0}
 FitAlong (change ∷ changes) text = Fits change text × FitAlong changes (changed change text)
 
--- Suppose that `changes` are applied to `text` one after another, from the last change in the list
--- to the first. `texts_of changes text` is the list of the texts after each change, in the order in
--- which the changes are applied.
+-- `texts_of changes text` lists the text after each step when `changes` are applied to `text` one
+-- after another, from the last change to the first.
 abbrev pub texts_of : List Change → List ℕ → List (List ℕ)
 texts_of changes text = texts_along (reverse changes) text
 
--- Suppose that `changes` are applied to `text` one after another, from the last change in the list
--- to the first. `AllFit changes text` holds if each change fits the text to which it is applied.
+-- `AllFit changes text` holds if each change fits when `changes` are applied to `text` one after
+-- another, from the last change to the first.
 abbrev pub AllFit : List Change → List ℕ → Type 0
 AllFit changes text = FitAlong (reverse changes) text

@@ -12,7 +12,7 @@ pub enum Command {
     /// Replaces a range of characters. The fields are the start of the range, its exclusive end,
     /// and the new characters.
     ///
-    /// In the input, the command has three forms:
+    /// The user can write this command in three ways:
     ///
     /// - `insert AT TEXT` inserts `TEXT` at the index `AT`.
     /// - `delete FROM TO` removes the characters `FROM..TO`.
@@ -94,8 +94,8 @@ fn replacement(alloc: Global, start: usize, end: usize, text: &str) -> Result<Co
     Ok(Command::Replace(start, end, characters))
 }
 
-// Splits `text` at its first space. Returns two parts: the text before the space, and the text
-// after it. If there is no space, the first part is the whole text, and the second part is empty.
+// Returns the text before the first space of `text` and the text after it. If there is no space,
+// returns `text` and an empty string.
 fn first_word(text: &str) -> (&str, &str) {
     text.split_once(' ').unwrap_or((text, ""))
 }

@@ -11,9 +11,8 @@ use std::alloc::Global;
 use std::marker::Model;
 use thin_vec::{ThinVec, ThinVecError};
 
-/// A text with the history of its edits. In contracts, an editor is a `History`, which contains the
-/// text, the texts that repeated calls to `undo` restore, and the texts that repeated calls to
-/// `redo` restore.
+/// A text with the history of its edits. In contracts, an editor is a `History`: the text, the
+/// texts that `undo` can restore, and the texts that `redo` can restore.
 #[derive(Drop)]
 pub struct Editor {
     text: ThinVec<char>,

@@ -20,8 +20,8 @@ fn main(rt: HostRuntime) -> io::Result<()> {
     Ok(())
 }
 
-// Runs the command that is written in `line`. Prints the text if the command is `print`. Prints the
-// error if `line` is not a command, or if the command fails.
+// Runs the command in `line`. Prints the text if the command is `print`, and prints the error if
+// `line` is not a command or the command fails.
 fn answer(rt: &impl Print, alloc: Global, editor: &mut Editor, line: &str) -> io::Result<()> {
     match Command::parse(alloc, line) {
         Ok(Command::Print) => print_text(rt, editor.text()),

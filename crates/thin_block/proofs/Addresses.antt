@@ -1,8 +1,5 @@
--- These lemmas are steps of proofs about function bodies:
---
--- - `its_ptr` symbolically evaluates an operand that reads the pointer of a block.
--- - `moves_on` and `slot_found` symbolically execute statements that compute the address of a slot.
--- - `takes_slot`, `takes_item` and `takes_two` separate one or two slots from the other slots.
+-- These lemmas are steps of proofs about function bodies. They compute the addresses of slots, and
+-- separate one or two slots of a block from the other slots.
 use Rattle.std.proofs.Common.{◌≡◌, ℕ, zero, Some, None, ◌+◌, ◌*◌, ◌^◌, ◌<◌, ◌≤◌, List, [], ◌∷◌, length, true, refl, sym, ap, subst, arith, w64}
 use lib.Dec.{T}
 use lib.ListN.{get_or}
@@ -55,8 +52,8 @@ module _ {M : Type 1} {𝓤 : Ura M} (𝓛 : Logic 𝓤) (Ev : Env 𝓤 𝓛.H) 
   abbrev holds : ℕ → Val → Item 𝓤
   holds p v = ‵ (fat full_share (spot_of 𝓤 H Ev p).0 (spot_of 𝓤 H Ev p).1 zero v)
 
-  -- `free p Γ` is an entry of the proof context `Γ`. It states that the code may assign a value to
-  -- the local variable `p`. Before the assignment, `p` may hold any value of its type, or no value.
+  -- `free p Γ` is the entry of the proof context `Γ` that allows the code to assign a value to the
+  -- local variable `p`.
   abbrev free : ℕ → List (Item 𝓤) → Item 𝓤
   free p Γ = nth 𝓛 0 (free_needs 𝓛 (((spot_of 𝓤 H Ev p).0, (spot_of 𝓤 H Ev p).1) ∷ [])
       (at 𝓛 p Γ ∷ ‵ ftrue ∷ []))
@@ -71,9 +68,8 @@ module _ {M : Type 1} {𝓤 : Ura M} (𝓛 : Logic 𝓤) (Ev : Env 𝓤 𝓛.H) 
     abbrev far : List (Item 𝓤)
     far = set 𝓛 p₃ (holds p₃ (vint w64 (i * sz E))) Γ
 
-    -- `gone` is the proof context `Γ` after `p.add(i)` has been computed. In `gone`, the local
-    -- variable `p₃` holds the product of `i` and the item size, and the local variable `p₄` holds
-    -- the address of item `i`.
+    -- `gone` is the proof context `Γ` after the computation of `p.add(i)`. The local variable `p₃`
+    -- then holds `i` times the item size, and `p₄` holds the address of item `i`.
     abbrev pub gone : List (Item 𝓤)
     gone = set 𝓛 p₄ (holds p₄ (vptr b (i * sz E + o))) far
 
@@ -91,29 +87,26 @@ module _ {M : Type 1} {𝓤 : Ura M} (𝓛 : Logic 𝓤) (Ev : Env 𝓤 𝓛.H) 
         ∷ holds p₃ (vint w64 (i * sz E)) ∷ free p₄ far ∷ []
 
   module _ (Γ : List (Item 𝓤)) (E : El) (b o i p₁ p₂ : ℕ) where
-    -- Four statements compute the address of a slot. The first statement stores the address of the
-    -- first slot in the local variable `p₁`. `first` is the proof context `Γ` after this statement.
+    -- `first` is the proof context `Γ` after the address of slot 0 has been stored in the local
+    -- variable `p₁`.
     abbrev first : List (Item 𝓤)
     first = set 𝓛 p₁ (holds p₁ (vptr b (o + 16))) Γ
 
-    -- Four statements compute the address of a slot. The first two statements store the address of
-    -- the first slot in the local variables `p₁` and `p₂`. `turned` is the proof context `Γ` after
-    -- these two statements.
+    -- `turned` is the proof context `Γ` after the address of slot 0 has been stored in the local
+    -- variables `p₁` and `p₂`.
     abbrev pub turned : List (Item 𝓤)
     turned = set 𝓛 p₂ (holds p₂ (vptr b (o + 16))) first
 
-    -- Four statements compute the address of a slot. `meets p₃ p₄ p pᵢ` lists the entries of the
-    -- proof context for the local variables that these statements use. The local variable `p` holds
-    -- the pointer of the block, and `pᵢ` holds the index of the slot. The statements store an
-    -- intermediate result in `p₃`, and the address of the slot in `p₄`.
+    -- `meets p₃ p₄ p pᵢ` lists the context entries for the local variables that the computation of
+    -- a slot's address uses: `p` holds the block's pointer, `pᵢ` the index of the slot, `p₃` an
+    -- intermediate result, and `p₄` the address of the slot.
     abbrev pub meets : ℕ → ℕ → ℕ → ℕ → List (Item 𝓤)
     meets p₃ p₄ p pᵢ = at 𝓛 p Γ ∷ at 𝓛 p₁ Γ ∷ at 𝓛 p₁ first ∷ at 𝓛 p₂ first
         ∷ goes_by turned E b (o + 16) i p₃ p₄ p₂ pᵢ
 
-    -- Four statements compute the address of a slot. `needs p₃ p₄ p pᵢ` lists the entries that the
-    -- proof context must contain so that these statements can be executed. The local variable `p`
-    -- has to hold the pointer of the block, and `pᵢ` the index of the slot. The statements assign
-    -- values to `p₃` and `p₄`.
+    -- `needs p₃ p₄ p pᵢ` lists the context entries that the computation of a slot's address needs.
+    -- The local variable `p` must hold the block's pointer, and `pᵢ` the index of the slot. The
+    -- computation assigns values to `p₃` and `p₄`.
     abbrev pub needs : ℕ → ℕ → ℕ → ℕ → List (Item 𝓤)
     needs p₃ p₄ p pᵢ = holds p (vptr b o) ∷ free p₁ Γ ∷ holds p₁ (vptr b (o + 16)) ∷ free p₂ first
         ∷ goes_with turned E b (o + 16) i p₃ p₄ p₂ pᵢ
@@ -168,9 +161,8 @@ module _ (E : El) {M : Type 1} {𝓤 : Ura M} {𝓛 : Logic 𝓤} {K : Type 0} {
 
 module _ (E : El) {M : Type 1} {𝓤 : Ura M} {𝓛 : Logic 𝓤} {K : Type 0} {Γ : List (Item 𝓤)}
     {G : Goal 𝓤 𝓛.H} {h : Item 𝓤} where
-  -- Separates the memory of slot `i` from the memory of the other slots. Before this step, the
-  -- proof context begins with the header and all slots. After this step, it begins with slot `i`,
-  -- the other slots and the header, in this order.
+  -- Separates the memory of slot `i` from the memory of the other slots of a block. The proof
+  -- context then begins with slot `i`, the other slots and the header.
   pub takes_slot : K → {x : Slot E} (b o : ℕ) (xs : List (Slot E)) (i : ℕ) → i < length xs
       → get_or xs i None ≡ x
       → Step K 𝓛 (‵ (slot_place (R E) x b (i * sz E + o)) ∷ ‵ (besides E 𝓛 b o xs i) ∷ h ∷ Γ) G
@@ -193,9 +185,8 @@ module _ (E : El) {M : Type 1} (𝓤 : Ura M) where
 
 module _ (E : El) {M : Type 1} {𝓤 : Ura M} {𝓛 : Logic 𝓤} {K : Type 0} {Γ : List (Item 𝓤)}
     {G : Goal 𝓤 𝓛.H} {h : Item 𝓤} where
-  -- Separates the filled slot `i` from the other slots, so that a proof can read the item in slot
-  -- `i`. After this step, the proof context begins with these entries, in this order: the bytes of
-  -- the item; the resources that the item owns; the other slots; the header.
+  -- Separates the filled slot `i` from the other slots of a block, and splits it into the bytes of
+  -- its item and the resources that this item owns.
   pub takes_item : K → {x : el_x E} (b o : ℕ) (xs : List (Slot E)) (i : ℕ) → i < length xs
       → get_or xs i None ≡ Some x
       → ((v : Val) → Good E v → Seq K 𝓛 (Bits E 𝓤 b (i * sz E + o) v ∷ Owned E 𝓤 x v
@@ -206,10 +197,8 @@ module _ (E : El) {M : Type 1} {𝓤 : Ura M} {𝓛 : Logic 𝓤} {K : Type 0} {
       use1 𝓛 (some (λ (v : Val). given (Good E v) (Bits E 𝓤 b (i * sz E + o) v ⊛ Owned E 𝓤 x v)))
       (el_out E 𝓛 b x (i * sz E + o)) $ pick k (λ v. learn k (λ good. split k $ next v good))
 
-  -- Separates the filled slots `i` and `j` from the other slots. After this step, the proof context
-  -- begins with these entries, in this order: the bytes of the item in slot `j`; the resources that
-  -- this item owns; the bytes of the item in slot `i`; the resources that this item owns; the other
-  -- slots; the header.
+  -- Separates the filled slots `i` and `j` from the other slots of a block, and splits each into
+  -- the bytes of its item and the resources that this item owns.
   pub takes_two : K → {x y : el_x E} (b o : ℕ) (xs : List (Slot E)) (i j : ℕ)
       (p : Two E 𝓛 b o xs i j) → (get_or xs i None ≡ Some x) × (get_or xs j None ≡ Some y)
       → ((v w : Val) → Good E v → Good E w → Seq K 𝓛 (Bits E 𝓤 b (j * sz E + o) w ∷ Owned E 𝓤 y w

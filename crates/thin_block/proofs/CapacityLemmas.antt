@@ -1,6 +1,5 @@
--- These lemmas are about the functions that choose the new capacity of a block. `ruled_capacity`
--- uses a growth rule, and `exact_capacity` chooses exactly the wanted capacity. `Fits` says that a
--- block of a given capacity is small enough to be allocated.
+-- These lemmas are about the functions that choose the new capacity of a block: `ruled_capacity`,
+-- which uses a growth rule, and `exact_capacity`.
 use Rattle.std.proofs.Common.{if◌then◌else◌, Bool, true, false, IsTrue, ◌≡◌, ℕ, zero, suc, ◌*◌, ◌^◌, ◌<◌, ◌≤◌, ap, refl, subst, sym, ◌∙◌, arith}
 use Rattle.std.specs.declared.option.Option.TheVariants.{Some, None}
 use borrow.Author.Tests.{lt-ltb, le-ltb, le-leb, lt-leb}
@@ -85,8 +84,8 @@ fits-none R = closed R 0 (fits_none R)
 -- The next lemmas are about fewer than `2 ^ 31` items of fewer than `2 ^ 31` bytes each. A block
 -- for these items is far below every size limit.
 
--- If there are fewer than `2 ^ 31` items, and each item takes fewer than `2 ^ 31` bytes, then all
--- items together take fewer than `2 ^ 62` bytes.
+-- Fewer than `2 ^ 31` items of fewer than `2 ^ 31` bytes each take fewer than `2 ^ 62` bytes in
+-- total.
 pub few_bytes : (c s : ℕ) → c < 2 ^ 31 → s < 2 ^ 31 → c * s < 2 ^ 62
 few_bytes c s few small =
     let wide : c * s ≤ c * (2 ^ 31) =
@@ -101,9 +100,8 @@ small_fits R c few small =
     let about = rounded R 0 in
     closed R c (fits_yes R c (omega arith) (omega (arith, about.most)))
 
--- Suppose that each item takes fewer than `2 ^ 31` bytes. If the old capacity `c` is 0, and the
--- required capacity `w` is at least 1 and at most 4, then the rule `doubling` chooses the capacity
--- 4.
+-- If the old capacity `c` is 0, the required capacity `w` is 1 to 4, and each item takes fewer than
+-- `2 ^ 31` bytes, then the rule `doubling` chooses the capacity 4.
 pub doubling_first : (R : RattleType) (c w : ℕ) → c ≡ 0 → 0 < w → w ≤ 4 → type_size R < 2 ^ 31
     → ruled_capacity doubling R c w ≡ Some 4
 unfolding doubling fitting first

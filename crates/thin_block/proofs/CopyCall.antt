@@ -54,8 +54,8 @@ module _ (E : El) (g : Ghosts (el_x E)) (d : Dict) {M : Type 1} {𝓤 : Ura M} (
     abbrev pub Slice : Fml
     Slice = (ShrSlice (named 0) κ₀ (copied 0 E.row)).own_val s (shr_slice_vals s)
 
-    -- `IsCopy z` holds if `z` consists of the same slots in memory as the first argument `r` of the
-    -- call, and if these slots now hold the items of the slice that is copied.
+    -- `IsCopy z` holds if `z` consists of the same slots as the argument `r` of the call, and these
+    -- slots now hold the items of the copied slice.
     pub record IsCopy (z : (Row E).Denot) : Type 0 where
       pub same : SamePlaces r z
       pub items : slots_items z ≡ s.now

@@ -5,8 +5,8 @@ use Rattle.std.proofs.Common.{arith}
 use Rattle.thin_block.specs.Capacity.{fits}
 use Rattle.thin_block.specs.Growth.{KeepsLaw, fitting}
 
--- The rule that always chooses the wanted capacity breaks the law of growth rules. For example, it
--- grows a block of capacity 4 to the capacity 5, but the law demands at least 8.
+-- The rule that always chooses the wanted capacity breaks the law of growth rules, which demands
+-- that the capacity at least doubles.
 pub want_alone_breaks : KeepsLaw (λ s a c w. fitting s a w) → ⊥
 unfolding fitting fits
 want_alone_breaks law =

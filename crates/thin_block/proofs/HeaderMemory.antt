@@ -1,10 +1,5 @@
--- These lemmas are about the memory of a block:
---
--- - `carve` splits the memory of a whole block into its parts.
--- - `header` states what a block owns besides its slots.
--- - `block_had` splits a block into its header and its slots, and `block_made` is the inverse.
--- - `block_opens` splits the block behind a mutable reference into its header, its slots and the
---   parts of the borrow, and `block_closes` is the inverse.
+-- These lemmas split the memory of a block into its header and its slots, and put these parts back
+-- together.
 use Rattle.std.proofs.Common.{◌≡◌, Bool, true, ℕ, Some, None, ◌+◌, ◌*◌, ◌<◌, List, [], ◌∷◌, ◌++◌, length, refl, sym, ap, subst, ◌∙◌, arith, w64}
 use seplogic.Ra.Ura.{Ura}
 use mir.Syntax.{Ty, Tys, Width, Args, w8, w16, w32, w128, a_type, dcons, dnil, ty_int, ty_array, tcons, tnil}
@@ -163,8 +158,8 @@ header t R n c None b o = fsep (lent_at usize (block_ptr b o) 0 [])
     (lent_at usize (block_ptr b (o + 8)) 0 [])
 header t R n c (Some a) b o = frame (t a) R n c b o
 
--- Suppose that the option `a` contains an allocator exactly if the list `xs` of slots is not empty
--- (`any xs`). If `xs` is not empty, then `a` is `Some h` for an allocator `h`.
+-- Suppose that `a` contains an allocator exactly if the list `xs` of slots is not empty. If `xs` is
+-- not empty, then `a` is `Some h` for some `h`.
 pub alloc_there : {D X : Type 0} (a : Option D) (xs : List X) → is_some a ≡ any xs → 0 < length xs
     → (h : D) × (a ≡ Some h)
 alloc_there (Some h) xs is some = (h, refl)
@@ -265,9 +260,8 @@ module _ (E : El) (Y : Al) {M : Type 1} {𝓤 : Ura M} {𝓛 : Logic 𝓤} {K : 
 
 module _ (E : El) (Y : Al) {M : Type 1} {𝓤 : Ura M} {𝓛 : Logic 𝓤} {K : Type 0}
     {Γ : List (Item 𝓤)} {G : Goal 𝓤 𝓛.H} where
-  -- Splits the block behind a mutable reference into its parts. After this step, the proof context
-  -- begins with these entries, in this order: the header; the slots; the memory that holds the
-  -- block's pointer; three entries about the open borrow of the block.
+  -- Splits the block behind a mutable reference into its header, its slots, the memory that holds
+  -- its pointer, and three entries about its open borrow.
   pub block_opens : K → Soaks G → {κ : Lft} {q : Share} {γ : GName} (x : (Br E Y).Denot) (rb ro : ℕ)
       → ((b o : ℕ) → x.at ≡ block_ptr b o → fits_block (R E) (length x.slots) ≡ true
       → Seq K 𝓛 (‵ (Header E Y x b o) ∷ ‵ (Slots E Y x b o) ∷ ‵

@@ -1,8 +1,5 @@
--- These lemmas are about a mutable reference to items of a block. After the reference has ended,
--- the lemmas return the items, which may have new values, to the block.
---
--- - `item_back` is for a mutable reference to one item.
--- - `items_back` is for a mutable reference to contiguous items.
+-- After a mutable reference to items of a block has ended, these lemmas return the items to the
+-- block. `item_back` returns one item, and `items_back` returns contiguous items.
 use Rattle.std.proofs.Common.{◌≡◌, ℕ, ◌+◌, ◌*◌, ◌<◌, ◌≤◌, List, ◌∷◌, [], length, Some, refl, sym, ◌∙◌, arith}
 use Rattle.std.proofs.lemmas.List.{length-map, length-set}
 use seplogic.Ra.Ura.{Ura}
@@ -36,8 +33,8 @@ module _ (E : El) (Y : Al) {M : Type 1} {𝓤 : Ura M} (𝓛 : Logic 𝓤) (x : 
   Waiting = fsep (Header E Y x b o)
       (cell_at full_share (Br E Y).mir (block_val (block_ptr b o) ∷ []) rb ro)
 
-  -- If `s` is as long as the block's list of slots, then the memory of the slots `s` and the other
-  -- parts of the block (`Waiting`) form a block with the slots `s`.
+  -- If `s` has as many slots as the block, then the memory of the slots `s` and the other parts of
+  -- the block (`Waiting`) form a block with the slots `s`.
   pub slots_back : (s : List (Slot E)) (same : length s ≡ length x.slots)
       → ent 𝓤 (sep 𝓤 (sem 𝓛 (places (R E) s b (o + 16))) (sem 𝓛 Waiting))
       (sem 𝓛 ((mem (Br E Y)).own_at (with_slots x s same) rb ro))

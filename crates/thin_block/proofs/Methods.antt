@@ -1,10 +1,5 @@
--- These lemmas begin and end the proofs of methods that take `&mut self` or `&self`.
---
--- - `arrives`, `starts`, `begins`, `begins_with` and `seen` begin a proof.
--- - `opens_self` splits the block behind a mutable reference, and `closes_over` puts it back
---   together.
--- - `leaves`, `leaves_with` and `leaves_unit` end a proof.
--- - `all_go` and `goes` state when a function need not give arguments back to its caller.
+-- These lemmas begin and end the proofs of methods that take `&mut self` or `&self`. They also say
+-- which arguments a method gives back to its caller.
 use Rattle.std.proofs.Common.{◌≡◌, true, ℕ, zero, suc, ◌+◌, ◌^◌, ◌<◌, List, [], ◌∷◌, length, refl, sym, w64}
 use lib.Dec.{T}
 use seplogic.Ra.Ura.{Ura}
@@ -48,24 +43,23 @@ others [] = []
 others (s ∷ ss) = ss
 
 module _ {n : ℕ} where
-  -- `dropped ss ks` states that a function gives none of the arguments for the parameters `ss` back
-  -- to its caller. The proof of the function makes this choice. For each parameter, `ks` contains
-  -- the lifetimes of certain references: those whose final values the contract may mention.
+  -- `dropped ss ks` is the choice to give none of a function's arguments back to its caller. `ss`
+  -- lists the parameters, and `ks` the lifetimes of references whose final values the contract may
+  -- mention.
   abbrev pub dropped : (ss : List (Slot n)) (ks : Kepts ss) → Stays ss ks
   dropped [] ks = tt
   dropped (s ∷ ss) ks = (stay_dropped s ks.0, dropped ss ks.1)
 
 module _ {M : Type 1} {𝓤 : Ura M} (𝓛 : Logic 𝓤) {n : ℕ} where
-  -- `AllSilent ss ks` holds if the contract of a function says nothing about the values of its
-  -- arguments after the call. The list `ss` contains the parameters. For each parameter, `ks`
-  -- contains the lifetimes of certain references: those whose final values a contract is allowed to
-  -- mention.
+  -- `AllSilent ss ks` holds if the contract of a function with the parameters `ss` says nothing
+  -- about the arguments after the call. `ks` lists the lifetimes of references whose final values a
+  -- contract may mention.
   abbrev pub AllSilent : (ss : List (Slot n)) → Kepts ss → Type 1
   AllSilent [] ks = Unit {1}
   AllSilent (s ∷ ss) ks = Silent 𝓛 n s ks.0 × AllSilent ss ks.1
 
-  -- Suppose that the contract of a function does not say which values the arguments have after the
-  -- call (`AllSilent`). Then the function need not give the arguments back to its caller.
+  -- If the contract says nothing about the values of the arguments after the call (`AllSilent`),
+  -- then the function need not give its arguments back to its caller.
   pub all_go : (ss : List (Slot n)) (ks : Kepts ss) → AllSilent ss ks
       → AllGo 𝓛 n ss ks (dropped ss ks)
   all_go [] ks silent = tt
@@ -125,9 +119,9 @@ module _ (E : El) (Y : Al) {n : ℕ} (ss : List (Slot (suc n))) where
   abbrev pub on_block : List (Slot (suc n))
   on_block = mut_ref_to (0 ∷ []) tt (plain (λ _. Br E Y)) ∷ ss
 
-  -- `block_stays ks` states that a method gives only the `&mut Block` back to its caller. The proof
-  -- of the method makes this choice. For each other parameter, `ks` contains the lifetimes of
-  -- certain references: those whose final values the contract may mention.
+  -- `block_stays ks` is the choice to give only the `&mut Block` back to the caller. `ks` lists,
+  -- for each other parameter, the lifetimes of references whose final values the contract may
+  -- mention.
   abbrev pub block_stays : (ks : Kepts ss) → Stays on_block (yes, ks)
   block_stays ks = (stay_ref (0 ∷ []) tt (plain (λ _. Br E Y)), dropped ss ks)
 
@@ -151,8 +145,8 @@ module _ {M : Type 1} {𝓤 : Ura M} {𝓛 : Logic 𝓤} {K : Type 0} {Γ : List
       (env f.locals l) (after k f.body) (at_ret (env f.locals l) P)
 
 module _ {n : ℕ} (s : Slot (suc n)) (ss : List (Slot (suc n))) where
-  -- `Passed Bd` is the type of everything that is passed to a function: lifetimes that satisfy the
-  -- bounds `Bd`, shares of lifetime tokens, and the arguments with their machine values.
+  -- `Passed Bd` is the type of all that a function receives: lifetimes that satisfy the bounds
+  -- `Bd`, lifetime tokens, and the arguments with their machine values.
   abbrev Passed : (Lfts (suc n) → Type 0) → Type 0
   Passed Bd = (κs : Lfts (suc n)) × Shares (suc n) × Bd κs × Denots (types_at (s ∷ ss) κs)
       × Valss (types_at (s ∷ ss) κs)
@@ -163,9 +157,8 @@ module _ {n : ℕ} (s : Slot (suc n)) (ss : List (Slot (suc n))) where
       → SProp 𝓤
   Entry {𝓤 = 𝓤} 𝓛 x = sep 𝓤 (toks 𝓛 (suc n) x.0 x.1) (sem 𝓛 (owns (types_at (s ∷ ss) x.0) x.3 x.4))
 
-  -- Begins the proof of a function. After this step, the proof context holds these entries, in this
-  -- order: what the first argument owns; the first lifetime token; the other lifetime tokens; what
-  -- the other arguments own; the `requires` clauses.
+  -- Begins the proof of a function. The proof context then holds what the arguments own, the
+  -- lifetime tokens and the `requires` clauses.
   pub arrives : {M : Type 1} {𝓤 : Ura M} (𝓛 : Logic 𝓤) {Bd : Lfts (suc n) → Type 0} {P : SProp 𝓤}
       (x : Passed Bd) (Q : SProp 𝓤)
       → Sq 𝓛 (‵ ((s.row x.0).own_val x.3.0 x.4.0) ∷ ‵ (flft x.0.0 x.1.0)
@@ -185,10 +178,9 @@ module _ (E : El) (Y : Al) {M : Type 1} {𝓤 : Ura M} (𝓛 : Logic 𝓤) {n : 
   abbrev shared : Slot (suc n)
   shared = shr_ref_to (0 ∷ []) tt (plain (λ _. Br E Y))
 
-  -- `Entered x Γ` is the proof context at the start of a method that takes `&mut self`. It holds
-  -- these entries, in this order: the current value of the `&mut`; the borrow of the block; the
-  -- lifetime token of this `&mut`; the other lifetime tokens; what the other arguments own; the
-  -- entries in the list `Γ`.
+  -- `Entered x Γ` is the proof context at the start of a method that takes `&mut self`: the value
+  -- of the `&mut`, the borrow of the block, the lifetime tokens, what the other arguments own, and
+  -- the entries `Γ`.
   abbrev Entered : {Bd : Lfts (suc n) → Type 0} → Passed lent ss Bd → List (Item 𝓤) → List (Item 𝓤)
   Entered x Γ = ‵ (fobs x.3.0.ghost_name ((Br E Y).coded.code x.3.0.now)) ∷ ‵
       (fbor x.0.0 (Body (mem (Br E Y)) x.3.0.ref_ptr.0 x.3.0.ref_ptr.1 x.3.0.ghost_name))
@@ -219,9 +211,8 @@ module _ (E : El) (Y : Al) {M : Type 1} {𝓤 : Ura M} (𝓛 : Logic 𝓤) {n : 
       → ent 𝓤 (sep 𝓤 (Entry lent ss 𝓛 x) (Facts 𝓤 φs)) P
   begins x φs next = begins_with x φs (λ said. keep ! (0 ∷ 1 ∷ 2 ∷ 3 ∷ []) $ next said)
 
-  -- Begins the proof of a method that takes `&self`. After this step, the proof context holds these
-  -- entries, in this order: the resources behind the `&`; the lifetime token of this `&`; the other
-  -- lifetime tokens; what the other arguments own; the `requires` clauses.
+  -- Begins the proof of a method that takes `&self`. The proof context then holds the resources
+  -- behind the `&`, the lifetime tokens, what the other arguments own, and the `requires` clauses.
   pub seen : {Bd : Lfts (suc n) → Type 0} {P : SProp 𝓤} (x : Passed shared ss Bd) (Q : SProp 𝓤)
       → Sq 𝓛 (‵ (hidden_shr (Br E Y) x.0.0 x.3.0.now x.3.0.ref_ptr.0 x.3.0.ref_ptr.1)
       ∷ ‵ (flft x.0.0 x.1.0) ∷ raw (toks 𝓛 n x.0.1 x.1.1) ∷ ‵
@@ -239,8 +230,7 @@ module _ {M : Type 1} {𝓤 : Ura M} {𝓛 : Logic 𝓤} {K : Type 0} {Γ : List
       use1 𝓛 (‵ (flft κs.0 qs.0) ⊛ raw (toks 𝓛 n κs.1 qs.1)) (id⊢ 𝓤 _) $ split k $ s)
 
 -- `blanks m` consists of `m` trivially true formulas, one for each argument that a function does
--- not give back to its caller. At the end of the proof of the function, `blanks m` has to be
--- proved.
+-- not give back to its caller.
 abbrev pub blanks : ℕ → Fml
 blanks zero = ftrue
 blanks (suc m) = fsep ftrue (blanks m)
@@ -254,8 +244,8 @@ module _ {M : Type 1} {𝓤 : Ura M} {𝓛 : Logic 𝓤} {K : Type 0} {Γ : List
   blank k (suc m) = step (λ s. blank k m $ nothing k $ fjoin k $ s)
 
 module _ {M : Type 1} {𝓤 : Ura M} {𝓛 : Logic 𝓤} {K : Type 0} {G : Goal 𝓤 𝓛.H} where
-  -- Ends the proof of a function that gives back none of its `m` arguments. This step combines the
-  -- result and the lifetime tokens into what the function must own when it returns.
+  -- Ends the proof of a function that gives none of its `m` arguments back. The proof has to
+  -- provide only the result and the lifetime tokens.
   pub leaves : K → {Q F : Fml} {T : Item 𝓤} (m : ℕ)
       → Step K 𝓛 (((‵ Q ⊛ T) ⊛ ‵ (blanks m) ⊛ ‵ F) ∷ []) G (‵ Q ∷ ‵ F ∷ T ∷ []) G
   leaves k m = step (λ s. move k (0 ∷ 2 ∷ []) $ join k $ blank k m $ move k (0 ∷ 2 ∷ []) $ join k $
@@ -263,9 +253,8 @@ module _ {M : Type 1} {𝓤 : Ura M} {𝓛 : Logic 𝓤} {K : Type 0} {G : Goal 
 
 module _ (E : El) (Y : Al) {M : Type 1} {𝓤 : Ura M} {𝓛 : Logic 𝓤} {K : Type 0}
     {G : Goal 𝓤 𝓛.H} where
-  -- Splits the block behind the mutable reference `r` into its parts. After this step, the proof
-  -- context begins with these entries, in this order: the header; the slots; the memory that holds
-  -- the block's pointer; three entries about the open borrow of the block.
+  -- Splits the block behind the mutable reference `r` into its header, its slots, the memory that
+  -- holds its pointer, and three entries about its open borrow.
   pub opens_self : K → Soaks G → {Γ : List (Item 𝓤)} {κ : Lft} {q : Share}
       (r : MutBor (Br E Y).Denot)
       → ((b o : ℕ) → r.now.at ≡ block_ptr b o → fits_block (R E) (length r.now.slots) ≡ true
@@ -295,9 +284,8 @@ module _ (E : El) (Y : Al) {M : Type 1} {𝓤 : Ura M} {𝓛 : Logic 𝓤} {K : 
       rewrite k 1 (λ (c : ℕ). ‵ (header (t E Y) (R E) y.len c y.alloc b o)) (sym long) refl $
       move k (1 ∷ 0 ∷ []) $ block_closes E Y k z y b o r.ref_ptr.0 r.ref_ptr.1 at $ s)
 
-  -- Ends the proof of a method that takes `&mut self` and `m` further parameters. This step
-  -- combines the block, the result and the lifetime tokens into what the method must own when it
-  -- returns.
+  -- Ends the proof of a method that takes `&mut self` and `m` further parameters. The proof has to
+  -- provide the block, the result and the lifetime tokens.
   pub leaves_with : K → {κ : Lft} {q : Share} {us : List Val} {F : Fml} {T : Item 𝓤}
       (r : MutBor (Br E Y).Denot) (y : (Br E Y).Denot) (m : ℕ) → us ≡ mut_vals r
       → Step K 𝓛 (((‵ (flft κ q) ⊛ T) ⊛ ‵
@@ -310,8 +298,7 @@ module _ (E : El) (Y : Al) {M : Type 1} {𝓤 : Ura M} {𝓛 : Logic 𝓤} {K : 
       move k (0 ∷ 2 ∷ []) $ join k $ move k (1 ∷ 2 ∷ []) $ join k $ join k $ s)
 
   -- Ends the proof of a method that takes `&mut self` and `m` further parameters, and returns `()`.
-  -- This step combines the block and the lifetime tokens into what the method must own when it
-  -- returns.
+  -- The proof has to provide the block and the lifetime tokens.
   pub leaves_unit : K → {κ : Lft} {q : Share} {us : List Val} {T : Item 𝓤}
       (r : MutBor (Br E Y).Denot) (y : (Br E Y).Denot) (m : ℕ) → us ≡ mut_vals r
       → Step K 𝓛 (((‵ (flft κ q) ⊛ T) ⊛ ‵

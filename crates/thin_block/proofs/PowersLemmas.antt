@@ -48,9 +48,8 @@ module _ (R : RattleType) (c w size : ℕ) (is : size ≡ capped (type_size R))
   abbrev a : ℕ
   a = type_align R
 
-  -- `items` is a number that the code of `PowerBytes` computes. It is the greater of the required
-  -- capacity `w` and twice the old capacity `c`. If `2 * c` exceeds `usize::MAX`, the code uses
-  -- `usize::MAX` instead of `2 * c`.
+  -- `items` is the greater of the required capacity `w` and `2 * c`, where `c` is the old capacity
+  -- and `2 * c` is capped at `usize::MAX`.
   abbrev items : ℕ
   items = max w (min (c * 2) (2 ^ 64 - 1))
 

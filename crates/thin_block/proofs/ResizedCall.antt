@@ -21,10 +21,8 @@ use Rattle.core.proofs.alloc.Resizes.{Sizes, Flagged, by_flag}
 use Rattle.core.proofs.mem.Param.{El, R, el_x}
 use Rattle.thin_block.specs.contracts.in_place.resized as F
 
--- `Sized E len held wanted` is a condition that the allocator's methods `grow` and `shrink`
--- require. It states that `len` items fit into the old memory block, which has room for `held`
--- items, and into the new memory block, which has room for `wanted` items. It also states that
--- neither memory block is too large to be allocated.
+-- `Sized E len held wanted` holds if `len` items fit into memory blocks for `held` and for `wanted`
+-- items, and both memory blocks are small enough to be allocated.
 abbrev pub Sized : El → Sizes
 Sized E len held wanted = (len ≤ held) × ((len ≤ wanted)
     × (FitsBlock (R E) held × FitsBlock (R E) wanted))
@@ -39,9 +37,8 @@ module _ (E : El) (Y : Al) {M : Type 1} {𝓤 : Ura M} (𝓛 : Logic 𝓤) (at_m
 
   module _ (κ κT κA : Lft) (q qT qA : Share) (out : κ ⊑ κA) (p : ℕ × ℕ) (a : Y.row.Denot)
       (b o len held wanted : ℕ) (xs : List (el_x E)) where
-    -- `at_resizing` contains the ghost arguments of a call of the function `resized`. These are
-    -- lifetimes, shares of lifetime tokens, the arguments of the call with their machine values,
-    -- and the items `xs`.
+    -- `at_resizing` contains the ghost arguments of a call of `resized`: lifetimes, lifetime
+    -- tokens, the arguments with their machine values, and the items `xs`.
     abbrev pub at_resizing : Resizing.Ghost
     at_resizing = (
       (

@@ -1,7 +1,5 @@
 -- These lemmas say when a block may be sent to another thread (`block_send`), and when a block may
--- be shared between threads (`block_sync`). `Keyless` says that a resource does not depend on the
--- thread that owns the resource. `Common` says that the resources behind a shared reference do not
--- depend on the thread that uses the reference.
+-- be shared between threads (`block_sync`).
 use Rattle.std.specs.Prelude.{ℕ, zero, suc, ◌+◌, List, [], ◌∷◌, length, Option}
 use Rattle.std.specs.declared.option.Option.TheVariants.{Some, None}
 use Rattle.std.specs.Int.{div_ceil}

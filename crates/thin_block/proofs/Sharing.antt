@@ -79,9 +79,8 @@ module _ (E : El) (Y : Al) {M : Type 1} {𝓤 : Ura M} (𝓛 : Logic 𝓤) (κ :
 
 module _ (E : El) (Y : Al) {M : Type 1} {𝓤 : Ura M} {𝓛 : Logic 𝓤} {K : Type 0}
     {Γ : List (Item 𝓤)} {G : Goal 𝓤 𝓛.H} where
-  -- Splits a shared reference to a block into its parts. After this step, the proof context begins
-  -- with four shared references, in this order: to the block's pointer, to the capacity, to the
-  -- length and to the slots.
+  -- Splits a shared reference to a block into shared references to the block's pointer, to the
+  -- capacity, to the length and to the slots.
   pub block_seen : K → {κ : Lft} (x : (Br E Y).Denot) (rb ro : ℕ)
       → ((b o : ℕ) → x.at ≡ block_ptr b o → fits_block (R E) (length x.slots) ≡ true
       → Seq K 𝓛 (‵ (hidden_shr RawPtr κ x.at rb (ro + 0)) ∷ ‵

@@ -1,11 +1,5 @@
--- These lemmas are about moving the items in contiguous slots of a block. They separate the memory
--- of the old and the new slots of these items from the memory of the other slots. After the move,
--- the lemmas put the memory of all slots back together.
---
--- - `Moves` says that the memory can be separated before the move, and put back together after the
---   move.
--- - `apart` proves `Moves` if the old and the new slots of the items do not overlap.
--- - `slides` proves `Moves` if the items are moved through empty slots.
+-- These lemmas are about moving adjacent items within a block. They separate the memory of the
+-- affected slots before the move, and put the memory of all slots back together after it.
 use Rattle.std.proofs.Common.{◌≡◌, ◌⊎◌, Bool, true, false, ℕ, Some, None, ◌+◌, ◌-◌, ◌*◌, ◌<◌, ◌≤◌, List, [], ◌∷◌, ◌++◌, length, refl, sym, ap, ◌∙◌, arith, append_assoc}
 use Rattle.std.proofs.lemmas.List.{length-map, length-replicate, length-append, length-take}
 use mathlib.Core.Logic.{inl, inr, ⊎_elim}
@@ -35,8 +29,8 @@ pub further : (a d c s o : ℕ) → c ≡ d + a → c * s + o ≡ d * s + (a * s
 further a d c s o e = let sum = add_times d a s in
     let same : c * s ≡ (d + a) * s = ap (λ (k : ℕ). k * s) e in omega arith
 
--- If `new` consists of `n` slots, then `laid i new s` consists of the slots of `s` before index
--- `i`, the slots `new`, and the slots of `s` from index `i + n` onward.
+-- `laid i new s` is the list `s` with the `n` slots from index `i` onward replaced with the `n`
+-- slots `new`.
 laid-over : {T : Type 0} (s new : List (Option T)) (i n : ℕ) → length new ≡ n
     → laid i new s ≡ take i s ++ (new ++ drop (i + n) s)
 laid-over s new i n long = ap (λ (k : ℕ). take i s ++ (new ++ drop (i + k) s)) long
@@ -65,10 +59,8 @@ module _ (E : El) {M : Type 1} {𝓤 : Ura M} (𝓛 : Logic 𝓤) (b o : ℕ) (s
   abbrev Room : ℕ → ℕ → Fml
   Room n at = froom (ty_array (elτ E) n) b at
 
-  -- `Moves Was Is` is about a move of items. The affected slots have the memory `Was` before the
-  -- move, and the memory `Is` after the move. `Moves Was Is` holds if `Was` can be separated from
-  -- the memory of the other slots before the move, and if `Is` can be joined with the memory of the
-  -- other slots after the move.
+  -- `Moves Was Is` holds if the memory `Was` can be separated from the other slots before a move of
+  -- items, and the memory `Is` can be joined with the other slots after the move.
   pub record Moves (Was Is : Fml) : Type 1 where
     pub Rest : Fml
     pub out : ent 𝓤 (sem 𝓛 (Row o slots)) (sep 𝓤 (sem 𝓛 Was) (sem 𝓛 Rest))
@@ -226,10 +218,8 @@ module _ (E : El) {M : Type 1} {𝓤 : Ura M} (𝓛 : Logic 𝓤) (b o : ℕ) (s
       let same : length mid * s ≡ m * s = ap (λ (n : ℕ). n * s) count in
       omega arith
 
-  -- Suppose that the slots `from..from + k` hold items, and that the slots `to..to + k` are empty.
-  -- The empty slots are above the items, and `m` slots are in between. Then the memory of the items
-  -- and of the empty slots can be separated from the memory of the other slots. After the items
-  -- have been moved up into the empty slots, the memory of all slots can be put back together.
+  -- Items in the slots `from..from + k` can be moved up, past `m` slots, into the empty slots
+  -- `to..to + k`. Their old and new slots can be separated before the move, and rejoined after it.
   goes_over : (m : ℕ) → to ≡ from + k + m → to + k ≤ length slots
       → run to k slots ≡ empty k → Moves Was Is
   goes_over m apart within gap =
@@ -287,10 +277,8 @@ module _ (E : El) {M : Type 1} {𝓤 : Ura M} (𝓛 : Logic 𝓤) (b o : ℕ) (s
             rewrite ! 0 (λ (l : S). ‵ (Row o l)) result refl $ done !;
       }
 
-  -- Suppose that the slots `from..from + k` hold items, and that the slots `to..to + k` are empty.
-  -- The empty slots are below the items, and `m` slots are in between. Then the memory of the items
-  -- and of the empty slots can be separated from the memory of the other slots. After the items
-  -- have been moved down into the empty slots, the memory of all slots can be put back together.
+  -- Items in the slots `from..from + k` can be moved down, past `m` slots, into the empty slots
+  -- `to..to + k`. Their old and new slots can be separated before the move, and rejoined after it.
   goes_back : (m : ℕ) → from ≡ to + k + m → from + k ≤ length slots
       → run to k slots ≡ empty k → Moves Was Is
   goes_back m apart within gap =
@@ -348,14 +336,13 @@ module _ (E : El) {M : Type 1} {𝓤 : Ura M} (𝓛 : Logic 𝓤) (b o : ℕ) (s
             rewrite ! 0 (λ (l : S). ‵ (Row o l)) result refl $ done !;
       }
 
-  -- `Bare` is the precondition `empty` of `move_run`. It states that each slot to which an item is
-  -- moved is empty or is one of the slots from which the items are moved.
+  -- `Bare` states that each slot to which an item is moved is empty, or is one of the slots from
+  -- which the items are moved.
   abbrev pub Bare : Type 0
   Bare = (i : ℕ) → to ≤ i → i < to + k → (i < from) ⊎ (from + k ≤ i) → slot slots i ≡ None
 
-  -- Suppose that adjacent items are to be moved to empty slots, and that their old and new slots do
-  -- not overlap. Then the memory of the old and new slots can be split off from the memory of the
-  -- other slots. After the move, the memory of all slots can be put back together.
+  -- If the old slots of the moved items and their empty new slots do not overlap, then all these
+  -- slots can be separated from the other slots before the move, and rejoined after it.
   pub apart : from + k ≤ length slots → to + k ≤ length slots → Bare → (from + k ≤ to)
       ⊎ (to + k ≤ from) → Moves Was Is
   apart source target bare far =
@@ -388,9 +375,8 @@ module _ (E : El) {M : Type 1} {𝓤 : Ura M} (𝓛 : Logic 𝓤) (b o : ℕ) (s
   abbrev pub GapBelow : Bool → Type 0
   GapBelow up = up ≡ false → (to ≤ from) × AreEmpty slots to (from - to)
 
-  -- Suppose that adjacent items are to be moved only through empty slots. Then the memory of the
-  -- items and of these empty slots can be split off from the memory of the other slots. After the
-  -- move, the memory of all slots can be put back together.
+  -- If adjacent items are moved only through empty slots, then the items and these slots can be
+  -- separated from the other slots before the move, and rejoined after it.
   pub slides : from + k ≤ length slots → to + k ≤ length slots → (up : Bool) → GapAbove up
       → GapBelow up → Way up
   slides source target true above below =
@@ -404,9 +390,8 @@ module _ (E : El) {M : Type 1} {𝓤 : Ura M} (𝓛 : Logic 𝓤) (b o : ℕ) (s
       slides_down (from - to) (omega arith) source
       (empty-run slots to (from - to) within gap.1)
 
-  -- Suppose that all slots through which the items are moved are empty. Then `IsShifted` holds: the
-  -- distance between the old and the new address of the items is `distance up` slots. The new
-  -- address is above the old address if `up` is true, and below it otherwise.
+  -- The new address of the moved items is `distance up` slots above their old address if `up` is
+  -- true, and `distance up` slots below it otherwise.
   pub shifted : (up : Bool) → GapAbove up → GapBelow up → IsShifted (R E) up (distance up)
       (block_ptr b src) (block_ptr b dst)
   shifted true above below = let le : from ≤ to = (above refl).0 in

@@ -25,8 +25,8 @@ use Rattle.thin_block.specs.Growth.{fitting, doubling}
 
 -- The next lemmas are about rounding a size up to a multiple of an alignment.
 
--- Suppose that the items of a block take `x` bytes in total, and that each item has the alignment
--- `a`. `Rounded a x` collects bounds on the alignment and the size of this block.
+-- `Rounded a x` collects bounds on the alignment and the size of a block whose items have the
+-- alignment `a` and take `x` bytes in total.
 pub record Rounded (a x : ℕ) : Type 0 where
   pub least : 8 ≤ block_align a
   pub most : block_align a ≤ 16
@@ -89,9 +89,8 @@ align_known R = (align_w (layout R), align-bytes (layout R))
 pub rounded_at : (a x : ℕ) → IsAlign a → Rounded a x
 rounded_at a x is = subst (λ (k : ℕ). Rounded k x) (sym is.1) (rounded_to is.0 x)
 
--- `Rounded a x` collects bounds on the alignment and the size of a block whose items have the
--- alignment `a` and take `x` bytes in total. If `a` is the alignment of an item type `R`, then
--- `Rounded a x` holds for every `x`.
+-- If `a` is the alignment of an item type `R`, then the bounds `Rounded a x` hold for a block whose
+-- items take `x` bytes in total.
 pub rounded : (R : RattleType) (x : ℕ) → Rounded (type_align R) x
 rounded R x = rounded_at (type_align R) x (align_known R)
 
@@ -151,16 +150,16 @@ pub record Told (s a c : ℕ) : Type 0 where
   pub short : block_bytes s a c < 2 ^ 63
 
 module _ (s a c : ℕ) (is : IsAlign a) where
-  -- Suppose that `a` is an alignment. If `c < 2 ^ 63` and `Small s a c` holds, then `is_small s a
-  -- c` is true: a block for `c` items is small enough to be allocated.
+  -- If `c < 2 ^ 63` and `Small s a c` holds, then a block for `c` items of size `s` and alignment
+  -- `a` is small enough to be allocated.
   pub small_yes : c < 2 ^ 63 → Small s a c → is_small s a c ≡ true
   small_yes few room =
       let whole : block_bytes s a c < 2 ^ 63 = (rounded_at a (c * s) is).short room in
       both_true (ltb c (2 ^ 63)) (ltb (block_bytes s a c) (2 ^ 63)) (lt-ltb c (2 ^ 63) few)
       (lt-ltb (block_bytes s a c) (2 ^ 63) whole)
 
-  -- If `a` is an alignment, and a block for `c` items is small enough to be allocated, then
-  -- `c < 2 ^ 63`, `Small s a c` holds, and the block takes less than `2 ^ 63` bytes.
+  -- If a block for `c` items of size `s` and alignment `a` is small enough to be allocated, then
+  -- `Told s a c` holds: `c` and the block's size are less than `2 ^ 63`.
   pub small_tells : is_small s a c ≡ true → Told s a c
   small_tells e =
       let few : c < 2 ^ 63 =
@@ -233,9 +232,8 @@ fits_none R =
 
 -- The next lemmas are about the capacity that a growth rule chooses for the first block of a list.
 
--- `first s` is the least capacity that the rule `doubling` chooses for the first allocation of a
--- block whose items have the size `s`. `capped s` is the lesser of `s` and `usize::MAX`. If `capped
--- s` exceeds `2 ^ 61 - 1`, then `first s` is 1.
+-- If the item size `s` exceeds `2 ^ 61 - 1`, then `first s`, the least capacity that the rule
+-- `doubling` chooses for a first allocation, is 1.
 pub first_one : (s : ℕ) → 2 ^ 61 - 1 < capped s → 1 ≡ first s
 unfolding first
 first_one s large =
@@ -244,9 +242,8 @@ first_one s large =
     absurd (omega arith)) in
     rw (lt-ltb (2 ^ 61 - 1) s above) refl
 
--- `first s` is the least capacity that the rule `doubling` chooses for the first allocation of a
--- block whose items have the size `s`. `capped s` is the lesser of `s` and `usize::MAX`. If `capped
--- s` is at most `2 ^ 61 - 1`, then `first s` is 4.
+-- If the item size `s` is at most `2 ^ 61 - 1`, then `first s`, the least capacity that the rule
+-- `doubling` chooses for a first allocation, is 4.
 pub first_many : (s : ℕ) → capped s ≤ 2 ^ 61 - 1 → 4 ≡ first s
 unfolding first
 first_many s small =
@@ -271,13 +268,13 @@ fits_no s a c many = first_false (ltb c (2 ^ 63)) (ltb (block_bytes s a c) (2 ^ 
 abbrev pub tried : ℕ → ℕ → ℕ → ℕ
 tried s c w = max w (if c == 0 then first s else 2 * c)
 
--- Suppose that the old capacity `c` is 0, and that `d` is `first s`. Then `tried s c w`, which is
--- the capacity that the rule `doubling` computes, is the greater of `w` and `d`.
+-- If the old capacity `c` is 0, and `d` is `first s`, then the capacity `tried s c w` that the rule
+-- `doubling` computes is the greater of `w` and `d`.
 pub tried_first : (s c w d : ℕ) → c ≡ 0 → d ≡ first s → max w d ≡ tried s c w
 tried_first s c w d none is = grind (arith, nat_tests)
 
--- Suppose that the old capacity `c` is not 0, and that `d` is `2 * c`. Then `tried s c w`, which is
--- the capacity that the rule `doubling` computes, is the greater of `w` and `d`.
+-- If the old capacity `c` is not 0, and `d` is `2 * c`, then the capacity `tried s c w` that the
+-- rule `doubling` computes is the greater of `w` and `d`.
 pub tried_twice : (s c w d : ℕ) → (c ≡ 0 → ⊥) → d ≡ 2 * c → max w d ≡ tried s c w
 tried_twice s c w d some is = grind (arith, nat_tests)
 
@@ -287,10 +284,8 @@ pub fitting_past : (s a n : ℕ) → 2 ^ 63 ≤ n → fitting s a n ≡ None
 unfolding fitting
 fitting_past s a n many = λ i. if fits_no s a n many i then Some n else None
 
--- The code of `Doubling` computes a number `d`. If the old capacity `c` is 0, then `d` is
--- `first s`. Otherwise, `d` is the lesser of `2 * c` and `usize::MAX`. If `c` is less than the
--- required capacity `w`, then the code chooses the same capacity as the function `doubling`, which
--- does not cap `2 * c`.
+-- If `c < w`, then the code of `Doubling`, which caps `2 * c` at `usize::MAX`, chooses the same
+-- capacity as the function `doubling`, which does not cap it.
 pub doubling_is : (s a c w d : ℕ) → c < w → (c ≡ 0 → d ≡ first s)
     → ((c ≡ 0 → ⊥) → d ≡ min (c * 2) (2 ^ 64 - 1)) → fitting s a (max w d) ≡ doubling s a c w
 unfolding doubling

@@ -1,11 +1,5 @@
--- These lemmas separate the memory of some slots of a block from the memory of the other slots.
--- They also convert the memory of slots into other kinds of memory.
---
--- - `slot_out` separates one slot, and `slot_in` puts it back.
--- - `run_out` separates the slots `i..i + k`, and `run_in` puts them back.
--- - `to_items` converts filled slots into an array, and `of_items` is the inverse.
--- - `to_cells` converts filled slots into slice elements, and `of_cells` is the inverse.
--- - `to_room` converts empty slots into uninitialized memory, and `of_room` is the inverse.
+-- These lemmas separate the memory of some slots of a block from the memory of the other slots, and
+-- convert the memory of slots into arrays, slice elements or uninitialized memory.
 use Rattle.std.proofs.Common.{◌≡◌, true, ℕ, zero, suc, None, ◌+◌, ◌*◌, ◌^◌, ◌<◌, ◌≤◌, List, [], ◌∷◌, ◌++◌, length, refl, sym, ap, ◌∙◌, arith}
 use native.Mathlib.Nat.{zero-mul, suc-mul}
 use lib.ListN.{take, drop, set, get_or, take-append-drop, length-take, length-drop, length-set}
@@ -233,8 +227,8 @@ module _ (E : El) {M : Type 1} {𝓤 : Ura M} (𝓛 : Logic 𝓤) (b : ℕ) wher
   to_raw k o = via 𝓤 (H.room (ty_array (elτ E) k) b o) (to_room k o)
       (𝓛.laws.room-raw (ty_array (elτ E) k) b o)
 
-  -- If `i < j`, then `Others o xs i j` is the memory of all slots in the list `xs` except the slots
-  -- `i` and `j`. The memory of the first slot in `xs` begins at the offset `o`.
+  -- If `i < j`, then `Others o xs i j` is the memory of all slots in `xs` except `i` and `j`. Slot
+  -- 0 begins at the offset `o`.
   abbrev Others : ℕ → List (Slot E) → ℕ → ℕ → Fml
   Others o xs i j = fsep (besides o (take j xs) i) (Row (j * s + o + s) (drop (suc j) xs))
 
@@ -273,9 +267,8 @@ module _ (E : El) {M : Type 1} {𝓤 : Ura M} (𝓛 : Logic 𝓤) (b : ℕ) wher
       (sym (drop-set-lt (suc j) xs i x (omega arith))) refl $ fjoin ! $ move ! (1 ∷ 0 ∷ []) $
       by ! (slot_in o (set xs i x) j low' y)
 
-  -- `Two o xs i j` states that the slots `i` and `j` can be separated from the other slots in the
-  -- list `xs`, and that all slots can later be put back together. In between, the contents of the
-  -- slots `i` and `j` may change. The memory of the first slot in `xs` begins at the offset `o`.
+  -- `Two o xs i j` states that the slots `i` and `j` of `xs` can be separated from the other slots,
+  -- changed, and put back. Slot 0 begins at the offset `o`.
   pub record Two (o : ℕ) (xs : List (Slot E)) (i j : ℕ) : Type 1 where
     pub Rest : Fml
     pub out : ent 𝓤 (sem 𝓛 (Row o xs))
@@ -310,9 +303,8 @@ module _ (E : El) {M : Type 1} {𝓤 : Ura M} (𝓛 : Logic 𝓤) (b : ℕ) wher
             done !;
       }
 
-  -- If `i` and `j` are different, then the slots `i` and `j` can be separated from the other slots
-  -- in the list `xs`, and all slots can later be put back together. In between, the contents of the
-  -- slots `i` and `j` may change.
+  -- If `i` and `j` are different, then the slots `i` and `j` of the list `xs` can be separated from
+  -- the other slots, changed, and put back.
   pub two_slots : (o : ℕ) (xs : List (Slot E)) (i j : ℕ) → (i ≡ j → ⊥) → i < length xs
       → j < length xs → Two o xs i j
   two_slots o xs i j apart low low' = ⊎_elim (λ (p : i < j). in_order o xs i j p low')

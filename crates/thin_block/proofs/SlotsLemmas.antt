@@ -38,8 +38,8 @@ module _ {T : Type 0} where
   filled-within (x ∷ s) zero is = omega arith
   filled-within (x ∷ s) (suc i) is = let low = filled-within s i is in omega arith
 
-  -- `run i k s` is the list of the slots `i..i + k` of `s`. If all these slots are filled, then
-  -- there is a list `xs` of items such that `run i k s` is `full xs`.
+  -- If the slots `i..i + k` of `s` are filled, then these slots (`run i k s`) are `full xs` for
+  -- some list `xs` of items.
   pub full-run : (s : List (Option T)) (i k : ℕ) → i + k ≤ length s
       → ((j : ℕ) → i ≤ j → j < i + k → IsSome (slot s j)) → (xs : List T) × (run i k s ≡ full xs)
   full-run [] zero zero le filled = ([], refl)
@@ -54,8 +54,8 @@ module _ {T : Type 0} where
       (λ j p q. filled (suc j) (omega arith) (omega arith)) in
       (item.0 ∷ rest.0, λ n. item.1 n ∷ rest.1 n)
 
-  -- `run i k s` is the list of the slots `i..i + k` of `s`. If all these slots are empty, then
-  -- `run i k s` is `empty k`, a list of `k` empty slots.
+  -- If the slots `i..i + k` of `s` are empty, then these slots (`run i k s`) are `empty k`, a list
+  -- of `k` empty slots.
   pub empty-run : (s : List (Option T)) (i k : ℕ) → i + k ≤ length s
       → ((j : ℕ) → i ≤ j → j < i + k → slot s j ≡ None) → run i k s ≡ empty k
   empty-run [] zero zero le bare = refl
@@ -73,9 +73,8 @@ module _ {T : Type 0} where
   pub length-run : (s : List (Option T)) (i k : ℕ) → i + k ≤ length s → length (run i k s) ≡ k
   length-run s i k le = omega (arith, length-take k (drop i s), length-drop i s)
 
-  -- Replacing slots does not change the number of slots. `laid i ys s` is the list `s` with the
-  -- slots `i..i + length ys` replaced with `ys`. If `i + length ys ≤ length s`, then `laid i ys s`
-  -- is as long as `s`.
+  -- `laid i ys s`, which is `s` with the slots `i..i + length ys` replaced with `ys`, is as long as
+  -- `s`.
   pub length-laid : (i : ℕ) (ys s : List (Option T)) → i + length ys ≤ length s
       → length (laid i ys s) ≡ length s
   length-laid i ys s le =
@@ -87,8 +86,8 @@ module _ {T : Type 0} where
         length-drop (i + length ys) s,
       )
 
-  -- If the slots `i..i + length ws` are filled, then `over s i ws` is `laid i (full ws) s`. Both
-  -- functions replace the items in these slots with the items `ws`.
+  -- If the slots `i..i + length ws` of `s` are filled, then `over s i ws` and `laid i (full ws) s`
+  -- are equal: they put the items `ws` into these slots.
   pub over-laid : (s : List (Option T)) (i : ℕ) (ws : List T) → i + length ws ≤ length s
       → ((j : ℕ) → i ≤ j → j < i + length ws → IsSome (slot s j)) → over s i ws ≡ laid i (full ws) s
   over-laid [] zero [] le held = refl
@@ -148,16 +147,16 @@ module _ {T : Type 0} where
       ∙ ap (λ (n : ℕ). slot s n)
       (let e : i + length ys + (k - i - length ys) ≡ k = omega arith in e)))
 
-  -- A list `s` of slots is the concatenation of three parts: the slots before index `i`, the slots
-  -- `i..i + k`, and the slots from index `i + k` onward.
+  -- A list `s` of slots consists of the slots before index `i`, the slots `i..i + k` and the slots
+  -- from index `i + k` onward.
   pub parted-run : (s : List (Option T)) (i k : ℕ) → s ≡ take i s ++ (run i k s ++ drop (i + k) s)
   parted-run s i k =
       sym (take-append-drop i s)
       ∙ ap (λ (l : List (Option T)). take i s ++ l) (sym (take-append-drop k (drop i s))
       ∙ ap (λ (l : List (Option T)). run i k s ++ l) (drop-drop k i s))
 
-  -- The run of `a + k` slots from index `i` onward is the run of the first `a` of these slots,
-  -- followed by the run of the other `k` slots.
+  -- The `a + k` slots of `s` from index `i` onward are the `a` slots from `i` onward, followed by
+  -- the `k` slots from `i + a` onward.
   pub run-split : (s : List (Option T)) (i a k : ℕ) → run i (a + k) s ≡ run i a s ++ run (i + a) k s
   run-split s i a k = take-add a k (drop i s)
       ∙ ap (λ (l : List (Option T)). run i a s ++ take k l) (drop-drop a i s)
@@ -173,8 +172,8 @@ module _ {T : Type 0} where
       ∙ drop_at (pre ++ old) post (i + length ys) (length-append pre old ∙ omega arith) in
       λ m. take_at pre (old ++ post) i (sym e) m ++ (ys ++ rest m)
 
-  -- `run i k` selects the `k` slots from index `i` onward. If `i ≡ length pre` and `k ≡ length ys`,
-  -- then `run i k` selects `ys` from the list `pre ++ (ys ++ post)`.
+  -- If `i` is the length of `pre`, and `k` is the length of `ys`, then the `k` slots of
+  -- `pre ++ (ys ++ post)` from index `i` onward are `ys`.
   pub run-at : (i k : ℕ) (pre ys post : List (Option T)) → i ≡ length pre → k ≡ length ys
       → run i k (pre ++ (ys ++ post)) ≡ ys
   run-at i k pre ys post e n = ap (λ (l : List (Option T)). take k l)
@@ -189,8 +188,8 @@ module _ {T : Type 0} where
     unfolding moved
     moved-by s ys bare result e f g = (λ n. laid to (e n) (f n)) ∙ g
 
-  -- Moving items does not change the number of slots. If both `from + k` and `to + k` are at most
-  -- `length s`, then `moved from to k s` is as long as `s`.
+  -- `moved from to k s`, which is `s` with `k` items moved from index `from` to index `to`, is as
+  -- long as `s`.
   pub length-moved : (from to k : ℕ) (s : List (Option T)) → from + k ≤ length s → to + k ≤ length s
       → length (moved from to k s) ≡ length s
   unfolding moved
@@ -325,8 +324,8 @@ module _ {T : Type 0} where
   full-filled (x ∷ xs) rest (suc i) low =
       full-filled xs rest i (let low' : suc i < suc (length xs) = low in omega arith)
 
-  -- If `c ≡ a + b`, then the list `full xs ++ empty c` equals `(full xs ++ empty a) ++ empty b`:
-  -- the `c` empty slots are split into two groups.
+  -- If `c ≡ a + b`, then the `c` empty slots after the items `xs` can be split into `a` empty slots
+  -- and `b` empty slots.
   tail-split : (xs : List T) (a b c : ℕ) → c ≡ a + b
       → full xs ++ empty c ≡ (full xs ++ empty a) ++ empty b
   tail-split xs a b c e =
@@ -386,8 +385,8 @@ module _ {T : Type 0} (s : List (Option T)) (n : ℕ) (packed : IsPacked s n) wh
       ∙ (replicate-append-replicate n (length s - n) None
       ∙ ap (λ (k : ℕ). empty k) (let e : n + (length s - n) ≡ length s = omega arith in e)))
 
-  -- Suppose that exactly the first `n` slots of `s` are filled, with the items `xs`. Moving these
-  -- items to the start of `c` empty slots results in `full xs ++ empty (c - n)`.
+  -- If exactly the first `n` slots of `s` are filled, with the items `xs`, then moving them to the
+  -- start of `c` empty slots results in `full xs ++ empty (c - n)`.
   pub packed-carried : (c : ℕ) → laid 0 (run 0 n s) (empty c) ≡ full xs ++ empty (c - n)
   packed-carried c =
       let long : 0 + length (full xs) ≡ n = omega (arith, full-long) in

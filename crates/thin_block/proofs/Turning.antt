@@ -1,11 +1,5 @@
 -- These lemmas convert a block into one array of words, which an allocator can grow or shrink, and
--- back. A word is a struct of 8 or 16 bytes that consists of whole items.
---
--- - `carve_asked` splits the memory of a block, and `gather` combines the parts.
--- - `turn_out` separates the last `k` words from the other words, and `turn_back` is the inverse.
--- - `turn_up` forms the array, and `turn_down` splits it.
--- - `header_apart` converts the header into memory for words, and `header_whole` makes a header
---   again.
+-- back. A word is a struct of whole items that takes 8 or 16 bytes.
 use Rattle.std.proofs.Common.{◌≡◌, true, ℕ, Some, None, ◌+◌, ◌-◌, ◌*◌, List, [], ◌∷◌, ◌++◌, length, refl, sym, ap, ◌∙◌, arith, w64, append_assoc}
 use Rattle.std.proofs.lemmas.List.{length-map, length-append, length-replicate, map-append, replicate-append-replicate}
 use Rattle.std.specs.Prelude.{Bool}
@@ -61,7 +55,7 @@ module _ (Rw : RattleType) (c : ℕ) where
   τ₀ = lone Rw.mir
 
   -- `words_of Rw` says how items of type `Rw` are grouped into words. It depends only on `s₀`, the
-  -- size of `Rw`, and not on the names of the fields of this type.
+  -- size of `Rw`.
   pub same_words : words_of Rw ≡ in_words s₀
   same_words = ap in_words (size-raw τ₀)
 
@@ -78,13 +72,13 @@ module _ (Rw : RattleType) (c : ℕ) where
   align_for None e = whole_align Rw c
   align_for (Some w) e = ap word_align (align-raw τ₀) ∙ (words_told Rw w.0 w.1 e).align
 
-  -- A block is allocated with the size that `block_bytes` computes, whether or not its items can be
-  -- grouped into words. A word is a struct of 8 or 16 bytes that consists of whole items.
+  -- The type `asked Rw c`, which requests memory for a block of `c` items, has the size that
+  -- `block_bytes` computes.
   pub asked_size : size (asked Rw c) ≡ block_bytes s₀ a₀ c
   asked_size = size_for (words_of Rw) (sym same_words)
 
-  -- A block is allocated with the alignment that `block_align` computes, whether or not its items
-  -- can be grouped into words. A word is a struct of 8 or 16 bytes that consists of whole items.
+  -- The type `asked Rw c`, which requests memory for a block of `c` items, has the alignment that
+  -- `block_align` computes.
   pub asked_align : align (asked Rw c) ≡ block_align a₀
   asked_align = align_for (words_of Rw) (sym same_words)
 
@@ -101,8 +95,7 @@ module _ {M : Type 1} {𝓤 : Ura M} (𝓛 : Logic 𝓤) (E : El) (b c o : ℕ) 
       (sep 𝓤 (H.room (array_of (R E) c) b (o + 16)) (sem 𝓛 (way_back w (bare (R E)) c b o))))
 
   -- If `in_words` returns the pair `w` for the item size, then `w.0` items make a word, and the
-  -- header takes as many bytes as `w.1` words. This also holds if all field names are erased from
-  -- the item type.
+  -- header takes as many bytes as `w.1` words.
   known : (w : ℕ × ℕ) → in_words (type_size (R E)) ≡ Some w
       → InWords (size (bare (R E))) (align (bare (R E))) w.0 w.1
   known w e = nameless (elτ E) w.0 w.1 (words_told (R E) w.0 w.1 e)
@@ -132,8 +125,8 @@ module _ {M : Type 1} {𝓤 : Ura M} (𝓛 : Logic 𝓤) (E : El) (b c o : ℕ) 
   pub carve_asked : ent 𝓤 (H.room (asked (R E) c) b o) (Parts (words_of (R E)))
   carve_asked = carve_for (words_of (R E)) (sym (same_words (R E) c))
 
-  -- Combines uninitialized memory for the slots of a block with all other parts of the block. The
-  -- result is the memory of the whole block and the right to free this memory.
+  -- Joins the memory of the slots and everything else that a block owns into the memory of the
+  -- whole block and the right to free it.
   pub gather : (t : Ty → Ptr → Fml) (n : ℕ)
       → ent 𝓤 (sep 𝓤 (sem 𝓛 (frame t (R E) n c b o)) (H.room (array_of (R E) c) b (o + 16)))
       (sep 𝓤 (H.room (asked (R E) c) b o) (sem 𝓛 (t (asked (R E) c) (block_ptr b o))))
@@ -153,8 +146,8 @@ module _ {M : Type 1} {𝓤 : Ura M} (𝓛 : Logic 𝓤) (E : El) (b c o : ℕ) 
       use1 𝓛 (‵ (froom (asked (R E) c) b o))
       (gather_for (words_of (R E)) (sym (same_words (R E) c))) $ done !
 
--- In this module, the header of a block takes as many bytes as `k` items. The memory of such a
--- block can be used as one array of items, which begins at the start of the block.
+-- In this module, the header of a block takes as many bytes as `k` items, so the whole block can be
+-- used as one array of items.
 module _ {M : Type 1} {𝓤 : Ura M} (𝓛 : Logic 𝓤) (E : El) (b : ℕ) (k : ℕ)
     (hd : k * type_size (R E) ≡ 16) (o : ℕ) where
   open 𝓛 use {H}
@@ -165,9 +158,8 @@ module _ {M : Type 1} {𝓤 : Ura M} (𝓛 : Logic 𝓤) (E : El) (b : ℕ) (k :
   abbrev Slots' : ℕ → List (Option (el_x E)) → Fml
   Slots' at xs = places (R E) xs b at
 
-  -- In this module, the first slots of a block hold `n` items: the items `xs`, and then the `k`
-  -- items `ys`. These slots are followed by `m` empty slots. The items `ys` take as many bytes as
-  -- the header.
+  -- In this module, a block holds the items `xs`, then the `k` items `ys`, and then `m` empty
+  -- slots. The items `ys` take as many bytes as the header.
   module _ (xs ys : List (el_x E)) (long : length ys ≡ k) (n m : ℕ)
       (count : n ≡ length xs + k) where
     abbrev there : ℕ
@@ -325,8 +317,8 @@ module _ {M : Type 1} {𝓤 : Ura M} (𝓛 : Logic 𝓤) (T : RattleType) (L : L
   hd : InWords (size (bare (R Item))) (align (bare (R Item))) m k
   hd = nameless (elτ Item) m k (words_told (R Item) m k is)
 
-  -- Splits uninitialized memory for `k` words into three parts: memory for the capacity, memory for
-  -- the length, and the right to convert these two parts back into memory for words.
+  -- Splits uninitialized memory for `k` words into memory for the capacity, memory for the length,
+  -- and the right to convert these two parts back.
   pub units_out : ent 𝓤 (H.room units b o)
       (sep 𝓤 (H.room half b o)
       (sep 𝓤 (H.room half b (o + 8)) (sem 𝓛 (header_way (bare (R Item)) m k b o))))
@@ -350,9 +342,8 @@ module _ {M : Type 1} {𝓤 : Ura M} (𝓛 : Logic 𝓤) (T : RattleType) (L : L
     asked_words : words_of (R Item) ≡ Some (m, k)
     asked_words = same_words (R Item) c ∙ is
 
-    -- Splits everything that a block owns besides its slots into three parts: uninitialized memory
-    -- for `k` words at the address of the header; the right to convert memory for the slots into
-    -- memory for words; the right to free the block.
+    -- Splits what a block owns besides its slots into memory for `k` words, the right to convert
+    -- the slots into memory for words, and the right to free the block.
     pub header_apart : ent 𝓤 (sem 𝓛 (frame t (R Item) n c b o))
         (sep 𝓤 (H.room units b o) (sep 𝓤 (sem 𝓛 Rest) (sem 𝓛 Right)))
     header_apart =

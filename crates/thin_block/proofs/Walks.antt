@@ -1,5 +1,5 @@
--- These lemmas are for proofs about function bodies. They are about the parts of a body, and about
--- the conditions that must hold before or after a part is executed.
+-- These lemmas are for proofs about function bodies. They state what must hold before or after a
+-- part of a body is executed.
 pub use Rattle.core.proofs.alloc.Shapes.{after, head, inside, arm_body}
 use Rattle.std.proofs.Common.{◌≡◌, ℕ, zero, suc, List, [], ◌∷◌, refl, T}
 use seplogic.Ra.Ura.{Ura}
@@ -31,9 +31,8 @@ slot_at (suc k) (s ∷ ss) = slot_at k ss
 module _ {M : Type 1} {𝓤 : Ura M} (𝓛 : Logic 𝓤) where
   open 𝓛 use {H}
 
-  -- Let `b` be the last part of a function body. `then_runs C Λ E b q` is the condition that must
-  -- hold before `b` is executed, so that `q` holds after `b`. `C` is the table of calls, `Λ` is the
-  -- table of loops, and `E` is the environment of the local variables.
+  -- `then_runs C Λ E b q` must hold before the last part `b` of a function body so that `q` holds
+  -- after it. `C` and `Λ` are the tables of calls and loops, and `E` contains the local variables.
   abbrev pub then_runs : Calls 𝓤 H → Loops 𝓤 H → Env 𝓤 H → Body → Post 𝓤 H → Post 𝓤 H
   then_runs C Λ E b q = any_q (after_seq 𝓤 H (Wp 𝓤 H C Λ E b (post 𝓤 H q)) (post 𝓤 H q))
 

@@ -1,6 +1,5 @@
--- These arithmetic lemmas are about words. A word is a struct of 8 or 16 bytes that consists of
--- whole items. `InWords` states that `m` items make a word, and that the header takes as many bytes
--- as `k` words.
+-- These arithmetic lemmas are about words. A word is a struct of whole items that takes 8 or 16
+-- bytes.
 use Rattle.std.proofs.Common.{◌≡◌, true, false, ℕ, Some, None, ◌+◌, ◌*◌, ◌<◌, ◌≤◌, refl, sym, ap, subst, arith}
 use Rattle.std.proofs.lemmas.Bool.{eqb-true}
 use Rattle.std.specs.Prelude.{◌==◌, if◌then◌else◌, Bool, Option, max}
@@ -38,8 +37,8 @@ pub record Counts (m : ℕ) : Type 0 where
   pub least : (n : ℕ) → n ≤ n * m
   pub few : (c : ℕ) → div_ceil c m ≤ c
 
--- `Counts m` collects facts about words that hold `m` items each. This lemma and the next three
--- lemmas state that `Counts m` holds if `m` is 1, 2, 4 or 8.
+-- `Counts m` collects facts about words of `m` items each. This lemma and the next three lemmas
+-- prove it for `m` equal to 1, 2, 4 and 8.
 counts_1 : Counts 1
 counts_1 = record {
   some = omega arith;
@@ -88,9 +87,8 @@ Laid s a m k = (word_size s a m ≡ m * s) × ((word_align a ≡ block_align a)
     × (Dv 8 (word_align a) × (Dv a (word_align a)
     × ((c : ℕ) → (k + div_ceil c m) * (m * s) ≡ block_bytes s a c))))
 
--- Suppose that items have the size 1, and that their alignment, `bytes w`, divides this size. Then
--- `Laid` holds for words of 8 such items: the header takes as many bytes as 2 words. The next four
--- lemmas are about items of the sizes 2, 4, 8 and 16.
+-- `Laid` holds for items of the size 1 whose alignment `bytes w` divides this size: 8 items make a
+-- word, and the header takes as many bytes as 2 words.
 laid_1 : (w : Width) → Dv (bytes w) 1 → Laid 1 (bytes w) 8 2
 laid_1 w8 d = (refl, (refl, (tt, (tt, λ c. omega arith))))
 laid_1 w16 d = absurd d
@@ -126,8 +124,8 @@ laid_16 w32 d = (refl, (refl, (tt, (tt, λ c. omega arith))))
 laid_16 w64 d = (refl, (refl, (tt, (tt, λ c. omega arith))))
 laid_16 w128 d = (refl, (refl, (tt, (tt, λ c. omega arith))))
 
--- `InWords s a m k` holds if `m` items with the size `s` and the alignment `a` make a word, and the
--- header takes as many bytes as `k` words.
+-- `InWords s a m k` holds if `m` items of size `s` and alignment `a` make a word, and the header
+-- takes as many bytes as `k` words.
 pub record InWords (s a m k : ℕ) : Type 0 where
   pub counts : Counts m
   pub size : word_size s a m ≡ m * s
@@ -200,8 +198,8 @@ by_test false false false false true s q ex ey ez eu ev e =
     (λ w d. in_words_by 16 (bytes w) 1 1 counts_1 (omega arith) refl (laid_16 w d))
 by_test false false false false false s q ex ey ez eu ev e = absurd (clash (ap is_some e))
 
--- If `in_words` is `Some (m, k)` for the size of the type `R`, then `m` items of this type make a
--- word, and the header takes as many bytes as `k` words (`InWords`).
+-- If `in_words` returns `Some (m, k)` for the size of the type `R`, then `m` items make a word, and
+-- the header takes as many bytes as `k` words.
 pub words_told : (R : RattleType) (m k : ℕ) → in_words (type_size R) ≡ Some (m, k)
     → InWords (type_size R) (type_align R) m k
 words_told R m k e =
@@ -212,9 +210,8 @@ words_told R m k e =
     subst (λ (a : ℕ). InWords s a m k) (sym known)
     (at_width (align_w (layout R)) (subst (λ (a : ℕ). Dv a s) known (align_size (layout R))))
 
--- `InWords` states that `m` items of a type make a word, and that the header takes as many bytes as
--- `k` words. If `InWords` holds for the type `τ`, then it also holds for `τ` with all field names
--- erased.
+-- If `m` items of the type `τ` make a word (`InWords`), then so do `m` items of `τ` with all field
+-- names erased.
 pub nameless : (τ : Ty) (m k : ℕ) → InWords (size τ) (align τ) m k
     → InWords (size (raw τ)) (align (raw τ)) m k
 nameless τ m k h = subst (λ (p : ℕ × ℕ). InWords p.0 p.1 m k)

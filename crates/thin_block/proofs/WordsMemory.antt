@@ -1,12 +1,5 @@
--- These lemmas convert the memory of items into memory of words, and back. A word is a struct of
--- `m` items.
---
--- - `ways_out` converts memory for words into memory for items, and `ways_in` is the inverse.
--- - `header_out` converts memory for words into memory for the header, and `header_in` is the
---   inverse.
--- - `block_out` converts memory for a block of words into memory for its parts, and `block_in` is
---   the inverse.
--- - `words_in` converts slots into words, and `words_back` converts words into slots.
+-- These lemmas convert the memory of items, headers, slots and blocks into memory of words, and
+-- back. A word is a struct of `m` items.
 use Rattle.std.proofs.Common.{◌≡◌, ℕ, zero, suc, Some, ◌+◌, ◌-◌, ◌*◌, ◌≤◌, List, [], ◌∷◌, ◌++◌, length, map, take, drop as rest, refl, sym, ap, subst, ◌∙◌, arith, zero-mul, suc-mul}
 use Rattle.std.proofs.lemmas.List.{take-append-drop, length-take, length-drop, length-map, map-append}
 use Rattle.std.specs.Prelude.{Option}
@@ -83,8 +76,8 @@ module _ {M : Type 1} {𝓤 : Ura M} (𝓛 : Logic 𝓤) (τ : Ty) (m k b : ℕ)
   abbrev units : Ty
   units = ty_array ω k
 
-  -- If `m` items begin at the offset `o`, then they end at the offset `past τ m o`. A word of these
-  -- items ends there, too. The size of a word is `u`.
+  -- `m` items that begin at the offset `o` end at `past τ m o`, which is `o + u`. Here, `u` is the
+  -- size of a word of `m` items.
   after_run : (o : ℕ) → past τ m o ≡ o + u
   after_run o = past_is τ m o ∙ ap (λ (n : ℕ). o + n) (sym hd.size)
 
@@ -148,8 +141,8 @@ module _ {M : Type 1} {𝓤 : Ura M} (𝓛 : Logic 𝓤) (τ : Ty) (m k b : ℕ)
   after_header : (o : ℕ) → past ω k o ≡ o + 16
   after_header o = past_is ω k o ∙ ap (λ (n : ℕ). o + n) header_bytes
 
-  -- Splits memory for `k` words into three parts: memory for the capacity, memory for the length,
-  -- and `header_way`, the right to convert these two kinds of memory back into memory for words.
+  -- Splits memory for `k` words into memory for the capacity, memory for the length, and
+  -- `header_way`, the right to convert these two parts back.
   pub header_out : (o : ℕ) → ent 𝓤 (H.room units b o)
       (sep 𝓤 (H.room half b o) (sep 𝓤 (H.room half b (o + 8)) (sem 𝓛 (header_way τ m k b o))))
   header_out o =
@@ -192,9 +185,8 @@ module _ {M : Type 1} {𝓤 : Ura M} (𝓛 : Logic 𝓤) (τ : Ty) (m k b : ℕ)
       rewrite ! 0 (λ (n : ℕ). ‵ (froom (ty_array τ pad) b n)) (past_is τ c o) refl $
       move ! (2 ∷ 0 ∷ []) $ fjoin ! $ move ! (1 ∷ 0 ∷ []) $ done !
 
-  -- Suppose that `c` slots fit into `w` words. Then the memory of the slots and `slots_way` can
-  -- together be converted into memory for the words. `slots_way` consists of the rights to convert
-  -- the memory, one for each word, and of the unused memory directly after the last slot.
+  -- If `w` words have room for `c` slots, then the memory of the slots and `slots_way` (conversion
+  -- rights and unused memory) can be converted into memory for the words.
   slots_in : (w c o : ℕ) → c ≤ w * m → ent 𝓤 (sep 𝓤 (H.room (ty_array τ c) b o)
       (sem 𝓛 (slots_way τ m w c b o))) (H.room (ty_array ω w) b o)
   slots_in w c o le =
@@ -228,8 +220,8 @@ module _ {M : Type 1} {𝓤 : Ura M} (𝓛 : Logic 𝓤) (τ : Ty) (m k b : ℕ)
         (slots_out w c (o + 16) le) $ split ! $ move ! (4 ∷ 1 ∷ []) $ fjoin ! $
         move ! (2 ∷ 3 ∷ 1 ∷ 0 ∷ []) $ done !
 
-    -- Converts memory for the capacity, memory for the length and memory for the slots into memory
-    -- for a block of words. The lemma uses up `Back`, the right to do this.
+    -- Converts memory for the capacity, the length and the slots into memory for a block of words.
+    -- This uses up `Back`, the right to do so.
     pub block_in : ent 𝓤 (sep 𝓤 (H.room half b o) (sep 𝓤 (H.room half b (o + 8))
         (sep 𝓤 (H.room (ty_array τ c) b (o + 16)) (sem 𝓛 Back)))) (H.room (ty_array ω (k + w)) b o)
     block_in =
@@ -250,9 +242,8 @@ number_of_items m = param 1 (number m)
 abbrev pub word_row : RattleType → ℕ → RattleType
 word_row T m = the_row (param 0 T) (number_of_items m)
 
--- `word_el T L m` is a record that combines the type of words with the laws of this type. Each word
--- consists of `m` items of type `T`, and `L` contains the laws of `T`. The lemmas about blocks take
--- such a record as an argument.
+-- `word_el T L m` combines the type of words of `m` items of type `T` with the laws of this type.
+-- `L` contains the laws of `T`.
 abbrev pub word_el : (T : RattleType) → Laws T → ℕ → El
 word_el T L m = record {
   row = word_row T m;
@@ -330,8 +321,7 @@ module _ {M : Type 1} {𝓤 : Ura M} (𝓛 : Logic 𝓤) (T : RattleType) (L : L
   named : u' ≡ type_size (R W)
   named = size-raw (layout W.row)
 
-  -- `fields` lists the two fields of a word: the array of its `m` items, and an array of length 0,
-  -- which takes no bytes. The next lemmas are about the memory of one word.
+  -- `fields` lists the two fields of a word: the array of its `m` items, and an array of length 0.
   abbrev fields : List Member
   fields = record { row = ArrayAt (R E) N; ty = ty_array σ m }
       ∷ record { row = Array u64 0; ty = ty_array (ty_int w64) 0 } ∷ []
@@ -402,8 +392,8 @@ module _ {M : Type 1} {𝓤 : Ura M} (𝓛 : Logic 𝓤) (T : RattleType) (L : L
   abbrev words : ℕ → List X → List W.row.Denot
   words n xs = words_made T m n xs
 
-  -- `full xs` is `full (take m xs) ++ full (rest m xs)`. The first `m` items of `xs` make the first
-  -- word, and `rest m xs` contains the items after them.
+  -- The filled slots `full xs` are `full (take m xs)`, the items of the first word, followed by
+  -- `full (rest m xs)`, the other items.
   parted : (xs : List X) → full xs ≡ full (take m xs) ++ full (rest m xs)
   parted xs = ap full (sym (take-append-drop m xs)) ∙ map-append Some (take m xs) (rest m xs)
 
@@ -420,9 +410,8 @@ module _ {M : Type 1} {𝓤 : Ura M} (𝓛 : Logic 𝓤) (T : RattleType) (L : L
         ap (λ (n : ℕ). n * s) (length-map (take m xs) Some ∙ first_long) in
         let e = wide in omega arith
 
-  -- Groups the slots that hold the items `xs` into `n` words. Each group is paired with one right
-  -- (`way`) to convert it into memory for a word. There are `w = j + n` rights, so `j` of them are
-  -- left over.
+  -- Groups the slots of the items `xs` into `n` words, and pairs each group with one of the `w`
+  -- rights to convert it into a word. `j` rights are left over.
   to_runs : (n w j : ℕ) (xs : List X) (o at : ℕ) → length xs ≡ n * m → w ≡ j + n → at ≡ n * u' + o
       → ent 𝓤 (sep 𝓤 (sem 𝓛 (places (R E) (full xs) b o)) (sem 𝓛 (ways τ' m w b o)))
       (sep 𝓤 (sem 𝓛 (runs_at (R E) N (chunks n xs) b o)) (sem 𝓛 (ways τ' m j b at)))
@@ -495,8 +484,8 @@ module _ {M : Type 1} {𝓤 : Ura M} (𝓛 : Logic 𝓤) (T : RattleType) (L : L
     end_at : far ≡ past τ' j at
     end_at = end ∙ sym (past_is τ' j at)
 
-    -- Converts `j` empty slots into `v` empty words. This requires the rights (`ways`) to convert
-    -- items into words, and the memory after the last slot, which belongs to no slot.
+    -- Converts `j` empty slots, the rights (`ways`) to convert items into words, and the spare
+    -- memory after the last slot into `v` empty words.
     spare_words : ent 𝓤 (sep 𝓤 (sem 𝓛 (places (R E) (empty j) b at))
         (sep 𝓤 (sem 𝓛 (ways τ' m v b at)) (sem 𝓛 Spare)))
         (sem 𝓛 (places (R W) (empty v) b at))
@@ -510,8 +499,8 @@ module _ {M : Type 1} {𝓤 : Ura M} (𝓛 : Logic 𝓤) (T : RattleType) (L : L
         use2 𝓛 (‵ (froom (ty_array (word_of τ' m) v) b at)) (ways_in 𝓛 τ' m k b hd' v at) $
         by ! (of_raw W 𝓛 b v at)
 
-    -- Converts `v` empty words into three parts: `j` empty slots, the rights (`ways`) to convert
-    -- these slots back into words, and the memory after the last slot, which belongs to no slot.
+    -- Converts `v` empty words into `j` empty slots, the rights to convert these slots back into
+    -- words, and the unused memory after the last slot.
     spare_slots : ent 𝓤 (sem 𝓛 (places (R W) (empty v) b at))
         (sep 𝓤 (sem 𝓛 (places (R E) (empty j) b at))
         (sep 𝓤 (sem 𝓛 (ways τ' m v b at)) (sem 𝓛 Spare)))
@@ -585,8 +574,8 @@ module _ {M : Type 1} {𝓤 : Ura M} (𝓛 : Logic 𝓤) (T : RattleType) (L : L
     last_word = ap (λ (x : ℕ). x * type_size (R W) + o)
         (sym (length-map (words n xs) Some ∙ words_long T m n xs))
 
-    -- Joins the memory of the `n` words that hold items with the memory of the `v` empty words. The
-    -- empty words must begin directly after the words that hold items.
+    -- Joins the memory of `n` filled words with the memory of the `v` empty words directly after
+    -- them.
     pub words_joined : ent 𝓤 (sep 𝓤 (sem 𝓛 (places (R W) (full (words n xs)) b o))
         (sem 𝓛 (places (R W) (empty v) b after)))
         (sem 𝓛 (places (R W) (full (words n xs) ++ empty v) b o))

@@ -1,5 +1,5 @@
 -- This file computes the size of a block in bytes, and defines when a block is small enough to be
--- allocated. In this file, `s` and `a` are the size and the alignment of an item, in bytes.
+-- allocated.
 use Rattle.std.specs.Prelude.{◌≡◌, ℕ, ◌+◌, ◌*◌, ◌-◌, ◌^◌, ◌&&◌, ◌==◌, Bool, IsTrue, Option, if◌then◌else◌, max, nat_lt}
 use Rattle.std.specs.declared.option.Option.TheVariants.{Some, None}
 use Rattle.std.specs.Int.{next_multiple_of}
@@ -14,29 +14,27 @@ abbrev pub IsAlign : ℕ → Type 0
 IsAlign a = (w : Width) × (a ≡ bytes w)
 
 -- `items_offset a` is the offset in bytes of the first item in a block whose items have the
--- alignment `a`. Two words of 8 bytes, and padding if necessary, precede the first item.
+-- alignment `a`.
 abbrev pub items_offset : ℕ → ℕ
 items_offset a = max 16 a
 
 -- `block_align a` is the alignment in bytes of a block whose items have the alignment `a`. It is at
--- least 8, because the header consists of words of 8 bytes.
+-- least 8.
 abbrev pub block_align : ℕ → ℕ
 block_align a = max 8 a
 
 -- `block_bytes s a c` is the size in bytes of a block for `c` items of size `s` and alignment `a`,
--- rounded up to a multiple of the block's alignment.
+-- including padding at the end.
 abbrev pub block_bytes : ℕ → ℕ → ℕ → ℕ
 block_bytes s a c = next_multiple_of (items_offset a + c * s) (block_align a)
 
--- `is_small s a c` is true if two numbers are at most `isize::MAX`: the capacity `c`, and the size
--- in bytes of a block for `c` items of size `s` and alignment `a`. std's `Layout::from_size_align`
--- sets the same limit on sizes.
+-- `is_small s a c` is true if the capacity `c` and the size of a block for `c` items of size `s`
+-- and alignment `a` are at most `isize::MAX`.
 abbrev pub is_small : ℕ → ℕ → ℕ → Bool
 is_small s a c = nat_lt c (2 ^ 63) && nat_lt (block_bytes s a c) (2 ^ 63)
 
 -- `fits s a c` is true if a block for `c` items of size `s` and alignment `a` is small enough to be
--- allocated. Its value is `is_small s a c`, but the prover unfolds `fits` only if a proof asks for
--- it.
+-- allocated. The prover unfolds this definition only on request.
 unfoldable pub fits : ℕ → ℕ → ℕ → Bool
 fits s a c = is_small s a c
 
@@ -44,10 +42,8 @@ fits s a c = is_small s a c
 abbrev pub Fits : RattleType → ℕ → Type 0
 Fits R c = IsTrue (fits (type_size R) (type_align R) c)
 
--- `first s` is the least capacity that the rule `Doubling` chooses for the first block of a list.
--- An item takes `s` bytes. `first s` is 1 if `s` exceeds `usize::MAX / 8`, and 4 otherwise, as in
--- the Rust crate thin-vec. The rule chooses a greater capacity if the list needs room for more
--- items.
+-- `first s` is the least capacity that the rule `Doubling` chooses for the first block of a list
+-- with items of `s` bytes.
 unfoldable pub first : ℕ → ℕ
 first s = if nat_lt (2 ^ 61 - 1) s then 1 else 4
 

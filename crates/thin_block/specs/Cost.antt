@@ -12,9 +12,8 @@ pub record Cost : Type 0 where
   -- The number of items that reallocations have copied. Each reallocation counts every item of the
   -- block, even if the address of the block does not change.
   pub grown : ℕ
-  -- The number of moves of items into the block or within the block. Putting a clone into the block
-  -- counts as one move, and so does exchanging two items. Taking an item out of the block does not
-  -- count.
+  -- The number of moves of items into the block or within the block. Putting in a clone and
+  -- exchanging two items count as one move each. Taking an item out does not count.
   pub moves : ℕ
 
 -- `cost_code` encodes a value of the type `Cost` as a tuple of its three counts. The ghost field

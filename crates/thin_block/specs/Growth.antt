@@ -1,6 +1,5 @@
--- This file defines growth rules and the law that every rule must satisfy. A growth rule chooses
--- the new capacity of a list. The rule `doubling` and the first capacity are the same as in the
--- Rust crate thin-vec.
+-- This file defines growth rules, which choose the new capacity of a list, and the law that every
+-- growth rule must satisfy.
 use Rattle.std.specs.Prelude.{◌≡◌, ℕ, zero, suc, ◌+◌, ◌-◌, ◌*◌, ◌/◌, ◌^◌, ◌<◌, ◌≤◌, ◌==◌, IsTrue, Option, if◌then◌else◌, max, nat_le, nat_lt}
 use Rattle.std.specs.declared.option.Option.TheVariants.{Some, None}
 use Rattle.std.specs.Mem.{type_size}
@@ -9,15 +8,14 @@ use denote.RattleType.{RattleType}
 use Rattle.std.specs.Int.{IsPowerOfTwo}
 use Rattle.thin_block.specs.Capacity.{fits, first, items_offset}
 
--- `Rule` is the type of growth rules. A growth rule is a function of the size of an item, the
--- alignment of an item, the old capacity, and the required capacity. It returns the new capacity,
--- or `None` if this capacity would be too large. It is used only if the required capacity exceeds
--- the old capacity.
+-- `Rule` is the type of growth rules. A rule maps the size of an item, its alignment, the old
+-- capacity and the required capacity to the new capacity. It returns `None` if this capacity is too
+-- large.
 abbrev pub Rule : Type 0
 Rule = ℕ → ℕ → ℕ → ℕ → Option ℕ
 
--- `IsGrown s a c w n` holds if the new capacity `n` is at least the required capacity `w` and at
--- least twice the old capacity `c`, and is not too large for items of size `s` and alignment `a`.
+-- `IsGrown s a c w n` holds if the new capacity `n` is at least the required capacity `w`, at least
+-- twice the old capacity `c`, and small enough for items of size `s` and alignment `a`.
 pub record IsGrown (s a c w n : ℕ) : Type 0 where
   pub enough : w ≤ n
   pub doubled : 2 * c ≤ n
@@ -28,14 +26,13 @@ pub record IsGrown (s a c w n : ℕ) : Type 0 where
 abbrev pub Grows : RattleType → ℕ → ℕ → ℕ → Type 0
 Grows R c w n = IsGrown (type_size R) (type_align R) c w n
 
--- `KeepsLaw rule` holds if each capacity that `rule` chooses is at least the required capacity `w`,
--- at least twice the old capacity `c`, and not too large for an allocation. The rule may assume
--- that `c < w` and `w < 2 ^ 64`.
+-- `KeepsLaw rule` holds if each capacity that `rule` chooses is at least the required capacity, at
+-- least twice the old capacity, and small enough to be allocated.
 abbrev pub KeepsLaw : Rule → Type 0
 KeepsLaw rule = (s a c w n : ℕ) → c < w → w < 2 ^ 64 → rule s a c w ≡ Some n → IsGrown s a c w n
 
--- `fitting s a n` is `Some n` if a block of capacity `n` is small enough to be allocated, and
--- `None` otherwise. The size and the alignment of an item are `s` and `a`.
+-- `fitting s a n` is `Some n` if a block for `n` items of size `s` and alignment `a` is small
+-- enough to be allocated, and `None` otherwise.
 unfoldable pub fitting : ℕ → ℕ → ℕ → Option ℕ
 fitting s a n = if fits s a n then Some n else None
 
@@ -55,35 +52,27 @@ doubled_to (suc more) n p = if nat_le n p then p else doubled_to more n (2 * p)
 unfoldable pub least_power : ℕ → ℕ
 least_power n = doubled_to n n 1
 
--- `power_bytes s a c w` is the capacity that the rule `PowerBytes` chooses, or `None` if this
--- capacity is too large. The size and the alignment of an item are `s` and `a`, the old capacity is
--- `c`, and the required capacity is `w`.
---
--- The rule rounds the total size of the header and `max w (2 * c)` items up to a power of two. It
--- chooses the greatest capacity for which a block fits into the rounded size. If `s` is 0, the rule
--- is the same as `doubling`.
+-- `power_bytes` is the growth rule `PowerBytes`. It rounds the size of a block up to a power of
+-- two, and chooses the greatest capacity for which a block fits into the rounded size.
 unfoldable pub power_bytes : Rule
 power_bytes s a c w = if s == 0 then doubling s a c w else fitting s a
     ((least_power (items_offset a + max w (2 * c) * s) - items_offset a) / s)
 
--- `FillsPower s a c` holds if there is a power of two `p` such that `p` bytes have room for the
--- header and `c` items, but not for one more item. The size and the alignment of an item are `s`
--- and `a`.
+-- `FillsPower s a c` holds if, for some power of two `p`, the header and `c` items fit into `p`
+-- bytes, but the header and `c + 1` items do not. Items have the size `s` and the alignment `a`.
 pub record FillsPower (s a c : ℕ) : Type 0 where
   pub power : ℕ
   pub is_power : IsPowerOfTwo power
   pub holds : items_offset a + c * s ≤ power
   pub is_full : power < items_offset a + (c + 1) * s
 
--- `ruled_capacity rule R c w` is the capacity of a block of capacity `c` after the block has
--- reserved room for `w` items of the type `R` under the growth rule `rule`. It is `c` if `w ≤ c`,
--- `None` if `w` exceeds `usize::MAX`, and the result of `rule` otherwise.
+-- `ruled_capacity rule R c w` is the capacity of a block for items of the type `R` after reserving
+-- room for `w` items under the growth rule `rule`. The old capacity is `c`.
 unfoldable pub ruled_capacity : Rule → RattleType → ℕ → ℕ → Option ℕ
 ruled_capacity rule R c w = if nat_le w c then Some c else
     (if nat_lt w (2 ^ 64) then rule (type_size R) (type_align R) c w else None)
 
--- `exact_capacity R c w` is the capacity of a block of capacity `c` after the block has reserved
--- room for exactly `w` items of the type `R`. It is `c` if `w ≤ c`, `None` if a block of capacity
--- `w` is too large to be allocated, and `w` otherwise.
+-- `exact_capacity R c w` is the capacity of a block for items of the type `R` after reserving room
+-- for exactly `w` items. The old capacity is `c`. It is `None` if the block would be too large.
 unfoldable pub exact_capacity : RattleType → ℕ → ℕ → Option ℕ
 exact_capacity R c w = if nat_le w c then Some c else fitting (type_size R) (type_align R) w

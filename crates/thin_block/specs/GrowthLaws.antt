@@ -1,7 +1,4 @@
--- This file proves that the rule `doubling` satisfies the law of growth rules: each new capacity is
--- at least the required capacity, is at least twice the old capacity, and is not too large. The
--- proof is in `specs` and not in `proofs`, because the impl of `Growth` refers to the lemma
--- `doubling_law`.
+-- This file proves that the rule `doubling` satisfies the law of growth rules (`KeepsLaw`).
 use Rattle.std.specs.Prelude.{◌≡◌, ℕ, ◌*◌, ◌≤◌, ◌==◌, Bool, true, false, IsTrue, if◌then◌else◌, max, refl}
 use Rattle.std.specs.declared.option.Option.TheVariants.{Some, None}
 use Rattle.std.proofs.Common.{subst, arith}

@@ -11,9 +11,8 @@ use Rattle.thin_block.specs.declared.block.Block.{Block}
 use Rattle.thin_block.specs.contracts.block.Block.{the_row}
 
 module _ {X : Type 0} where
-  -- `over s i ws` is the list of slots `s` after the items of `ws` have overwritten the items in
-  -- the slots from index `i` onward. Writing stops at the first empty slot, at the end of `s`, or
-  -- at the end of `ws`, whichever is reached first.
+  -- `over s i ws` is the list of slots `s` after the items `ws` have overwritten the items from
+  -- slot `i` onward. Writing stops at the first empty slot.
   abbrev pub over : List (Option X) → ℕ → List X → List (Option X)
   over [] i ws = []
   over (x ∷ s) (suc i) ws = x ∷ over s i ws
@@ -54,14 +53,12 @@ module _ {X Z : Type 0} where
   with_items b i ws = with_slots b (over b.slots i ws) (length-over b.slots i ws)
 
 module _ (T A : RattleType) (g : Ghosts A.Denot) (b : MutBor (Block T.Denot A.Denot)) where
-  -- `LendsItem i r` holds if `r` is a `&mut` to the item in slot `i` of a block, and if this slot
-  -- will contain the final value of `r` after the borrow has ended. The parameter `b` of this
-  -- module is a `&mut` to this block.
+  -- `LendsItem i r` holds if `r` is a `&mut` to the item in slot `i` of the block `b`. After the
+  -- borrow, this slot will contain the final value of `r`.
   abbrev pub LendsItem : ℕ → MutBor T.Denot → Fml
   LendsItem i r = Lends (the_row T A g) T b r (with_item b.now i)
 
-  -- `LendsItems i r` holds if `r` is a `&mut` to the items in adjacent slots of a block, starting
-  -- at slot `i`, and if these slots will contain the final items of `r` after the borrow has ended.
-  -- The parameter `b` of this module is a `&mut` to this block.
+  -- `LendsItems i r` holds if `r` is a `&mut` to adjacent items of the block `b`, starting at slot
+  -- `i`. After the borrow, these slots will contain the final items of `r`.
   abbrev pub LendsItems : ℕ → MutBor (List T.Denot) → Fml
   LendsItems i r = Lends (the_row T A g) (Array T 0) b r (with_items b.now i)

@@ -1,6 +1,5 @@
 -- This file describes the resources that a block owns, and the resources to which a shared
--- reference to a block gives access. `R` is the item type with its layout. An address consists of
--- an allocation `b` and an offset `o`. No public contract uses this file.
+-- reference to a block gives access.
 use Rattle.std.specs.Prelude.{◌≡◌, ℕ, zero, suc, ◌+◌, ◌-◌, ◌*◌, List, [], ◌∷◌, length, Bool, true, false, Option}
 use Rattle.std.specs.declared.option.Option.TheVariants.{Some, None}
 use Rattle.std.specs.Int.{div_ceil}
@@ -38,9 +37,8 @@ any_same (x ∷ xs) (y ∷ ys) e = refl
 abbrev pub fits_block : RattleType → ℕ → Bool
 fits_block R c = is_small (type_size R) (type_align R) c
 
--- `place R x b o` describes the slot `x` for an item of the type `R`, at the offset `o` of the
--- allocation `b`. A filled slot is an item in memory. An empty slot is uninitialized memory for an
--- item.
+-- `place R x b o` is the memory of the slot `x` at the offset `o` of the allocation `b`. A filled
+-- slot contains an item of the type `R`. An empty slot is uninitialized.
 abbrev pub place : (R : RattleType) → Option R.Denot → ℕ → ℕ → Fml
 place R (Some x) b o = lies_at R full_share (block_ptr b o) x
 place R None b o = room_for (raw (lone R.mir)) (block_ptr b o)
@@ -51,15 +49,13 @@ abbrev pub places : (R : RattleType) → List (Option R.Denot) → ℕ → ℕ �
 places R [] b o = ftrue
 places R (x ∷ xs) b o = fsep (place R x b o) (places R xs b (o + type_size R))
 
--- `whole_of τ c` is the type of a whole block of `c` slots for items of the type `τ`. It is a
--- struct that consists of the capacity, the length and an array of the slots.
+-- `whole_of τ c` is the type of a whole block: a struct of the capacity, the length, and an array
+-- of `c` slots for items of the type `τ`.
 abbrev pub whole_of : Ty → ℕ → Ty
 whole_of τ c = ty_struct []
     (tcons (ty_int w64) (tcons (ty_int w64) (tcons (ty_array τ c) tnil)))
 
--- `bare R` is the compiled type of an item of the type `R`, with all field names erased. So if the
--- compiled types of two item types differ only in field names, then `bare` gives the same type for
--- both.
+-- `bare R` is the compiled type of items of the type `R`, with all field names erased.
 abbrev pub bare : RattleType → Ty
 bare R = raw (lone R.mir)
 
@@ -77,16 +73,15 @@ word_of τ m = ty_struct [] (tcons (ty_array τ m) (tcons (ty_array (ty_int w64)
 abbrev pub words_of : RattleType → Option (ℕ × ℕ)
 words_of R = in_words (size (bare R))
 
--- `asked_for w τ c` is the type that is used to request memory for a block of `c` slots for items
--- of the type `τ`. The memory is requested as memory for one value of this type. If the items form
--- words, `w` is `Some`, and this type is an array of words. Otherwise, `w` is `None`, and this type
--- is the type of the whole block.
+-- A block of `c` slots for items of the type `τ` requests memory for one value of the type
+-- `asked_for w τ c`. This type is an array of words if `w` is `Some`, and the type of the whole
+-- block if `w` is `None`.
 abbrev pub asked_for : Option (ℕ × ℕ) → Ty → ℕ → Ty
 asked_for None τ c = whole_of τ c
 asked_for (Some w) τ c = ty_array (word_of τ w.0) (w.1 + div_ceil c w.0)
 
--- `asked R c` is the type that is used to request memory for a block of `c` slots for items of the
--- type `R`. The memory is requested as memory for one value of this type.
+-- A block of `c` slots for items of the type `R` requests memory for one value of the type
+-- `asked R c`.
 abbrev pub asked : RattleType → ℕ → Ty
 asked R c = asked_for (words_of R) (bare R) c
 
@@ -95,15 +90,14 @@ asked R c = asked_for (words_of R) (bare R) c
 abbrev pub header_room : ℕ → ℕ → Fml
 header_room b o = fsep (froom (ty_int w64) b o) (froom (ty_int w64) b (o + 8))
 
--- `parts_for τ c b o` is uninitialized memory for the three parts of a block: the capacity, the
--- length, and `c` slots for items of the type `τ`. The block is at the offset `o` of the allocation
--- `b`.
+-- `parts_for τ c b o` is uninitialized memory for the capacity, the length, and `c` slots for items
+-- of the type `τ`. The block is at the offset `o` of the allocation `b`.
 abbrev pub parts_for : Ty → ℕ → ℕ → ℕ → Fml
 parts_for τ c b o = fsep (froom (ty_int w64) b o)
     (fsep (froom (ty_int w64) b (o + 8)) (froom (ty_array τ c) b (o + 16)))
 
--- `parts R c b o` is uninitialized memory for the three parts of a block: the capacity, the length,
--- and `c` slots for items of the type `R`. The block is at the offset `o` of the allocation `b`.
+-- `parts R c b o` is uninitialized memory for the capacity, the length, and `c` slots for items of
+-- the type `R`. The block is at the offset `o` of the allocation `b`.
 abbrev pub parts : RattleType → ℕ → ℕ → ℕ → Fml
 parts R c b o = parts_for (bare R) c b o
 
@@ -112,16 +106,15 @@ parts R c b o = parts_for (bare R) c b o
 abbrev pub way : Ty → ℕ → ℕ → ℕ → Fml
 way τ m b o = fwand (froom (ty_array τ m) b o) (froom (word_of τ m) b o)
 
--- `ways τ m w b o` contains `w` rights, one for each of `w` adjacent words. Each of them is the
--- right to convert uninitialized memory for `m` items of the type `τ` into uninitialized memory for
--- one word. The first word is at the offset `o` of the allocation `b`.
+-- `ways τ m w b o` contains, for each of `w` adjacent words, the right to convert memory for `m`
+-- items of the type `τ` into memory for this word. The first word is at the offset `o` of the
+-- allocation `b`.
 abbrev pub ways : Ty → ℕ → ℕ → ℕ → ℕ → Fml
 ways τ m zero b o = ftrue
 ways τ m (suc w) b o = fsep (way τ m b o) (ways τ m w b (o + size (word_of τ m)))
 
--- `header_way τ m k b o` is the right to convert uninitialized memory for the header into
--- uninitialized memory for `k` words. Each word consists of `m` items of the type `τ`. The header
--- is at the offset `o` of the allocation `b`.
+-- `header_way τ m k b o` is the right to convert memory for the header into memory for `k` words of
+-- `m` items of the type `τ` each. The header is at the offset `o` of the allocation `b`.
 abbrev pub header_way : Ty → ℕ → ℕ → ℕ → ℕ → Fml
 header_way τ m k b o = fwand (header_room b o) (froom (ty_array (word_of τ m) k) b o)
 
@@ -132,32 +125,30 @@ header_way τ m k b o = fwand (header_room b o) (froom (ty_array (word_of τ m) 
 abbrev pub slots_way : Ty → ℕ → ℕ → ℕ → ℕ → ℕ → Fml
 slots_way τ m w c b o = fsep (ways τ m w b o) (froom (ty_array τ (w * m - c)) b (o + c * size τ))
 
--- `way_back w τ c b o` contains the right to convert the uninitialized parts of a block back into
--- uninitialized memory for the whole block, including the padding. The block has `c` slots for
--- items of the type `τ`, and is at the offset `o` of the allocation `b`. `w` says whether and how
--- the items form words.
+-- `way_back w τ c b o` is the right to convert the uninitialized parts of a block back into memory
+-- for the whole block. The block has `c` slots for items of the type `τ`. It is at the offset `o`
+-- of the allocation `b`, and `w` says how its items form words.
 abbrev pub way_back : Option (ℕ × ℕ) → Ty → ℕ → ℕ → ℕ → Fml
 way_back None τ c b o = fwand (parts_for τ c b o) (froom (whole_of τ c) b o)
 way_back (Some w) τ c b o = fsep (header_way τ w.0 w.1 b o)
     (slots_way τ w.0 (div_ceil c w.0) c b (o + 16))
 
--- `backing_for t w τ c b o` consists of two rights for a block of `c` slots for items of the type
--- `τ`: the right `way_back` to convert the parts of the block back into memory for the whole block,
--- and the right `t` to free the block. The block is at the offset `o` of the allocation `b`. `w`
--- says whether and how the items form words.
+-- `backing_for t w τ c b o` consists of the right `way_back` to convert the parts of a block back
+-- into memory for the whole block, and the right `t` to free this memory. The block has `c` slots
+-- for items of the type `τ`. It is at the offset `o` of the allocation `b`, and `w` says how its
+-- items form words.
 abbrev pub backing_for : (Ty → Ptr → Fml) → Option (ℕ × ℕ) → Ty → ℕ → ℕ → ℕ → Fml
 backing_for t w τ c b o = fsep (way_back w τ c b o) (t (asked_for w τ c) (block_ptr b o))
 
--- `backing t R c b o` is the backing of a block of `c` slots for items of the type `R`, at the
--- offset `o` of the allocation `b`. The backing consists of two rights: the right to convert the
--- parts of the block back into memory for the whole block, and the right `t` to free the block.
+-- `backing t R c b o` consists of the right to convert the parts of a block back into memory for
+-- the whole block, and the right `t` to free this memory. The block has `c` slots for items of the
+-- type `R`, and is at the offset `o` of the allocation `b`.
 abbrev pub backing : (Ty → Ptr → Fml) → RattleType → ℕ → ℕ → ℕ → Fml
 backing t R c b o = backing_for t (words_of R) (bare R) c b o
 
--- `frame t R n c b o` is a block without its slots, at the offset `o` of the allocation `b`. The
--- block has `c` slots for items of the type `R`. The frame consists of the capacity `c` and the
--- length `n` in memory, the fact that the block is small enough to be allocated, and the backing of
--- the block. The backing includes the right `t` to free the block.
+-- `frame t R n c b o` is a block without its slots: the capacity `c`, the length `n`, and the
+-- backing, which includes the right `t` to free the block. Items have the type `R`, and the block
+-- is at the offset `o` of the allocation `b`.
 abbrev pub frame : (Ty → Ptr → Fml) → RattleType → ℕ → ℕ → ℕ → ℕ → Fml
 frame t R n c b o =
     fsep (lies_at usize full_share (block_ptr b o) c)
@@ -165,8 +156,7 @@ frame t R n c b o =
     (fsep (feq Bool (fits_block R c) true) (backing t R c b o)))
 
 -- `block_owns` states what a block owns. A block with an allocation owns its header, its slots, and
--- the right to free the allocation. A block without an allocation owns no memory. It shares the
--- static header, whose two words are always 0.
+-- the right to free the allocation. A block without an allocation owns no memory.
 abbrev pub block_owns : {D : Type 0} → (D → Ty → Ptr → Fml) → (R : RattleType) → Ptr → ℕ
     → List (Option R.Denot) → Option D → Fml
 block_owns t R null_ptr n xs a = ffalse
@@ -182,18 +172,16 @@ abbrev pub place_lent : (R : RattleType) → Option R.Denot → Ptr → Lft → 
 place_lent R (Some x) p = lent_at R p x
 place_lent R None p = nothing
 
--- `places_lent R xs b o l` contains a shared reference, with the lifetime `l`, to each item in the
--- adjacent slots `xs`. The items have the type `R`, and the first slot is at the offset `o` of the
--- allocation `b`.
+-- `places_lent R xs b o l` contains a shared reference, with the lifetime `l`, to each item of the
+-- type `R` in the slots `xs`. The first slot is at the offset `o` of the allocation `b`.
 abbrev pub places_lent : (R : RattleType) → List (Option R.Denot) → ℕ → ℕ → Lft → Fml
 places_lent R [] b o = nothing
 places_lent R (x ∷ xs) b o = beside (place_lent R x (block_ptr b o))
     (places_lent R xs b (o + type_size R))
 
--- `frame_lent R n c b o l` consists of shared references to the capacity `c` and to the length `n`
--- of a block, and of the fact that a block of `c` slots for items of the type `R` is small enough
--- to be allocated. The references have the lifetime `l`, and the block is at the offset `o` of the
--- allocation `b`.
+-- `frame_lent R n c b o l` contains shared references, with the lifetime `l`, to the capacity `c`
+-- and the length `n` of a block for items of the type `R`. The block is at the offset `o` of the
+-- allocation `b`, and small enough to be allocated.
 abbrev pub frame_lent : (R : RattleType) → ℕ → ℕ → ℕ → ℕ → Lft → Fml
 frame_lent R n c b o =
     beside (lent_at usize (block_ptr b o) c)

@@ -74,18 +74,17 @@ pub powers_of_none : (s a c w : ℕ) → s ≡ 0 → power_bytes s a c w ≡ dou
 unfolding power_bytes
 powers_of_none s a c w none = let test : (s == 0) ≡ true = grind (arith, nat_tests) in rw test refl
 
--- Suppose that the size `s` of an item is at least 1. Let `c` be the old capacity, and `w` the
--- required capacity. Then `power_bytes` computes the total size of the header and of
--- `max w (2 * c)` items, and rounds it up to a power of two. It chooses the greatest number of
--- items that fit into the rounded size together with the header. If this number is too large, the
--- result is `None`.
+-- Let `c` be the old capacity, and `w` the required capacity. For items of at least one byte,
+-- `power_bytes` rounds the total size of the header and `max w (2 * c)` items up to a power of two,
+-- and chooses the greatest capacity for which a block fits into the rounded size. If this capacity
+-- is too large, the result is `None`.
 pub powers_of_some : (s a c w : ℕ) → 0 < s → power_bytes s a c w ≡ fitting s a
     ((least_power (items_offset a + max w (2 * c) * s) - items_offset a) / s)
 unfolding power_bytes
 powers_of_some s a c w some = let test : (s == 0) ≡ false = grind (arith, nat_tests) in rw test refl
 
--- This module assumes that the size `s` of an item is at least 1, and that `power_bytes` chooses
--- the capacity `n` if the old capacity is `c` and the required capacity is `w`.
+-- In this module, items take `s ≥ 1` bytes, and `power_bytes` chooses the capacity `n` for the old
+-- capacity `c` and the required capacity `w`.
 module _ (s a c w n : ℕ) (some : 0 < s) (e : power_bytes s a c w ≡ Some n) where
   -- `wanted` is the total size in bytes of `max w (2 * c)` items.
   abbrev wanted : ℕ
@@ -96,8 +95,8 @@ module _ (s a c w n : ℕ) (some : 0 < s) (e : power_bytes s a c w ≡ Some n) w
   abbrev power : ℕ
   power = least_power (items_offset a + wanted)
 
-  -- The capacity `n` is the greatest number of items that fit into `power` bytes together with the
-  -- header, and a block of this capacity is small enough to be allocated.
+  -- `n` is the greatest number of items that fit into `power` bytes together with the header, and a
+  -- block for `n` items can be allocated.
   named : IsTrue (fits s a ((power - items_offset a) / s)) × ((power - items_offset a) / s ≡ n)
   named = fitting_is s a ((power - items_offset a) / s) n (sym (powers_of_some s a c w some) ∙ e)
 

@@ -31,8 +31,8 @@ module _ {T : Type 0} where
   items_in (None ∷ s) = items_in s
   items_in (Some x ∷ s) = x ∷ items_in s
 
-  -- `front xs c` is a row of `c` slots. The first slots hold the items of `xs`, and the other slots
-  -- are empty. The list `xs` must have at most `c` items.
+  -- `front xs c` is a row of `c` slots: the items of `xs`, followed by empty slots. It requires
+  -- `length xs ≤ c`.
   abbrev pub front : List T → ℕ → List (Option T)
   front xs c = full xs ++ empty (c - length xs)
 
@@ -55,8 +55,7 @@ module _ {T : Type 0} where
   abbrev pub emptied : ℕ → ℕ → List (Option T) → List (Option T)
   emptied i k s = laid i (empty k) s
 
-  -- `moved from to k s` is the row `s` after the contents of the slots `from..from + k` have been
-  -- moved to the slots `to..to + k`. Afterwards, each slot in `from..from + k` that is not in
-  -- `to..to + k` is empty.
+  -- `moved from to k s` is the row of slots `s` after the contents of the `k` slots from `from`
+  -- onward have been moved to the `k` slots from `to` onward.
   unfoldable pub moved : ℕ → ℕ → ℕ → List (Option T) → List (Option T)
   moved from to k s = laid to (run from k s) (emptied from k s)

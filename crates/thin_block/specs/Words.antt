@@ -1,6 +1,5 @@
 -- This file describes how memory for items is converted into memory for words. A word is a value of
--- the struct `Words`, which holds `m` items of the type `T`. The const parameter `M` of the struct
--- has the value `m`. No public contract refers to this file.
+-- the struct `Words`, which holds `m` items of the type `T`.
 use Rattle.std.specs.Prelude.{ℕ, ◌+◌, List, [], ◌∷◌, map}
 use base.Fraction.{full_share}
 use base.Fml.{Fml, ftrue, ffalse, fsep}
@@ -18,24 +17,22 @@ module _ (T M : RattleType) where
   abbrev pub word : List T.Denot → (the_row T M).Denot
   word xs = record { items = xs; aligned = [] }
 
-  -- `run_at xs b o` contains the items `xs` of one word in memory, at the offset `o` of the
-  -- allocation `b`. It also contains the right to convert memory for these items into memory for
-  -- the word.
+  -- `run_at xs b o` contains the items `xs` of one word at the offset `o` of the allocation `b`,
+  -- and the right to convert their memory into memory for the word.
   abbrev pub run_at : List T.Denot → ℕ → ℕ → Fml
   run_at xs b o = fsep (part_at (ArrayAt T M) full_share xs b o) (way (bare T) (value_of M) b o)
 
-  -- `runs_at xss b o` contains the items of several adjacent words in memory, starting at the
-  -- offset `o` of the allocation `b`. Each list in `xss` contains the items of one word. For each
-  -- word, `runs_at xss b o` also contains the right to convert memory for the items into memory for
-  -- the word.
+  -- `runs_at xss b o` contains the items of adjacent words, and the rights to convert their memory
+  -- into memory for words. Each list in `xss` contains the items of one word. The first word is at
+  -- the offset `o` of the allocation `b`.
   abbrev pub runs_at : List (List T.Denot) → ℕ → ℕ → Fml
   runs_at [] b o = ftrue
   runs_at (xs ∷ xss) b o = fsep (run_at xs b o)
       (runs_at xss b (o + size (word_of (bare T) (value_of M))))
 
-  -- The formula `runs_from xss p` contains the items of several adjacent words in memory, starting
-  -- at the pointer `p`. Each list in `xss` contains the items of one word. For each word, the
-  -- formula also contains the right to convert memory for the items into memory for the word.
+  -- `runs_from xss p` contains the items of adjacent words from the pointer `p` onward, and the
+  -- rights to convert their memory into memory for words. Each list in `xss` contains the items of
+  -- one word.
   abbrev pub runs_from : List (List T.Denot) → Ptr → Fml
   runs_from xss null_ptr = ffalse
   runs_from xss (block_ptr b o) = runs_at xss b o

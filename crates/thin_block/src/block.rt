@@ -19,7 +19,7 @@ static NO_BLOCK: Header = Header {
 };
 
 // A header holds a capacity and a length. The empty array `aligned` takes no memory. It raises the
-// alignment of the header, so that items of any alignment can follow the header.
+// alignment of the header to that of `u128`.
 struct Header {
     cap: usize,
     len: usize,
@@ -54,9 +54,8 @@ impl<T, A: Allocator> Model for Block<T, A> {
     ghost also_shares = { λ b _ κ. block_lent T.row b.at b.len b.slots b.alloc κ };
 }
 
-// A block is the only owner of its allocation. Blocks without an allocation share the static
-// header, and no code ever writes to this header. So a block is `Send` if its items and its
-// allocator are `Send`.
+// A block is `Send` if its items and its allocator are. It is the only owner of its allocation, and
+// no code writes to the static header that blocks without an allocation share.
 unsafe impl<T: Send, A: Allocator + Send> Send for Block<T, A> {}
 
 // A shared reference to a block is used only to read the header and the items. So a block is `Sync`

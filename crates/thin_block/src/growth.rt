@@ -1,6 +1,5 @@
-//! Defines the trait `Growth`. A growth rule is a type that implements this trait. When a list has
-//! to grow, its growth rule chooses the new capacity. Each growth rule is defined in its own file
-//! in `growth/`.
+//! Defines the trait `Growth` of growth rules. A growth rule chooses the new capacity when a list
+//! has to grow.
 ghost use Rattle.std.specs.Prelude.{◌≡◌, ◌<◌, ℕ, Option};
 ghost use Rattle.std.specs.Mem.{type_size};
 ghost use Rattle.std.specs.Align.{type_align};
@@ -11,12 +10,11 @@ use crate::sizes::fits;
 pub mod doubling;
 pub mod power_bytes;
 
-/// A growth rule. The rule chooses the new capacity of a list that needs more room. Calls that ask
-/// for an exact capacity, such as `reserve_exact`, do not use the rule.
+/// A growth rule: it chooses the new capacity of a list that needs more room. Methods such as
+/// `reserve_exact` do not use it.
 pub trait Growth {
-    /// The growth rule as a function on numbers. Its arguments are the size and the alignment of an
-    /// item in bytes, the old capacity, and the required capacity. The required capacity exceeds
-    /// the old capacity. The function returns `None` if the new capacity is too large.
+    /// The growth rule as a function of the size of an item, its alignment, the old capacity and
+    /// the required capacity. Returns `None` if the new capacity is too large.
     ghost rule: { ℕ → ℕ → ℕ → ℕ → Option ℕ };
 
     /// Returns the capacity to which a list of capacity `cap` grows in order to hold `want` items.
@@ -25,9 +23,8 @@ pub trait Growth {
         requires { cap < want }
         ensures value { result ≡ rule (type_size T.row) (type_align T.row) cap want };
 
-    /// The law of growth rules. It states that each capacity that the rule chooses is at least the
-    /// required capacity, is at least twice the old capacity, and is small enough that a block of
-    /// this capacity can be allocated.
+    /// The law of growth rules: each new capacity is at least the required capacity, at least twice
+    /// the old capacity, and small enough to be allocated.
     ghost law: { KeepsLaw rule };
 }
 

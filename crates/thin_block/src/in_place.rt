@@ -1,7 +1,5 @@
 //! Resizes a block with the methods `grow` and `shrink` of the allocator, which may leave the block
-//! at its address. These methods resize only arrays. So the block is converted into an array of
-//! words of 8 or 16 bytes before the call, and back into a block after the call. This is possible
-//! only if the items form whole words.
+//! at its address. For this purpose, the block is converted into an array of words and back.
 ghost use Rattle.std.specs.Prelude.{◌≡◌, ◌+◌, ◌*◌, ◌/◌, ◌<◌, ◌≤◌, IfErr, IfOk, List, OnErr, OnOk, length};
 ghost use Rattle.std.specs.declared.option.Option.TheVariants.{Some};
 ghost use Rattle.std.specs.Int.{div_ceil};
@@ -20,9 +18,8 @@ use std::alloc::{AllocError, Allocator};
 use std::marker::PhantomData;
 use std::mem::{ManuallyDrop, replace};
 
-// A size in words of 8 bytes. If the items of a block form whole words, and have at least this size
-// in total, then the allocator resizes the block, and may leave the items at their address. If the
-// items take fewer words, it is cheaper to allocate a new block.
+// The least total size of the items, in words of 8 bytes, for which the allocator resizes the
+// block, possibly in place. For fewer words, it is cheaper to allocate a new block.
 pub(crate) const LONG: usize = 32;
 
 // Resizes an allocation from `held` to `wanted` values of the type `T`. Calls `alloc.grow` if
@@ -51,10 +48,9 @@ unsafe fn resized<T, A: Allocator>(
 impl<T, A: Allocator> Block<T, A> {
     ghost use Rattle.thin_block.specs.Block.{IsFrom, seen};
 
-    // Resizes the block to `cap` slots, and may leave the items at their address. `M` items form a
-    // word, and the header is as large as `K` words. `len` is the length of the block, and must be
-    // a multiple of `M` and at least `K * M`. The call fails only if the allocator fails. In this
-    // case, the block is unchanged.
+    // Resizes the block of length `len` to `cap` slots, and may leave it at its address. `M` items
+    // form a word, and the header is as large as `K` words. `len` must be a multiple of `M` and at
+    // least `K * M`. If the allocator fails, the call fails, and the block is unchanged.
     #[cold]
     pub(crate) fn remake_in_place<const M: usize, const K: usize>(
         &mut self,

@@ -75,16 +75,16 @@ impl<T, A: Allocator> Block<T, A> {
         self.resize(alloc, cap)
     }
 
-    // Sets the ghost counters of this block to the counters of the block `from`, plus one request
-    // for memory and `from.len()` copied items. At run time, this function does nothing.
+    // Sets the cost of this block to the cost of the block `from`, plus one request for memory and
+    // `from.len()` copied items. Does nothing at run time.
     fn charge_as(&mut self, from: &Block<T, A>)
         ensures changes { seen self.new ≡ record (seen self.old) {
           cost = growing from.now.len from.now.cost;
         } }
     {}
 
-    // Allocates `cap` slots for a block that has no allocation. Nothing is copied, and nothing is
-    // freed. The call fails only if the allocator fails. In this case, the block is unchanged.
+    // Allocates `cap` slots for a block without an allocation. If the allocator fails, the call
+    // fails, and the block is unchanged.
     fn begin(&mut self, alloc: &A, cap: usize) -> Result<(), ThinVecError>
         requires none { self.old.slots ≡ [] }
         requires some { 0 < cap }
@@ -134,10 +134,9 @@ impl<T, A: Allocator> Block<T, A> {
         self.resize(alloc, cap)
     }
 
-    // Changes the number of slots to `cap`. If the items form whole words and are at least as large
-    // as `LONG` words of 8 bytes, the allocator resizes the block, and may leave it at its address.
-    // In all other cases, the items are moved to a new block. The call fails only if the allocator
-    // fails. The block is then unchanged.
+    // Changes the number of slots to `cap`. If the items form whole words and take at least
+    // `LONG * 8` bytes, the allocator resizes the block, possibly in place. Otherwise, the items
+    // are moved to a new block. If the allocator fails, the call fails, and the block is unchanged.
     #[inline(always)]
     fn resize(&mut self, alloc: &A, cap: usize) -> Result<(), ThinVecError>
         requires from { IsFrom self.old.alloc alloc.now }
@@ -168,8 +167,8 @@ impl<T, A: Allocator> Block<T, A> {
         }
     }
 
-    // Moves the items to a new block of `cap` slots, and frees the old block. The call fails only
-    // if the allocator fails. In this case, the block is unchanged.
+    // Moves the items to a new block of `cap` slots, and frees the old block. If the allocator
+    // fails, the call fails, and the block is unchanged.
     fn remake(&mut self, alloc: &A, cap: usize) -> Result<(), ThinVecError>
         requires from { IsFrom self.old.alloc alloc.now }
         requires some { 0 < cap }

@@ -13,9 +13,8 @@ use std::alloc::Allocator;
 impl<T, A: Allocator> Block<T, A> {
     ghost use Rattle.thin_block.specs.Block.{seen};
 
-    /// Moves the `k` items in the slots `from..from + k` to the slots `to..to + k`. The two ranges
-    /// of slots may overlap. Each slot in `to..to + k` that is not in `from..from + k` must be
-    /// empty.
+    /// Moves the `k` items in the slots `from..from + k` to the slots `to..to + k`. These two
+    /// ranges may overlap. All new slots outside `from..from + k` must be empty.
     pub fn move_run(&mut self, from: usize, to: usize, k: usize)
         requires source { from + k ≤ length self.old.slots }
         requires target { to + k ≤ length self.old.slots }
@@ -52,9 +51,8 @@ impl<T, A: Allocator> Block<T, A> {
         self.slide_run(to, gap, 0, k, false);
     }
 
-    /// Moves the `k` items that start at slot `from` up by `gap` slots. The `gap` slots directly
-    /// above the items must be empty. If `gap` is a constant, LLVM turns this call into a
-    /// `memmove`.
+    /// Moves the `k` items that start at slot `from` up by `gap` slots. The `gap` slots above the
+    /// items must be empty. For a constant `gap`, LLVM turns this call into a `memmove`.
     #[inline(always)]
     pub fn move_up(&mut self, from: usize, gap: usize, k: usize)
         requires in_bounds { from + gap + k ≤ length self.old.slots }
@@ -186,13 +184,11 @@ impl<T, A: Allocator> Block<T, A> {
         self.slide_run(0, from, to, k, from < to);
     }
 
-    // Moves the `k` items that start at slot `low + from` to the slots that start at `low + to`.
-    // `up` says whether the items move to higher slots. All slots that the items pass or reach must
-    // be empty, except for the old slots of the items.
+    // Moves the `k` items from slot `low + from` onward to the slots from `low + to` onward. `up`
+    // says whether the items move up. All slots that the items pass or reach must be empty, except
+    // for their old slots.
     //
-    // Both the address of the items and the address of their new slots are computed from the
-    // address of the slot `low`. So if `from` and `to` are constants, LLVM sees that the distance
-    // between the two addresses is constant.
+    // If `from` and `to` are constants, LLVM sees that the distance of the move is constant.
     #[inline(always)]
     fn slide_run(&mut self, low: usize, from: usize, to: usize, k: usize, up: bool)
         requires source { low + from + k ≤ length self.old.slots }

@@ -1,17 +1,17 @@
-//! Defines the function `slide`, which moves a run of adjacent items within a block. The old slots
-//! and the new slots may overlap.
+//! Defines the function `slide`, which moves adjacent items within a block. The old slots and the
+//! new slots may overlap.
 //!
-//! Unlike `std::ptr::copy`, `slide` does not compare the two pointers first. In Rattle, such a
-//! comparison is allowed only in the first half of the address space, and a block may be outside of
-//! this half. So the caller of `slide` says in which direction the items move.
+//! Unlike `std::ptr::copy`, `slide` does not compare the two pointers, because Rattle allows this
+//! comparison only in the first half of the address space. So the caller says in which direction
+//! the items move.
 ghost use Rattle.std.specs.Prelude.{ℕ, ◌^◌, ◌<◌, List};
 ghost use Rattle.core.specs.Ptr.{array_size, memory_before_copy, memory_after_copy};
 ghost use types.Logic.{sem};
 ghost use Rattle.thin_block.specs.Shifts.{IsShifted};
 
 // Moves `count` items from `source` to `target`. `up` says whether `target` is above `source`. The
-// ghost parameter `g` is the pair of the distance between the two pointers, counted in items, and
-// the list of the items.
+// ghost parameter `g` contains the distance between the pointers in items, and the list of the
+// items.
 pub(crate) unsafe fn slide<T>(source: *const T, target: *mut T, count: usize, up: bool)
     ghost g: { ℕ × List T }
     requires shifted { IsShifted T.row up g.0 source target }

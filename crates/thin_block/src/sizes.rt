@@ -1,6 +1,5 @@
 //! Computes the size of a block in bytes, and tests whether a block of a given capacity is small
-//! enough to be allocated. The functions in this file compute with numbers and do not access any
-//! block.
+//! enough to be allocated.
 ghost use Rattle.std.specs.Prelude.{◌≡◌, ◌↔◌, IsTrue};
 ghost use Rattle.std.specs.Mem.{type_size};
 ghost use Rattle.std.specs.Align.{type_align};

@@ -29,8 +29,7 @@ impl<T, A: Allocator> Block<T, A> {
         unsafe { (at.add(HEADER_WORDS) as *mut T).add(i).write(value) }
     }
 
-    /// Moves `value` into slot `i`, which must be empty, and sets the stored length to `len`. Both
-    /// writes use the same pointer, so the compiled code does not have to read the pointer twice.
+    /// Moves `value` into the empty slot `i`, and sets the stored length to `len`.
     pub fn put_and_store(&mut self, i: usize, value: T, len: usize)
         requires in_bounds { i < length self.old.slots }
         requires empty { slot self.old.slots i ≡ None }
@@ -81,8 +80,8 @@ impl<T, A: Allocator> Block<T, A> {
         }
     }
 
-    /// Takes the item out of slot `i` and returns it. If `j` differs from `i`, also moves the item
-    /// in slot `j` into slot `i`, which counts as one move. Afterwards, slot `j` is empty.
+    /// Removes the item from slot `i` and returns it. If `j != i`, then moves the item of slot `j`
+    /// into slot `i`. Afterwards, slot `j` is empty.
     pub fn take_replacing(&mut self, i: usize, j: usize) -> T
         requires first { IsSome (slot self.old.slots i) }
         requires second { IsSome (slot self.old.slots j) }
@@ -150,10 +149,8 @@ impl<T: Copy, A: Allocator> Block<T, A> {
     }
 }
 
-// Fills `row` with copies of `items`, and returns `row`.
-//
-// If there are at most `FEW` items, they are copied one by one. For so few items, `Slots::copy_in`
-// would take longer, because it first tests whether its source and its target overlap.
+// Fills `row` with copies of `items`, and returns `row`. At most `FEW` items are copied one by one,
+// which is faster than a call to `Slots::copy_in`.
 fn copied<T: Copy>(mut row: Slots<T>, items: &[T]) -> Slots<T>
     requires room { slots_len row ≡ length items.now }
     ensures cap { SamePlaces row result }

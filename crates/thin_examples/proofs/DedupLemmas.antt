@@ -20,12 +20,9 @@ module _ {S T : Type 0} (R : S → T → T → Bool → S → T → T → Type 0
   abbrev Kept : T → List T → List T → Type 0
   Kept k xs zs = zs ≡ dedup_from same k (map f xs)
 
-  -- This lemma is one step in the proof of `kept_from`. Suppose that the closure has turned the
-  -- item `x` into `x'` and the last kept item `k` into `k'`, and has returned `b`. Then
-  -- `Kept k (x ∷ xs) zs` holds in both of these cases:
-  --
-  -- - `b` is true, and `Kept k' xs zs` holds.
-  -- - `b` is false, `zs` is `k' ∷ ys`, and `Kept x' xs ys` holds.
+  -- One step in the proof of `kept_from`: `Kept k (x ∷ xs) zs` follows from `Kept` for the
+  -- remaining items `xs`. The closure changes `x` to `x'` and the last kept item `k` to `k'`, and
+  -- returns `b`.
   one : (b : Bool) (x k x' k' : T) (xs zs : List T) → b ≡ same (f x) k → x' ≡ f x → k' ≡ k
       → MatchBool b (Kept k' xs zs) ((ys : List T) × Kept x' xs ys × (zs ≡ k' ∷ ys))
       → Kept k (x ∷ xs) zs

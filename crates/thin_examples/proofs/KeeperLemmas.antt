@@ -1,6 +1,5 @@
--- A keeper is a value whose type implements the trait `Keeper`. It decides which items of a list
--- are to be kept. These lemmas say which items `retain_mut` keeps if its closure returns the
--- decisions of a keeper.
+-- Lemmas about `retain_mut` with a closure that returns the decisions of a keeper. A keeper is a
+-- value that decides which items are kept.
 use Rattle.std.proofs.Common.{◌≡◌, Bool, true, List, [], ◌∷◌, sym, ap, ◌∙◌}
 use Rattle.thin_vec.specs.Edits.Retain.{Asked, IsRetained, left_at}
 use Rattle.thin_vec.specs.ThinVec.{Thin}
@@ -10,9 +9,8 @@ module _ {F J T : Type 0} (R : F → T → Bool → F → T → Type 0) (state :
     (keeps : J → T → Bool × (T × J))
     (one : (f : F) (x : T) (b : Bool) (g : F) (y : T) → R f x b g y
     → keeps (state f) x ≡ (b, (y, state g))) where
-  -- Let `qs` be the list of the closure's results for the items `xs`. If the closure and the keeper
-  -- make the same decisions and write the same values, then `qs` equals the list of the keeper's
-  -- results for these items. A result consists of a decision and the new value of the item.
+  -- If the closure makes the same decisions as the keeper and writes the same values, then the
+  -- closure's results `qs` for the items `xs` are the keeper's results.
   answers-are : (f : F) (xs : List T) (qs : List (Bool × T)) (t : F) → Asked R f xs qs t
       → qs ≡ asked_by keeps (state f) xs
   answers-are f [] qs t a = a.0

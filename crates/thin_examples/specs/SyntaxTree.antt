@@ -1,5 +1,5 @@
--- This file defines the kind, the children and the node count of a node in a syntax tree. The node
--- count is the number of nodes in the tree whose root is the node. Contracts use these definitions.
+-- The kind, the children and the node count of a node in a syntax tree. The node count is the
+-- number of nodes in the subtree of the node.
 use Rattle.std.specs.Prelude.{ℕ, ◌+◌, sum}
 use Rattle.std.specs.declared.alloc.Global.{Global}
 use Rattle.thin_vec.specs.ThinVec.{Thin}
@@ -15,9 +15,8 @@ kind_of node = (out-Node node).kind
 abbrev pub children_of : Node → Thin Node Global
 children_of node = (out-Node node).children
 
--- `count_step node` is 1 plus the sum of the node counts of the children. In `node`, each child has
--- been replaced with its node count, which is the number of nodes in the tree whose root is this
--- child.
+-- `count_step node` is 1 plus the sum of the children's node counts. In `node`, each child has been
+-- replaced with its node count.
 abbrev pub count_step : Node-F ℕ → ℕ
 count_step node = 1 + sum node.children.items
 

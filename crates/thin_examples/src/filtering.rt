@@ -46,7 +46,6 @@ pub fn keep_last_digits<A: Allocator, G: Growth>(list: &mut ThinVec<u32, A, G>)
 }
 
 /// Halves each number, rounding down. If adjacent results are equal, keeps only the first of them.
-/// The first number is halved separately, because the closure of `dedup_by` does not halve it.
 pub fn halve_each<A: Allocator, G: Growth>(list: &mut ThinVec<u32, A, G>)
     ensures items { list.new.items
         ≡ dedup (λ later kept. later == kept) (map (λ number. number / 2) list.old.items) }
@@ -74,8 +73,8 @@ pub trait Keeper<T>: Copy {
         ensures { keeps self.old item.old ≡ (result, (item.new, self.new)) };
 }
 
-/// Asks a copy of `keeper` about each item, and removes the items for which `keep` returns false.
-/// The copy may write to the items. The call does not change `keeper` itself.
+/// Removes the items for which a copy of `keeper` returns false. The copy may write to the items.
+/// `keeper` itself does not change.
 pub fn keep_by<T: Copy, A: Allocator, G: Growth, J: Keeper<T>>(
     list: &mut ThinVec<T, A, G>,
     keeper: &J,

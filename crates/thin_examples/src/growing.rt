@@ -1,5 +1,4 @@
-//! Example functions that make a list, add items to a list, or change an item. The contract of
-//! `room_for_eight` has a handwritten proof. The prover proves the other contracts by itself.
+//! Example functions that make a list, add items to a list, or change an item.
 ghost use Rattle.std.specs.Prelude.{◌≡◌, ◌+◌, ◌/◌, ◌≤◌, ◌++◌, [], IfErr, IfOk, IfSome, IsErrOf, IsOk, IsSome, IsTrue, None, filter, length, map, nat_lt, OnErr, OnOk, ◌-◌, ◌<◌, replicate, slice_index, slice_set, take};
 ghost use Rattle.thin_vec.specs.ThinVec.{HasRoomFor, IsCause, capacity_for};
 
@@ -104,8 +103,8 @@ pub fn continued<A: Allocator, G: Growth>(
     Ok(copy)
 }
 
-/// Appends the items of `numbers` in order, until there is no room for the next item. Returns the
-/// number of appended items. The list keeps its old items in every case.
+/// Appends the items of `numbers` until there is no room for the next item, and returns the number
+/// of appended items. The old items are always kept.
 pub fn extend_by_number<A: Allocator, G: Growth>(
     list: &mut ThinVec<u32, A, G>,
     numbers: &[u32],

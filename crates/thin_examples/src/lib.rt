@@ -1,6 +1,5 @@
-//! Example functions that use `ThinVec`. You can copy them into your own programs. The crate also
-//! contains the worked examples, which the program `thin_bench` runs. A worked example is a
-//! function that compares the results of calls with values that were computed by hand.
+//! Example functions that use `ThinVec`, and the worked examples that the program `thin_bench`
+//! runs. You can copy the example functions into your own programs.
 #![tactic(auto)]
 
 pub mod checks;

@@ -1,5 +1,4 @@
-//! An example function that moves a range of items from one list to the end of another list. Its
-//! contract says which items each of the two lists contains afterwards.
+//! An example function that moves a range of items from one list to the end of another list.
 ghost use Rattle.std.specs.Prelude.{◌≡◌, ◌-◌, ◌≤◌, ◌++◌, IsOk, OnErr, OnOk, drop, length, slice_range, take};
 ghost use Rattle.thin_vec.specs.ThinVec.{HasRoomFor};
 

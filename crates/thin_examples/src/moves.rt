@@ -32,8 +32,8 @@ pub fn removed_first<T, A: Allocator, G: Growth>(list: &mut ThinVec<T, A, G>) ->
     list.remove(0)
 }
 
-/// Drains the four middle items of a list of six items. Calls to `next` and `next_back` yield two
-/// of them, and the other two are dropped. Only the last item of the list is moved.
+/// Drains the four middle items of a list of six items. Two of them are yielded, and the other two
+/// are dropped. Only the last item of the list is moved.
 pub fn drained_middle<T: Drop, A: Allocator, G: Growth>(list: &mut ThinVec<T, A, G>)
     requires six { length list.old.items ≡ 6 }
     ensures one_move { list.new.cost.moves ≡ list.old.cost.moves + 1 }
@@ -63,8 +63,8 @@ pub fn kept_all<T: Drop, A: Allocator, G: Growth>(list: &mut ThinVec<T, A, G>)
     list.retain(|_item: &T| true);
 }
 
-/// Extracts the first even number at the indices `1..5` from the list 1, 2, 3, 4, 5, 6. This number
-/// is 2. The four numbers after it are moved without being tested.
+/// Extracts 2, the first even number at the indices `1..5`, from the list 1, 2, 3, 4, 5, 6. The
+/// four numbers after it are moved without being tested.
 pub fn extracted_first<A: Allocator, G: Growth>(list: &mut ThinVec<u32, A, G>) -> Option<u32>
     requires to_six { list.old.items ≡ 1 ∷ 2 ∷ 3 ∷ 4 ∷ 5 ∷ 6 ∷ [] }
     ensures value { result ≡ Some 2 }
@@ -115,9 +115,8 @@ pub fn edited<A: Allocator + Copy>(alloc: A) -> Result<ThinVec<u32, A>, AllocErr
     Ok(list)
 }
 
-// Replaces the items 2 and 3 of the list 1, 2, 3, 4, 5, 6 with the single item 9. The item 9 is
-// moved once, and each of the items 4, 5 and 6 is moved at most twice. So there are at most seven
-// moves.
+// Replaces the items 2 and 3 of the list 1, 2, 3, 4, 5, 6 with the item 9. This takes at most seven
+// moves in total.
 fn nine_for_two<A: Allocator>(list: &mut ThinVec<u32, A>, alloc: A) -> Result<(), AllocError>
     requires to_six { list.old.items ≡ 1 ∷ 2 ∷ 3 ∷ 4 ∷ 5 ∷ 6 ∷ [] }
     ensures items { OnOk result (list.new.items ≡ 1 ∷ 9 ∷ 4 ∷ 5 ∷ 6 ∷ []) }

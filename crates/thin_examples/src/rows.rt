@@ -1,6 +1,5 @@
-//! This module contains the worked examples. Each of them is a function whose name is `row_`
-//! followed by a number. The function makes several calls, and compares their results with values
-//! that were computed by hand. It returns an error only if one of its calls fails unexpectedly.
+//! The worked examples: functions that compare the results of several calls with values computed by
+//! hand. Their names are `row_` followed by a number.
 ghost use Rattle.std.specs.Prelude.{◌≡◌, IfOk};
 
 mod bulk;

@@ -1,5 +1,5 @@
 //! Example functions that store counts in a sparse table. If a row has no entry for a column, the
-//! count there is 0. A row without entries owns no allocation.
+//! count there is 0.
 ghost use Rattle.std.specs.FinMap as columns;
 ghost use Rattle.std.specs.Option.{unwrap_or};
 ghost use Rattle.std.specs.Prelude.{◌≡◌, ◌↔◌, ◌+◌, ◌-◌, ◌^◌, ◌<◌, ◌/◌, IfErr, IfOk, IfSome, IsNone, IsOk, IsSome, IsTrue, OnErr, OnOk, Some, length, min, replicate};

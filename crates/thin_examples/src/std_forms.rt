@@ -1,6 +1,5 @@
 //! Example functions that call the macro `thin_vec!`, or use the traits `Emptied` and `MadeWith` of
-//! Rattle's std. `Emptied` makes an empty value that can replace a given value, and `MadeWith`
-//! makes a value from an allocator.
+//! Rattle's std to make values.
 ghost use Rattle.std.specs.Prelude.{◌≡◌, [], ◌∷◌, IfOk, OnErr, OnOk, replicate};
 
 use std::alloc::{AllocError, Allocator};
@@ -47,8 +46,7 @@ pub fn take_list<T, A: Allocator + Clone, G: Growth>(
     mem::try_take(list)
 }
 
-/// Makes an empty list with the allocator `alloc`, using the trait `MadeWith` of Rattle's std. The
-/// method `or_default` of a map uses the same trait to make a missing value.
+/// Makes an empty list with the allocator `alloc`, using the trait `MadeWith` of Rattle's std.
 pub fn made<A: Allocator, G: Growth>(alloc: A) -> ThinVec<u32, A, G>
     ensures items { result.items ≡ [] }
 {

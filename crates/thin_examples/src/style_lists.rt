@@ -8,8 +8,8 @@ use std::alloc::Allocator;
 use std::hash::{DefaultHasher, Hash, Hasher};
 use thin_vec::{Growth, ThinVec};
 
-/// Returns whether the two styles have the same rules in the same order. A style is a list of
-/// rules, and each rule is a number. The capacities of the lists are not compared.
+/// Returns whether two styles have the same rules in the same order. A style is a list of numbers,
+/// which are its rules.
 pub fn same_style<A: Allocator, G: Growth>(
     one: &ThinVec<u32, A, G>,
     other: &ThinVec<u32, A, G>,

@@ -1,6 +1,5 @@
--- A run carries out a list of commands. These lemmas say that a run with a single command produces
--- exactly one reply, and that the main theorem of `thin_runner` (`Headline`) holds for this command
--- and reply.
+-- Lemmas about a run with a single command: it produces exactly one reply, and the main theorem of
+-- `thin_runner` (`Headline`) holds for this command and reply.
 use Rattle.std.proofs.Common.{◌≡◌, List, [], ◌∷◌, ◌++◌, Option, Some, ap, arith, length, length-append, refl, subst, sym, ◌∙◌}
 use Rattle.std.specs.Option.{option_to_list}
 use Rattle.thin_vec.specs.ThinVec.{Thin}
@@ -16,11 +15,8 @@ alone : {X : Type 0} (front : List X) (x : X) → length (front ++ x ∷ []) ≡
 alone [] x one = refl
 alone (y ∷ front) x one = absurd (omega (arith, length-append front (x ∷ [])))
 
--- This module is about a run that carries out only `command`. The run turns the list `old` into
--- `new`. The setting `here` contains the values that all commands of a run share, such as the
--- allocator. The list `before` of the replies before the run is empty, and `after` is the list of
--- the replies after the run. The module assumes that the main theorem (`Headline`) holds for the
--- run.
+-- In this module, a run with the single command `command` turns the list `old` into `new`. The
+-- lists `before` and `after` contain the replies before and after the run.
 module _ {T A G J : Type 0} (here : Setting T A J) (old new : Thin T A)
     (command : Command T A G) (commands : List (Command T A G)) (before after : List (Reply T A G))
     (one : commands ≡ command ∷ []) (none : before ≡ [])
@@ -40,9 +36,8 @@ module _ {T A G J : Type 0} (here : Setting T A J) (old new : Thin T A)
       ∙ has_one headline.replies
       (subst (λ cs. Runs here old cs headline.replies new) one headline.allowed)
 
-  -- Suppose that `pop` is called on the list `after` of replies. The call leaves the list `left`,
-  -- and its result `popped` is `Some reply`. Then the main theorem (`Headline`) holds for a run
-  -- that carries out only `command`, produces only `reply`, and turns the list `old` into `new`.
+  -- If a call to `pop` on the replies `after` returns `Some reply`, then the main theorem
+  -- (`Headline`) holds for the run with the single command `command` and the single reply `reply`.
   pub headline-one : (left : List (Reply T A G)) (popped : Option (Reply T A G))
       (reply : Reply T A G) → after ≡ left ++ option_to_list popped → popped ≡ Some reply
       → Headline here old (command ∷ []) [] (reply ∷ []) new

@@ -1,12 +1,12 @@
--- A word is a part of a line of input. These lemmas are about functions that parse the words of a
--- list one by one. In these lemmas, `R x y` says that parsing the word `x` yields the value `y`.
+-- Lemmas about functions that parse a list of words one by one. `R x y` says that parsing the word
+-- `x` yields the value `y`.
 use Rattle.std.proofs.Common.{ℕ, ◌+◌, ◌<◌, ◌≤◌, List, [], ◌∷◌, ◌++◌, get_or, length, subst, take}
 use Rattle.std.proofs.lemmas.List.{take_all, take_more}
 use Rattle.std.specs.List.{AllZip}
 
 module _ {X Y : Type 0} (R : X → Y → Type 0) where
-  -- `AllZip R` says that `R` relates two lists item by item. If `AllZip R xs ys` and `R x y` hold,
-  -- then `AllZip R (xs ++ x ∷ []) (ys ++ y ∷ [])` holds, too.
+  -- If `R` relates the lists `xs` and `ys` item by item (`AllZip`), and `R x y` holds, then `R`
+  -- relates `xs ++ x ∷ []` and `ys ++ y ∷ []` item by item.
   zip-push : (xs : List X) (ys : List Y) (x : X) (y : Y) → AllZip R xs ys → R x y
       → AllZip R (xs ++ x ∷ []) (ys ++ y ∷ [])
   zip-push [] [] x y all one = (one, tt)
@@ -23,8 +23,8 @@ module _ {X Y : Type 0} (R : X → Y → Type 0) where
   zip-next xs i d ys y within all one =
       rw (take_more xs i d within) (zip-push (take i xs) ys (get_or xs i d) y all one)
 
-  -- `AllZip R` says that `R` relates two lists item by item. If `length xs ≤ n`, then `take n xs`
-  -- is the whole list `xs`. So `AllZip R (take n xs) ys` implies `AllZip R xs ys`.
+  -- If `R` relates the lists `take n xs` and `ys` item by item (`AllZip`), and `length xs ≤ n`,
+  -- then `R` relates `xs` and `ys` item by item.
   pub zip-all : (xs : List X) (n : ℕ) (ys : List Y) → length xs ≤ n → AllZip R (take n xs) ys
       → AllZip R xs ys
   zip-all xs n ys past all = subst (λ l. AllZip R l ys) (take_all n xs past) all

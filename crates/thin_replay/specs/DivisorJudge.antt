@@ -1,5 +1,5 @@
--- This file defines what a `DivisorJudge` decides, and what it writes to the items. A judge makes
--- decisions in place of a closure: for example, it decides which items `retain` keeps.
+-- Defines the decisions of a `DivisorJudge`, and what it writes to the items. A judge makes
+-- decisions in place of a closure.
 use Rattle.std.specs.Prelude.{◌≡◌, ℕ, List, Bool, ◌+◌, ◌/◌, ◌%◌, ◌^◌, ◌==◌}
 use Rattle.thin_runner.specs.Judge.{Judging}
 use Rattle.thin_replay.specs.Words.{Spells}
@@ -23,9 +23,8 @@ written judge x = (x + judge.added) % 2 ^ 64
 abbrev pub chooses : DivisorJudge → ℕ → Bool
 chooses judge x = number_for judge x % judge.divisor == 0
 
--- `judging` specifies how a `DivisorJudge` implements the trait `Judge`. For each method of the
--- trait, `judging` contains a function that says what the method returns, what the method writes to
--- the items, and how the judge changes.
+-- `judging` specifies the methods of a `DivisorJudge`: what each method returns, what it writes to
+-- the items, and how it changes the judge.
 abbrev pub judging : Judging ℕ DivisorJudge
 judging = record {
   look = λ judge x. (chooses judge x, counted judge);
@@ -40,9 +39,8 @@ judging = record {
   take = λ judge x. (chooses judge x, written judge x, counted judge);
 }
 
--- `SpellsJudge divisor stride added judge` holds if two conditions are met. First, the texts
--- `divisor`, `stride` and `added` spell the numbers in the fields of `judge` that have these names.
--- Second, `judge` has made no decisions yet.
+-- `SpellsJudge divisor stride added judge` holds if the texts `divisor`, `stride` and `added` spell
+-- the fields of `judge` with these names, and `judge` has made no decisions yet.
 pub record SpellsJudge (divisor stride added : List ℕ) (judge : DivisorJudge) : Type 0 where
   pub divisor_is : Spells divisor judge.divisor
   pub stride_is : Spells stride judge.stride

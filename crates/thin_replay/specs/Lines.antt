@@ -1,6 +1,5 @@
--- This file defines which words of an input line describe a command, and which words describe the
--- judge of the command. A judge makes decisions in place of a closure: for example, it decides
--- which items `retain` keeps.
+-- Defines which words of an input line describe a command, and which describe its judge. A judge
+-- makes decisions in place of a closure.
 use Rattle.std.specs.Prelude.{◌≡◌, ℕ, ◌≤◌, List, codes, drop, length, ⊤}
 use Rattle.std.specs.Iterator.{DrainsIf}
 use Rattle.std.specs.Str.Iter.{split_whitespace_rest, split_whitespace_steps}
@@ -19,9 +18,8 @@ use Rattle.thin_replay.specs.declared.line.Line.TheVariants.{Carry, Help, New}
 abbrev pub BeginsForm : Words → List ℕ → ℕ → Type 0
 BeginsForm words name count = (count ≤ length words) × (word words 0 ≡ name)
 
--- `Says words command` holds if the words have the form of a line for `command`, and spell the
--- arguments of `command`. On some lines, the last three words describe a judge, which makes
--- decisions in place of a closure. `Says` allows any text in these three words.
+-- `Says words command` holds if the words of a line spell `command` and its arguments. The words
+-- that describe a judge may be any text.
 abbrev pub Says : {A G : Type 0} → Words → Command ℕ A G → Type 0
 Says words (Push item) = HasForm words (codes "push") 2 × Spells (word words 1) item
 Says words Pop = HasForm words (codes "pop") 1
@@ -100,9 +98,8 @@ IsFilter name DedupBy = name ≡ codes "dedup_by"
 IsFilter name DedupByKey = name ≡ codes "dedup_by_key"
 IsFilter name command = ⊥
 
--- `IsCall words call` holds if the words describe the command of `call`. If this command calls
--- methods of a judge, the last three words must also describe the judge of `call`. A judge makes
--- decisions in place of a closure.
+-- `IsCall words call` holds if the words describe the command of `call`, and also its judge if the
+-- command uses one.
 abbrev pub IsCall : Words → Call → Type 0
 IsCall words call = Says words call.command × SaysJudge words call.command call.judge
 

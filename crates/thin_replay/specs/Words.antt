@@ -1,5 +1,5 @@
--- This file defines the meaning of the words of a line. The first word is the name of a command.
--- Every other word denotes a number or a list of steps. A step is a call to `next` or `next_back`.
+-- The meaning of the words of a line: the name of a command, followed by numbers and lists of
+-- steps. A step is a call to `next` or `next_back`.
 use Rattle.std.specs.Prelude.{◌≡◌, ℕ, ◌⊎◌, List, [], codes, length, slice_index_or}
 use Rattle.std.specs.Borrow.{Bor}
 use Rattle.std.specs.List.{AllZip}
@@ -33,14 +33,13 @@ Spells text n =
 abbrev pub SpellAll : Words → List ℕ → Type 0
 SpellAll words ns = AllZip (λ w n. Spells w.now n) words ns
 
--- `IsStep letter step` holds if the letter denotes the step. The letter `f` denotes `Front`, which
--- is a call to `next`. The letter `b` denotes `Back`, which is a call to `next_back`.
+-- `IsStep letter step` holds if the letter denotes the step: `f` denotes `Front` (a call to
+-- `next`), and `b` denotes `Back` (a call to `next_back`).
 abbrev pub IsStep : ℕ → Step → Type 0
 IsStep letter Front = letter ≡ 102
 IsStep letter Back = letter ≡ 98
 
--- `SpellsSteps text steps` holds in two cases. In the first case, the text is `-`, and there are no
--- steps. In the second case, the text has exactly one letter for each step, in the same order, and
--- each letter denotes its step.
+-- `SpellsSteps text steps` holds if the text has exactly one letter for each step, in the same
+-- order. The text `-` spells the empty list of steps.
 abbrev pub SpellsSteps : List ℕ → List Step → Type 0
 SpellsSteps text steps = ((text ≡ codes "-") × (steps ≡ [])) ⊎ AllZip IsStep text steps

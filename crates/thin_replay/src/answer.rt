@@ -7,9 +7,8 @@ use thin_runner::command::Reply;
 use thin_runner::hinted::Hinted;
 use thin_vec::{ThinVec, ThinVecError};
 
-/// Writes the text that the program prints for the line `help`. The text lists the forms that a
-/// line can have. It then explains the placeholders in these forms, which are written in capital
-/// letters.
+/// Writes the text that the program prints for the line `help`: the forms of a line, and the
+/// meaning of the placeholders in these forms.
 pub fn write_help(out: &mut impl Write) -> io::Result<()> {
     for form in &FORMS {
         writeln!(out, "{form}")?;
@@ -57,8 +56,8 @@ pub fn write_reply(out: &mut impl Write, reply: Reply<u64>) -> io::Result<()> {
     }
 }
 
-// Writes the items and the capacity of `other`, the list that was passed to `append`. If the call
-// to `append` failed, writes the cause `refused` of the failure before them.
+// Writes the items and the capacity of `other`, the list that was passed to `append`. If `append`
+// failed, first writes the cause `refused`.
 fn write_other(
     out: &mut impl Write,
     other: &ThinVec<u64>,

@@ -14,9 +14,8 @@ use crate::line_error::LineError;
 use std::alloc::Global;
 use thin_runner::command::Command;
 
-/// A command and a judge. The judge makes decisions in place of a closure: for example, it decides
-/// which items `retain` keeps. If the command calls no method of a judge, the field `judge` is not
-/// used and may have any value.
+/// A command and a judge, which makes decisions for the command in place of a closure. If the
+/// command uses no judge, the field `judge` may have any value.
 #[derive(Drop)]
 pub struct Call {
     pub command: Command<u64>,
@@ -27,10 +26,9 @@ impl Call {
     ghost use Rattle.std.specs.Prelude.{◌≡◌, IfOk, IfSome};
     ghost use Rattle.thin_replay.specs.Lines.{IsCall};
 
-    /// Parses the words of a line as a command. If the command calls methods of a judge, also
-    /// parses the judge. Returns `None` if the words do not have the form of a command. Fails if
-    /// the words have this form but one of them cannot be parsed, or if there is not enough memory
-    /// for the command.
+    /// Parses the words of a line as a command, with its judge if it uses one. Returns `None` if
+    /// the words do not have the form of a command. Fails if one of the words is invalid or memory
+    /// runs out.
     pub fn parse(alloc: Global, words: &[&str]) -> Result<Option<Call>, LineError>
         ensures says { IfOk result (λ found. IfSome found (IsCall words.now)) }
     {
@@ -51,8 +49,8 @@ impl Call {
     }
 }
 
-// Parses the words of a line as a command that calls no method of a judge. Returns `None` if the
-// words do not have the form of such a command.
+// Parses the words of a line as a command that uses no judge. Returns `None` if the words do not
+// have the form of such a command.
 fn parse_command(alloc: Global, words: &[&str]) -> Result<Option<Command<u64>>, LineError>
     ensures says { IfOk result (λ found. IfSome found (SaysUnjudged words.now)) }
 {

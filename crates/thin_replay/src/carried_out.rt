@@ -9,9 +9,8 @@ use thin_runner::judge::Judge;
 use thin_runner::runner::run;
 use thin_vec::{Growth, ThinVec, ThinVecError};
 
-/// Carries out a command with the function `run`, and returns the reply to the command. The
-/// function `run` needs a `Vec` for commands and a `Vec` for replies. If there is not enough memory
-/// for one of them, `carry_out` fails with `OutOfMemory`. On failure, the list is unchanged.
+/// Carries out a command with the function `run`, and returns the reply. Fails with `OutOfMemory`,
+/// leaving the list unchanged, if a `Vec` that `run` needs cannot be allocated.
 pub fn carry_out<T: Clone + Eq, A: Allocator + Copy, G: Growth, J: Judge<T>>(
     alloc: A,
     list: &mut ThinVec<T, A, G>,

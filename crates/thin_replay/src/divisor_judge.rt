@@ -6,16 +6,15 @@ use crate::line_error::LineError;
 use crate::words::number_of;
 use thin_runner::judge::Judge;
 
-/// A judge that computes a number for each item and divides it by `divisor`. The number is
-/// `item + stride * n`, where `n` is the number of earlier decisions of the judge.
+/// A judge that computes the number `item + stride * n` for each item, where `n` is how many
+/// decisions it has already made. All arithmetic is modulo 2^64.
 ///
-/// - The judge chooses an item if the number of the item is divisible by `divisor`.
-/// - The key of an item is the quotient, rounded down.
-/// - To compare a later item with a kept item, the judge computes a number for the later item only.
-///   The later item is a duplicate if this number is congruent to the kept item modulo `divisor`.
+/// - An item is chosen if its number is divisible by `divisor`.
+/// - The key of an item is its number divided by `divisor`, rounded down.
+/// - A later item is a duplicate of a kept item if the number of the later item is congruent to the
+///   kept item modulo `divisor`.
 ///
-/// After each decision, the judge adds `added` to every item that was passed to it by mutable
-/// reference. All sums and products are modulo 2^64.
+/// After each decision, the judge adds `added` to every item that was passed by mutable reference.
 #[derive(Clone, Copy)]
 pub struct DivisorJudge {
     divisor: u64,
@@ -58,9 +57,7 @@ impl DivisorJudge {
         })
     }
 
-    // Returns the number that the judge computes for `item`. The caller makes a decision by
-    // dividing this number by `divisor`. Each call to this method counts as one decision of the
-    // judge.
+    // Returns the number that the judge computes for `item`, and counts one decision of the judge.
     fn number(&mut self, item: u64) -> u64
         ensures value { result ≡ number_for self.old item }
         ensures counted { self.new ≡ counted self.old }

@@ -46,8 +46,8 @@ impl Line {
     }
 }
 
-// Returns the error for a line that has none of the forms that `help` prints. The error says either
-// that the name of the command is unknown, or that the number of words is wrong.
+// Returns the error for a line that has none of the known forms: an unknown command name, or a
+// wrong number of words.
 fn wrong_form(words: &[&str]) -> LineError {
     let Some(name) = words.first() else {
         return LineError::UnknownCommand;

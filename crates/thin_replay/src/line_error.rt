@@ -3,9 +3,8 @@
 use std::alloc::AllocError;
 use thiserror::Error;
 
-/// The reason why a line of the input is invalid. The error messages contain placeholders in
-/// capital letters, such as `INDEX`. The text that the program prints when it reads the line `help`
-/// contains the same placeholders.
+/// The reason why a line of the input is invalid. The messages contain placeholders, such as
+/// `INDEX`, which the line `help` explains.
 #[derive(Debug, Drop, Error)]
 pub enum LineError {
     /// The first word is not the name of a command.

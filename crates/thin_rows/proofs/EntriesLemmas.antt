@@ -1,6 +1,5 @@
--- A row of a sparse table stores its entries in a list, which is sorted by column. These lemmas say
--- what a binary search for a column returns, and how an edit of the list at the returned index
--- changes the entries.
+-- Lemmas about the entries of a row in a sparse table: what a binary search for a column returns,
+-- and how an edit at the returned index changes the entries.
 use Rattle.std.proofs.Common.{◌≡◌, ℕ, zero, suc, ◌+◌, ◌<◌, ◌≤◌, ◌≢◌, Bool, true, false, cond, not, ◌&&◌, T, List, [], ◌∷◌, length, map, get_or, set, Some, None, Result, Ok, Err, IfOk, IfErr, refl, sym, ap, ◌∙◌, nat_cmp, is_lt, is_eq, Less, Equal, Greater, insert, remove, arith}
 use Rattle.std.specs.FinMap.{find, put}
 use Rattle.std.specs.FinMap.Entries.{below_all, by_order, where_key}
@@ -52,8 +51,7 @@ module _ {V : Type 0} where
       all_above c entries (both_hold _ _ h).1 k d (omega arith)
 
   -- If the columns of the entries are strictly increasing, and `i < k`, then the column at index
-  -- `i` is less than the column at index `k`. The default entry `d` is never used, because both
-  -- indices are in bounds.
+  -- `i` is less than the column at index `k`.
   pub columns_rise : (entries : List (ℕ × V)) → IsRising entries → (i k : ℕ) (d : ℕ × V) → i < k
       → k < length entries → column_at entries i d < column_at entries k d
   columns_rise [] h i k d before inside = absurd (omega arith)
@@ -79,8 +77,7 @@ module _ {V : Type 0} where
 
   module _ (c : ℕ) where
     -- If the entry of column `c` is at index `at + 1` of the list `e ∷ entries`, then it is at
-    -- index `at` of the list `entries`. The next lemma says the same about the index at which an
-    -- entry of column `c` would be inserted.
+    -- index `at` of `entries`.
     place_after : (e : ℕ × V) (entries : List (ℕ × V)) (at : ℕ)
         → IsPlaceOf (e ∷ entries) c (suc at) → IsPlaceOf entries c at
     place_after e entries at p = record { in_bounds = omega (arith, p.in_bounds); same = p.same }
@@ -177,9 +174,8 @@ module _ {V : Type 0} where
         (e ∷ put nat_cmp c v entries)) (is_more c e.0 (g.smaller 0 e (omega arith)))
         ∙ ap (λ rest. e ∷ rest) (put_gap entries at v (gap_after e entries at g))
 
-    -- If the columns of the entries are strictly increasing and are compared with `c`, then the
-    -- results are in the order that a binary search requires: first `Less`, then `Equal`, and then
-    -- `Greater`.
+    -- If the columns of the entries are strictly increasing, then comparing them with `c` yields
+    -- results in the order `Less`, `Equal`, `Greater`.
     comparisons_rise : (entries : List (ℕ × V)) → IsRising entries
         → IsNonDecreasingBy (λ e. ordering_index (nat_cmp e.0 c)) entries
     comparisons_rise entries h i k d before inside =

@@ -1,5 +1,5 @@
--- `TableLemmas` contains the lemmas about tables that other crates use in their proofs. The other
--- modules contain lemmas about the entries of a row, about rows, and about the type of a row.
+-- `TableLemmas` contains the lemmas about tables for the proofs of other crates. The other modules
+-- are about rows, their entries and their type.
 pub mod TableLemmas
 pub mod EntriesLemmas
 pub mod RowLemmas

@@ -1,6 +1,4 @@
--- The capacity that a list chooses depends on the size and the alignment of its item type, but on
--- no other property of this type. So a statement about capacities for one item type also holds for
--- every other item type of the same size and alignment.
+-- The capacity that a list chooses is the same for all item types of the same size and alignment.
 use Rattle.std.proofs.Common.{◌≡◌, ◌↔◌, ℕ, IsErrOf, None, Option, Result, Ok, Err, ap, refl, sym, ◌∙◌}
 use Rattle.std.specs.Borrow.{RattleType}
 use Rattle.std.specs.Mem.{type_size}
@@ -11,16 +9,15 @@ use Rattle.thin_vec.specs.declared.ThinVecError.TheVariants.{CapacityOverflow}
 use Rattle.thin_vec.specs.List.Capacity.{TellsOverflow, TellsOverflowOf}
 use Rattle.thin_vec.specs.Growth.{Rule, exact_capacity, ruled_capacity}
 
--- Suppose that the types `R` and `S` have the same size and alignment. If the old capacity is `c`,
--- and the required capacity is `w`, then `exact_capacity` returns the same capacity for both types.
+-- If the types `R` and `S` have the same size and alignment, then `exact_capacity` returns the same
+-- capacity for both types, given the old capacity `c` and the required capacity `w`.
 pub exact_of_same : (R S : RattleType) (c w : ℕ) → type_size R ≡ type_size S
     → type_align R ≡ type_align S → exact_capacity R c w ≡ exact_capacity S c w
 unfolding exact_capacity
 exact_of_same R S c w size align = rw (size, align) refl
 
--- Suppose that the item types `R` and `S` have the same size and alignment, that the old capacities
--- `c` and `d` are equal, and that the required capacities `v` and `w` are equal. Then the growth
--- rule `rule` chooses the same capacity for both types.
+-- If the item types `R` and `S` have the same size and alignment, `c ≡ d` and `v ≡ w`, then the
+-- growth rule `rule` chooses the same capacity for both types.
 pub ruled_of_same : (rule : Rule) (R S : RattleType) (c d v w : ℕ) → type_size R ≡ type_size S
     → type_align R ≡ type_align S → c ≡ d → v ≡ w
     → ruled_capacity rule R c v ≡ ruled_capacity rule S d w
@@ -67,10 +64,8 @@ failure_tells same told = record {
   );
 }
 
--- `TellsOverflowOf R w r` says that the result `r` is the error `CapacityOverflow` if and only if
--- the capacity for `w` items of the type `R` is too large. If the types `R` and `S` have the same
--- size and alignment, then `TellsOverflowOf R w (Ok x)` implies `TellsOverflowOf S w (Ok y)`. Both
--- say that the capacity is not too large, because `Ok x` and `Ok y` are not errors.
+-- `TellsOverflowOf R w (Ok x)` says that a block for `w` items of the type `R` is not too large. If
+-- it holds, then it also holds for a type `S` of the same size and alignment.
 pub made_tells : {X Y : Type 0} (R S : RattleType) (w : ℕ) (x : X) (y : Y)
     → type_size S ≡ type_size R → type_align S ≡ type_align R
     → TellsOverflowOf R w (Ok x) → TellsOverflowOf S w (Ok y)

@@ -76,8 +76,8 @@ module _ {V : Type 0} where
     | inr past ↦ outside (set t i row) i l (omega (arith, past, length-set t i row))
   ]
 
-  -- If the table `t` has a row `i`, and the value `v` is written at row `i` and column `j`, then
-  -- the new table has the value `v` at this row and column.
+  -- If the value `v` is written at row `i` and column `j` of the table `t`, then the new table has
+  -- the value `v` there.
   pub written : (t : Table V) (i j : ℕ) (v : V) → i < length t
       → value_at (with_value t i j v) i j ≡ Some v
   written t i j v inside =
@@ -162,16 +162,15 @@ module _ {V : Type 0} where
       → IsAmong (map.entries row) (j, v)
   is_listed row j v there = found_at j v (map.entries row) (sym (get-entries row j) ∙ there)
 
-  -- The columns of the entries of `row` are strictly increasing: if `k < m`, then the column of the
-  -- entry at index `k` is less than the column of the entry at index `m`. The default entry `d` is
-  -- never used, because both indices are in bounds.
+  -- The columns of the entries of `row` are strictly increasing: if `k < m`, then the column at
+  -- index `k` is less than the column at index `m`.
   pub in_order : (row : Columns V) (k m : ℕ) (d : ℕ × V) → k < m → m < length (map.entries row)
       → (slice_index_or (map.entries row) k d).0 < (slice_index_or (map.entries row) m d).0
   in_order row k m d before inside =
       columns_rise (map.entries row) (entries_sorted row) k m d before inside
 
--- A rule set is a group of lemmas with one name. The rule set `values` contains the lemmas about
--- the values of a table after a call, and about the entries of a row.
+-- The rule set (named group of lemmas) `values` is about the values of a table after a call, and
+-- the entries of a row.
 pub ruleset values = (
   written,
   columns_unchanged,

@@ -17,9 +17,8 @@ module _ {V : Type 0} where
     pub in_bounds : i < length entries
     pub same : (d : ℕ × V) → (slice_index_or entries i d).0 ≡ column
 
-  -- `IsGapFor entries column i` holds if the entries before index `i` have columns less than
-  -- `column`, and all other entries have columns greater than `column`. So no entry has the column
-  -- `column`, and such an entry would be inserted at index `i`.
+  -- `IsGapFor entries column i` holds if an entry of `column` would be inserted at index `i`: the
+  -- columns before `i` are less than `column`, and all others are greater.
   pub record IsGapFor (entries : List (ℕ × V)) (column i : ℕ) : Type 0 where
     pub in_bounds : i ≤ length entries
     pub smaller : (k : ℕ) (d : ℕ × V) → k < i → (slice_index_or entries k d).0 < column

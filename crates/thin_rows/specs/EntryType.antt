@@ -1,5 +1,5 @@
--- This file defines the type of an entry. The number of entries that fit into the block of a row
--- depends on the size and the alignment of this type.
+-- Defines the type of an entry in a row. Its size and alignment determine how many entries fit into
+-- a block.
 use Rattle.std.specs.Prelude.{[], ◌∷◌}
 use Rattle.std.specs.Borrow.{RattleType, usize}
 use denote.Struct.Tuple.{Tuple}

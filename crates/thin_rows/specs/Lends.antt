@@ -1,5 +1,5 @@
--- A row or a table can lend one of its values to a caller as a mutable reference. This file defines
--- what the row or the table contains after the borrow has ended.
+-- Defines what a row or a table contains after it has lent one of its values as a mutable reference
+-- and the borrow has ended.
 use Rattle.std.specs.Prelude.{ℕ, Option}
 use Rattle.std.specs.Borrow.{Lends, LendsIf, Fml, RattleType, MutBor}
 use Rattle.std.specs.FinMap.{insert}

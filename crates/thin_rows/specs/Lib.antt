@@ -1,6 +1,9 @@
--- The contracts of this crate use the definitions in these modules. `Table` describes a table.
--- `Entries` describes how a row stores its entries. `RowType` and `EntryType` define the types of
--- rows and entries. `Lends` says what a row or a table contains after a borrow has ended.
+-- Definitions for the contracts of this crate:
+--
+-- - `Table`: tables
+-- - `Entries`: how a row stores its entries
+-- - `RowType` and `EntryType`: the types of rows and entries
+-- - `Lends`: what a row or a table contains after a borrow has ended
 pub mod Table
 pub mod Entries
 pub mod RowType

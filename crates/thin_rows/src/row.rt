@@ -107,9 +107,8 @@ impl<V, A: Allocator> Row<V, A> {
         &mut self.entries[at].1
     }
 
-    // Writes `value` at `column`, and returns the old value, if there was one. The call fails only
-    // if the column has no entry and there is no room for a new entry. In this case, the error
-    // contains `value`.
+    // Writes `value` at `column`, and returns the old value, if any. If there is no room for a new
+    // entry, fails with an error that contains `value`.
     pub(crate) fn set(&mut self, column: usize, value: V) -> Result<Option<V>, Rejected<V>>
         ensures succeeds { IsSome (map.get self.old column) → IsOk result }
         ensures value { IfOk result (λ old. old ≡ map.get self.old column) }

@@ -14,11 +14,10 @@ use thin_vec::{Rejected, ThinVec, ThinVecError};
 
 /// A sparse table, which maps a row and a column to a value. The number of rows is fixed.
 ///
-/// A row keeps its entries in one block, in increasing order of their columns. A row without
-/// entries owns no block.
+/// A row keeps its entries in one block, sorted by column. A row without entries owns no block.
 ///
-/// Each row number that is passed to a method must be less than the number of rows. The methods do
-/// not test this precondition.
+/// Row numbers that are passed to methods must be less than the number of rows. The methods do not
+/// test this.
 #[derive(Drop)]
 pub struct Rows<V, A: Allocator = Global> {
     rows: ThinVec<Row<V, A>, A>,
@@ -100,8 +99,7 @@ impl<V, A: Allocator> Rows<V, A> {
     }
 
     /// Returns a mutable reference to the value at the given row and column, or `None` if there is
-    /// no entry. If the caller writes a new value through the reference, this value replaces the
-    /// old value in the table.
+    /// no entry.
     pub fn get_mut(&mut self, row: usize, column: usize) -> Option<&mut V>
         requires in_bounds { row < length self.old }
         ensures* writes_back { sem 𝓛

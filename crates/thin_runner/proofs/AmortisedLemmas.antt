@@ -1,5 +1,5 @@
--- When a list grows, its items may be copied. If a new list is changed only by pushes and pops, and
--- `m ≥ 1` pushes succeed, then growing it copies fewer than `2 * m` items in total.
+-- If a new list is changed only by pushes and pops, and `m ≥ 1` pushes succeed, then growing the
+-- list copies fewer than `2 * m` items in total.
 use Rattle.std.proofs.Common.{◌≡◌, ℕ, zero, suc, ◌+◌, ◌*◌, ◌<◌, ◌≤◌, List, [], ◌∷◌, length, arith, ap, ◌∙◌, refl, subst, inl, inr}
 use Rattle.std.proofs.lemmas.Bool.{cases_lt}
 use Rattle.std.proofs.lemmas.List.{length-append, length_push}
@@ -34,8 +34,7 @@ pub record IsAmortised {T A : Type 0} (m : ℕ) (v : Thin T A) : Type 0 where
   pub copied : (v.cost.grown < 2 * m) ⊎ (v.cost.grown ≡ 0)
 
 module _ {T A : Type 0} where
-  -- `IsCheap v` says that growing the list `v` has cost little compared with its capacity. It holds
-  -- for every new list `v`, because growing a new list has cost nothing so far.
+  -- Every new list `v` is cheap: growing it has cost nothing so far.
   new-cheap : (v : Thin T A) → IsNew v v.alloc → IsCheap v
   new-cheap v new =
       let blocks : v.cost.blocks ≡ 0 = ap (λ c. c.blocks) new.cost in
@@ -56,9 +55,8 @@ module _ {T A : Type 0} where
     copied = inr (ap (λ c. c.grown) new.cost);
   }
 
-  -- `IsAmortised m w` implies that growing the list `w` has copied fewer than `2 * m` items, or no
-  -- items at all. If `IsAmortised m w` holds, and `m` is greater than 0, then the number of copied
-  -- items is less than `2 * m`. The field `amortised` of the main theorem states this bound.
+  -- If `IsAmortised m w` and `0 < m` hold, then growing the list `w` has copied fewer than `2 * m`
+  -- items.
   pub copied-run : (w : Thin T A) (m : ℕ) → IsAmortised (0 + m) w → 0 < m → w.cost.grown < 2 * m
   copied-run w m a some = below a.copied
     where
@@ -129,9 +127,8 @@ module _ {T A G J : Type 0} (here : Setting T A J) (law : KeepsLaw here.rule) wh
   step-amortised m v w Pop reply only a s = absurd s.1
   step-amortised m v w command reply only a s = absurd only
 
-  -- A run is a sequence of commands. Suppose that each successful push of a run counts as 1, and
-  -- each other command as 0. Then the sum is `accepted commands replies`, the number of successful
-  -- pushes.
+  -- If each successful push of a run counts as 1, and each other command as 0, then the sum is
+  -- `accepted commands replies`, the number of successful pushes.
   accepted-counted : (commands : List (Command T A G)) (replies : List (Reply T A G))
       → counted (λ c r. accepted (c ∷ []) (r ∷ [])) commands replies ≡ accepted commands replies
   accepted-counted (Push x ∷ commands) (Done ∷ replies) =

@@ -1,6 +1,5 @@
--- Each command calls a method of a list. The file `specs/Steps` states how each command may change
--- the list. The following lemmas help to prove that the methods change the list in this way. The
--- proofs use the contracts of the methods.
+-- Lemmas for the proof that each command changes the list as `specs/Steps` states. A command calls
+-- one method of the list.
 use Rattle.std.proofs.Common.{◌≡◌, ℕ, ◌<◌, ◌⊎◌, List, [], ◌∷◌, Some, refl, length, inl, inr, arith}
 use Rattle.std.specs.Borrow.{RattleType}
 use Rattle.std.specs.Prelude.{HoldsAt}

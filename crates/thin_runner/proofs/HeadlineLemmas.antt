@@ -17,10 +17,8 @@ use Rattle.thin_runner.proofs.SlackLemmas.{runs-slack}
 
 module _ {T A G J : Type 0} (here : Setting T A J) (law : KeepsLaw here.rule) where
   module _ {old new : Thin T A} where
-    -- Suppose that a run has carried out all `commands`, so that the list `left` of the remaining
-    -- commands is empty. Suppose also that the list satisfies its size limits (`IsWithin`) before
-    -- and after the run. Then the main theorem (`Headline`) holds for the run. The lists `before`
-    -- and `after` contain the replies before and after the run.
+    -- If a run has carried out all `commands`, and the list is within its size limits (`IsWithin`)
+    -- before and after the run, then the main theorem (`Headline`) holds.
     pub headline : {commands left : List (Command T A G)} {before after : List (Reply T A G)}
         → IsWithin here.R old → IsWithin here.R new → left ≡ []
         → HasRun here old commands left before after new

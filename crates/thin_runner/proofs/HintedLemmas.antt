@@ -7,8 +7,8 @@ use Rattle.thin_runner.specs.Hinted.{HintedSteps, hinted_claim, hinted_items}
 use Rattle.thin_runner.specs.declared.hinted.Hinted.{Hinted}
 
 module _ {T A : Type 0} where
-  -- If calls to `next` yield the items `xs` and change the iterator `s` into `t`, then the items
-  -- left in `s` are `xs`, followed by the items left in `t`.
+  -- If the iterator `s` becomes `t` by yielding the items `xs`, then the items left in `s` are
+  -- `xs`, followed by the items left in `t`.
   pub yields-items : (s t : Hinted T A) (xs : List T) → Yields (HintedSteps {T = T} {A = A}) s xs t
       → hinted_items s ≡ xs ++ hinted_items t
   yields-items s t [] e = ap hinted_items e
@@ -21,8 +21,8 @@ module _ {T A : Type 0} where
   yields-claim s t [] e = ap hinted_claim (sym e)
   yields-claim s t (x ∷ xs) e = yields-claim e.0 t xs e.2 ∙ e.1.1
 
-  -- Suppose that `next` is called on the iterator `s` until it returns `None`, and that the calls
-  -- yield the items `xs`. Then `xs` contains exactly the items that were left in `s`, in order.
+  -- If calls to `next` on the iterator `s` yield the items `xs` and then `None`, then `xs` contains
+  -- exactly the items that were left in `s`, in order.
   pub drains-items : (s : Hinted T A) (xs : List T) → Drains (HintedSteps {T = T} {A = A}) s xs
       → xs ≡ hinted_items s
   drains-items s xs d = sym (yields-items s d.1.0 xs d.1.1

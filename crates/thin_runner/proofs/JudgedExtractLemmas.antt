@@ -1,5 +1,5 @@
--- A judge decides which items to remove. These lemmas are about an `ExtractIf` whose closure asks a
--- judge. They state what the calls to `next` return, and which items the list has afterwards.
+-- Lemmas about an `ExtractIf` whose closure asks a judge which items to remove: what `next`
+-- returns, and which items the list has afterwards.
 use Rattle.std.proofs.Common.{◌≡◌, ℕ, zero, suc, ◌+◌, ◌-◌, ◌≤◌, ◌==◌, Bool, true, false, List, [], ◌∷◌, ◌++◌, Option, None, Some, length, take, drop, refl, arith, ap, subst, sym, ◌∙◌, append_assoc}
 use Rattle.std.proofs.Math.Dec.{eqb-suc-zero}
 use Rattle.std.proofs.lemmas.List.{append-nil, length-append, length-drop, length-map, length-take}
@@ -24,7 +24,7 @@ module _ {T : Type 0} where
   goes (Some x) = (false, x) ∷ []
 
   -- `handed_out k xs` is the list of the results of `k` calls to `next` on an iterator that yields
-  -- the items `xs`. After the last item, the results are `None`.
+  -- the items `xs`.
   abbrev pub handed_out : ℕ → List T → List (Option T)
   handed_out k xs = walked xs (replicate k Front)
 
@@ -80,16 +80,14 @@ module _ {S T J : Type 0} (R : S → T → Bool → S → T → Type 0) (judge_o
   none-left j zero = refl
   none-left j (suc k) = refl
 
-  -- The lemmas of this module are about `k + 1` calls to `next` on an `ExtractIf`. The first call
-  -- returns `item`. After the first call, the closure of the iterator is in the state `t`, and the
-  -- items `rest` have not been tested yet.
+  -- In this module, the first of `k + 1` calls to `next` on an `ExtractIf` returns `item`. It
+  -- leaves the closure in the state `t`, and the items `rest` untested.
   module _ (t : S) (k : ℕ) (item : Option T) (rest : List T) where
-    -- Suppose that the items `xs` are untested, and that a call to `next` keeps the items `kept`,
-    -- returns `item`, and leaves the items `rest` untested. Then this call and `k` more calls
-    -- together cause the following verdicts, in this order:
+    -- If a call to `next` tests items of `xs`, keeps `kept`, returns `item` and leaves `rest`
+    -- untested, then this call and `k` more calls cause these verdicts, in this order:
     --
-    -- - the verdicts that keep the items `kept`
-    -- - the verdict that removes `item`, if `item` is not `None`
+    -- - the verdicts that keep `kept`
+    -- - the verdict that removes `item`, if it is not `None`
     -- - the verdicts of the `k` more calls
     pub extracts-by : (s : S) (xs kept : List T) → ExtractsNext R s xs item t kept rest
         → extracting ask (judge_of s) (suc k) xs
@@ -130,9 +128,8 @@ module _ {S T J : Type 0} (R : S → T → Bool → S → T → Type 0) (judge_o
         answered true by m = let wrong = m.0 in absurd (none-some (sym none ∙ wrong))
         answered false by m = by m.0 m.1
 
-    -- `handed_out` computes the list of the results of calls to `next`. If a call to `next` returns
-    -- `item`, then the results of this call and of `k` more calls are `item`, followed by the
-    -- results of the `k` calls.
+    -- If a call to `next` returns `item`, then the results of this call and `k` more calls are
+    -- `item`, followed by the results of the `k` calls.
     pub handed-by : (s : S) (xs kept : List T) → ExtractsNext R s xs item t kept rest
         → handed_out (suc k) (left_at false (extracting ask (judge_of s) (suc k) xs))
         ≡ item ∷ handed_out k (left_at false (extracting ask (judge_of t) k rest))
@@ -166,8 +163,7 @@ charged (suc gone) m k c =
 -- The state of an `ExtractIf` between two calls to `next`. An `ExtractIf` is an iterator that
 -- removes and yields some items of a range.
 pub record Stand (T : Type 0) : Type 0 where
-  -- The verdicts on the items of the range that have not been tested yet. A verdict says whether an
-  -- item is kept. Proofs can refer to these verdicts before the items are tested.
+  -- The verdicts on the untested items of the range. A verdict says whether an item is kept.
   pub left : Verdicts T
   -- The items before the range, followed by the items of the range that have been kept so far.
   pub front : List T
@@ -176,9 +172,8 @@ pub record Stand (T : Type 0) : Type 0 where
   -- The cost of the list so far.
   pub paid : Cost
 
--- In this module, `asked` contains the verdicts of an `ExtractIf`. They say for each item of the
--- range whether the item is kept. `start` contains the items before the range. `before` is the cost
--- of the list before the first call to `next`.
+-- In this module, `asked` contains the verdict of an `ExtractIf` on each item of the range, `start`
+-- contains the items before the range, and `before` is the cost of the list at the start.
 module _ {T : Type 0} (asked : Verdicts T) (start : List T) (before : Cost) where
   -- `IsExtracting at` holds if `at` is the state of the extraction after some number of calls to
   -- `next`. The field `done` contains the verdicts of these calls.
@@ -258,17 +253,15 @@ module _ {T : Type 0} (asked : Verdicts T) (start : List T) (before : Cost) wher
           paid = charge ∙ paid-next at h now (length kept) still moved;
         }
 
--- In this module, an `ExtractIf` tests items in the range `a..b` of the list `v`, and `w` is the
--- list after the extraction. `asked` contains a verdict for each item of the range, which says
--- whether the item is kept.
+-- In this module, an `ExtractIf` on the range `a..b` turns the list `v` into `w`. `asked` contains
+-- a verdict for each item of the range: kept or removed.
 module _ {T A : Type 0} (v w : Thin T A) (a b : ℕ) (asked : Verdicts T) where
   -- `IsLeft at rest tail` describes the list `w` after an extraction that ended in the state `at`:
   --
-  -- - The items of `w` are `at.front`, then the untested items `rest` of the range, and then the
-  --   items `tail` after the range.
-  -- - The cost of `w` is `at.paid`. If an item was extracted, one move for each item of `rest` and
-  --   `tail` is added.
-  -- - The capacity and the allocator are unchanged.
+  -- - Its items are `at.front`, the untested items `rest`, and the items `tail` after the range.
+  -- - Its cost is `at.paid`, plus one move for each item of `rest` and `tail` if an item was
+  --   extracted.
+  -- - Its capacity and its allocator are those of `v`.
   pub record IsLeft (at : Stand T) (rest tail : List T) : Type 0 where
     pub items : w.items ≡ at.front ++ (rest ++ tail)
     pub cost : w.cost ≡ (if at.out == 0 then at.paid else moving (length rest
@@ -276,9 +269,9 @@ module _ {T A : Type 0} (v w : Thin T A) (a b : ℕ) (asked : Verdicts T) where
     pub capacity : w.capacity ≡ v.capacity
     pub alloc : w.alloc ≡ v.alloc
 
-  -- Suppose that an extraction ended in the state `at`, and kept the untested items `rest` of the
-  -- range and the items `tail` after the range. Then the list `w` is the list `v` without the items
-  -- that the verdicts `asked` remove. The function `sifted` computes `w`.
+  -- If an extraction ends in the state `at` and keeps the untested items `rest` and the items
+  -- `tail` after the range, then `w` is the list `v` without the items that the verdicts `asked`
+  -- remove.
   pub extracting-ends : (at : Stand T) (rest tail : List T)
       → IsExtracting asked (take a v.items) v.cost at → at.left ≡ stay rest → tail ≡ drop b v.items
       → IsLeft at rest tail → w ≡ sifted v (around v.items a b asked)
@@ -318,9 +311,8 @@ module _ {T A : Type 0} (v w : Thin T A) (a b : ℕ) (asked : Verdicts T) where
         cost = paid i;
       }
 
--- In this module, `ask` is a method of a judge. For each item, the method decides whether the item
--- is extracted. The lemmas show that an extraction does not increase the number of items in the
--- list.
+-- These lemmas show that an extraction does not increase the length of a list. `ask` is the method
+-- of a judge that decides whether an item is extracted.
 module _ {T J : Type 0} (ask : J → T → Bool × T × J) where
   stay-length : (xs : List T) → length (stay xs) ≡ length xs
   stay-length xs = length-map xs (λ (x : T). (true, x))
@@ -331,9 +323,8 @@ module _ {T J : Type 0} (ask : J → T → Bool × T × J) where
   extracting-length j (suc k) (x ∷ xs) =
       ap suc (extracting-length (ask j x).2 (if (ask j x).0 then k else suc k) xs)
 
-  -- Suppose that `k` calls to `next` extract items from the range `a..b` of the list `xs`, and that
-  -- the judge is in the state `j` before the first call. Then at most `length xs` items are left in
-  -- the list.
+  -- If `k` calls to `next` extract items from the range `a..b` of the list `xs`, then at most
+  -- `length xs` items remain. `j` is the judge's state before these calls.
   pub few-extracted : (j : J) (k : ℕ) (xs : List T) (a b : ℕ) → a ≤ b → b ≤ length xs
       → length (left_at true (around xs a b (extracting ask j k (slice_range xs a b)))) ≤ length xs
   few-extracted j k xs a b order within =

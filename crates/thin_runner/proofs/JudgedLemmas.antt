@@ -1,6 +1,5 @@
--- A judge decides which items are kept. These lemmas are about closures that return the decisions
--- of a judge. If a method such as `retain` calls such a closure, then the judge determines which
--- items remain in the list.
+-- Lemmas about methods such as `retain`, called with a closure that returns the decisions of a
+-- judge. The judge then determines which items remain in the list.
 use Rattle.std.proofs.Common.{◌≡◌, ℕ, suc, ◌≤◌, ◌==◌, length, refl, arith, List, [], ◌∷◌, Bool, true, false, ap, subst, ◌∙◌}
 use denote.MutBor.{MutBor}
 use denote.Param.Members.{Mut}
@@ -24,9 +23,8 @@ module _ {S T J : Type 0} (R : S → T → Bool → S → T → Type 0) (judge_o
 
 module _ {S T J : Type 0} (R : S → T → Bool → S → T → Type 0) (judge_of : S → J)
     (ask : J → T → Bool × T × J) (told : AsksJudge R judge_of ask) where
-  -- Suppose that a closure returns the decisions of the judge in its state. Suppose also that calls
-  -- to the closure for the items of `xs` result in the list `verdicts`, and change the state from
-  -- `s` to `t`. Then `verdicts` contains the decisions of this judge on the items.
+  -- If a closure returns the decisions of the judge in its state, then the verdicts of the closure
+  -- on the items `xs` are the decisions of this judge.
   pub asked-by : (s t : S) (xs : List T) (verdicts : Verdicts T) → Asked R s xs verdicts t
       → verdicts ≡ asked ask (judge_of s) xs
   asked-by s t [] verdicts a = a.0
@@ -34,9 +32,8 @@ module _ {S T J : Type 0} (R : S → T → Bool → S → T → Type 0) (judge_o
       a.6 ∙ (ap (λ l. (a.0, a.1) ∷ l) (asked-by a.2 t xs a.3 a.5)
       ∙ ap (λ l. (l.0, l.1) ∷ asked ask l.2 xs) (told s x a.0 a.2 a.1 a.4))
 
-  -- Suppose that `retain` or `retain_mut` turned the list `v` into `w`, and that its closure
-  -- returned the decisions of a judge. Then `w` contains exactly the items of `v` that the judge
-  -- keeps. The function `sifted` computes `w` from `v` and the decisions.
+  -- If `retain` or `retain_mut` turns the list `v` into `w`, and its closure asks a judge, then `w`
+  -- contains exactly the items of `v` that the judge keeps.
   pub retained-by : {A : Type 0} (s : S) (v w : Thin T A) → IsRetained R s v w
       → w.capacity ≡ v.capacity → w.alloc ≡ v.alloc
       → w ≡ sifted v (asked ask (judge_of s) v.items)
@@ -49,10 +46,8 @@ module _ {S T J : Type 0} (R : S → T → Bool → S → T → Type 0) (judge_o
 -- This module is about methods such as `dedup_by`, which compare each item with the last item kept
 -- before it.
 module _ {T : Type 0} where
-  -- `Leaves flags ys b` holds if `flags` and `ys` agree with the pair `b`, which consists of a
-  -- first item and the verdicts on the later items. The list `flags` must say for each later item
-  -- whether its verdict keeps it. The list `ys` must contain the first item, followed by the later
-  -- items that are kept.
+  -- `Leaves flags ys b` holds if `flags` and `ys` describe the pair `b` of an item and verdicts:
+  -- `flags` says which later items are kept, and `ys` is the item followed by these kept items.
   abbrev pub Leaves : List Bool → List T → T × Verdicts T → Type 0
   Leaves flags ys b = (flags ≡ flags_of b.1) × (ys ≡ b.0 ∷ left_at true b.1)
 
@@ -97,9 +92,8 @@ module _ {S T J : Type 0} (R : S → T → T → Bool → S → T → T → Type
   asked-pairs-by s t (x ∷ xs) flags ys a = let h = asked-last-by s t x xs flags ys a
       in (ap moved_down h.0, h.1)
 
-  -- Suppose that `dedup_by` turned the list `v` into `w`, and that its closure returned the
-  -- decisions of a judge. Then `w` contains exactly the items of `v` that the judge keeps. The
-  -- function `sifted` computes `w` from `v` and the decisions.
+  -- If `dedup_by` turns the list `v` into `w`, and its closure asks a judge, then `w` contains
+  -- exactly the items of `v` that the judge keeps.
   pub deduped-by : {A : Type 0} (s : S) (v w : Thin T A) → IsDedupedBy R s v w
       → w.capacity ≡ v.capacity → w.alloc ≡ v.alloc
       → w ≡ sifted v (asked_pairs same (judge_of s) v.items)
@@ -114,10 +108,8 @@ module _ {F T A J : Type 0} (g : Mut F (MutBor T × Unit {0}) (ℕ × (MutBor T 
     (judge_of : F → J) (key : J → T → ℕ × T × J)
     (told : (f : F) (x : T) (k : ℕ) (f' : F) (x' : T) → CalledAtMut g f x k f' x'
     → (k, x', judge_of f') ≡ key (judge_of f) x) where
-  -- Suppose that `dedup_by_key` turned the list `v` into `w`, and that a judge computed the keys
-  -- that its closure returned. Then `w` contains exactly the items of `v` that the judge keeps. To
-  -- compare two items, the judge first computes the key of the later item, and then the key of the
-  -- kept item.
+  -- If `dedup_by_key` turns the list `v` into `w`, and its closure asks a judge for the keys, then
+  -- `w` contains exactly the items of `v` that the judge keeps.
   pub deduped-by-keys : (f : F) (v w : Thin T A)
       → IsDedupedBy (ComparesKeys g (λ a b. a == b)) f v w → w.capacity ≡ v.capacity
       → w.alloc ≡ v.alloc → w ≡ sifted v (asked_pairs (same_key key) (judge_of f) v.items)
@@ -154,10 +146,9 @@ module _ {T : Type 0} where
   few-left ((true, x) ∷ verdicts) = omega (arith, few-left verdicts)
   few-left ((false, x) ∷ verdicts) = omega (arith, few-left verdicts)
 
-  -- The pair `a` consists of the final value of an item, and the verdicts on the items after `x`.
-  -- `next b x k a` adds the verdict on the item `x`, which was compared with the last kept item
-  -- `k`. If `b` is true, `x` is removed. Otherwise, `x` is kept with the final value in `a`, and
-  -- the new pair begins with `k`.
+  -- `next b x k a` adds the verdict on the item `x` to the verdicts in the pair `a`. If `b` is
+  -- true, `x` is removed. Otherwise, `x` is kept, and the new pair begins with `k`, the last item
+  -- kept before `x`.
   abbrev next : Bool → T → T → T × Verdicts T → T × Verdicts T
   next b x k a = if b then (a.0, (false, x) ∷ a.1) else (k, (true, a.0) ∷ a.1)
 
@@ -181,10 +172,8 @@ module _ {T J : Type 0} where
       → length (left_at true (asked ask j xs)) ≤ length xs
   few-asked ask j xs = omega (arith, few-left (asked ask j xs), asked-length ask j xs)
 
-  -- Suppose that a judge in the state `j` compares each item of `xs` with the last item kept before
-  -- it. For the first item of `xs`, this kept item is `k`. Then there are exactly `length xs`
-  -- verdicts. The lemma `pairs-length` is about a list whose first item is kept without a
-  -- comparison.
+  -- If a judge in the state `j` compares each item of `xs` with the last kept item, at first `k`,
+  -- then it gives exactly `length xs` verdicts.
   last-length : (same : J → T → T → Bool × T × T × J) (j : J) (k : T) (xs : List T)
       → length (asked_last same j k xs).1 ≡ length xs
   last-length same j k [] = refl
@@ -207,14 +196,13 @@ module _ {T J : Type 0} where
 -- The lemmas of this module show that `dedup` with the equality test `E` keeps the same items as
 -- `dedup_by` with a judge that returns the results of `E`.
 module _ {T J : Type 0} (E : T → T → Bool) (j : J) where
-  -- `tells` is a method of a judge. It compares two items with the equality test `E`, and returns
-  -- the result of `E`. It changes neither the items nor the state `j` of the judge.
+  -- `tells j x y` is the effect of a judge that compares two items with the equality test `E`: the
+  -- result of `E`, the unchanged items, and the unchanged state `j`.
   abbrev pub tells : J → T → T → Bool × T × T × J
   tells j later kept = (E later kept, later, kept, j)
 
-  -- Suppose that `k` is the last item kept before the items `xs`, and that a judge compares items
-  -- with the equality test `E`. Then `dedup_from E k xs` is `k`, followed by the items of `xs` that
-  -- the judge keeps. The flags `unlike_from E k xs` say which items these are.
+  -- `dedup_from E k xs` is the item `k`, followed by the items of `xs` that a judge keeps if it
+  -- compares items with the equality test `E`. `unlike_from E k xs` says which items these are.
   dedup-last : (k : T) (xs : List T) → Leaves (unlike_from E k xs) (dedup_from E k xs)
       (asked_last tells j k xs)
   dedup-last k [] = (refl, refl)
@@ -237,9 +225,8 @@ module _ {T J : Type 0} (E : T → T → Bool) (j : J) where
   dedup-pairs [] = (refl, refl)
   dedup-pairs (x ∷ xs) = let h = dedup-last x xs in (ap moved_down h.0, h.1)
 
-  -- Suppose that `dedup` with the equality test `E` turned the list `v` into `w`. Then `w` contains
-  -- exactly the items of `v` that a judge keeps if it compares items with `E`. The function
-  -- `sifted` computes `w` from `v` and the decisions of this judge.
+  -- If `dedup` with the equality test `E` turns the list `v` into `w`, then `w` contains exactly
+  -- the items of `v` that a judge keeps if it compares items with `E`.
   pub deduped-alike : {A : Type 0} (v w : Thin T A) → w.items ≡ dedup E v.items → w.cost
       ≡ moving (moved_down (unlike E v.items)) v.cost
       → w.capacity ≡ v.capacity → w.alloc ≡ v.alloc → w ≡ sifted v (asked_pairs tells j v.items)

@@ -37,24 +37,20 @@ module _ {T A : Type 0} (v w : Thin T A) where
       → w.cost.moves ≤ v.cost.moves + k
   same-moves u k e same = omega (arith, ap (λ z. z.cost.moves) e, same)
 
-  -- `edited v xs m` is the list `v` after a call that set its items to `xs` and added `m` moves to
-  -- its cost. If `w` is this list, then the cost of `w` counts at most `m` more moves than the cost
-  -- of `v`.
+  -- If `w` is the list `v` after a call that set its items to `xs` and added `m` moves, then `w`
+  -- has at most `m` more moves than `v`.
   edited-moves : (xs : List T) (m : ℕ) → w ≡ edited v xs m → w.cost.moves ≤ v.cost.moves + m
   edited-moves xs m e = omega (arith, ap (λ z. z.cost.moves) e)
 
-  -- `grown v c xs m` is the list `v` after a call that set its items to `xs` and its capacity to
-  -- `c`, and added `m` moves to its cost. If `w` is such a list, then the cost of `w` counts at
-  -- most `m` more moves than the cost of `v`. A change of the capacity does not count as a move.
+  -- If `w` is the list `v` after a call that set its items and capacity and added `m` moves, then
+  -- `w` has at most `m` more moves than `v`.
   grown-moves : (xs : List T) (m : ℕ) → w ≡ grown v w.capacity xs m
       → w.cost.moves ≤ v.cost.moves + m
   grown-moves xs m e = omega (arith, ap (λ z. z.cost.moves) e, cost_at-moves v w.capacity)
 
   module _ (rule : Rule) (R : RattleType) (a b : ℕ) where
-    -- Suppose that a splice replaced the items `a..b` of the list `v` with the items `placed`,
-    -- which came from an iterator that could yield at most `most` items. If `placed` contains at
-    -- most `k` items, then the splice added at most `k` moves to the cost of the list, plus at most
-    -- two moves for each item after the range.
+    -- If a splice replaces the items `a..b` of the list `v` with at most `k` items `placed`, then
+    -- it adds at most `k` moves, plus at most two moves for each item after the range.
     spliced-moves : (placed : List T) (most k : ℕ) → Replaces rule R v a b placed most w
         → length placed ≤ k → w.cost.moves ≤ v.cost.moves + (2 * (length v.items - b) + k)
     spliced-moves placed most k f few =
@@ -68,10 +64,8 @@ module _ {T A : Type 0} (v w : Thin T A) where
           few,
         )
 
-    -- Suppose that a splice of the range `a..b` fails with the error `cause`, and that its iterator
-    -- contained the items `xs`. The items `held` and `in_hand` were taken from the iterator, but
-    -- were not inserted. Then the splice adds at most `length xs` moves to the cost of the list,
-    -- plus at most two moves for each item after the range.
+    -- If a splice of the range `a..b` with an iterator over the items `xs` fails, then it adds at
+    -- most `length xs` moves, plus at most two moves for each item after the range.
     stopped-moves : (xs held : List T) (lower : ℕ) (cause : ThinVecError) (in_hand : Option T)
         (rest : Hinted T A) → StopsBetween rule R v a b xs held lower cause in_hand rest w
         → w.cost.moves ≤ v.cost.moves + (2 * (length v.items - b) + length xs)
@@ -92,8 +86,8 @@ shrunk-moves v = go (length v.items == v.capacity) (length v.items == 0)
     go false false = omega arith
 
 module _ {T A J : Type 0} (here : Setting T A J) (v w : Thin T A) where
-  -- Suppose that a call that clones the items `sources` fails, and that `sources` contains at most
-  -- `k` items. Then the call adds at most `k` moves to the cost of the list.
+  -- If a call that clones at most `k` items `sources` fails, then it adds at most `k` moves to the
+  -- cost of the list.
   refused-moves : (k : ℕ) (sources : List T) (cause : ThinVecError) → length sources ≤ k
       → RefusesClone here v k sources cause w → w.cost.moves ≤ v.cost.moves + k
   refused-moves k sources cause few r = stopped r.2
@@ -105,9 +99,8 @@ module _ {T A J : Type 0} (here : Setting T A J) (v w : Thin T A) where
       stopped (inr s) = omega (arith, few, s.1, grown-moves v w v.items s.0 s.3.1)
 
 module _ {T A G J : Type 0} (here : Setting T A J) where
-  -- Suppose that `command` turns the list `v` into `w`, and gets the reply `reply`. Then the
-  -- command adds at most `may_move` moves to the cost of the list. This bound depends on the items
-  -- of `v`, the command and the reply.
+  -- If `command` turns the list `v` into `w` and gets the reply `reply`, then it adds at most
+  -- `may_move` moves to the cost of the list.
   pub step-moves : (v w : Thin T A) (command : Command T A G) (reply : Reply T A G)
       → Steps here v command reply w
       → w.cost.moves ≤ v.cost.moves + may_move here v.items command reply
@@ -169,9 +162,8 @@ module _ {T A G J : Type 0} (here : Setting T A J) where
   step-moves v w (Splice a b steps xs lower) (Refused cause) s = same-moves v w v 0 s.1.2 refl
   step-moves v w command reply s = absurd s.1
 
-  -- Suppose that a run of the commands `commands` turns the list `v` into `w`. Then the run adds at
-  -- most `run_may_move` moves to the cost of the list. This bound is the sum of the bounds for the
-  -- individual commands.
+  -- If a run of `commands` turns the list `v` into `w`, then it adds at most `run_may_move` moves
+  -- to the cost of the list. This is the sum of the bounds for its commands.
   pub runs-moves : (v w : Thin T A) (commands : List (Command T A G))
       (replies : List (Reply T A G)) (run : Runs here v commands replies w)
       → w.cost.moves ≤ v.cost.moves + run_may_move here v w commands replies run

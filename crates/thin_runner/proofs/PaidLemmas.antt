@@ -42,9 +42,9 @@ cheap-same c k k' blocks grown h = record {
       omega (arith, same, b);
 }
 
--- `IsPaid v w` states three facts about a list that was `v` before some calls and is `w` after
--- them. If `v` is cheap (`IsCheap`), then `w` is also cheap. Growth copied at most
--- `w.capacity - v.capacity` items during these calls. The items of `w` fit into its capacity.
+-- `IsPaid v w` bounds the cost of the calls that turned the list `v` into `w`. If `v` is cheap, so
+-- is `w`. Growth copied at most `w.capacity - v.capacity` items. The items of `w` fit into its
+-- capacity.
 pub record IsPaid {T A : Type 0} (v w : Thin T A) : Type 0 where
   pub cheap : IsCheap v → IsCheap w
   pub copied : w.cost.grown + v.capacity ≤ v.cost.grown + w.capacity
@@ -66,8 +66,8 @@ module _ {T A : Type 0} where
   }
 
 module _ {T A : Type 0} (v w : Thin T A) (room : length v.items ≤ v.capacity) where
-  -- `IsPaid v w` bounds the cost of turning the list `v` into the list `w`. If `w` equals `v`, and
-  -- the items of `v` fit into its capacity, then `IsPaid v w` holds.
+  -- If the lists `w` and `v` are equal, and the items of `v` fit into its capacity, then the cost
+  -- bound `IsPaid v w` holds.
   same-paid : w ≡ v → IsPaid v w
   same-paid e = subst (IsPaid v) (sym e) (none-paid v room)
 
@@ -89,9 +89,8 @@ module _ {T A : Type 0} (v w : Thin T A) (room : length v.items ≤ v.capacity) 
 
 module _ {T A J : Type 0} (here : Setting T A J) (law : KeepsLaw here.rule) (v w : Thin T A)
     (room : length v.items ≤ v.capacity) where
-  -- `IsPaid v w` bounds the cost of turning the list `v` into the list `w`. Suppose that a call
-  -- turns `v` into `w` by reserving room for `n` more items and adding at most `n` items. If the
-  -- items of `v` fit into its capacity, then `IsPaid v w` holds.
+  -- If a call turns the list `v` into `w` by reserving room for `n` more items and adding at most
+  -- `n` items, then the cost bound `IsPaid v w` holds.
   ruled-paid : (u : Thin T A) (n : ℕ) → capacity_for here.rule here.R v n ≡ Some w.capacity
       → w ≡ u → u.cost.blocks ≡ (cost_at v w.capacity).blocks
       → u.cost.grown ≡ (cost_at v w.capacity).grown
@@ -116,7 +115,7 @@ module _ {T A J : Type 0} (here : Setting T A J) (law : KeepsLaw here.rule) (v w
 
   -- Suppose that a call fails with `cause` and turns the list `v` into `w`. The call needs room for
   -- `n` more items, and clones the items `sources`. If the items of `v` fit into its capacity, then
-  -- `IsPaid v w` holds.
+  -- the cost bound `IsPaid v w` holds.
   refused-paid : (n : ℕ) (sources : List T) (cause : ThinVecError)
       → RefusesClone here v n sources cause w → IsPaid v w
   refused-paid n sources cause r = stopped r.2
@@ -172,9 +171,8 @@ module _ {T : Type 0} where
       omega (arith, ap length a.1, length-append xs a.0, count)
 
 module _ {T A G J : Type 0} (here : Setting T A J) (law : KeepsLaw here.rule) where
-  -- `IsPaid v w` bounds the cost of a command that turns the list `v` into `w`. If the command is
-  -- neither `ReserveExact` nor `ShrinkToFit`, and the items of `v` fit into its capacity, then
-  -- `IsPaid v w` holds.
+  -- If a command other than `ReserveExact` and `ShrinkToFit` turns the list `v` into `w`, then the
+  -- cost bound `IsPaid v w` holds.
   pub step-paid : (v w : Thin T A) (command : Command T A G) (reply : Reply T A G)
       → KeepsCheap command → length v.items ≤ v.capacity → Steps here v command reply w
       → IsPaid v w

@@ -9,8 +9,8 @@ use Rattle.thin_runner.specs.declared.command.Command.TheVariants.{Push, Pop, In
 use Rattle.thin_runner.specs.declared.command.Reply.TheVariants.{Done, Item, OutOfRange}
 
 module _ {A J : Type 0} (G : Type 0) (here : Setting ℕ A J) where
-  -- `eight` is a list of eight commands. The index of the command `Set 9 5` is out of range,
-  -- because the list on which the commands run has fewer than ten items.
+  -- A list of eight commands. The index of the command `Set 9 5` is out of range, because the list
+  -- on which the commands run has fewer than ten items.
   abbrev eight : List (Command ℕ A G)
   eight =
       Push 1 ∷ Push 2 ∷ Push 3 ∷ Insert 0 4 ∷ SwapRemove 1 ∷ Set 9 5 ∷ Pop ∷ Resize 4 7 ∷ []

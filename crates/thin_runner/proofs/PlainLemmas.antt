@@ -29,8 +29,7 @@ use Rattle.thin_runner.proofs.JudgedLemmas.{dedup-pairs}
 use Rattle.thin_runner.proofs.WalkLemmas.{last-of}
 use Rattle.thin_runner.proofs.WeakerClonesLemmas.{zip-weaker}
 
--- `Some x` is never equal to `None`. So the equation `Some x ≡ None` implies every statement `B`.
--- The proofs use this lemma to rule out a reply with a cause of failure `x` if no call failed.
+-- `Some x` never equals `None`, so the equation `Some x ≡ None` implies every statement `B`.
 refused : {X B : Type 0} (x : X) → Some x ≡ None → B
 refused x e = cc
 

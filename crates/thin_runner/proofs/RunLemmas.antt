@@ -32,8 +32,7 @@ module _ {T A G J : Type 0} (here : Setting T A J) where
     pub appended : after ≡ before ++ replies
     pub ran : Runs here old done replies new
 
-  -- `HasRun` holds at the start of a run. At this point, `left` contains all commands, the list is
-  -- still `old`, and `after` equals `before`, because there are no replies yet.
+  -- `HasRun` holds at the start of a run, when no command has run and there are no replies yet.
   pub HasRun-none : (old : Thin T A) (commands left : List (Command T A G))
       (before after : List (Reply T A G)) → left ≡ commands → after ≡ before
       → HasRun old commands left before after old

@@ -1,7 +1,5 @@
--- The predicate `Replaces` describes a splice that succeeds, and `StopsBetween` describes a splice
--- that fails. These lemmas help to prove one of the two predicates for each call to
--- `Splice::finish` or `ThinVec::extend`. A call to `extend` is described as a splice at the end of
--- the list.
+-- These lemmas help to prove `Replaces` for each splice that succeeds, and `StopsBetween` for each
+-- splice that fails. A call to `extend` counts as a splice at the end of the list.
 use Rattle.std.proofs.Common.{◌≡◌, ℕ, ◌-◌, ◌*◌, ◌<◌, List, [], ◌∷◌, ◌++◌, None, Option, Some, ap, append_assoc, arith, drop, inl, inr, length, refl, subst, sym, take, ◌∙◌}
 use Rattle.std.proofs.lemmas.Bool.{false≢true}
 use Rattle.std.proofs.Math.Seq.{drop-length, take-length}
@@ -181,8 +179,8 @@ module _ {T A : Type 0} (old : Thin T A) where
   pub cut-end : cut old (length old.items) (length old.items) ≡ old
   cut-end = λ i. record old { items = take-append-drop (length old.items) old.items i }
 
-  -- Suppose that the empty range at the end of the list `old` is removed. If the resulting list has
-  -- room for `most` more items, then `old` has room for `most` more items.
+  -- If the list `old` without the empty range at its end has room for `most` more items, then `old`
+  -- has room for them, too.
   room-end : (most : ℕ) → HasRoomFor (cut old (length old.items) (length old.items)) most
       → HasRoomFor old most
   room-end most = subst (λ (v : Thin T A). HasRoomFor v most) cut-end

@@ -1,6 +1,5 @@
--- A step describes a call to `next` or `next_back` on an iterator over a range of items. These
--- lemmas state the results of a sequence of steps whose first step is `Back`, which describes a
--- call to `next_back`.
+-- These lemmas state the results of a sequence of calls to `next` and `next_back` that begins with
+-- a call to `next_back`.
 use Rattle.std.proofs.Common.{◌≡◌, ◌-◌, List, [], ◌∷◌, ◌++◌, Option, None, Some, ap, arith, length, refl, subst, sym, take, ◌∙◌}
 use Rattle.std.proofs.Math.Seq.{take-append_seam}
 use Rattle.std.proofs.lemmas.List.{length_push}

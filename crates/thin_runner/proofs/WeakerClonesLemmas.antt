@@ -1,7 +1,5 @@
--- The clone relation says which values may be clones of an item. A relation is weaker if it allows
--- at least the same clones. Every run that is possible with a clone relation is also possible with
--- a weaker relation. So if each clone equals its source, then every possible run is also possible
--- with equality as the clone relation.
+-- A weaker clone relation allows more values as clones of an item. Every run that is possible with
+-- a clone relation is possible with any weaker one.
 use Rattle.std.proofs.Common.{◌≡◌, ℕ, List, [], ◌∷◌}
 use Rattle.std.specs.List.{AllZip}
 use Rattle.thin_vec.specs.List.Clones.{ClonesEqual, IsResized}

@@ -29,8 +29,8 @@ module _ {T A G : Type 0} where
   seen (Answers answers) = yields answers.items
   seen reply = says reply
 
-  -- `in_range xs command` is true if the index or the range of the command is in bounds for the
-  -- items `xs`. It is also true if the command has neither an index nor a range.
+  -- `in_range xs command` is true if the index or range of the command is in bounds for the items
+  -- `xs`, or if the command has neither.
   abbrev pub in_range : List T → Command T A G → Bool
   in_range xs (Insert i v) = nat_le i (length xs)
   in_range xs (Remove i) = nat_lt i (length xs)

@@ -35,8 +35,7 @@ module _ {T A G : Type 0} where
 
 module _ {T A G J : Type 0} (here : Setting T A J) where
   -- `Runs old commands replies new` holds if the commands, carried out in order, may turn the list
-  -- `old` into `new` and get these replies, one for each command. In the definition, `mid` is the
-  -- list after the first command.
+  -- `old` into `new` and get these replies.
   abbrev pub Runs : Thin T A → List (Command T A G) → List (Reply T A G) → Thin T A → Type 0
   Runs old [] [] new = new ≡ old
   Runs old (command ∷ commands) (reply ∷ replies) new =
@@ -64,9 +63,8 @@ module _ {T A G J : Type 0} (here : Setting T A J) where
   may_move xs (Splice a b steps ys lower) reply = 2 * (length xs - b) + length ys.items
   may_move xs command reply = moved_down (flags_of (unwrap_or (answered here xs command) []))
 
-  -- `run_may_move` is an upper bound on the number of items that a run moves. It is the sum of the
-  -- bounds `may_move` of all commands of the run. The bound of a command depends on its reply, and
-  -- on the items that the list has before the command.
+  -- `run_may_move` is the sum of the bounds `may_move` of all commands of a run. It is an upper
+  -- bound on the number of items that the run moves.
   abbrev pub run_may_move : (old new : Thin T A) (commands : List (Command T A G))
       (replies : List (Reply T A G)) → Runs old commands replies new → ℕ
   run_may_move old new (command ∷ commands) (reply ∷ replies) run =

@@ -21,8 +21,8 @@ use Rattle.thin_runner.specs.declared.command.Reply.TheVariants.{Answers, Done, 
 use Rattle.thin_runner.specs.declared.command.Step.TheVariants.{Front}
 
 module _ {T A G : Type 0} where
-  -- `IsInRange xs command` holds if the index or the range of the command is in bounds for the
-  -- items `xs`. It also holds if the command has neither an index nor a range.
+  -- `IsInRange xs command` holds if the index or range of the command is in bounds for the items
+  -- `xs`, or if the command has neither.
   abbrev pub IsInRange : List T → Command T A G → Type 0
   IsInRange xs (Insert i v) = i ≤ length xs
   IsInRange xs (Remove i) = i < length xs
@@ -116,9 +116,8 @@ module _ {T A G J : Type 0} (here : Setting T A J) where
       × StopsBetween here.rule here.R old a b xs.items held.items lower cause in_hand rest new
   Does old (Splice a b steps xs lower) (Refused cause) new =
       (0 < length steps.items) × (cause ≡ OutOfMemory) × (new ≡ old)
-  -- This case is about `Retain`, `RetainMut`, `Dedup`, `DedupBy` and `DedupByKey`. Such a command
-  -- tests the items. The verdict of each test says whether the item is kept. After the command, the
-  -- list contains only the kept items.
+  -- A command that tests the items (`Retain`, `RetainMut`, `Dedup`, `DedupBy` or `DedupByKey`)
+  -- leaves only the kept items in the list.
   Does old command Done new =
       MatchOption (answered here old.items command) ⊥ (λ verdicts. new ≡ sifted old verdicts)
   Does old command reply new = ⊥

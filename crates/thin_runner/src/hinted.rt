@@ -10,9 +10,6 @@ use std::vec::IntoIter;
 
 /// An iterator that yields its items in order, and then always returns `None`. The lower bound of
 /// its size hint never changes, and may exceed the number of remaining items.
-///
-/// The contract of `size_hint` requires a lower bound that is at most the ghost value `remaining`.
-/// For this reason, `remaining` is the sum of the lower bound and the number of remaining items.
 #[derive(Drop)]
 pub struct Hinted<T, A: Allocator = Global> {
     items: IntoIter<T, A>,

@@ -9,10 +9,7 @@ mod splices;
 use std::marker::PhantomData;
 
 /// The values that a command may need in addition to its list: the allocator for new lists and
-/// vectors, and the judge.
-///
-/// Contracts use a record with the same name, which is in the folder `specs`. The record contains
-/// these two values and others.
+/// vectors, and the judge. The record of the same name in the folder `specs` contains more values.
 #[derive(Drop)]
 pub(crate) struct Setting<T, A, G, J> {
     pub(crate) alloc: A,

@@ -1,6 +1,5 @@
-//! Defines two growth rules that only tests use. The crate `thin_vec` does not define these rules.
-//! So tests with these rules check that lists satisfy their contracts even if a program defines its
-//! own growth rule.
+//! Defines two growth rules for tests. The tests check that lists satisfy their contracts even if a
+//! program defines its own growth rule.
 ghost use Rattle.std.specs.Prelude.{◌≡◌};
 ghost use Rattle.std.specs.Mem.{type_size};
 ghost use Rattle.std.specs.Align.{type_align};

@@ -1,16 +1,14 @@
-//! Defines `Refusing`, an allocator for tests. It wraps another allocator, `inner`. It refuses one
+//! Defines `Refusing`, an allocator for tests that wraps another allocator, `inner`. It refuses one
 //! request, which the test chooses, and passes all other requests on to `inner`. A request is a
 //! call to `allocate`, `grow` or `shrink`.
 //!
-//! Pass the allocator by reference, as `&Refusing<Global>`. A reference to an allocator is itself
-//! an allocator, and it is `Copy`.
+//! Pass the allocator by reference, as `&Refusing<Global>`. Such a reference is itself an
+//! allocator, and it is `Copy`.
 //!
-//! The method `blocks` returns the number of blocks that are allocated and have not been freed yet.
-//! So a test can detect a leak. The sizes of the blocks are not counted.
+//! The method `blocks` returns the number of allocated blocks, so a test can detect a leak.
 //!
-//! Contracts cannot mention the contents of a `Cell`. So only tests show which request is refused,
-//! and what `requests` and `blocks` return. It is proved that every block comes from `inner`, and
-//! that a block that is freed is returned to `inner`.
+//! It is proved that every block comes from `inner`, and that a freed block is returned to `inner`.
+//! The counters are only tested, because contracts cannot mention the contents of a `Cell`.
 use std::alloc::{AllocError, Allocator};
 use std::cell::Cell;
 
@@ -64,8 +62,8 @@ impl<B: Allocator> Refusing<B> {
         }
     }
 
-    /// Sets the number of requests to 0. So the next request has the number 1. The allocator will
-    /// refuse request number `refused`. If `refused` is 0, it will refuse no request.
+    /// Sets the number of requests to 0, so that the next request has the number 1. The allocator
+    /// will refuse request number `refused`. If `refused` is 0, it will refuse none.
     pub fn refuse(&self, refused: u64) {
         self.counts.requests.set(0);
         self.counts.refused.set(refused);

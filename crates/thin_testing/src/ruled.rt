@@ -22,7 +22,7 @@ impl Ruled for Doubling {
 }
 
 impl Ruled for PowerBytes {
-    // Returns how many items fit into the allocation after a header of 16 bytes. The size of the
+    // Returns how many items fit into an allocation after a header of 16 bytes. The size of this
     // allocation in bytes is the smallest power of two that has room for the header and for
     // `max(want, 2 * capacity)` items. If `size` is 0, the result is the same as for `Doubling`.
     fn expected_capacity(size: usize, capacity: usize, want: usize) -> usize {

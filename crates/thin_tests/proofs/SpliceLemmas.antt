@@ -1,6 +1,5 @@
--- This file is about two splices of a list. The first splice replaces the items of a range. The
--- second splice puts the old items back. The file proves that the list then has all its old items
--- again.
+-- This file proves that replacing a range of a list, and then putting the old items back, restores
+-- the list.
 use Rattle.std.proofs.Common.{◌≡◌, ℕ, ◌+◌, ◌≤◌, List, ◌++◌, ◌∙◌, ap, append_assoc, arith, drop, length, length-append, sym, take}
 use Rattle.std.proofs.lemmas.List.{drop_at, length-take-le, take_at}
 use Rattle.std.proofs.lemmas.List.Edits.{split_between}

@@ -10,8 +10,8 @@ use Rattle.thin_vec.specs.List.Extend.{IsMadeOf}
 use Rattle.thin_vec.specs.ThinVec.{Thin}
 
 module _ {T A E : Type 0} where
-  -- `IfOk r P` states that if the result `r` is `Ok v`, then `P v` is true. Suppose that `P v`
-  -- implies `Q v` for each list `v`. Then `IfOk r P` implies `IfOk r Q`.
+  -- `IfOk r P` states that `P v` is true if the result `r` is `Ok v`. If `P v` implies `Q v` for
+  -- each list `v`, then `IfOk r P` implies `IfOk r Q`.
   if_ok : {P Q : Thin T A → Type 0} (r : Result (Thin T A) E) → ((v : Thin T A) → P v → Q v)
       → IfOk r P → IfOk r Q
   if_ok (Ok v) implies p = implies v p

@@ -1,6 +1,5 @@
--- These lemmas are for proofs about code that calls `dedup_by`, `dedup_by_key` or `extract_if`.
--- Most of them require that the closure changes no item, and that its result depends only on the
--- items passed to it.
+-- Lemmas about calls to `dedup_by`, `dedup_by_key` and `extract_if`. Most of them require that the
+-- closure changes no item.
 use Rattle.std.proofs.Common.{◌≡◌, ◌+◌, ◌≤◌, Bool, true, false, List, [], ◌∷◌, ◌++◌, Option, None, Some, ap, append_assoc, arith, length, refl, sym, ◌∙◌}
 use Rattle.std.proofs.lemmas.Fn.{dedup_same}
 use Rattle.std.proofs.lemmas.List.{append-nil, length-append}
@@ -23,9 +22,8 @@ use Rattle.thin_vec.specs.declared.edits.holder.Holds.{Ghosts as HoldsGhosts}
 -- arguments: the state of the closure before the call, the two items, the result of the call, the
 -- state after the call, and the two items as the call left them.
 module _ {S T : Type 0} (R : S → T → T → Bool → S → T → T → Type 0) where
-  -- Suppose that the items `xs` follow the kept item `k`, and that a closure compared each of them,
-  -- in order, with the last item kept before it. If `ys` is the list of `k` and the kept items of
-  -- `xs`, then std's `DedupsFrom` holds: removing the duplicates from `k ∷ xs` leaves `ys`.
+  -- If a closure compared each item of `xs` with the last item kept before it, beginning with `k`,
+  -- then removing the duplicates from `k ∷ xs` leaves the kept items `ys`.
   dedups_from : (xs : List T) (s : S) (k : T) (stays : List Bool) (ys : List T) (t : S)
       → AskedLast R s k xs stays ys t → DedupsFrom R s k xs ys
   dedups_from [] s k stays ys t h = h.1
@@ -45,25 +43,22 @@ module _ {S T : Type 0} (R : S → T → T → Bool → S → T → T → Type 0
         ]) h.7,
   )
 
-  -- Suppose that a closure compared each item of the list `xs`, except the first, with the last
-  -- item kept before it. If `ys` is the list of all kept items, including the first item, then
-  -- std's `DedupsAll` holds: removing the duplicates from `xs` leaves `ys`.
+  -- If a closure compared each item of `xs`, except the first, with the last item kept before it,
+  -- then removing the duplicates from `xs` leaves the kept items `ys`.
   dedups_all : (xs : List T) (s : S) (stays : List Bool) (ys : List T) (t : S)
       → AskedPairs R s xs stays ys t → DedupsAll R s xs ys
   dedups_all [] s stays ys t h = h.1
   dedups_all (x ∷ xs) s stays ys t h = dedups_from xs s x stays ys t h
 
-  -- If `dedup_by` or `dedup_by_key` turned the list `v` into the list `w`, then std's `IsDeduped`
-  -- holds: removing the duplicates from `v.items` leaves `w.items`. Lemmas about `IsDeduped` are in
-  -- the file `lemmas/Fn` of std's proofs.
+  -- If `dedup_by` or `dedup_by_key` turned the list `v` into `w`, then removing the duplicates from
+  -- `v.items` leaves `w.items`.
   pub deduped_deduped : {A : Type 0} (s : S) (v w : Thin T A) → IsDedupedBy R s v w
       → IsDeduped R s v.items w.items
   deduped_deduped s v w h =
       record { told = dedups_all v.items s h.1.stays w.items h.0 h.1.asked }
 
-  -- Suppose that a closure changes neither an item nor its own state, and returns `same x y` when
-  -- it compares the item `x` with the last kept item `y`. If `dedup_by` with this closure turned
-  -- the list `v` into the list `w`, then `w.items` is `dedup same v.items`.
+  -- If `dedup_by`, called with a closure that only computes `same x y`, turned the list `v` into
+  -- the list `w`, then `w.items` is `dedup same v.items`.
   pub deduped_dedup : {A : Type 0} (same : T → T → Bool) {s : S} {v w : Thin T A}
       → ((x y : T) (b : Bool) (t : S) (x' y' : T) → R s x y b t x' y'
       → (b ≡ same x y) × (t ≡ s) × (x' ≡ x) × (y' ≡ y))
@@ -78,10 +73,8 @@ module _ {T : Type 0} (test : T → Bool) where
   abbrev pub others : List T → List T
   others xs = filter (λ x. not (test x)) xs
 
-  -- `Parts xs item kept rest` describes a call to `next` on an `ExtractIf`. The call tests the
-  -- items of the list `xs`, in order, until an item passes the test. `item` is this item, or `None`
-  -- if no item passes. The items `kept` were tested and did not pass, and the items `rest` were not
-  -- tested.
+  -- `Parts xs item kept rest` describes a call to `next` on an `ExtractIf` with the untested items
+  -- `xs`. The call kept the items `kept`, returned `item`, and left the items `rest` untested.
   pub record Parts (xs : List T) (item : Option T) (kept rest : List T) : Type 0 where
     pub gone : filter test xs ≡ option_to_list item ++ filter test rest
     pub stay : others xs ≡ kept ++ others rest
@@ -94,8 +87,8 @@ module _ {T : Type 0} (test : T → Bool) where
   module _ {S : Type 0} (R : S → T → Bool → S → T → Type 0)
       (says : (s : S) (x : T) (b : Bool) (t : S) (y : T) → R s x b t y
       → (b ≡ test x) × (y ≡ x)) where
-    -- This is the induction step of the lemma `parts`, from the list `xs` to the list `x ∷ xs`. The
-    -- test of the item `x` returned `b`, left `x` as `y`, and left the closure in the state `u`.
+    -- This is the induction step of the lemma `parts`, from the list `xs` to `x ∷ xs`. The test of
+    -- `x` returned `b` and left `x` as `y`.
     part : (x : T) (xs : List T) (item : Option T) (t u : S) (y : T) (kept rest : List T)
         (b : Bool) → b ≡ test x → y ≡ x
         → ((ks : List T) → ExtractsNext R u xs item t ks rest → Parts xs item ks rest)
@@ -121,9 +114,8 @@ module _ {T : Type 0} (test : T → Bool) where
           ended = then.ended;
         }
 
-    -- Suppose that a closure changes no item and always returns the result of `test`. If `next` is
-    -- called on an `ExtractIf` whose untested items are `xs`, then `Parts` describes this call:
-    -- `item` is the first item of `xs` that passes `test`, or `None` if no item passes.
+    -- If the closure of an `ExtractIf` only computes `test`, then `next` returns the first untested
+    -- item that passes `test`, or `None` if no item passes.
     pub parts : (s : S) (xs : List T) (item : Option T) (t : S) (kept rest : List T)
         → ExtractsNext R s xs item t kept rest → Parts xs item kept rest
     parts s [] item t kept rest e = record {
@@ -191,10 +183,8 @@ module _ {T F A G : Type 0} {g : Ghosts G}
           );
         }
 
-    -- Suppose that `IsExtracting` holds for a loop over an `ExtractIf`, and that `next` returns
-    -- `None`. Then the loop has appended exactly the items of the range that pass `test`. After the
-    -- `ExtractIf` is dropped, the `ThinVec` contains the other items of the range and the items
-    -- outside the range.
+    -- If a loop over an `ExtractIf` has ended, then it has appended exactly the items of the range
+    -- that pass `test`. After the `ExtractIf` is dropped, the `ThinVec` contains all other items.
     pub extract_end : {start now new : ExtractIf T F A G (Holder (Extracting T F A)) g h}
         {old held : List T} {item : Option T} → IsExtracting start now old held
         → ExtractSteps R now item new → item ≡ None

@@ -1,5 +1,5 @@
--- These lemmas are for proofs about lists with a known item type. They state how many items fit
--- without a capacity overflow, and how large a capacity the growth rule `Doubling` chooses.
+-- These lemmas state how many items of a known type fit without a capacity overflow, and which
+-- capacities the growth rule `Doubling` chooses.
 use Rattle.std.proofs.Common.{if◌then◌else◌, Bool, true, false, ◌≡◌, ℕ, zero, suc, ◌+◌, ◌-◌, ◌*◌, ◌^◌, ◌<◌, ◌≤◌, ap, arith, length, IfErr, Option, Result, Ok, Err, Some, None, inl, inr, refl, sym, ◌∙◌}
 use Rattle.std.specs.Borrow.{RattleType}
 use Rattle.std.specs.Align.{type_align}
@@ -16,7 +16,7 @@ use Rattle.thin_vec.specs.List.Capacity.{Reserves, TellsOverflowOf}
 use Rattle.thin_vec.specs.ThinVec.{IsCause, Thin}
 
 -- If `n` and the size of an item in bytes are less than `2 ^ 31`, then `exact_capacity` returns the
--- capacity `n` for a new list that needs room for `n` items.
+-- capacity `n` for a new list of `n` items.
 pub exact-few : (R : RattleType) (n : ℕ) → n < 2 ^ 31 → type_size R < 2 ^ 31
     → exact_capacity R 0 n ≡ Some n
 exact-few R zero few small = exact-same R 0 0 (omega arith)
@@ -27,16 +27,15 @@ exact-few R (suc n) few small =
 none_some : {A B : Type 0} (x : A) → None ≡ Some x → B
 none_some x e = cc
 
--- Suppose that a call fails with the error `cause`. If the call needed a capacity that is too
--- large, then `named` is `None`. Otherwise, `named` is `Some n`, where `n` is the needed capacity.
--- If `named` is `Some n`, then `cause` is `OutOfMemory`.
+-- If a call fails with the error `cause`, and the needed capacity `n` is not too large (`named` is
+-- `Some n`), then `cause` is `OutOfMemory`.
 cause-named : (named : Option ℕ) (n : ℕ) (cause : ThinVecError) → named ≡ Some n
     → IsCause named cause → cause ≡ OutOfMemory
 cause-named named n OutOfMemory here told = refl
 cause-named named n CapacityOverflow here told = none_some n (sym (told refl) ∙ here)
 
--- Suppose that a call creates a list with room for exactly `n` items. If `n` and the size of an
--- item in bytes are less than `2 ^ 31`, then the call can fail only with `OutOfMemory`.
+-- If `n` and the size of an item in bytes are less than `2 ^ 31`, then creating a list with room
+-- for `n` items can fail only with `OutOfMemory`.
 pub few_items : {X : Type 0} (R : RattleType) (n : ℕ) (result : Result X ThinVecError)
     → n < 2 ^ 31 → type_size R < 2 ^ 31 → TellsOverflowOf R n result
     → IfErr result (λ cause. cause ≡ OutOfMemory)
@@ -51,8 +50,8 @@ either_few : (b : Bool) (m n : ℕ) → m < 2 ^ 31 → n < 2 ^ 31 → (if b then
 either_few true m n few less = few
 either_few false m n few less = less
 
--- `first s` is the least capacity that the growth rule `doubling` chooses for the first block of a
--- list with items of `s` bytes. It is less than `2 ^ 31`.
+-- `first s`, the least capacity that the growth rule `doubling` chooses for items of `s` bytes, is
+-- less than `2 ^ 31`.
 first_few : (s : ℕ) → first s < 2 ^ 31
 unfolding first
 first_few s = either_few (nat_lt (2 ^ 61 - 1) s) 1 4 (omega arith) (omega arith)
@@ -102,9 +101,8 @@ first_most : (s : ℕ) → first s ≤ 4
 unfolding first
 first_most s = either_most (nat_lt (2 ^ 61 - 1) s)
 
--- Suppose that a list of capacity `c` needs room for `w` items, and that `c < w`. The flag `b`
--- selects `first s` or `2 * c`. In both cases, the selected number is at most `max 4 (2 * w)`.
--- (`first s` is the least capacity of the first block of a list with items of `s` bytes.)
+-- If `c < w`, then `first s` (the least capacity of a list with items of `s` bytes) and `2 * c` are
+-- at most `max 4 (2 * w)`.
 twice-most : (b : Bool) (s c w : ℕ) → c < w → (if b then first s else 2 * c) ≤ max 4 (2 * w)
 twice-most true s c w more = omega (arith, first_most s)
 twice-most false s c w more = omega (arith, more)

@@ -1,6 +1,5 @@
 -- This file lists the modules of lemmas. The modules marked `pub` are for the proofs of other
--- crates. Two of these modules, `ThinVecLemmas` and `RetainLemmas`, are also for the proofs of this
--- crate.
+-- crates.
 mod ListLemmas
 pub mod ThinVecLemmas
 pub mod UndoLemmas

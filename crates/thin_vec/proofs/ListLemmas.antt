@@ -1,6 +1,5 @@
--- The block of a list contains slots, and each slot holds an item or is empty. The items of the
--- list fill the slots from slot 0 onward, without a gap. All later slots are empty. These lemmas
--- state what the block contains after each operation on it.
+-- These lemmas state what the block of a list contains after each operation. Its first slots hold
+-- the items of the list, and all other slots are empty.
 use Rattle.std.proofs.Common.{◌≡◌, ◌≢◌, ℕ, zero, suc, ◌+◌, ◌-◌, ◌<◌, ◌≤◌, List, [], ◌∷◌, ◌++◌, length, take, drop, Option, Some, None, refl, sym, ap, ◌∙◌, arith, get_or, length-append, append_assoc}
 use Rattle.std.proofs.lemmas.List.{length-replicate, length-map, take-append-drop, replicate-append-replicate, set_at, get_or_append_left, get_or-map, map_push, append-nil, length-take-le, drop_more, length_push, get_or-set_other}
 use Rattle.std.proofs.Math.Seq.{drop-length, take-append_seam}
@@ -59,8 +58,8 @@ module _ {T : Type 0} where
   pub full-same : (xs ys : List T) → full xs ≡ full ys → xs ≡ ys
   full-same xs ys e = sym (items-full-alone xs) ∙ (ap items_in e ∙ items-full-alone ys)
 
-  -- Suppose that `i` is less than the length of `xs`. Then slot `i` of `full xs ++ s` holds the
-  -- item at index `i` of `xs`. This item is `get_or xs i d`, whatever the default `d` is.
+  -- If `i < length xs`, then slot `i` of `full xs ++ s` holds the item at index `i` of `xs`,
+  -- whatever the default `d` is.
   pub slot-full : (xs : List T) (s : List (Option T)) (i : ℕ) (d : T) → i < length xs
       → slot (full xs ++ s) i ≡ Some (get_or xs i d)
   slot-full xs s i d h =
@@ -83,9 +82,8 @@ module _ {T : Type 0} where
       (sym (map_push (λ (x : T). Some x) xs v))
       ∙ ap (λ (n : ℕ). full (xs ++ v ∷ []) ++ replicate n None) m)))
 
-  -- Suppose that `i < length xs`. If slot `i` of `full xs ++ s` is emptied, then the result is, in
-  -- this order: the slots of the items of `xs` before index `i`, an empty slot, the slots of the
-  -- items of `xs` after index `i`, and the slots `s`.
+  -- If slot `i` of `full xs ++ s` is emptied, and `i < length xs`, then only this slot changes: the
+  -- other items of `xs` and the slots `s` stay in place.
   pub full-take : (xs : List T) (s : List (Option T)) (i : ℕ) (d : T) → i < length xs
       → set (full xs ++ s) i None ≡ full (take i xs) ++ (None ∷ (full (drop (suc i) xs) ++ s))
   full-take [] s i d h = absurd (omega arith)
@@ -93,8 +91,8 @@ module _ {T : Type 0} where
   full-take (x ∷ xs) s (suc i) d h = let l : i < length xs = omega arith in
       ap (λ (r : List (Option T)). Some x ∷ r) (full-take xs s i d l)
 
-  -- Suppose that a list of `c` slots begins with the items `xs` and then `v`, and that its other
-  -- slots are empty. Then emptying the slot of `v` removes `v` from the items.
+  -- If a list of `c` slots holds the items `xs`, then `v`, and then only empty slots, emptying the
+  -- slot of `v` leaves the items `xs`.
   pub front-pop : (xs : List T) (c : ℕ) (v : T) → length (xs ++ v ∷ []) ≤ c
       → set (front (xs ++ v ∷ []) c) (length xs) None ≡ front xs c
   front-pop xs c v h =
@@ -108,9 +106,8 @@ module _ {T : Type 0} where
       ∙ (set_at (full xs) (Some v) (replicate k None) None (length xs) (length-full xs)
       ∙ ap (λ (q : ℕ). full xs ++ replicate q None) m))
 
-  -- `front xs c` is a list of slots: the slots of the items `xs`, followed by empty slots up to the
-  -- capacity `c`. If `xs` has at most `c` items and `c ≤ d`, then appending `d - c` empty slots to
-  -- `front xs c` yields `front xs d`.
+  -- `front xs c` is the list of the slots of the items `xs`, followed by empty slots up to the
+  -- capacity `c`. Appending `d - c` empty slots to it yields `front xs d`.
   pub front-grow : (xs : List T) (c d : ℕ) → length xs ≤ c → c ≤ d
       → front xs c ++ replicate (d - c) None ≡ front xs d
   front-grow xs c d h l =
@@ -141,10 +138,8 @@ module _ {T A : Type 0} where
     pub items : items_in b.slots ≡ xs
     pub cap : length b.slots ≡ c
 
-  -- Suppose that the slots of the block `b` are `front xs c`: the slots of the items `xs`, followed
-  -- by empty slots up to the capacity `c`. Suppose also that `b` stores the length of `xs`, that
-  -- `length xs ≤ c`, and that the memory of `b` came from the allocator `a`. Then `b` is the block
-  -- of a list with the items `xs` and the capacity `c`.
+  -- If the slots of the block `b` hold the items `xs`, followed by empty slots, and `b` stores the
+  -- length of `xs`, then `b` is the block of a list with the items `xs`.
   pub settled : (b : Block T A) (a : A) (xs : List T) (c : ℕ) → b.slots ≡ front xs c
       → b.len ≡ length xs → length xs ≤ c → IsFrom b.alloc a → Settled b a xs c
   settled b a xs c e n h f =
@@ -163,10 +158,8 @@ module _ {T A : Type 0} where
         cap = l;
       }
 
-  -- Suppose that the lists `w` and `v` are equal, and that a new block `b'` replaces the block of
-  -- `w`. If `b'` has `c` slots, the items `xs` and the cost `k`, then contracts see the new list as
-  -- follows: its items are `xs`, its capacity is `c`, its cost is `k`, and its allocator is that of
-  -- `v`.
+  -- If a new block `b'` with the items `xs`, `c` slots and the cost `k` replaces the block of the
+  -- list `v`, then contracts see a list with these values and the allocator of `v`.
   pub thin_of-becomes : {w v : Thin T A} → w ≡ v → (b' : Block T A) {xs : List T} {c : ℕ} {k : Cost}
       → length b'.slots ≡ c → items_in b'.slots ≡ xs → b'.cost ≡ k
       → thin_of b' w.alloc ≡ record v { items = xs; capacity = c; cost = k }
@@ -177,10 +170,8 @@ module _ {T A : Type 0} where
     cost = cost i;
   }
 
-  -- Suppose that the lists `w` and `v` are equal, and that a new block `b'` replaces the block of
-  -- `w`. If `b'` has as many slots as the old block, the items `xs` and the cost `k`, then
-  -- contracts see the new list as follows: its items are `xs`, its cost is `k`, and its capacity
-  -- and allocator are those of `v`.
+  -- If a new block `b'` with the items `xs` and the cost `k` replaces the block of the list `v`,
+  -- then contracts see a list with the capacity and the allocator of `v`.
   pub thin_of-keeps : {w v : Thin T A} → w ≡ v → (b' : Block T A) {xs : List T} {k : Cost}
       → length b'.slots ≡ w.capacity → items_in b'.slots ≡ xs → b'.cost ≡ k
       → thin_of b' w.alloc ≡ record v { items = xs; cost = k }
@@ -206,24 +197,21 @@ module _ {T A : Type 0} where
       → IsFrom b'.alloc a
   from-same b b' a f e = λ x h. f x (sym e ∙ h)
 
-  -- `IsWritten b b' s n k` holds if the block `b'` is the block `b` with the new slots `s`, the new
-  -- stored length `n` and the new cost `k`. (The cost counts requests for memory, copied items and
-  -- moves.)
+  -- `IsWritten b b' s n k` holds if the block `b'` is the block `b` with the slots `s`, the stored
+  -- length `n` and the cost `k`.
   abbrev pub IsWritten : Block T A → Block T A → List (Option T) → ℕ → Cost → Type 0
   IsWritten b b' s n k = seen b' ≡ record (seen b) { slots = s; len = n; cost = k }
 
-  -- Suppose that an operation turns the block `b` of a list into the block `b'`, whose slots are
-  -- `front xs c`: the slots of the items `xs`, followed by empty slots up to the capacity `c`. If
-  -- `b'` stores the length of `xs`, and this length is at most `c`, then `b'` is the block of a
-  -- list with the items `xs` and the capacity `c`.
+  -- If an operation on the block `b` of a list leaves the items `xs` in the first slots, and all
+  -- other slots empty, then the new block `b'` is the block of a list with the items `xs`.
   pub settle-front : {b : Block T A} {a : A} → IsThin b a → (b' : Block T A) (xs : List T) (c : ℕ)
       {s : List (Option T)} {n : ℕ} {k : Cost} → IsWritten b b' s n k → s ≡ front xs c
       → n ≡ length xs → length xs ≤ c → Settled b' a xs c
   settle-front {b} {a} t b' xs c w e n h = settled b' a xs c (ap (λ v. v.slots) w ∙ e)
       (ap (λ v. v.len) w ∙ n) h (from-same b b' a t.from (ap (λ v. v.alloc) w))
 
-  -- If `v` is written into the slot directly after the last item, and the stored length is
-  -- incremented, then the new block `b'` is the block of the list with `v` appended.
+  -- If `v` is written into the slot after the last item, and the stored length is incremented, then
+  -- the new block `b'` is the block of the list with `v` appended.
   pub settle-push : {b : Block T A} {a : A} → IsThin b a → (b' : Block T A) (v : T) (i : ℕ)
       {k : Cost} → i ≡ b.len → i < length b.slots
       → IsWritten b b' (set b.slots i (Some v)) (i + 1) k
@@ -290,8 +278,8 @@ module _ {T A : Type 0} where
       → IsSome (slot b.slots i)
   thin-filled b a i t h = rw (thin-slot b a i t h) (get-some (items_in b.slots) i h)
 
-  -- Suppose that `n` is the length that the block `b` of a list stores. If the first `n` slots of
-  -- `b` hold exactly the items `xs`, then `xs` is the list of the items in `b`.
+  -- If the block `b` of a list stores the length `n`, and its first `n` slots hold the items `xs`,
+  -- then `xs` is the list of the items in `b`.
   pub thin-run : (b : Block T A) (a : A) (xs : List T) (n : ℕ) → IsThin b a → n ≡ b.len
       → full xs ≡ slice_range b.slots 0 n → xs ≡ items_in b.slots
   thin-run b a xs n t len run =
@@ -308,9 +296,8 @@ module _ {T A : Type 0} where
       → slice_get (items_in b.slots) i ≡ Some v
   thin-get b a i v t h e = sym (thin-slot b a i t h) ∙ e
 
-  -- Suppose that slot `i` of the block of a list is emptied, and that `s` is the list of the slots
-  -- after this. If `j` is the index of an item after index `i`, then slot `j` of `s` is still
-  -- filled.
+  -- If slot `i` of the block of a list is emptied, then the slot of each item at an index `j > i`
+  -- is still filled.
   pub kept-filled : (b : Block T A) (a : A) (i j : ℕ) (s : List (Option T)) → IsThin b a → i < j
       → j < length (items_in b.slots) → s ≡ set b.slots i None → IsSome (slot s j)
   kept-filled b a i j s t n h e = let ne : j ≢ i = omega arith in

@@ -51,8 +51,8 @@ module _ {T : Type 0} where
       ∙ (get_or_append_left (empty k) post None (j - length pre) (omega (arith, length-empty T k))
       ∙ get_or-replicate k (j - length pre) None None n)
 
-  -- `empty g` is a list of `g` empty slots. Suppose that one more empty slot follows `empty g`, and
-  -- that the slots `z` follow this slot. Then the whole list of slots is `empty (g + 1) ++ z`.
+  -- `g` empty slots, followed by one more empty slot and the slots `z`, are `g + 1` empty slots,
+  -- followed by `z`.
   pub empty-more : (g : ℕ) (z : List (Option T)) → empty g ++ (None ∷ z) ≡ empty (g + 1) ++ z
   empty-more g z = sym (append_assoc (empty g) (None ∷ []) z) ∙ ap (λ (e : List (Option T)). e ++ z)
       (replicate-append-replicate g 1 None)
@@ -64,13 +64,11 @@ module _ {T A : Type 0} where
     pub lies : IsOpen h
     pub view : open_of h ≡ v
 
-  -- `to_rest v` is the list of the slots before the middle items of the open block `v`: the slots
-  -- of its front items, and the empty slots of its first gap.
+  -- `to_rest v` is the list of the slots before the middle items of the open block `v`.
   abbrev pub to_rest : Open T A → List (Option T)
   to_rest v = full v.front ++ empty v.gap
 
-  -- `to_after v` is the list of the slots of the open block `v` up to the end of the middle items:
-  -- `to_rest v`, followed by the slots of the middle items.
+  -- `to_after v` is the list of the slots of the open block `v` up to the end of its middle items.
   abbrev to_after : Open T A → List (Option T)
   to_after v = to_rest v ++ full v.rest
 
@@ -87,8 +85,7 @@ module _ {T A : Type 0} where
   abbrev pub past_after : Open T A → List (Option T)
   past_after v = full v.tail ++ past_tail v
 
-  -- `past_rest v` is the list of the slots after the middle items of the open block `v`: its second
-  -- gap, the slots of its tail items, and the empty slots at the end.
+  -- `past_rest v` is the list of the slots after the middle items of the open block `v`.
   abbrev pub past_rest : Open T A → List (Option T)
   past_rest v = empty v.gap_after ++ past_after v
 
@@ -123,8 +120,7 @@ module _ {T A : Type 0} where
       s.gap,
     )
 
-    -- Suppose that `v` describes the layout of the open block `h`. Then `to_after v`, the list of
-    -- the slots up to the end of the middle items, has the length `h.rest_end`.
+    -- `h.rest_end` is the number of slots of the open block `h` up to the end of its middle items.
     at_after : length (to_after v) ≡ h.rest_end
     at_after = omega (
       arith,
@@ -134,9 +130,8 @@ module _ {T A : Type 0} where
       s.rest,
     )
 
-    -- Suppose that `v` describes the layout of the open block `h`. Then `to_tail v`, the list of
-    -- the slots before the tail items, has the length `h.tail_start`. (The tail items are the items
-    -- after the edited range.)
+    -- `h.tail_start` is the number of slots before the tail items of the open block `h`. (The tail
+    -- items are the items after the edited range.)
     at_tail : length (to_tail v) ≡ h.tail_start
     at_tail = omega (
       arith,
@@ -200,9 +195,8 @@ module _ {T A : Type 0} where
         ∙ ap (λ (k : ℕ). full v.tail ++ empty k) (sym some)))
         ∙ items-front v.tail (length v.tail + (v.capacity - reach v))
 
-    -- Suppose that the slots and the indices of the open block `h` have the layout that `v`
-    -- describes. If `h` and `v` also have the same allocator and the same cost, then `Found h v`
-    -- holds: `h` is a valid open block, and `v` is how contracts see `h`.
+    -- If `v` describes the layout of the open block `h`, and has the same allocator and cost, then
+    -- `h` is a valid open block, and contracts see it as `v`.
     pub found : h.block.alloc ≡ v.alloc → h.block.cost ≡ v.cost → Found h v
     found alloc cost =
         let gap : h.rest_start - h.front_end ≡ v.gap = omega (arith, s.gap) in
@@ -252,10 +246,8 @@ module _ {T A : Type 0} where
       → xs ≡ (open_of h).rest
   rest-run h xs e = sym (items-full-alone xs) ∙ ap items_in e
 
-  -- The following definitions and lemmas are about the steps of an edit, such as the removal of one
-  -- item. Most steps have two definitions and one lemma. The first definition is the open block
-  -- after the step. The second definition is how contracts see this open block. The lemma states
-  -- that both definitions agree.
+  -- Most steps of an edit, such as the removal of one item, have two definitions: the open block
+  -- after the step, and how contracts see it. A lemma states that they agree.
 
   module _ (h : Inside T A) (o : IsOpen h) (b : Block T A)
       (some : 0 < length (open_of h).rest) where
@@ -288,9 +280,8 @@ module _ {T A : Type 0} where
       cost = v.cost;
     }
 
-    -- Suppose that `x`, the first middle item of the open block `h`, was removed. Then the middle
-    -- items of `h` were `x ∷ ys` for some list `ys`, and `first-seen ys` is how contracts see the
-    -- new open block.
+    -- If the first middle item `x` of the open block `h` was removed, then contracts see the new
+    -- open block as `first-seen ys`, where `ys` are the other middle items.
     pub first-step : (x : T) → slot h.block.slots h.rest_start ≡ Some x
         → seen b ≡ record (seen h.block) { slots = set h.block.slots h.rest_start None }
         → (ys : List T) × (v.rest ≡ x ∷ ys) × Found first-left (first-seen ys)
@@ -358,9 +349,8 @@ module _ {T A : Type 0} where
       cost = v.cost;
     }
 
-    -- Suppose that `x`, the last middle item of the open block `h`, was removed. Then the middle
-    -- items of `h` were `ys ++ x ∷ []` for some list `ys`, and `last-seen ys` is how contracts see
-    -- the new open block.
+    -- If the last middle item `x` of the open block `h` was removed, then contracts see the new
+    -- open block as `last-seen ys`, where `ys` are the other middle items.
     pub last-step : (x : T) → slot h.block.slots (h.rest_end - 1) ≡ Some x
         → seen b ≡ record (seen h.block) { slots = set h.block.slots (h.rest_end - 1) None }
         → (ys : List T) × (v.rest ≡ ys ++ x ∷ []) × Found last-left (last-seen ys)
@@ -418,9 +408,8 @@ module _ {T A : Type 0} where
               (ap (λ (z : Seen T A). z.cost) now),
         )
 
-  -- This module is about two steps of an edit of the open block `h`. If `h` has no middle items,
-  -- then its two gaps can be joined. If `h` has no gap before its tail items, then `h` can be
-  -- closed: the items are moved to the first slots of the block.
+  -- This module is about two steps of an edit of the open block `h`: joining the two gaps of `h`,
+  -- and closing `h`.
   module _ (h : Inside T A) (o : IsOpen h) where
     -- `joined` is the open block `h` after its two gaps have been joined. The joined gap lies
     -- between the front items and the tail items.
@@ -434,8 +423,8 @@ module _ {T A : Type 0} where
       len = h.len;
     }
 
-    -- `joined-seen` is how contracts see the open block `joined`. The first gap of `joined`
-    -- contains the slots of both gaps of `h`, and the second gap of `joined` is empty.
+    -- `joined-seen` is how contracts see the open block `joined`. Its first gap contains the slots
+    -- of both gaps of `h`, and its second gap is empty.
     abbrev pub joined-seen : Open T A
     joined-seen = let w : Open T A = open_of h in
         record {
@@ -481,9 +470,8 @@ module _ {T A : Type 0} where
     abbrev all-after : List T
     all-after = (open_of h).rest ++ (open_of h).tail
 
-    -- Suppose that there is no gap before the tail items. Then the slots of the block are, in this
-    -- order: the slots of the front items, the empty slots of the first gap, the slots of
-    -- `all-after` (the middle items and the tail items), and the empty slots at the end.
+    -- If there is no gap before the tail items, then the block holds, in order: the front items,
+    -- the first gap, the middle and tail items (`all-after`), and empty slots.
     side-by-side : (open_of h).gap_after ≡ 0 → h.block.slots ≡ full (open_of h).front
         ++ (empty (open_of h).gap ++ (full all-after ++ past_tail (open_of h)))
     side-by-side none =
@@ -519,9 +507,8 @@ module _ {T A : Type 0} where
     count-all : length (items_of (open_of h)) ≡ h.front_end + length all-after
     count-all = omega (arith, length-append (open_of h).front all-after, o.front)
 
-    -- Suppose that there is no gap before the tail items. If the middle items and the tail items
-    -- are moved to the slots directly after the front items, then the items occupy the first slots
-    -- of the block without a gap, and all other slots are empty.
+    -- If there is no gap before the tail items, then moving the middle and tail items directly
+    -- after the front items leaves all items in the first slots of the block.
     pub close-row : (open_of h).gap_after ≡ 0
         → moved h.rest_start h.front_end (h.len - h.rest_start) h.block.slots ≡ front
         (items_of (open_of h)) (length h.block.slots)
@@ -594,9 +581,8 @@ module _ {T A : Type 0} where
           len = len;
         }
 
-    -- `opened-seen` is how contracts see the open block `opened len`. The items of the list before
-    -- index `start` are the front items of this open block. The items `start..end` are its middle
-    -- items, and the items from index `end` onward are its tail items.
+    -- `opened-seen` is how contracts see the open block `opened len`. Its middle items are the
+    -- items `start..end` of the list.
     abbrev pub opened-seen : Open T A
     opened-seen = let xs : List T = items_in b.slots in
         record {
@@ -645,8 +631,8 @@ module _ {T A : Type 0} where
               omega (arith, all, thin-room b a t);
         }) refl refl
 
-  -- In this module, the items `xs` are written into the gap after the front items of the open block
-  -- `h`. `end` is the index of the slot directly after these items.
+  -- In this module, the items `xs` are written into the first gap of the open block `h`, up to the
+  -- slot before index `end`.
   module _ (h : Inside T A) (o : IsOpen h) (b : Block T A) (xs : List T) (end : ℕ)
       (ends : end ≡ h.front_end + length xs) (fits : end ≤ h.rest_start) where
     -- `filled` is the open block `h` after the items `xs` have been written into the gap after its
@@ -662,9 +648,8 @@ module _ {T A : Type 0} where
           len = h.len;
         }
 
-    -- `filled-seen` is how contracts see the open block `filled`. The front items of `filled` are
-    -- the front items of `h`, followed by the items `xs`. The first gap of `filled` is `length xs`
-    -- slots shorter than the first gap of `h`.
+    -- `filled-seen` is how contracts see the open block `filled`. Its front items are those of `h`,
+    -- followed by `xs`. Its first gap is `length xs` slots shorter than in `h`.
     abbrev pub filled-seen : Open T A
     filled-seen =
         let v : Open T A = open_of h in
@@ -679,8 +664,8 @@ module _ {T A : Type 0} where
           cost = b.cost;
         }
 
-    -- If the items `xs` were written into the slots directly after the front items, then `filled`
-    -- is a valid open block, and `filled-seen` is how contracts see this open block.
+    -- If the items `xs` were written directly after the front items, then `filled` is a valid open
+    -- block, and contracts see it as `filled-seen`.
     pub fill-step : b.slots ≡ laid h.front_end (full xs) h.block.slots → Found filled filled-seen
     fill-step now =
         let v : Open T A = open_of h in
@@ -738,8 +723,8 @@ module _ {T A : Type 0} where
       len = h.len + count;
     }
 
-    -- `widened-seen` is how contracts see the open block `widened`. The gap before the tail items
-    -- of `widened` is `count` slots longer than the gap before the tail items of `h`.
+    -- `widened-seen` is how contracts see the open block `widened`. The gap before its tail items
+    -- is `count` slots longer than in the open block `h`.
     abbrev pub widened-seen : Open T A
     widened-seen =
         let v : Open T A = open_of h in

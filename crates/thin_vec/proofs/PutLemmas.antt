@@ -1,7 +1,5 @@
--- These lemmas are about loops that put items into the empty slots of a block. The first lemmas
--- bound the number of items that such a loop takes from an iterator. The other lemmas state what
--- the slots contain while a loop moves the items of a `Vec` into these slots, beginning with the
--- last item.
+-- These lemmas are about loops that put items into the empty slots of a block. They state how many
+-- items a loop takes and what the slots contain.
 use Rattle.std.proofs.Common.{◌≡◌, ℕ, ◌+◌, ◌<◌, ◌≤◌, List, [], ◌∷◌, ◌++◌, length, take, drop, Option, Some, None, sym, ap, ◌∙◌, append_assoc, arith, get_or, length-append}
 use Rattle.std.proofs.lemmas.List.{append-nil, length-take-le, length_push, set_at, take_more}
 use lib.ListN.{set}
@@ -25,9 +23,8 @@ module _ {S X : Type 0} {steps : S → Option X → S → Type 0} {can : S → T
       go true full short = omega (arith, short refl)
       go false full short = omega (arith, full refl)
 
-  -- `filled-room` is a lemma about `IsFilledBy`, which describes a loop that moves items into empty
-  -- slots. If `m` equals `n`, and `IsFilledBy` holds for `m` slots, then it also holds for `n`
-  -- slots.
+  -- If `IsFilledBy`, which describes a loop that moves items into empty slots, holds for `m` slots,
+  -- and `m` equals `n`, then it holds for `n` slots.
   abbrev pub filled-room : {m n : ℕ} → m ≡ n → IsFilledBy steps can remaining m s f
       → IsFilledBy steps can remaining n s f
   filled-room same by = record {
@@ -40,9 +37,8 @@ module _ {S X : Type 0} {steps : S → Option X → S → Type 0} {can : S → T
   }
 
 module _ {T : Type 0} where
-  -- Suppose that `i` is the index of a slot in `s`, and that `k` is `i + 1`. Writing the slots `ys`
-  -- from index `k` onward, and then the slot `y` at index `i`, has the same result as writing the
-  -- slots `y ∷ ys` from index `i` onward.
+  -- If `i` is the index of a slot in `s`, then writing `ys` from index `i + 1` onward, and then `y`
+  -- at index `i`, is the same as writing `y ∷ ys` from index `i` onward.
   laid-before : (i k : ℕ) (y : Option T) (ys s : List (Option T)) → k ≡ i + 1 → i < length s
       → set (laid k ys s) i y ≡ laid i (y ∷ ys) s
   laid-before i k y ys s next low =
@@ -74,10 +70,8 @@ module _ {T : Type 0} where
         row = sym (laid-none (start + length xs) s);
       }
 
-  -- `IsMoving` is the invariant of a loop that moves the items `xs` into slots, beginning with the
-  -- last item. Suppose that it holds, that there are enough slots, and that `v` is the next item to
-  -- be moved. If `v` is moved into its slot, which is slot `i`, then `IsMoving` holds again. The
-  -- items `left` then remain to be moved.
+  -- `IsMoving`, the invariant of a loop that moves the items `xs` into slots, still holds after the
+  -- next item `v` is moved into slot `i`. The items `left` remain.
   pub moving-next : {xs : List T} (left : List T) {start : ℕ} (i : ℕ) (v : T)
       {r s : List (Option T)} → IsMoving xs (left ++ v ∷ []) start r s → i ≡ start + length left
       → start + length xs ≤ length r → IsMoving xs left start r (set s i (Some v))

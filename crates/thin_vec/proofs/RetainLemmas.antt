@@ -1,7 +1,5 @@
--- These lemmas state which items are kept when a closure tests the items of a list, and how the
--- results of consecutive tests combine. In this file, `R` describes the calls to the closure, and
--- `s`, `t` and `u` are states of the closure. To test an item is to call the closure with this
--- item.
+-- These lemmas state which items of a list are kept when a closure tests them. `R` describes the
+-- calls to the closure, and `s`, `t` and `u` are its states.
 use Rattle.std.proofs.Common.{◌≡◌, ℕ, zero, suc, ◌+◌, ◌<◌, ◌≤◌, Bool, true, false, List, [], ◌∷◌, ◌++◌, length, take, drop, refl, sym, ap, subst, ◌∙◌, arith, length-append, append_assoc}
 use Rattle.std.proofs.lemmas.Bool.{ne_eqb}
 use Rattle.std.proofs.lemmas.List.{append-nil, drop_at, length-drop, length-take-le, map-append, map_push, nil_from_length, take-append-drop, take_at}
@@ -65,9 +63,8 @@ none-left [] none = refl
 none-left (x ∷ xs) none = absurd (none (omega arith))
 
 module _ {T : Type 0} where
-  -- A verdict says whether an item is kept, and `left_at true a` is the list of the items that the
-  -- verdicts `a` keep. The items that the verdicts `a ++ b` keep are the items that `a` keeps,
-  -- followed by the items that `b` keeps.
+  -- The items that the verdicts `a ++ b` keep are the items that `a` keeps, followed by the items
+  -- that `b` keeps. (A verdict says whether an item is kept.)
   pub left_at-append : (a b : Verdicts T) → left_at true (a ++ b) ≡ left_at true a ++ left_at true b
   left_at-append [] b = refl
   left_at-append ((true, x) ∷ a) b = ap (λ (l : List T). x ∷ l) (left_at-append a b)
@@ -92,9 +89,8 @@ module _ {T : Type 0} where
   trues-stay [] = refl
   trues-stay (x ∷ xs) = ap suc (trues-stay xs)
 
-  -- `moved_down` counts the kept items after the first removed item, because these items are moved
-  -- down. The verdicts `stay xs` keep all items `xs`, so none of these items is moved down. The
-  -- count for `stay xs ++ a` is therefore the count for `a` alone.
+  -- `moved_down` counts the kept items after the first removed item. Putting the verdicts
+  -- `stay xs`, which keep all items `xs`, before the verdicts `a` does not change this number.
   pub moved_down-stay : (xs : List T) (a : Verdicts T) → moved_down (flags_of (stay xs ++ a))
       ≡ moved_down (flags_of a)
   moved_down-stay [] a = refl
@@ -121,16 +117,15 @@ module _ {S T : Type 0} (R : S → T → Bool → S → T → Type 0) where
       ap (λ (c : Verdicts T). c ++ b) h.6,
     )
 
-  -- `Asked` states that all items of a list were tested. It holds for the list `x ∷ []` if the item
-  -- `x` was tested with the result `b` and was left as `y`.
+  -- If the item `x` was tested with the result `b` and left as `y`, then `Asked` holds: all items
+  -- of the list `x ∷ []` were tested.
   pub asked-one : (s t : S) (x y : T) (b : Bool) → R s x b t y → Asked R s (x ∷ []) ((b, y) ∷ []) t
   asked-one s t x y b h = (b, y, t, [], h, (refl, refl), refl)
 
   -- The following definitions and lemmas are about adjacent items that a closure tests and keeps.
 
-  -- `Stays` states that the items `k..m` of the list `xs` were tested, and that all of them were
-  -- kept. The tests changed the list from `xs` to `ys`, and the state of the closure from `s` to
-  -- `t`.
+  -- `Stays` holds if the items `k..m` of the list `xs` were tested and kept. The tests turned `xs`
+  -- into `ys`, and the closure's state `s` into `t`.
   pub record Stays (k m : ℕ) (s : S) (xs : List T) (t : S) (ys : List T) : Type 0 where
     pub before : List T
     pub run : List T
@@ -159,8 +154,8 @@ module _ {S T : Type 0} (R : S → T → Bool → S → T → Type 0) where
       }
 
   module _ (k m : ℕ) (s : S) (xs : List T) (t : S) (ys : List T) (h : Stays k m s xs t ys) where
-    -- `asked-part` is the list of all items before index `m`. It consists of the items before index
-    -- `k`, which were not tested, followed by the items `k..m` as the tests left them.
+    -- `asked-part` is the list of all items before index `m`: the untested items before index `k`,
+    -- followed by the tested items `k..m`.
     abbrev asked-part : List T
     asked-part = h.before ++ h.left
 
@@ -172,9 +167,8 @@ module _ {S T : Type 0} (R : S → T → Bool → S → T → Type 0) where
     parted : ys ≡ asked-part ++ h.more
     parted = h.now ∙ sym (append_assoc h.before h.left h.more)
 
-    -- Suppose that `a` is the test of the item at index `m` of the tested list. Then this list is
-    -- split directly before this item: `asked-part` contains the items before it, and `h.more`
-    -- contains the item itself, followed by the items `a.after`.
+    -- If `a` is the test of the item at index `m`, then `asked-part` contains the items before it,
+    -- and `h.more` is this item, followed by `a.after`.
     next-parts : (b : Bool) (u : S) (zs : List T) (a : IsAskedAt R m t ys b u zs)
         → (a.before ≡ asked-part) × (h.more ≡ a.item ∷ a.after)
     next-parts b u zs a =
@@ -191,8 +185,8 @@ module _ {S T : Type 0} (R : S → T → Bool → S → T → Type 0) where
     next-now b u zs a = a.now ∙ (ap (λ (l : List T). l ++ a.left ∷ a.after) (next-parts b u zs a).0
         ∙ append_assoc h.before h.left (a.left ∷ a.after))
 
-    -- If `Stays` holds for the items `k..m`, and the test of the item at index `m` decides to keep
-    -- this item, then `Stays` holds for the items `k..m + 1`.
+    -- If `Stays` holds for the items `k..m`, and the test of the item at index `m` keeps it, then
+    -- `Stays` holds for the items `k..m + 1`.
     pub stays-more : (u : S) (zs : List T) → IsAskedAt R m t ys true u zs
         → Stays k (m + 1) s xs u zs
     stays-more u zs a =
@@ -235,8 +229,8 @@ module _ {S T : Type 0} (R : S → T → Bool → S → T → Type 0) where
           now = next-now false u zs a;
         }
 
-    -- Suppose that the items `k..m` were tested and kept. If the list has no item at index `m`,
-    -- then `AskedUpTo` holds: the tests stopped at the end of the list.
+    -- If the items `k..m` were tested and kept, and the list has no item at index `m`, then
+    -- `AskedUpTo` holds: the tests stopped at the end of the list.
     pub stays-end : length ys ≤ m → AskedUpTo R k m s xs t ys
     stays-end short =
         let none : h.more ≡ [] =
@@ -280,16 +274,14 @@ module _ {S T : Type 0} (R : S → T → Bool → S → T → Type 0) where
       ap suc (stay-count xs h.2 t ys
       (subst (λ (a : Verdicts T). Asked R h.2 xs a t) (sym (cons-tail h.6)) h.5))
 
-  -- `Stops R u b t e` describes the end of a sequence of tests. `b` is the list of the items after
-  -- the kept items. If `b` is not empty, then its first item was tested and is to be removed. `e`
-  -- is the list `b` after this test. The lemma states that `e` and `b` have the same length.
+  -- The test that ends a sequence of tests does not change the number of items: the list `b` of the
+  -- items after the kept items is as long as the resulting list `e`.
   stop-count : (u : S) (b : List T) (t : S) (e : List T) → Stops R u b t e → length e ≡ length b
   stop-count u [] t e h = ap length h.0
   stop-count u (x ∷ b) t e h = ap length h.2
 
-  -- Suppose that a closure tested the items of the list `xs` from index `k` onward, up to the first
-  -- item to be removed. Then the list `ys` of the items after the tests has the same length as
-  -- `xs`.
+  -- If a closure tested the items of `xs` from index `k` up to the first item to be removed, then
+  -- the resulting list `ys` has the same length as `xs`.
   pub runs-count : (k m : ℕ) (s : S) (xs : List T) (t : S) (ys : List T) → AskedUpTo R k m s xs t ys
       → length ys ≡ length xs
   runs-count k m s xs t ys r =
@@ -316,9 +308,8 @@ module _ {S T : Type 0} (R : S → T → Bool → S → T → Type 0) where
   two-stay s xs t ys u zs a b = stays-more 0 1 s xs t ys (one-stays s xs t ys a) u zs b
 
   module _ (m n : ℕ) where
-    -- Suppose that all items before index `m` were tested and kept. If the tests from index `m`
-    -- onward kept all items before index `n` and stopped at `n`, then the tests from index 0 onward
-    -- also kept all items before index `n` and stopped at `n`.
+    -- If all items before index `m` were tested and kept, and the tests from index `m` onward
+    -- stopped at index `n`, then the tests from index 0 onward also stopped at `n`.
     pub runs-join : (s : S) (xs : List T) (t : S) (ys : List T) (u : S) (zs : List T)
         → Stays 0 m s xs t ys → AskedUpTo R m n t ys u zs → AskedUpTo R 0 n s xs u zs
     runs-join s xs t ys u zs h r =
@@ -377,8 +368,8 @@ module _ {S T : Type 0} (R : S → T → Bool → S → T → Type 0) where
     run-long : length r.left ≡ m
     run-long = omega (arith, r.reached)
 
-    -- After the tests, the list `ys` consists of the kept items `r.left`, followed by `r.end`. The
-    -- list `r.end` contains the item to be removed, if there is one, and the untested items.
+    -- After the tests, the list `ys` consists of the kept items `r.left`, followed by `r.end`: the
+    -- item to be removed, if any, and the untested items.
     run-now : ys ≡ r.left ++ r.end
     run-now = r.now ∙ ap (λ (l : List T). l ++ (r.left ++ r.end)) run-none
 
@@ -396,9 +387,8 @@ module _ {S T : Type 0} (R : S → T → Bool → S → T → Type 0) where
     pub run-end : drop m ys ≡ r.end
     run-end = ap (drop m) run-now ∙ drop_at r.left r.end m run-long
 
-    -- Suppose that `b` is the list of the items after the kept items. The last test left this list
-    -- as `e`, which is `v ∷ rest`. Then `b` was `x ∷ rest` for some item `x`, and the last test
-    -- returned false for `x` and left this item as `v`.
+    -- If the last test turned the list `b` into `v ∷ rest`, then `b` was `x ∷ rest` for some item
+    -- `x`, and the test returned false for `x` and left it as `v`.
     pub stop-goes : (u : S) (b e : List T) (v : T) (rest : List T) → Stops R u b t e → e ≡ v ∷ rest
         → (x : T) × (b ≡ x ∷ rest) × R u x false t v
     stop-goes u [] e v rest h k = absurd (cons-not-nil (sym k ∙ h.0))
@@ -433,10 +423,9 @@ module _ {S T : Type 0} (R : S → T → Bool → S → T → Type 0) where
               );
         }
 
-    -- `Stops R u b t e` describes the end of a sequence of tests. `b` is the list of the items
-    -- after the kept items. If `b` is not empty, then its first item was tested and is to be
-    -- removed. This test turned the list `b` into `e`. If `e` is empty, then `b` is also empty, and
-    -- the state of the closure did not change: `t` is equal to `u`.
+    -- `Stops R u b t e` describes the end of a sequence of tests, which left the items `b` after
+    -- the kept items as `e`. If `e` is empty, then `b` is also empty, and the state of the closure
+    -- did not change: `t` is `u`.
     pub stop-ends : (u : S) (b e : List T) → Stops R u b t e → e ≡ [] → (b ≡ []) × (t ≡ u)
     stop-ends u [] e h k = (refl, h.1)
     stop-ends u (x ∷ b) e h k = absurd (cons-not-nil (sym h.2 ∙ k))
@@ -458,11 +447,8 @@ module _ {S T : Type 0} (R : S → T → Bool → S → T → Type 0) where
   -- list during an edit.
 
   module _ {A : Type 0} (v w : Open T A) where
-    -- `Sifts` relates an open block before some tests and removals to the open block after them.
-    -- Suppose that middle items of the open block `v` were tested in order. The `m` kept items,
-    -- `kept`, were moved to the end of the front items, at the cost of one move each. The other
-    -- tested items were removed. If the resulting open block `w` has a gap before its middle items,
-    -- then `Sifts` relates `v` to `w`.
+    -- If the middle items of the open block `v` were tested, and each was moved to the front items
+    -- or removed, then `Sifts` (the effect of tests and removals) relates `v` to the result `w`.
     pub sifts-of : (m : ℕ) (s t : S) (kept : List T) → Part m s v.rest t kept w.rest
         → 0 < w.gap → w ≡ record v {
           front = v.front ++ kept;
@@ -498,10 +484,8 @@ module _ {S T : Type 0} (R : S → T → Bool → S → T → Type 0) where
     moved : w.cost ≡ moving h.count v.cost
     moved = ap (λ u. u.cost) h.now ∙ moving-after v.gap h.count v.cost gap
 
-    -- `Sifts` relates an open block to the open block after some tests and removals. Suppose that
-    -- tests turned the open block `v` into `w`, and stopped at `value`, the first middle item of
-    -- `w`, because it is to be removed. If removing `value` turns `w` into `z`, then `Sifts`
-    -- relates `v` to `z`.
+    -- If tests turned the open block `v` into `w`, and removing the item `value` turned `w` into
+    -- `z`, then `Sifts` (the effect of tests and removals) relates `v` to `z`.
     pub advanced-goes : (value : T) (z : Open T A) → w.rest ≡ value ∷ z.rest
         → z ≡ record w { rest = z.rest; gap = w.gap + 1 } → Sifts R s v t z
     advanced-goes value z rest same =
@@ -512,9 +496,8 @@ module _ {S T : Type 0} (R : S → T → Bool → S → T → Type 0) where
         (same ∙ (λ i. record (h.now i)
         { gap = sym (ap (λ u. u.gap) same) i; rest = z.rest; cost = moved i }))
 
-    -- `Sifts` relates an open block before some tests and removals to the open block after them. If
-    -- the open block `w` after the tests has no middle items, then the tests found no item to be
-    -- removed. In this case, `Sifts` relates the open block `v` before the tests to `w`.
+    -- If tests turned the open block `v` into `w`, and `w` has no middle items, then `Sifts` (the
+    -- effect of tests and removals) relates `v` to `w`.
     pub advanced-ends : w.rest ≡ [] → Sifts R s v t w
     advanced-ends none =
         sifts-of v w h.count s t kept
@@ -532,9 +515,8 @@ module _ {S T : Type 0} (R : S → T → Bool → S → T → Type 0) where
       runs-count 0 h.count s v.rest t h.left h.run,
     )
 
-  -- `Sifts` relates an open block before some tests and removals to the open block after them.
-  -- Before the first test, `Sifts` relates an open block `v` to `v` itself if `v` has a gap of
-  -- empty slots before its middle items.
+  -- `Sifts`, which relates an open block before some tests and removals to the open block after
+  -- them, relates `v` to itself before the first test.
   pub sifts-start : {A : Type 0} (s : S) (v : Open T A) → 0 < v.gap → Sifts R s v s v
   sifts-start s v gap =
       record {
@@ -547,8 +529,8 @@ module _ {S T : Type 0} (R : S → T → Bool → S → T → Type 0) where
             { front = sym (append-nil v.front) i; cost = sym (moving-none v.cost) i };
       }
 
-  -- `Sifts` relates an open block before some tests and removals to the open block after them. It
-  -- is transitive: if `Sifts` relates `v` to `w`, and `w` to `z`, then it relates `v` to `z`.
+  -- `Sifts`, the effect of tests and removals, is transitive: if it relates the open block `v` to
+  -- `w`, and `w` to `z`, then it relates `v` to `z`.
   pub sifts-then : {A : Type 0} {s t u : S} {v w z : Open T A} → Sifts R s v t w
       → Sifts R t w u z → Sifts R s v u z
   sifts-then {s = s} {t} {u} {v} {w} {z} h k =
@@ -585,10 +567,9 @@ module _ {S T : Type 0} (R : S → T → Bool → S → T → Type 0) where
     Passed = w ≡ record v
         { front = v.front ++ take m ys; gap = w.gap; rest = w.rest }
 
-    -- `IsSifted` relates an open block to the open block that results from testing all its middle
-    -- items. Let `value` be the first middle item of `v` that is to be removed. If removing `value`
-    -- and then testing all later middle items results in the open block `z`, then `IsSifted`
-    -- relates `v` to `z`.
+    -- If removing `value`, the first item to be removed, and then testing all later middle items
+    -- turns the open block `v` into `z`, then `IsSifted` (the effect of all tests) relates `v` to
+    -- `z`.
     pub sifted-goes : (value : T) (u : S) (z : Open T A) → Passed → drop m ys ≡ value ∷ w.rest
         → Sifts R t w u z → z.rest ≡ [] → IsSifted R s v u z
     unfolding part-goes
@@ -625,9 +606,8 @@ module _ {S T : Type 0} (R : S → T → Bool → S → T → Type 0) where
               }));
         }
 
-    -- `IsSifted` describes tests of all middle items of an open block, and the removal of the items
-    -- that are not kept. If the tests found no item to be removed, then all items were kept, and
-    -- `IsSifted` relates the open block `v` before the tests to the open block `w` after them.
+    -- If the tests found no item to be removed, then `IsSifted` (the effect of all tests) relates
+    -- the open block `v` before them to the open block `w` after them.
     pub sifted-ends : Passed → drop m ys ≡ [] → w.rest ≡ [] → IsSifted R s v t w
     unfolding part-ends
     sifted-ends p k none =
@@ -647,9 +627,8 @@ module _ {S T : Type 0} (R : S → T → Bool → S → T → Type 0) where
           });
         }
 
--- In this module, `R` describes the calls to a closure. A wrapper is a struct that calls this
--- closure and returns the result of the closure. `J` is the type of the wrapper, and `inside` maps
--- each state of the wrapper to the state of the closure.
+-- In this module, `J` is the type of a struct that wraps a closure and returns its results.
+-- `inside` maps each state of this wrapper to the state of the closure.
 module _ {J S T : Type 0} (R : S → T → Bool → S → T → Type 0) (inside : J → S) where
   -- `through` describes the calls to a wrapper of a closure. Each state of the wrapper contains a
   -- state of the closure. `through` applies `R`, the relation that describes the calls to the
@@ -657,17 +636,16 @@ module _ {J S T : Type 0} (R : S → T → Bool → S → T → Type 0) (inside 
   abbrev through : J → T → Bool → J → T → Type 0
   through s x b t y = R (inside s) x b (inside t) y
 
-  -- If a wrapper of a closure was called with the items `xs` and returned the verdicts `a`, then
-  -- the closure itself was called with the same items and returned the same verdicts.
+  -- If a wrapper of a closure returned the verdicts `a` for the items `xs`, then the closure itself
+  -- returned the same verdicts for them.
   pub asked-through : (xs : List T) (s t : J) (a : Verdicts T) → Asked through s xs a t
       → Asked R (inside s) xs a (inside t)
   asked-through [] s t a h = (h.0, ap inside h.1)
   asked-through (x ∷ xs) s t a h =
       (h.0, h.1, inside h.2, h.3, h.4, asked-through xs h.2 t h.3 h.5, h.6)
 
-  -- Suppose that a wrapper calls a closure and returns the result of the closure. If a call to
-  -- `retain` with this wrapper turns the list `v` into the list `w`, then a call to `retain` with
-  -- the closure itself also turns `v` into `w`.
+  -- If `retain` with a wrapper of a closure turns the list `v` into `w`, then `retain` with the
+  -- closure itself also turns `v` into `w`.
   pub retained-through : {A : Type 0} (s : J) (v w : Thin T A) (t : J)
       → IsRetainedTo through s v w t → IsRetained R (inside s) v w
   retained-through s v w t h = (
@@ -684,9 +662,8 @@ module _ {J S T : Type 0} (R : S → T → Bool → S → T → Type 0) (inside 
 
 -- In this module, `R` describes the calls to a closure that only reads the item.
 module _ {S T : Type 0} (R : S → T → Bool → S → Type 0) where
-  -- Suppose that the items `xs` were tested by a closure that only reads them. Then the closure
-  -- returned one Boolean flag for each item, in order. The kept items are the items of `xs` whose
-  -- flag is true.
+  -- If a closure that only reads its items tested the items `xs`, then it returned one flag for
+  -- each item. The kept items are those whose flag is true.
   told : (xs : List T) (s t : S) (a : Verdicts T) → Asked (Looks R) s xs a t
       → (length (flags_of a) ≡ length xs) × ReturnsInTurn R s (flags_of a) xs t
       × (left_at true a ≡ items_where_true (flags_of a) xs)
@@ -711,10 +688,8 @@ module _ {S T : Type 0} (R : S → T → Bool → S → Type 0) where
       first true y x a xs e f = λ i. e i ∷ f i
       first false y x a xs e f = f
 
-  -- Suppose that `retain` was called with a closure that only reads the items, and that it turned
-  -- the list `v` into the list `w`. Then std's `IsFiltered` holds: the items of `w` are the items
-  -- of `v` for which the closure returned true. Lemmas about `IsFiltered` are in the file
-  -- `lemmas/Fn` of std's proofs.
+  -- If `retain`, called with a closure that only reads the items, turned the list `v` into `w`,
+  -- then `w` contains the items of `v` for which the closure returned true.
   pub retained_filtered : {A : Type 0} (s : S) (v w : Thin T A) → IsRetained (Looks R) s v w
       → IsFiltered R s v.items w.items
   retained_filtered s v w h =

@@ -6,15 +6,15 @@ use Rattle.std.specs.List.{refill}
 use Rattle.thin_vec.specs.Lends.{with_items}
 use Rattle.thin_vec.specs.ThinVec.{Thin}
 
--- If the list `ws` has the same length as the list `xs`, then writing the items of `ws` over the
--- items of `xs` replaces all items of `xs`. The result is exactly `ws`.
+-- If the lists `ws` and `xs` have the same length, then writing `ws` over the items `xs` yields
+-- exactly `ws`.
 pub refill_all : {T : Type 0} (xs ws : List T) → length ws ≡ length xs
     → refill (length xs) xs ws ≡ ws
 refill_all xs ws same =
     ap (λ n. take n (ws ++ drop (length ws) xs)) (sym same) ∙ take-append_seam ws _
 
 -- If `ws` has the same length as the list `v`, then writing `ws` over the items of `v` yields a
--- list with exactly the items `ws`. This lemma corresponds to std's `with_items_is`.
+-- list with exactly the items `ws`.
 pub with_items_is : {T A : Type 0} (v : Thin T A) (ws : List T) → length ws ≡ length v.items
     → (with_items v ws).items ≡ ws
 with_items_is v ws same = refill_all v.items ws same

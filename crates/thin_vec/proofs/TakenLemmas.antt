@@ -15,8 +15,7 @@ module _ {T A : Type 0} where
   taken_front s (x ∷ xs) t y = y.1 ∙ ap (λ ys. x ∷ ys) (taken_front y.0 xs t y.2)
 
   -- If calls to `next` on the iterator `s` yielded the items `xs` and then returned `None`, then
-  -- `s` held exactly the items `xs` before these calls. This lemma corresponds to std's
-  -- `All-taken`.
+  -- `s` held exactly the items `xs`.
   pub all_taken : (s : Thin T A) (xs : List T) → Drains (YieldsFirst rest) s xs → xs ≡ s.items
   all_taken s xs d = sym (taken_front s xs d.1.0 d.1.1
       ∙ (ap (λ ys. xs ++ ys) d.1.2.0 ∙ append-nil xs))

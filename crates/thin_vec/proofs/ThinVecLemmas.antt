@@ -1,6 +1,5 @@
--- These lemmas are about the capacity of a list, and about the cost of growing the list: requests
--- for memory and copied items. The lemmas are for the proofs of this crate and of other crates. The
--- definitions that they use are in `specs/ThinVec.antt` and `specs/Cheap.antt`.
+-- These lemmas are about the capacity of a list, and about the cost of its growth: requests for
+-- memory and copied items. Other crates may use them.
 use Rattle.thin_block.proofs.Outcomes.{some-same}
 use Rattle.std.proofs.Common.{if◌then◌else◌, Bool, ◌≡◌, ℕ, zero, suc, ◌+◌, ◌*◌, ◌^◌, ◌<◌, ◌≤◌, true, false, Some, ap, List, [], arith, eqb, inl, inr, length, refl, subst, sym, ◌∙◌}
 use Rattle.std.specs.Borrow.{RattleType}
@@ -27,9 +26,8 @@ module _ {T A : Type 0} (R : RattleType) (b : Block T A) (a : A) where
       in
       subst (IsWithin R) is here
 
-  -- Suppose that a list has the items `xs` and the capacity `c` after an operation. If a block of
-  -- capacity `c` is small enough to be allocated, then this list satisfies `IsWithin`: its length
-  -- and its capacity are within their bounds.
+  -- If an operation leaves a list with the items `xs` and the capacity `c`, and a block of capacity
+  -- `c` can be allocated, then the length and the capacity are within their bounds (`IsWithin`).
   pub within-settled : (xs : List T) (c : ℕ) → Fits R c → Settled b a xs c
       → IsWithin R (thin_of b a)
   within-settled xs c fits after =
@@ -46,9 +44,8 @@ module _ {T A : Type 0} (R : RattleType) (b : Block T A) (a : A) where
     fits = subst (Fits R) (sym (after.cap ∙ ap (λ (w : Thin T A). w.capacity) is)) kept.fits;
   }
 
-  -- `IsWithin` states that the length and the capacity of a list are within their bounds. Suppose
-  -- that the block `b` of the list `v` is small enough to be allocated. Then `IsWithin` holds both
-  -- before and after an operation that changes the items to `xs` but does not change the capacity.
+  -- If the block `b` of the list `v` is small enough to be allocated, then `IsWithin` (length and
+  -- capacity are in bounds) holds before and after an operation that keeps the capacity.
   pub within-kept : (b' : Block T A) (v : Thin T A) (xs : List T) → IsThin b a → thin_of b a ≡ v
       → Fits R (length b.slots) → Settled b' a xs (length b.slots) → IsWithin R v
       × IsWithin R (thin_of b' a)
@@ -62,8 +59,8 @@ module _ {T A : Type 0} (R : RattleType) (b : Block T A) (a : A) where
   )
 
 module _ {T A : Type 0} (R : RattleType) (w : Thin T A) where
-  -- `IsWithin` states that the length and the capacity of a list are within their bounds. It holds
-  -- for each list `w` that has no items and a capacity of 0.
+  -- If a list `w` has no items and a capacity of 0, then its length and its capacity are within
+  -- their bounds (`IsWithin`).
   pub within-none : w.items ≡ [] → w.capacity ≡ 0 → IsWithin R w
   within-none none nothing = record {
     room = omega (arith, ap length none);
@@ -71,9 +68,9 @@ module _ {T A : Type 0} (R : RattleType) (w : Thin T A) where
     fits = subst (Fits R) (sym nothing) (fits-none R);
   }
 
-  -- `IsWithin` states that the length and the capacity of a list are within their bounds. Suppose
-  -- that it holds for the list `v`, and that the list `w` has the same capacity as `v`. If the
-  -- length of `w` is at most this capacity, then `IsWithin` also holds for `w`.
+  -- `IsWithin` states that the length and the capacity of a list are within their bounds. If it
+  -- holds for the list `v`, then it also holds for each list `w` whose capacity is that of `v` and
+  -- whose length is at most this capacity.
   pub within-like : (v : Thin T A) → IsWithin R v → w.capacity ≡ v.capacity
       → length w.items ≤ v.capacity → IsWithin R w
   within-like v kept same room =
@@ -143,17 +140,15 @@ module _ {T A : Type 0} (rule : Rule) (R : RattleType) (law : KeepsLaw rule)
       → capacity_for rule R v k ≡ Some c → cost_at v c ≡ v.cost
   cost_at-kept room e = cost_at-same v c (cap-kept room e)
 
-  -- Suppose that the list `v` has no room for `k` more items, and that the growth rule chooses the
-  -- capacity `c`. Then `c` is at least twice the old capacity, and it is enough for the old items
-  -- and `k` more items.
+  -- If the list `v` has no room for `k` more items, then the capacity `c` that the growth rule
+  -- chooses is at least `2 * v.capacity` and at least `length v.items + k`.
   pub cap-grown : v.capacity < length v.items + k → capacity_for rule R v k ≡ Some c
       → (length v.items + k ≤ c) × (2 * v.capacity ≤ c)
   cap-grown more e = let g = ruled-grows rule R v.capacity (length v.items + k) c law more e in
       (g.enough, g.doubled)
 
-  -- Suppose that the list `v` has no room for `k` more items. If it grows to the capacity `c` that
-  -- the growth rule chooses, then its cost increases by one request for memory and by `length
-  -- v.items` copied items.
+  -- If the list `v` grows because it has no room for `k` more items, then its cost increases by one
+  -- request for memory and `length v.items` copied items.
   pub cost_at-grown : v.capacity < length v.items + k → capacity_for rule R v k ≡ Some c
       → cost_at v c ≡ growing (length v.items) v.cost
   cost_at-grown more e =

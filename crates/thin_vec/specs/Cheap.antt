@@ -14,8 +14,7 @@ pub record IsCheapAt (cap : ℕ) (cost : Cost) : Type 0 where
   pub grown : 0 < cap → cost.grown < cap
   pub blocks : 0 < cap → 2 ^ cost.blocks ≤ 2 * cap
 
--- `IsCheap v` states that the capacity and the recorded cost of the list `v` satisfy `IsCheapAt`.
--- Every new list satisfies `IsCheap`, and every call except `reserve_exact`, `shrink_to` and
--- `shrink_to_fit` preserves it.
+-- `IsCheap v` holds if the recorded cost of the list `v` is small for its capacity: few requests
+-- for memory, and few copied items.
 abbrev pub IsCheap : {T A : Type 0} → Thin T A → Type 0
 IsCheap v = IsCheapAt v.capacity v.cost

@@ -1,14 +1,12 @@
--- An open block is the block of a list during an edit. It consists of three parts (the front, the
--- middle run and the tail) with empty slots between them. The comment of `OpenBlock` in
--- `src/open_block.rt` contains a diagram of these parts.
+-- An open block is the block of a list during an edit. It has three parts, the front, the middle
+-- run and the tail, with empty slots between them. (`src/open_block.rt` contains a diagram.)
 use Rattle.std.specs.Prelude.{ℕ, ◌+◌, ◌-◌, ◌==◌, List, ◌++◌, Option, if◌then◌else◌, length, refl}
 use Rattle.std.specs.Coded.{Coded, code_by, coded×, coded_ℕ, coded_list, coded_option}
 use Rattle.thin_block.specs.Cost.{Cost, cost_code, moving}
 use Rattle.thin_block.specs.Slots.{empty, full}
 
--- `Open T A` is the type of the values by which contracts describe open blocks. An open block is
--- the block of a list while a method such as `retain` or `drain` works on the list. `T` is the type
--- of the items, and `A` is the type of the allocator.
+-- A value of `Open T A` describes an open block: the block of a list during an edit such as
+-- `retain`. The item type is `T`, and the allocator type is `A`.
 pub record Open (T A : Type 0) : Type 0 where
   -- The front items: the items before the edited range, and the items that have been kept or
   -- inserted so far.
@@ -71,8 +69,8 @@ module _ {T A : Type 0} where
   abbrev pub range_len : Open T A → ℕ
   range_len v = v.gap + length v.rest + v.gap_after
 
-  -- `row_of v` contains all slots of the open block `v`, in order. Each of the three parts of `v`
-  -- consists of filled slots, and may be followed by empty slots.
+  -- `row_of v` contains all slots of the open block `v`, in order: the filled slots of its three
+  -- parts, and the empty slots after each part.
   abbrev pub row_of : Open T A → List (Option T)
   row_of v = full v.front
       ++ (empty v.gap
@@ -83,13 +81,11 @@ module _ {T A : Type 0} where
   items_of v = v.front ++ (v.rest ++ v.tail)
 
   -- `cost_closed v` is the recorded cost of the open block `v` after the gap between its front and
-  -- its middle run has been closed. If this gap has at least one slot, each item of the middle run
-  -- and of the tail counts as one move.
+  -- its middle run has been closed.
   abbrev pub cost_closed : Open T A → Cost
   cost_closed v = if v.gap == 0 then v.cost else moving (length v.rest + length v.tail) v.cost
 
   -- `cost_drained v` is the recorded cost of the open block `v` after its middle items have been
-  -- removed, and its tail items have been moved down to follow the front directly. If there is at
-  -- least one slot between the front and the tail of `v`, each tail item counts as one move.
+  -- removed, and its tail items have been moved down to follow the front directly.
   abbrev pub cost_drained : Open T A → Cost
   cost_drained v = if range_len v == 0 then v.cost else moving (length v.tail) v.cost

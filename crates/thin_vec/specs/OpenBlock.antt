@@ -1,6 +1,5 @@
--- An open block is the block of a list during an edit. In contracts, it is a value of the type
--- `Open`. The definitions in this file state which slots of an open block contain items and which
--- are empty.
+-- These definitions state which slots of an open block (the block of a list during an edit) contain
+-- items, and which are empty.
 pub mod Dedup
 pub mod Sift
 use Rattle.std.specs.Prelude.{◌≡◌, ◌+◌, ◌-◌, ◌≤◌, drop, length, slice_range, take}
@@ -23,10 +22,8 @@ module _ {T A : Type 0} where
         cost = h.block.cost;
       }
 
-  -- `Shows h v` states that the value `v` describes the open block `h`. The slots of `h` hold the
-  -- items of the three parts of `v`: the front, the middle run and the tail. The slots between
-  -- these parts are empty. The indices that are stored in `h` say where each part begins and ends.
-  -- The tail ends at or before the end of the block.
+  -- `Shows h v` holds if the value `v` describes the open block `h`. The slots of `h` hold the
+  -- items of the front, the middle run and the tail of `v`, and all other slots are empty.
   pub record Shows (h : Inside T A) (v : Open T A) : Type 0 where
     pub row : h.block.slots ≡ row_of v
     pub front : length v.front ≡ h.front_end
@@ -36,8 +33,7 @@ module _ {T A : Type 0} where
     pub tail : h.tail_start + length v.tail ≡ h.len
     pub room : h.len ≤ v.capacity
 
-  -- `IsOpen h` is the invariant of the type `OpenBlock`. It states that each slot in the front, the
-  -- middle run and the tail of the open block `h` contains an item, and that all other slots of `h`
-  -- are empty.
+  -- `IsOpen h`, the invariant of the type `OpenBlock`, states that exactly the slots in the front,
+  -- the middle run and the tail of the open block `h` contain items.
   abbrev pub IsOpen : Inside T A → Type 0
   IsOpen h = Shows h (open_of h)

@@ -5,21 +5,19 @@ use Rattle.std.specs.Iterator.{Count, IsFinite, Yields, YieldsThen, size}
 use Rattle.std.specs.declared.option.Option.TheVariants.{None}
 use Rattle.thin_vec.specs.declared.put.Filled.{Filled}
 
--- `Gives steps s xs ended t` states that calls to `next` on the iterator `s` yielded the items `xs`
--- and changed the iterator to `t`. Here, `steps` describes a single call to `next`. If `ended` is
--- true, one more call to `next` returned `None`.
+-- `Gives steps s xs ended t` states that the iterator `s` yielded the items `xs` and became `t`. If
+-- `ended` is true, one more call to `next` returned `None`. `steps` describes a single call to
+-- `next`.
 abbrev pub Gives : {S X : Type 0} → (S → Option X → S → Type 0) → S → List X → Bool → S → Type 0
 Gives steps s xs true t = YieldsThen steps s xs None t
 Gives steps s xs false t = Yields steps s xs t
 
 -- `IsFilledBy steps can remaining room s f` describes a loop that moves items of the iterator `s`
--- into `room` empty slots. The loop ends when all slots are full, or when the iterator returns
--- `None`. The result `f` of the loop contains the rest of the iterator, and says whether the
--- iterator has ended.
+-- into `room` empty slots, until all are full or `next` returns `None`. The result `f` contains the
+-- rest of the iterator.
 --
--- The parameter `steps` describes a single call to `next`. `can x` states that `next` may be called
--- on the iterator `x`. `remaining x` is an upper bound on the number of items that `x` still
--- yields.
+-- `steps` describes one call to `next`, `can x` states that `next` may be called on `x`, and
+-- `remaining x` bounds the number of items that `x` still yields.
 pub record IsFilledBy {S X : Type 0} (steps : S → Option X → S → Type 0) (can : S → Type 0)
     (remaining : S → Count) (room : ℕ) (s : S) (f : Filled S) : Type 0 where
   -- The items that were put into the slots, in the order in which the iterator yielded them.
@@ -29,8 +27,7 @@ pub record IsFilledBy {S X : Type 0} (steps : S → Option X → S → Type 0) (
   -- least one slot is still empty.
   pub full : f.ended ≡ false → length items ≡ room
   pub short : f.ended ≡ true → length items < room
-  -- Suppose that the iterator has not ended. Then `next` may be called on `f.rest`, the rest of the
-  -- iterator. `remaining f.rest`, the upper bound on the number of items that the rest yields, is
-  -- finite. This bound is at most `remaining s` minus the number of items that the loop moved.
+  -- If the iterator has not ended, `next` may be called on its rest `f.rest`, and the bound on the
+  -- number of items that `f.rest` yields is finite.
   pub asked : f.ended ≡ false → can f.rest × IsFinite (remaining f.rest)
   pub nearer : f.ended ≡ false → length items + size (remaining f.rest) ≤ size (remaining s)

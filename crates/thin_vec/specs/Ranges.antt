@@ -5,10 +5,8 @@ use Rattle.std.specs.Range.Bound.{end_index, start_index}
 use Rattle.std.specs.declared.option.Option.TheVariants.{None, Some}
 use Rattle.std.specs.declared.ops.Bound.{Bound}
 
--- `range_between start end len` is `Some (i, j)` if `i ≤ j` and `j ≤ len`, and `None` otherwise.
--- Here, `i` is the inclusive start and `j` is the exclusive end of the range with the bounds
--- `start` and `end`, in a list of `len` items. The indices are natural numbers of any size, so no
--- calculation overflows.
+-- `range_between start end len` is `Some (i, j)` if the range with the bounds `start` and `end` is
+-- `i..j`, and `i ≤ j` and `j ≤ len`. Otherwise it is `None`.
 abbrev pub range_between : Bound ℕ → Bound ℕ → ℕ → Option (ℕ × ℕ)
 range_between start end len =
     if nat_le (start_index start) (end_index end len) && nat_le (end_index end len) len

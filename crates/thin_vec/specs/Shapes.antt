@@ -1,6 +1,4 @@
--- These lemmas are about rows of slots in which only the first slots are filled. Such a row
--- consists of its items, followed by empty slots. This file is in `specs/` because a file in
--- `specs/formers/` uses the lemmas.
+-- These lemmas are about rows of slots in which filled slots are followed by empty slots.
 use Rattle.std.specs.Prelude.{◌≡◌, ℕ, suc, zero, List, [], ◌∷◌, ◌++◌, Bool, true, false, Option, length, map, replicate}
 use Rattle.std.specs.declared.option.Option.TheVariants.{Some, None}
 use mathlib.Core.Path.{refl, ap, ◌∙◌}
@@ -8,8 +6,8 @@ use native.Mathlib.Omega.{arith}
 use Rattle.std.specs.Option.{is_some}
 use Rattle.thin_block.specs.Slots.{empty, full, items_in}
 
--- `shape n m` is a list of flags that describes a row of `n` filled slots, followed by `m` empty
--- slots. The flag of a filled slot is true, and the flag of an empty slot is false.
+-- `shape n m` describes a row of `n` filled slots, followed by `m` empty slots: `n` times `true`,
+-- and then `m` times `false`.
 abbrev pub shape : ℕ → ℕ → List Bool
 shape n m = replicate n true ++ replicate m false
 
@@ -39,7 +37,7 @@ front_shape : {X : Type 0} (ys : List X) (m : ℕ)
 front_shape {X} [] m = none_shape X m
 front_shape (y ∷ ys) m = ap (λ l. true ∷ l) (front_shape ys m)
 
--- Suppose that the row of slots `s` consists of `n` filled slots, followed by `m` empty slots. Then
+-- If the row of slots `s` consists of `n` filled slots, followed by `m` empty slots, then
 -- `map is_some s` consists of `n` times `true`, followed by `m` times `false`.
 pub to_shape : {X : Type 0} (s : List (Option X)) (m : ℕ) → s ≡ full (items_in s) ++ empty m
     → map is_some s ≡ shape (length (items_in s)) m
@@ -55,18 +53,16 @@ all_none (x ∷ s) zero e = let n = ap length e in absurd (omega (arith, n))
 all_none (Some x ∷ s) (suc m) e = let n : 1 ≡ 2 = ap head_of e in absurd (omega (arith, n))
 all_none (None ∷ s) (suc m) e = ap (λ l. None ∷ l) (all_none s m (ap tail_of e))
 
--- Suppose that the rows of slots `None ∷ s` and `full ys ++ empty m` have the same length, and that
--- the same slots are filled in both rows. Then the first slot of both rows is empty. So `ys` is
--- empty, and the two rows are equal.
+-- If the same slots are filled in the rows `None ∷ s` and `full ys ++ empty m`, then `ys` is empty,
+-- and the two rows are equal.
 none_first : {X : Type 0} (s : List (Option X)) (ys : List X) (m : ℕ)
     → false ∷ map is_some s ≡ shape (length ys) m → None ∷ s ≡ full ys ++ empty m
 unfolding head_of
 none_first s [] m e = all_none (None ∷ s) m e
 none_first s (y ∷ ys) m e = let n : 2 ≡ 1 = ap head_of e in absurd (omega (arith, n))
 
--- Suppose that the row of slots `s` holds `n` items, and that `map is_some s` consists of `n`
--- copies of `true`, followed by `m` copies of `false`. Then `s` consists of `n` filled slots,
--- followed by `m` empty slots.
+-- If `map is_some s` consists of `n` times `true`, followed by `m` times `false`, then the row `s`
+-- consists of `n` filled slots, followed by `m` empty slots.
 pub from_shape : {X : Type 0} (s : List (Option X)) (m : ℕ)
     → map is_some s ≡ shape (length (items_in s)) m → s ≡ full (items_in s) ++ empty m
 unfolding head_of

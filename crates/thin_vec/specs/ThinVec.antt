@@ -13,10 +13,8 @@ use Rattle.thin_block.specs.Growth.{Rule, exact_capacity, ruled_capacity}
 use Rattle.thin_block.specs.Slots.{IsPacked, items_in}
 use Rattle.thin_block.specs.declared.block.Block.{Block}
 
--- `Thin T A` is the type of the values by which contracts describe a `ThinVec`. Such a value
--- consists of the items in order, the capacity, the allocator, and the recorded cost so far. The
--- cost counts requests for memory, copied items and moved items. `T` is the type of the items, and
--- `A` is the type of the allocator.
+-- A value of `Thin T A` describes a `ThinVec` in contracts: its items, capacity, allocator and
+-- recorded cost. The item type is `T`, and the allocator type is `A`.
 pub record Thin (T A : Type 0) : Type 0 where
   pub items : List T
   pub capacity : ℕ
@@ -32,9 +30,8 @@ thin_code {T} {A} t a =
     (λ p. record { items = p.0; capacity = p.1.0; alloc = p.1.1.0; cost = p.1.1.1 }) (λ _. refl)
 
 module _ {T A : Type 0} where
-  -- `IsThin b a` states that `b` is the block of a list with the allocator `a`. The items of `b`
-  -- fill its first slots, all other slots are empty, and the stored length is the number of items.
-  -- If `b` has memory, the memory came from `a`.
+  -- `IsThin b a` holds if `b` is the block of a list with the allocator `a`: its items fill the
+  -- first slots, all other slots are empty, and the stored length is correct.
   pub record IsThin (b : Block T A) (a : A) : Type 0 where
     pub packed : IsPacked b.slots b.len
     pub from : IsFrom b.alloc a
@@ -57,9 +54,8 @@ module _ {T A : Type 0} where
     pub alloc : v.alloc ≡ a
     pub cost : v.cost ≡ no_cost
 
-  -- `IsWithin R v` states that the length of the list `v` is at most its capacity, that the
-  -- capacity is less than `2 ^ 63`, and that a block with this capacity for items of the type `R`
-  -- is small enough to be allocated. Every list satisfies `IsWithin`.
+  -- `IsWithin R v` holds if the length of the list `v` is at most its capacity, and a block of this
+  -- capacity for items of the type `R` can be allocated.
   pub record IsWithin (R : RattleType) (v : Thin T A) : Type 0 where
     pub room : length v.items ≤ v.capacity
     pub small : v.capacity < 2 ^ 63
@@ -69,23 +65,18 @@ module _ {T A : Type 0} where
   abbrev pub HasRoomFor : Thin T A → ℕ → Type 0
   HasRoomFor v k = length v.items + k ≤ v.capacity
 
-  -- `capacity_for rule R v k` is the capacity of the list `v` after room for `k` more items of the
-  -- type `R` has been reserved. If `v` already has enough room, this is the old capacity.
-  -- Otherwise, the growth rule `rule` chooses the capacity. The result is `None` if the rule
-  -- chooses no capacity, because the capacity would be too large.
+  -- `capacity_for rule R v k` is the capacity of the list `v` after `reserve(k)`, under the growth
+  -- rule `rule`, for items of the type `R`. It is `None` if the capacity would be too large.
   abbrev pub capacity_for : Rule → RattleType → Thin T A → ℕ → Option ℕ
   capacity_for rule R v k = ruled_capacity rule R v.capacity (length v.items + k)
 
-  -- `exact_for R v k` is the capacity of the list `v` after room for exactly `k` more items of the
-  -- type `R` has been reserved. If `v` already has enough room, this is the old capacity.
-  -- Otherwise, it is the length plus `k`. In this case, the result is `None` if a block of this
-  -- capacity would be too large to be allocated.
+  -- `exact_for R v k` is the capacity of the list `v` after `reserve_exact(k)`, for items of the
+  -- type `R`. It is `None` if a block of this capacity would be too large.
   abbrev pub exact_for : RattleType → Thin T A → ℕ → Option ℕ
   exact_for R v k = exact_capacity R v.capacity (length v.items + k)
 
-  -- `cost_at v c` is the recorded cost of the list `v` after a call that sets its capacity to `c`.
-  -- If the capacity changes, the cost includes one more request for memory, and each item counts as
-  -- copied once more.
+  -- `cost_at v c` is the recorded cost of the list `v` after its capacity was set to `c`. If the
+  -- capacity changes, this counts as one request for memory and a copy of each item.
   abbrev pub cost_at : Thin T A → ℕ → Cost
   cost_at v c = if c == v.capacity then v.cost else growing (length v.items) v.cost
 

@@ -1,7 +1,9 @@
-//! The methods that edit a range of a list. Some of these methods return an iterator of the type
-//! `Drain`, `ExtractIf` or `Splice`. During an edit, there may be gaps of empty slots between the
-//! items. A method such as `retain` closes the gaps before it returns. `Drain` and `ExtractIf`
-//! close the gaps when they are dropped. `Splice` closes them when its method `finish` is called.
+//! The methods that edit a range of a list. During an edit, there may be gaps of empty slots
+//! between the items.
+//!
+//! - A method such as `retain` closes the gaps before it returns.
+//! - The iterators `Drain` and `ExtractIf` close the gaps when they are dropped.
+//! - The iterator `Splice` closes the gaps when its method `finish` is called.
 
 mod dedup;
 mod drain;

@@ -42,9 +42,8 @@ pub struct CollectRefused<T, I, A: Allocator = Global> {
     pub list: ThinVec<T, A>,
     /// The reason why the call failed.
     pub cause: ThinVecError,
-    /// The last item that was taken from the iterator. The list had no room for this item. If the
-    /// call could not reserve room for the lower bound of the size hint, it took no item. In this
-    /// case, `in_hand` is `None`.
+    /// The last item taken from the iterator, for which the list had no room. It is `None` if the
+    /// call took no item, because it could not reserve room for the lower bound of the size hint.
     pub in_hand: Option<T>,
     /// The rest of the iterator, which yields the items that have not been taken yet.
     pub rest: I,
@@ -59,14 +58,12 @@ pub struct SpliceRefused<T, I, A: Allocator = Global> {
     /// The items that were collected from the iterator, but could not be moved into the list. The
     /// vector uses the allocator that was passed to `finish`.
     pub held: Vec<T, A>,
-    /// The last item that was taken from the iterator. It comes after the items in `held`, and
-    /// there was no room for it. If the call could not reserve room for several items at once,
-    /// `in_hand` is `None`. These several items are either the items that the size hint promises,
-    /// or the items in `held`.
+    /// The last item taken from the iterator, for which there was no room. It follows the items in
+    /// `held`. It is `None` if the call could not reserve room for several items at once.
     pub in_hand: Option<T>,
-    /// The rest of the iterator, which yields the items that have not been taken yet. If `held` is
-    /// not empty and `in_hand` is `None`, the iterator has returned `None`, and `next` must not be
-    /// called on it again. In all other cases, `next` may be called.
+    /// The rest of the iterator, which yields the items that were not taken. If `held` contains
+    /// items and `in_hand` is `None`, the iterator has ended, and `next` must not be called on it.
+    /// Otherwise `next` may be called.
     pub rest: I,
 }
 

@@ -1,8 +1,6 @@
 //! A growable list that is one pointer wide: its length and its capacity are stored in its
-//! allocation, before the items. Most of its methods have the same names as in Rust's `Vec`.
-//!
-//! The list is a port of the Rust crate thin-vec. If a method does not exist in that Rust crate,
-//! the documentation of the method says so.
+//! allocation, before the items. It is a port of the Rust crate thin-vec. If a method does not
+//! exist in thin-vec, its documentation says so.
 #![tactic(auto)]
 
 mod convert;

@@ -25,15 +25,15 @@ use std::alloc::{Allocator, Global};
 use std::marker::{Model, PhantomData};
 use thin_block::{Block, Doubling, Growth, ThinVecError};
 
-/// A growable list like Rust's `Vec`. If its allocator is zero-sized, as `Global` is, the list is
-/// only one pointer wide. The length and the capacity are stored at the start of the allocation,
-/// which is called the *block* of the list. A list of capacity 0 has no block.
+/// A growable list like Rust's `Vec`, but only one pointer wide if its allocator is zero-sized, as
+/// `Global` is. The length and the capacity are stored at the start of the allocation, called the
+/// *block* of the list. A list of capacity 0 has no block.
 ///
-/// The list owns its items, its block and its allocator. It uses the allocator to make, grow and
-/// free the block. Dropping a list drops its items and frees its block.
+/// The list owns its items, its block and its allocator. Dropping the list drops its items and
+/// frees its block.
 ///
-/// The type `G` is the growth rule. It chooses the new capacity if the list has no room for new
-/// items. The default `Doubling` is the rule of the Rust crate thin-vec.
+/// The growth rule `G` chooses the new capacity if the list has no room for new items. The default
+/// `Doubling` is the rule of the Rust crate thin-vec.
 pub struct ThinVec<T, A: Allocator = Global, G: Growth = Doubling> {
     pub(crate) block: Block<T, A>,
     pub(crate) alloc: A,
@@ -197,9 +197,9 @@ impl<T, A: Allocator, G: Growth> ThinVec<T, A, G> {
     }
 
     /// Appends `value`, which the list then owns. The list must already have room for one more
-    /// item; `reserve(1)` makes such room. So the list does not grow, and the call cannot fail.
+    /// item, for example after `reserve(1)`. The call cannot fail.
     ///
-    /// Rattle's `Vec` has a method of this name, but the Rust crate thin-vec does not.
+    /// The Rust crate thin-vec has no such method.
     pub fn push_reserved(&mut self, value: T)
         requires room { HasRoomFor self.old 1 }
         ensures items { self.new.items ≡ self.old.items ++ value ∷ [] }

@@ -1,6 +1,5 @@
-//! Defines the type `OpenBlock`. While a method such as `retain` edits a range of a list, an
-//! `OpenBlock` owns the block of the list, which is the pointer to the slots. During this time,
-//! there may be empty slots between the items.
+//! Defines the type `OpenBlock`. An `OpenBlock` owns the block of a list while a method such as
+//! `retain` edits a range of the list.
 ghost use Rattle.std.specs.Prelude.{◌≡◌, ◌↔◌, ◌+◌, ◌-◌, ◌==◌, ◌<◌, ◌≤◌, ◌∷◌, ◌++◌, [], IsTrue, drop, if◌then◌else◌, length, slice_range, take};
 ghost use Rattle.std.specs.Iterator.{YieldsFirst, YieldsLast};
 ghost use Rattle.thin_block.specs.Cost.{moving, no_cost};
@@ -147,10 +146,8 @@ impl<T, A: Allocator, G: Growth> ThinVec<T, A, G> {
         block
     }
 
-    // Closes the gap of `block`: moves the items after the gap down to the start of the gap. Then
-    // puts the block back into the list. Before the call, the list must contain no items. If the
-    // list has an allocation of its own before the call, this allocation is freed. The code that
-    // closes a gap of one or two slots is inlined.
+    // Closes the gap of `block`, that is, moves the items after the gap down. Then puts the block
+    // back into the list, which must be empty. Any block that the list had is freed.
     #[inline(always)]
     pub(crate) fn close(&mut self, block: OpenBlock<T, A>)
         requires empty { self.old.items ≡ [] }
@@ -239,8 +236,8 @@ impl<T, A: Allocator> OpenBlock<T, A> {
         self.rest_end = self.tail_start;
     }
 
-    // Closes the gap: moves the items after the gap down to the start of the gap. Then stores the
-    // number of items as the length of the block, and returns the block.
+    // Moves the items after the gap down to the start of the gap. Then stores the number of items
+    // as the length of the block, and returns the block.
     #[inline(always)]
     fn into_closed(self) -> Block<T, A>
         requires gap_after { self.gap_after ≡ 0 }

@@ -36,8 +36,8 @@ pub(crate) fn drop_items<T: Drop, A: Allocator>(block: &mut Block<T, A>, len: us
     }
 }
 
-// Moves the items of the vector `items` into the empty slots from index `start` onward, and frees
-// the vector. The items keep their order, although the last item is moved first.
+// Moves the items of the vector `items` into the empty slots from index `start` onward, in the same
+// order, and frees the vector.
 pub(crate) fn put_vec<T, A: Allocator, B: Allocator>(
     block: &mut Block<T, A>,
     start: usize,
@@ -50,8 +50,7 @@ pub(crate) fn put_vec<T, A: Allocator, B: Allocator>(
       cost = moving (length items.items) block.old.cost;
     } }
 {
-    // This call is needed only for the proof: the contract of `cap` says that the number of slots
-    // is less than 2^63. So each index is less than 2^63, too.
+    // Needed only for the proof: by the contract of `cap`, the number of slots is less than 2^63.
     let _whole = block.cap();
     while let Some(item) = items.pop() {
         block.put(start + items.len(), item);
@@ -59,8 +58,8 @@ pub(crate) fn put_vec<T, A: Allocator, B: Allocator>(
     items.destroy_empty();
 }
 
-// Puts clones of the items of `items` into the empty slots from index `start` onward, in order.
-// Stops early if an item cannot be cloned. Returns the number of clones that were made.
+// Puts clones of `items` into the empty slots from index `start` onward, in order, until an item
+// cannot be cloned. Returns the number of clones.
 pub(crate) fn put_clones<T: Clone, A: Allocator>(
     block: &mut Block<T, A>,
     start: usize,
@@ -77,8 +76,7 @@ pub(crate) fn put_clones<T: Clone, A: Allocator>(
     ensures refused { result < length items.now
         → HoldsAt (λ x. ¬ (T.is_infallible x)) items.now result }
 {
-    // This call is needed only for the proof: the contract of `cap` says that the number of slots
-    // is less than 2^63. So each index is less than 2^63, too.
+    // Needed only for the proof: by the contract of `cap`, the number of slots is less than 2^63.
     let _whole = block.cap();
     for i in 0..items.len() {
         match items[i].clone() {
@@ -108,8 +106,7 @@ pub(crate) fn put_repeated<T: Clone, A: Allocator>(
     } }
     ensures refused { result < count → ¬ (T.is_infallible value.now) }
 {
-    // This call is needed only for the proof: the contract of `cap` says that the number of slots
-    // is less than 2^63. So each index is less than 2^63, too.
+    // Needed only for the proof: by the contract of `cap`, the number of slots is less than 2^63.
     let _whole = block.cap();
     for i in 0..count {
         match value.clone() {
@@ -138,8 +135,7 @@ pub(crate) fn put_results<T, A: Allocator, F: FnMut() -> T>(
       cost = moving count block.old.cost;
     } }
 {
-    // This call is needed only for the proof: the contract of `cap` says that the number of slots
-    // is less than 2^63. So each index is less than 2^63, too.
+    // Needed only for the proof: by the contract of `cap`, the number of slots is less than 2^63.
     let _whole = block.cap();
     for i in 0..count {
         block.put(start + i, make());
@@ -147,9 +143,7 @@ pub(crate) fn put_results<T, A: Allocator, F: FnMut() -> T>(
 }
 
 // Moves items of `iter` into the empty slots `start..end` of `block`, in order, until the slots are
-// full or `iter` returns `None`. Returns the block, and a `Filled`, which contains the rest of the
-// iterator. The block is passed by value, so that its pointer can stay in a register and LLVM can
-// vectorize the loop.
+// full or `iter` ends. Returns the block and the rest of the iterator.
 pub(crate) fn put_iter<T, A: Allocator, I: Iterator<Item = T>>(
     block: Block<T, A>,
     start: usize,

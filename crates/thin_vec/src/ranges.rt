@@ -5,12 +5,12 @@ ghost use Rattle.thin_vec.specs.Ranges.{range_between};
 
 use std::ops::Bound;
 
-/// Converts the bounds `start` and `end` into two indices of a list of length `len`: the inclusive
-/// start and the exclusive end of the range. Returns `None` if the range begins after its end, or
-/// if it ends after the end of the list.
+/// Returns the inclusive start and the exclusive end of the range with the bounds `start` and
+/// `end`, for a list of length `len`. Returns `None` if `start` is after `end`, or if the range
+/// ends after the end of the list.
 ///
-/// Rust's `slice::range` returns the same indices, but panics instead of returning `None`. The Rust
-/// crate thin-vec has no such function.
+/// Rust's `slice::range` panics instead of returning `None`. The Rust crate thin-vec has no such
+/// function.
 pub fn bounds(start: Bound<usize>, end: Bound<usize>, len: usize) -> Option<(usize, usize)>
     ensures value { result ≡ range_between start end len }
     ensures start_le_end { IfSome result (λ range. range.0 ≤ range.1) }

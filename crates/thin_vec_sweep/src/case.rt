@@ -1,5 +1,5 @@
-//! One test case of a sweep: a call on a list, and the expected result. Each item is made from a
-//! number, so a `Vec` of numbers describes the expected items.
+//! One test case of a sweep: a call on a list, and its expected result. Each item is represented by
+//! the number from which it is made.
 use crate::assertions::{At, assert_live, assert_same, assert_same_item, assert_same_items};
 use crate::ledger::Ledger;
 use crate::samples::Sample;
@@ -60,8 +60,8 @@ pub struct Case<T: Drop, G: Ruled> {
 }
 
 impl<T: Sample, G: Ruled> Case<T, G> {
-    /// Returns a test case whose list has the length and the spare capacity of `at.shape`. The
-    /// items of the list are made from the numbers 1, 2, 3, and so on.
+    /// Returns a test case with a list of the shape `at.shape`. The items of the list are made from
+    /// the numbers 1, 2, 3, and so on.
     pub fn new<R: Abort>(rt: &R, ledger: &'static Ledger, at: At) -> Case<T, G> {
         ledger.begin(0);
         let list = filled(rt, ledger, at.shape, 1);
@@ -83,17 +83,15 @@ impl<T: Sample, G: Ruled> Case<T, G> {
         T::nth(rt, self.ledger, number)
     }
 
-    /// Prepares for the call under test. This function must be called directly before the call
-    /// under test. It resets the counts of requests, of clones, and of calls to `next` and
-    /// `size_hint`. If `at.refused` is not 0, the allocator will refuse request number
-    /// `at.refused`.
+    /// Resets the counts of requests, of clones, and of calls to `next` and `size_hint`. Must be
+    /// called directly before the call under test. If `at.refused` is not 0, the allocator will
+    /// refuse request number `at.refused`.
     pub fn begin(&self) {
         self.ledger.begin(self.at.refused);
     }
 
     /// Returns the expected capacity of the list after a call that makes room for `additional` more
-    /// items. If there is enough room already, this is the current capacity. Otherwise, the growth
-    /// rule determines the capacity. Returns `None` if the capacity overflows.
+    /// items by the growth rule. Returns `None` if the capacity overflows.
     pub fn ruled(&self, additional: usize) -> Option<usize> {
         let want = self.items.len().checked_add(additional)?;
         if want <= self.capacity {
@@ -102,17 +100,16 @@ impl<T: Sample, G: Ruled> Case<T, G> {
         fitting::<T>(G::expected_capacity(T::SIZE, self.capacity, want))
     }
 
-    /// Returns the expected capacity of the list after a call such as `reserve_exact(additional)`.
-    /// This is the length plus `additional`, or the current capacity if that is greater. Returns
-    /// `None` if this capacity is too large.
+    /// Returns the expected capacity of the list after a call such as `reserve_exact(additional)`,
+    /// or `None` if this capacity is too large.
     pub fn exact(&self, additional: usize) -> Option<usize> {
         let want = self.items.len().checked_add(additional)?;
         fitting::<T>(want.max(self.capacity))
     }
 
-    /// Returns whether the call must be skipped because a list of capacity `capacity` would take
-    /// too much memory. Also stores the result in `is_left_out`. A call is never skipped if its
-    /// first request is refused, or if the items have size 0.
+    /// Returns whether to skip the call because a list of capacity `capacity` would take too much
+    /// memory. Also stores the result in `is_left_out`. A call whose first request is refused is
+    /// never skipped.
     pub fn is_too_much(&mut self, capacity: Option<usize>) -> bool {
         let is_great = capacity.is_some_and(|capacity| capacity > 1_000_000);
         self.is_left_out = is_great && self.at.refused != 1 && T::LIMIT < isize::MAX as usize;
@@ -120,9 +117,7 @@ impl<T: Sample, G: Ruled> Case<T, G> {
     }
 
     /// Returns how many requests of the call are to be refused, each in a test case of its own. If
-    /// the call was skipped because it would need too much memory, the result is 1. The test case
-    /// in which the first request is refused can still be run, because the call then takes no
-    /// memory.
+    /// the call was skipped because it would need too much memory, the result is 1.
     pub fn requests_in_turn(&self) -> u64 {
         if self.is_left_out { 1 } else { self.requests }
     }
@@ -164,9 +159,9 @@ impl<T: Sample, G: Ruled> Case<T, G> {
         self.requests != self.at.refused
     }
 
-    /// Returns the expected outcome when a call that may grow the list several times grows it once,
-    /// to `capacity`. Also updates the expected capacity and the expected number of requests. The
-    /// caller passes `None` if the computation of the new capacity overflows.
+    /// Returns the expected outcome of growing the list to `capacity`, for a call that may grow it
+    /// several times. `capacity` is `None` if it overflows. Updates the expected capacity and the
+    /// expected number of requests.
     ///
     /// If the expected capacity is already `capacity`, no growth and no request are expected.
     pub fn further_growth(&mut self, capacity: Option<usize>) -> Verdict {
@@ -191,8 +186,7 @@ impl<T: Sample, G: Ruled> Case<T, G> {
     }
 
     // Returns the expected outcome of a call that requests `blocks` blocks and then clones `clones`
-    // items. Also stores the expected number of requests and, if the call is expected to succeed,
-    // the expected number of clones.
+    // items. Stores the expected numbers of requests and clones.
     fn verdict(&mut self, blocks: u64, clones: usize) -> Verdict {
         let refused = self.at.refused;
         let clones = clones as u64;
@@ -318,9 +312,8 @@ impl<T: Sample, G: Ruled> Case<T, G> {
         self.assert_list(rt, list, numbers.as_slice(), capacity);
     }
 
-    /// Checks the result of a call that makes a second list. On success, the second list must
-    /// consist of the items that `T::nth` makes from `numbers`, and its capacity must be
-    /// `capacity`.
+    /// Checks the result of a call that makes a second list. On success, this list must consist of
+    /// the items made from `numbers`, and have the capacity `capacity`.
     pub fn assert_second_list<H: Growth, R: Abort>(
         &self,
         rt: &R,
@@ -355,8 +348,7 @@ impl<T: Sample, G: Ruled> Case<T, G> {
     }
 
     /// Checks the state after the call: the items and the capacity of the list, and the numbers of
-    /// requests and clones. Also asserts that no items exist except those of the list, and that no
-    /// blocks are allocated except those of the list and of its items.
+    /// requests and clones. Asserts that no other items and blocks exist.
     pub fn check<R: Abort>(&self, rt: &R) {
         let requests = self.ledger.alloc.requests();
         assert_same(rt, &self.at, "requests", requests, self.requests);

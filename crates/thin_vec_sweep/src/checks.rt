@@ -21,15 +21,14 @@ use thin_vec::Doubling;
 // Checks the counts of a sweep of `resize` on two empty lists: one of capacity 0, and one of
 // capacity 1. Each item owns a block.
 //
-// If `k > 0` items are added to the list of capacity 0, `resize` makes `k` allocation requests: one
-// for the block of the list, and one for each of the `k - 1` clones. (The last new item is the
-// passed value itself.) For each `k`, there is one test case without a refusal. For each request up
-// to the 49th, there is one further test case, in which this request is refused.
+// If `k > 0` items are added to the list of capacity 0, `resize` makes `k` requests: one for the
+// block of the list, and one for each of the `k - 1` clones. For each `k`, there is one test case
+// without a refusal, and one for each of the first 49 requests, with this request refused.
 //
 // The tested values of `k` are 0 (twice), 1 to 9, 17, and 100. On the list of capacity 0, there are
-// 2 + (2 + .. + 10) + 18 + 50 = 124 test cases. In (1 + .. + 9) + 17 + 49 = 111 of them, a request
-// is refused. On the list of capacity 1, adding one item makes no request, so there are 123 test
-// cases and 110 refusals.
+// 2 + (2 + .. + 10) + 18 + 50 = 124 test cases, with (1 + .. + 9) + 17 + 49 = 111 refusals. On the
+// list of capacity 1, adding one item makes no request, so there are 123 test cases and 110
+// refusals.
 //
 // Each test case makes ten comparisons: one of the return value, seven in `check`, and two in
 // `end`.
@@ -52,9 +51,8 @@ fn few<R: Abort>(rt: &R, alloc: Global) -> Scope {
     }
 }
 
-// For each group of calls, three expected numbers: the numbers of test cases, of refused requests,
-// and of comparisons. The calls are tested on the lists that `few` selects. If a call is added to a
-// group, only the line of this group has to be changed.
+// For each group of calls, the expected numbers of test cases, of refused requests, and of
+// comparisons. The calls are tested on the lists that `few` selects.
 const COUNTS: [(u64, u64, u64); 12] = [
     // every_growth
     (6334, 2380, 81767),

@@ -6,9 +6,8 @@ ghost use Rattle.std.specs.Iterator.{at_most};
 use crate::ledger::{Ledger, count};
 use crate::samples::Counted;
 
-/// An iterator that yields its items in reverse order, and then always returns `None`. Its size
-/// hint is always `(lower, None)`, no matter how many items remain. The ledger counts the iterator
-/// itself as one item until the iterator is dropped.
+/// An iterator that yields its items in reverse order. Its size hint is always `(lower, None)`. The
+/// ledger counts the iterator as one item until it is dropped.
 #[derive(Drop)]
 pub struct Claims<T> {
     items: Vec<T>,

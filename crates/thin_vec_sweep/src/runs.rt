@@ -1,6 +1,5 @@
-//! Random and hand-written runs. A run executes a sequence of commands. Each command describes a
-//! call on a list. The runner (`step`) executes each command on a `ThinVec`. Except in `long.rt`, a
-//! model also executes each command on a `Vec`, and the two results are compared.
+//! Random and hand-written runs. A run executes a sequence of commands on a `ThinVec`. Each command
+//! describes a call. Most runs also execute the commands on a model, and compare the results.
 mod commands;
 mod compared;
 mod judges;

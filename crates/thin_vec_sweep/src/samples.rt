@@ -23,21 +23,19 @@ pub trait Sample: Clone + Drop + PartialEq {
     /// The size of an item in bytes.
     const SIZE: usize;
 
-    /// The greatest possible capacity of a list of such items, computed by hand. If an item has a
-    /// size of 0 bytes, this capacity is `isize::MAX`. Otherwise, it is the greatest number of
-    /// items for which the size of a block is at most `isize::MAX`.
+    /// The greatest possible capacity of a list of such items, computed by hand. It is `isize::MAX`
+    /// if the size of an item is 0. Otherwise, it is the greatest number of items for which a block
+    /// takes at most `isize::MAX` bytes.
     ///
-    /// A block consists of a header of 16 bytes and the items. The size of a block is rounded up to
-    /// a multiple of its alignment. If the alignment of an item is at least 8, the block has the
-    /// same alignment. Otherwise, the alignment of the block is 8.
+    /// A block consists of a header of 16 bytes and the items. Its size is rounded up to a multiple
+    /// of its alignment, which is the alignment of an item, but at least 8.
     const LIMIT: usize;
 
     /// Makes an item from `number`.
     fn nth<R: Abort>(rt: &R, ledger: &'static Ledger, number: u64) -> Self;
 
-    /// Returns the number from which the item was made. If the type has too few values for all
-    /// numbers, returns what can be recovered of this number. For example, an item of type `u8`
-    /// preserves only the remainder of the number modulo 251.
+    /// Returns the number from which the item was made, as far as the item preserves it. For
+    /// example, a `u8` preserves only the number modulo 251.
     fn kept_number(&self) -> u64;
 
     /// Returns the expected result of `kept_number` for the item that is made from `number`.
@@ -95,8 +93,8 @@ impl Sample for i32 {
 
     const LIMIT: usize = 2_305_843_009_213_693_946;
 
-    // Makes an item from the remainder of `number` modulo `2^31 - 1`. The item is this remainder if
-    // `number` is even, and its negative if `number` is odd. So the test items have both signs.
+    // Returns `number` modulo `2^31 - 1` if `number` is even, and the negative of this remainder if
+    // `number` is odd.
     fn nth<R: Abort>(_rt: &R, _ledger: &'static Ledger, number: u64) -> i32 {
         let magnitude = (number % 2_147_483_647) as i32;
         if number % 2 == 0 {

@@ -8,8 +8,8 @@ pub struct Shape {
     pub spare: usize,
 }
 
-/// The number of list shapes that most tests use: all shapes except the two with 100,000 items
-/// each. A shape consists of a length and a number of empty slots.
+/// The number of list shapes that most tests use. A shape consists of a length and a number of
+/// empty slots.
 pub const SHAPES: usize = 110;
 
 /// The number of shapes of lists with at most 40 items. These shapes have the numbers `0..SHORT`.
@@ -23,9 +23,8 @@ pub const LONGEST: usize = SHAPES;
 /// length and a number of empty slots.
 pub const ALL: usize = LONGEST + 2;
 
-// The numbers of items that a test tries to add to a list of at most 4 items. Three other arrays
-// are for longer lists: `SOME` for 5 to 40 items, `MANY` for 41 to 10,000 items, and `MOST` for
-// more items.
+// The numbers of items that a test tries to add to a list of at most 4 items. For longer lists, see
+// `SOME`, `MANY` and `MOST`.
 const FEW: [usize; 12] = [0, 1, 2, 3, 4, 5, 6, 7, 8, 9, 17, 100];
 
 const SOME: [usize; 4] = [0, 1, 9, 50];
@@ -34,9 +33,8 @@ const MANY: [usize; 2] = [1, 300];
 
 const MOST: [usize; 2] = [1, 100_000];
 
-/// `Cases` contains, for each `k` from 0 to 6, the number of test cases of a call that acts on `k`
-/// items. These items are a whole list, or a range of a list. On lists of at most 6 items, all
-/// these test cases are run.
+/// For each `k` from 0 to 6, the number of test cases of a call that acts on `k` items, which are a
+/// whole list or a range.
 pub type Cases = [usize; 7];
 
 // The number of ranges that are tried on a list of more than 6 items.
@@ -106,10 +104,8 @@ impl Shape {
         self.length < 5
     }
 
-    /// Returns the greatest possible number of test cases for one argument. If the list has at most
-    /// 40 items, this is 50: one test case with enough memory, and 49 test cases with a refused
-    /// request. If the list has more items, this is 2: one test case with enough memory, and one
-    /// with a refused request.
+    /// Returns the greatest number of test cases for one argument. It is 50 for a list of at most
+    /// 40 items, and 2 for a longer list. A request is refused in all of them except one.
     pub fn rounds(self) -> u64 {
         if self.is_long() { 2 } else { 50 }
     }
@@ -136,22 +132,21 @@ impl Shape {
         }
     }
 
-    /// Returns the number of test cases of a call on the whole list. If the list has at most 6
-    /// items, this is the number that `cases` contains for the length of the list.
+    /// Returns the number of test cases of a call on the whole list. For a list of `k` items with
+    /// `k ≤ 6`, this is `cases[k]`.
     pub fn cases(self, cases: &Cases) -> usize {
         cases.get(self.length).copied().unwrap_or(self.some())
     }
 
-    // Returns the number of test cases of a call on a list of more than 6 items. If the call acts
-    // on a range, the result is the number of test cases for one range. Returns 0 if the list has
-    // spare capacity.
+    // Returns the number of test cases of a call on a list of more than 6 items, or on one range of
+    // such a list. Returns 0 if the list has spare capacity.
     fn some(self) -> usize {
         self.alone(if self.is_long() { 2 } else { 20 })
     }
 
-    /// Returns the total number of test cases of a call that acts on a range of the list. If the
-    /// list has at most 6 items, every range is tried, and each range of `k` items is used in
-    /// `cases[k]` test cases. On a longer list, only four ranges are tried.
+    /// Returns the number of test cases, in total, of a call on ranges of the list. If the list has
+    /// at most 6 items, each range of `k` items has `cases[k]` test cases. On a longer list, only
+    /// four ranges are tried.
     pub fn ranged_cases(self, cases: &Cases) -> usize {
         if self.length >= cases.len() {
             return self.some().saturating_mul(RANGES);
@@ -192,9 +187,8 @@ impl Shape {
         self.some_range(0, number)
     }
 
-    // Returns one of the four ranges that are tried on a list of more than 6 items, together with
-    // `number`, the number of a test case on this range. `range`, a number from 0 to 3, selects the
-    // range.
+    // Returns one of the four ranges that are tried on a list of more than 6 items. `range` (0 to
+    // 3) selects it. `number` is the number of a test case on this range.
     fn some_range(self, range: usize, number: usize) -> Ranged {
         let length = self.length;
         let (start, end) = match range {

@@ -33,9 +33,8 @@ pub trait Call<T: Sample, G: Ruled> {
     fn run<R: Abort>(rt: &R, case: &mut Case<T, G>, argument: usize);
 }
 
-/// Tests the call `C` on lists of all shapes in `scope`. This function and `case` are never
-/// inlined. Otherwise, all sweeps for an item type would become one large function, and compilation
-/// would take far longer.
+/// Tests the call `C` on lists of all shapes in `scope`. Never inlined, because the sweeps would
+/// otherwise become one large function that takes long to compile.
 #[inline(never)]
 pub fn sweep<C: Call<T, G>, T: Sample, G: Ruled, R: Abort>(rt: &R, scope: &Scope) {
     for number in scope.shapes.start..scope.shapes.end {
@@ -71,8 +70,7 @@ fn each_refusal<C: Call<T, G>, T: Sample, G: Ruled, R: Abort>(
 }
 
 // Runs one test case: makes the call, and checks its results. Returns the number of allocation
-// requests that the call made, or 1 if the call was skipped because it would have needed too much
-// memory.
+// requests of the call, or 1 if the call was skipped.
 #[inline(never)]
 fn case<C: Call<T, G>, T: Sample, G: Ruled, R: Abort>(
     rt: &R,

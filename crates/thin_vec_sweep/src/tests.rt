@@ -16,8 +16,8 @@ use std::process::Abort;
 use thin_testing::{Fourfold, Ruled, Threefold};
 use thin_vec::{Doubling, PowerBytes};
 
-// Selects the lists to test. If each item owns a block, these are the lists of at most 40 items.
-// Otherwise, these are all lists except the two longest lists, which have 100,000 items each.
+// Selects the lists to test. If items own blocks, these are the lists of at most 40 items.
+// Otherwise, these are all lists except the two longest.
 fn all<T: Sample, R: Abort>(rt: &R, alloc: Global) -> Scope {
     let shapes = if T::OWNS_BLOCK { SHORT } else { SHAPES };
     Scope {

@@ -22,14 +22,14 @@ pub struct Walk {
 }
 
 impl Walk {
-    /// Returns one of the walks over `count` items. `number` selects the walk.
+    /// Returns the walk with the number `number` over `count` items.
     ///
-    /// If `count` is at most 6, the binary digits of `number + 1`, except the first digit, describe
-    /// the steps. The last digit describes the first step. The digit 1 is a step from the back, and
-    /// 0 is a step from the front.
+    /// If `count` is at most 6, the steps are the binary digits of `number + 1`, without the
+    /// leading 1, and beginning with the last digit. The digit 1 is a step from the back, and 0 is
+    /// a step from the front.
     ///
-    /// If `count` is greater than 6, `number / 4` selects the number of steps, and `number % 4`
-    /// selects the entry of `ENDS` that describes the steps.
+    /// If `count` is greater than 6, `number / 4` selects the number of steps, and
+    /// `ENDS[number % 4]` contains the steps.
     pub fn nth(count: usize, number: usize) -> Walk {
         if count >= WALKS.len() {
             return Walk {
@@ -62,8 +62,8 @@ impl Walk {
     }
 }
 
-/// Returns how many steps to take in a walk over `count` items. There are five choices, and
-/// `number` (0 to 4) selects one of them. `count` must be greater than 6.
+/// Returns how many steps to take in a walk over `count` items. `number` (0 to 4) selects one of
+/// five choices. `count` must be greater than 6.
 pub fn some_steps(count: usize, number: usize) -> usize {
     match number {
         0 => count / 2,

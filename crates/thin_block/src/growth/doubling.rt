@@ -7,9 +7,9 @@ ghost use Rattle.thin_block.specs.Growth.{doubling, ruled_capacity};
 use crate::growth::{Growth, fitting};
 use crate::sizes::item_size;
 
-/// A growth rule that doubles the capacity. The rule chooses the greater of two numbers: the
-/// required capacity, and twice the old capacity. If the old capacity is 0, the second number is
-/// the result of `first_capacity` instead. The Rust crate thin-vec uses the same rule.
+/// A growth rule that chooses the required capacity or twice the old capacity, whichever is
+/// greater. If the old capacity is 0, it chooses at least `first_capacity`. The Rust crate thin-vec
+/// uses the same rule.
 pub struct Doubling {}
 
 impl Growth for Doubling {
@@ -30,9 +30,8 @@ impl Growth for Doubling {
     ghost law = { doubling_law };
 }
 
-/// Returns the capacity that `Doubling` chooses for the first block of a list: 1 for items of more
-/// than `usize::MAX / 8` bytes, and 4 for other items. If more room is required, `Doubling` chooses
-/// the required capacity instead.
+/// Returns the least capacity that `Doubling` chooses for the first block of a list: 1 if an item
+/// takes more than `usize::MAX / 8` bytes, and 4 otherwise.
 pub fn first_capacity<T>() -> usize
     ensures value { result ≡ first (type_size T.row) }
 {
@@ -43,9 +42,9 @@ pub fn first_capacity<T>() -> usize
     }
 }
 
-/// Returns the capacity that the rule `Doubling` chooses for a list that has the capacity `cap` and
-/// needs room for `want` items in total. If `cap` is at least `want`, this is `cap`. Returns `None`
-/// if the new capacity would be too large.
+/// Returns the capacity that `Doubling` chooses for a list of capacity `cap` that needs room for
+/// `want` items in total. Returns `cap` if `want <= cap`, and `None` if the new capacity would be
+/// too large.
 pub fn next_capacity<T>(cap: usize, want: usize) -> Option<usize>
     ensures value { result ≡ ruled_capacity doubling T.row cap want }
 {

@@ -1,6 +1,5 @@
-//! Defines the growth rule `PowerBytes`. For items of at least one byte, this rule rounds the size
-//! of a block up to a power of two, and chooses the greatest capacity for which a block fits into
-//! this many bytes.
+//! Defines the growth rule `PowerBytes`, which rounds the size of a block up to a power of two, and
+//! fills the rounded size with slots.
 ghost use Rattle.std.specs.Prelude.{◌≡◌, ◌+◌, ◌*◌, ◌^◌, ◌<◌, ◌≤◌, IfNone, IfSome};
 ghost use Rattle.std.specs.Mem.{type_size};
 ghost use Rattle.std.specs.Align.{type_align};
@@ -10,13 +9,12 @@ use crate::growth::doubling::Doubling;
 use crate::growth::{Growth, fitting};
 use crate::sizes::{HEADER, item_size};
 
-/// A growth rule that rounds the size of a block up to a power of two. The rule first computes the
-/// size of a block for the required capacity, or for twice the old capacity if that is greater. It
-/// rounds this size up to a power of two, and chooses the greatest capacity for which a block fits
-/// into the rounded size.
+/// A growth rule that rounds the size of a block up to a power of two. It first computes the size
+/// for the required capacity or twice the old capacity, whichever is greater. Then it chooses the
+/// greatest capacity for which a block fits into the rounded size.
 ///
-/// If an allocator rounds requests up to powers of two, a block wastes less than the size of one
-/// item. For items of size 0, the rule is the same as `Doubling`. The Rust crate thin-vec has a
+/// An allocator that rounds requests up to powers of two wastes less than the size of one item per
+/// block. For items of size 0, the rule is the same as `Doubling`. The Rust crate thin-vec has a
 /// similar rule for Gecko.
 pub struct PowerBytes {}
 
@@ -50,8 +48,7 @@ impl Growth for PowerBytes {
 }
 
 // Returns the least power of two that is at least the size in bytes of a header and `items` items
-// of `size` bytes each. Returns `None` if this power of two exceeds `2 ^ 63`. In this case, a block
-// for these items is too large to be allocated.
+// of `size` bytes each. Returns `None` if it exceeds `2 ^ 63`.
 fn power_for(items: usize, size: usize) -> Option<usize>
     ensures none { IfNone result (2 ^ 63 < 16 + items * size) }
     ensures value { IfSome result (λ power. power ≡ least_power (16 + items * size)) }

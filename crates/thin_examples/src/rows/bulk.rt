@@ -38,8 +38,8 @@ pub fn row_15<A: Allocator + Copy>(alloc: A) -> Outcome {
     Ok(checks)
 }
 
-/// Extends new lists with iterators that yield five items each. The lower bounds of the size hints
-/// of these iterators are 0, 3, 5 and 9. Checks the items and the capacity of each list.
+/// Extends new lists with iterators of five items each, whose size hints have the lower bounds 0,
+/// 3, 5 and 9. Checks the items and the capacity of each list.
 pub fn row_24<A: Allocator + Copy>(alloc: A) -> Outcome {
     let mut checks = Checks::new();
     for (lower, capacity) in [(0, 8), (3, 8), (5, 5), (9, 9)] {
@@ -50,9 +50,8 @@ pub fn row_24<A: Allocator + Copy>(alloc: A) -> Outcome {
     Ok(checks)
 }
 
-// Checks `refused`, the error of a failed call to `extend`. The cause must be `CapacityOverflow`.
-// No item was taken from the iterator: the field `in_hand` must be `None`, and the iterator in the
-// error must still yield its two items.
+// Checks the error `refused` of a failed call to `extend`: the cause is `CapacityOverflow`, and the
+// iterator in the error still yields its two items.
 fn check_refused<A: Allocator>(checks: &mut Checks, refused: ExtendRefused<i32, Hinted<i32, A>>) {
     let ExtendRefused {
         cause,

@@ -17,9 +17,8 @@ fn put<T: Drop, A: Allocator>(items: &mut Vec<T, A>, item: T) -> Result<(), Thin
     }
 }
 
-// Makes three commands for an empty list. The first one is an insert at index 9, which is past the
-// end of the list. The second one is a push. The third one is a drain of the pushed item: it calls
-// `next_back`, which yields the item, and then `next`, which returns `None`.
+// Makes three commands for an empty list: an insert at index 9, which is past the end, a push, and
+// a drain that yields the pushed item.
 fn past_the_end<A: Allocator + Copy>(alloc: A) -> Result<Vec<Command<i32, A>, A>, ThinVecError> {
     let mut steps = Vec::new(alloc);
     put(&mut steps, Step::Back)?;

@@ -1,5 +1,5 @@
 //! Worked examples of `thin_vec!`, and of calls that iterate over, compare, hash, convert or write
-//! to lists. A worked example compares the results of calls with values that were computed by hand.
+//! to lists.
 use crate::checks::Checks;
 use crate::rows::{Outcome, listed};
 use std::alloc::Allocator;

@@ -20,9 +20,8 @@ pub fn row_21<A: Allocator + Copy>(alloc: A) -> Outcome {
     Ok(checks)
 }
 
-// If the table does not have three rows, does nothing. Otherwise, calls the method `set` of the
-// table to write `value` at row 1 and column `column`, and checks that the method returns `before`,
-// the old value at this place.
+// Writes `value` at row 1 and column `column` of the table, and checks that `before` was the old
+// value. Does nothing if the table does not have three rows.
 fn set<A: Allocator>(
     checks: &mut Checks,
     table: &mut Rows<char, A>,
@@ -36,9 +35,8 @@ fn set<A: Allocator>(
     Ok(())
 }
 
-// If the table does not have three rows, does nothing. Otherwise, calls the method `remove` of the
-// table to remove the entry at row 1 and column `column`, and checks that the method returns
-// `Some(value)`.
+// Removes the entry at row 1 and column `column` of the table, and checks that its value was
+// `value`. Does nothing if the table does not have three rows.
 fn remove<A: Allocator>(
     checks: &mut Checks,
     table: &mut Rows<char, A>,
@@ -51,8 +49,7 @@ fn remove<A: Allocator>(
 }
 
 // Checks that the table has three rows, that row 1 has the entries `entries`, and that the other
-// rows have no entries. Also checks that row 1 owns an allocation if `owns_block` is true, and owns
-// none if it is false.
+// rows are empty. `owns_block` says whether row 1 must own an allocation.
 fn check_entries<A: Allocator>(
     checks: &mut Checks,
     table: &Rows<char, A>,

@@ -1,5 +1,5 @@
 //! Worked examples of capacities, of items of size zero, and of calls that add or remove a single
-//! item. A worked example compares the results of calls with values that were worked out by hand.
+//! item.
 use crate::checks::Checks;
 use crate::rows::{Outcome, listed};
 use std::alloc::Allocator;

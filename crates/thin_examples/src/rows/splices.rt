@@ -1,5 +1,4 @@
-//! Worked examples of `splice`, and a worked example of calls on an empty list. A worked example
-//! compares the results of calls with values that were worked out by hand.
+//! Worked examples of `splice`, and a worked example of calls on an empty list.
 use crate::checks::Checks;
 use crate::rows::bulk::claiming;
 use crate::rows::{Outcome, listed};
@@ -8,9 +7,8 @@ use std::iter::{empty, once};
 use thin_runner::hinted::Hinted;
 use thin_vec::{SpliceRefused, ThinVec, ThinVecError};
 
-// Replaces two of five items with the three items of an iterator. The lower bound of the iterator's
-// size hint is `claim`. Checks the items of the list afterwards, and checks that its capacity is
-// `capacity`.
+// Replaces two of five items with the three items of an iterator whose size hint has the lower
+// bound `claim`. Checks the new items, and that the new capacity is `capacity`.
 fn check_claimed<A: Allocator + Copy>(
     checks: &mut Checks,
     alloc: A,
@@ -52,9 +50,8 @@ fn check_refused<A: Allocator>(
     checks.items(&[rest.next(), rest.next()], &[Some(12), None]);
 }
 
-/// Checks that `finish`, the method that completes a splice, fails if the size hint of the iterator
-/// is too large for any capacity. Before the failure, `finish` replaces the two items of the range
-/// with the first two of the three new items.
+/// Checks that a splice fails if the iterator's size hint is too large for any capacity. Before the
+/// failure, the first two new items replace the two items of the range.
 pub fn row_11<A: Allocator + Copy>(alloc: A) -> Outcome {
     let mut checks = Checks::new();
     let mut list = listed(alloc, [1, 2, 3, 4, 5])?;

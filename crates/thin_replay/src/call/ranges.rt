@@ -7,8 +7,8 @@ use crate::words::{count_of, items_of, steps_of};
 use std::alloc::Global;
 use thin_runner::command::Command;
 
-/// Parses the words of a line as `dedup`, or as a command that removes or replaces a range. Returns
-/// `None` if the words do not have the form of such a command.
+/// Parses the words as a `dedup` command, or as a command that removes or replaces a range. Returns
+/// `None` if they have another form.
 pub fn parse(alloc: Global, words: &[&str]) -> Result<Option<Command<u64>>, LineError>
     ensures says { IfOk result (λ found. IfSome found (SaysUnjudged words.now)) }
 {

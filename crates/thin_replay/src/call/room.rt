@@ -6,8 +6,8 @@ use crate::line_error::LineError;
 use crate::words::count_of;
 use thin_runner::command::Command;
 
-/// Parses the words of a line as a command that changes the capacity of the list, splits the list,
-/// or clones the list. Returns `None` if the words do not have the form of such a command.
+/// Parses the words as a command that changes the capacity of the list, or splits or clones the
+/// list. Returns `None` if they have another form.
 pub fn parse(words: &[&str]) -> Result<Option<Command<u64>>, LineError>
     ensures says { IfOk result (λ found. IfSome found (SaysUnjudged words.now)) }
 {

@@ -6,8 +6,8 @@ use crate::line_error::LineError;
 use crate::words::{count_of, item_of};
 use thin_runner::command::Command;
 
-/// Parses the words of a line as a command that adds, removes or replaces one item, or as
-/// `truncate` or `clear`. Returns `None` if the words do not have the form of such a command.
+/// Parses the words as a command that adds, removes or replaces one item, or as `truncate` or
+/// `clear`. Returns `None` if they have another form.
 pub fn parse(words: &[&str]) -> Result<Option<Command<u64>>, LineError>
     ensures says { IfOk result (λ found. IfSome found (SaysUnjudged words.now)) }
 {

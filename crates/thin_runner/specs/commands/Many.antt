@@ -8,13 +8,9 @@ use Rattle.thin_runner.specs.Setting.{Setting}
 use Rattle.thin_runner.specs.commands.Items.{Grows}
 
 module _ {T A J : Type 0} (here : Setting T A J) where
-  -- `RefusesClone old k sources cause new` holds if a call may fail with `cause` and turn the list
-  -- `old` into `new`. The call needs room for `k` more items, and clones the items `sources`. On
-  -- failure, the items of the list are unchanged.
-  --
-  -- There are two possibilities for `new`. Either `new` equals `old`, or the call made room for `k`
-  -- more items and then failed to clone one of the items `sources`. In the second case, each item
-  -- that was cloned before the failure counts as one move.
+  -- `RefusesClone old k sources cause new` holds if a call that adds `k` items and clones the items
+  -- `sources` may fail with `cause` and turn the list `old` into `new`. The items of the list do
+  -- not change, but its capacity may grow.
   abbrev pub RefusesClone : Thin T A → ℕ → List T → ThinVecError → Thin T A → Type 0
   RefusesClone old k sources cause new =
       ((capacity_for here.rule here.R old k ≡ None) ↔ (cause ≡ CapacityOverflow))

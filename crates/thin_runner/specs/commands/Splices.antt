@@ -55,10 +55,8 @@ module _ {T A : Type 0} (rule : Rule) (R : RattleType) (old : Thin T A) (a b : �
     pub claim : rest.lower ≡ lower
     pub filled : Replaces placed (lower + length xs) new
     pub no_room : ¬ (HasPlacesFor old a b (lower + length xs))
-    -- Suppose that `held` is empty and `in_hand` is `None`. Then the call could not reserve room
-    -- for `h` more items in the list `new`. Here, `h` is a lower bound that the size hint of `rest`
-    -- may have. The cause is `CapacityOverflow` if and only if the growth rule chooses no capacity
-    -- for `h` more items.
+    -- If `held` is empty and `in_hand` is `None`, then the call could not reserve room for `h` more
+    -- items. The number `h` is a lower bound that the size hint of `rest` may have.
     pub by_hint : held ≡ [] → in_hand ≡ None
         → FailsAtHint rule R new (at_most (rest.lower + length (into_iter_items rest.items))) cause
     -- Suppose that `held` contains items, and that `in_hand` is `None`. Then the cause is

@@ -1,6 +1,5 @@
-//! Implements the commands that test the items and remove some of them: `Retain`, `RetainMut`,
-//! `Dedup`, `DedupBy` and `DedupByKey`. `Dedup` compares items with `==`. Each of the other
-//! commands asks a copy of the judge that was passed to `run` or `step`.
+//! Implements the commands `Retain`, `RetainMut`, `Dedup`, `DedupBy` and `DedupByKey`, which test
+//! the items and remove some of them.
 ghost use Rattle.std.specs.Prelude.{◌≡◌};
 ghost use Rattle.thin_runner.specs.Setting.{setting};
 ghost use Rattle.thin_runner.specs.Steps.{Steps};

@@ -13,8 +13,8 @@ use std::alloc::Allocator;
 use thin_vec::{Drain, Growth, ThinVec, ThinVecError};
 
 impl<T: Clone + Eq, A: Allocator + Copy, G: Growth, J: Judge<T>> Setting<T, A, G, J> {
-    // Carries out the command `Drain`. First reserves room for the results of the steps. Then
-    // drains the range `start..end`. If there are no steps, allocates no memory for the results.
+    // Carries out the command `Drain`. First reserves room for the results of the steps, and then
+    // drains the range `start..end`.
     pub(crate) fn drain(
         self,
         list: &mut ThinVec<T, A, G>,
@@ -39,9 +39,8 @@ impl<T: Clone + Eq, A: Allocator + Copy, G: Growth, J: Judge<T>> Setting<T, A, G
         Reply::Answers(answers)
     }
 
-    // Carries out the command `ExtractIf`. First reserves room for the results of `count` calls to
-    // `next`. Then extracts items from the range `start..end`. If `count` is 0, allocates no memory
-    // for the results.
+    // Carries out the command `ExtractIf`. First reserves room for `count` results, and then calls
+    // `next` `count` times on an `ExtractIf` for the range `start..end`.
     pub(crate) fn extract_if(
         self,
         list: &mut ThinVec<T, A, G>,

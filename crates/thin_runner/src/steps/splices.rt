@@ -15,9 +15,8 @@ use std::alloc::Allocator;
 use thin_vec::{Growth, Splice, SpliceRefused, ThinVec, ThinVecError};
 
 impl<T: Clone + Eq, A: Allocator + Copy, G: Growth, J: Judge<T>> Setting<T, A, G, J> {
-    // Carries out the command `Splice`. First reserves room for the results of the steps. Then
-    // replaces the items of the range `start..end` with `items`. If there are no steps, allocates
-    // no memory for the results.
+    // Carries out the command `Splice`. First reserves room for the results of the steps, and then
+    // replaces the items `start..end` with `items`.
     pub(crate) fn splice(
         self,
         list: &mut ThinVec<T, A, G>,

@@ -243,8 +243,8 @@ impl<L: Numbers> Work<L, u64> for SpliceHinted {
     }
 }
 
-/// A workload that replaces the middle half of a list of `size` items with `size` numbers. The
-/// numbers are inserted from an iterator whose size hint has a lower bound of 0.
+/// A workload that replaces the middle half of a list with `size` numbers, taken from an iterator
+/// whose size hint has a lower bound of 0. The list has `size` items.
 pub struct SpliceUnhinted;
 
 impl<L: Numbers> Work<L, u64> for SpliceUnhinted {

@@ -56,9 +56,8 @@ fn assert_extended<'a>(
     assert_same(rt, (list.len(), list.capacity()), (len, 4));
 }
 
-// Tries twice to append clones of three items to a list of one item. In the first attempt, only one
-// item can be cloned. Asserts that this attempt fails and drops the clone. In the second attempt,
-// all three items can be cloned. Asserts that this attempt succeeds.
+// Tries twice to append clones of three items to a list of one item. Asserts that the first attempt
+// fails after one clone and drops this clone, and that the second attempt succeeds.
 fn assert_extended_at_second_try(
     rt: &impl Abort,
     alloc: Global,

@@ -44,9 +44,8 @@ pub fn drain_first<T: Drop, A: Allocator, G: Growth>(
     drain.next()
 }
 
-/// Moves the items `start..end` of `list` to the end of `other` with one call to `extend`. This
-/// call takes the `Drain` by value, so no contract states which items `list` has afterwards. A test
-/// checks these items.
+/// Moves the items `start..end` of `list` to the end of `other` with one call to `extend`. The
+/// contract does not state which items `list` then has. A test checks them.
 pub fn extend_by_range(
     list: &mut ThinVec<u32, Global>,
     start: usize,

@@ -30,8 +30,7 @@ fn assert_conversion_drops<E: From<R> + Drop, R: Drop>(
 const CAUSE: ThinVecError = ThinVecError::OutOfMemory;
 
 // Converts the errors of a failed `push` and a failed `extend` to the type `E`. Asserts that each
-// conversion drops all values in the error. The error of `extend` also contains the iterator, which
-// must be dropped, too.
+// conversion drops all values in the error, including the iterator of `extend`.
 fn assert_push_and_extend_errors_dropped<'a, E>(rt: &impl Abort, drops: &'a Cell<u32>)
 where
     E: From<Rejected<Counted<'a>>> + From<ExtendRefused<Counted<'a>, Counted<'a>>> + Drop,

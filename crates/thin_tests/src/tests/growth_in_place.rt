@@ -153,9 +153,8 @@ fn assert_capacity_made<T: Numbered, B: Allocator>(
     assert_same(rt, refusing.requests(), 2);
 }
 
-// Makes a full list of `len` items. Increases its capacity by `more` twice, and then reduces the
-// capacity by `more`. Then fills the list, truncates it to `len` items, and reduces its capacity to
-// `len`. Checks each change of the capacity with `assert_capacity_made`.
+// Makes a full list of `len` items. Checks with `assert_capacity_made` that its capacity can become
+// `len + more`, `len + 2 * more`, `len + more` and `len`, in this order.
 fn assert_capacities<T: Numbered, B: Allocator>(
     rt: &impl Abort,
     refusing: &Refusing<B>,

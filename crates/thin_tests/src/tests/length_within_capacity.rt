@@ -1,6 +1,5 @@
-//! Functions that rely on two facts about every list: its length is at most its capacity, and its
-//! capacity is less than 2^63. The prover finds both facts by itself. So these functions need
-//! neither a hand-written proof nor a call to `len` that tells the prover these facts.
+//! Functions that rely on the prover to find two facts about every list: its length is at most its
+//! capacity, and its capacity is less than 2^63.
 ghost use Rattle.std.specs.Prelude.{◌≡◌, ◌+◌, ◌<◌, ◌≤◌, IsTrue, length, take};
 
 use std::alloc::Allocator;

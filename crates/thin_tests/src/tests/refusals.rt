@@ -1,5 +1,5 @@
-//! A test of a push that fails because the allocator refuses its request for memory. The test
-//! checks what the failed push returns, and which items the list has afterwards.
+//! A test of a push for which the allocator refuses memory. Checks what the failed push returns,
+//! and which items the list has afterwards.
 use crate::tests::support::assertions::{assert_counts, assert_list, assert_same};
 use crate::tests::support::items::{push_all, refusing_nth};
 use std::alloc::Allocator;

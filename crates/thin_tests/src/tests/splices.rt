@@ -32,8 +32,8 @@ pub fn replace<A: Allocator, G: Growth>(
     }
 }
 
-/// Replaces the items `start..end` of the list with `numbers`, and then puts the old items back. If
-/// the function succeeds, the list has the same items as before the call.
+/// Replaces the items `start..end` of the list with `numbers`, and then puts the old items back. On
+/// success, the list has the same items as before the call.
 pub fn replace_and_undo<A: Allocator + Copy, G: Growth>(
     list: &mut ThinVec<u32, A, G>,
     start: usize,

@@ -1,6 +1,5 @@
-//! Tests that lists, and values such as iterators that are made from lists, can be passed to
-//! functions with the bounds `Send` and `Sync`. No thread is started, because the compiler checks
-//! these bounds.
+//! Tests the bounds `Send` and `Sync` for lists, and for values made from lists, such as iterators.
+//! The compiler checks these bounds, so no thread is started.
 ghost use Rattle.std.specs.Prelude.{◌≡◌};
 
 use crate::tests::support::assertions::assert_same;

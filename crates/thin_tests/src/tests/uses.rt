@@ -35,8 +35,7 @@ fn a_leaf_owns_no_block(rt: HostRuntime) {
     }
 }
 
-// Returns a list that contains the numbers in the slice `rules`. The list is created with room for
-// 10 items, so it has spare capacity if `rules` contains fewer than 10 numbers.
+// Returns a list of the numbers in the slice `rules`. The list is created with room for 10 items.
 fn roomy(rt: &impl Abort, alloc: Global, rules: &[u32]) -> ThinVec<u32> {
     let mut style = ThinVec::with_capacity(alloc, 10).expect(rt, "memory");
     for rule in rules {

@@ -1,6 +1,5 @@
-//! Two functions that are generic in the item type. The function `three` makes a list with
-//! `thin_vec!`, and `pair` moves the items out of a list. The only bound on the item type is
-//! `T: Drop`.
+//! Two functions that are generic in the item type `T`: `three` makes a list with `thin_vec!`, and
+//! `pair` moves the items out of a list.
 ghost use Rattle.std.specs.Mem.{type_size};
 ghost use Rattle.std.specs.Prelude.{◌≡◌, ◌*◌, ◌^◌, ◌<◌, [], ◌∷◌, IfOk, IfSome};
 

@@ -185,9 +185,8 @@ module _ {T A : Type 0} where
     abbrev gap : ℕ
     gap = length b.slots - end
 
-    -- Suppose that the slots are `start` empty slots, then the slots of the items `ys`, and then
-    -- `k` empty slots. If slot `start` holds `v`, then `v` is the first item of `ys`. If this slot
-    -- is emptied, then the other items of `ys` follow `start + 1` empty slots.
+    -- If `start` empty slots precede the items `ys`, then slot `start` holds the first item of
+    -- `ys`. Emptying this slot leaves `start + 1` empty slots before the other items.
     first-of : (ys : List T) (k : ℕ) → 0 < length ys
         → slot (empty start ++ (full ys ++ empty k)) start ≡ Some v
         → (ys ≡ v ∷ drop 1 ys)
@@ -201,8 +200,8 @@ module _ {T A : Type 0} where
         let same : y ≡ v = cc in
         (ap (λ (x : T). x ∷ ys) same, set-first start k y ys)
 
-    -- If slot `start` of the block `b` holds `v`, then `v` is the first item of the iterator. If
-    -- this slot is emptied, then `start + 1` empty slots precede the other items.
+    -- If slot `start` of the block `b` holds `v`, then `v` is the first item of the iterator.
+    -- Emptying this slot leaves `start + 1` empty slots before the other items.
     first : slot b.slots start ≡ Some v → (xs ≡ v ∷ drop 1 xs)
         × (set b.slots start None ≡ empty (start + 1) ++ (full (drop 1 xs) ++ empty gap))
     first e =
@@ -239,8 +238,8 @@ module _ {T A : Type 0} where
     place : start + length most ≡ end - 1
     place = omega (arith, t.len, length-take-le (end - 1 - start) xs (omega (arith, t.len)))
 
-    -- The slots of the block `b` are, in this order: `start` empty slots, the slots of the items
-    -- `most`, the slot of the last item, and the `gap` empty slots after it.
+    -- The slots of the block `b` are `start` empty slots, the slots of the items `most`, the slot
+    -- of the last item, and `gap` empty slots.
     row : b.slots ≡ empty start ++ (full (most ++ get_or xs (end - 1 - start) v ∷ []) ++ empty gap)
     row = t.row ∙ ap (λ (ys : List T). empty start ++ (full ys ++ empty gap)) whole
 
@@ -269,9 +268,8 @@ module _ {T A : Type 0} where
         place (omega (arith, walked-room b a start end t))
         (from-same b b' a t.from (ap (λ v. v.alloc) w))
 
-  -- Suppose that the items `ws` were written into the block `b` of an iterator from slot `start`
-  -- onward. Then the new block `b'` is the block of an iterator with the same number of items, in
-  -- which `ws` replaces the first items.
+  -- If the items `ws` were written into the block `b` of an iterator from slot `start` onward, then
+  -- the new block `b'` is the block of an iterator, in which `ws` replaces the first items.
   pub settle-written : (b b' : Block T A) (a : A) (start end : ℕ) (ws : List T)
       → IsWalked b a start end → seen b' ≡ record (seen b) { slots = over b.slots start ws }
       → Walking b' a (refill (length (items_in b.slots)) (items_in b.slots) ws)
@@ -287,8 +285,7 @@ module _ {T A : Type 0} where
       (from-same b b' a t.from (ap (λ v. v.alloc) w))
 
   -- If the items `ws` are written into the block `b` of an iterator from slot `start` onward, then
-  -- contracts see the same iterator as before, except that `ws` replaces the first of the remaining
-  -- items.
+  -- contracts see the same iterator with its first items replaced by `ws`.
   pub view-written : (b : Block T A) (a : A) (start end : ℕ) (ws : List T) → IsWalked b a start end
       → thin_of (block_with_items b start ws) a ≡ with_items (thin_of b a) ws
   view-written b a start end ws t =

@@ -1,7 +1,5 @@
--- These lemmas are about tests for duplicates: a closure compares each item of a list, except the
--- first, with the last item kept before it. The lemmas state which items are kept, and how the
--- results of consecutive tests combine. In this file, `R` describes the calls to the closure, and
--- `s`, `t` and `u` are states of the closure.
+-- These lemmas state which items are kept when a closure compares each item of a list with the last
+-- item kept before it. `R` describes the calls to the closure.
 use Rattle.std.proofs.Common.{◌≡◌, ℕ, zero, suc, ◌+◌, ◌<◌, ◌≤◌, Bool, true, false, List, [], ◌∷◌, ◌++◌, length, take, drop, refl, sym, ap, subst, ◌∙◌, arith, inl, inr, append_assoc}
 use Rattle.std.proofs.lemmas.List.{append-nil, drop_at, length_push, replicate-append-replicate, take_at}
 use Rattle.std.specs.List.{dedup, dedup_from}
@@ -15,14 +13,13 @@ use Rattle.thin_vec.specs.ThinVec.{Thin}
 use Rattle.thin_vec.proofs.RetainLemmas.{cons-head, cons-not-nil, cons-tail, moving-more, moving-none, single}
 use Rattle.thin_vec.proofs.OpenBlockLemmas.{last-of}
 
--- `OnPairs S T` is the type of the relations that describe a test of two items. Such a relation has
--- seven arguments: the state before the test, the later item, the last kept item, whether the later
--- item is removed, the state after the test, and the two items after the test.
+-- `OnPairs S T` is the type of the relations that describe a test of two items of type `T` by a
+-- closure with states of type `S`.
 abbrev OnPairs : Type 0 → Type 0 → Type 1
 OnPairs S T = S → T → T → Bool → S → T → T → Type 0
 
--- If the lists `a ++ x ∷ []` and `b ++ y ∷ []` are equal, then their last items `x` and `y` are
--- equal, and the lists `a` and `b` are equal.
+-- If `a ++ x ∷ []` and `b ++ y ∷ []` are equal, then the last items `x` and `y` are equal, and so
+-- are the lists `a` and `b`.
 last-same : {X : Type 0} (a b : List X) (x y : X) → a ++ x ∷ [] ≡ b ++ y ∷ [] → (a ≡ b) × (x ≡ y)
 last-same [] [] x y e = (refl, cons-head e)
 last-same [] (z ∷ b) x y e = let n = ap length e in absurd (omega (arith, n, length_push b y))
@@ -47,9 +44,8 @@ trues-all : (n : ℕ) → trues (replicate n true) ≡ n
 trues-all zero = refl
 trues-all (suc n) = ap suc (trues-all n)
 
--- `moved_down` counts the kept items after the first removed item, because only these items are
--- moved. If the first `n` items of a list are kept, then none of them is moved. So `n` true flags
--- at the start of a list of flags do not change `moved_down`.
+-- `moved_down` counts the kept items after the first removed item. So `n` true flags (kept items)
+-- at the start of the flags do not change this number.
 moved-all : (n : ℕ) (b : List Bool) → moved_down (replicate n true ++ b) ≡ moved_down b
 moved-all zero b = refl
 moved-all (suc n) b = moved-all n b
@@ -60,15 +56,15 @@ by-answer : (b : Bool) (P Q G : Type 0) → (P → G) → (Q → G) → MatchBoo
 by-answer true P Q G f g m = f m
 by-answer false P Q G f g m = g m
 
--- `MatchBool b P Q` is `P` if `b` is true, and `Q` otherwise. Suppose that `P` implies `P'`, and
--- that `Q` implies `Q'`. Then `MatchBool b P Q` implies `MatchBool b P' Q'`.
+-- `MatchBool b P Q` is `P` if `b` is true, and `Q` otherwise. If `P` implies `P'`, and `Q` implies
+-- `Q'`, then `MatchBool b P Q` implies `MatchBool b P' Q'`.
 map-answer : (b : Bool) {P Q P' Q' : Type 0} → (P → P') → (Q → Q') → MatchBool b P Q
     → MatchBool b P' Q'
 map-answer true f g m = f m
 map-answer false f g m = g m
 
--- Suppose that the lists `pre ++ l ∷ []` and `k ∷ zs` are equal, and that `zs` is not empty. Then
--- there is a list `p` such that `zs` is `p ++ l ∷ []` and `pre` is `k ∷ p`.
+-- If `pre ++ l ∷ []` equals `k ∷ zs`, and `zs` is not empty, then there is a list `p` such that
+-- `pre` is `k ∷ p` and `zs` is `p ++ l ∷ []`.
 after-first : {X : Type 0} (pre zs : List X) (k l : X) → pre ++ l ∷ [] ≡ k ∷ zs → 0 < length zs
     → (p : List X) × (zs ≡ p ++ l ∷ []) × (pre ≡ k ∷ p)
 after-first [] zs k l e some = let n = ap length e in absurd (omega (arith, n, some))
@@ -90,8 +86,8 @@ module _ {S T : Type 0} (R : OnPairs S T) where
       → AskedLast R s k (x ∷ []) (false ∷ []) (k' ∷ []) t
   last-goes s t k x x' k' h = (true, x', k', t, [], h, refl, (refl, refl, refl))
 
-  -- Suppose that the item `x` is tested against the kept item `k`, that the test keeps `x`, and
-  -- that it leaves the items as `k'` and `x'`. Then the list of the kept items is `k' ∷ x' ∷ []`.
+  -- If testing the item `x` against the kept item `k` keeps `x` and leaves the items as `k'` and
+  -- `x'`, then the list of the kept items is `k' ∷ x' ∷ []`.
   pub last-stays : (s t : S) (k x x' k' : T) → R s x k false t x' k'
       → AskedLast R s k (x ∷ []) (true ∷ []) (k' ∷ x' ∷ []) t
   last-stays s t k x x' k' h = (false, x', k', t, [], h, refl, (x' ∷ [], (refl, refl, refl), refl))
@@ -100,10 +96,8 @@ module _ {S T : Type 0} (R : OnPairs S T) where
   -- the items `zs` were kept, and `ws` is the list of the kept items, including `l`. The tests
   -- changed the state of the closure from `t` to `u`.
   module _ (t u : S) (l : T) (g : List Bool) (ws zs : List T) (m : AskedLast R t l zs g ws u) where
-    -- Suppose that the items `xs` were tested after the kept item `k`, and that the kept items,
-    -- including `k`, are the items `pre`, followed by `l`. If the items `zs` were then tested after
-    -- `l`, and the kept items, including `l`, are `ws`, then the tests of `xs ++ zs` after `k` keep
-    -- the items `pre ++ ws`.
+    -- If testing `xs` after the kept item `k` leaves the kept items `pre` and then `l`, and testing
+    -- `zs` after `l` leaves `ws`, then testing `xs ++ zs` after `k` leaves `pre ++ ws`.
     last-append : (xs : List T) (s : S) (k : T) (f : List Bool) (pre : List T)
         → AskedLast R s k xs f (pre ++ l ∷ []) t → AskedLast R s k (xs ++ zs) (f ++ g) (pre ++ ws) u
     last-append [] s k f pre h =
@@ -134,9 +128,8 @@ module _ {S T : Type 0} (R : OnPairs S T) where
 
   -- The following definitions and lemmas are about adjacent items that are all kept.
 
-  -- `PairStays` states that the first `m` items of the list `xs` were kept. The first item is kept
-  -- without a test, and each later item was tested against the item before it. The tests turned
-  -- `xs` into `ys`, and changed the state of the closure from `s` to `t`.
+  -- `PairStays` holds if the first `m` items of the list `xs` were kept. The tests turned `xs` into
+  -- `ys`, and the state `s` of the closure into `t`.
   pub record PairStays (m : ℕ) (s : S) (xs : List T) (t : S) (ys : List T) : Type 0 where
     pub first : T
     pub done : List T
@@ -166,9 +159,8 @@ module _ {S T : Type 0} (R : OnPairs S T) where
       }
 
   module _ (m : ℕ) (s : S) (xs : List T) (t : S) (ys : List T) (h : PairStays m s xs t ys) where
-    -- `NextPair b u zs a` holds if the next test, `a`, compared the first untested item `a.later`
-    -- with the last kept item `h.last`. The test `a` returned `b`, and left the closure in the
-    -- state `u` and the list as `zs`.
+    -- `NextPair b u zs a` holds if the next test, `a`, compared the first untested item with the
+    -- last kept item. It returned `b`, and left the state `u` and the list `zs`.
     pub record NextPair (b : Bool) (u : S) (zs : List T)
         (a : IsPairAskedAt R m t ys b u zs) : Type 0 where
       pub front : a.before ≡ h.pre
@@ -200,9 +192,8 @@ module _ {S T : Type 0} (R : OnPairs S T) where
     next-asked b u zs a = subst (λ (k : T). R t a.later k b u a.later_left a.kept_left)
         (next-pair b u zs a).last a.asked
 
-    -- The list `xs` consists of four parts, in this order: its first item, the items that were
-    -- tested before the next test `a`, the item that `a` tested, and the items that are still
-    -- untested.
+    -- The list `xs` consists of its first item, the items tested before the next test `a`, the item
+    -- that `a` tested, and the untested items.
     next-was : (b : Bool) (u : S) (zs : List T) (a : IsPairAskedAt R m t ys b u zs)
         → xs ≡ h.first ∷ ((h.done ++ a.later ∷ []) ++ a.after)
     next-was b u zs a = h.was ∙ ap (λ (l : List T). h.first ∷ l)
@@ -248,9 +239,8 @@ module _ {S T : Type 0} (R : OnPairs S T) where
           now = next-now false u zs a;
         }
 
-    -- Suppose that the first `m` items were kept. If the test of the item at index `m` decides to
-    -- remove this item, then `PairsAskedUpTo` holds: the first `m` items were kept, and the tests
-    -- stopped at the item at index `m`.
+    -- If the first `m` items were kept, and the test of the item at index `m` removes this item,
+    -- then `PairsAskedUpTo` holds: the tests stopped at index `m`.
     pub pair-goes : (u : S) (zs : List T) → IsPairAskedAt R m t ys true u zs
         → PairsAskedUpTo R m s xs u zs
     pair-goes u zs a =
@@ -281,9 +271,8 @@ module _ {S T : Type 0} (R : OnPairs S T) where
     pub run-left : take m ys ≡ r.left
     run-left = ap (take m) r.now ∙ take_at r.left (r.over ++ r.after) m r.long
 
-    -- From index `m` onward, the list `ys` consists of `r.over` and `r.after`. The list `r.over`
-    -- contains the item to be removed, if there is one. The list `r.after` contains the untested
-    -- items.
+    -- From index `m` onward, the list `ys` consists of `r.over` (the item to be removed, if any)
+    -- and the untested items `r.after`.
     pub run-over : drop m ys ≡ r.over ++ r.after
     run-over = ap (drop m) r.now ∙ drop_at r.left (r.over ++ r.after) m r.long
 
@@ -309,10 +298,8 @@ module _ {S T : Type 0} (R : OnPairs S T) where
           | inr q ↦ (q.1.0, q.1.1)
         ]
 
-    -- The list `r.stays` contains one flag for each tested item. The flag is true if the item is
-    -- kept. Suppose that `r.stays` consists of `r.more` true flags, followed by the false flags
-    -- `f`. Then the number `m` of kept items is 1 plus the number of true flags in `r.stays`. (The
-    -- first item is kept without a test.)
+    -- The number `m` of kept items is 1 plus the number of true flags in `r.stays`. (A true flag
+    -- means that a tested item is kept. The first item is kept without a test.)
     pub run-count : (f : List Bool) → trues f ≡ 0 → r.stays ≡ all-stay r.more ++ f
         → suc (trues r.stays) ≡ m
     run-count f none e =
@@ -322,9 +309,8 @@ module _ {S T : Type 0} (R : OnPairs S T) where
   -- list during an edit.
 
   module _ {A : Type 0} (v w : Open T A) where
-    -- `Moved front cost` states that the open block `w` has the front items `front` and the cost
-    -- `cost`. It also states that `w` differs from the open block `v` at most in its front items,
-    -- its cost, its first gap and its middle items.
+    -- `Moved front cost` holds if `w` is the open block `v` with the front items `front` and the
+    -- cost `cost`. Its first gap and its middle items may also differ from those of `v`.
     abbrev Moved : List T → Cost → Type 0
     Moved front cost = w ≡ record v
         { front = front; gap = w.gap; rest = w.rest; cost = cost }
@@ -337,11 +323,9 @@ module _ {S T : Type 0} (R : OnPairs S T) where
     moved e n = λ i. record v { front = e i; gap = w.gap; rest = w.rest; cost = n i }
 
     module _ (s t : S) where
-      -- `Dedups` relates an open block before some tests for duplicates to the open block after
-      -- them. Suppose that the middle items `done` of the open block `v` were tested. The kept
-      -- items of `done` were moved to the end of the front items, and the other items of `done`
-      -- were removed. If the resulting open block `w` has a gap before its middle items, then
-      -- `Dedups` relates `v` to `w`.
+      -- If the middle items `done` of the open block `v` were tested, and each was moved to the
+      -- front items or removed, then `Dedups` (the effect of tests for duplicates) relates `v` to
+      -- the result `w`.
       dedups-of : (before : List T) (first : T) (done : List T) (stays : List Bool) (kept : List T)
           → v.front ≡ before ++ first ∷ [] → v.rest ≡ done ++ w.rest
           → AskedLast R s first done stays kept t → 0 < w.gap
@@ -360,9 +344,8 @@ module _ {S T : Type 0} (R : OnPairs S T) where
             now = now;
           }
 
-    -- `Dedups` relates an open block before some tests for duplicates to the open block after them.
-    -- If the first middle item `x` was tested and removed, then `Dedups` relates the open block `v`
-    -- before this test to the open block `w` after the removal.
+    -- If the first middle item `x` of the open block `v` was tested and removed, then `Dedups` (the
+    -- effect of tests for duplicates) relates `v` to the new open block `w`.
     pub dedups-goes : {s t : S} (x y : T) (front : List T)
         → IsLastAsked R s x v.front true t y front → v.rest ≡ x ∷ w.rest → 0 < w.gap
         → Moved front v.cost → Dedups R s v t w
@@ -371,10 +354,8 @@ module _ {S T : Type 0} (R : OnPairs S T) where
         (last-goes s t a.kept x y a.kept_left a.asked) gap
         (now ∙ moved (λ i. a.now i) (sym (moving-none v.cost)))
 
-    -- `Dedups` relates an open block before some tests for duplicates to the open block after them.
-    -- Suppose that the first middle item `x` was tested and kept, and that it was moved to the end
-    -- of the front items, at the cost of one move. Then `Dedups` relates the open block `v` before
-    -- this test to the open block `w` after this move.
+    -- If the first middle item `x` of the open block `v` was kept and moved to the front items,
+    -- then `Dedups` (the effect of tests for duplicates) relates `v` to the new open block `w`.
     pub dedups-stays : {s t : S} (x y : T) (front : List T)
         → IsLastAsked R s x v.front false t y front → v.rest ≡ x ∷ w.rest
         → 0 < w.gap → Moved (front ++ y ∷ []) (moving 1 v.cost) → Dedups R s v t w
@@ -387,17 +368,15 @@ module _ {S T : Type 0} (R : OnPairs S T) where
     module _ (s t u : S) (x y z : T) (front ys zs : List T)
         (a : IsLastAsked R s x v.front false t y front) (b : Bool)
         (n : IsNextAsked R t y ys b u z zs) (whole : v.rest ≡ x ∷ ys) where
-      -- Suppose that the first middle item was tested, kept and moved to the end of the front
-      -- items, and that the second middle item was then tested. Then the last two front items are
-      -- `a.kept_left` and `z`, as the tests left them. The item that was moved is `z`.
+      -- If the first middle item was kept and moved to the end of the front items, and the second
+      -- middle item was then tested, then the front items end with `a.kept_left` and `z`.
       two-front : (front ++ z ∷ [] ≡ a.before ++ a.kept_left ∷ z ∷ [])
       two-front = ap (λ (l : List T). l ++ z ∷ []) a.now
           ∙ append_assoc a.before (a.kept_left ∷ []) (z ∷ [])
 
-      -- `Dedups` relates an open block before some tests for duplicates to the open block after
-      -- them. Suppose that the first middle item of the open block `v` was tested, kept and moved
-      -- to the end of the front items. If the second middle item, `value`, was then tested and
-      -- removed, then `Dedups` relates `v` to the resulting open block `w`.
+      -- If the first middle item of the open block `v` was kept and moved to the front items, and
+      -- the second, `value`, was removed, then `Dedups` (the effect of these tests) relates `v` to
+      -- the result `w`.
       pub dedups-two : b ≡ true → (value : T) → zs ≡ value ∷ w.rest → 0 < w.gap
           → Moved (front ++ z ∷ []) (moving 1 v.cost) → Dedups R s v u w
       dedups-two e value rest gap now =
@@ -411,10 +390,9 @@ module _ {S T : Type 0} (R : OnPairs S T) where
           (a.kept_left ∷ z ∷ []) a.was (whole ∙ ap (λ (l : List T). x ∷ l)
           (n.was ∙ ap (λ (l : List T). n.later ∷ l) same)) asked gap (now ∙ moved two-front refl)
 
-      -- `Dedups` relates an open block before some tests for duplicates to the open block after
-      -- them. Suppose that the first `m + 1` middle items of the open block `v` were kept and moved
-      -- to the end of the front items, and that the next middle item, if there is one, was tested
-      -- and removed. Then `Dedups` relates `v` to the resulting open block `w`.
+      -- If the first `m + 1` middle items of the open block `v` were kept and moved to the front
+      -- items, and the next one, if any, was removed, then `Dedups` (the effect of these tests)
+      -- relates `v` to the result `w`.
       pub dedups-run : b ≡ false → (m : ℕ) (q : S) (ws : List T) (r : PairsAskedUpTo R m u zs q ws)
           → r.after ≡ w.rest → suc (trues r.stays) ≡ m
           → 0 < w.gap → Moved ((front ++ z ∷ []) ++ take m ws) (moving m (moving 1 v.cost))
@@ -443,9 +421,8 @@ module _ {S T : Type 0} (R : OnPairs S T) where
           ∙ append_assoc a.before (a.kept_left ∷ z ∷ []) r.left)
           (moving-more m 1 v.cost ∙ ap (λ (k : ℕ). moving k v.cost) paid))
 
-  -- `Dedups` relates an open block before some tests for duplicates to the open block after them.
-  -- Before the first test, `Dedups` relates an open block `v` to `v` itself if `v` has at least one
-  -- front item, and a gap of empty slots before its middle items.
+  -- Before the first test, `Dedups` (the effect of tests for duplicates) relates the open block `v`
+  -- to itself, if `v` has a front item and a gap before its middle items.
   pub dedups-start : {A : Type 0} (s : S) (v : Open T A) → 0 < length v.front
       → 0 < v.gap → Dedups R s v s v
   dedups-start s v some gap =
@@ -463,8 +440,8 @@ module _ {S T : Type 0} (R : OnPairs S T) where
         now = λ i. record v { front = p.2 i; cost = sym (moving-none v.cost) i };
       }
 
-  -- `Dedups` relates an open block before some tests for duplicates to the open block after them.
-  -- It is transitive: if `Dedups` relates `v` to `w`, and `w` to `z`, then it relates `v` to `z`.
+  -- `Dedups`, the effect of tests for duplicates, is transitive: if it relates the open block `v`
+  -- to `w`, and `w` to `z`, then it relates `v` to `z`.
   pub dedups-then : {A : Type 0} {s t u : S} {v w z : Open T A} → Dedups R s v t w
       → Dedups R t w u z → Dedups R s v u z
   dedups-then {s = s} {t} {u} {v} {w} {z} h k =
@@ -502,17 +479,14 @@ module _ {S T : Type 0} (R : OnPairs S T) where
 
   module _ {A : Type 0} (v w : Open T A) (m : ℕ) (s t : S) (ys : List T)
       (r : PairsAskedUpTo R m s v.rest t ys) where
-    -- `RunPassed` states that the front items of the open block `w` are exactly the `m` kept items,
-    -- as the tests left them. Apart from the front items, `w` may differ from the open block `v`
-    -- only in the gap and the middle items. The cost is the same, because the kept items were not
-    -- moved.
+    -- `RunPassed` holds if `w` is the open block `v` with the `m` kept items as its front items.
+    -- The gap and the middle items may also differ. The cost is the same.
     abbrev RunPassed : Type 0
     RunPassed = Moved v w (take m ys) v.cost
 
-    -- `IsDeduped` relates an open block before the removal of all duplicates to the open block
-    -- after it. Suppose that the first `m` middle items of the open block `v` were kept, and that
-    -- the next middle item, `value`, was removed. If the removal of all later duplicates then led
-    -- to the open block `z`, then `IsDeduped` relates `v` to `z`.
+    -- If the first `m` middle items of the open block `v` were kept, and removing `value` and all
+    -- later duplicates leads to `z`, then `IsDeduped` (the removal of all duplicates) relates `v`
+    -- to `z`.
     pub deduped-goes : (value : T) (u : S) (z : Open T A) → RunPassed → drop m ys ≡ value ∷ w.rest
         → Dedups R t w u z → z.rest ≡ [] → IsDeduped R s v u z
     deduped-goes value u z p k h none =
@@ -545,9 +519,8 @@ module _ {S T : Type 0} (R : OnPairs S T) where
           });
         }
 
-    -- `IsDeduped` describes the removal of all duplicates from an open block. If the tests found no
-    -- item to be removed, then all items were kept, and `IsDeduped` relates the open block `v`
-    -- before the tests to the open block `w` after them.
+    -- If the tests found no duplicate, then `IsDeduped` (the removal of all duplicates) relates the
+    -- open block `v` before them to the open block `w` after them.
     pub deduped-ends : RunPassed → drop m ys ≡ [] → w.rest ≡ [] → IsDeduped R s v t w
     deduped-ends p k none =
         let g = run-ends m s v.rest t ys r k in
@@ -568,9 +541,8 @@ module _ {S T : Type 0} (R : OnPairs S T) where
           });
         }
 
--- In this module, `R` describes the calls to a closure that compares two items. A wrapper is a
--- struct that calls this closure and returns the result of the closure. `J` is the type of the
--- wrapper, and `inside` maps each state of the wrapper to the state of the closure.
+-- In this module, `J` is the type of a struct that wraps a closure and returns its results.
+-- `inside` maps each state of this wrapper to the state of the closure.
 module _ {J S T : Type 0} (R : OnPairs S T) (inside : J → S) where
   -- `through` describes the calls to a wrapper of a closure. Each state of the wrapper contains a
   -- state of the closure. `through` applies `R`, the relation that describes the calls to the
@@ -579,7 +551,7 @@ module _ {J S T : Type 0} (R : OnPairs S T) (inside : J → S) where
   through s x k b t y l = R (inside s) x k b (inside t) y l
 
   -- If a wrapper of a closure tested the items `xs` after the kept item `k`, then the closure
-  -- itself was called with the same items and returned the same results.
+  -- itself returned the same results for the same items.
   last-through : (xs : List T) (s t : J) (k : T) (f : List Bool) (ys : List T)
       → AskedLast through s k xs f ys t → AskedLast R (inside s) k xs f ys (inside t)
   last-through [] s t k f ys h = (h.0, h.1, ap inside h.2)
@@ -602,9 +574,8 @@ module _ {J S T : Type 0} (R : OnPairs S T) (inside : J → S) where
   pairs-through [] s t f ys h = (h.0, h.1, ap inside h.2)
   pairs-through (x ∷ xs) s t f ys h = last-through xs s t x f ys h
 
-  -- Suppose that a wrapper calls a closure and returns the result of the closure. If a call to
-  -- `dedup_by` with this wrapper turns the list `v` into the list `w`, then a call to `dedup_by`
-  -- with the closure itself also turns `v` into `w`.
+  -- If `dedup_by` with a wrapper of a closure turns the list `v` into `w`, then `dedup_by` with the
+  -- closure itself also turns `v` into `w`.
   pub deduped-through : {A : Type 0} (s : J) (v w : Thin T A) (t : J) → IsDedupedTo through s v w t
       → IsDedupedBy R (inside s) v w
   deduped-through s v w t h = (
@@ -619,9 +590,8 @@ module _ {J S T : Type 0} (R : OnPairs S T) (inside : J → S) where
 
 -- In this module, the function `E` says whether an item is a duplicate of the last kept item.
 module _ {S T : Type 0} (E : T → T → Bool) where
-  -- Suppose that the items `xs` follow the kept item `k`, and that the function `E` compared each
-  -- of them with the last item kept before it. Let the flags `f` say which of the items `xs` are
-  -- kept. Then `f` is `unlike_from E k xs`, and the list `ys` of the kept items, including `k`, is
+  -- If the function `E` compared each item of `xs` with the last item kept before it, beginning
+  -- with `k`, then the flags `f` are `unlike_from E k xs`, and the kept items `ys` are
   -- `dedup_from E k xs`.
   last-compares : (xs : List T) (s t : S) (k : T) (f : List Bool) (ys : List T)
       → AskedLast (Compares E) s k xs f ys t → (f ≡ unlike_from E k xs) × (ys ≡ dedup_from E k xs)

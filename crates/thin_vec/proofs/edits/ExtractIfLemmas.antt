@@ -44,21 +44,18 @@ module _ {F T : Type 0} (R : F → T → Bool → F → T → Type 0) where
       answered false more m = omega (arith, more m.0 m.1, ap length m.2)
 
   module _ {S : Type 0} (of : S → F) where
-    -- `J` describes the calls to a predicate that negates the result of a closure: it returns true
-    -- if the closure returns false, and false if the closure returns true. If `s` is a state of the
-    -- predicate, then `of s` is the state of the closure.
+    -- `J` describes the calls to a predicate that negates the result of a closure. If `s` is a
+    -- state of the predicate, then `of s` is the state of the closure.
     abbrev J : S → T → Bool → S → T → Type 0
     J s x b t y = R (of s) x (not b) (of t) y
 
-    -- In this module, the items `after` are untested, and the closure is in the state `of between`.
-    -- If `after` is empty, then `item` is `None`. Otherwise, the closure returns true for the first
-    -- item of `after`, and `item` is this item, as the closure left it. After this test, the state
-    -- is `t`, and the items `rest` are untested.
+    -- In this module, the items `after` have not been tested. The next test returns true for the
+    -- first of them, and `item` is this item as the test left it. If `after` is empty, then `item`
+    -- is `None`.
     module _ (between : S) (after : List T) (item : Option T) (t : F) (rest : List T)
         (e : ExtractsNext R (of between) after item t [] rest) where
-      -- Suppose that no item of the list `run` is to be extracted. Then a call to `next` that tests
-      -- the list `run ++ after` extracts the first item of `after`. If `after` is empty, then this
-      -- call extracts no item.
+      -- If no item of `run` is to be extracted, then a call to `next` that tests `run ++ after`
+      -- extracts the first item of `after`, or no item if `after` is empty.
       picked-after : (s : S) (run left : List T) → Asked J s run (stay left) between
           → ExtractsNext R (of s) (run ++ after) item t left rest
       picked-after s [] [] a =
@@ -103,9 +100,8 @@ module _ {F T : Type 0} (R : F → T → Bool → F → T → Type 0) where
       was : xs ≡ h.run ++ h.after
       was = h.was ∙ ap (λ (l : List T). l ++ (h.run ++ h.after)) none-before
 
-      -- After the tests, the list `ys` consists of the kept items `h.left`, followed by `h.end`.
-      -- The list `h.end` contains the item to be extracted, if there is one, and the untested
-      -- items.
+      -- After the tests, the list `ys` consists of the kept items `h.left`, followed by `h.end`:
+      -- the item to be extracted, if any, and the untested items.
       now : ys ≡ h.left ++ h.end
       now = h.now ∙ ap (λ (l : List T). l ++ (h.left ++ h.end)) none-before
 
@@ -129,9 +125,8 @@ module _ {F T : Type 0} (R : F → T → Bool → F → T → Type 0) where
       pub picked-room : m ≤ length ys
       picked-room = omega (arith, reached, ap length now, length-append h.left h.end)
 
-      -- Suppose that the tests kept the first `m` items of the list `xs`. If the search through the
-      -- later items yields `item`, then the search through the whole list `xs` also yields `item`.
-      -- (`item` is `None` if nothing is extracted.)
+      -- If the first `m` items of the list `xs` were kept, and the search through the items after
+      -- them yields `item`, then the search through `xs` yields `item`.
       whole : (item : Option T) (rest : List T) → ExtractsNext R (of h.between) h.after item (of t)
           [] rest → ExtractsNext R (of s) xs item (of t) (take m ys) rest
       whole item rest e =
@@ -155,9 +150,8 @@ module _ {F T : Type 0} (R : F → T → Bool → F → T → Type 0) where
           whole (Some v) zs (stops-at-item h.between t h.after h.end v zs
           h.stops (sym end-is ∙ some))
 
--- Suppose that the list `xs` contains at least `k` items, so that `take k xs` contains `k` items.
--- If `gap` is 0, then no item is moved, and `cost` does not change. Otherwise, moving the items
--- `take k xs` across a gap of `gap` empty slots adds `k` moves to `cost`.
+-- If `k ≤ length xs`, then moving `k` items and moving the items `take k xs` lead to the same cost.
+-- (If `gap` is 0, no item is moved.)
 pub cost-of : {T : Type 0} (gap : ℕ) (cost : Cost) (k : ℕ) (xs : List T) → k ≤ length xs
     → (if gap == 0 then cost else moving k cost)
     ≡ (if gap == 0 then cost else moving (length (take k xs)) cost)

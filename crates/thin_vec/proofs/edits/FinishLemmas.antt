@@ -21,9 +21,8 @@ use Rattle.thin_vec.proofs.list.ExtendLemmas.{yields-join}
 use Rattle.thin_vec.proofs.edits.SpliceLemmas.{between-length, between-more, drains-more, run-moves, stopped-more, taken-join, taken-spare}
 
 module _ {T A : Type 0} where
-  -- `IsWide` describes the open block `b` after a gap of `count` slots was opened in the list `u`,
-  -- before the item at index `at`. Unless `count` is 0, the items from index `at` onward were moved
-  -- up to open this gap, at the cost of one move each.
+  -- `IsWide` holds if the open block `b` results from opening a gap of `count` slots in the list
+  -- `u` before index `at`. The items from index `at` onward are now tail items.
   pub record IsWide (b : Open T A) (u : Thin T A) (at count : ℕ) : Type 0 where
     pub in_bounds : at ≤ length u.items
     pub front : b.front ≡ take at u.items
@@ -33,9 +32,9 @@ module _ {T A : Type 0} where
 
 module _ {S T A : Type 0} (steps : S → Option T → S → Type 0) (can : S → Type 0)
     (remaining : S → Count) where
-  -- `FillsGap v a s w f` states that items of the iterator `s` were put into the gap of the open
-  -- block `v`, until the gap was full or the iterator ended. The open block was then closed, and
-  -- became the block of the list `w` with the allocator `a`. `f` contains the rest of the iterator.
+  -- `FillsGap v a s w f` holds if the iterator `s` filled the gap of the open block `v` or ended,
+  -- and closing `v` gave the list `w` with the allocator `a`. `f` contains the rest of the
+  -- iterator.
   abbrev pub FillsGap : Open T A → A → S → Thin T A → Filled S → Type 0
   FillsGap v a s w f =
       (by : IsFilledBy steps can remaining v.gap s f) × IsClosedWith v by.items a w
@@ -84,20 +83,16 @@ module _ {S T A : Type 0} {steps : S → Option T → S → Type 0} {can : S →
     filled-drains done = (f.rest, subst (λ b. Gives steps s p.0.items b f.rest) done p.0.gave)
 
     module _ (rule : Rule) (R : RattleType) (n : ℕ) (left : Count) where
-      -- `HasTaken` describes how adding items changed a list. Suppose that items were put into the
-      -- gap of the open block `v`, and that closing this gap moved old items at most `n` times in
-      -- total. Then `HasTaken` relates the list of the old items to the new list `w`, and bounds
-      -- the number of moves of old items by `n`.
+      -- `HasTaken` describes how adding items changed a list, and bounds the moves of old items. If
+      -- items were put into the gap of the open block `v`, and closing `v` took at most `n` moves
+      -- of old items, then `HasTaken` holds with the bound `n`.
       pub filled-taken : p.1.cost.0 ≤ n → HasTaken rule R (left_of v a) w n left
       filled-taken few =
           taken-spare rule R (left_of v a) w (length p.0.items) p.1.cost.0 n left p.1.cost.1
           p.1.capacity (omega (arith, filled-long, length-append v.front v.tail)) few p.1.alloc
 
-      -- `HasTaken` describes how adding items changed a list. Suppose that opening a gap in the
-      -- list `u` before index `at` moved the `length u.items - at` items after it, that new items
-      -- were put into the gap, and that closing the gap took `m` moves of old items. If the sum of
-      -- these moves is at most `n`, then `HasTaken` relates `u` to the new list `w`, with the bound
-      -- `n` on the moves of old items.
+      -- Suppose that opening a gap in the list `u`, filling it and closing it took at most `n`
+      -- moves of old items. Then `HasTaken` relates `u` to the new list `w` with this bound.
       pub wide-taken : (u : Thin T A) (at count : ℕ) → IsWide v u at count → a ≡ u.alloc
           → p.1.cost.0 + (length u.items - at) ≤ n → HasTaken rule R u w n left
       wide-taken u at count wide from few =
@@ -123,8 +118,8 @@ module _ {S T A : Type 0} {steps : S → Option T → S → Type 0} {can : S →
     pub reached-long : length u.items ≡ end + length v.tail
     reached-long = omega (arith, ap length p.items, between-length v xs, p.ends)
 
-    -- `IsReached` describes a state during a call to `finish`. If it holds for the list `u`, and
-    -- `u` grows and becomes the list `w` with the same items, then it also holds for `w`.
+    -- If `IsReached`, which describes a state during `finish`, holds for the list `u`, then it also
+    -- holds for a list `w` with the same items.
     pub reached-grown : (w : Thin T A) → w.items ≡ u.items
         → IsReached steps can remaining v s w xs end t
     reached-grown w same = record {
@@ -137,10 +132,8 @@ module _ {S T A : Type 0} {steps : S → Option T → S → Type 0} {can : S →
       nearer = p.nearer;
     }
 
-    -- `HasTaken` describes how adding items changed a list, and bounds the number of moves of old
-    -- items. Suppose that it holds with the bound `m` for the first part of a call to `finish`, and
-    -- with the bound `n` for the second part. (Between these parts, the list is `u`.) If
-    -- `m + n ≤ k`, then it holds with the bound `k` for both parts together.
+    -- If the two parts of a call to `finish` satisfy `HasTaken` with the bounds `m` and `n` on
+    -- moves of old items, then the whole call satisfies it with each bound `k ≥ m + n`.
     pub reached-taken : (rule : Rule) (R : RattleType) → KeepsLaw rule → (a : A) (w : Thin T A)
         (m n k : ℕ) → m + n ≤ k → HasTaken rule R (left_of v a) u m (remaining s)
         → HasTaken rule R u w n (remaining t) → HasTaken rule R (left_of v a) w k (remaining s)
@@ -151,10 +144,8 @@ module _ {S T A : Type 0} {steps : S → Option T → S → Type 0} {can : S →
         (λ fit same. omega (arith, fit, same, ap length p.items, long, left, p.nearer))
         before now
 
-    -- `IsExtended` states which capacity a list may have after items were added. Suppose that the
-    -- first part of a call to `finish` led to the list `u`, and did not change the capacity. If
-    -- `IsExtended` holds with the capacity `d` for the second part of the call, then it also holds
-    -- with the capacity `d` for the whole call.
+    -- If the first part of a call to `finish` kept the capacity, and `IsExtended` allows the
+    -- capacity `d` after the second part, then it also allows `d` after the whole call.
     pub reached-extended : (rule : Rule) (R : RattleType) (a : A) (d n : ℕ)
         → u.capacity ≡ v.capacity → IsExtended rule R u d n (remaining t)
         → IsExtended rule R (left_of v a) d n (remaining s)
@@ -171,10 +162,9 @@ module _ {S T A : Type 0} {steps : S → Option T → S → Type 0} {can : S →
               ((ap (λ n. n + (length xs + e.0)) (length-append v.front v.tail) ∙ want) i)) ∙ e.2,
         )
 
-    -- `IsReached` describes a state during a call to `finish`. Suppose that it holds for the list
-    -- `u`, that more items were then inserted into `u` at index `end`, and that the iterator has
-    -- not ended yet. Then `IsReached` also holds for the new list `w` and all items that have been
-    -- inserted so far.
+    -- `IsReached` describes a state during `finish`. If it holds for the list `u`, and more items
+    -- were then inserted at index `end`, but the iterator has not ended yet, then it also holds for
+    -- the new list `w`.
     pub reached-more : {w : Thin T A} {room : ℕ} {f : Filled S}
         (by : IsFilledBy steps can remaining room t f)
         → w.items ≡ (take end u.items ++ by.items) ++ drop end u.items
@@ -195,10 +185,9 @@ module _ {S T A : Type 0} {steps : S → Option T → S → Type 0} {can : S →
         }
 
   module _ {rule : Rule} {R : RattleType} (v : Open T A) (a : A) (s : S) (w : Thin T A) where
-    -- `IsFinished` describes a whole call to `finish`. Suppose that the call inserted all items
-    -- that the iterator yields, and returned `Ok`. If the new list `w` satisfies `HasTaken` (a
-    -- statement about the change of the list) and `IsExtended` (a statement about its capacity),
-    -- then `IsFinished` holds.
+    -- If a call to `finish` inserted all items of the iterator, and the new list `w` satisfies
+    -- `HasTaken` (which describes the change of the list) and `IsExtended` (which restricts the
+    -- capacity), then `IsFinished` holds with the result `Ok`.
     pub finished-ok : (x : Unit {0})
         → (xs : List T) × Drains steps s xs × (w.items ≡ with_between v xs)
         → HasTaken rule R (left_of v a) w (2 * length v.tail) (remaining s)
@@ -216,10 +205,9 @@ module _ {S T A : Type 0} {steps : S → Option T → S → Type 0} {can : S →
       cause = tt;
     }
 
-    -- `IsFinished` describes a whole call to `finish`. Suppose that there is at least one tail
-    -- item, that the call first inserted the items `xs` before the tail items, and that the rest of
-    -- the call returned `r`. If the rest of the call meets the conditions of `IsFinished`, then the
-    -- whole call also meets them, with the result `r`.
+    -- If a call to `finish` inserted the items `xs` before the tail items, and the rest of the call
+    -- meets the conditions of `IsFinished`, then the whole call also meets them, with the same
+    -- result `r`.
     pub finished-from : {t : S} {u : Thin T A} {xs : List T} {end : ℕ}
         (r : Result (Unit {0}) (SpliceRefused T S A))
         → IsReached steps can remaining v s u xs end t → 0 < length v.tail

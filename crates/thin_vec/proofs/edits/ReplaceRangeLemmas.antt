@@ -1,6 +1,5 @@
--- These lemmas are about replacing a range of a list with clones. The clones are added to the list
--- first, and are then moved into the range. The lemmas state what the list contains before this
--- move, and how contracts describe the open block after it.
+-- These lemmas are about replacing a range of a list with clones. The clones are appended to the
+-- list, and are then moved into the range.
 use Rattle.std.proofs.Common.{if◌then◌else◌, inl, inr, eqb, min, Bool, true, false, ◌≡◌, ℕ, zero, suc, ◌+◌, ◌-◌, ◌≤◌, List, [], ◌∷◌, ◌++◌, None, Option, append_assoc, ap, arith, drop, length, length-append, refl, sym, take, ◌∙◌}
 use Rattle.std.proofs.lemmas.List.{drop_at, length-drop, length-take-le, replicate-append-replicate, take-append-drop, take-append-le, take_at}
 use Rattle.std.proofs.lemmas.Bool.{cases_lt}
@@ -20,9 +19,8 @@ use Rattle.thin_vec.proofs.edits.SpliceLemmas.{moving-add, moving-zero}
 use Rattle.thin_vec.proofs.OpenBlockLemmas.{Found, found, past_tail, reached}
 use Rattle.thin_vec.proofs.ListLemmas.{length-empty, length-full}
 
--- The relation `R` says which items are clones of each other. Suppose that the items `xs` are
--- clones of the items `ss`, in the same order, and that the items `ys` are clones of the items
--- `ts`. Then the items `xs ++ ys` are clones of the items `ss ++ ts`.
+-- If the items `xs` are clones of the items `ss`, and `ys` are clones of `ts`, then `xs ++ ys` are
+-- clones of `ss ++ ts`. `R` says which items are clones of each other.
 pub all_zip-append : {X : Type 0} (R : X → X → Type 0) (ss ts xs ys : List X) → AllZip R ss xs
     → AllZip R ts ys → AllZip R (ss ++ ts) (xs ++ ys)
 all_zip-append R [] ts [] ys e h = h
@@ -39,9 +37,8 @@ module _ {T : Type 0} where
   take-less (x ∷ xs) (suc i) (suc j) h = ap (λ (l : List T). x ∷ l)
       (take-less xs i j (omega arith))
 
-  -- Suppose that `zs` is the list `xs` with the items `ys` inserted at index `i`, and that `n` is
-  -- the length of `ys`. If the `n` items from index `i` onward are removed from `zs`, then the
-  -- result is `xs`.
+  -- If the `n` items `ys` were inserted into the list `xs` at index `i`, then removing the `n`
+  -- items from index `i` onward results in `xs`.
   pub put-and-gone : (xs ys : List T) {zs : List T} (i : ℕ) {n : ℕ} → i ≤ length xs
       → length ys ≡ n → zs ≡ replace_range xs i i ys → take i zs ++ drop (i + n) zs ≡ xs
   put-and-gone xs ys {zs} i {n} within count is =
@@ -55,9 +52,8 @@ module _ {T : Type 0} where
       (λ m. front m ++ past m) ∙ take-append-drop i xs
 
 module _ {T : Type 0} (xs : List T) (i j : ℕ) (order : i ≤ j) (within : j ≤ length xs) where
-  -- Suppose that the list `w` is the list `xs` after the items `zs` were inserted at index `j`, and
-  -- the items `ys` were then appended. If the items `i..j` of `w` are removed, and the items `ys`
-  -- are moved to index `i`, then the result is `xs` with `ys ++ zs` in place of the items `i..j`.
+  -- Let `w` be `xs` with `zs` inserted at index `j` and `ys` appended. Removing the items `i..j` of
+  -- `w` and moving `ys` to index `i` replaces the items `i..j` of `xs` with `ys ++ zs`.
   pub brought-in : (ys zs : List T) {w : List T} {n : ℕ} → length ys ≡ n
       → w ≡ replace_range xs j j zs ++ ys
       → (take i w ++ drop (length w - n) w) ++ take (length w - n - j) (drop j w)
@@ -125,8 +121,8 @@ module _ {T A : Type 0} (h : Inside T A) (o : IsOpen h) (b : Block T A) (k : ℕ
     cost = b.cost;
   }
 
-  -- If the last `k` tail items were moved to the slots directly after the front items, then
-  -- `brought` is a valid open block, and `brought-seen` is how contracts see this open block.
+  -- If the last `k` tail items were moved directly after the front items, then `brought` is a valid
+  -- open block, and contracts see it as `brought-seen`.
   pub bring-step : b.slots ≡ moved (h.len - k) h.front_end k h.block.slots
       → Found brought brought-seen
   bring-step now =
@@ -280,11 +276,9 @@ pub record IsParted (k r k1 k2 : ℕ) : Type 0 where
   -- The number of all clones is `k1 + k2`.
   pub all : k1 + k2 ≡ k
 
--- Suppose that `k` clones replace a range of `r` items, and that `t` items follow the range. First,
--- `k2` clones are inserted directly after the range. They replace no item, so `z` is 0. Now `u`
--- items follow the range. Next, `k1` clones are appended to the list, and are moved into the range.
--- In total, these steps take `min k r` more moves than replacing the range with `k` items that
--- already exist.
+-- Suppose that `k` clones replace a range of `r` items before `t` other items: `k1` clones go into
+-- the range, and `k2` clones after it. This takes `min k r` more moves than replacing the range
+-- with `k` items that already exist.
 pub cloning-moves : {k r k1 k2 : ℕ} → IsParted k r k1 k2 → (t : ℕ) {z u : ℕ} → z ≡ 0 → u ≡ t + k2
     → ((k2 + (if eqb k2 z then 0 else t)) + k1) + (k1 + (if eqb k1 r then 0 else u))
     ≡ (k + (if eqb k r then 0 else t)) + min k r

@@ -34,10 +34,9 @@ pub moving-zero : (c : Cost) → c ≡ moving 0 c
 moving-zero c = ap (λ m. let d : Cost = record c { moves = m } in d)
     (let e : c.moves ≡ c.moves + 0 = omega arith in e)
 
--- Suppose that `n` items were put into the gap of the open block `v`, with one move each. Suppose
--- also that the resulting open block `w` has no middle items. Then closing `w` takes at most one
--- move for each tail item (each item after the range). If the gap of `w` has no slots, then closing
--- `w` takes no move.
+-- Suppose that `n` items were put into the gap of the open block `v`, with one move each, and that
+-- the resulting open block `w` has no middle items. Then closing `w` takes at most one move for
+-- each tail item, and no move at all if `w` has no gap.
 pub closed-moves : {T A : Type 0} (v w : Open T A) (n : ℕ) → w.cost ≡ moving (v.gap - w.gap)
     v.cost → w.rest ≡ [] → w.tail ≡ v.tail → n ≡ v.gap - w.gap
     → (m : ℕ) × (cost_closed w ≡ moving (n + m) v.cost) × (m ≤ length v.tail)
@@ -91,9 +90,8 @@ run-moves count n k m c d e = go (eqb count 0) e
     )
 
 module _ {S X : Type 0} (steps : S → Option X → S → Type 0) where
-  -- Suppose that calls to `next` yielded the items `xs`, and that later calls yielded the items
-  -- `ys` and then returned `o`. If `zs` is `xs ++ ys`, then all these calls together yielded `zs`
-  -- and then returned `o`.
+  -- If calls to `next` yield `xs`, and the calls after them yield `ys` and then return `o`, then
+  -- all these calls yield `xs ++ ys` and then return `o`.
   pub yields-held : (s t u : S) (xs ys zs : List X) (o : Option X) → Yields steps s xs t
       → zs ≡ xs ++ ys → YieldsThen steps t ys o u → YieldsThen steps s zs o u
   yields-held s t u xs ys zs o before e now = (
@@ -103,20 +101,19 @@ module _ {S X : Type 0} (steps : S → Option X → S → Type 0) where
     now.2,
   )
 
-  -- Suppose that calls to `next` yielded the items `xs`, and that the following call returned `o`.
-  -- If `o` is `Some x`, then all these calls together yielded the items `xs ++ x ∷ []`.
+  -- If calls to `next` yield the items `xs`, and one more call returns `Some x`, then all these
+  -- calls yield `xs ++ x ∷ []`.
   pub yields-drawn : (s u : S) (xs : List X) (o : Option X) (x : X) → o ≡ Some x
       → YieldsThen steps s xs o u → Yields steps s (xs ++ x ∷ []) u
   yields-drawn s u xs o x is all =
       yields-more steps s all.0 u xs x all.1 (subst (λ r. steps all.0 r u) is all.2)
 
-  -- Suppose that a call to `next` yielded the item `x`, and that the following calls yielded the
-  -- items `xs`. Suppose also that `x ∷ xs` is the list `held`, followed by the item in `o`, if
-  -- there is one.
+  -- A call to `next` yields `x`, and further calls yield `xs`. The list `x ∷ xs` is `held`,
+  -- followed by the item in `o`, if there is one.
   --
-  -- - If `o` is `Some y`, then these calls yielded `held ++ y ∷ []`.
-  -- - If `o` is `None`, and the next call returned `None`, then the calls including this one
-  --   yielded `held` and ended with `None`.
+  -- - If `o` is `Some y`, then all these calls yield `held ++ y ∷ []`.
+  -- - If `o` is `None`, and one more call returns `None`, then the calls yield `held` and end with
+  --   `None`.
   pub drawn-after : (s t u : S) (x : X) (xs held : List X) (o : Option X) → steps s (Some x) t
       → held ++ option_to_list o ≡ x ∷ xs
       → MatchOption o (YieldsThen steps t xs None u) (λ _. Yields steps t xs u)
@@ -171,8 +168,8 @@ inserted-long xs ys at in_bounds =
     )
 
 module _ {S X : Type 0} (steps : S → Option X → S → Type 0) where
-  -- If calls to `next` yielded the items `xs`, and later calls yielded the items `ys` and then
-  -- returned `None`, then all these calls together yielded `xs ++ ys` and then returned `None`.
+  -- If calls to `next` yield the items `xs`, and further calls yield `ys` and then return `None`,
+  -- then all these calls yield `xs ++ ys` and then return `None`.
   pub drains-more : (s t : S) (xs ys : List X) → Yields steps s xs t → Drains steps t ys
       → Drains steps s (xs ++ ys)
   drains-more s t xs ys before now =
@@ -180,11 +177,9 @@ module _ {S X : Type 0} (steps : S → Option X → S → Type 0) where
 
 module _ {S X A : Type 0} (steps : S → Option X → S → Type 0) (can : S → Type 0)
     (remaining : S → Count) where
-  -- `Stopped` describes a call to `finish` that failed with `error`. Two of its arguments are the
-  -- iterator before the call, and the list of the items that the call inserted before it failed.
-  -- Suppose that calls to `next` yielded the items `xs` and changed the iterator from `s` to `t`.
-  -- If `Stopped` holds for the iterator `t` and the empty list, then it also holds for the iterator
-  -- `s` and the list `xs`.
+  -- `Stopped` describes a call to `finish` that failed with `error`. If calls to `next` yield `xs`
+  -- and change the iterator from `s` to `t`, then `Stopped` for `t` and no inserted items implies
+  -- `Stopped` for `s` and the inserted items `xs`.
   pub stopped-more : (s t : S) (xs : List X) (error : SpliceRefused X S A) → Yields steps s xs t
       → Stopped steps can remaining t [] error → Stopped steps can remaining s xs error
   stopped-more s t xs error before (inl now) =
@@ -241,12 +236,11 @@ module _ {S T A : Type 0} (rule : Rule) (R : RattleType) (v : Thin T A) (tail : 
   }
 
   -- `IsStopCause` states why `finish` failed with `error`. It holds if there are items after the
-  -- range (`tail`), and one of two cases applies:
+  -- range (`tail`), and one of these cases applies:
   --
-  -- - The field `in_hand` of `error` is `None`, and `error.held` contains at least one item. The
-  --   cause is `CapacityOverflow` if and only if the growth rule chooses no capacity for these
-  --   items.
-  -- - The field `in_hand` of `error` is `Some`, and the cause is `OutOfMemory`.
+  -- - `error.in_hand` is `None`, and `error.held` is not empty. The cause is `CapacityOverflow` if
+  --   and only if the growth rule chooses no capacity for these items.
+  -- - `error.in_hand` is `Some`, and the cause is `OutOfMemory`.
   pub stop-at-held : 0 < length tail → (error.in_hand ≡ None → 0 < length error.held.items)
       → (error.in_hand ≡ None → (error.cause ≡ CapacityOverflow)
       ↔ (capacity_for rule R v (length error.held.items) ≡ None))
@@ -316,10 +310,8 @@ module _ {T A : Type 0} where
         cost = free i;
       }
 
-  -- `with_between v xs` contains the items of the open block `v`, but with `xs` in place of its
-  -- middle items. Suppose that the list `us` is `with_between v xs`, and that `end` is the index
-  -- directly after the items `xs` in `us`. Then inserting the items `ys` into `us` at index `end`
-  -- results in the list `with_between v (xs ++ ys)`.
+  -- `with_between v xs` is the front items of the open block `v`, then `xs`, then its tail items.
+  -- Inserting `ys` directly after `xs` results in `with_between v (xs ++ ys)`.
   pub between-more : (v : Open T A) (us xs ys : List T) (end : ℕ) → us ≡ with_between v xs
       → end ≡ length v.front + length xs
       → (take end us ++ ys) ++ drop end us ≡ with_between v (xs ++ ys)
@@ -330,16 +322,15 @@ module _ {T A : Type 0} where
       ∙ ((λ i. (take_at pre v.tail end here i ++ ys) ++ drop_at pre v.tail end here i)
       ∙ ap (λ l. l ++ v.tail) (append_assoc v.front xs ys))
 
-  -- `with_between v xs` contains the front items of the open block `v`, then the items `xs`, and
-  -- then the tail items of `v`. So its length is the sum of the lengths of these three parts.
+  -- `with_between v xs` consists of the front items of the open block `v`, the items `xs`, and the
+  -- tail items of `v`. Its length is the sum of the three lengths.
   pub between-length : (v : Open T A) (xs : List T)
       → length (with_between v xs) ≡ length v.front + length xs + length v.tail
   between-length v xs =
       omega (arith, length-append (v.front ++ xs) v.tail, length-append v.front xs)
 
-  -- `with_between v xs` contains the front items of the open block `v`, then the items `xs`, and
-  -- then the tail items of `v`. If `v` has no tail items, then appending `xs` to the front items of
-  -- `v` results in the same list.
+  -- If the open block `v` has no tail items, then `with_between v xs` consists of the front items
+  -- of `v`, followed by `xs`.
   pub after-items : (v : Open T A) (xs : List T) → v.tail ≡ []
       → (v.front ++ v.tail) ++ xs ≡ with_between v xs
   after-items v xs none =
@@ -347,9 +338,8 @@ module _ {T A : Type 0} where
       ∙ (ap (λ l. l ++ xs) (append-nil v.front)
       ∙ (sym (append-nil (v.front ++ xs)) ∙ (λ i. (v.front ++ xs) ++ sym none i)))
 
--- In this module, `rule` is the growth rule, which chooses the capacities of the lists. `R` is the
--- type of the items in Rattle, and `T` is the type of the same items in contracts. `A` is the type
--- of the allocators.
+-- In this module, `rule` is the growth rule, `R` is the item type in Rattle, `T` is the item type
+-- in contracts, and `A` is the allocator type.
 module _ (rule : Rule) (R : RattleType) {T A : Type 0} where
   -- `HasTaken rule R v w n left` states that adding items of an iterator turned the list `v` into
   -- `w`, and that the old items were moved at most `n` times in total. The iterator could yield at
@@ -388,10 +378,9 @@ module _ (rule : Rule) (R : RattleType) {T A : Type 0} where
       (ap (λ z. z.alloc) e)
 
   module _ (law : KeepsLaw rule) where
-    -- `HasTaken rule R v w n left` holds if the list `v` may become `w` while items of an iterator
-    -- are added, if the iterator could yield at most `left` items, and if at most `n` moves of old
-    -- items were counted. Reserving room counts no moves. So if reserving room for `h` more items
-    -- turned `v` into `w`, and `h ≤ size left`, then `HasTaken rule R v w 0 left` holds.
+    -- `HasTaken rule R v w n left` describes how adding at most `left` items of an iterator changed
+    -- the list `v` to `w`, with at most `n` moves of old items. If reserving room for `h` more
+    -- items changes `v` to `w`, and `h ≤ size left`, then `HasTaken rule R v w 0 left` holds.
     pub taken-reserved : (v w : Thin T A) (h : ℕ) (left : Count)
         → capacity_for rule R v h ≡ Some w.capacity → w.items ≡ v.items → w.alloc ≡ v.alloc
         → w.cost ≡ cost_at v w.capacity → (IsCheap v → IsCheap w) → h ≤ size left

@@ -1,5 +1,5 @@
--- These lemmas are for `append` and `split_off`. They say what the blocks of two lists contain
--- after the last items of one list have been moved to the end of the other list.
+-- These lemmas are for `append` and `split_off`, which move the last items of one list to the end
+-- of another list.
 use Rattle.std.proofs.Common.{◌≡◌, ℕ, ◌+◌, ◌-◌, ◌≤◌, List, ◌++◌, length, take, drop, Option, None, sym, ap, ◌∙◌, arith, length-append, append_assoc}
 use Rattle.std.proofs.lemmas.List.{length-drop, length-replicate, length-take-le, take-append-drop, replicate-append-replicate}
 use Rattle.thin_block.specs.Cost.{Cost}
@@ -72,9 +72,9 @@ module _ {T : Type 0} where
         (replicate-append-replicate k (c - length ys) None ∙ ap (λ (m : ℕ). empty m) bare))
 
 module _ {T A : Type 0} where
-  -- Suppose that `b` is the block of a list, that the items `xs` are written into the slots
-  -- directly after its last item, and that the stored length grows by `length xs`. Then the new
-  -- block `b'` is the block of the list with `xs` appended.
+  -- If the items `xs` are written directly after the last item of the block `b` of a list, and the
+  -- stored length grows by `length xs`, then the new block `b'` is the block of the list with `xs`
+  -- appended.
   pub settle-more : {b : Block T A} {a : A} → IsThin b a → (b' : Block T A) (xs : List T) (n : ℕ)
       → n ≡ b.len → n + length xs ≤ length b.slots → {l : ℕ} {k : Cost} → l ≡ n + length xs
       → IsWritten b b' (laid n (full xs) b.slots) l k
@@ -105,9 +105,8 @@ module _ {T A : Type 0} where
         settle-more t b' (drop i ys) n len (omega (arith, room, more)) (omega (arith, more))
         (slots-are w (ap (λ (r : List (Option T)). laid n r b.slots) same))
 
-  -- Suppose that `o` is the block of a list, that the slots of all items from index `i` onward are
-  -- emptied, and that the stored length becomes `i`. Then the new block `o'` is the block of a list
-  -- that contains only the first `i` items.
+  -- If all items of the block `o` from index `i` onward are removed, the new block `o'` is the
+  -- block of a list that contains only the first `i` items.
   pub settle-cut : {o : Block T A} {p : A} → IsThin o p → (o' : Block T A) (i : ℕ) {k : ℕ}
       {m : Cost} → i ≤ length (items_in o.slots) → k ≡ o.len - i
       → IsWritten o o' (emptied i k o.slots) i m

@@ -17,11 +17,9 @@ use Rattle.thin_vec.specs.ThinVec.{IsThin}
 use Rattle.thin_vec.proofs.ListLemmas.{Settled, settled, length-front, thin-room, front-grow}
 
 module _ (rule : Rule) (law : KeepsLaw rule) (R : RattleType) where
-  -- Suppose that a block of capacity `c` has to grow in order to hold `w` items, where `w` is less
-  -- than `2 ^ 64`. The option `o` contains the capacity that the growth rule chooses, if it chooses
-  -- one. If `o` is `Some`, then this capacity satisfies `Grows`: it is at least `w`, at least twice
-  -- the old capacity, and small enough to be allocated. Here, `c'` is equal to `c`, and `w'` is
-  -- equal to `w`.
+  -- Suppose that a block of capacity `c` has to grow to hold `w` items. If the growth rule chooses
+  -- a capacity, this capacity satisfies `Grows`: it is at least `w` and at least twice `c`, and can
+  -- be allocated.
   pub grows-rule : (w : ℕ) {c c' w' : ℕ} {o : Option ℕ}
       → o ≡ rule (type_size R) (type_align R) c w → c ≡ c' → w ≡ w' → c < w → w < 2 ^ 64
       → IfSome o (λ n. Grows R c' w' n)
@@ -41,9 +39,8 @@ module _ {T : Type 0} where
   front-none c = let same : c ≡ c - 0 = omega arith in ap (λ (m : ℕ). empty m) same
 
 module _ {T A : Type 0} {b : Block T A} {a : A} (t : IsThin b a) where
-  -- Suppose that the block `b` of a list is replaced with a block `b'`, which has `c` slots and the
-  -- same allocator. If the first slots of `b'` hold the same items in order, and all its other
-  -- slots are empty, then `b'` is the block of a list with the same items and the capacity `c`.
+  -- If a block `b'` of capacity `c` holds the items of the block `b` in its first slots, then `b'`
+  -- is the block of a list with the same items and the capacity `c`.
   settle-remade : (b' : Block T A) (c : ℕ) {s : List (Option T)} {k : Cost}
       → seen b' ≡ record (seen b) { slots = s; alloc = Some a; cost = k }
       → s ≡ front (items_in b.slots) c → length (items_in b.slots) ≤ c
@@ -52,9 +49,8 @@ module _ {T A : Type 0} {b : Block T A} {a : A} (t : IsThin b a) where
       settled b' a (items_in b.slots) c (ap (λ v. v.slots) w ∙ e) (ap (λ v. v.len) w ∙ t.packed.len)
       room (λ x h. some-same (sym h ∙ ap (λ v. v.alloc) w))
 
-  -- Suppose that a call tried to grow the block of a list to `c` slots, and that `b'` is the block
-  -- after the call. Whether or not the call succeeded, `b'` holds the same items as before, and has
-  -- at most `c` slots.
+  -- If a call tries to grow a block to `c` slots, the block `b'` after the call holds the same
+  -- items and has at most `c` slots, even if the call fails.
   pub settle-tried : {X E : Type 0} (r : Result X E) (b' : Block T A) (c : ℕ)
       → length b.slots < c
       → OnOk r (seen b' ≡ record (seen b) {
@@ -76,9 +72,8 @@ module _ {T A : Type 0} {b : Block T A} {a : A} (t : IsThin b a) where
     omega (arith, ap (λ (q : Block T A). length q.slots) same),
   )
 
-  -- Suppose that the first `k` slots of a block hold all items of its list. If the block shrinks to
-  -- these slots, then the new block `b'` is the block of a list with the same items and the
-  -- capacity `k`.
+  -- If the block of a list shrinks to its first `k` slots, which hold all items, then the new block
+  -- `b'` is the block of a list with the same items and the capacity `k`.
   pub settle-shrink : (b' : Block T A) (k : ℕ) {m : Cost} → length (items_in b.slots) ≤ k
       → k ≤ length b.slots
       → seen b' ≡ record (seen b) { slots = take k b.slots; alloc = Some a; cost = m }

@@ -1,6 +1,5 @@
--- These lemmas are for calls that clone items. Most of them are about clones that are written into
--- the empty slots after the last item of a list. The last two lemmas are about the items in a range
--- of a list.
+-- These lemmas are for calls that clone items and write the clones into empty slots. The last two
+-- lemmas are about the items in a range of a list.
 use Rattle.std.proofs.Common.{◌≡◌, ◌+◌, ◌-◌, ◌<◌, ◌≤◌, [], ◌∷◌, ◌++◌, ◌∙◌, List, Option, Some, ap, append_assoc, arith, drop, get_or, length, refl, suc, sym, take, zero, ℕ}
 use Rattle.std.proofs.lemmas.List.{get_or-drop, get_or-take, get_or_append_left, length-drop, length-take-le, map_push, replicate-append-replicate}
 use Rattle.std.proofs.lemmas.List.Elements.{All-from_recursion, all_zip_more, length_all_zip, recursion_from_All}
@@ -23,9 +22,8 @@ module _ {T : Type 0} {clones : T → T → Type 0} {sources : List T} {n i : �
   length-copies few = sym (length_all_zip clones (take n sources) lays.copies lays.cloned)
       ∙ length-take-le n sources few
 
-  -- Suppose that clones of the first `n` items of `sources` are in the slots from index `i` onward.
-  -- If a clone `y` of the item of `sources` at index `n` is written into slot `i + n`, then clones
-  -- of the first `n + 1` items are in the slots from index `i` onward.
+  -- Suppose that the slots from index `i` onward hold clones of the first `n` items of `sources`.
+  -- Writing a clone of the next item into slot `i + n` makes them hold `n + 1` clones.
   pub lays-more : (y : T) {x : T} {s'' : List (Option T)} → n < length sources
       → i + length sources ≤ length s → x ≡ get_or sources n x → clones x y
       → s'' ≡ set s' (i + n) (Some y) → LaysClones clones sources (n + 1) i s s''
@@ -59,9 +57,8 @@ all-repeated {T} clones x n m ys cloned = All-from_recursion (clones x) ys (each
     each (suc n) (suc m) (y ∷ ys) e = (e.0, each n m ys e.1)
 
 module _ {T : Type 0} (clones : T → T → Type 0) where
-  -- Suppose that every clone of `x` equals `x`. Suppose also that the list `ys` consists of the
-  -- items `xs`, followed by `n` clones of `x`, and that `zs` is the list `ys`, followed by `x`
-  -- itself. Then `zs` is `xs ++ replicate m x`, where `m` is `n + 1`.
+  -- If every clone of `x` equals `x`, then `xs`, followed by `n` clones of `x` and by `x` itself,
+  -- is `xs ++ replicate (n + 1) x`.
   pub equal-repeated : (n m : ℕ) {x : T} {xs ys zs : List T} → CloneEquals clones x
       → AppendsRepeats clones x n xs ys → zs ≡ ys ++ x ∷ [] → m ≡ n + 1 → zs ≡ xs ++ replicate m x
   equal-repeated n m {x} {xs} equal repeats last one =
@@ -80,9 +77,9 @@ module _ {T : Type 0} (clones : T → T → Type 0) where
       each [] e = refl
       each (y ∷ ys) e = λ i. equal y e.0 i ∷ each ys e.1 i
 
--- Suppose that `v` is a new list with the allocator `a`. Then `v` has no items, and its capacity is
--- 0. If room for `k` items is reserved in `v`, the new capacity is `ruled_capacity rule R 0 k`.
--- This is 0 if `k` is 0, and the capacity that the growth rule chooses for `k` items otherwise.
+-- If room for `k` items is reserved in the new list `v`, its capacity becomes
+-- `ruled_capacity rule R 0 k`: 0 if `k` is 0, and the capacity that the growth rule chooses
+-- otherwise.
 pub capacity-new : {T A : Type 0} (rule : Rule) (R : RattleType) (v : Thin T A) (a : A) (k : ℕ)
     → IsNew v a → capacity_for rule R v (k - length v.items) ≡ ruled_capacity rule R 0 k
 capacity-new rule R v a k new =
@@ -98,8 +95,8 @@ pub not-all : {X : Type 0} (P : X → Type 0) (xs : List X) (i : ℕ) → i < le
 not-all P [] i low never all = absurd (omega arith)
 not-all P (x ∷ xs) i low never all = never x (all i x low)
 
--- A rule set is a list of lemmas that a proof can pass to the prover. This rule set contains only
--- `capacity-new`, the lemma about the capacity of a new list.
+-- This rule set, a list of lemmas for the prover, contains only `capacity-new`, the lemma about the
+-- capacity of a new list.
 pub ruleset new_lists = (capacity-new)
 
 module _ {T : Type 0} (xs : List T) (a b : ℕ) (within : b ≤ length xs) where
@@ -107,8 +104,8 @@ module _ {T : Type 0} (xs : List T) (a b : ℕ) (within : b ≤ length xs) where
   pub length-range : length (slice_range xs a b) ≡ b - a
   length-range = length-take-le (b - a) (drop a xs) (omega (arith, length-drop a xs))
 
-  -- If `b ≤ length xs`, `i < b - a`, and `x` is the item of `xs ++ ys` at index `a + i`, then `x`
-  -- is also the item at index `i` of the range `a..b` of `xs`.
+  -- If `i < b - a`, the item of `xs ++ ys` at index `a + i` is the item at index `i` of the range
+  -- `a..b` of `xs`.
   pub get-range : (ys : List T) (i : ℕ) (x : T) → i < b - a → x ≡ get_or (xs ++ ys) (a + i) x
       → x ≡ get_or (slice_range xs a b) i x
   get-range ys i x less is = is ∙ (get_or_append_left xs ys x (a + i) (omega arith)

@@ -1,5 +1,4 @@
--- These lemmas are for calls that append the items of an iterator to a list. They are about the
--- items that calls to `next` yield, and about the list after these items were appended.
+-- These lemmas are for calls that append the items of an iterator to a list.
 use Rattle.std.proofs.Common.{true, ◌≡◌, ℕ, ◌+◌, ◌-◌, ◌<◌, ◌≤◌, List, [], ◌∷◌, ◌++◌, inl, inr, length, length-append, Option, None, Some, refl, sym, ap, subst, ◌∙◌, arith, false}
 use Rattle.std.proofs.lemmas.Bool.{cases_lt}
 use Rattle.std.proofs.lemmas.List.{map-append}
@@ -136,10 +135,9 @@ module _ {T A : Type 0} where
   put-none v n none = λ i. record v
       { cost = (sym (moving-none v.cost) ∙ ap (λ (k : ℕ). moving k v.cost) (sym none)) i }
 
-  -- Suppose that the block `v` differs from the block `u` only in its slots and in its cost, which
-  -- is the cost of `u` plus `n` moves. If one more item is put into a slot of `v`, then the
-  -- resulting block `w` also differs from `u` only in its slots and in its cost. The cost of `w` is
-  -- the cost of `u` plus `k` moves, where `k` is `n + 1`.
+  -- Suppose that the block `v` is the block `u` with other slots and `n` more moves. If one more
+  -- item is put into a slot of `v`, the resulting block `w` is `u` with other slots and `n + 1`
+  -- more moves.
   pub put-more : (u : Seen T A) {v w : Seen T A} {s : List (Option T)} (n k : ℕ) → k ≡ n + 1
       → w ≡ record v { slots = s; cost = moving 1 v.cost }
       → v ≡ record u { slots = v.slots; cost = moving n u.cost }
@@ -153,9 +151,8 @@ module _ {T A : Type 0} where
         ∙ (moving-more 1 n u.cost ∙ ap (λ (m : ℕ). moving m u.cost) (sym one)))) i;
   }
 
--- Suppose that appending the items `xs` turned the list `v` into `w`, at the cost of one move for
--- each item. Then `w` differs from `v` only in its items and in its cost, which has increased by
--- `length w.items - length v.items` moves.
+-- If appending the items `xs` to the list `v` results in `w`, with one move per item, then `w`
+-- differs from `v` only in its items and its cost.
 pub spare-kept : {T A : Type 0} (v w : Thin T A) (xs : List T)
     → w ≡ record v { items = v.items ++ xs; cost = moving (length xs) v.cost }
     → w ≡ record v
@@ -177,36 +174,31 @@ module _ (rule : Rule) (R : RattleType) (law : KeepsLaw rule) where
       omega (arith, g.doubled, p.4)
 
   -- `IsLoose rule R c d` states that a list may grow from the capacity `c` to the capacity `d`.
-  -- This relation is transitive: if it holds for `c` and `d`, and for `d` and `e`, then it holds
-  -- for `c` and `e`.
+  -- This relation is transitive.
   pub loose-join : (c d e : ℕ) → IsLoose rule R c d → IsLoose rule R d e → IsLoose rule R c e
   loose-join c d e (inl p) q = subst (λ n. IsLoose rule R n e) p q
   loose-join c d e (inr p) q = inr (p.0, p.1, p.2, p.3, omega (arith, p.4, loose-le d e q))
 
-  -- `IsKeptOrRuled rule R c d n` states that the new capacity `d` is the old capacity `c`, or a
-  -- capacity that the growth rule may choose when a list needs room for at most `n` items. Suppose
-  -- that `IsKeptOrRuled rule R c d n` holds. If `d'` is equal to `d`, and `n ≤ m`, then
-  -- `IsKeptOrRuled rule R c d' m` holds.
+  -- `IsKeptOrRuled rule R c d n` states that `d` is the old capacity `c`, or a capacity that the
+  -- growth rule may choose for at most `n` items. If it holds for `n`, it holds for every `m ≥ n`.
   pub ruled-more : (c n m : ℕ) {d d' : ℕ} → d' ≡ d → n ≤ m → IsKeptOrRuled rule R c d n
       → IsKeptOrRuled rule R c d' m
   ruled-more c n m same more (inl e) = inl (same ∙ e)
   ruled-more c n m same more (inr p) =
       inr (p.0, p.1, p.2, omega (arith, p.3, more), p.4 ∙ ap Some (sym same))
 
-  -- `IsKeptOrRuled rule R d e n` states that the new capacity `e` is the old capacity `d`, or a
-  -- capacity that the growth rule may choose for at most `n` items. Suppose that
-  -- `IsKeptOrRuled rule R d e n` holds, and that `P` holds if `e` is equal to `d`. Then `P` holds,
-  -- or `IsKeptOrRuled rule R c e n` holds for every number `c`.
+  -- Suppose that `IsKeptOrRuled rule R d e n` holds: the new capacity `e` is the old capacity `d`,
+  -- or a capacity that the growth rule may choose for at most `n` items. Suppose also that `P`
+  -- holds if `e` is equal to `d`. Then `P` holds, or `IsKeptOrRuled rule R c e n` holds for every
+  -- `c`.
   pub ruled-after : (c d e n : ℕ) (P : Type 0) → IsKeptOrRuled rule R d e n → (e ≡ d → P)
       → IsKeptOrRuled rule R c e n ⊎ P
   ruled-after c d e n P (inl same) f = inr (f same)
   ruled-after c d e n P (inr p) f = inl (inr p)
 
-  -- `IsCollected rule R d n left` states that a list made from the items of an iterator may have
-  -- the capacity `d`, if it has `n` items and the iterator could yield at most `left` items. Let
-  -- `h` be a possible lower bound in the iterator's size hint, and let `c` be the capacity that is
-  -- exactly enough for `h` items. If the list was made with the capacity `c`, and `IsKeptOrRuled`
-  -- allows the change from `c` to `d`, then `IsCollected rule R d n left` holds.
+  -- `IsCollected rule R d n left` states that a list of `n` collected items may have the capacity
+  -- `d`. It holds if the list was made for `h` items, a possible lower bound of the size hint, and
+  -- then changed its capacity as `IsKeptOrRuled` allows.
   pub collected-after : {c d : ℕ} (n h : ℕ) (left : Count) → IsWithinCount h left
       → exact_capacity R 0 h ≡ Some c → IsKeptOrRuled rule R c d n → IsCollected rule R d n left
   collected-after n h left hint e (inl same) = inr (h, hint, e ∙ ap Some (sym same))
@@ -224,10 +216,8 @@ module _ (rule : Rule) (R : RattleType) (law : KeepsLaw rule) where
       ]
 
 module _ {T A : Type 0} where
-  -- Suppose that appending `k` items turned the list `v` into `w`, with `k` moves, and with one
-  -- reallocation if the capacity changed. Suppose also that this reallocation copied at most `g`
-  -- items, where `g` is the number of slots by which the capacity grew. Then `CostsAdding v w 0`
-  -- holds: apart from the reallocation, no old item was moved.
+  -- If appending `k` items to the list `v` takes `k` moves and at most one reallocation, then
+  -- `CostsAdding v w 0` holds: no old item was moved apart from the reallocation.
   pub filled-at : (v w : Thin T A) (k : ℕ) → w.cost ≡ moving k (cost_at v w.capacity)
       → length w.items ≡ length v.items + k
       → (cost_at v w.capacity).grown + v.capacity ≤ v.cost.grown + w.capacity → CostsAdding v w 0
@@ -243,10 +233,8 @@ module _ {T A : Type 0} where
         (omega (arith, ap (λ c. c.blocks) f), omega (arith, ap (λ c. c.grown) f));
   }
 
-  -- Suppose that reserving room turned the list `v` into `w`, with one reallocation if the capacity
-  -- changed, and that the items did not change. Suppose also that this reallocation copied at most
-  -- `g` items, where `g` is the number of slots by which the capacity grew. Then
-  -- `CostsAdding v w 0` holds: apart from the reallocation, no old item was moved.
+  -- If reserving room in the list `v` takes at most one reallocation and keeps the items, then
+  -- `CostsAdding v w 0` holds: no old item was moved apart from the reallocation.
   pub filled-reserved : (v w : Thin T A) → w.cost ≡ cost_at v w.capacity
       → w.items ≡ v.items
       → (cost_at v w.capacity).grown + v.capacity ≤ v.cost.grown + w.capacity → CostsAdding v w 0
@@ -261,8 +249,8 @@ module _ {T A : Type 0} where
             z) i;
       })) (omega (arith, ap length n)) few
 
-  -- Suppose that appending `k` items turned the list `v` into `w`, with `k` moves, and that the
-  -- capacity did not change. Then `CostsAdding v w 0` holds: no old item was moved.
+  -- If appending `k` items to the list `v` takes `k` moves and keeps the capacity, then
+  -- `CostsAdding v w 0` holds: no old item was moved.
   pub filled-spare : (v w : Thin T A) (k : ℕ)
       → w ≡ record v { items = w.items; cost = moving k v.cost }
       → length w.items ≡ length v.items + k → CostsAdding v w 0
@@ -298,9 +286,8 @@ module _ {T A : Type 0} where
     ];
   }
 
-  -- `CostsAdding v w n` bounds the cost of adding items to the list `v`, which became `w`: the old
-  -- items were moved at most `n` times in total. So if `CostsAdding v w 0` holds, then `CostsAdding
-  -- v w n` holds for every `n`.
+  -- `CostsAdding v w n` states that adding items to the list `v` moved old items at most `n` times
+  -- in total. If it holds for 0, it holds for every `n`.
   pub adding-more : (v w : Thin T A) (n : ℕ) → CostsAdding v w 0 → CostsAdding v w n
   adding-more v w n p = record {
     copied = p.copied;

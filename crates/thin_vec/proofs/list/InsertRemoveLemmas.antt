@@ -21,8 +21,8 @@ use mathlib.Core.Logic.{⊎_elim}
 -- The following lemmas are about moving adjacent items by one slot.
 
 module _ {T : Type 0} where
-  -- The row of slots `front xs c` begins with the items `xs`. If the item in slot `i` is removed,
-  -- and all later items are moved down by one slot, then the row becomes `front (remove xs i) c`.
+  -- The row of slots `front xs c` begins with the items `xs`. Removing the item in slot `i` and
+  -- moving all later items down by one slot turns the row into `front (remove xs i) c`.
   pub front-remove : (xs : List T) (c i : ℕ) {j k : ℕ} → i < length xs → length xs ≤ c → j ≡ i + 1
       → k ≡ length xs - j → moved j i k (set (front xs c) i None) ≡ front (remove xs i) c
   front-remove [] c i h l e n = absurd (omega arith)
@@ -130,8 +130,8 @@ module _ {T A : Type 0} {b : Block T A} {a : A} (t : IsThin b a) where
       (omega (arith, len, t.packed.len, length-insert xs i v h))
       (omega (arith, o, t.packed.len, length-insert xs i v h))
 
-  -- If the block `b` has an empty slot after its last item, and the items from index `i` onward are
-  -- moved up by one slot, then slot `i` is empty.
+  -- If the block `b` has an empty slot after its last item, then moving the items from index `i`
+  -- onward up by one slot makes slot `i` empty.
   pub thin-gap : (i : ℕ) {j k : ℕ} → i ≤ length (items_in b.slots) → b.len < length b.slots
       → j ≡ i + 1 → k ≡ b.len - i → slot (moved i j k b.slots) i ≡ None
   thin-gap i {j} {k} h o e n =
@@ -142,8 +142,8 @@ module _ {T A : Type 0} {b : Block T A} {a : A} (t : IsThin b a) where
 -- The following lemmas are about the removal of items.
 
 module _ {T : Type 0} where
-  -- `emptying xs k i c` is the row `front xs c` after the slots `k..i` have been emptied. (The
-  -- first slots of `front xs c` hold the items `xs`, and its other slots are empty.)
+  -- `emptying xs k i c` is a row of `c` slots that begins with the items `xs`, but whose slots
+  -- `k..i` are empty.
   abbrev pub emptying : List T → ℕ → ℕ → ℕ → List (Option T)
   emptying xs k i c =
       full (take k xs) ++ (empty (i - k) ++ (full (drop i xs) ++ empty (c - length xs)))
@@ -200,8 +200,8 @@ module _ {T : Type 0} where
           length-replicate {A = Option T} (i - k) None,
         )
 
-    -- The row of slots `emptying xs k i c` consists of the slots before slot `i`, then slot `i`
-    -- itself, which holds the item of `xs` at index `i`, and then the slots after slot `i`.
+    -- The row of slots `emptying xs k i c` consists of the slots before slot `i`, slot `i` with the
+    -- item of `xs` at index `i`, and the slots after slot `i`.
     split : emptying xs k i c ≡ pre ++ (Some (item-at xs i bound).0 ∷ post)
     unfolding pre post
     split =
@@ -217,7 +217,7 @@ module _ {T : Type 0} where
     emptying-filled = rw (ap (λ (s : List (Option T)). slot s i) split
         ∙ get_or_at pre (Some (item-at xs i bound).0) post None i length-pre) refl
 
-    -- If `k ≤ i` and `i < length xs`, emptying slot `i` turns the row of slots `emptying xs k i c`
+    -- Emptying slot `i` turns the row of slots `emptying xs k i c`, whose slots `k..i` are empty,
     -- into `emptying xs k (i + 1) c`.
     pub emptying-take : set (emptying xs k i c) i None ≡ emptying xs k (i + 1) c
     unfolding pre post
@@ -231,8 +231,8 @@ module _ {T : Type 0} where
         ∙ ap (λ (s : List (Option T)). s ++ post)
         (replicate-append-replicate (i - k) 1 None ∙ ap empty more))))
 
-  -- If all slots of the row `front xs c` from index `k` onward are emptied, then the row becomes
-  -- `front (take k xs) c`: slots with the first `k` items of `xs`, followed by empty slots.
+  -- The row of slots `front xs c` begins with the items `xs`. If its slots from index `k` onward
+  -- are emptied, it becomes `front (take k xs) c`.
   pub emptying-all : (xs : List T) (k c : ℕ) → k ≤ length xs → length xs ≤ c
       → emptying xs k (length xs) c ≡ front (take k xs) c
   emptying-all xs k c order room =
@@ -252,10 +252,9 @@ module _ {T : Type 0} where
   full-set (x ∷ xs) s (suc i) m h = ap (λ (r : List (Option T)). Some x ∷ r)
       (full-set xs s i m (omega arith))
 
-  -- Suppose that the first slots of a row of `c` slots hold the items `ys ++ m ∷ []`, and that all
-  -- other slots are empty. If the last item `m` is moved into slot `i`, in place of an item of
-  -- `ys`, then the first slots hold the items `swap_remove (ys ++ m ∷ []) i v`. (The specification
-  -- function `swap_remove` uses its argument `v` only if the list is empty.)
+  -- In a row of `c` slots that begins with the items `ys ++ m ∷ []`, moving the last item `m` into
+  -- slot `i` leaves the items `swap_remove (ys ++ m ∷ []) i v`. (`swap_remove` uses `v` only for an
+  -- empty list.)
   front-swap_remove : (ys : List T) (c i : ℕ) (v m : T) → i < length ys → length (ys ++ m ∷ []) ≤ c
       → set (set (set (front (ys ++ m ∷ []) c) i None) (length ys) None) i (Some m) ≡ front
       (swap_remove (ys ++ m ∷ []) i v) c
@@ -281,8 +280,8 @@ module _ {T : Type 0} where
       ∙ ap (λ (l : List T). front l c) (sym cut))))
 
 module _ {T A : Type 0} where
-  -- Suppose that `b` is the block of a list. If all slots are emptied, and the stored length
-  -- becomes 0, then the new block `b'` is the block of an empty list with the same capacity.
+  -- If all slots of the block `b` are emptied, and the stored length becomes 0, the new block `b'`
+  -- is the block of an empty list with the same capacity.
   pub settle-emptied : {b : Block T A} {a : A} → IsThin b a → (b' : Block T A)
       {s : List (Option T)} {m : Cost} → IsWritten b b' s 0 m → s ≡ empty (length b.slots)
       → Settled b' a [] (length b.slots)
@@ -290,10 +289,9 @@ module _ {T A : Type 0} where
       settle-front t b' [] (length b.slots) w (e ∙ front-none (length b.slots)) refl (omega arith)
 
   module _ {b : Block T A} {a : A} (t : IsThin b a) (b' : Block T A) (i last : ℕ) where
-    -- Suppose that `i` is less than `last`. If slot `i` is emptied, the last item `m` is moved from
-    -- slot `last` into slot `i`, and the stored length is decremented, then the new block `b'` is
-    -- the block of the list after `swap_remove` at index `i`. (The specification function
-    -- `swap_remove` uses its argument `v` only if the list is empty.)
+    -- If the last item `m` is moved into slot `i` in place of the item there, then `b'` is the
+    -- block of the list after `swap_remove` at index `i`. (`swap_remove` uses `v` only for an empty
+    -- list.)
     settle-swap_remove : (v : T) {m : T} → i < last → last + 1 ≡ b.len → slot b.slots last ≡ Some m
         → {k : Cost} → IsWritten b b' (set (set (set b.slots i None) last None) i (Some m)) last k
         → Settled b' a (swap_remove (items_in b.slots) i v) (length b.slots)
@@ -318,9 +316,8 @@ module _ {T A : Type 0} where
         (omega (arith, cut, room, length_push ys m, long)) in
         subst (λ (l : List T). Settled b' a (swap_remove l i v) c) (sym at_end) done
       where
-        -- If the list `ys` has `k` items, and `i < k`, then the specification function
-        -- `swap_remove`, applied to `ys ++ m ∷ []` at index `i`, returns a list of `k` items. (This
-        -- function uses its argument `v` only if the list is empty.)
+        -- If the list `ys` has `k` items and `i < k`, then `swap_remove (ys ++ m ∷ []) i v` has `k`
+        -- items. (`swap_remove` uses `v` only for an empty list.)
         length-swap_remove : (ys : List T) (i : ℕ) (v m : T) {k : ℕ} → length ys ≡ k → i < k
             → length (swap_remove (ys ++ m ∷ []) i v) ≡ k
         length-swap_remove ys i v m {k} long lt =
@@ -334,10 +331,8 @@ module _ {T A : Type 0} where
               long,
             )
 
-    -- Suppose that slot `i` holds the item `v`, and that `last` is the index of the last filled
-    -- slot. If the item in slot `last` is moved into slot `i`, and the stored length is
-    -- decremented, then the new block `b'` is the block of the list after `swap_remove` at index
-    -- `i`. This is also true if `i` is `last`.
+    -- If the last item of a block replaces the item `v` in slot `i`, then the new block `b'` is the
+    -- block of the list after `swap_remove` at index `i`. Slot `i` may be the last filled slot.
     pub settle-replaced : (v : T) → i ≤ last → last + 1 ≡ b.len → slot b.slots i ≡ Some v
         → {k : Cost} → IsWritten b b' (set (set b.slots i (slot b.slots last)) last None) last k
         → Settled b' a (swap_remove (items_in b.slots) i v) (length b.slots)

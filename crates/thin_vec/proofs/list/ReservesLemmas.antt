@@ -12,20 +12,17 @@ use Rattle.thin_vec.specs.Cheap.{IsCheap}
 use Rattle.thin_vec.specs.List.Capacity.{Keeps, Reserves, TellsOverflow, TellsOverflowOf}
 use Rattle.thin_vec.specs.ThinVec.{HasRoomFor, IsWithin, Thin, capacity_for}
 
--- `TellsOverflow named r` states that the result `r` of a call is the error `CapacityOverflow` if
--- and only if `named` is `None`. Here, `named` is the capacity that the call needs, or `None` if
--- this capacity is too large. So `TellsOverflow` holds if `r` is `Ok x` and `named` is `Some n`.
+-- `TellsOverflow named r` states that the result `r` is `CapacityOverflow` if and only if `named`,
+-- the capacity that the call needs, is `None`. It holds if `r` is `Ok x` and `named` is `Some n`.
 pub tells-ok : {X : Type 0} (x : X) (named : Option ℕ) (n : ℕ) → named ≡ Some n
     → TellsOverflow named (Ok x)
 tells-ok x named n is = record {
   overflow = (λ e. ok-err x CapacityOverflow e, λ none. absurd (none-some none is));
 }
 
--- `TellsOverflowOf R m r` describes the result `r` of making a list for exactly `m` items of the
--- type `R`. It states that `r` is `CapacityOverflow` if and only if the capacity would be too
--- large. Suppose that `m` items of `R` and `n` items of `S` need the same capacity. If
--- `TellsOverflowOf R m` holds for the result `Ok x`, then `TellsOverflowOf S n` holds for the
--- result `Ok y`.
+-- `TellsOverflowOf R m r` states that `r` is `CapacityOverflow` if and only if the capacity for `m`
+-- items of type `R` is too large. It carries over from `Ok x` to `Ok y`, if `n` items of type `S`
+-- need the same capacity.
 pub tells-made : {X : Type 0} {x y : X} (R S : RattleType) (m n : ℕ)
     → exact_capacity R 0 m ≡ exact_capacity S 0 n
     → TellsOverflowOf R m (let r : Result X ThinVecError = Ok x in r)
@@ -37,10 +34,9 @@ tells-made {x = x} {y} R S m n e told = record {
   );
 }
 
--- `TellsOverflowOf R m r` describes the result `r` of making a list for exactly `m` items of the
--- type `R`. It states that `r` is `CapacityOverflow` if and only if the capacity would be too
--- large. If `m` items of `R` and `n` items of `S` need the same capacity, then
--- `TellsOverflowOf R m r` implies `TellsOverflowOf S n r`.
+-- `TellsOverflowOf R m r` states that `r` is `CapacityOverflow` if and only if the capacity for `m`
+-- items of type `R` is too large. It implies `TellsOverflowOf S n r` if `n` items of type `S` need
+-- the same capacity.
 pub tells-same : {X : Type 0} {r : Result X ThinVecError} (R S : RattleType) (m n : ℕ)
     → exact_capacity R 0 m ≡ exact_capacity S 0 n → TellsOverflowOf R m r → TellsOverflowOf S n r
 tells-same R S m n e told = record {
@@ -99,15 +95,8 @@ module _ {T A : Type 0} (R : RattleType) (v : Thin T A) where
         }
 
     -- `Reserves` states how a call that needs room for more items may change the capacity, and when
-    -- the call fails. Suppose that a call consists of two steps:
-    --
-    -- - The first step changes the list `v` to `u`, returns `Ok`, and satisfies `Reserves` for `k`
-    --   more items of the type `R`.
-    -- - The second step changes `u` to `w`, keeps the capacity, and fails only with `OutOfMemory`.
-    --
-    -- Suppose also that `l` is `k`, and that `l` more items of the type `S` need the same capacity
-    -- as `k` more items of the type `R`. Then the whole call satisfies `Reserves` for `l` more
-    -- items of the type `S`.
+    -- it fails. A call of two steps satisfies it if the first step does, and if the second step
+    -- keeps the capacity and fails only with `OutOfMemory`.
     pub reserves-then : {X Y : Type 0} {x : X} (S : RattleType) (k l : ℕ) (u w : Thin T A)
         (r : Result Y ThinVecError) → l ≡ k
         → capacity_for rule S v l ≡ capacity_for rule R v k → w.capacity ≡ u.capacity
@@ -134,10 +123,8 @@ module _ {T A : Type 0} (R : RattleType) (v : Thin T A) where
         }
 
     -- `Reserves` states how a call that needs room for more items may change the capacity, and when
-    -- the call fails. Suppose that a call for `k` more items of the type `R` fails with the error
-    -- `cause`, does not change the list, and satisfies `Reserves`. Suppose also that `l` is `k`,
-    -- and that `l` items of the type `S` need the same capacity. Then a call for `l` items of the
-    -- type `S` that fails in the same way also satisfies `Reserves`.
+    -- it fails. If it holds for a failed call for `k` items of type `R`, it holds for `k` items of
+    -- type `S` that need the same capacity.
     pub reserves-failed : {X Y : Type 0} (S : RattleType) (k l : ℕ) (w : Thin T A)
         (cause : ThinVecError) → l ≡ k
         → capacity_for rule S v l ≡ capacity_for rule R v k

@@ -1,7 +1,5 @@
--- These lemmas are for the `dedup` methods, which compare each item with the last kept item. During
--- such a call, the block of the list may have empty slots between its items, and is called an open
--- block. The lemmas say how contracts see an open block after items were written into one or two of
--- its slots.
+-- These lemmas are for the `dedup` methods. They say how contracts see an open block (the block of
+-- a list during an edit) after items were written into one or two of its slots.
 use Rattle.std.proofs.Common.{◌≡◌, ◌≢◌, ℕ, zero, suc, ◌+◌, ◌-◌, ◌<◌, ◌≤◌, List, [], ◌∷◌, ◌++◌, Option, Some, None, length, take, drop, refl, sym, ap, ◌∙◌, arith, length-append, append_assoc, get_or}
 use Rattle.std.proofs.lemmas.List.{drop_at, get_or_at, get_or-set_other, length-drop, length-take-le, length_push, set_at, take_at}
 use Rattle.std.specs.Prelude.{IsSome, slice_range}
@@ -98,9 +96,9 @@ module _ {T A : Type 0} where
   -- items that were kept so far), the middle items (the items of the range that were not tested
   -- yet), and the tail items (the items after the range).
 
-  -- `WrittenTwo h o k b x y x' y'` states that the middle items `x` and `y` of the open block `h`,
-  -- at the indices `k` and `k + 1`, were overwritten with `x'` and `y'`, and that nothing else has
-  -- changed. Here, `b` is the resulting block, and `o` is the proof that `h` satisfies `IsOpen`.
+  -- `WrittenTwo h o k b x y x' y'` holds if the block `b` is the open block `h`, but with `x'` and
+  -- `y'` in place of the middle items `x` and `y` at the indices `k` and `k + 1`. `o` proves
+  -- `IsOpen h`.
   pub record WrittenTwo (h : Inside T A) (o : IsOpen h) (k : ℕ) (b : Block T A)
       (x y x' y' : T) : Type 0 where
     pub pre : List T
@@ -118,9 +116,8 @@ module _ {T A : Type 0} where
 
   module _ (h : Inside T A) (o : IsOpen h) (b : Block T A)
       (kept : seen b ≡ record (seen h.block) { slots = b.slots }) where
-    -- Suppose that the middle items of the open block `h` at the indices `k` and `k + 1` have been
-    -- overwritten with `x'` and `y'`. If nothing else has changed, then `WrittenTwo` holds for the
-    -- resulting block `b`.
+    -- If the middle items of the open block `h` at the indices `k` and `k + 1` are overwritten with
+    -- `x'` and `y'`, then `WrittenTwo` holds for the resulting block `b`.
     pub write-two-step : (k : ℕ) {x y : T} (x' y' : T) → suc k < length (open_of h).rest
         → slot h.block.slots (h.rest_start + k) ≡ Some x
         → slot h.block.slots (suc (h.rest_start + k)) ≡ Some y
@@ -244,9 +241,8 @@ module _ {T A : Type 0} where
             (ap (λ (z : Seen T A). z.cost) now);
       }
 
-  -- Suppose that the item `x` is written into the first slot of the gap of the open block `h`, and
-  -- that `b` is the resulting block. Then `x` becomes the last front item, and the gap becomes one
-  -- slot shorter.
+  -- If the item `x` is written into the first slot of the gap of the open block `h`, `x` becomes
+  -- the last front item of the resulting block `b`.
   pub put-step : (h : Inside T A) (o : IsOpen h) (b : Block T A) (x : T) {c : Cost}
       → 0 < (open_of h).gap
       → seen b ≡ record (seen h.block)

@@ -226,9 +226,8 @@ module _ {T A : Type 0} where
         ++ (full (take k u.rest) ++ (empty n ++ (full (drop k u.rest) ++ past_rest u))))
         (sym none))) refl
 
-    -- Suppose that the first `k` middle items were moved to the slots directly after the front
-    -- items, and that `b` is the resulting block. Then contracts see the open block `moved_run b`
-    -- as `moved_run-seen b`.
+    -- If moving the first `k` middle items to the end of the front items results in the block `b`,
+    -- then contracts see the open block `moved_run b` as `moved_run-seen b`.
     pub move_run_down-step : (b : Block T A) {c : Cost}
         → seen b ≡ record (seen h.block)
         { slots = moved h.rest_start h.front_end k h.block.slots; cost = c }
@@ -243,7 +242,7 @@ module _ {T A : Type 0} where
         (sym o.gap) (sym few))) (ap (λ (z : Seen T A). z.alloc) now)
 
   -- If the first middle item of the open block `h` is moved to the slot directly after the front
-  -- items, then contracts see this item as the last front item of the new open block.
+  -- items, it becomes the last front item.
   pub move_one_down-step : (h : Inside T A) (o : IsOpen h) (some : 1 ≤ length (open_of h).rest)
       → 0 < (open_of h).gap → (b : Block T A) {x : T} {c : Cost}
       → slot h.block.slots h.rest_start ≡ Some x

@@ -50,25 +50,22 @@ module _ {T A G : Type 0} {g : Ghosts G} {h : HoldsGhosts (Holder (Open T A)) (O
     pub alloc : drain_alloc new ≡ drain_alloc old
     pub cost : drain_cost new ≡ drain_cost old
 
-  -- `DrainSteps old item new` states that a call to `next` changed the `Drain` from `old` to `new`
-  -- and returned `item`. This `item` is the first item that had not been yielded before, or `None`
-  -- if there was no such item.
+  -- `DrainSteps old item new` holds if a call to `next` returned `item` and changed the `Drain`
+  -- from `old` to `new`.
   pub record DrainSteps (old : Drain T A G (Holder (Open T A)) g h) (item : Option T)
       (new : Drain T A G (Holder (Open T A)) g h) : Type 0 where
     pub gave : YieldsFirst drain_rest old item new
     pub keeps : DrainKeeps old new
 
-  -- `DrainStepsBack old item new` states that a call to `next_back` changed the `Drain` from `old`
-  -- to `new` and returned `item`. This `item` is the last item that had not been yielded before, or
-  -- `None` if there was no such item.
+  -- `DrainStepsBack old item new` holds if a call to `next_back` returned `item` and changed the
+  -- `Drain` from `old` to `new`.
   pub record DrainStepsBack (old : Drain T A G (Holder (Open T A)) g h) (item : Option T)
       (new : Drain T A G (Holder (Open T A)) g h) : Type 0 where
     pub gave : YieldsLast drain_rest old item new
     pub keeps : DrainKeeps old new
 
-  -- `DrainKeepsAlong d` states that calls to `next` on `d`, however many there are, do not change
-  -- the list that will remain after the `Drain` is dropped. (For a single call to `next` or
-  -- `next_back`, this follows from `DrainSteps` or `DrainStepsBack`.)
+  -- `DrainKeepsAlong d` states that calls to `next` on the `Drain` `d`, however many there are, do
+  -- not change the list that will remain after `d` is dropped.
   abbrev pub DrainKeepsAlong : Drain T A G (Holder (Open T A)) g h → Type 0
   DrainKeepsAlong first = (items : List T) (later : Drain T A G (Holder (Open T A)) g h)
       → Yields DrainSteps first items later → DrainKeeps first later

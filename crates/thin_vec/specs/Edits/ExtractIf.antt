@@ -14,11 +14,8 @@ use Rattle.thin_vec.specs.declared.edits.holder.Holds.{Ghosts as HoldsGhosts}
 -- `R f x b g y` states that the closure was called with the item `x` and returned the Boolean value
 -- `b`. The call changed the state of the closure from `f` to `g`, and the item from `x` to `y`.
 module _ {T F A : Type 0} (R : F → T → Bool → F → T → Type 0) where
-  -- `Extracts old item new` states that a call to `next` changed `old` to `new` and returned
-  -- `item`. Here, `old` and `new` each consist of the block and the closure of an `ExtractIf`. The
-  -- items `kept` are the items that the call tested but did not extract. They remain in the list.
-  -- If an item had already been extracted before the call, the cost counts one move for each item
-  -- in `kept`.
+  -- `Extracts old item new` describes a call to `next` that returned `item`. The values `old` and
+  -- `new` are the block and the closure of the `ExtractIf` before and after the call.
   pub record Extracts (old : Extracting T F A) (item : Option T)
       (new : Extracting T F A) : Type 0 where
     pub kept : List T
@@ -78,9 +75,8 @@ module _ {T F A G : Type 0} {g : Ghosts G}
   abbrev pub extract_lender : ExtractIf T F A G (Holder (Extracting T F A)) g h → GName
   extract_lender e = e.list.ghost_name
 
-  -- `ExtractSteps R old item new` states that a call to `next` changed the `ExtractIf` from `old`
-  -- to `new`, returned `item`, and did not change which list is borrowed. `R` describes the calls
-  -- to the closure.
+  -- `ExtractSteps R old item new` holds if a call to `next` returned `item` and changed the
+  -- `ExtractIf` from `old` to `new`. `R` describes the calls to the closure.
   pub record ExtractSteps (R : F → T → Bool → F → T → Type 0)
       (old : ExtractIf T F A G (Holder (Extracting T F A)) g h) (item : Option T)
       (new : ExtractIf T F A G (Holder (Extracting T F A)) g h) : Type 0 where

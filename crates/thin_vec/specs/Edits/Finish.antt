@@ -26,24 +26,22 @@ module _ {T A : Type 0} where
     pub alloc : w.alloc ≡ v.alloc
     pub cheap : IsCheap v → IsCheap w
 
-  -- `IsClosedWith v xs a w` states that the items `xs` were written into the gap of the open block
-  -- `v`, and that `v` then became the block of the list `w`, whose allocator is `a`. (An open block
-  -- is the block of a list during an edit. Its gap consists of empty slots.)
+  -- `IsClosedWith v xs a w` holds if writing the items `xs` into the gap of the open block `v` (a
+  -- block during an edit) results in the list `w` with the allocator `a`.
   pub record IsClosedWith (v : Open T A) (xs : List T) (a : A) (w : Thin T A) : Type 0 where
     pub items : w.items ≡ with_between v xs
     pub capacity : w.capacity ≡ v.capacity
     pub alloc : w.alloc ≡ a
-    -- Each item of `xs` was moved once. Here, `m` is the number of moves of tail items (items after
-    -- the range). Each tail item was moved at most once, and `m` is 0 if `xs` filled the gap.
+    -- The cost counts one move for each item of `xs`, and `m` moves for the items after the range.
+    -- Each of these items is moved at most once.
     pub cost : (m : ℕ) × (w.cost ≡ moving (length xs + m) v.cost) × (m ≤ length v.tail)
         × (length xs ≡ v.gap → m ≡ 0)
 
 module _ {S T A : Type 0} (steps : S → Option T → S → Type 0) (can : S → Type 0)
     (remaining : S → Count) where
   -- `IsFinished` describes a call that puts the items of the iterator `s` into the open block `v`,
-  -- in place of the removed range, and then puts the block back into its list. The call returns
-  -- `result`. After the call, the list is `w`, and its allocator is `a`. All clauses of the
-  -- contract of `Splice::finish` follow from this record.
+  -- in place of the removed range. The call returns `result`, and leaves the list `w` with the
+  -- allocator `a`, the growth rule `rule` and the item type `R`.
   pub record IsFinished (rule : Rule) (R : RattleType) (v : Open T A) (a : A) (s : S)
       (w : Thin T A) (result : Result (Unit {0}) (SpliceRefused T S A)) : Type 0 where
     pub succeeds : size (remaining s) ≤ v.gap → IsOk result

@@ -7,20 +7,17 @@ use Rattle.thin_vec.specs.ThinVec.{Thin, cost_at}
 
 module _ {T A : Type 0} where
   -- `moves_replacing v i j k` is the number of moves that are counted if `k` new items replace the
-  -- items `i..j` of the list `v`. Each new item counts as one move. If `k` is not the length of the
-  -- range, each item after the range also counts as one move.
+  -- items `i..j` of the list `v`.
   abbrev pub moves_replacing : Thin T A → ℕ → ℕ → ℕ → ℕ
   moves_replacing v i j k = k + (if k == j - i then 0 else length v.items - j)
 
   -- `moves_cloning v i j k` is the number of moves that are counted if `k` clones replace the items
-  -- `i..j` of the list `v`. It is `moves_replacing v i j k`, plus one move for each clone that
-  -- takes the place of an old item. Such a clone is first put into another slot, because the old
-  -- item is still in the list.
+  -- `i..j` of the list `v`. A clone that takes the place of an old item counts as two moves.
   abbrev pub moves_cloning : Thin T A → ℕ → ℕ → ℕ → ℕ
   moves_cloning v i j k = moves_replacing v i j k + min k (j - i)
 
--- `ReplacesByClones clones xs i j sources ys` states that replacing the items `i..j` of the list
--- `xs` with clones of the items `sources`, in order, results in the list `ys`.
+-- `ReplacesByClones clones xs i j sources ys` holds if replacing the items `i..j` of `xs` with
+-- clones of `sources`, in order, results in `ys`. The relation `clones` says what a clone is.
 pub record ReplacesByClones {T : Type 0} (clones : T → T → Type 0) (xs : List T) (i j : ℕ)
     (sources ys : List T) : Type 0 where
   pub copies : List T

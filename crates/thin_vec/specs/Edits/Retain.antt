@@ -10,9 +10,8 @@ trues [] = zero
 trues (true ∷ flags) = suc (trues flags)
 trues (false ∷ flags) = trues flags
 
--- `moved_down stays` is the number of kept items that follow the first removed item. These are the
--- items that have to move down. The list `stays` contains one flag for each item, which is true if
--- the item is kept.
+-- `moved_down stays` is the number of kept items that follow the first removed item. The flags
+-- `stays` say for each item whether it is kept.
 abbrev pub moved_down : List Bool → ℕ
 moved_down [] = zero
 moved_down (true ∷ stays) = moved_down stays
@@ -24,8 +23,8 @@ abbrev pub Verdicts : Type 0 → Type 0
 Verdicts T = List (Bool × T)
 
 module _ {T : Type 0} where
-  -- `left_at true verdicts` contains the items that are kept according to `verdicts`, and `left_at
-  -- false verdicts` contains the items that are removed. The items are as the test left them.
+  -- `left_at true verdicts` contains the items that `verdicts` marks as kept, and
+  -- `left_at false verdicts` contains the others. The items are as the test left them.
   abbrev pub left_at : Bool → Verdicts T → List T
   left_at b [] = []
   left_at true ((true, x) ∷ verdicts) = x ∷ left_at true verdicts
@@ -43,35 +42,31 @@ module _ {T : Type 0} where
   abbrev pub flags_of : Verdicts T → List Bool
   flags_of verdicts = map (λ (answer : Bool × T). answer.0) verdicts
 
--- `R s x b t y` describes one call of a test with the item `x`. The call returns the Boolean value
--- `b`, which is true if the item is to be kept. The call changes the state of the test from `s` to
--- `t`, and the item from `x` to `y`.
+-- `R s x b t y` describes one call of a test with the item `x`. The call returns `b` (true: keep
+-- `x`), and changes the state of the test from `s` to `t`, and `x` to `y`.
 module _ {S T : Type 0} (R : S → T → Bool → S → T → Type 0) where
-  -- `Asked s xs verdicts t` states that each item of the list `xs` was tested once, in order. The
-  -- test returned `verdicts`, and it changed its state from `s` to `t`.
+  -- `Asked s xs verdicts t` holds if testing each item of `xs` once, in order, gave `verdicts`, and
+  -- changed the state of the test from `s` to `t`.
   abbrev pub Asked : S → List T → Verdicts T → S → Type 0
   Asked s [] verdicts t = (verdicts ≡ []) × (t ≡ s)
   Asked s (x ∷ xs) verdicts t =
       (b : Bool) × (y : T) × (u : S) × (rest : Verdicts T) × R s x b u y × Asked u xs rest t
       × (verdicts ≡ (b, y) ∷ rest)
 
-  -- `IsRetainedTo s v w t` states that the list `v` became `w` when the items that failed the test
-  -- were removed. The recorded cost increased by one move for each kept item that follows the first
-  -- removed item. The test changed its state from `s` to `t`.
+  -- `IsRetainedTo s v w t` holds if removing the items that failed the test turned the list `v`
+  -- into `w`, and changed the state of the test from `s` to `t`.
   pub record IsRetainedTo {A : Type 0} (s : S) (v w : Thin T A) (t : S) : Type 0 where
     pub verdicts : Verdicts T
     pub asked : Asked s v.items verdicts t
     pub items : w.items ≡ left_at true verdicts
     pub cost : w.cost ≡ moving (moved_down (flags_of verdicts)) v.cost
 
-  -- `IsRetained s v w` states that `IsRetainedTo s v w t` holds for some final state `t` of the
-  -- test. So removing the items that failed the test turned the list `v` into `w`.
+  -- `IsRetained s v w` holds if removing the items that failed the test turned the list `v` into
+  -- `w`, where the test started in the state `s`.
   abbrev pub IsRetained : {A : Type 0} → S → Thin T A → Thin T A → Type 0
   IsRetained s v w = (t : S) × IsRetainedTo s v w t
 
--- `Looks R` describes a test that does not change the tested items. `Looks R s x b t y` states that
--- a call of this test with the item `x` returned `b` and changed the state of the test from `s` to
--- `t` (`R s x b t`). It also states that the item after the call, `y`, is equal to `x`. If `b` is
--- true, `x` is to be kept.
+-- `Looks R` describes a test that does not change the tested item. A call with the item `x` returns
+-- `b`, and changes the state of the test from `s` to `t` (`R s x b t`).
 abbrev pub Looks : {S T : Type 0} → (S → T → Bool → S → Type 0) → S → T → Bool → S → T → Type 0
 Looks R s x b t y = R s x b t × (y ≡ x)

@@ -1,5 +1,5 @@
--- These definitions are for the contracts of `Splice`. They name the parts of a `Splice`, and they
--- describe the list and the error after a call to `finish`. (std: `Vec::splice`)
+-- These definitions name the parts of a `Splice`, and describe the list and the error after a call
+-- to `finish`. (std: `Vec::splice`)
 use Rattle.std.specs.Prelude.{◌≡◌, ◌⊎◌, ◌↔◌, ◌<◌, ◌≤◌, [], ◌++◌, IsSome, List, MatchOption, Option, length, ℕ}
 use Rattle.std.specs.Iterator.{Count, YieldsFirst, YieldsLast, YieldsThen}
 use Rattle.std.specs.Option.{option_to_list}
@@ -17,14 +17,10 @@ use Rattle.thin_vec.specs.declared.edits.holder.Holds.{Ghosts as HoldsGhosts}
 
 module _ {S T A : Type 0} (steps : S → Option T → S → Type 0) where
   -- `Stopped can remaining s placed error` describes a call to `finish` that failed with `error`.
-  -- It states that the iterator `s` first yielded the items `placed`, which the call inserted. Then
-  -- `s` yielded the items that `error` contains: the items in `held`, and then the item in
-  -- `in_hand`, if there is one.
+  -- The iterator `s` yielded the inserted items `placed`, and then the items in `error`.
   --
-  -- If `held` is not empty, and `in_hand` is `None`, the iterator has ended. Otherwise `next` may
-  -- be called again, and the number of items that the iterator may still yield is finite. The
-  -- parameter `can` says when `next` may be called, and `remaining` bounds the number of items that
-  -- the iterator may still yield.
+  -- `can` says when `next` may be called on an iterator, and `remaining` bounds the number of items
+  -- that it still yields.
   abbrev pub Stopped : (S → Type 0) → (S → Count) → S → List T → SpliceRefused T S A → Type 0
   Stopped can remaining s placed error =
       (PausedAfter steps can remaining s
@@ -34,15 +30,13 @@ module _ {S T A : Type 0} (steps : S → Option T → S → Type 0) where
       × YieldsThen steps s (placed ++ error.held.items) None error.rest)
 
 module _ {T A : Type 0} where
-  -- `IsStopCause` states why a call to `finish` failed with `error`. `rule` is the growth rule, `R`
-  -- is the type of the items, `w` is the list after the call, and `tail` contains the items after
-  -- the range. The iterator can yield at most `left` more items.
+  -- `IsStopCause` states why a call to `finish` failed with `error`. The growth rule is `rule`, the
+  -- item type is `R`, the list after the call is `w`, and the items after the range are `tail`.
   pub record IsStopCause {S : Type 0} (rule : Rule) (R : RattleType) (w : Thin T A) (tail : List T)
       (left : Count) (error : SpliceRefused T S A) : Type 0 where
-    -- Suppose that the error contains no items (`held` is empty, and `in_hand` is `None`). Then the
-    -- call could not reserve room for `h` more items, where `h` is a possible lower bound in the
-    -- size hint of the iterator. The cause is `CapacityOverflow` if and only if the growth rule
-    -- chooses no capacity for `h` more items.
+    -- If the error contains no items, the call could not reserve room for `h` items, where `h` is a
+    -- possible lower bound in the size hint. The cause is `CapacityOverflow` if and only if the
+    -- growth rule chooses no capacity for `h` more items.
     pub by_hint : error.held.items ≡ [] → error.in_hand ≡ None
         → FailsAtHint rule R w left error.cause
     -- If the vector `held` is not empty, and `in_hand` is `None`, the cause is `CapacityOverflow`
@@ -64,14 +58,14 @@ module _ {T A : Type 0} where
   pub record FailsAsExtend {S : Type 0} (v w : Thin T A) (s : S) (error : SpliceRefused T S A)
       : Type 0 where
     pub held : error.held.items ≡ []
-    -- If `in_hand` is `None`, the iterator has yielded no item, and the list `w` is equal to `v`.
-    -- If `in_hand` is `Some`, it contains the last item that the iterator yielded, and the list `w`
-    -- is full.
+    -- If `in_hand` is `None`, the iterator has yielded no item, and `w` is equal to `v`, the list
+    -- without the items of the range. If `in_hand` is `Some`, it contains the last item that the
+    -- iterator yielded, and the list `w` is full.
     pub in_hand : MatchOption error.in_hand ((w ≡ v) × (error.rest ≡ s))
         (λ _. length w.items ≡ w.capacity)
 
-  -- `left_of v a` is the list that contains the front items and the tail items of the open block
-  -- `v`, that is, all its items except the middle items. The list has the allocator `a`.
+  -- `left_of v a` is the list of the front items and the tail items of the open block `v` (a block
+  -- during an edit), with the allocator `a`.
   abbrev pub left_of : Open T A → A → Thin T A
   left_of v a = record {
     items = v.front ++ v.tail;
@@ -86,9 +80,8 @@ module _ {T A : Type 0} where
   with_between v xs = (v.front ++ xs) ++ v.tail
 
 module _ {I T A G H : Type 0} {g : Ghosts G} {h : HoldsGhosts H (Open T A)} where
-  -- `splice_block s` is the open block that the `Splice` owns. Its front contains the items before
-  -- the range, its middle run contains the items of the range that have not been yielded yet, and
-  -- its tail contains the items after the range.
+  -- `splice_block s` is the open block that the `Splice` `s` owns. Its three parts are the items
+  -- before the range, the items of the range not yet yielded, and the items after the range.
   abbrev pub splice_block : Splice I T A G H g h → Open T A
   splice_block s = h.inner s.holder
 
@@ -110,8 +103,8 @@ module _ {I T A G H : Type 0} {g : Ghosts G} {h : HoldsGhosts H (Open T A)} wher
   abbrev pub splice_lender : Splice I T A G H g h → GName
   splice_lender s = s.list.ghost_name
 
-  -- `splice_left s` is the list without the items of the range. Its recorded cost is the present
-  -- cost of the block, because no item after the range has been moved yet.
+  -- `splice_left s` is the list without the items of the range, with the present recorded cost of
+  -- the block of the `Splice` `s`.
   abbrev pub splice_left : Splice I T A G H g h → Thin T A
   splice_left s = left_of (splice_block s) (splice_alloc s)
 
@@ -125,10 +118,8 @@ module _ {I T A G H : Type 0} {g : Ghosts G} {h : HoldsGhosts H (Open T A)} wher
   abbrev pub splice_replaced : Splice I T A G H g h → List T → List T
   splice_replaced s xs = with_between (splice_block s) xs
 
-  -- `HasPlacesFor s most` states that `most` items can be inserted without a request for memory.
-  -- This is possible in two cases. In the first case, the range has at least `most` slots. In the
-  -- second case, no item follows the range, and the list without the range has room for `most` more
-  -- items.
+  -- `HasPlacesFor s most` holds if the `Splice` `s` can insert `most` items without a request for
+  -- memory.
   abbrev pub HasPlacesFor : Splice I T A G H g h → ℕ → Type 0
   HasPlacesFor s most =
       (most ≤ splice_range s)
@@ -146,17 +137,15 @@ module _ {I T A G H : Type 0} {g : Ghosts G} {h : HoldsGhosts H (Open T A)} wher
     pub alloc : splice_alloc new ≡ splice_alloc old
     pub cost : (splice_block new).cost ≡ (splice_block old).cost
 
-  -- `SpliceSteps old item new` states that a call to `next` changed the `Splice` from `old` to
-  -- `new` and returned `item`. This `item` is the first item that had not been yielded before, or
-  -- `None` if there was no such item.
+  -- `SpliceSteps old item new` holds if a call to `next` returned `item` and changed the `Splice`
+  -- from `old` to `new`.
   pub record SpliceSteps (old : Splice I T A G H g h) (item : Option T)
       (new : Splice I T A G H g h) : Type 0 where
     pub gave : YieldsFirst splice_rest old item new
     pub keeps : SpliceKeeps old new
 
-  -- `SpliceStepsBack old item new` states that a call to `next_back` changed the `Splice` from
-  -- `old` to `new` and returned `item`. This `item` is the last item that had not been yielded
-  -- before, or `None` if there was no such item.
+  -- `SpliceStepsBack old item new` holds if a call to `next_back` returned `item` and changed the
+  -- `Splice` from `old` to `new`.
   pub record SpliceStepsBack (old : Splice I T A G H g h) (item : Option T)
       (new : Splice I T A G H g h) : Type 0 where
     pub gave : YieldsLast splice_rest old item new

@@ -23,10 +23,8 @@ module _ {T : Type 0} (clones : T → T → Type 0) where
     pub cloned : AllZip clones (take n sources) copies
     pub slots : s' ≡ laid i (full copies) s
 
-  -- `IsClonedList v w` states that the list `w` is a clone of the list `v`. The items of `w` are
-  -- clones of the items of `v`, in the same order, and the capacity of `w` is exactly the number of
-  -- these items. `w` has the same allocator as `v`. The recorded cost of `w` includes one move for
-  -- each item.
+  -- `IsClonedList v w` holds if the list `w` is a clone of the list `v`, with the same allocator.
+  -- The capacity of `w` is its length, and its cost includes one move for each item.
   abbrev pub IsClonedList : {A : Type 0} → Thin T A → Thin T A → Type 0
   IsClonedList v w =
       AllZip clones v.items w.items × (length w.items ≡ length v.items)
@@ -43,10 +41,9 @@ pub record AppendsRepeats {T : Type 0} (clones : T → T → Type 0) (x : T) (n 
   pub count : length copies ≡ n
   pub items : ys ≡ xs ++ copies
 
--- `IsResized clones xs n x ys` states that `ys` is a possible result of resizing the list `xs` to
--- the length `n`. If `xs` has at least `n` items, `ys` consists of the first `n` items of `xs`.
--- Otherwise, `ys` has `n` items: all items of `xs`, then clones of `x`, and finally `x` itself. The
--- parameter `clones` says which items are clones of `x`.
+-- `IsResized clones xs n x ys` holds if resizing the list `xs` to length `n` may result in `ys`.
+-- The new items, if any, are clones of `x`, followed by `x` itself. The relation `clones` says what
+-- a clone is.
 pub record IsResized {T : Type 0} (clones : T → T → Type 0) (xs : List T) (n : ℕ) (x : T)
     (ys : List T) : Type 0 where
   pub shorter : n ≤ length xs → ys ≡ take n xs
@@ -54,10 +51,9 @@ pub record IsResized {T : Type 0} (clones : T → T → Type 0) (xs : List T) (n
       × (ys ≡ xs ++ (copies ++ x ∷ []))
   pub len : length ys ≡ n
 
--- `StopsAtClone infallible sources before after` states that a call cloned the items of `sources`
--- in order, until an item could not be cloned. `infallible x` states that cloning the item `x`
--- cannot fail. Each clone that was made counts as one move. `before` is the recorded cost before
--- the first clone, and `after` is the recorded cost after the failure.
+-- `StopsAtClone infallible sources before after` describes a call that cloned items of `sources` in
+-- order, until a clone failed. The recorded cost changed from `before` to `after`. `infallible x`
+-- states that cloning `x` cannot fail.
 pub record StopsAtClone {T : Type 0} (infallible : T → Type 0) (sources : List T)
     (before after : Cost) : Type 0 where
   pub at : ℕ
@@ -65,11 +61,9 @@ pub record StopsAtClone {T : Type 0} (infallible : T → Type 0) (sources : List
   pub fallible : HoldsAt (λ x. ¬ (infallible x)) sources at
   pub cost : after ≡ moving at before
 
--- `CostsUpToClone infallible sources v w` states the cost of a call that cloned the items of
--- `sources` into a list, in order, until an item could not be cloned. The call changed the list
--- from `v` to `w`. `infallible x` states that cloning the item `x` cannot fail. Each clone that was
--- made counts as one move. If the capacity changed, the cost also includes one request for memory
--- and one copy of each item of `v`.
+-- `CostsUpToClone infallible sources v w` bounds the cost of a call that cloned `sources` into a
+-- list until a clone failed, and changed the list from `v` to `w`. `infallible x` states that
+-- cloning `x` cannot fail.
 abbrev pub CostsUpToClone : {T A : Type 0} → (T → Type 0) → List T → Thin T A → Thin T A → Type 0
 CostsUpToClone infallible sources v w =
     StopsAtClone infallible sources (cost_at v w.capacity) w.cost

@@ -1,6 +1,5 @@
--- The definitions in this file describe calls, such as std's `Vec::push_mut`, that add one item to
--- a list and return a `&mut` reference to this item. The definitions state what the list contains
--- after the borrow has ended.
+-- These definitions describe calls that add one item to a list and return a `&mut` to it, such as
+-- `Vec::push_mut`. They say what the list contains after the borrow.
 use Rattle.std.specs.Prelude.{◌≡◌, ℕ, List, Result, Some}
 use Rattle.std.specs.declared.alloc.Allocator.{Ghosts as AllocatorGhosts}
 use Rattle.std.specs.Borrow.{Fml, LendsSoOk, MutBor, RattleType}
@@ -11,10 +10,8 @@ use Rattle.thin_vec.specs.Cheap.{IsCheap}
 use Rattle.thin_vec.specs.ThinVec.{Thin, IsWithin, capacity_for, cost_at}
 use Rattle.thin_vec.specs.contracts.list.ThinVec.{the_row}
 
--- `IsAdded rule R v xs k w` states that a call added one item of the type `R` to a list, and
--- changed the list from `v` to `w`. The items of `w` are `xs`, and the call made `k` moves. If `v`
--- has no spare capacity, the capacity of `w` is the one that the growth rule `rule` chooses for one
--- more item. Otherwise, the capacity does not change.
+-- `IsAdded rule R v xs k w` holds if adding one item of the type `R` turned the list `v` into `w`,
+-- whose items are `xs`. The call made `k` moves, and a full list grew by the growth rule `rule`.
 pub record IsAdded {T A : Type 0} (rule : Rule) (R : RattleType) (v : Thin T A) (xs : List T)
     (k : ℕ) (w : Thin T A) : Type 0 where
   pub items : w.items ≡ xs
@@ -26,10 +23,9 @@ pub record IsAdded {T A : Type 0} (rule : Rule) (R : RattleType) (v : Thin T A) 
 
 module _ (T A G : RattleType) (a : AllocatorGhosts A.Denot) (g : GrowthGhosts G.Denot)
     (v : MutBor (Thin T.Denot A.Denot)) where
-  -- `LendsAdded holding k r` describes the result `r` of a call that may add one item to a list. If
-  -- `r` is `Ok`, the reference in `r` borrows the added item, and the call made `k` moves. When the
-  -- borrow ends, the list contains the items `holding x`, where `x` is the value that the borrowed
-  -- item has at that time. If `r` is `Err`, the list does not change.
+  -- `LendsAdded holding k r` describes the result `r` of a call that adds an item with `k` moves.
+  -- If `r` is `Ok`, it borrows the new item, and the list contains `holding x` afterwards, where
+  -- `x` is the final value of the item. If `r` is `Err`, the list does not change.
   abbrev pub LendsAdded : {E : Type 0} → (T.Denot → List T.Denot) → ℕ
       → Result (MutBor T.Denot) E → Fml
   LendsAdded holding k r = LendsSoOk (the_row T A G a g) T v r

@@ -87,12 +87,9 @@ module _ {S T : Type 0} (R : S → T → T → Bool → S → T → T → Type 0
     pub stops : ((length over ≡ 1) × (stays ≡ replicate more true ++ false ∷ []))
         ⊎ ((over ≡ []) × ((after ≡ []) × (stays ≡ replicate more true)))
 
-  -- `Dedups s v t w` states that some or all middle items of an open block were tested for
-  -- duplicates, in order, and that this changed the block from `v` to `w`. (The middle items are
-  -- the items that have not been tested yet.) Each tested item was compared with the last item that
-  -- was kept before it. The kept items were moved to the end of the front, which is the first part
-  -- of the block. Each kept item counts as one move. The other tested items were removed. The test
-  -- changed its state from `s` to `t`.
+  -- `Dedups s v t w` holds if testing some or all middle items of an open block for duplicates
+  -- turned the block `v` into `w`. Kept items were moved to the end of the front, and the other
+  -- tested items were removed. The state of the test changed from `s` to `t`.
   pub record Dedups {A : Type 0} (s : S) (v : Open T A) (t : S) (w : Open T A) : Type 0 where
     pub before : List T
     pub first : T
@@ -110,12 +107,9 @@ module _ {S T : Type 0} (R : S → T → T → Bool → S → T → T → Type 0
       cost = moving (trues stays) v.cost;
     }
 
-  -- `IsDeduped s v t w` states that all duplicates among the middle items of an open block were
-  -- removed, and that this changed the block from `v` to `w`. (The middle items are the items that
-  -- have not been tested yet.) The first middle item was kept without a test. Each later middle
-  -- item was tested, in order, against the last item that was kept before it. The kept items form
-  -- the front, which is the first part of the block. Each kept item that follows the first removed
-  -- item counts as one move. The test changed its state from `s` to `t`.
+  -- `IsDeduped s v t w` holds if removing all duplicates among the middle items of an open block
+  -- turned the block `v` into `w`. The kept items form the front of `w`. The state of the test
+  -- changed from `s` to `t`.
   pub record IsDeduped {A : Type 0} (s : S) (v : Open T A) (t : S) (w : Open T A) : Type 0 where
     pub stays : List Bool
     pub asked : AskedPairs R s v.rest stays w.front t

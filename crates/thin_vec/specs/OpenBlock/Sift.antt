@@ -1,14 +1,12 @@
--- These definitions describe how items are removed from an open block, as in std's
--- `Vec::retain_mut` and `Vec::extract_if`. A test decides for each item whether the item is to be
--- kept.
+-- These definitions describe how items that fail a test are removed from an open block (the block
+-- of a list during an edit), as in `Vec::retain_mut`.
 use Rattle.std.specs.Prelude.{◌≡◌, ℕ, ◌+◌, ◌<◌, ◌==◌, List, [], ◌∷◌, ◌++◌, Bool, true, false, drop, if◌then◌else◌, length, take}
 use Rattle.thin_block.specs.Cost.{moving}
 use Rattle.thin_vec.specs.Edits.Retain.{Verdicts, Asked, flags_of, left_at, moved_down, stay, trues}
 use Rattle.thin_vec.specs.Open.{Open}
 
--- `R s x b t y` describes one call to a predicate that decides whether an item is to be kept. The
--- call tests the item `x`, and the result `b` is true if `x` is to be kept. The call changes the
--- state of the predicate from `s` to `t`, and the item from `x` to `y`.
+-- `R s x b t y` describes one call of a test with the item `x`. The call returns `b` (true: keep
+-- `x`), and changes the state of the test from `s` to `t`, and `x` to `y`.
 module _ {S T : Type 0} (R : S → T → Bool → S → T → Type 0) where
   -- `IsAskedAt k s xs b t ys` states that the item at index `k` of the list `xs` was tested. `b` is
   -- true if the item is to be kept. The test changed its state from `s` to `t`, and the list from
@@ -23,19 +21,16 @@ module _ {S T : Type 0} (R : S → T → Bool → S → T → Type 0) where
     pub asked : R s item b t left
     pub now : ys ≡ before ++ left ∷ after
 
-  -- `Stops s xs t ys` describes the last step of a series of tests. `s` is the state of the test
-  -- before this step, and `xs` is the list of the items that have not been tested yet. If `xs` is
-  -- empty, the step does nothing: `t` is `s`, and `ys` is empty. Otherwise, the step tests the
-  -- first item of `xs`, and this item is to be removed. The step changes the state of the test from
-  -- `s` to `t`, and the list from `xs` to `ys`.
+  -- `Stops s xs t ys` describes the last step of a series of tests. If the list `xs` of untested
+  -- items is empty, nothing happens. Otherwise its first item fails the test, which changes the
+  -- state from `s` to `t`, and the list from `xs` to `ys`.
   abbrev pub Stops : S → List T → S → List T → Type 0
   Stops s [] t ys = (ys ≡ []) × (t ≡ s)
   Stops s (x ∷ xs) t ys = (y : T) × R s x false t y × (ys ≡ y ∷ xs)
 
-  -- `AskedUpTo k m s xs t ys` states that items of the list `xs` were tested in order, beginning
-  -- with the item at index `k`. The items at the indices `k..m` are to be kept. If there is an item
-  -- at index `m`, it was tested last, and is to be removed. All these tests together changed the
-  -- state of the test from `s` to `t`, and the list from `xs` to `ys`.
+  -- `AskedUpTo k m s xs t ys` states that the items `k..m` of `xs` were tested and kept, and that
+  -- the item at index `m`, if there is one, failed the test. The tests changed their state from `s`
+  -- to `t`, and the list from `xs` to `ys`.
   pub record AskedUpTo (k m : ℕ) (s : S) (xs : List T) (t : S) (ys : List T) : Type 0 where
     pub before : List T
     pub run : List T
@@ -50,15 +45,11 @@ module _ {S T : Type 0} (R : S → T → Bool → S → T → Type 0) where
     pub stops : Stops between after t end
     pub now : ys ≡ before ++ (left ++ end)
 
-  -- `Advances s v t w` describes a search in an open block for the next item to remove. The middle
-  -- items of the block are the items that have not been tested yet. The search tests them in order,
-  -- until it finds an item to remove. The search changes the block from `v` to `w`, and the state
-  -- of the test from `s` to `t`.
+  -- `Advances s v t w` describes a search in an open block for the next item that fails a test. It
+  -- changes the block from `v` to `w`, and the state of the test from `s` to `t`.
   --
-  -- Each tested item that is to be kept is added to the end of the front, which is the first part
-  -- of the block. If `v` has empty slots between its front and its middle items, each item that is
-  -- added to the front counts as one move. If the search finds an item to remove, this item is the
-  -- first middle item of `w`. Otherwise, `w` has no middle items.
+  -- The middle items are tested in order, and the kept items are added to the front. An item that
+  -- fails the test becomes the first middle item of `w`.
   pub record Advances {A : Type 0} (s : S) (v : Open T A) (t : S) (w : Open T A) : Type 0 where
     pub count : ℕ
     pub left : List T
@@ -69,11 +60,9 @@ module _ {S T : Type 0} (R : S → T → Bool → S → T → Type 0) where
       cost = if v.gap == 0 then v.cost else moving count v.cost;
     }
 
-  -- `Sifts s v t w` states that some or all middle items of an open block were tested, in order,
-  -- and that this changed the block from `v` to `w`. (The middle items are the items that have not
-  -- been tested yet.) The kept items were moved to the end of the front, which is the first part of
-  -- the block. Each kept item counts as one move. The other tested items were removed. The test
-  -- changed its state from `s` to `t`.
+  -- `Sifts s v t w` holds if testing some or all middle items of an open block turned the block `v`
+  -- into `w`. Kept items were moved to the end of the front, and the other tested items were
+  -- removed. The state of the test changed from `s` to `t`.
   pub record Sifts {A : Type 0} (s : S) (v : Open T A) (t : S) (w : Open T A) : Type 0 where
     pub done : List T
     pub verdicts : Verdicts T
@@ -87,11 +76,9 @@ module _ {S T : Type 0} (R : S → T → Bool → S → T → Type 0) where
       cost = moving (trues (flags_of verdicts)) v.cost;
     }
 
-  -- `IsSifted s v t w` states that all middle items of an open block were tested, in order, and
-  -- that this changed the block from `v` to `w`. (The middle items are the items that have not been
-  -- tested yet.) The kept items were added to the end of the front, which is the first part of the
-  -- block. The other middle items were removed. Each kept item that follows the first removed item
-  -- counts as one move. The test changed its state from `s` to `t`.
+  -- `IsSifted s v t w` holds if testing all middle items of an open block turned the block `v` into
+  -- `w`. Kept items were added to the front, and the other middle items were removed. The state of
+  -- the test changed from `s` to `t`.
   pub record IsSifted {A : Type 0} (s : S) (v : Open T A) (t : S) (w : Open T A) : Type 0 where
     pub verdicts : Verdicts T
     pub asked : Asked R s v.rest verdicts t

@@ -1,5 +1,3 @@
--- This directory contains the type former of `ThinVec`, which is a definition that says which
--- values a list contains. Because of the type former, the prover accepts a type that contains lists
--- of itself, such as a tree that contains a list of trees. The type `ThinVec` is declared in
--- `src/list.rt`.
+-- The type former of `ThinVec` says which values a list contains. With it, the prover accepts types
+-- that contain lists of themselves, such as trees.
 pub mod ThinVec

@@ -233,8 +233,7 @@ impl<T: Clone, A: Allocator> ThinVec<T, A> {
     }
 }
 
-// Returns the number of items in the array `items`. The contract of this function states that the
-// number is `N`. The proof of `from_array`, which calls this function, needs this statement.
+// Returns the number of items in the array `items`. The contract states that this number is `N`.
 fn count<T, const N: usize>(items: &[T; N]) -> usize
     ensures value { result ≡ N }
     ensures length { result ≡ length items.now }

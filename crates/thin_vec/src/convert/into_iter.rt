@@ -153,8 +153,8 @@ impl<T, A: Allocator, G: Growth> IntoIter<T, A, G> {
         self.block.slice(self.start, self.end)
     }
 
-    /// Returns the items that have not been yielded yet, in order, as a mutable slice. If the
-    /// caller changes an item of the slice, the iterator later yields the changed item.
+    /// Returns the items that the iterator has not yielded yet, in order, as a mutable slice. If
+    /// the caller changes an item, the iterator yields the changed item.
     pub fn as_mut_slice(&mut self) -> &mut [T]
         ensures* writes_back { sem 𝓛
             (LendsRest T.row A.row G.row A.Allocator G.Growth self.entry result) }

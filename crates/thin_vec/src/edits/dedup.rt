@@ -1,5 +1,5 @@
-//! The methods `dedup`, `dedup_by` and `dedup_by_key`. They compare each item with the last item
-//! that was kept before it, and remove each item that is a duplicate of this kept item.
+//! The methods `dedup`, `dedup_by` and `dedup_by_key`. They remove each item that is a duplicate of
+//! the last item kept before it.
 ghost use Rattle.std.specs.Prelude.{◌≡◌, ◌+◌, ◌<◌, ◌≤◌, length};
 ghost use Rattle.std.specs.Fn.{CalledAtPairMut, ComparesKeys};
 ghost use Rattle.std.specs.List.{dedup};
@@ -16,11 +16,10 @@ impl<T: Drop, A: Allocator, G: Growth> ThinVec<T, A, G> {
     ghost use Rattle.thin_vec.specs.ThinVec.{IsWithin};
 
     /// Calls `same` once for each item except the first, in order. If `same` returns true, the item
-    /// is removed and dropped. So the list keeps only the first of several adjacent duplicates.
+    /// is removed and dropped.
     ///
-    /// The first argument of `same` is the item, and the second argument is the last item that was
-    /// kept before it. Rust's `Vec::dedup_by` passes the arguments in the same order. `same` may
-    /// write to both items.
+    /// As with Rust's `Vec::dedup_by`, the first argument of `same` is the item, and the second
+    /// argument is the last item kept before it. The closure may change both items.
     ///
     /// Each kept item that follows the first removed item is moved once. No other item is moved
     /// within the list.
@@ -36,8 +35,8 @@ impl<T: Drop, A: Allocator, G: Growth> ThinVec<T, A, G> {
         let Deduping { same: _ } = test;
     }
 
-    // Tests each item except the first, in order, against the last item that was kept before it.
-    // Removes and drops each item that the test finds to be a duplicate.
+    // Tests each item except the first, in order, against the last item kept before it. Removes and
+    // drops the items that the test finds to be duplicates.
     fn dedup_those<J: PairTest<T>>(&mut self, test: &mut J)
         requires ready { J.ready test.old }
         ensures deduped { IsDedupedTo J.tests test.old self.old self.new test.new }
@@ -56,12 +55,11 @@ impl<T: Drop, A: Allocator, G: Growth> ThinVec<T, A, G> {
         self.close(block);
     }
 
-    /// Removes and drops each item whose key is equal to the key of the last item that was kept
-    /// before it. The closure `key` computes the key of an item.
+    /// Removes and drops each item whose key is equal to the key of the last item kept before it.
+    /// The closure `key` computes the key of an item, and may change the item.
     ///
-    /// For each item except the first, in order, `key` is called twice: first with this item, and
-    /// then with the last item that was kept before this item. Rust's `Vec::dedup_by_key` makes the
-    /// same calls. `key` may write to the items.
+    /// For each item except the first, `key` is called with this item, and then with the last item
+    /// kept before it, as in Rust's `Vec::dedup_by_key`.
     ///
     /// Each kept item that follows the first removed item is moved once. No other item is moved
     /// within the list.
@@ -83,12 +81,11 @@ impl<T: PartialEq + Drop, A: Allocator, G: Growth> ThinVec<T, A, G> {
     ghost use Rattle.thin_vec.specs.Edits.Dedup.{unlike};
     ghost use Rattle.thin_vec.specs.ThinVec.{IsWithin};
 
-    /// Removes and drops each item that is equal to the last item that was kept before it, like
-    /// Rust's `Vec::dedup`. If the list is sorted, one item of each value remains.
+    /// Removes and drops each item that is equal to the last item kept before it, like Rust's
+    /// `Vec::dedup`. If the list is sorted, one item of each value remains.
     ///
-    /// Each item except the first is compared once, with the last item that was kept before it.
-    /// Each kept item that follows the first removed item is moved once. No other item is moved
-    /// within the list.
+    /// Each item except the first is compared once. Each kept item that follows the first removed
+    /// item is moved once. No other item is moved within the list.
     pub fn dedup(&mut self)
         ensures items { self.new.items ≡ dedup T.eq self.old.items }
         ensures cost { self.new.cost ≡ moving (moved_down (unlike T.eq self.old.items))

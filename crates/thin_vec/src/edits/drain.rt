@@ -19,9 +19,9 @@ use thin_block::{Doubling, Growth};
 /// An iterator that removes the items of a range from a list, and yields them from either end.
 ///
 /// Until the `Drain` is dropped, it owns the allocation of the list, and the list is empty and has
-/// capacity 0. When the `Drain` is dropped, it drops the items that were not yielded. After that,
-/// the list holds the items before the range and the items after the range, in the same allocation
-/// as before. If a `Drain` is leaked, the list stays empty, and its old items are leaked.
+/// capacity 0. Dropping the `Drain` drops the items that were not yielded, and returns the items
+/// outside the range to the list, in the same allocation. If a `Drain` is leaked, the list stays
+/// empty, and its old items are leaked.
 pub struct Drain<
     'a,
     T,
@@ -60,17 +60,14 @@ impl<T: Drop, A: Allocator, G: Growth> ThinVec<T, A, G> {
     ghost use Rattle.thin_vec.specs.Edits.Drain.{DrainKeepsAlong, DrainsInOrder, DrainsInReverse, drain_alloc, drain_capacity, drain_cost, drain_kept, drain_lender, drain_rest};
 
     /// Removes the items `start..end` from the list, and returns an iterator that yields them from
-    /// either end. The range must be in bounds. To check a range that may be out of bounds, use the
-    /// function `bounds` of this crate.
+    /// either end. The range must be in bounds. The function `bounds` of this crate checks a range.
     ///
-    /// The list is borrowed until the iterator is dropped. Until then, it is empty and has capacity
-    /// 0. When the iterator is dropped, it drops the items that were not yielded. After that, the
-    /// list holds the items before the range and the items after the range. If the iterator is
-    /// leaked, the list stays empty.
+    /// The list is empty and has capacity 0 until the iterator is dropped. Then the items that were
+    /// not yielded are dropped, and the list contains the items outside the range. If the iterator
+    /// is leaked, the list stays empty.
     ///
-    /// Neither this call nor dropping the iterator allocates memory, and neither can fail. This
-    /// call moves no item. When the iterator is dropped, each item after the range is moved once.
-    /// If the range is empty, no item is moved.
+    /// Neither this call nor dropping the iterator allocates memory or can fail. This call moves no
+    /// item. Dropping the iterator moves each item after the range once, unless the range is empty.
     pub fn drain(&mut self, start: usize, end: usize) -> Drain<'_, T, A, G>
         requires start_le_end { start ≤ end }
         requires in_bounds { end ≤ length self.old.items }

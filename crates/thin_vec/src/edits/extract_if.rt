@@ -1,9 +1,8 @@
 //! The method `extract_if`, and the iterator `ExtractIf` that it returns. The iterator tests the
 //! items of a range with a closure, and removes each item for which the closure returns true.
 //!
-//! No item is moved before the first item is removed. The removed items leave a gap of empty slots.
-//! When the next item is removed, or when all items of the range have been tested, the items that
-//! have been kept since the previous removal are moved down to the start of the gap.
+//! The removed items leave a gap of empty slots. At the next removal, or after the last test, the
+//! items kept since the previous removal are moved down to the start of the gap.
 ghost use Rattle.std.specs.Prelude.{◌≡◌, ◌≤◌, IfSome, Some, drop, length, not, slice_range, take};
 ghost use Rattle.std.specs.Fn.{CalledAtMut};
 ghost use Rattle.std.specs.Iterator.{UpTo, at_most};
@@ -20,13 +19,12 @@ use thin_block::{Doubling, Growth};
 
 /// An iterator that tests the items of a range of a list with a closure. It removes each item for
 /// which the closure returns true, and yields the removed items in order. The closure may change
-/// each item that it tests. The changed item is then yielded or kept. The method `extract_if`
-/// returns this iterator.
+/// the items.
 ///
 /// Until the `ExtractIf` is dropped, it owns the allocation of the list, and the list is empty and
-/// has capacity 0. After the drop, the list holds every item that was not yielded. Items that were
-/// not tested are kept, and the closure is not called for them. If an `ExtractIf` is leaked, the
-/// list stays empty, and its old items are leaked.
+/// has capacity 0. After the drop, the list contains every item that was not yielded. Items that
+/// were not tested are kept. If an `ExtractIf` is leaked, the list stays empty, and its old items
+/// are leaked.
 pub struct ExtractIf<
     'a,
     T,
@@ -71,8 +69,8 @@ impl<T, F: FnMut(&mut T) -> bool> Test<T> for Picks<F> {
 
 impl<'a, T: Drop, F: Drop, A: Allocator, G: Growth, H: Holds<Inner = Extracting<T, F, A>>> Drop
     for ExtractIf<'a, T, F, A, G, H> {
-    // Closes the gap that the removed items left, by moving down the items that were not tested and
-    // the items after the range. Then puts the block back into the list, and drops the closure.
+    // Closes the gap that the removed items left, by moving down the items behind the gap. Then
+    // puts the block back into the list, and drops the closure.
     fn drop(self)
         ensures items { self.exit.0.now.items ≡ items_of (H.inner self.entry.holder).block }
         ensures capacity { self.exit.0.now.capacity ≡ (H.inner self.entry.holder).block.capacity }
@@ -114,20 +112,19 @@ impl<T: Drop, A: Allocator, G: Growth> ThinVec<T, A, G> {
     ghost use Rattle.thin_vec.specs.Edits.ExtractIf.{extract_alloc, extract_callee, extract_capacity, extract_cost, extract_front, extract_gone, extract_lender, extract_rest, extract_tail};
 
     /// Returns an iterator that removes the items in the range `start..end` for which `pick`
-    /// returns true. The iterator yields the removed items in order.
+    /// returns true. The iterator yields the removed items in order. The function `bounds` of this
+    /// crate converts a Rust range into `start` and `end`, and checks it.
     ///
     /// `extract_if` itself does not call `pick`. Each call to `next` tests items of the range, in
     /// order, until `pick` returns true for one of them. `pick` is called at most once for each
     /// item, and may change the item.
     ///
-    /// After the `ExtractIf` is dropped, the list holds every item that was not yielded, and has
+    /// After the `ExtractIf` is dropped, the list contains every item that was not yielded, and has
     /// its old capacity and allocator. Items that were not tested are kept, as with Rust's
     /// `Vec::extract_if`.
     ///
     /// No memory is allocated. Each item that stays in the list and follows the first removed item
-    /// is moved once, even if it is not in the range. No other item is moved within the list.
-    ///
-    /// The function `bounds` converts a Rust range into `start` and `end`, and checks them.
+    /// is moved once, even if it is not in the range.
     pub fn extract_if<F: FnMut(&mut T) -> bool>(
         &mut self,
         start: usize,
@@ -168,8 +165,8 @@ impl<T: Drop, A: Allocator, G: Growth> ThinVec<T, A, G> {
 impl<'a, T, F, A: Allocator, G: Growth> ExtractIf<'a, T, F, A, G> {
     ghost use Rattle.thin_vec.specs.Edits.ExtractIf.{extract_rest};
 
-    /// Returns a lower and an upper bound on the number of items that will still be yielded. The
-    /// lower bound is 0, and the upper bound is the number of items that have not been tested yet.
+    /// Returns bounds on the number of items that will still be yielded. The lower bound is 0, and
+    /// the upper bound is the number of items not tested yet.
     pub fn size_hint(&self) -> (usize, Option<usize>)
         ensures value { result ≡ (0, Some (length (extract_rest self.now))) }
     {
@@ -180,9 +177,9 @@ impl<'a, T, F, A: Allocator, G: Growth> ExtractIf<'a, T, F, A, G> {
 impl<'a, T, F: FnMut(&mut T) -> bool, A: Allocator, G: Growth> ExtractIf<'a, T, F, A, G> {
     ghost use Rattle.thin_vec.specs.Edits.ExtractIf.{ExtractSteps, extract_callee};
 
-    /// Tests the items that have not been tested yet, in order, until the closure returns true for
-    /// one of them. Then removes that item and returns it. If the closure returns false for all
-    /// these items, this call and each later call return `None`.
+    /// Tests the remaining items, in order, until the closure returns true for one of them. Then
+    /// removes that item and returns it. If the closure returns true for none of them, this call
+    /// and all later calls to `next` return `None`.
     pub fn next(&mut self) -> Option<T>
         requires callable { F.IsAlwaysCallable (extract_callee self.old) }
         ensures steps { ExtractSteps (CalledAtMut F.FnMut) self.old result self.new }

@@ -2,12 +2,8 @@
 //! range. If items follow the range, there are up to three steps:
 //!
 //! - `fill_gap` fills the empty slots of the range.
-//! - `insert_hinted` reserves room according to the lower bound of the size hint, and fills this
-//!   room.
+//! - `insert_hinted` reserves room for the lower bound of the size hint, and fills this room.
 //! - `insert_held` collects the remaining items in a vector, and moves them into the list.
-//!
-//! These functions are inlined, so that the list and the iterator need not be stored in memory
-//! between two steps.
 ghost use Rattle.std.specs.Prelude.{◌≡◌, ◌+◌, ◌-◌, ◌*◌, ◌<◌, ◌≤◌, [], ◌++◌, ◌∷◌, IfErr, IfOk, IsOk, IsSome, List, MatchOption, None, OnErr, OnOk, OnSome, Some, drop, false, length, take, ℕ};
 ghost use Rattle.std.specs.Iterator.{Drains, IsFinite, Yields, YieldsThen, size};
 ghost use Rattle.std.specs.Iterator.SizeHint.{IsWithinCount};
@@ -30,10 +26,9 @@ use std::iter::Iterator;
 use thin_block::{Growth, ThinVecError};
 
 impl<T, A: Allocator, G: Growth> ThinVec<T, A, G> {
-    // Moves items of `iter` into the gap of `block`, that is, into the empty slots between the
-    // front and the tail of `block`. Stops when the gap is full or `iter` ends. Then puts the block
-    // back into the list. The result contains the rest of `iter`, and says whether `iter` has
-    // ended.
+    // Moves items of `iter` into the empty slots between the front and the tail of `block`, until
+    // the slots are full or `iter` ends. Then puts the block back into the list. The result
+    // contains the rest of `iter`, and says whether `iter` has ended.
     #[inline(always)]
     fn fill_gap<I: Iterator<Item = T>>(&mut self, mut block: OpenBlock<T, A>, iter: I) -> Filled<I>
         requires empty { self.old.items ≡ [] }
@@ -81,8 +76,8 @@ impl<T, A: Allocator, G: Growth> ThinVec<T, A, G> {
         ensures cause { IfErr result
             (λ rejected. FailsAtHint G.rule T.row self.new (I.remaining iter) rejected.cause) }
 
-        // In every case, each item from index `at` onward is moved at most twice. If the call
-        // succeeds and fills the whole gap, each of these items is moved at most once.
+        // Each item from index `at` onward is moved at most twice. If the call succeeds and fills
+        // the whole gap, each of these items is moved at most once.
         ensures taken { HasTaken G.rule T.row self.old self.new
             (2 * (length self.old.items - at)) (I.remaining iter) }
         ensures taken_full { IfOk result (λ filled. filled.ended ≡ false
@@ -178,10 +173,8 @@ impl<T: Drop, A: Allocator, G: Growth> ThinVec<T, A, G> {
         self.close(block);
     }
 
-    // Fills the empty slots of the removed range with items of `iter`. If `iter` yields more items,
-    // two functions insert them before the items that follow the range. First, `insert_hinted`
-    // reserves room according to the size hint of `iter`, and fills this room. Then `insert_held`
-    // inserts the remaining items.
+    // Puts the items of `iter` in place of the removed range. Items that do not fit into the empty
+    // slots of the range are inserted after it, by `insert_hinted` and `insert_held`.
     #[inline(always)]
     pub(crate) fn finish_before_tail<I: Iterator<Item = T>>(
         &mut self,
@@ -338,9 +331,9 @@ fn draw<T, A: Allocator, I: Iterator<Item = T>>(first: T, iter: I, alloc: A) -> 
     }
 }
 
-// Moves items of `iter` into the spare capacity of the vector `held` until the vector is full. Then
+// Moves items of `iter` into the spare capacity of the vector `held`. When the vector is full,
 // takes one more item from `iter`, and returns it in `in_hand`. Stops earlier if `iter` returns
-// `None`. The vector is passed by value, so that its length can stay in a register.
+// `None`.
 fn draw_spare<T, A: Allocator, I: Iterator<Item = T>>(held: Vec<T, A>, iter: I) -> Drawn<T, I, A>
     requires can_next { I.can_next iter }
     requires finite { IsFinite (I.remaining iter) }

@@ -1,10 +1,8 @@
 //! The trait `Holds`, through which `Drain`, `ExtractIf` and `Splice` own the block of a list.
 //!
-//! Each of these structs has one field for a `&mut` to the list, and one field for the block of the
-//! list. The block contains a raw pointer. Suppose that a struct declares one field with a raw
-//! pointer and another field with a `&mut`. Then the contract of the `drop` of this struct cannot
-//! say which value the `&mut` refers to after the call. So the type of the field for the block is a
-//! type parameter with the bound `Holds`. This bound hides the raw pointer.
+//! Each of these structs has a field with a `&mut` to the list. If it also had a field with a raw
+//! pointer, the contract of its `drop` could not say how the list changes. A block contains a raw
+//! pointer, which a type parameter with the bound `Holds` hides.
 ghost use Rattle.std.specs.Prelude.{◌≡◌};
 
 /// A trait for types whose values contain exactly one inner value. Such a value can be converted
@@ -21,8 +19,8 @@ pub trait Holds {
         ensures value { result ≡ inner self };
 }
 
-/// The only type in this crate that implements `Holds`. It is the default of the type parameter `H`
-/// of `Drain`, `ExtractIf` and `Splice`. So users of these types need not write this parameter.
+/// The only type in this crate that implements `Holds`, and the default of the type parameter `H`
+/// of `Drain`, `ExtractIf` and `Splice`. Users of these types need not write `H`.
 pub struct Holder<B> {
     pub(crate) value: B,
 }

@@ -73,9 +73,7 @@ impl<T: Clone, A: Allocator, G: Growth> ThinVec<T, A, G> {
     }
 
     // Does the same as `replace_range`, in a list that already has room for `items.len()` more
-    // items. If `items` is longer than the range, the surplus clones are made first, in a gap
-    // directly after the range. Then the other clones are made at the end of the list, and are
-    // moved into the range.
+    // items. The clones that do not fit into the range are made in a gap after it.
     fn replace_reserved_by_clones(
         &mut self,
         start: usize,

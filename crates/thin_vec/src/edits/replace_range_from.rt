@@ -170,10 +170,9 @@ impl<T: Drop, A: Allocator, G: Growth> ThinVec<T, A, G> {
         self.close(block);
     }
 
-    // Takes the block out of the list, drops the items `start..end`, and returns the block. The
-    // slots of the dropped items form a gap of empty slots. If the gap has fewer than `count`
-    // slots, the items after it are moved up, so that the gap has `count` slots. After the call,
-    // the list is empty and has no block.
+    // Takes the block out of the list, drops the items `start..end`, and returns the block with a
+    // gap of at least `count` empty slots in their place. After the call, the list is empty and has
+    // no block.
     fn open_range(&mut self, start: usize, end: usize, count: usize) -> OpenBlock<T, A>
         requires start_le_end { start ≤ end }
         requires in_bounds { end ≤ length self.old.items }

@@ -1,10 +1,8 @@
 //! The methods `retain` and `retain_mut`, which keep the items for which a closure returns true,
 //! and drop the other items.
 //!
-//! No item is moved before the first item is removed. The removed items leave a gap of empty slots.
-//! When the next item is removed, or when all items have been tested, the items that have been kept
-//! since the previous removal are moved down to the start of the gap. The `dedup` methods work in
-//! the same way.
+//! The removed items leave a gap of empty slots. At the next removal, or after the last test, the
+//! items kept since the previous removal are moved down to the start of the gap.
 ghost use Rattle.std.specs.Prelude.{◌≡◌, ◌<◌, ◌≤◌, length};
 ghost use Rattle.std.specs.List.Retain.{IsFiltered};
 ghost use Rattle.std.specs.Fn.{CalledAt, CalledAtMut};
@@ -20,8 +18,7 @@ impl<T: Drop, A: Allocator, G: Growth> ThinVec<T, A, G> {
     ghost use Rattle.thin_vec.specs.ThinVec.{IsWithin};
 
     /// Keeps the items for which `keep` returns true, and drops the other items, like Rust's
-    /// `Vec::retain`. The closure `keep` is called once for each item, in order. The kept items
-    /// stay in the same order.
+    /// `Vec::retain`. The closure `keep` is called once for each item, in order.
     ///
     /// Each kept item that follows the first removed item is moved once. No other item is moved
     /// within the list. The capacity does not change.
@@ -38,9 +35,8 @@ impl<T: Drop, A: Allocator, G: Growth> ThinVec<T, A, G> {
         let Looking { keep: _ } = test;
     }
 
-    /// Keeps the items for which `keep` returns true, and drops the other items, like `retain`. In
-    /// contrast to the closure of `retain`, `keep` may change the items. The kept items stay in the
-    /// list with these changes.
+    /// Keeps the items for which `keep` returns true, and drops the other items. Unlike the closure
+    /// of `retain`, `keep` may change the items.
     pub fn retain_mut<F: FnMut(&mut T) -> bool>(&mut self, keep: F)
         requires callable { F.IsAlwaysCallable keep }
         ensures retained { IsRetained (CalledAtMut F.FnMut) keep self.old self.new }

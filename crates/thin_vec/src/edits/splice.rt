@@ -40,11 +40,10 @@ impl<T, A: Allocator, G: Growth> ThinVec<T, A, G> {
     ghost use Rattle.thin_vec.specs.Edits.Splice.{splice_alloc, splice_block, splice_iter, splice_lender, splice_range, splice_rest};
 
     /// Begins to replace the items `start..end` with the items of `iter`. The returned `Splice`
-    /// yields the old items from either end. Its method `finish` puts the items of `iter` in their
-    /// place. The range must be in bounds. To check a range that may be out of bounds, use the
-    /// function `bounds` of this crate.
+    /// yields the old items from either end. Its method `finish` puts the new items in their place.
     ///
-    /// The call cannot fail. It allocates nothing, moves no item, and takes no item from `iter`.
+    /// The range must be in bounds. The function `bounds` of this crate checks a range. The call
+    /// cannot fail. It allocates nothing, moves no item, and takes no item from `iter`.
     pub fn splice<I: Iterator<Item = T>>(
         &mut self,
         start: usize,
@@ -60,9 +59,8 @@ impl<T, A: Allocator, G: Growth> ThinVec<T, A, G> {
         ensures range { splice_range result ≡ end - start }
         ensures iter { splice_iter result ≡ iter }
 
-        // The `Splice` owns the items before the range and the items after the range. The capacity,
-        // the allocator and the recorded cost of the `Splice` are those that the list had before
-        // the call.
+        // The `Splice` owns the items before and after the range. Its capacity, allocator and
+        // recorded cost are those of the list before the call.
         ensures front { (splice_block result).front ≡ take start self.old.items }
         ensures tail { (splice_block result).tail ≡ drop end self.old.items }
         ensures capacity { (splice_block result).capacity ≡ self.old.capacity }
@@ -192,9 +190,8 @@ impl<
         requires can_next { I.can_next (splice_iter self) }
         requires finite { IsFinite (I.remaining (splice_iter self)) }
 
-        // On success, the list contains the items before the range, then the items `xs` of the
-        // iterator, and then the items after the range. The list after the call is
-        // `self.exit.0.now`, because the first field of the `Splice` is the reference to the list.
+        // On success, the list `self.exit.0.now` contains the items before the range, the items
+        // `xs` of the iterator, and the items after the range.
         ensures items { OnOk result ((xs : List T) × Drains I.next_gives (splice_iter self.entry) xs
             × (self.exit.0.now.items ≡ splice_replaced self.entry xs)) }
         ensures runs { OnOk result (WholeRun I.next_gives (splice_iter self.entry)

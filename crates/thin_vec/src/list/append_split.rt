@@ -84,11 +84,11 @@ impl<T, A: Allocator, G: Growth> ThinVec<T, A, G> {
         Ok(tail)
     }
 
-    /// Moves all items of `other` to the end of this list, in order. After the call, `other` is
-    /// empty, and keeps its capacity. This list must already have room for the items; `reserve`
-    /// makes such room. So this list does not grow, and the call cannot fail.
+    /// Moves all items of `other` to the end of this list, in order. This list must already have
+    /// room for them, for example after `reserve`. The call cannot fail. `other` becomes empty, and
+    /// keeps its capacity.
     ///
-    /// This method exists neither in Rust's `Vec` nor in the Rust crate thin-vec.
+    /// Neither Rust's `Vec` nor the Rust crate thin-vec has such a method.
     pub fn append_reserved(&mut self, other: &mut ThinVec<T, A, G>)
         requires room { HasRoomFor self.old (length other.old.items) }
         ensures items { self.new.items ≡ self.old.items ++ other.old.items }

@@ -1,5 +1,5 @@
-//! The methods that reserve room in a list. The function `grow_to` is the only function that grows
-//! a list. The function `capacity_for` is the only function that calls the growth rule.
+//! The methods that reserve room in a list. Only the function `grow_to` grows a list, and only the
+//! function `capacity_for` calls the growth rule.
 ghost use Rattle.std.specs.Prelude.{◌≡◌, ◌+◌, ◌<◌, ◌≤◌, [], IfErr, IfOk, IfSome, IsErrOf, IsFalse, IsOk, IsTrue, None, OnErr, OnOk, Some, length};
 ghost use Rattle.thin_block.specs.Capacity.{Fits};
 ghost use Rattle.thin_block.specs.Cost.{growing};
@@ -132,10 +132,8 @@ impl<T, A: Allocator, G: Growth> ThinVec<T, A, G> {
         self.grow_to(capacity)
     }
 
-    // Reserves room for at least `additional` more items, with the same contract as `reserve`. This
-    // function is meant for calls that add several items. If `additional` is known at compile time,
-    // for example because it is the length of a literal, the compiled code checks for room with a
-    // single comparison. (The compiled code of `reserve` does this only if `additional` is 1.)
+    // Reserves room for at least `additional` more items, with the same contract as `reserve`. If
+    // `additional` is a constant, the compiled code checks for room with a single comparison.
     #[tactic(auto, using(thin_block::proofs::CapacityLemmas::ruled))]
     pub(crate) fn reserve_run(&mut self, additional: usize) -> Result<(), ThinVecError>
         // On success.
@@ -159,10 +157,8 @@ impl<T, A: Allocator, G: Growth> ThinVec<T, A, G> {
         Ok(())
     }
 
-    // Returns whether there is room for `additional` more items. If `additional` exceeds
-    // `isize::MAX`, the function returns false, because no list has so much room. Otherwise, it
-    // adds `additional` to the length. The length is also at most `isize::MAX`, so this addition
-    // cannot overflow.
+    // Returns whether there is room for `additional` more items. Returns false if `additional`
+    // exceeds `isize::MAX`, so `length + additional` cannot overflow.
     fn has_room_for(&self, additional: usize) -> bool
         ensures within { IsWithin T.row self.now }
         ensures room { IsTrue result → HasRoomFor self.now additional }
@@ -177,8 +173,7 @@ impl<T, A: Allocator, G: Growth> ThinVec<T, A, G> {
     }
 
     // Grows the list to make room for `additional` more items. The list must have too little room
-    // for these items. This part of `reserve` is a separate function, which is marked as cold,
-    // because most calls to `reserve` find enough room.
+    // for them. Most calls to `reserve` do not need this function.
     #[cold]
     fn grow_for(&mut self, additional: usize) -> Result<(), ThinVecError>
         requires more { self.old.capacity < length self.old.items + additional }
@@ -207,8 +202,7 @@ impl<T, A: Allocator, G: Growth> ThinVec<T, A, G> {
     }
 
     // Returns the capacity that the growth rule chooses for `additional` more items, or `None` if
-    // the rule chooses no capacity. The list must not have room for these items yet. No other
-    // function calls the growth rule.
+    // there is no such capacity. The list must not have room for these items yet.
     #[tactic(auto, using(thin_block::proofs::CapacityLemmas::ruled))]
     fn capacity_for(&self, additional: usize) -> Option<usize>
         requires more { self.now.capacity < length self.now.items + additional }
@@ -223,9 +217,8 @@ impl<T, A: Allocator, G: Growth> ThinVec<T, A, G> {
         }
     }
 
-    // Grows the list to the capacity `cap`. No other function grows a list. Both this function and
-    // `Block::grow` are inlined. So if a caller grows a list that it has just made, the compiled
-    // code does not test whether the list already has a block.
+    // Grows the list to the capacity `cap`. The function is inlined, so that a caller with a new
+    // list need not test whether the list has a block.
     #[inline(always)]
     pub(crate) fn grow_to(&mut self, cap: usize) -> Result<(), ThinVecError>
         requires larger { self.old.capacity < cap }
@@ -253,9 +246,8 @@ impl<T, A: Allocator, G: Growth> ThinVec<T, A, G> {
     }
 
     // Makes an empty list whose capacity is exactly `capacity`. A block of this capacity must not
-    // be too large: the function `fits` must return true for `capacity`. If `capacity` is 0, the
-    // list has no block. All methods that make a list with an exact capacity use this function,
-    // except `from_iter`, which uses `reserve_first`.
+    // be too large, that is, `fits` must return true for `capacity`. If `capacity` is 0, nothing is
+    // allocated.
     pub(crate) fn with_fitting_capacity(
         alloc: A,
         capacity: usize,

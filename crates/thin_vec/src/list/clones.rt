@@ -227,9 +227,8 @@ impl<T: Clone, A: Allocator, G: Growth> ThinVec<T, A, G> {
         self.extend_from_within_reserved(start, end)
     }
 
-    // Appends clones of the items `start..end` of the list, in order. The list must already have
-    // room for the clones, so it does not grow. If an item cannot be cloned, the call fails, and
-    // the clones that were already made are dropped.
+    // Appends clones of the items `start..end`, in order. The list must have room for them. If
+    // cloning fails, all clones that this call made are dropped.
     fn extend_from_within_reserved(&mut self, start: usize, end: usize) -> Result<(), ThinVecError>
         requires start_le_end { start ≤ end }
         requires in_bounds { end ≤ length self.old.items }
@@ -268,10 +267,8 @@ impl<T: Clone, A: Allocator, G: Growth> ThinVec<T, A, G> {
         Ok(())
     }
 
-    // Appends clones of the items `start..end` of the list, in order. Stops at the first item that
-    // cannot be cloned. Returns the number of clones that were made. The list must have room for
-    // all these clones. The stored length is updated after each clone, because the items to clone
-    // are read from the list itself.
+    // Appends clones of the items `start..end`, in order, until an item cannot be cloned. Returns
+    // the number of clones. The list must have room for all of them.
     fn push_clones_within(&mut self, start: usize, end: usize) -> usize
         requires start_le_end { start ≤ end }
         requires in_bounds { end ≤ length self.old.items }
@@ -313,8 +310,8 @@ impl<T: Clone, A: Allocator + Copy, G: Growth> Clone for ThinVec<T, A, G> {
 
     ghost is_infallible = { λ list. list.items ≡ [] };
 
-    // Makes a list of clones of all items of this list. The allocator is `Copy`, and the new list
-    // uses a copy of it. On failure, the cause is lost, because `AllocError` has no field for it.
+    // Makes a list of clones of all items of this list, with a copy of its allocator. The error
+    // does not contain the cause of a failure.
     fn clone(&self) -> Result<Self, AllocError> {
         match ThinVec::clone(self, *self.allocator()) {
             Ok(other) => Ok(other),

@@ -1,6 +1,5 @@
-//! Implementations of traits that compare, hash and print lists. A list is compared, hashed and
-//! printed like the slice of its items, so its capacity and its recorded cost have no effect. This
-//! file also implements `Emptied` and `MadeWith`, two traits of Rattle's std that make empty lists.
+//! Implementations of traits that compare, hash, print and make lists. A list is compared, hashed
+//! and printed like the slice of its items.
 ghost use Rattle.std.specs.Cmp.{on_equiv, on_per, on_po, on_total};
 ghost use Rattle.std.specs.Cmp.Lexicographic.{lists_agrees, lists_equiv, lists_per, lists_po, lists_ties, lists_total, pointwise, slice_cmp, slice_partial_cmp};
 ghost use Rattle.std.specs.Hash as fed;
@@ -76,7 +75,7 @@ impl<T, A: Allocator + Clone, G: Growth> Emptied for ThinVec<T, A, G> {
     ghost is_emptied = { λ list. list.items ≡ [] };
 
     // Makes an empty list that owns a clone of the allocator of the list `like`. Fails if the
-    // allocator cannot be cloned. The function `mem::try_take` of Rattle's std calls this function.
+    // allocator cannot be cloned.
     fn emptied(like: &ThinVec<T, A, G>) -> Result<ThinVec<T, A, G>, AllocError> {
         Ok(ThinVec::ruled(like.allocator().clone()?))
     }

@@ -76,8 +76,8 @@ impl<T: Copy, A: Allocator, G: Growth> ThinVec<T, A, G> {
         Ok(list)
     }
 
-    /// Appends a copy of each item of `items`, in order. The list must already have room for the
-    /// items; `reserve` makes such room. So the list does not grow, and the call cannot fail.
+    /// Appends a copy of each item of `items`, in order. The list must already have room for them
+    /// (see `reserve`), so the call cannot fail.
     ///
     /// This method exists neither in Rust's `Vec` nor in the Rust crate thin-vec.
     pub fn extend_from_copies_reserved(&mut self, items: &[T])

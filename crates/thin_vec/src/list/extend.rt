@@ -137,10 +137,8 @@ impl<T, A: Allocator, G: Growth> ThinVec<T, A, G> {
         }
     }
 
-    // Moves items of `iter` into the spare capacity until the list is full or `iter` ends. If the
-    // list is full, takes one more item from `iter`. Returns the rest of the iterator, and the item
-    // for which there was no room. If `iter` has ended, there is no such item, and `None` is
-    // returned in its place.
+    // Appends items of `iter` until the list is full or `iter` ends. If the list is full, takes one
+    // more item from `iter`. Returns the rest of the iterator and this item, if any.
     fn extend_reserved<I: Iterator<Item = T>>(&mut self, iter: I) -> (I, Option<T>)
         requires can_next { I.can_next iter }
         requires finite { IsFinite (I.remaining iter) }
@@ -154,10 +152,9 @@ impl<T, A: Allocator, G: Growth> ThinVec<T, A, G> {
           cost = moving (length self.new.items - length self.old.items) self.old.cost;
         } }
 
-        // Suppose that the call returns an item. Then the list is full, and `next` may be called on
-        // the returned iterator. `I.remaining` is an upper bound on the number of items that an
-        // iterator may still yield. This bound is finite for the returned iterator. The call has
-        // decreased the bound by more than the number of appended items.
+        // If the call returns an item, the list is full, and `next` may be called on the returned
+        // iterator. `I.remaining`, an upper bound on the number of items that this iterator may
+        // still yield, is finite, and has decreased by more than the number of appended items.
         ensures full { OnSome result.1 (length self.new.items ≡ self.new.capacity) }
         ensures rest { OnSome result.1 (I.can_next result.0 × IsFinite (I.remaining result.0)) }
         ensures nearer { OnSome result.1
@@ -181,9 +178,8 @@ impl<T, A: Allocator, G: Growth> ThinVec<T, A, G> {
         (rest, extra)
     }
 
-    // Moves items of `iter` into the spare capacity, until the list is full or `iter` ends. The new
-    // length is stored only once, after the last item is moved. The field `end` of the result is
-    // the new length.
+    // Moves items of `iter` into the spare capacity until the list is full or `iter` ends. The
+    // field `end` of the result is the new length.
     fn fill_spare<I: Iterator<Item = T>>(&mut self, iter: I) -> Filled<I>
         requires can_next { I.can_next iter }
         requires finite { IsFinite (I.remaining iter) }
@@ -292,9 +288,8 @@ impl<T, A: Allocator> ThinVec<T, A> {
 impl<T: Drop, A: Allocator, G: Growth> Extend<T> for ThinVec<T, A, G> {
     ghost extend_gives = { Extends G.rule T.row };
 
-    // Appends the items of `iter`, like the method `ThinVec::extend`. On failure, drops the
-    // iterator. If an item was taken from the iterator but could not be appended, this item is also
-    // dropped. The items that were appended before the failure stay in the list.
+    // Appends the items of `iter`. On failure, the appended items stay in the list. The iterator is
+    // dropped, and so is an item that was taken from it but not appended.
     fn extend<U: IntoIterator<Item = T>>(&mut self, iter: U) -> Result<(), AllocError> {
         match ThinVec::extend(self, iter.into_iter()) {
             Ok(()) => Ok(()),

@@ -84,7 +84,6 @@ impl<T, A: Allocator, G: Growth> IndexMut<usize> for ThinVec<T, A, G> {
 
 impl<T, A: Allocator, G: Growth> ThinVec<T, A, G> {
     /// Returns a mutable reference to the item at `index`, or `None` if there is no such item.
-    /// Writing through the reference changes the item in the list.
     ///
     /// In the Rust crate thin-vec, a list has this method because it dereferences to a slice.
     pub fn get_mut(&mut self, index: usize) -> Option<&mut T>

@@ -53,9 +53,8 @@ impl<T, A: Allocator, G: Growth> ThinVec<T, A, G> {
         Ok(())
     }
 
-    /// Inserts `value` at `index`, which must be at most the length. The list then owns `value`.
-    /// Each item from `index` onward is moved to the next higher index. The list must already have
-    /// room for one more item; `reserve(1)` makes such room. So the list does not grow, and the
+    /// Inserts `value` at `index`, which must be at most the length. Items from `index` onward are
+    /// moved up by one. The list must already have room for one more item (see `reserve`), so the
     /// call cannot fail.
     ///
     /// This method exists neither in Rust's `Vec` nor in the Rust crate thin-vec.
@@ -86,8 +85,8 @@ impl<T, A: Allocator, G: Growth> ThinVec<T, A, G> {
     /// - `CapacityOverflow`: the new capacity would be too large.
     /// - `OutOfMemory`: the allocator failed.
     pub fn push_mut(&mut self, value: T) -> Result<&mut T, Rejected<T>>
-        // On success, `value` is appended, and the result borrows it. When the borrow ends, the
-        // list contains the final value of the borrowed item. On failure, the list is unchanged.
+        // On success, the result borrows the appended item. When the borrow ends, the list contains
+        // the final value of this item. On failure, the list is unchanged.
         ensures* writes_back { sem 𝓛
             (LendsAdded T.row A.row G.row A.Allocator G.Growth self.entry
             (λ x. self.old.items ++ x ∷ []) 1 result) }
@@ -125,8 +124,8 @@ impl<T, A: Allocator, G: Growth> ThinVec<T, A, G> {
     pub fn insert_mut(&mut self, index: usize, value: T) -> Result<&mut T, Rejected<T>>
         requires in_bounds { index ≤ length self.old.items }
 
-        // On success, `value` is inserted, and the result borrows it. When the borrow ends, the
-        // list contains the final value of the borrowed item. On failure, the list is unchanged.
+        // On success, the result borrows the inserted item. When the borrow ends, the list contains
+        // the final value of this item. On failure, the list is unchanged.
         ensures* writes_back { sem 𝓛
             (LendsAdded T.row A.row G.row A.Allocator G.Growth self.entry
             (insert self.old.items index) (length self.old.items - index + 1) result) }
@@ -163,9 +162,8 @@ impl<T, A: Allocator, G: Growth> ThinVec<T, A, G> {
         value
     }
 
-    /// Removes the item at `index` and returns it. The last item is moved to `index`, and no other
-    /// item is moved. So the call takes constant time, but does not keep the order of the items.
-    /// The capacity does not change.
+    /// Removes the item at `index` and returns it. The last item takes its place. This takes
+    /// constant time, but changes the order of the items. The capacity does not change.
     pub fn swap_remove(&mut self, index: usize) -> T
         requires in_bounds { index < length self.old.items }
         ensures value { slice_get self.old.items index ≡ Some result }

@@ -49,9 +49,8 @@ impl<T: Clone, A: Allocator, G: Growth> ThinVec<T, A, G> {
         ensures err_cost { OnErr result ((self.new ≡ self.old) ⊎ CostsUpToClone T.is_infallible
             (replicate (len - length self.old.items - 1) value) self.old self.new) }
 
-        // Let `n` be the number of new items. In every case, the call changes the capacity exactly
-        // as `reserve(n)` would. It fails with `CapacityOverflow` if and only if `reserve(n)` would
-        // fail with `CapacityOverflow`.
+        // If the call adds `n` items, it changes the capacity exactly as `reserve(n)` would. It
+        // fails with `CapacityOverflow` if and only if `reserve(n)` would.
         ensures reserves { Reserves G.rule T.row (len - length self.old.items) self.old self.new
             result }
         ensures keeps { Keeps T.row self.old self.new }
@@ -66,8 +65,7 @@ impl<T: Clone, A: Allocator, G: Growth> ThinVec<T, A, G> {
     }
 
     // Appends `count - 1` clones of `value`, and then `value` itself. The list must have room for
-    // these items. If cloning `value` fails, the clones that were already made are dropped, and
-    // `value` is dropped, too.
+    // them. If cloning fails, `value` and all new clones are dropped.
     fn resize_reserved(&mut self, value: T, count: usize) -> Result<(), ThinVecError>
         requires some { 0 < count }
         requires room { HasRoomFor self.old count }
@@ -161,8 +159,8 @@ impl<T: Drop, A: Allocator, G: Growth> ThinVec<T, A, G> {
         // On failure, the list is unchanged.
         ensures err { OnErr result (self.new ≡ self.old) }
 
-        // Let `n` be the number of new items. In every case, the call changes the capacity exactly
-        // as `reserve(n)` would, and it fails if and only if `reserve(n)` would fail.
+        // If the call adds `n` items, it changes the capacity exactly as `reserve(n)` would. It
+        // fails if and only if `reserve(n)` would fail.
         ensures reserves { Reserves G.rule T.row (len - length self.old.items) self.old self.new
             result }
         ensures keeps { Keeps T.row self.old self.new }

@@ -114,8 +114,8 @@ impl<T, A: Allocator, G: Growth> ThinVec<T, A, G> {
         Ok(())
     }
 
-    // Frees the allocation of the list. The list must be empty. After the call, its capacity is 0.
-    // In contracts, all counters in its field `cost` are then 0, too.
+    // Frees the allocation of the list, which must be empty. This sets the capacity to 0 and, in
+    // contracts, all counters in the field `cost` to 0.
     fn give_block_back(&mut self)
         requires empty { self.old.items ≡ [] }
         ensures changes { self.new ≡ record self.old { items = []; capacity = 0; cost = no_cost } }

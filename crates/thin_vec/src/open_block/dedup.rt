@@ -1,7 +1,5 @@
-//! Functions that the `dedup` methods call. They keep the first item, and test each later item
-//! against the last item that was kept before it. During this work, the kept items are at the front
-//! of the block. The remaining items, which have not been kept or removed yet, come after them,
-//! perhaps after a gap of empty slots.
+//! Functions that the `dedup` methods call. They keep the first item, and test each other item
+//! against the last item that was kept before it.
 ghost use Rattle.std.specs.Prelude.{◌≡◌, ◌+◌, ◌-◌, ◌^◌, ◌<◌, ◌≤◌, ◌∷◌, ◌++◌, [], Bool, length};
 ghost use Rattle.thin_block.specs.Block.{seen};
 ghost use Rattle.thin_block.specs.Cost.{moving};
@@ -12,17 +10,16 @@ use crate::open_block::OpenBlock;
 use std::alloc::Allocator;
 use thin_block::Block;
 
-/// A test of two items of a list: an item, and the last item that was kept before it. The test
-/// decides whether the later of the two items is to be removed. It may write to both items.
+/// Decides whether an item of a list is to be removed, by a test against the last kept item before
+/// it. The test may write to both items.
 pub(crate) trait PairTest<T> {
-    /// `tests s x k b t y l` states that a call to the test may return `b`, which is true if the
-    /// later item is to be removed. Before the call, the state of the test is `s`, the later item
-    /// is `x`, and the last item that was kept before it is `k`. After the call, the state is `t`,
-    /// the later item is `y`, and the kept item is `l`.
+    /// `tests s x k b t y l` holds if one test of the item `x` against the kept item `k` may return
+    /// `b`, and change the state of the test from `s` to `t`, `x` to `y`, and `k` to `l`. If `b` is
+    /// true, the item `y` is to be removed.
     ghost tests: { Self → T → T → Bool → Self → T → T → Type 0 };
 
-    /// `ready s` holds if the test can be called in the state `s`, with any two items. After such a
-    /// call, `ready` holds again for the new state of the test.
+    /// `ready s` holds if the test can be called in the state `s` with any two items. Each such
+    /// call leaves the test in a state that is ready again.
     ghost ready: { Self → Type 0 };
 
     /// Returns whether the item `later` is to be removed. `kept` is the last item that was kept
@@ -119,9 +116,8 @@ impl<T, A: Allocator> OpenBlock<T, A> {
 impl<T: Drop, A: Allocator> OpenBlock<T, A> {
     ghost use Rattle.thin_vec.specs.OpenBlock.Dedup.{IsDeduped, Dedups};
 
-    // Keeps the first of the remaining items. Tests each later item against the last item that was
-    // kept before it, and drops the items that are to be removed. After the call, no item remains
-    // to be tested, and the front contains the kept items.
+    // Keeps the first remaining item. Tests each other remaining item against the last kept item
+    // before it, and drops the items that are to be removed.
     pub(crate) fn dedup_rest<J: PairTest<T>>(&mut self, test: &mut J)
         requires some { 0 < length self.old.rest }
         requires front { self.old.front ≡ [] }
@@ -152,15 +148,12 @@ impl<T: Drop, A: Allocator> OpenBlock<T, A> {
         self.dedup_last(test);
     }
 
-    // Tests the remaining items, in order, each against the last item that was kept before it.
-    // Stops at the first item that is to be removed, and drops this item. The remaining items that
-    // were tested before the dropped item are appended to the kept items. If no item is to be
-    // removed, all remaining items are appended. At least two items must remain before the call.
+    // Tests the remaining items, in order, each against the last kept item before it. Drops the
+    // first item that is to be removed, and stops there. The items that pass the test are kept. At
+    // least two items must remain before the call.
     //
-    // The first remaining item is taken out of the block before it is tested. The reason is that
-    // the test needs mutable references to this item and to the last kept item at the same time.
-    // The block can provide two such references only for adjacent items, and these two items are
-    // not adjacent: there is a gap between them.
+    // The first remaining item is taken out of the block before its test, because the block
+    // provides two mutable references only for adjacent items.
     fn dedup_two<J: PairTest<T>>(&mut self, test: &mut J)
         requires some { 0 < length self.old.front }
         requires two { 1 < length self.old.rest }
@@ -215,7 +208,7 @@ impl<T: Drop, A: Allocator> OpenBlock<T, A> {
 }
 
 // Tests the item in slot `i + 1` against the item in slot `i`. Returns whether the item in slot
-// `i + 1` is to be removed. Neither item is moved.
+// `i + 1` is to be removed.
 fn test_neighbours<T, A: Allocator, J: PairTest<T>>(
     block: &mut Block<T, A>,
     i: usize,

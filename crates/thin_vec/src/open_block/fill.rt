@@ -1,5 +1,5 @@
 //! Methods that put items into the gap of an open block. The gap consists of empty slots in the
-//! middle of the block. The new items directly follow the items before the gap.
+//! middle of the block.
 ghost use Rattle.std.specs.Prelude.{◌≡◌, ◌-◌, ◌<◌, ◌≤◌, [], ◌++◌, HoldsAt, List, drop, length, take};
 ghost use Rattle.std.specs.Iterator.{IsFinite};
 ghost use Rattle.std.specs.List.{AllZip};
@@ -105,8 +105,8 @@ impl<T: Copy, A: Allocator> OpenBlock<T, A> {
 }
 
 impl<T: Clone, A: Allocator> OpenBlock<T, A> {
-    // Puts clones of the items of the slice `items` into the gap of empty slots, in order. Stops
-    // early if an item cannot be cloned. Returns the number of clones that were made.
+    // Puts clones of `items` into the gap, in order, until an item cannot be cloned. Returns the
+    // number of clones that were made.
     pub(crate) fn fill_from_clones(&mut self, items: &[T]) -> usize
         requires room { length items.now ≤ self.old.gap }
         ensures in_bounds { result ≤ length items.now }

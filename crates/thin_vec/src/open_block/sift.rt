@@ -1,7 +1,5 @@
-//! Functions that `retain`, `retain_mut` and `extract_if` call. They test the items of a range in
-//! place, and then move the kept items down. The kept items are at the front of the block. The
-//! remaining items, which have not been kept or removed yet, come after them, perhaps after a gap
-//! of empty slots.
+//! Functions that `retain`, `retain_mut` and `extract_if` call. They test the items of a range, and
+//! move the kept items down to the front of the block.
 ghost use Rattle.std.specs.Prelude.{◌≡◌, ◌↔◌, ◌+◌, ◌<◌, ◌≤◌, ◌==◌, ◌++◌, [], Bool, IsTrue, drop, length, take};
 ghost use Rattle.thin_block.specs.Cost.{moving};
 
@@ -15,12 +13,12 @@ const MANY: usize = 8;
 
 /// A test of one item. It decides whether the item is to be kept, and may write to the item.
 pub(crate) trait Test<T> {
-    /// `tests s x b t y` holds if one call to the test may change the state of the test from `s` to
-    /// `t`, and the item from `x` to `y`. The flag `b` is true if the item is to be kept.
+    /// `tests s x b t y` holds if one call may return `b`, and change the state of the test from
+    /// `s` to `t` and the item from `x` to `y`. If `b` is true, the item is kept.
     ghost tests: { Self → T → Bool → Self → T → Type 0 };
 
-    /// `ready s` holds if the test can be called in the state `s`, with any item. After such a
-    /// call, `ready` holds again for the new state of the test.
+    /// `ready s` holds if the test can be called in the state `s` with any item. Each such call
+    /// leaves the test in a state that is ready again.
     ghost ready: { Self → Type 0 };
 
     /// Returns whether `item` is to be kept.
@@ -76,9 +74,8 @@ impl<T, A: Allocator> OpenBlock<T, A> {
         self.rest_start += 1;
     }
 
-    // Moves the first `k` of the remaining items down, so that they directly follow the kept items.
-    // If `k` is at least `MANY`, all `k` items are moved together. Otherwise, they are moved one by
-    // one. If `k` is 2, this is done without a loop.
+    // Moves the first `k` remaining items down to the end of the kept items. If `k` is at least
+    // `MANY`, the items are moved together. Otherwise, they are moved one by one.
     #[inline(always)]
     pub(crate) fn move_down(&mut self, k: usize)
         requires in_bounds { k ≤ length self.old.rest }
@@ -103,9 +100,8 @@ impl<T, A: Allocator> OpenBlock<T, A> {
         }
     }
 
-    // Moves the first `k` of the remaining items down, so that they directly follow the kept items.
-    // The method `close_gap` of the block moves all `k` items together. `close_gap` takes the block
-    // by value, so that the other fields of the open block can stay in registers.
+    // Moves the first `k` remaining items down to the end of the kept items. All `k` items are
+    // moved together, by the method `close_gap` of the block.
     #[inline(always)]
     fn move_run_down(&mut self, k: usize)
         requires in_bounds { k ≤ length self.old.rest }
@@ -126,10 +122,8 @@ impl<T, A: Allocator> OpenBlock<T, A> {
         self.rest_start += k;
     }
 
-    // Returns whether at least two items remain. There must be a gap before the remaining items,
-    // which are in the slots `rest_start..rest_end`. So `rest_end` is not 0, and `rest_end - 1`
-    // cannot overflow. The code compares with `rest_end - 1` because this number can stay in a
-    // register during a loop.
+    // Returns whether at least two items remain. There must be a gap before the remaining items, so
+    // `rest_end - 1` cannot overflow.
     pub(crate) fn has_two(&self) -> bool
         requires gap { 0 < self.now.gap }
         ensures value { IsTrue result ↔ (1 < length self.now.rest) }
@@ -162,10 +156,9 @@ impl<T, A: Allocator> OpenBlock<T, A> {
 impl<T, A: Allocator> OpenBlock<T, A> {
     ghost use Rattle.thin_vec.specs.OpenBlock.Sift.{Advances};
 
-    // Tests the remaining items, in order, up to the first item that is to be removed, and returns
-    // whether there is such an item. The items that were tested before this item are added to the
-    // kept items, and are moved down if there is a gap. The item that is to be removed becomes the
-    // first of the remaining items.
+    // Tests the remaining items, in order, up to the first item that is to be removed. Returns
+    // whether there is such an item. Keeps the tested items before it, and moves them down if there
+    // is a gap.
     pub(crate) fn advance<J: Test<T>>(&mut self, test: &mut J) -> bool
         requires ready { J.ready test.old }
         ensures advances { Advances J.tests test.old self.old test.new self.new }
@@ -198,11 +191,7 @@ impl<T, A: Allocator> OpenBlock<T, A> {
     }
 
     // Does the same as `advance`: tests the remaining items up to the first item that is to be
-    // removed, and returns whether there is such an item. At least two items must remain, and there
-    // must be a gap before them.
-    //
-    // The first two items are tested before the loop. If one of them is to be removed, no loop
-    // counter is needed.
+    // removed. At least two items must remain, and there must be a gap before them.
     fn advance_two<J: Test<T>>(&mut self, test: &mut J) -> bool
         requires two { 1 < length self.old.rest }
         requires gap { 0 < self.old.gap }
@@ -223,9 +212,8 @@ impl<T, A: Allocator> OpenBlock<T, A> {
         self.rest_len() > 0
     }
 
-    // Does the same as `advance`, for at most one remaining item: tests this item, and returns
-    // whether it is to be removed. Returns `false` if no item remains. There must be empty slots
-    // after the kept items.
+    // Tests the remaining item, if there is one, and returns whether it is to be removed. At most
+    // one item may remain, and there must be empty slots after the kept items.
     fn advance_last<J: Test<T>>(&mut self, test: &mut J) -> bool
         requires short { length self.old.rest ≤ 1 }
         requires gap { 0 < self.old.gap }
@@ -277,10 +265,8 @@ impl<T: Drop, A: Allocator> OpenBlock<T, A> {
         self.sift_last(test);
     }
 
-    // Tests the remaining items, in order, up to the first item that is to be removed, and drops
-    // this item. The remaining items that were tested before the dropped item are appended to the
-    // kept items. If no item is to be removed, all remaining items are appended. At least two items
-    // must remain before the call.
+    // Tests the remaining items, in order. Drops the first item that is to be removed, and stops
+    // there. The tested items before it are kept. At least two items must remain before the call.
     fn sift_two<J: Test<T>>(&mut self, test: &mut J)
         requires two { 1 < length self.old.rest }
         requires gap { 0 < self.old.gap }

@@ -111,8 +111,8 @@ fn arrays<T: Sample, const N: usize, R: Abort>(rt: &R, ledger: &'static Ledger)
     }
 }
 
-// Runs one test case. If the list under test has `N` items, the test case converts the list to an
-// array, and the array back to a list. Otherwise, `into_array` must return the list unchanged.
+// Runs one test case. If the list has `N` items, converts it to an array and back. Otherwise,
+// asserts that `into_array` returns the list unchanged.
 fn array<T: Sample, const N: usize, R: Abort>(rt: &R, ledger: &'static Ledger, at: At)
     requires small { N * type_size T.row < 2 ^ 63 }
 {

@@ -52,8 +52,8 @@ fn length(shape: Shape, argument: usize) -> (usize, usize) {
     }
 }
 
-/// A test that calls `resize_with` with the same new lengths as the test `Resize`. Each call of the
-/// closure removes the last item of a vector, and returns this item.
+/// A test that calls `resize_with` with the same new lengths as the test `Resize`. The closure
+/// takes the new items from a vector.
 pub struct ResizeWith {}
 
 impl<T: Sample, G: Ruled> Call<T, G> for ResizeWith {

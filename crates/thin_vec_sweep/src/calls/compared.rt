@@ -12,10 +12,8 @@ use std::hash::{DefaultHasher, Hash, Hasher};
 use std::process::Abort;
 use thin_testing::Ruled;
 
-/// A test that hashes the list under test, and compares this list with a second list. There are
-/// four test cases. The second list is equal to the list under test, has a different last item,
-/// lacks the last item, or has one more item. If the list under test is empty, the second list is
-/// empty in the first three test cases.
+/// A test that hashes a list, and compares it with a second list. The second list is equal, has a
+/// different last item, lacks the last item, or has one more item.
 pub struct Compare {}
 
 impl<T: Sample + Ord + Hash + Debug, G: Ruled> Call<T, G> for Compare {

@@ -142,8 +142,8 @@ fn from_other<T: Sample>(
     }
 }
 
-/// A test that calls `from_str` with two texts. Both texts have the same number of letters, but
-/// each letter takes one byte in the first text, and two bytes in the second text.
+/// A test that calls `from_str` with two texts of the same number of letters. Each letter takes one
+/// byte in one text, and two bytes in the other.
 pub struct FromStr {}
 
 impl Call<u8, Doubling> for FromStr {

@@ -14,8 +14,7 @@ use thin_vec::Rejected;
 // `FRESH`.
 const FRESH: u64 = 70_000;
 
-// The number from which a test makes the item that it passes to `push_mut` or `insert_mut`. After
-// the call, the test replaces this item with the item that is made from `FRESH`.
+// The number from which a test makes the item that it passes to `push_mut` or `insert_mut`.
 const PASSED: u64 = 71_000;
 
 /// A test that calls `push`.
@@ -56,10 +55,8 @@ impl<T: Sample, G: Ruled> Call<T, G> for PushMut {
     }
 }
 
-// Checks `answer`, the result of `push_mut` or `insert_mut`. If the call succeeded, the test has
-// already replaced the added item with a new item. `hand` is the item that was replaced, and must
-// be the item that was passed to the call. If the call failed, the error must contain the item that
-// was passed to the call.
+// Checks `answer`, the result of `push_mut` or `insert_mut`. On success, `hand` is the added item,
+// which the test has replaced. On failure, the error must contain the item that was passed.
 fn lent<T: Sample, G: Ruled, R: Abort>(
     rt: &R,
     case: &mut Case<T, G>,

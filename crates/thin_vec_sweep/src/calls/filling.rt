@@ -1,6 +1,5 @@
 //! Tests of the calls that fill a list from an iterator, such as `extend` and `from_iter`. Each
-//! call is tried with several size hints of the iterator. The lower bound of such a hint is too
-//! small, exact, too large, or even greater than the greatest possible capacity.
+//! call is tried with several size hints of the iterator.
 use crate::assertions::assert_same;
 use crate::case::{Case, Verdict, numbers, put, source};
 use crate::claims::Claims;
@@ -57,9 +56,9 @@ pub struct Ending {
 }
 
 impl Ending {
-    /// Returns the expected outcome of a call that fails after it has moved `placed` items into the
-    /// list. `verdict` says why the call fails. If the call then takes one more item and finds no
-    /// room for it, `in_hand` is 1. Otherwise, `in_hand` is 0.
+    /// Returns the expected outcome of a call that fails, for the reason `verdict`, after it has
+    /// moved `placed` items into the list. `in_hand` is 1 if the call took one more item without
+    /// room for it, and 0 otherwise.
     pub fn refused(verdict: Verdict, placed: usize, in_hand: usize) -> Ending {
         Ending {
             verdict,
@@ -92,12 +91,9 @@ impl Ending {
     }
 }
 
-/// Returns the expected outcome of a call that appends `count` items from an iterator. Also appends
-/// the expected items to `case.items`.
-///
-/// The call first grows the list to the capacity `hinted`, which it computes from the size hint. If
-/// this capacity would be too large, `hinted` is `None`. Later, the call grows the list whenever
-/// the list is full.
+/// Returns the expected outcome of a call that appends `count` items from an iterator. The call
+/// first grows the list to the capacity `hinted`, or fails if `hinted` is `None`. Also appends the
+/// expected items to `case.items`.
 pub fn fill<T: Sample, G: Ruled, R: Abort>(
     rt: &R,
     case: &mut Case<T, G>,
@@ -178,8 +174,8 @@ pub fn back<T: Sample, G: Ruled, R: Abort>(
     case.assert_items(rt, items.as_slice(), numbers.as_slice());
 }
 
-/// Returns an iterator over `count` items. The items are made from the numbers `FRESH`,
-/// `FRESH - 1`, and so on. The lower bound of the iterator's size hint is `lower`.
+/// Returns an iterator over `count` items, made from the numbers `FRESH`, `FRESH - 1`, and so on.
+/// The lower bound of its size hint is `lower`.
 pub fn claims<T: Sample, G: Ruled, R: Abort>(
     rt: &R,
     case: &Case<T, G>,
@@ -252,9 +248,8 @@ fn done<T: Sample, G: Ruled, R: Abort>(rt: &R, case: &Case<T, G>, ending: &Endin
     );
 }
 
-// Returns three values: an iterator whose items are to be appended, the number of these items, and
-// the expected outcome of the call. Returns `None` if the call must be skipped because it would
-// need too much memory.
+// Returns an iterator whose items are to be appended, the number of these items, and the expected
+// outcome. Returns `None` if the call would need too much memory.
 fn extension<T: Sample, G: Ruled, R: Abort>(
     rt: &R,
     case: &mut Case<T, G>,
@@ -335,9 +330,8 @@ impl<T: Sample> Call<T, Doubling> for Collect {
     }
 }
 
-// Drops the list under test. Returns two values: an iterator, and the expected outcome of a call
-// that makes a list from this iterator. Returns `None` if the call must be skipped because it would
-// need too much memory.
+// Drops the list under test. Returns an iterator to make a list from, and the expected outcome.
+// Returns `None` if the call would need too much memory.
 fn collection<T: Sample, R: Abort>(
     rt: &R,
     case: &mut Case<T, Doubling>,

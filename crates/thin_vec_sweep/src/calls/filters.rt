@@ -97,9 +97,8 @@ fn moved_up<R: Abort>(rt: &R, global: Global, count: usize, pattern: usize) -> V
     left
 }
 
-/// A test that calls `pop_if`. The closure owns a new item, and swaps it with the last item of the
-/// list. The old last item is then dropped together with the closure. There are two test cases: the
-/// closure returns `true` in one of them, and `false` in the other.
+/// A test that calls `pop_if`. The closure swaps the last item with a new item, and returns `true`
+/// in one test case and `false` in the other.
 pub struct PopIf {}
 
 impl<T: Sample, G: Ruled> Call<T, G> for PopIf {
@@ -128,12 +127,9 @@ impl<T: Sample, G: Ruled> Call<T, G> for PopIf {
     }
 }
 
-// Returns the expected result of `pop_if` in the test `PopIf`, and updates `items`, the expected
-// items of the list. Each item is represented by a number.
-//
-// If `items` is empty, nothing changes, and the result is `None`. Otherwise, the closure replaces
-// the last item with the new item `FRESH`, and returns `goes`. If `goes` is true, the new item is
-// removed and returned. If `goes` is false, the new item remains, and the result is `None`.
+// Returns the expected result of `pop_if`, and updates `items`, the numbers of the expected items.
+// The closure replaces the last item, if any, with the item `FRESH`, which is removed if `goes` is
+// true.
 fn popped<R: Abort>(rt: &R, items: &mut Vec<u64, Global>, goes: bool) -> Option<u64> {
     let _last = items.pop()?;
     if goes {
@@ -174,10 +170,9 @@ impl<T: Sample, G: Ruled> Call<T, G> for DedupBy {
     }
 }
 
-// Returns the items that remain after the test `DedupBy` on a list of `count` items. Each item is
-// represented by the number from which it was made. For each item after the first, the closure
-// swaps this later item with the last kept item. Then `pattern` determines whether the item that is
-// now in the place of the later item is removed.
+// Returns the items that remain after the test `DedupBy` on a list of `count` items, each
+// represented by its number. The closure swaps the two items that it compares. `pattern` determines
+// which items are removed.
 fn exchanged<R: Abort>(rt: &R, global: Global, count: usize, pattern: usize) -> Vec<u64, Global> {
     let mut left = Vec::new(global);
     let mut last = number_at(0);
@@ -194,9 +189,8 @@ fn exchanged<R: Abort>(rt: &R, global: Global, count: usize, pattern: usize) -> 
     left
 }
 
-/// A test that calls `dedup_by_key`. In each comparison, the key of the later item is 1. The key of
-/// the kept item is 1 if the later item is to be removed, and 0 otherwise. The ledger counts the
-/// keys, so the test also detects keys that are not dropped.
+/// A test that calls `dedup_by_key`. The keys of two compared items are equal if and only if the
+/// later item is to be removed. The ledger counts the keys that are not dropped.
 pub struct DedupByKey {}
 
 impl<T: Sample, G: Ruled> Call<T, G> for DedupByKey {

@@ -16,9 +16,8 @@ use thin_vec::Growth;
 // iterator with this new item.
 const FRESH: u64 = 70_000;
 
-// Returns the number of values of `n` that the test `IntoIterClone` tries on a list of the shape
-// `shape`. The test calls `next` or `next_back` `n` times, and then clones the iterator. If the
-// list has at most 4 items, the values of `n` are `0..=length + 2`.
+// Returns how many values of `n` the test `IntoIterClone` tries on a list of the shape `shape`. The
+// test clones the iterator after `n` calls to `next` or `next_back`.
 fn steps(shape: Shape) -> usize {
     shape.indices().saturating_add(2)
 }
@@ -30,9 +29,8 @@ fn step(shape: Shape, number: usize) -> usize {
     }
 }
 
-/// A test that calls `into_iter`, takes some items from both ends of the iterator, and checks the
-/// remaining items. The test then replaces the first remaining item, calls `next` once more, and
-/// drops the iterator.
+/// A test that calls `into_iter`, takes some items from both ends of the iterator, replaces the
+/// first remaining item, and drops the iterator.
 pub struct IntoIter {}
 
 impl<T: Sample, G: Ruled> Call<T, G> for IntoIter {

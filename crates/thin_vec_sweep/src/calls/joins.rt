@@ -12,8 +12,7 @@ use thin_testing::Ruled;
 const FRESH: u64 = 80_000;
 
 /// A test that calls `append`, which moves the items of a second list to the end of the list under
-/// test. Various lengths of the second list are tried. For each length, the second list is tried
-/// once without spare capacity, and once with one empty slot.
+/// test. The second list has various lengths and 0 or 1 empty slots.
 pub struct Append {}
 
 impl<T: Sample, G: Ruled> Call<T, G> for Append {
@@ -38,8 +37,7 @@ impl<T: Sample, G: Ruled> Call<T, G> for Append {
     }
 }
 
-/// A test that calls `append_reserved`, which moves the items of a second list into the spare
-/// capacity of the list under test. The test tries each length of the second list from 1 to the
+/// A test that calls `append_reserved` with a second list. The test tries each length from 1 to the
 /// number of empty slots of the list under test.
 pub struct AppendReserved {}
 

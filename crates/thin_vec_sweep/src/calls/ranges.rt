@@ -1,6 +1,5 @@
-//! Tests of the function `bounds`, and of `drain` and `extract_if`, which remove items of a range.
-//! The tests take some items from the iterators that `drain` and `extract_if` return, and then drop
-//! these iterators.
+//! Tests of the function `bounds`, and of the methods `drain` and `extract_if`, which remove items
+//! of a range.
 use crate::assertions::{At, assert_same, assert_same_item, assert_same_items};
 use crate::case::{Case, put};
 use crate::closures::{number_at, stays};
@@ -103,9 +102,9 @@ fn step_through<'a, T: Sample, A: Allocator, G: Growth, R: Abort>(
     remaining.of(numbers)
 }
 
-// For each `k` from 0 to 6, the number of test cases of `extract_if` on a range of `k` items. There
-// are `2^k` possible sequences of results of the closure, and `next` is called 0 to `k + 1` times.
-// Each combination is tried once, so there are `(k + 2) * 2^k` test cases.
+// For each `k` from 0 to 6, the number of test cases of `extract_if` on a range of `k` items:
+// `(k + 2) * 2^k`. There are `2^k` sequences of results of the closure, and 0 to `k + 1` calls to
+// `next`.
 const EXTRACTIONS: Cases = [2, 6, 16, 40, 96, 224, 512];
 
 /// A test that calls `extract_if` on several ranges, with several closures. Each test case calls
@@ -178,8 +177,8 @@ impl Extraction {
     }
 }
 
-// Returns two values for the test case `number` on a range of `width` items: how many times `next`
-// is called, and the index of the pattern that determines the results of the closure.
+// Returns two values for test case `number` on a range of `width` items: the number of calls to
+// `next`, and the pattern of the closure's results.
 fn calls_and_pattern(width: usize, number: usize) -> (usize, usize) {
     if width >= EXTRACTIONS.len() {
         return (some_steps(width, number % 5), number / 5);
@@ -228,9 +227,8 @@ fn extract<T: Sample, A: Allocator, G: Growth, R: Abort>(
 // numbers `n`.
 const BOUNDS: usize = 19;
 
-/// A test that calls `bounds` with every pair of bounds from a set of 19. The set consists of
-/// `Unbounded`, and of inclusive and exclusive bounds at nine numbers: 0 to 4, the length, the
-/// length plus 1, and the two greatest values of `usize`.
+/// A test that calls `bounds` with every pair of 19 bounds: `Unbounded`, and inclusive and
+/// exclusive bounds at nine small or very large numbers.
 pub struct Bounds {}
 
 impl<T: Sample, G: Ruled> Call<T, G> for Bounds {
@@ -270,8 +268,7 @@ fn bound(number: usize, length: usize) -> Bound<usize> {
 }
 
 // Returns the expected result of `bounds` for the bounds `start` and `end` and a list of `length`
-// items. The additions saturate instead of overflowing. This is correct because no list has
-// `usize::MAX` items.
+// items.
 fn between(start: Bound<usize>, end: Bound<usize>, length: usize) -> Option<(usize, usize)> {
     let first = match start {
         Bound::Included(place) => place,

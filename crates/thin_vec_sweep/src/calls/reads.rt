@@ -130,8 +130,8 @@ impl<T: Sample, G: Ruled> Call<T, G> for IndexMut {
     }
 }
 
-/// A test that calls `get_mut` for several indices, one at a time. Some of the indices are out of
-/// bounds. If the call returns a reference, the test replaces the item through this reference.
+/// A test that calls `get_mut` for several indices, some of which are out of bounds. If an item is
+/// found, the test replaces it.
 pub struct GetMut {}
 
 impl<T: Sample, G: Ruled> Call<T, G> for GetMut {

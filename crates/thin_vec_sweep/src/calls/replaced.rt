@@ -19,8 +19,8 @@ const COUNTS: usize = 7;
 // `COUNTS`.
 const EACH_COUNT: Cases = [COUNTS; 7];
 
-// Returns the number of new items in test case number `range.number`. On a list of more than 40
-// items, only the test cases 0 and 1 are run. In both of them, the list becomes longer.
+// Returns the number of new items in test case `range.number`. On a list of more than 40 items, the
+// only test cases are 0 and 1, which make the list longer.
 fn count_for(range: Ranged) -> usize {
     let width = range.width();
     match range.number % COUNTS {

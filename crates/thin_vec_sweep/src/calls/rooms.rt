@@ -99,10 +99,8 @@ impl<T: Sample, G: Ruled> Call<T, G> for ShrinkToFit {
 // The number of test cases in which the number of additional items is very large.
 const GREAT: usize = 6;
 
-// Returns the number of additional items to reserve in test case number `argument`, on a list of
-// the shape `shape`. In the last `GREAT` test cases, this number is very large. The first of these
-// `GREAT` test cases needs the greatest possible capacity. The second of them needs a capacity that
-// is too large by one.
+// Returns the number of items to reserve room for in test case `argument`, on a list of the shape
+// `shape`. In the last `GREAT` test cases, this number is very large.
 fn additional<T: Sample>(shape: Shape, argument: usize) -> usize {
     let most = T::LIMIT.saturating_sub(shape.length);
     match argument.checked_sub(shape.counts()) {

@@ -35,7 +35,7 @@ pub trait AppendsSlice<T: Sample, G: Ruled> {
 }
 
 /// A test that makes the call `C` with slices of several lengths. If `C` requires spare capacity,
-/// the test uses each length from 1 to the number of empty slots.
+/// each slice fits into the empty slots.
 pub struct AppendSlice<C> {
     call: PhantomData<C>,
 }
@@ -193,9 +193,8 @@ impl<G: Ruled> AppendsSlice<u8, G> for WriteAll {
     }
 }
 
-// Asserts that `error`, the error of a failed write, has the kind `OutOfMemory`. Returns the cause
-// `OutOfMemory`. If the write failed because of a capacity overflow, the kind of `error` is also
-// `OutOfMemory`, and the result is the same.
+// Asserts that `error`, the error of a failed write, has the kind `OutOfMemory`, and returns
+// `ThinVecError::OutOfMemory`.
 fn cause<R: Abort>(rt: &R, at: &At, error: &Error) -> ThinVecError {
     let kind = error.kind() == ErrorKind::OutOfMemory;
     assert_same(rt, at, "the error's kind is OutOfMemory", kind, true);

@@ -1,6 +1,5 @@
-//! Tests of `splice`. They take some items of the replaced range from the `Splice`, and then call
-//! `finish`, which moves the new items into the list. The iterator over the new items has a size
-//! hint whose lower bound is too small, exact, or too large.
+//! Tests of `splice`. They take some items of the replaced range, and then call `finish`, which
+//! moves the new items into the list.
 ghost use Rattle.std.specs.Iterator.{IsFinite};
 ghost use Rattle.std.specs.Prelude.{◌≤◌, length};
 ghost use Rattle.thin_vec.specs.Edits.Splice.{SpliceKeeps};
@@ -22,12 +21,12 @@ use thin_vec::{Growth, Splice, SpliceRefused, ThinVec};
 // The number of size hints that are tried.
 const HINTS: usize = 5;
 
-// The number of pairs that consist of one of 5 size hints and a number of new items from 0 to 5. On
-// lists of at most 6 items, all these pairs are tried.
+// The number of pairs of a size hint (5 choices) and a number of new items (0 to 5). All pairs are
+// tried on lists of at most 6 items.
 const FILLS: usize = 30;
 
-// The number of short sequences of calls: no call, one call to `next`, and one call to `next_back`.
-// Each of these sequences is tried with each size hint and each number of new items.
+// The number of sequences of at most one call: no call, one call to `next`, and one call to
+// `next_back`.
 const SHORT_WALKS: usize = 3;
 
 // For each `k` from 0 to 6, the number of test cases on a range of `k` items. Each test case makes
@@ -38,14 +37,12 @@ const SHORT_WALKS: usize = 3;
 // `next_back`, and 3 test cases with one call to `next`.
 const AFTER_STEPS: Cases = [33, 94, 102, 118, 150, 214, 342];
 
-// For each `k` from 0 to 6, the number of test cases that replace a range of `k` items and call
-// `finish` at once, that is, without a call to `next` or `next_back`. There is one test case for
-// each pair of a size hint and a number of new items.
+// For each `k` from 0 to 6, the number of test cases that replace a range of `k` items, and call
+// `finish` without a call to `next` or `next_back`.
 const AT_ONCE: Cases = [FILLS; 7];
 
-// Returns, for each `k` from 0 to 6, the number of test cases on a range of `k` items, for lists of
-// the shape `shape`. If the lists have spare capacity, each test case calls `finish` without taking
-// an item first. This is enough, because spare capacity affects only `finish`.
+// Returns, for each `k` from 0 to 6, the number of test cases on a range of `k` items of a list of
+// the shape `shape`.
 fn cases(shape: Shape) -> Cases {
     if shape.spare == 0 {
         AFTER_STEPS
@@ -70,10 +67,8 @@ struct Plan {
 }
 
 impl Plan {
-    // Returns the plan for test case number `argument`. The plan contains one of five lower bounds
-    // for the size hint of the iterator. One of these bounds is exact when `finish` reads the size
-    // hint: it is the number of items that the iterator then has left. At this time, `finish` may
-    // already have moved new items into the range.
+    // Returns the plan for test case number `argument`. It contains one of five lower bounds for
+    // the size hint of the iterator over the new items.
     fn new<T: Sample, G: Ruled, R: Abort>(rt: &R, case: &Case<T, G>, argument: usize) -> Plan {
         let shape = case.at.shape;
         let range = shape.ranged_case(&cases(shape), argument);
@@ -98,8 +93,8 @@ impl Plan {
     }
 }
 
-// Returns the index of the walk for test case number `number` on a list of at most 6 items. A walk
-// is a sequence of calls to `next` and `next_back`, and each walk has an index.
+// Returns the index of the walk (a sequence of calls to `next` and `next_back`) for test case
+// `number` on a list of at most 6 items.
 fn few_steps(number: usize) -> usize {
     let crossed = SHORT_WALKS.saturating_mul(FILLS);
     match number.checked_sub(crossed) {
@@ -108,9 +103,8 @@ fn few_steps(number: usize) -> usize {
     }
 }
 
-// Returns the number of new items for a list of more than 6 items. `width` is the length of the
-// replaced range. Depending on `number`, the result is more than twice `width`, exactly `width`,
-// one less than `width`, or 0.
+// Returns the number of new items in test case `number` on a list of more than 6 items. `width` is
+// the length of the replaced range.
 fn many(width: usize, number: usize) -> usize {
     match number {
         0 => width.saturating_mul(2).saturating_add(9),
@@ -121,8 +115,7 @@ fn many(width: usize, number: usize) -> usize {
 }
 
 // Returns one of five lower bounds for the size hint of an iterator over `all` items. `number`
-// selects the bound. One of the five bounds is `left`, which is the number of items that remain in
-// the iterator when `finish` reads the size hint.
+// selects the bound. `left` is the number of items that remain when `finish` reads the size hint.
 fn hint(number: usize, left: usize, all: usize) -> usize {
     match number {
         0 => 0,
@@ -187,9 +180,7 @@ fn fill_between<T: Sample, G: Ruled>(case: &mut Case<T, G>, width: usize, plan: 
 }
 
 // Returns how many of `count` items a new `Vec` can take before the allocator refuses a request of
-// this `Vec`. Also adds the requests of the `Vec` to the expected requests of `case`. The first
-// request is for 4 items, or for 8 items if an item takes at most one byte. Each further request
-// doubles the capacity.
+// this `Vec`. Adds the requests to those that `case` expects.
 fn hold<T: Sample, G: Ruled>(case: &mut Case<T, G>, count: usize) -> usize {
     let first = if T::SIZE <= 1 { 8 } else { 4 };
     let mut room: usize = 0;

@@ -1,9 +1,8 @@
-//! Tests of the commands. Each command describes a call on a list. The tests check three things:
+//! Tests of the commands, which describe calls on a list. The tests check three things:
 //!
 //! - Random runs produce every possible reply to every command.
 //! - Two other runs have the results that were computed by hand.
-//! - Each kind of difference between a list and a model of the list is detected. The model executes
-//!   the same commands as the list.
+//! - Each kind of difference between a list and its model is detected.
 use crate::runs::compared::both;
 use crate::runs::judges::{EACH_SECOND, Evens};
 use crate::runs::model::Model;
@@ -18,8 +17,7 @@ use thin_testing::{Refusing, Ruled};
 use thin_vec::{Doubling, Growth, PowerBytes, ThinVec, ThinVecError};
 
 // All possible replies to the commands. Each line consists of the name of a command, the variant of
-// its reply, and the error that the reply contains. If the reply contains no error, the last part
-// is `None`.
+// its reply, and the error in the reply, or `None`.
 const REPLIES: &str = "\
     Push Done None\n\
     Push Returned Some(OutOfMemory)\n\
@@ -165,8 +163,7 @@ const WORKED: [(&[u64], usize); 6] = [
 ];
 
 // Returns the commands of a run whose results were computed by hand for the growth rule
-// `PowerBytes`. A block of 32, 64 or 128 bytes consists of a header and 4, 12 or 28 slots of 4
-// bytes, respectively.
+// `PowerBytes`. Blocks of 32, 64 and 128 bytes have 4, 12 and 28 slots.
 fn worked_powers() -> [Order; 9] {
     [
         plain(Kind::Push, 0, 0, 0, 0, 1),
@@ -203,9 +200,8 @@ fn is_worked<T: Eq, A: Allocator, G: Growth>(
     list.as_slice() == *items && list.capacity() == *capacity
 }
 
-// Executes each command both on a `ThinVec` and on a model. After each command, asserts that the
-// list and the model agree, and that the list has the items and the capacity in `worked`, which
-// were computed by hand.
+// Executes each command on a `ThinVec` and on a model. After each command, asserts that they agree,
+// and that the list has the items and the capacity in `worked`.
 fn assert_worked<'a, T: Numbered<Lender<'a>>, G: Ruled, J: Judge<T>, R: Abort>(
     rt: &R,
     alloc: Lender<'a>,
@@ -245,9 +241,8 @@ fn run_under_power_bytes_reaches_states_computed_by_hand(rt: HostRuntime) {
     );
 }
 
-// Executes a command of the kind `kind` on an empty list, and the same command on `model`. If the
-// two replies are equal and the list and `model` agree after the command, returns the variant of
-// the reply. Otherwise, returns `Never`.
+// Executes a command of the kind `kind` on an empty list and on `model`. Returns the variant of the
+// reply, or `Never` if the list and the model disagree.
 fn form_against_model<'a, R: Abort>(
     rt: &R,
     alloc: Lender<'a>,

@@ -1,5 +1,5 @@
-//! Compares the runner with the model. The runner executes a command on a `ThinVec`. The model, a
-//! simple program that specifies the commands, executes the same command on a `Vec`.
+//! Compares the results of a command on a `ThinVec` with its results on the model, a simple program
+//! that specifies the commands.
 use crate::runs::model::Model;
 use crate::runs::orders::{Order, command_of};
 use crate::runs::samples::{Lender, Numbered};
@@ -28,9 +28,9 @@ fn has_its_blocks<'a, T: Numbered<Lender<'a>>, G: Ruled>(
     blocks == alloc.blocks()
 }
 
-// Lets the runner execute the command that `order` describes. The allocator refuses request number
-// `nth`, or no request if `nth` is 0. Returns two values: the reply, divided into its parts, and
-// whether a request was refused.
+// Executes the command that `order` describes. The allocator refuses request number `nth`, or no
+// request if `nth` is 0. Returns the reply, divided into its parts, and whether a request was
+// refused.
 fn shown_by_runner<'a, T: Numbered<Lender<'a>>, G: Ruled, J: Judge<T>>(
     alloc: Lender<'a>,
     list: &mut ThinVec<T, Lender<'a>, G>,
@@ -46,9 +46,9 @@ fn shown_by_runner<'a, T: Numbered<Lender<'a>>, G: Ruled, J: Judge<T>>(
     Ok((show(alloc, reply)?, refused))
 }
 
-/// Lets the runner and the model execute the same command. For the runner, the allocator refuses
-/// request number `nth`, or no request if `nth` is 0. Returns two values: the variant of the reply
-/// (or `Never` if the runner and the model differ), and the cause of the failure, if any.
+/// Executes the same command on the list and on the model. If `nth` is not 0, request number `nth`
+/// of the list is refused. Returns the variant of the reply (`Never` if the list and the model
+/// differ), and the cause of the failure, if any.
 pub fn both<'a, T: Numbered<Lender<'a>>, G: Ruled, J: Judge<T>>(
     alloc: Lender<'a>,
     list: &mut ThinVec<T, Lender<'a>, G>,

@@ -5,9 +5,8 @@ ghost use Rattle.std.specs.Prelude.{◌≡◌, ◌==◌, ◌/◌, ◌%◌};
 use std::mem;
 use thin_runner::judge::Judge;
 
-/// A judge makes the decisions that a method such as `retain` leaves to its closure. The decisions
-/// of this judge are the binary digits of a number, beginning with the last digit: 1 is `true`, and
-/// 0 is `false`. When this judge compares two items, it also swaps them.
+/// A judge makes the decisions that a method such as `retain` leaves to its closure. This judge
+/// reads them from the binary digits of a number, beginning with the last digit: 1 is `true`.
 #[derive(Clone, Copy)]
 pub struct Digits {
     /// The number whose binary digits are the decisions that the judge has not made yet.

@@ -244,10 +244,8 @@ impl<T: Numbered<A>, A: Allocator + Copy, G: Ruled> Model<T, A, G> {
         Ok(Shown::with_items(Form::List, None, alloc, copy, capacity))
     }
 
-    // Appends `item` to the list if the item is kept. Otherwise, appends it to `answers`, which
-    // contains the removed items. If `asked` is `None`, the item is kept. If `asked` is the kind of
-    // a command, the judge decides whether the item is kept. A judge makes the decisions that a
-    // method such as `retain` leaves to its closure.
+    // Appends `item` to the list if the judge keeps it, and to `answers` if the judge removes it.
+    // If `asked` is `None`, the item is kept. Otherwise, `asked` is the kind of the command.
     fn sift_one<J: Judge<T>>(
         &mut self,
         asked: Option<Kind>,
@@ -265,10 +263,9 @@ impl<T: Numbered<A>, A: Allocator + Copy, G: Ruled> Model<T, A, G> {
         }
     }
 
-    // Asks the judge about the items, in order, and removes the items that the judge does not keep.
-    // Returns the reply. If the command is an `ExtractIf`, the judge is asked only about the items
-    // of the range. In this case, once `order.count` items have been removed, all further items are
-    // kept.
+    // Removes the items that the judge does not keep, and returns the reply. For an `ExtractIf`,
+    // the judge is asked only about items of the range, and only until `order.count` items have
+    // been removed.
     fn sift<J: Judge<T>>(
         &mut self,
         alloc: A,
@@ -358,10 +355,9 @@ impl<T: Numbered<A>, A: Allocator + Copy, G: Ruled> Model<T, A, G> {
         }
     }
 
-    /// Executes a command on the model, and compares the reply of the model with `given`, the reply
-    /// of the runner. If the allocator refused a request of the runner, `nth` is the number of this
-    /// request. Returns two values: the variant of the reply (or `Never` if the replies differ),
-    /// and the cause of the failure, if any.
+    /// Executes a command on the model, and compares the reply with `given`, the reply of the
+    /// runner. `nth` is the number of the refused request, if any. Returns the variant of the reply
+    /// (`Never` if the replies differ), and the cause of the failure, if any.
     pub fn follow<J: Judge<T>>(
         &mut self,
         alloc: A,

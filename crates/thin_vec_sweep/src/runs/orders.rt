@@ -74,15 +74,14 @@ pub struct Order {
     pub at: usize,
     /// The end of the range on which the command acts.
     pub to: usize,
-    /// If the command is an `ExtractIf`, this is the number of calls to `next`. If the command
-    /// takes a vector or a list of new items, as an `Extend` does, this is the number of these
-    /// items.
+    /// For an `ExtractIf`, the number of calls to `next`. For a command that takes new items, as
+    /// `Extend` does, the number of these items.
     pub count: usize,
     /// A number whose meaning depends on the command:
     ///
-    /// - For `Extend` and `Splice`, it is the lower bound of the size hint.
-    /// - For `Reserve` and `ReserveExact`, it is the number of items for which room is reserved.
-    /// - For `Resize`, it is the new length.
+    /// - `Extend`, `Splice`: the lower bound of the size hint
+    /// - `Reserve`, `ReserveExact`: the number of items to reserve room for
+    /// - `Resize`: the new length
     pub lower: usize,
     /// The number of steps. Each step takes an item from the front or from the back of the range.
     pub steps: usize,
@@ -135,8 +134,8 @@ fn with_item<T: Drop, A: Allocator, G: Growth>(order: Order, item: T) -> Command
     }
 }
 
-// Returns the command that `order` describes, with the vector `items`. If the command is a
-// `Splice`, it also contains `steps`. The command must be one that takes a vector of items.
+// Returns the command that `order` describes, with the vector `items`. The command must be one that
+// takes a vector of items. A `Splice` also contains `steps`.
 fn with_items<T: Drop, A: Allocator, G: Growth>(
     order: Order,
     steps: Vec<Step, A>,

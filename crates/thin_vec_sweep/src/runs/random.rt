@@ -46,7 +46,7 @@ impl Dice {
     }
 
     // Returns the number of the request that is to be refused, or 0 if no request is to be refused.
-    // The number is random but small, because most commands make few requests.
+    // The number is random but small.
     fn refused(&mut self) -> u64 {
         let few = self.below(4);
         if self.below(2) == 0 {
@@ -85,9 +85,9 @@ impl Dice {
 /// The record of an executed command. It consists of four parts:
 ///
 /// - the command
-/// - the number of the request that was to be refused, or 0 if there is no such request
+/// - the number of the request to refuse, or 0
 /// - the variant of the reply
-/// - the cause of the failure, if the command failed
+/// - the cause of the failure, if any
 pub type Done = (Order, u64, Form, Option<ThinVecError>);
 
 // Executes one random command, and appends a record of it to `done`. Returns whether `ThinVec` and
@@ -141,9 +141,8 @@ fn runs_alike<'a, T: Numbered<Lender<'a>>, G: Ruled, J: Judge<T> + From<u64>>(
     Ok(alike && alloc.blocks() == 0)
 }
 
-/// Executes the random commands that `seed` determines. Clears `done`, and then records each
-/// executed command in it. Asserts that `ThinVec` and the model agree on every command, and that
-/// all blocks have been freed at the end.
+/// Executes the random commands that `seed` determines, and records them in `done`. Asserts that
+/// `ThinVec` and the model agree on all of them, and that all blocks are freed.
 pub fn assert_alike<'a, T: Numbered<Lender<'a>>, G: Ruled, J: Judge<T> + From<u64>, R: Abort>(
     rt: &R,
     alloc: Lender<'a>,
@@ -158,9 +157,8 @@ pub fn assert_alike<'a, T: Numbered<Lender<'a>>, G: Ruled, J: Judge<T> + From<u6
 // there are 100,000 runs in total.
 const RUNS: u64 = 5_000;
 
-// Three counts: the executed commands, the commands in which a request was to be refused, and the
-// commands in which a request was actually refused. The last two counts differ, because some
-// commands did not make the request that was to be refused.
+// Counts the executed commands, those in which a request was to be refused, and those in which a
+// request was actually refused.
 #[derive(Debug, Drop)]
 struct Tally {
     commands: u64,
@@ -208,8 +206,7 @@ fn assert_all_from<'a, T: Numbered<Lender<'a>>, G: Ruled, R: Abort>(
 }
 
 // Asserts that `commands` commands were executed, and that a request was to be refused in `named`
-// of them. These two numbers were computed by another program. Also asserts that a request really
-// was refused in more than 2 percent of the commands.
+// of them. Also asserts that a request was actually refused in more than 2 percent of the commands.
 fn assert_tally<R: Abort>(rt: &R, tally: &Tally, commands: u64, named: u64) {
     assert_eq!(rt; (tally.commands, tally.named), (commands, named));
     assert!(rt; tally.refused > commands / 50, "{tally:?}");

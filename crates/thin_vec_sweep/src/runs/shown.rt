@@ -1,6 +1,5 @@
-//! The parts of a reply to a command (`Shown`). The runner executes a command on a `ThinVec`. The
-//! model, a simple program that specifies the commands, executes the same command on a `Vec`. The
-//! two replies are compared part by part.
+//! The parts of a reply to a command (`Shown`). The reply for a `ThinVec` and the reply of the
+//! model are compared part by part.
 use crate::runs::samples::{one, put};
 use std::alloc::{AllocError, Allocator};
 use thin_runner::command::{Command, Reply, Step};
@@ -23,18 +22,16 @@ pub enum Form {
     Never,
 }
 
-/// Says where a command acts: at an index, or on a range. Also contains the steps over the range.
-/// Each step is a call to `next` or `next_back`. If the command has only an index, all fields
-/// except `start` are 0.
+/// Says where a command acts, at an index or on a range, and which calls to `next` and `next_back`
+/// it makes. For an index, all fields except `start` are 0.
 #[derive(Clone, Copy, PartialEq, Eq)]
 pub struct Place {
     /// The index at which the command acts, or the start of the range on which it acts.
     pub start: usize,
     /// The end of the range on which the command acts.
     pub end: usize,
-    /// A number whose meaning depends on the command. For a `Splice`, it is the lower bound of the
-    /// size hint. For an `ExtractIf`, it is the number of calls to `next`. For any other command,
-    /// it is 0.
+    /// For a `Splice`, the lower bound of the size hint. For an `ExtractIf`, the number of calls to
+    /// `next`. For any other command, 0.
     pub claim: usize,
     /// The steps over the range, represented by a binary number. The first digit is always 1. Each
     /// further digit is one step, in order: 1 is a step from the front, and 0 is a step from the
@@ -53,8 +50,8 @@ impl Place {
         }
     }
 
-    /// Returns the `Place` of a command that acts on a range. `claim` is the lower bound of the
-    /// size hint for a `Splice`, and the number of calls to `next` for an `ExtractIf`.
+    /// Returns the `Place` of a command on the range `start..end`. For a `Splice`, `claim` is the
+    /// lower bound of the size hint. For an `ExtractIf`, `claim` counts the calls to `next`.
     pub fn range(start: usize, end: usize, claim: usize, steps: &[Step]) -> Place {
         let mut walk: u64 = 1;
         for step in steps {
@@ -84,8 +81,8 @@ pub struct Shown<T, A: Allocator> {
     /// the command failed, these are the items that it returned. If the index or the range is out
     /// of bounds, these are the new items of the command.
     pub items: Vec<T, A>,
-    /// If the reply contains a list, this is the capacity of the list. If a splice failed, this is
-    /// the number of items that it had stored in a temporary vector.
+    /// If the reply contains a list, the capacity of this list. If a splice failed, the number of
+    /// items that it had stored in a temporary vector.
     pub number: usize,
     /// Whether the failed command had taken an item from the iterator and found no room for it. If
     /// so, this item is also in `items`, directly after the items that had been stored in a

@@ -1,6 +1,5 @@
--- The loop of `row_product` multiplies the number of each entry `(column, number)` by
--- `vector[column]`. `total` is the sum of the products that the loop has computed so far, or
--- `u64::MAX` if this sum is greater.
+-- In the loop of `row_product`, `total` is the sum of `number * vector[column]` over the visited
+-- entries `(column, number)`, capped at `u64::MAX`.
 use Rattle.std.proofs.Common.{◌≡◌, ◌*◌, ◌-◌, ◌^◌, map, min, slice_index, sum, take}
 use Rattle.sparse_matrix.proofs.row_product.row_product.Given as goal
 

@@ -51,9 +51,8 @@ use Rattle.thin_block.specs.contracts.in_place.resized.Key as key
 use Rattle.thin_block.proofs.in_place.resized.Statement as stated
 use Rattle.thin_block.proofs.in_place.resized.Code as code
 
--- `gives k` is the code that returns the value of the local variable with the index `k`. The code
--- assigns this value to the variable with the index 0, which holds the result of the function, and
--- then returns.
+-- `gives k` is the code that assigns the local variable with the index `k` to the result variable,
+-- and then returns.
 abbrev gives : ℕ → Body
 gives k = seq (assign (place 0 []) (rv_opd (copy (place k [])))) return
 
@@ -136,9 +135,9 @@ module _ (E : El) (Y : Al) {M : Type 1} {𝓤 : Ura M} (𝓛 : Logic 𝓤) (at_m
       fjoin ! $ nothing ! $ fjoin ! $ join ! $ move ! (3 ∷ 4 ∷ []) $ join ! $
       move ! (3 ∷ 0 ∷ []) $ join ! $ join ! $ done !
 
-  -- `from Ev x k` says that the postcondition holds after the rest of the function body has run.
-  -- The rest consists of all statements except for the first `k`. `Ev` is the environment of the
-  -- local variables, and `x` is the address of the old block.
+  -- `from Ev x k` says that the postcondition holds after the statements from index `k` to the end
+  -- of the function have run. `Ev` contains the local variables, and `x` is the address of the old
+  -- block.
   abbrev from : Env 𝓤 H → Ptr → ℕ → After 𝓤 H
   from Ev x k = then_runs 𝓛 C Λ Ev (after k (here E Y).body) (at_ret Ev (Post x))
 
@@ -146,8 +145,8 @@ module _ (E : El) (Y : Al) {M : Type 1} {𝓤 : Ura M} (𝓛 : Logic 𝓤) (at_m
   entry x = (‵ (flft κ q) ⊛ ‵ (flft κT qT) ⊛ ‵ (flft κA qA) ⊛ ‵ ftrue) ⊛ ‵
       (owns (types_at (ended E Y).signature.params (bound x).0.0) (bound x).0.3 (bound x).0.4)
 
-  -- `Given x v` consists of the resources that the call to `grow` or `shrink` has returned. `x` is
-  -- the address of the old block, and `v` is the machine value of the result.
+  -- `Given x v` consists of the resources that the call to `grow` or `shrink` returns. `x` is the
+  -- old address of the block, and `v` is the returned value.
   abbrev Given : Ptr → Val → Item 𝓤
   Given x v = exists (λ (c : Bool × (ℕ × ℕ)). given (v ≡ answer_val c.0 c.1.0 c.1.1)
       (‵ (left x c.0 c.1.0 c.1.1)))

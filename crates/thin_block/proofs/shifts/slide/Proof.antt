@@ -1,5 +1,5 @@
 -- This file proves the contract of `slide`, which moves items one by one. The proof is like core's
--- proof for `ptr::copy`, but `slide` does not compare the two pointers first.
+-- proof for `ptr::copy`.
 use mathlib.Core.Path.{◌≡◌, refl, sym, subst}
 use mathlib.Core.Bool.{Bool, true, false}
 use mathlib.Core.List.{List, [], ◌∷◌}

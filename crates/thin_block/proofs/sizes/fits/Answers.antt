@@ -1,7 +1,5 @@
--- This file proves that `fits` returns true if and only if `Fits` holds, which means that a block
--- of the given capacity is small enough to be allocated. The function does not compute the size of
--- the block. It divides the greatest possible total size of the slots by the item size, and
--- compares the capacity with the quotient.
+-- This file proves that `fits` returns true if and only if `Fits` holds, that is, if a block of the
+-- given capacity is small enough to be allocated.
 use Rattle.std.proofs.Common.{◌≡◌, ℕ, ◌-◌, ◌*◌, ◌/◌, ◌^◌, ◌<◌, true, refl, sym, ap, ◌∙◌, arith, leb}
 use Rattle.std.specs.Mem.{type_size}
 use Rattle.std.specs.Align.{type_align}
@@ -54,9 +52,8 @@ pub overflow_sub-result-2 : goal.overflow_sub-result-2
 overflow_sub-result-2 g c = let about = rounded (param 0 g.row.T) 0 in
     let is = c.align_of_block.ensures.value in omega arith
 
--- Suppose that `align` equals `block_align (type_align R)`, which is the alignment of a block. Then
--- the test whether the capacity `c` is at most `(2 ^ 63 - align - 16) / size` does not change its
--- result if `align` is replaced with `block_align (type_align R)`.
+-- If `align` is the alignment of a block for items of the type `R`, then replacing `align` with
+-- `block_align (type_align R)` does not change the test whether the capacity `c` is small enough.
 same_limit : (R : RattleType) (c size align : ℕ) → align ≡ block_align (type_align R)
     → leb c ((2 ^ 63 - align - 16) / size) ≡ leb c
     ((2 ^ 63 - block_align (type_align R) - 16) / size)

@@ -1,6 +1,5 @@
 -- This file contains the loop invariant of `copied_singly`: after `i` iterations, the first `i`
--- places of `row` contain copies of the first `i` items, and `row` refers to the same memory as
--- before the loop.
+-- places of `row` contain copies of the first `i` items.
 use Rattle.std.proofs.Common.{◌≡◌, take}
 use Rattle.core.specs.Mem.Slots.{SamePlaces, slots_filled, slots_items}
 use Rattle.core.specs.Mem.Slots.Ownership.{Filled}

@@ -46,8 +46,8 @@ on_slot h (Some x) = Some (h x)
 -- The type former `g` states which values of a type `X` an item contains. From `g`, this module
 -- constructs the type former of slots.
 module _ (g : Former {0}) where
-  -- `slot_count a n` is `n` plus the number of values in a slot of the shape `a`. The shape of a
-  -- slot describes everything about the slot except for its values.
+  -- `slot_count a n` is `n` plus the number of values in a slot of the shape `a`. A shape is a slot
+  -- without its values.
   abbrev pub slot_count : Option g.Shape → Count → Count
   slot_count None n = n
   slot_count (Some a) n = g.count a n
@@ -59,8 +59,8 @@ module _ (g : Former {0}) where
   slot_put X None n t = t
   slot_put X (Some y) n t = g.put X y n t
 
-  -- `slot_get X a n v` splits the row `v` of values of the type `X` into two parts: a slot of the
-  -- shape `a`, and a row of `n` values. The slot contains the first values of `v`.
+  -- `slot_get X a n v` splits the row `v` of values of the type `X` into a slot of the shape `a`
+  -- and a row of the last `n` values.
   abbrev pub slot_get : (X : Type 0) (a : Option g.Shape) (n : Count) → Row X (slot_count a n)
       → Option (g.Of X) × Row X n
   slot_get X None n v = (None, v)
@@ -112,8 +112,8 @@ module _ (g : Former {0}) where
   }
 
 module _ {g : Former {0}} (w : Weighed g) where
-  -- `slot_weight X μ x` is the depth of the slot `x`: the greatest depth of a value in its item, or
-  -- 0 if the slot is empty. `μ` assigns a depth to each value of the type `X`.
+  -- `slot_weight X μ x` is the greatest depth of a value in the slot `x`, or 0 if the slot is
+  -- empty. `μ` returns the depth of a value of the type `X`.
   abbrev pub slot_weight : (X : Type 0) → (X → ℕ) → Option (g.Of X) → ℕ
   slot_weight X μ None = 0
   slot_weight X μ (Some y) = w.weight X μ y
@@ -139,8 +139,8 @@ module _ {X Y Z : Type 0} (d : Block X Z) where
   abbrev pub Fits : List (Option Y) → Type 0
   Fits ys = (d.len ≤ length ys) × (is_some d.alloc ≡ any ys)
 
-  -- `holding ys` is the block `d` of this module after its slots have been replaced with `ys`. The
-  -- second argument is a proof that `d` may have the slots `ys`.
+  -- `holding ys p` is the block `d` of this module with the slots `ys` instead of its own slots.
+  -- `p` is a proof that `d` may have these slots.
   abbrev pub holding : (ys : List (Option Y)) → Fits ys → Block Y Z
   holding ys sound = record {
     at = d.at;
@@ -165,9 +165,8 @@ module _ {X Y Z : Type 0} (d : Block X Z) where
   Fits-along ys zs e = is_prop→PathP (λ i. Fits (e i))
       (λ i p q j. (le_prop p.0 q.0 j, Coded-set coded_bool _ _ p.1 q.1 j))
 
-  -- `holding_along ys zs e p q` is a proof that the block `d` with the slots `ys` equals the block
-  -- `d` with the slots `zs`. `e` is a proof that the lists `ys` and `zs` are equal. `p` is any
-  -- proof that `d` may have the slots `ys`, and `q` is any proof that `d` may have the slots `zs`.
+  -- If the lists of slots `ys` and `zs` are equal, then the block `d` with the slots `ys` equals
+  -- the block `d` with the slots `zs`. `p` and `q` are proofs that `d` may have these slots.
   abbrev pub holding_along : (ys zs : List (Option Y)) (e : ys ≡ zs) (p : Fits ys) (q : Fits zs)
       → holding ys p ≡ holding zs q
   holding_along ys zs e p q = λ i. holding (e i) (Fits-along ys zs e p q i)
@@ -186,9 +185,8 @@ module _ (g : Former {0}) (Z : Type 0) where
   length_got X (a ∷ as') n v =
       ap suc (length_got X as' n ((slot g).get X a (list_count (slot g) as' n) v).1)
 
-  -- `got X a n v` splits the row `v` of values of the type `X` into two parts: a block of the shape
-  -- `a`, and a row of `n` values. The block contains the first values of `v`. The shape of a block
-  -- describes everything about the block except for its values.
+  -- `got X a n v` splits the row `v` of values of the type `X` into a block of the shape `a` and a
+  -- row of the last `n` values. A shape is a block without its values.
   abbrev pub got : (X : Type 0) (a : Block g.Shape Z) (n : Count)
       → Row X (list_count (slot g) a.slots n) → Block (g.Of X) Z × Row X n
   got X a n v = let r : List (Option (g.Of X)) × Row X n = list_get (slot g) X a.slots n v in
@@ -257,7 +255,7 @@ the_weighed w Z = record {
 }
 
 -- `the_empty Z z` is a block without slots and without an allocation. Its allocator has the type
--- `Z`, and its items have the type `⊥`, which has no values. The argument `z` is not used.
+-- `Z`, and `z` is not used.
 abbrev pub the_empty : (Z : Type 0) → Z → Block ⊥ Z
 the_empty Z z = record {
   at = null_ptr;
@@ -270,8 +268,8 @@ the_empty Z z = record {
   sound = (omega arith, refl);
 }
 
--- The type former `this` states that each item contains exactly one value, which is the item
--- itself. So under `this`, the values in the slots `xs` are the items in these slots, in order.
+-- Under the type former `this`, each item counts as one value. So the values in the slots `xs` are
+-- the items in these slots, in order.
 pub items_listed : (X : Type 0) (xs : List (Option X))
     → listed _ (children (list (slot this)) X xs) ≡ items_in xs
 items_listed X [] = refl
@@ -282,15 +280,14 @@ items_listed X (Some x ∷ xs) = ap (λ l. x ∷ l) (items_listed X xs)
 abbrev pub the_items : (Z X : Type 0) → Block X Z → List X
 the_items Z X d = items_in d.slots
 
--- The type former `this` states that each item contains exactly one value, which is the item
--- itself. So under `this`, the values in the block `d` are the items of `d`, in order.
+-- Under the type former `this`, each item counts as one value. So the values in the block `d` are
+-- the items of `d`, in order.
 pub the_items_listed : (Z X : Type 0) (d : Block X Z)
     → listed _ (children (the_former this Z) X d) ≡ the_items Z X d
 the_items_listed Z X d = items_listed X d.slots
 
--- Suppose that, for every `x`, the encoding of `h x` under `c'` equals the encoding of `x` under
--- `c`. Then mapping `h` over a list does not change the encoding of the list. The proofs for
--- `ThinVec` use this lemma.
+-- If `h` does not change the encoding of any item, then mapping `h` over the list `xs` does not
+-- change the encoding of `xs`.
 pub codes_of : {X Y : Type 0} (c : X → Gv) (c' : Y → Gv) (h : X → Y) → ((x : X) → c' (h x) ≡ c x)
     → (xs : List X) → code_l c' (map h xs) ≡ code_l c xs
 codes_of = codes_placed
@@ -306,20 +303,19 @@ second : {a b c : Gv} → a ≡ b → gcons c a ≡ gcons c b
 second {c = c} e = λ i. gcons c (e i)
 
 module _ (R R' : RattleType) (h : R.Denot → R'.Denot) (a : Alike R R' h) where
-  -- `width` is a proof that the item types `R` and `R'` have the same size. This follows from the
-  -- assumption `Alike R R' h` of this module. One part of this assumption is that each item `y` has
-  -- the same layout as the item `h y`.
+  -- `width` is a proof that the item types `R` and `R'` have the same size. It follows from the
+  -- assumption `Alike R R' h` of this module.
   abbrev width : type_size R' ≡ type_size R
   width = λ i. size (lone (a.mir_same i))
 
-  -- Suppose that each item `y` has the same layout as the item `h y`, and owns the same memory.
-  -- Then applying `h` to the item in the slot `x` does not change which memory the slot owns.
+  -- If each item `y` has the same layout and owns the same memory as `h y`, then applying `h` to
+  -- the slot `x` does not change the memory that the slot owns.
   place_placed : (x : Option R.Denot) (b o : ℕ) → place R' (on_slot h x) b o ≡ place R x b o
   place_placed None b o = λ i. room_for (raw (lone (a.mir_same i))) (block_ptr b o)
   place_placed (Some x) b o = lies_placed R R' h a full_share (block_ptr b o) x
 
-  -- Suppose that each item `y` has the same layout as the item `h y`, and owns the same memory.
-  -- Then applying `h` to the items in the slots `xs` does not change which memory these slots own.
+  -- If each item `y` has the same layout and owns the same memory as `h y`, then applying `h` to
+  -- the slots `xs` does not change the memory that they own.
   places_placed : (xs : List (Option R.Denot)) (b o : ℕ)
       → places R' (map (on_slot h) xs) b o ≡ places R xs b o
   places_placed [] b o = refl
@@ -327,8 +323,8 @@ module _ (R R' : RattleType) (h : R.Denot → R'.Denot) (a : Alike R R' h) where
       (λ i. fsep (place_placed x b o i) (places R' (map (on_slot h) xs) b (o + width i)))
       ∙ ap (fsep (place R x b o)) (places_placed xs b (o + type_size R))
 
-  -- Suppose that each item `y` has the same layout as the item `h y`, and owns the same memory.
-  -- Then applying `h` to the items of a block does not change which memory the block owns.
+  -- If each item `y` has the same layout and owns the same memory as `h y`, then applying `h` to
+  -- all items of a block does not change the memory that the block owns.
   pub block_placed : {D : Type 0} (t : D → Ty → Ptr → Fml) (p : Ptr) (n : ℕ)
       (xs : List (Option R.Denot)) (w : Option D) → block_owns t R' p n (map (on_slot h) xs)
       w ≡ block_owns t R p n xs w
@@ -369,9 +365,9 @@ module _ (R R' : RattleType) (h : R.Denot → R'.Denot) (a : Alike R R' h) where
       (places_lent_placed xs b (o + 16) i)
 
 module _ (A : RattleType) (G : Ghosts A.Denot) (R R' : RattleType) (h : R.Denot → R'.Denot) where
-  -- Suppose that applying `h` to an item changes neither the layout of the item, nor the memory
-  -- that the item owns, nor what a shared reference to the item lends. Then the same is true of a
-  -- block if `h` is applied to all its items.
+  -- If `h` changes neither the layout of an item, nor what the item owns, nor what a shared
+  -- reference to the item lends, then applying `h` to all items of a block changes none of these
+  -- for the block.
   pub the_places : Alike R R' h → Alike (C.the_row R A G) (C.the_row R' A G)
       ((the_former this A.Denot).map R.Denot R'.Denot h)
   the_places a = record {

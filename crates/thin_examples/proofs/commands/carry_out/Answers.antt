@@ -1,6 +1,5 @@
--- If `carry_out` succeeds, then no reply reports a failed call. In this case, the items of the list
--- after the call are the result of a fold over the commands. This follows from the main theorem of
--- the crate `thin_runner`.
+-- If `carry_out` succeeds, then no reply reports a failed call, and the new items are the result of
+-- a fold over the commands.
 use Rattle.std.proofs.Common.{◌≡◌, Result, Ok, Err, List, [], All, OnOk, subst, ◌∙◌, ap, ◌++◌, fold}
 use Rattle.thin_vec.specs.List.Clones.{ClonesEqual}
 use Rattle.thin_vec.specs.ThinVec.{Thin}

@@ -1,6 +1,4 @@
--- The closure that `halve_each` passes to `dedup_by` halves the later of two numbers, and compares
--- the half with the last kept number. So after the call, the list contains the numbers that the
--- spec function `dedup` keeps from the list of all halves.
+-- Proves that `halve_each` leaves the numbers that `dedup` keeps from the list of all halves.
 use Rattle.std.proofs.Common.{◌/◌, refl, rules}
 use Rattle.std.specs.Prelude.{◌==◌}
 use Rattle.thin_examples.proofs.DedupLemmas.{deduped_mapped}

@@ -1,6 +1,5 @@
--- The closure that `keep_last_digits` passes to `dedup_by` has no state. It compares the last
--- digits of two numbers and does not change the numbers. So after the call, the list contains the
--- numbers that the spec function `dedup` keeps if it compares last digits.
+-- Proves that `keep_last_digits` leaves the numbers that the spec function `dedup` keeps if it
+-- compares last digits.
 use Rattle.std.proofs.Common.{rules}
 use Rattle.thin_vec.proofs.EditLemmas.{deduped_dedup}
 use Rattle.thin_examples.proofs.filtering.keep_last_digits.Goals as goal

@@ -1,6 +1,5 @@
--- The closure that `keep_tens` passes to `dedup_by_key` has no state. It returns `number / 10` and
--- does not change the number. So after the call, the list contains the numbers that the spec
--- function `dedup` keeps if it compares the values of `number / 10`.
+-- Proves that `keep_tens` leaves the numbers that the spec function `dedup` keeps if it compares
+-- the values of `number / 10`.
 use Rattle.std.proofs.Common.{rules}
 use Rattle.thin_vec.proofs.EditLemmas.{deduped_dedup}
 use Rattle.thin_examples.proofs.filtering.keep_tens.Goals as goal

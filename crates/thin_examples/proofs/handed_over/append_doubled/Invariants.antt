@@ -1,6 +1,5 @@
--- In the loop of `append_doubled`, the list contains its old items, followed by the doubles of the
--- numbers that the loop has already read. The list has room for the doubles of the numbers that
--- have not been read yet.
+-- The loop invariant of `append_doubled`: the list contains its old items and the doubles of the
+-- numbers read so far, and has room for the remaining doubles.
 use Rattle.std.proofs.Common.{◌≡◌, ◌+◌, ◌*◌, ◌++◌, ◌≤◌, length, map, take}
 use Rattle.thin_examples.proofs.handed_over.append_doubled.Given as goal
 

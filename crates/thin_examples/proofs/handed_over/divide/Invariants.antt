@@ -1,6 +1,5 @@
--- In the loop of `divide`, the odd numbers that have been yielded so far have been appended to
--- `odd`, and the even numbers to `even`. Each of the two lists has room for all numbers that have
--- not been yielded yet.
+-- The loop invariant of `divide`: the odd numbers yielded so far are in `odd`, and the even ones in
+-- `even`. Each list has room for all remaining numbers.
 use Rattle.std.proofs.Common.{◌≡◌, ◌+◌, ◌%◌, ◌==◌, ◌++◌, ◌≤◌, length}
 use Rattle.std.specs.Prelude.{filter, not}
 use Rattle.thin_examples.proofs.handed_over.divide.Given as goal

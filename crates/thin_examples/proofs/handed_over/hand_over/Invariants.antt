@@ -1,5 +1,5 @@
--- In the loop of `hand_over`, the items that the `Drain` has yielded so far have been appended to
--- `other`. The list `other` has room for the items that the `Drain` has not yielded yet.
+-- The loop invariant of `hand_over`: the items that the `Drain` has yielded have been appended to
+-- `other`, which has room for the remaining items.
 use Rattle.std.proofs.Common.{◌≡◌, ◌+◌, ◌++◌, ◌≤◌, length}
 use Rattle.thin_vec.specs.Edits.Drain.{drain_rest}
 use Rattle.thin_examples.proofs.handed_over.hand_over.Given as goal

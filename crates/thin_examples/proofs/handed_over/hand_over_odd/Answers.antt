@@ -1,6 +1,5 @@
--- In `hand_over_odd`, the calls to `next` extract the odd numbers from `list` one by one, and each
--- of them is pushed to `other`. When `next` returns `None`, all odd numbers have been pushed, and
--- `list` contains the even numbers.
+-- Proves that `hand_over_odd` moves all odd numbers from `list` to `other`, and leaves the even
+-- numbers in `list`.
 use Rattle.std.proofs.Common.{◌≡◌, ℕ, ◌-◌, ◌%◌, ◌==◌, ◌++◌, Bool, List, ap, arith, length, rules, take, ◌∙◌}
 use Rattle.std.proofs.Math.Seq.{take-length}
 use Rattle.std.proofs.lemmas.List.{append-nil, drop_all}

@@ -1,6 +1,5 @@
--- In the loop of `hand_over_odd`, the numbers that have been extracted so far have been appended to
--- `other`, and no other numbers have been appended. The capacity of `other` suffices for its old
--- items and all numbers of `list`.
+-- The loop invariant of `hand_over_odd`: exactly the extracted numbers have been appended to
+-- `other`, whose capacity suffices for its old items and all numbers of `list`.
 use Rattle.std.proofs.Common.{◌+◌, ◌%◌, ◌==◌, ◌≤◌, length}
 use Rattle.thin_vec.specs.Edits.ExtractIf.{extract_rest}
 use Rattle.thin_vec.proofs.EditLemmas.{IsExtracting}

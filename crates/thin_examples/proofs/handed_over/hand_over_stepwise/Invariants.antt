@@ -1,6 +1,5 @@
--- In the loop of `hand_over_stepwise`, the items that the `Drain` has yielded so far have been
--- appended to `other`. The list `other` has room for the items that the `Drain` has not yielded
--- yet. The loop does not change which items `list` will contain after the `Drain` has been dropped.
+-- The loop invariant of `hand_over_stepwise`: the items that the `Drain` has yielded have been
+-- appended to `other`, which has room for the remaining items.
 use Rattle.std.proofs.Common.{◌≡◌, ◌+◌, ◌++◌, ◌≤◌, length}
 use Rattle.thin_vec.specs.Edits.Drain.{DrainKeeps, drain_rest}
 use Rattle.thin_examples.proofs.handed_over.hand_over_stepwise.Given as goal

@@ -1,5 +1,5 @@
--- `splice_by` lends its list to the splice as a `&mut`. So when `splice_by` returns, the list has
--- the value that the method `finish` of the splice has written through this `&mut`.
+-- Proves that, after `splice_by`, the list has the value that the method `finish` of the splice has
+-- written to it.
 use Rattle.std.proofs.Common.{◌≡◌, ◌++◌, drop, rules, subst, take}
 use Rattle.std.specs.Iterator.Runs.{WholeRun}
 use Rattle.std.specs.Prelude.{OnOk}

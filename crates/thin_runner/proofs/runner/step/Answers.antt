@@ -1,6 +1,5 @@
--- The function `step` has a `match` with one arm for each kind of command, and each arm calls one
--- method. In each arm, `command` equals the pattern of the arm. So the clause `allowed` of `step`
--- follows from the clause `allowed` of the called method.
+-- Each arm of the `match` in `step` calls one method. The clause `allowed` of `step` follows from
+-- the clause `allowed` of this method.
 use Rattle.thin_runner.proofs.runner.step.Goals as goal
 
 pub returns-in-Push : goal.returns-in-Push

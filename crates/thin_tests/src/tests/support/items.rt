@@ -7,9 +7,8 @@ use std::process::Abort;
 use thin_testing::Refusing;
 use thin_vec::{Growth, ThinVec};
 
-/// Returns an allocator that counts the requests for memory, beginning with 1. The allocator
-/// refuses the request at which this count is `number`. If `number` is 0, the allocator refuses no
-/// request. The allocator is leaked so that tests can hold a `'static` reference to it.
+/// Returns an allocator that refuses request number `number`, counted from 1. If `number` is 0, it
+/// refuses none. The allocator is leaked, so that its reference is `'static`.
 pub fn refusing_nth(rt: &impl Abort, alloc: Global, number: u64) -> &'static Refusing<Global> {
     let refusing = Refusing::new(alloc, number);
     Box::leak(Box::new(alloc, refusing).ok().expect(rt, "memory"))

@@ -1,6 +1,5 @@
--- `repeated` creates an empty list without a block and resizes it. The new capacity is the capacity
--- that the growth rule chooses for `count` items. The call fails with `CapacityOverflow` if and
--- only if the rule chooses no capacity.
+-- `repeated` resizes an empty list. The new capacity is what the growth rule chooses for `count`
+-- items. The call fails with `CapacityOverflow` if and only if the rule chooses no capacity.
 use Rattle.std.proofs.Common.{arith, ◌∙◌}
 use Rattle.thin_vec.proofs.list.ClonesLemmas.{new_lists}
 use Rattle.thin_vec.proofs.macros.repeated.Goals as goal

@@ -1,6 +1,5 @@
--- Before each iteration of the loop, each item that was already removed from the vector is in the
--- slot in which it will stay, and one move has been counted for it. Each iteration reduces the
--- number of items in the vector.
+-- Before each iteration of the loop, each item that was removed from the vector is in its final
+-- slot. Each iteration removes one more item.
 use Rattle.std.proofs.Common.{◌≡◌, ◌-◌, length}
 use Rattle.thin_block.specs.Block.{seen}
 use Rattle.thin_block.specs.Cost.{moving}

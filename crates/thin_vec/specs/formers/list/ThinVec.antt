@@ -1,8 +1,5 @@
 -- This file defines the type former of `ThinVec`, which says that a list contains exactly its
--- items. Because of the type former, the prover accepts types that contain lists of themselves,
--- such as trees. The proof that the type former is sound uses the lemmas in `specs/Shapes.antt`.
--- According to these lemmas, the question whether the items of a block are in its first slots
--- depends only on which slots are filled. The values of the items do not matter.
+-- items. With it, the prover accepts types that contain lists of themselves, such as trees.
 use Rattle.std.specs.Prelude.{◌≡◌, ℕ, ◌-◌, List, [], ◌∷◌, Option, length, map}
 use Rattle.std.specs.declared.option.Option.TheVariants.{Some, None}
 use mathlib.Core.Path.{refl, sym, ap, ◌∙◌}
@@ -34,9 +31,8 @@ use Rattle.thin_vec.specs.declared.list.ThinVec.TheView.{view, invariant}
 use Rattle.thin_vec.specs.contracts.list.ThinVec as C
 use Rattle.thin_vec.specs.contracts.list.ThinVec.TheInside as I
 
--- For each value of a type, the type former says which other values this value contains.
--- `the_former g Z Q` is the type former of lists. `g` is the type former of the items, `Z` is the
--- type of the allocator, and `Q` is the type of the growth rule.
+-- `the_former g Z Q` is the type former of lists: it says which values a list contains. The type
+-- former of the items is `g`, the allocator type is `Z`, and the type of the growth rule is `Q`.
 abbrev pub the_former : Former {0} → Type 0 → Type 0 → Former {0}
 the_former g Z Q =
     via (pair (list g) (const (ℕ × (Z × Cost)))) (λ X. Thin (g.Of X) Z)
@@ -44,10 +40,8 @@ the_former g Z Q =
     (λ X p. record { items = p.0; capacity = p.1.0; alloc = p.1.1.0; cost = p.1.1.1 })
     (λ X v. refl) (λ X p. refl)
 
--- `the_weighed w Z Q` is a depth function for lists, where `w` is a depth function for their items.
--- A depth function computes how deeply values are nested in a value of a recursive type. The depth
--- of a list is the depth of its deepest item, or 0 if the list is empty. `Z` is the type of the
--- allocator, and `Q` is the type of the growth rule.
+-- `the_weighed w Z Q` computes the nesting depth of a list: the depth of its deepest item by `w`,
+-- or 0 if the list is empty. The allocator type is `Z`, and the type of the growth rule is `Q`.
 abbrev pub the_weighed : {g : Former {0}} → Weighed g → (Z Q : Type 0) → Weighed (the_former g Z Q)
 the_weighed w Z Q =
     record {
@@ -55,14 +49,13 @@ the_weighed w Z Q =
       puts = λ X μ v. List-puts w X μ v.items;
     }
 
--- `the_empty Z Q z q` is a list without items, with the capacity 0 and the allocator `z`. `Z` is
--- the type of the allocator, and `Q` is the type of the growth rule `q`, which is not used. The
--- item type `⊥` has no values.
+-- `the_empty Z Q z q` is the empty list of capacity 0 with the allocator `z` of type `Z`. The
+-- growth rule `q` of type `Q` is not used.
 pub the_empty : (Z Q : Type 0) → Z → Q → Thin ⊥ Z
 the_empty Z Q z q = record { items = []; capacity = 0; alloc = z; cost = no_cost }
 
--- `the_items Z Q X v` contains the items of the list `v`, in order. `X` is the type of the items,
--- `Z` is the type of the allocator, and `Q` is the type of the growth rule.
+-- `the_items Z Q X v` contains the items of the list `v`, in order. The item type is `X`, the
+-- allocator type is `Z`, and the type of the growth rule is `Q`.
 abbrev pub the_items : (Z Q X : Type 0) → Thin X Z → List X
 the_items Z Q X v = v.items
 
@@ -72,10 +65,8 @@ pub the_items_listed : (Z Q X : Type 0) (v : Thin X Z)
     → listed _ (children (the_former this Z Q) X v) ≡ the_items Z Q X v
 the_items_listed Z Q X v = list-listed X v.items
 
--- The struct `ThinVec` has three fields: the block, the allocator and the growth rule. (The field
--- for the growth rule contains no data.) `fields Z Q` is the type former of these fields. It says
--- that they contain exactly the items in the block. `Z` is the type of the allocator, and `Q` is
--- the type of the growth rule.
+-- `fields Z Q` is the type former of the fields of `ThinVec`: it says that they contain exactly the
+-- items in the block. The allocator type is `Z`, and the type of the growth rule is `Q`.
 abbrev fields : Type 0 → Type 0 → Former {0}
 fields Z Q =
     via (pair (block.the_former this Z) (const Z)) (λ X. Inside X Z Q) (λ X a. (a.block, a.alloc))
@@ -84,8 +75,8 @@ fields Z Q =
 -- These lemmas are about applying a function `h` to each item in a row of slots. Empty slots stay
 -- empty.
 module _ {X Y : Type 0} (h : X → Y) where
-  -- Suppose that the function `h` is applied to each item in a row of slots `s`. Then the items of
-  -- the new row are the results of applying `h` to the items of `s`, in the same order.
+  -- If the function `h` is applied to each item in a row of slots `s`, the items of the new row are
+  -- `map h (items_in s)`.
   items_in-map : (s : List (Option X)) → items_in (map (on_slot h) s) ≡ map h (items_in s)
   items_in-map [] = refl
   items_in-map (None ∷ s) = items_in-map s
@@ -141,9 +132,8 @@ module _ {X Y : Type 0} (h : X → Y) where
     thin_from : IsThin (block.mapped h b) a → IsThin b a
     thin_from t = record { packed = packed_from b.slots b.len t.packed; from = t.from }
 
--- `items_in s` is the list of the items in the row of slots `s`. The type former of lists says
--- which values a list contains, and the type former of rows says which values a row contains.
--- According to these type formers, `items_in s` and `s` contain the same values in the same order.
+-- According to the type formers of lists and rows, the list `items_in s` and the row of slots `s`
+-- contain the same values in the same order.
 items_in-held : (X : Type 0) (s : List (Option X))
     → held (list this) X (items_in s) ≡ held (list (slot this)) X s
 items_in-held X [] = refl
@@ -168,10 +158,9 @@ module _ (Z Q : RattleType) (G : AllocatorGhosts Z.Denot) (K : GrowthGhosts Q.De
   }
 
   module _ (R S : RattleType) (h : R.Denot → S.Denot) where
-    -- Suppose that applying the function `h` to an item changes neither the memory layout of the
-    -- item, nor the memory that the item owns, nor the memory that the item lends. Then applying
-    -- `h` to each item of a list changes neither the memory layout of the list, nor the memory that
-    -- the list owns, nor the memory that the list lends.
+    -- Suppose that the function `h` does not change the memory layout of an item, or the memory
+    -- that the item owns or lends. Then applying `h` to each item of a list does not change these
+    -- for the list.
     pub the_places : Alike R S h → Alike (C.the_row R Z Q G K) (C.the_row S Z Q G K)
         ((the_former this Z.Denot Q.Denot).map R.Denot S.Denot h)
     the_places a = view_places (fields Z.Denot Q.Denot) (the_former this Z.Denot Q.Denot)

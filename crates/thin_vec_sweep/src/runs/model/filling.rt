@@ -1,6 +1,5 @@
-//! The commands `Splice` and `Extend` in the model, which is a program that says what each command
-//! has to do. The model treats an `Extend` as a splice at the end of the list, on which neither
-//! `Splice::next` nor `Splice::next_back` is called.
+//! The commands `Splice` and `Extend` in the model. The model treats an `Extend` as a splice at the
+//! end of the list.
 use super::{Model, walked};
 use crate::runs::orders::{Kind, Order};
 use crate::runs::samples::{Numbered, samples};
@@ -50,8 +49,8 @@ impl<T: Numbered<A>, A: Allocator + Copy, G: Ruled> Model<T, A, G> {
     }
 
     // Replaces the range of the splice `order` with the first `placed` new items. Returns the reply
-    // of the model, which contains all further new items. `cause` is the cause of the failure, or
-    // `None` if the splice does not fail.
+    // of the model, which contains the other new items and `cause`, the cause of the failure, if
+    // any.
     fn fill(
         &mut self,
         alloc: A,
@@ -132,9 +131,8 @@ impl<T: Numbered<A>, A: Allocator + Copy, G: Ruled> Model<T, A, G> {
         }
     }
 
-    // Executes a `Splice` or an `Extend` in which an allocation request was refused, and returns
-    // the reply. `given`, the reply of the runner, contains the new items that were not moved into
-    // the list.
+    // Executes a `Splice` or an `Extend` in which a request was refused, and returns the reply.
+    // `given` is the reply of the runner.
     pub(crate) fn stop(
         &mut self,
         alloc: A,

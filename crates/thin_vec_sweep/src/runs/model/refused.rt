@@ -1,6 +1,5 @@
-//! The model is a program that specifies the commands. This file specifies what a command does if
-//! one of its allocation requests is refused: the items and the capacity of the list after the
-//! command, and the reply.
+//! Specifies what a command does if one of its allocation requests is refused: the items and the
+//! capacity of the list, and the reply.
 use super::Model;
 use crate::runs::orders::{Kind, Order};
 use crate::runs::samples::{Numbered, samples};

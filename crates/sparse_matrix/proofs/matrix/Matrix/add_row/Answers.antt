@@ -1,5 +1,4 @@
--- The loop in `add_row` adds a row of `other` to a row of `self`, one number per iteration. This
--- proof shows that all numbers of the row have been added after the loop.
+-- After its loop, `add_row` has added all numbers of a row of `other` to the same row of `self`.
 use Rattle.std.proofs.Common.{◌≡◌, ap, arith, length, ◌∙◌}
 use Rattle.std.specs.Prelude.{slice_index_or}
 use Rattle.thin_rows.specs.Table.{row_of}

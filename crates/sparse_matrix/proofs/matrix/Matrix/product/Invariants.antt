@@ -1,5 +1,5 @@
--- The loop in `product` has pushed one number for each row that it has visited: the product of the
--- row with the vector, or `u64::MAX` if the product is greater.
+-- For each visited row, the loop in `product` has pushed the product of this row and the vector,
+-- capped at `u64::MAX`.
 use Rattle.std.proofs.Common.{◌≡◌, ℕ, ◌<◌, ◌-◌, ◌^◌, length, min, slice_index}
 use Rattle.sparse_matrix.specs.Numbers.{dot}
 use Rattle.sparse_matrix.proofs.matrix.Matrix.product.Given as goal

@@ -1,5 +1,4 @@
--- The loop in `set_column` writes a row of `other` into a column of `self`, one number per
--- iteration. This proof shows that all numbers of the row have been written after the loop.
+-- After its loop, `set_column` has written all numbers of a row of `other` into a column of `self`.
 use Rattle.std.proofs.Common.{◌≡◌, ap, arith, length, sym, ◌∙◌}
 use Rattle.thin_rows.specs.Table.{row_of}
 use Rattle.sparse_matrix.specs.Numbers.{number_at}

@@ -1,5 +1,5 @@
--- After the loop in `transposed`, column `j` of the result equals row `j` of `self` for every index
--- `j`. If `self` has no row `j`, then column `j` of the result contains only zeros.
+-- After the loop in `transposed`, column `j` of the result equals row `j` of `self`, or contains
+-- only zeros if this row does not exist.
 use Rattle.std.proofs.Common.{◌≡◌, arith, inl, inr, length, sym, ◌∙◌}
 use Rattle.std.proofs.lemmas.Bool.{cases_lt}
 use Rattle.sparse_matrix.proofs.NumberLemmas.{no_row}

@@ -1,6 +1,5 @@
--- `make` applies a change to a text, and appends to the list `back` a change that undoes the
--- applied change. This proof shows that the appended change fits the new text and restores the old
--- text.
+-- `make` applies a change to a text, and appends the inverse change to the list `back`. The inverse
+-- change fits the new text and restores the old text.
 use Rattle.std.proofs.Common.{◌≡◌, arith}
 use Rattle.text_editor.proofs.ChangesLemmas.{AllFit-last, comes_in, takes_back, texts_of-last}
 use Rattle.text_editor.specs.Changes.{changed}

@@ -1,6 +1,5 @@
--- `forget` removes the oldest changes of an editor, so that at most `count` changes remain. Without
--- the call to `forget`, repeated calls to `undo` would restore a list of texts. This proof shows
--- that, after the call, they restore the first `count` of these texts.
+-- `forget` removes all but the newest `count` changes. After the call, repeated calls to `undo`
+-- restore the first `count` of the texts that they would have restored before it.
 use Rattle.std.proofs.Common.{◌≡◌, ℕ, ◌-◌, ap, arith, drop, length, rules, sym, take, ◌∙◌}
 use Rattle.std.proofs.lemmas.List.{take_all}
 use Rattle.text_editor.proofs.ChangesLemmas.{AllFit-drop, length-texts_of, texts_of-drop}

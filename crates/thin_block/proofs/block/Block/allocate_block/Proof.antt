@@ -1,6 +1,5 @@
--- This file proves the contract of `allocate_block`. The function allocates the memory of a whole
--- block, and writes the capacity and the length. All slots of the new block are empty. The proof
--- assumes the laws of separation logic, which the type `Logic` states.
+-- This file proves the contract of `allocate_block`, which allocates the memory of a block with
+-- empty slots and writes its header.
 use Rattle.std.proofs.Common.{◌≡◌, ℕ, ◌+◌, ◌<◌, List, [], ◌∷◌, ◌++◌, length, replicate, Bool, true, refl, sym, ap, ◌∙◌, arith, lit<, w64, Some, None, Option}
 use mir.Syntax.{Ty, Body, ty_int}
 use mir.Val.{Val, WT, vint, vptr, vstruct, vcons, vnil}

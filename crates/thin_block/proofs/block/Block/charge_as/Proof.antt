@@ -1,7 +1,5 @@
--- This file proves the contract of `charge_as`, which changes only ghost state and does nothing at
--- run time. Each block has a recorded cost, which counts requests for memory, copied items and
--- moves. The function sets the recorded cost of the block to that of the block `from`, plus 1
--- request and `from.len()` copied items.
+-- This file proves the contract of `charge_as`, which does nothing at run time. It changes only the
+-- recorded cost of a block, which is ghost state.
 use Rattle.std.proofs.Common.{ℕ, ◌∷◌, [], ◌++◌, refl}
 use mir.Val.{vptr, vunit}
 use mir.MapTy.{inst_fn}

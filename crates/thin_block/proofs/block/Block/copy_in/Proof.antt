@@ -1,5 +1,5 @@
--- This file proves the contract of `copy_in`, which copies items into adjacent empty slots. The
--- proof separates these slots from the other slots, and joins all slots at the end.
+-- This file proves the contract of `copy_in`, which copies items into adjacent empty slots of a
+-- block.
 use Rattle.std.proofs.Common.{◌≡◌, ℕ, Some, None, false, ◌+◌, ◌*◌, ◌^◌, ◌<◌, ◌≤◌, List, ◌∷◌, [], ◌++◌, length, refl, sym, subst, ◌∙◌, arith, w64}
 use lib.ListN.{length-map, length-replicate, replicate}
 use mir.Syntax.{Fn, Args, ty_array, a_type, dcons, dnil, named}

@@ -1,6 +1,5 @@
 -- This file proves the contract of `move_apart`, which moves items to slots that do not overlap
--- with their old slots. The proof separates the affected slots from the other slots, and joins all
--- slots at the end.
+-- with their old slots.
 use Rattle.std.proofs.Common.{◌≡◌, ℕ, Some, ◌+◌, ◌*◌, ◌^◌, ◌<◌, ◌≤◌, List, ◌∷◌, [], ◌++◌, length, refl, sym, ap, subst, ◌∙◌, arith, w64}
 use lib.ListN.{length-map}
 use lib.Dec.{T as Holds}

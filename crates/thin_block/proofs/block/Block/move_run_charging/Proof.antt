@@ -1,6 +1,5 @@
--- This file proves the contract of `move_run_charging`, which moves items to another block. The
--- proof separates the affected slots of both blocks from their other slots, and joins the slots of
--- each block at the end.
+-- This file proves the contract of `move_run_charging`, which moves adjacent items from one block
+-- to another block.
 use Rattle.std.proofs.Common.{◌≡◌, ℕ, Some, None, ◌+◌, ◌*◌, ◌^◌, ◌<◌, ◌≤◌, List, ◌∷◌, [], ◌++◌, length, refl, sym, ap, subst, ◌∙◌, arith, w64}
 use lib.Dec.{T as Holds}
 use lib.ListN.{length-map, length-replicate}

@@ -1,6 +1,5 @@
--- This file proves the contract of `none`, which returns a block without slots. The block points to
--- a static header, which states the capacity 0 and the length 0, and which is borrowed for the
--- lifetime `'static`.
+-- This file proves the contract of `none`, which returns a block without slots. Such a block points
+-- to a static header with the capacity 0 and the length 0.
 use Rattle.std.proofs.Common.{[], ◌∷◌, refl, arith, lit<, w64, None}
 use mir.Syntax.{Ty, Fn, Tys, ty_int, ty_array, ty_struct, tcons, tnil, w128}
 use mir.Val.{Val, Vals, vint, vstruct, vcons, vnil}

@@ -1,5 +1,4 @@
--- This file proves the contract of `put`, which moves an item into an empty slot. The proof
--- separates this slot from the other slots, and joins all slots at the end.
+-- This file proves the contract of `put`, which moves an item into an empty slot.
 use Rattle.std.proofs.Common.{◌≡◌, ℕ, Some, None, ◌+◌, ◌*◌, ◌<◌, List, ◌∷◌, [], ◌++◌, length, refl, arith, w64}
 use lib.ListN.{set, length-set, get_or}
 use mir.Val.{Val, vint, vunit}

@@ -1,6 +1,5 @@
--- `put_and_store` writes an item as `put` does, and then writes the length as `store_len` does. So
--- its proof consists of the proofs of these two functions. It assumes the laws of the separation
--- logic (`Logic`).
+-- This file proves the contract of `put_and_store`, which puts an item into an empty slot and then
+-- writes the length of the block.
 use Rattle.std.proofs.Common.{◌≡◌, ℕ, Some, ◌+◌, ◌*◌, ◌<◌, ◌≤◌, List, ◌∷◌, [], ◌++◌, length, refl, sym, subst, arith, w64}
 use lib.ListN.{set, length-set}
 use mir.Syntax.{ty_int}

@@ -1,6 +1,5 @@
 -- This file proves the contract of `put_array`, which moves the items of an array into adjacent
--- empty slots. The proof separates these slots from the other slots, and joins all slots at the
--- end.
+-- empty slots.
 use Rattle.std.proofs.Common.{◌≡◌, ℕ, Some, ◌+◌, ◌*◌, ◌≤◌, List, ◌∷◌, [], ◌++◌, length, refl, ◌∙◌, arith, w64}
 use lib.ListN.{length-map}
 use mir.Syntax.{ty_array}

@@ -6,9 +6,8 @@ use Rattle.thin_block.proofs.WordsLemmas.{words_told}
 use denote.Param.{param}
 use Rattle.thin_block.proofs.block.Block.remake_in_place.Goals as goal
 
--- The sum `K + cap.div_ceil(M)` does not overflow. This sum is the size of the new block in words:
--- `K` words are as large as the header, and `cap.div_ceil(M)` words have room for the `cap` slots.
--- `K` is at most 2. The number `cap.div_ceil(M)` is at most `cap`, and `cap` is less than `2 ^ 63`.
+-- The size of the new block in words, `K + cap.div_ceil(M)`, does not overflow: `K` is at most 2,
+-- and `cap` is less than `2 ^ 63`.
 pub overflow_add-wanted : goal.overflow_add-wanted
 overflow_add-wanted g c =
     let T = param 0 g.row.T in

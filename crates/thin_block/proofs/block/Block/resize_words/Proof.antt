@@ -1,6 +1,5 @@
--- This file proves the contract of `resize_words`. The function converts a block into an array of
--- words. For this purpose, it moves the last words into the memory of the header. It resizes the
--- array, and converts the result back into a block.
+-- This file proves the contract of `resize_words`, which converts a block into an array of words,
+-- resizes the array, and converts it back into a block.
 use Rattle.std.proofs.Common.{◌≡◌, ℕ, ◌+◌, ◌-◌, ◌*◌, ◌^◌, ◌<◌, ◌≤◌, List, [], ◌∷◌, ◌++◌, length, true, refl, sym, ap, subst, ◌∙◌, arith, lit<, w64, Some, None, Option}
 use Rattle.std.specs.Prelude.{take, drop as rest}
 use Rattle.std.specs.Int.{div_ceil}
@@ -161,9 +160,8 @@ resize_words_spec 𝓤 𝓛 𝓜 𝓡 wired T A m k LT LA fits_m fits_k g d dd m
     let held_is : held ≡ k + div_ceil old m = said.1.1.1.1.1.1.1.1.1.1.1.1.0 in
     let wanted_is : wanted ≡ k + div_ceil cap m = said.1.1.1.1.1.1.1.1.1.1.1.1.1.0 in
     let room : k ≤ count = said.1.1.1.1.1.1.1.1.1.1.1.1.1.1 in
-    -- Each word consists of `m` items, and `k` words are as large as the header. The following
-    -- facts relate the numbers of items, words and bytes to each other. For example, `k` words take
-    -- 16 bytes.
+    -- These facts relate items, words and bytes: each word consists of `m` items, and `k` words
+    -- take 16 bytes, as the header does.
     let hd : InWords (type_size Rt) (type_align Rt) m k = words_told Rt m k in_words in
     let sixteen : k * s ≡ 16 = ap (λ (n : ℕ). k * n) hd.size ∙ hd.room in
     let items : List T.Denot = items_in x.slots in

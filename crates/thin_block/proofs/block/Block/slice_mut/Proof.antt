@@ -1,6 +1,5 @@
 -- This file proves the contract of `slice_mut`, which returns the items in adjacent slots as a
--- mutable slice. The proof also shows that all slots can be joined again after the borrow of the
--- slice has ended.
+-- mutable slice.
 use Rattle.std.proofs.Common.{◌≡◌, ℕ, Some, ◌+◌, ◌-◌, ◌*◌, ◌^◌, ◌<◌, ◌≤◌, List, ◌∷◌, [], ◌++◌, length, refl, sym, ap, subst, ◌∙◌, arith, w64}
 use lib.ListN.{length-map}
 use mir.Syntax.{named}

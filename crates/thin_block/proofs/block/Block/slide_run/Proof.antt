@@ -1,5 +1,4 @@
--- This file proves the contract of `slide_run`, which moves items up or down by `d` slots. The
--- proof separates the items and the `d` empty slots next to them, and joins all slots at the end.
+-- This file proves the contract of `slide_run`, which moves adjacent items up or down by `d` slots.
 use Rattle.std.proofs.Common.{◌≡◌, ℕ, Some, ◌+◌, ◌*◌, ◌^◌, ◌<◌, ◌≤◌, List, ◌∷◌, [], ◌++◌, length, refl, sym, ap, subst, ◌∙◌, arith, w64}
 use lib.ListN.{length-map}
 use lib.Dec.{T as Holds}

@@ -1,6 +1,5 @@
 -- This file proves the contract of `slot_mut`, which returns a mutable reference to the item in a
--- filled slot. The proof also shows that all slots can be joined again after the borrow of the item
--- has ended.
+-- filled slot.
 use Rattle.std.proofs.Common.{◌≡◌, ℕ, Some, None, ◌+◌, ◌*◌, ◌<◌, ◌∷◌, [], ◌++◌, length, refl, arith, w64}
 use lib.ListN.{get_or}
 use mir.Syntax.{named}

@@ -1,7 +1,5 @@
 -- This file proves the contract of `swap`, which exchanges the items in two slots. The two slots
--- may be the same slot. The proof separates the slots of the exchanged items from the other slots,
--- and joins all slots again at the end. The proof assumes the laws of separation logic, which the
--- type `Logic` states.
+-- may be the same slot.
 use Rattle.std.proofs.Common.{◌≡◌, ℕ, Some, ◌+◌, ◌*◌, ◌<◌, List, ◌∷◌, [], ◌++◌, length, refl, sym, ap, ◌∙◌, arith, w64}
 use lib.ListN.{set, length-set}
 use mir.Val.{vint, vunit}

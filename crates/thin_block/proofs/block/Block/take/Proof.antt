@@ -1,6 +1,4 @@
--- This file proves the contract of `take`, which moves the item out of a filled slot. The proof
--- separates this slot from the other slots, and joins all slots again at the end. The proof assumes
--- the laws of separation logic, which the type `Logic` states.
+-- This file proves the contract of `take`, which moves the item out of a filled slot.
 use Rattle.std.proofs.Common.{ℕ, None, ◌+◌, ◌*◌, ◌<◌, ◌∷◌, [], ◌++◌, length, refl, arith, w64}
 use lib.ListN.{set, length-set, get_or}
 use mir.Val.{vint}

@@ -1,5 +1,5 @@
--- This file proves the contract of `take_array`, which moves the items out of adjacent slots as an
--- array. The proof separates these slots from the other slots, and joins all slots at the end.
+-- This file proves the contract of `take_array`, which moves the items out of adjacent slots and
+-- returns them as an array.
 use Rattle.std.proofs.Common.{◌≡◌, ℕ, Some, None, ◌+◌, ◌*◌, ◌≤◌, List, ◌∷◌, [], ◌++◌, length, refl, sym, ap, ◌∙◌, arith, w64}
 use lib.ListN.{length-map, length-replicate}
 use mir.Syntax.{ty_array}

@@ -1,6 +1,5 @@
--- This file proves the contract of `take_replacing`. Up to the first write of the function, the
--- proof is the same as the proof of `swap`. From there on, it is the same as the proof of `take`
--- for slot `j`. The proof assumes the laws of separation logic, which the type `Logic` states.
+-- This file proves the contract of `take_replacing`. The proof first follows the proof of `swap`,
+-- and then the proof of `take` for slot `j`.
 use Rattle.std.proofs.Common.{◌≡◌, ℕ, Some, None, ◌+◌, ◌*◌, ◌<◌, List, ◌∷◌, [], ◌++◌, length, refl, sym, ap, ◌∙◌, arith, w64}
 use lib.ListN.{set, length-set}
 use lib.Seq.{set-set}

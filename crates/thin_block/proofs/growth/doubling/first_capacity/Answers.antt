@@ -1,6 +1,5 @@
--- This file proves that `first_capacity` returns the value of the definition `first`. The function
--- caps the item size at `usize::MAX`, and compares the capped size with a bound. The capped size
--- exceeds this bound if and only if the real size exceeds it.
+-- This file proves that `first_capacity` returns the value of the definition `first`, although the
+-- code caps the item size at `usize::MAX`.
 use Rattle.std.proofs.Common.{arith}
 use Rattle.std.specs.Mem.{type_size}
 use Rattle.thin_block.proofs.SizesLemmas.{first_one, first_many}

@@ -3,9 +3,8 @@ use Rattle.std.proofs.Common.{◌≡◌, ◌+◌, ◌-◌, ◌^◌, ◌<◌, map
 use Rattle.thin_examples.specs.SyntaxTree.{node_count}
 use Rattle.thin_examples.proofs.syntax_tree.Node.+count.Given as goal
 
--- The invariant of the loop in `Node::count`: capped at `u64::MAX`, the count so far plus the node
--- counts of the unvisited children equals the node count of this node, capped in the same way.
--- Moreover, the count so far is less than `2 ^ 64`.
+-- The loop invariant of `Node::count`: the count so far plus the node counts of the unvisited
+-- children is the node count of this node. Both numbers are capped at `u64::MAX`.
 abbrev pub invariant-loop-child : goal.invariant-loop-child
 invariant-loop-child l =
     (min (l.count + sum (map node_count l.child-iterator.rest.now)) (2 ^ 64 - 1) ≡ min

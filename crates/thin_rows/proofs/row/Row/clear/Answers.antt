@@ -1,5 +1,4 @@
--- This file proves the contract of `clear`. After the call, the row is the empty map, because its
--- list has no entries, and such a list represents the empty map.
+-- Proves the contract of `clear`: after the call, the row is the empty map.
 use Rattle.std.proofs.Common.{ap, ◌∙◌}
 use Rattle.std.specs.FinMap.{from_sorted}
 use Rattle.thin_rows.proofs.RowLemmas.{none_stored}

@@ -1,5 +1,4 @@
--- This file proves the contract of `entries`. The method returns the list in which a row stores its
--- entries. In contracts, a row is a map. The list contains exactly the entries of this map, in
+-- Proves the contract of `entries`: the returned list contains exactly the entries of the row, in
 -- increasing order of their columns.
 use Rattle.std.proofs.Common.{nat_cmp, ap, sym, ◌∙◌}
 use Rattle.std.specs.FinMap.{entries, entries-from_sorted}

@@ -1,6 +1,5 @@
--- This file proves the contract of `get`. A row stores its entries in a list, which represents a
--- map. If the list has an entry of the given column, the value of this entry is the value of the
--- map at this column. Otherwise, the map has no value at this column.
+-- Proves the contract of `get`: the method returns the value of the row at the given column, or
+-- `None` if there is no such value.
 use Rattle.std.proofs.Common.{sym}
 use Rattle.thin_rows.proofs.RowLemmas.{get_at, get_gap}
 use Rattle.thin_rows.proofs.row.Row.get.Goals as goal

@@ -1,6 +1,5 @@
--- This file proves the contract of `get_mut`. A row stores its entries in a list, which represents
--- a map. The list and the map have the same entries in the same order. So each entry has the same
--- index in both.
+-- Proves the contract of `get_mut`, which lends the value of an entry. Each entry has the same
+-- index in the list of a row and in the map that this list represents.
 use Rattle.std.proofs.Common.{nat_cmp, refl, sym}
 use Rattle.std.specs.FinMap.{entries-from_sorted}
 use Rattle.thin_rows.proofs.RowLemmas.{get_gap}

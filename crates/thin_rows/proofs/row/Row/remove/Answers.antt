@@ -1,6 +1,5 @@
--- This file proves the contract of `remove`. A row stores its entries in a list, which represents a
--- map. Removing the entry of a column from the list removes this column from the map. If there is
--- no such entry, nothing changes.
+-- Proves the contract of `remove`: the row loses the given column. If it has no entry of this
+-- column, nothing changes.
 use Rattle.std.proofs.Common.{Some, sym, ap, ◌∙◌}
 use Rattle.std.proofs.lemmas.Option.{get_or_from_slice_get}
 use Rattle.thin_rows.proofs.RowLemmas.{get_at, get_gap, remove_is, remove_rises, unchanged}

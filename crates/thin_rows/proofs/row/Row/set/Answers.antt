@@ -1,7 +1,5 @@
--- This file proves the contract of `set`. A row stores its entries in a list, which represents a
--- map. If the list has an entry of the given column, `set` overwrites this entry. Otherwise, `set`
--- inserts a new entry. In both cases, the new list represents the old map with the new value at
--- this column.
+-- Proves the contract of `set`: the new row is the old row with the new value at the given column.
+-- `set` overwrites the entry of this column or inserts one.
 use Rattle.std.proofs.Common.{inl, inr, ◌≡◌, ◌+◌, sym, ap, ◌∙◌, length, length-set, arith, refl, Some}
 use Rattle.std.proofs.lemmas.Bool.{cases_lt, false≢true}
 use Rattle.std.specs.FinMap.{len}
@@ -66,9 +64,8 @@ returns-in-Err-insert-clause-succeeds g c some =
     rw (← c.self.view_is, get_gap row.items c.self.invariant.rising c.args.column c.in-Err.at gap)
     at some
 
--- Suppose that `set` cannot insert a new entry. Then the list of entries was full before the call,
--- so its capacity equals the number of its entries. The error is `CapacityOverflow` if and only if
--- the capacity for one more entry would be too large.
+-- If `set` fails to insert an entry, then the error is `CapacityOverflow` if and only if the
+-- capacity for one more entry is too large.
 pub returns-in-Err-insert-clause-overflow : goal.returns-in-Err-insert-clause-overflow
 returns-in-Err-insert-clause-overflow g c =
     let row = c.self.inside.entries in

@@ -1,6 +1,5 @@
--- This file proves the contract of `value_mut`. Through the returned reference, the caller can
--- change the value of an entry, but not its column. So the map that the row represents changes only
--- at this column.
+-- Proves the contract of `value_mut`: through the returned reference, the caller can change the
+-- value of one entry, but not its column.
 use Rattle.std.proofs.Common.{◌≡◌, Some, nat_cmp, length-set, refl, sym, ap, ◌∙◌}
 use Rattle.std.proofs.lemmas.Option.{get_or_from_slice_get}
 use Rattle.std.specs.FinMap.{entries-from_sorted}

@@ -1,5 +1,4 @@
--- This file proves the contract of `get_mut`, which borrows one row of the table. The proof uses
--- the fact that the table does not change if this row is written back unchanged.
+-- Proves the contract of `get_mut`, which borrows one row of the table.
 use Rattle.std.proofs.Common.{◌≡◌, ap, slice_index_or, slice_set, sym, ◌∙◌}
 use Rattle.std.proofs.lemmas.List.{set-get_or}
 use Rattle.std.proofs.lemmas.Option.{get_or_from_slice_get}

@@ -1,6 +1,5 @@
--- This file proves the contract of the method `set` of a table, which calls the method `set` of one
--- of its rows. If this call fails, neither the row nor the table changes, and both methods return
--- the same cause.
+-- Proves the contract of `set` on a table, which calls `set` on a row. If the call on the row
+-- fails, the table does not change.
 use Rattle.std.proofs.Common.{◌≡◌, ◌+◌, subst, ℕ, List, OnErr, Result, Ok, Err, Some, slice_get, slice_set, sym, ap, ◌∙◌}
 use Rattle.std.proofs.lemmas.List.{set-get_or}
 use Rattle.std.proofs.lemmas.Option.{get_or_from_slice_get}
@@ -12,10 +11,8 @@ use Rattle.thin_rows.specs.EntryType.{entry_type}
 use Rattle.thin_rows.specs.Table.{row_of}
 use Rattle.thin_rows.proofs.table.Rows.set.Goals as goal
 
--- A call changes the item at index `i` of the list `xs` from `old` to `new`, and returns `result`.
--- The call fails if `result` is an error. Suppose that a failed call leaves the item unchanged, so
--- that `new` equals `old`. Then, after a failed call, writing `new` to index `i` does not change
--- `xs`.
+-- Suppose that a failed call leaves the item at index `i` of the list `xs` unchanged (`new ≡ old`).
+-- If `result` is an error, then writing `new` to index `i` does not change `xs`.
 left : {X Y E : Type 0} (result : Result Y E) (xs : List X) (i : ℕ) (old new : X)
     → slice_get xs i ≡ Some old → OnErr result (new ≡ old) → OnErr result (slice_set xs i new ≡ xs)
 left (Ok _) xs i old new there same = tt

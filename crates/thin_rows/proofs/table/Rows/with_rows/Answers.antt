@@ -1,6 +1,5 @@
--- This file proves the contract of `with_rows`. This contract and the contract of `with_capacity`
--- use different item types, but these types have the same size and alignment. So both contracts
--- agree about the error `CapacityOverflow`.
+-- Proves the contract of `with_rows` from the contract of `with_capacity`. The item types in both
+-- contracts have the same size and alignment.
 use Rattle.std.proofs.Common.{◌≡◌, ◌∙◌, ap, arith, refl, replicate}
 use Rattle.std.specs.FinMap as map
 use Rattle.thin_rows.proofs.RowTypeLemmas.{error_tells, made_tells}

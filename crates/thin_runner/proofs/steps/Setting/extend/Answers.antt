@@ -1,6 +1,5 @@
--- If `extend` fails, no item of the iterator is lost. Each item is then in one of three places: in
--- the list, in the option `in_hand` of the error, or in the field `rest` of the error, which is the
--- rest of the iterator.
+-- If `extend` fails, no item of the iterator is lost. Each item is in the list, or in one of the
+-- fields `in_hand` and `rest` of the error.
 use Rattle.std.proofs.Common.{rules, ◌≡◌, ◌++◌, ◌+◌, ap, arith, length, subst, sym, ◌∙◌, append_assoc}
 use Rattle.std.proofs.lemmas.Bool.{false≢true}
 use Rattle.std.specs.Iterator.{Count, at_most, size}

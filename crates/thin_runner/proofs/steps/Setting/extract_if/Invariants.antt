@@ -1,6 +1,5 @@
--- Before each iteration of the loop, `answers` contains the results of the calls to `next` so far,
--- and has room for the results of the remaining calls. Together, these are the results of all
--- `count` calls.
+-- The loop invariant: `answers` contains the results of the calls to `next` so far, and has room
+-- for the results of the remaining calls.
 use Rattle.std.proofs.Common.{◌≡◌, ◌++◌, ◌≤◌, ◌+◌, ◌-◌, drop, take, false, slice_range, vec_len}
 use Rattle.std.specs.Vec.{vec_capacity}
 use Rattle.thin_vec.specs.Edits.ExtractIf.{extract_alloc, extract_callee, extract_capacity, extract_cost, extract_front, extract_gone, extract_lender, extract_rest, extract_tail}

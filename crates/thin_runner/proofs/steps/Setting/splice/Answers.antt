@@ -1,6 +1,5 @@
--- If a splice fails, no item of the iterator is lost. Each item is then in one of four places: in
--- the list, in the vector `held` of the error, in the option `in_hand` of the error, or in the
--- field `rest` of the error, which is the rest of the iterator.
+-- If a splice fails, no item of the iterator is lost. Each item is in the list, or in one of the
+-- fields `held`, `in_hand` and `rest` of the error.
 use Rattle.std.proofs.Common.{rules, inl, inr, ◌≡◌, ◌≤◌, ◌+◌, ◌-◌, ◌++◌, ◌∙◌, ap, arith, length, length-append, subst, sym}
 use Rattle.std.proofs.lemmas.Bool.{false≢true}
 use Rattle.std.specs.Iterator.{at_most, size}

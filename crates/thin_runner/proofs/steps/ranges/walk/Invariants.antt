@@ -1,6 +1,5 @@
--- Before each iteration of the loop, `answers` contains the results of the steps so far, and has
--- room for the results of the remaining steps. Together, these are the results of all steps on the
--- `Drain`.
+-- The loop invariant: `answers` contains the results of the steps so far on the `Drain`, and has
+-- room for the results of the remaining steps.
 use Rattle.std.proofs.Common.{◌≡◌, ◌++◌, ◌≤◌, ◌+◌, length, vec_len}
 use Rattle.std.specs.Vec.{vec_capacity}
 use Rattle.std.specs.Vec.Iter.{into_iter_items}

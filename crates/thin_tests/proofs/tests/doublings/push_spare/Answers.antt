@@ -1,5 +1,5 @@
--- The proof of the contract of `push_spare`, which pushes an item onto a list with spare capacity.
--- The capacity does not change, so no items are copied to a new allocation.
+-- These proofs show that `push_spare`, which pushes an item onto a list with spare capacity, copies
+-- no items to a new allocation.
 use Rattle.std.proofs.Common.{arith}
 use Rattle.thin_vec.proofs.ThinVecLemmas.{costs}
 use Rattle.thin_tests.proofs.tests.doublings.push_spare.Goals as goal

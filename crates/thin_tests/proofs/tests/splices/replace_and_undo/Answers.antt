@@ -1,6 +1,5 @@
--- In `replace_and_undo`, the first splice removes some items of a list, and puts other numbers in
--- their place. The second splice replaces these numbers with copies of the removed items. So the
--- list has its old items again.
+-- `replace_and_undo` replaces some items of a list with other numbers, and then replaces these
+-- numbers with the old items. So the list has its old items again.
 use Rattle.std.proofs.Common.{◌+◌, ◌++◌, ◌∙◌, ap, drop, length, take}
 use Rattle.std.specs.Prelude.{slice_range}
 use Rattle.thin_tests.proofs.SpliceLemmas.{on_ok, put_back}

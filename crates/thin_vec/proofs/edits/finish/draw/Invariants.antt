@@ -1,6 +1,5 @@
--- Before each iteration of the loop, two lists are equal. The first list consists of the items in
--- the vector `held`, followed by the item `next`. The second list consists of the item `first`,
--- followed by all items that the iterator has yielded during the call.
+-- Before each iteration of the loop, the vector `held` and the item `next` contain, in order, the
+-- item `first` and all items that the iterator yielded during the call.
 use Rattle.std.proofs.Common.{[], ◌≡◌, ◌+◌, ◌≤◌, List, ◌++◌, ◌∷◌, length}
 use Rattle.std.specs.Iterator.{IsFinite, Yields, size}
 use Rattle.thin_vec.proofs.edits.finish.draw.Given as goal

@@ -1,6 +1,4 @@
--- `append_from` moves all items of `other`, except the first `start` items, to the end of the list.
--- Afterwards `other` contains only its first `start` items, and the list contains its old items,
--- followed by the moved items.
+-- `append_from` moves all items of `other` from index `start` onward to the end of the list.
 use Rattle.std.proofs.Common.{◌-◌, ◌++◌, ◌∙◌, ap, arith, drop, length, take, rules}
 use Rattle.thin_block.proofs.BlockLemmas.{then-len}
 use Rattle.thin_block.specs.Slots.{items_in}

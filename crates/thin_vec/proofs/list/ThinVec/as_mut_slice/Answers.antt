@@ -1,6 +1,5 @@
--- `as_mut_slice` borrows exactly the slots that hold items. When the borrow ends, each of these
--- slots holds an item again. So the invariant of the list holds, and the list contains the items of
--- the slice as the borrower left them.
+-- `as_mut_slice` borrows exactly the slots that hold items. When the borrow ends, the list contains
+-- the items of the slice as the borrower left them.
 use Rattle.std.proofs.Common.{ap, arith, length, refl, ◌≡◌, ◌∙◌}
 use Rattle.thin_block.specs.Lends.{with_items as block_with_items}
 use Rattle.thin_vec.specs.Lends.{with_items}

@@ -1,6 +1,6 @@
--- Every capacity that a growth rule chooses satisfies `Grows`: it is large enough for the items, at
--- least twice the old capacity, and small enough to be allocated. This holds because every growth
--- rule satisfies the law `KeepsLaw`.
+-- Every growth rule satisfies the law `KeepsLaw`. So each capacity that it chooses satisfies
+-- `Grows`: it is large enough for the items, at least twice the old capacity, and small enough to
+-- be allocated.
 use Rattle.std.proofs.Common.{arith}
 use denote.Param.{param}
 use Rattle.thin_vec.proofs.list.CapacityLemmas.{grows-rule}

@@ -1,6 +1,5 @@
--- `close` calls `into_closed`, which removes the gap between the items of the open block and
--- preserves the order of the items. Then `close` puts the block back into the list. So the list
--- contains the items of the open block, in order.
+-- `into_closed` removes the gap between the items of the open block. Then `close` puts the block,
+-- which contains the items in order, back into the list.
 use Rattle.std.proofs.Common.{ap, sym, ◌∙◌, rules}
 use Rattle.thin_vec.specs.Open.{items_of}
 use Rattle.thin_vec.proofs.ListLemmas.{Settled, settled, thin-room, thin_of-becomes}

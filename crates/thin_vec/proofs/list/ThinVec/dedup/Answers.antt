@@ -1,6 +1,5 @@
--- `dedup` compares items with `==`. So after the call, the list contains the items that the
--- specification function `dedup` returns for the old items. The specification function `unlike`
--- says which items are kept, and so determines the number of moves. The list never becomes longer.
+-- `dedup` compares items with `==`. After the call, the list contains the items that the
+-- specification function `dedup` returns for the old items.
 use Rattle.std.proofs.Common.{ap, ◌∙◌}
 use Rattle.thin_block.specs.Cost.{moving}
 use Rattle.thin_vec.specs.Edits.Retain.{moved_down}

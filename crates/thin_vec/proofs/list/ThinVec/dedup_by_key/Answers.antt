@@ -1,6 +1,5 @@
 -- `dedup_by_key` calls `dedup_those` with a test that calls `key` on two items and compares the
--- results. Therefore, what `dedup_those` guarantees about this test implies the contract for `key`.
--- The list never becomes longer.
+-- results. So what `dedup_those` guarantees about the test implies the contract for `key`.
 use Rattle.std.specs.Fn.{ComparesKeys}
 use Rattle.thin_vec.proofs.edits.DedupLemmas.{deduped-through, few-deduped}
 use Rattle.thin_vec.proofs.list.ThinVec.dedup_by_key.Goals as goal

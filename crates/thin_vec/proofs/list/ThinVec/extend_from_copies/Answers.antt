@@ -1,6 +1,5 @@
--- `extend_from_copies` calls `reserve_run`. The contracts of both functions say the same about the
--- capacity and the error. Only `extend_from_copies` requires the item type to be `Copy`. This makes
--- no difference here, because both contracts depend only on the size and the alignment of an item.
+-- `extend_from_copies` requires items that are `Copy`, and `reserve_run` does not. Their contracts
+-- agree, because the capacity and the error depend only on the size and alignment of an item.
 use Rattle.std.proofs.Common.{◌+◌, Ok, length, refl}
 use Rattle.thin_block.proofs.CapacityLemmas.{ruled-at}
 use Rattle.thin_vec.proofs.list.ReservesLemmas.{reserves-failed, reserves-then}

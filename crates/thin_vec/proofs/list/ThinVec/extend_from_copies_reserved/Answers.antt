@@ -1,6 +1,5 @@
--- `copy_in` writes the copies into the slots directly after the last item, so the copies are
--- appended to the list. The capacity does not change. If there is nothing to copy, the list is
--- unchanged.
+-- `copy_in` writes the copies into the slots directly after the last item, so they are appended to
+-- the list. The capacity does not change.
 use Rattle.std.proofs.lemmas.Grind.{common_steps}
 use Rattle.std.proofs.Common.{◌++◌, ◌∙◌, ap, arith, length, refl, ◌≡◌}
 use Rattle.thin_block.proofs.BlockLemmas.{then-len}

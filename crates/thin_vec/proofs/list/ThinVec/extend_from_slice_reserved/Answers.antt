@@ -1,6 +1,5 @@
--- If all items of `items` can be cloned, their clones are appended. If each clone also equals its
--- original, the appended items are equal to `items`. If an item cannot be cloned, `truncate` drops
--- the clones that were made, so the list contains its old items again.
+-- If all items can be cloned, their clones are appended. If an item cannot be cloned, `truncate`
+-- drops the clones, and the list contains its old items again.
 use Rattle.std.proofs.Common.{arith, ◌++◌, ap, take_all, ◌∙◌}
 use Rattle.std.proofs.lemmas.List.Elements.{same_from_all_zip}
 use Rattle.thin_vec.proofs.list.ClonesLemmas.{not-all}

@@ -1,6 +1,5 @@
--- `fill_spare` fills the empty slots of the list with items of the iterator. If the iterator ends
--- before all slots are full, `extend_reserved` returns no item. Otherwise `extend_reserved` returns
--- the result of one more call to `next`.
+-- `fill_spare` fills the empty slots of the list with items of the iterator. If all slots are full,
+-- `extend_reserved` returns the result of one more call to `next`.
 use Rattle.std.proofs.Common.{◌≡◌, ◌∙◌, ap, arith, length, length-append, subst}
 use Rattle.thin_vec.specs.Put.{Gives}
 use Rattle.thin_vec.proofs.list.ExtendLemmas.{spare-kept}

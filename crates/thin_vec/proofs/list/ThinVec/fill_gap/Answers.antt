@@ -1,6 +1,5 @@
--- The tail items are the last items of the list, and the gap is the run of empty slots before them.
--- `fill` moves items of the iterator into the gap. If a part of the gap is still empty afterwards,
--- `close` moves each tail item once. Otherwise `close` moves no item.
+-- `fill` moves items of the iterator into the gap before the tail items. If a part of the gap
+-- remains empty, `close` moves each tail item once. Otherwise, `close` moves no item.
 use Rattle.std.proofs.Common.{◌≡◌, ◌-◌, ◌++◌, ◌∙◌, ap, arith, length, length-append}
 use Rattle.thin_block.specs.Cost.{moving}
 use Rattle.thin_vec.proofs.PutLemmas.{filled-fits}

@@ -1,6 +1,5 @@
--- No item follows the replaced range. So after the call to `close`, the list contains only the
--- items before the range. Then `extend` appends the items of the iterator. The clauses of the
--- contract of `finish_at_end` follow from the contracts of `close` and `extend`.
+-- No item follows the replaced range. `close` leaves only the items before the range in the list,
+-- and `extend` then appends the items of the iterator.
 use Rattle.std.proofs.Common.{◌≡◌, ◌*◌, ◌++◌, ◌∙◌, ap, arith, length, length-append, refl, subst, sym}
 use Rattle.std.specs.Iterator.{size}
 use Rattle.std.specs.Prelude.{MatchOption}

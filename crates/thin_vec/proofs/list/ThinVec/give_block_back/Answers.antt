@@ -1,6 +1,5 @@
 -- After the call to `give_block_back`, the block of the list is `Block::none()`, which has no
--- slots. So the list is empty, and its capacity is 0. Both are within the limits that `IsWithin`
--- states.
+-- slots. So the list is empty, and its capacity is 0.
 use Rattle.std.proofs.Common.{ap, length, rules, ◌∙◌}
 use Rattle.thin_block.specs.Slots.{items_in}
 use Rattle.thin_vec.proofs.ListLemmas.{thin_of-becomes}

@@ -1,6 +1,5 @@
--- If the growth succeeds, the items are in the first slots of the larger block. If the allocator
--- fails, the items are still in the first slots of the old block. So the list contains the same
--- items in both cases.
+-- If the growth succeeds, the larger block holds the items. If the allocator fails, the old block
+-- still holds them. In each case, the list contains the same items.
 use Rattle.std.proofs.Common.{◌≤◌, ap, ◌∙◌, arith, length, refl}
 use denote.Param.{param}
 use Rattle.thin_block.specs.Slots.{items_in}

@@ -1,7 +1,5 @@
--- If an item cannot be cloned, `drop_range` drops the clones that were made before, so the list
--- contains its old items again. Three calls can move the old items from index `at` onward:
--- `open_wide`, `close` and `drop_range`. Each of these calls moves each of these items at most
--- once.
+-- If an item cannot be cloned, `drop_range` drops the clones. Each of the calls `open_wide`,
+-- `close` and `drop_range` moves each old item from index `at` onward at most once.
 use Rattle.std.proofs.Common.{◌≡◌, ◌+◌, ◌-◌, ◌++◌, ◌∙◌, [], ap, arith, drop, eqb, length, length-append, sym, take}
 use Rattle.std.proofs.lemmas.List.{length-drop, length-take-le}
 use Rattle.std.proofs.lemmas.List.Elements.{length_all_zip}

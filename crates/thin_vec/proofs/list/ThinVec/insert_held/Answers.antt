@@ -1,7 +1,6 @@
--- `draw` collects the items of the iterator in a vector, and `insert_vec` inserts these items into
--- the list. If the vector or the list cannot get enough memory, `insert_held` returns an error that
--- contains the vector. If the vector had no room for the last item that the iterator yielded, the
--- error also contains this item.
+-- `draw` collects the items of the iterator in a vector, and `insert_vec` inserts them into the
+-- list. If memory runs out, the error contains the vector, and the item that did not fit into it,
+-- if there is one.
 use Rattle.std.proofs.Common.{Err, ◌++◌, drop, take, inl, inr, ◌≡◌, ◌-◌, ◌<◌, ◌∙◌, ap, arith, length, refl, subst, sym}
 use Rattle.std.proofs.lemmas.Bool.{cases_lt, false≢true}
 use Rattle.std.specs.Option.{option_len}

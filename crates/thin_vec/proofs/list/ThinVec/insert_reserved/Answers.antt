@@ -1,6 +1,5 @@
 -- `move_run` moves the items from `index` onward up by one slot, and `put_and_store` writes `value`
--- into the empty slot at `index`. So `value` is inserted at `index`, and the capacity does not
--- change.
+-- into the empty slot at `index`.
 use Rattle.std.proofs.Common.{Some, ◌+◌, ◌-◌, ap, ◌∙◌, length, arith, refl, ◌≡◌}
 use lib.ListN.{set}
 use Rattle.std.specs.Prelude.{insert}

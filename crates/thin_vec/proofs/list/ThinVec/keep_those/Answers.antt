@@ -1,6 +1,5 @@
 -- `keep_those` calls `sift`, which tests each item and drops the items that are not to be kept. So
--- after the call, the list contains exactly the kept items. The capacity does not change, and it is
--- large enough for these items.
+-- the list contains exactly the kept items.
 use Rattle.std.proofs.Common.{◌≡◌, arith, rules}
 use Rattle.thin_vec.proofs.ThinVecLemmas.{within-like}
 use Rattle.std.proofs.lemmas.Grind.{common_steps}

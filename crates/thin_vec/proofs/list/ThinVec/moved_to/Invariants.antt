@@ -1,6 +1,5 @@
--- Before each iteration of the loop, the items in `vec`, followed by the items that are still in
--- the iterator, are exactly the items of the original list, in order. The capacity of `vec` does
--- not change.
+-- Before each iteration of the loop, the items in `vec`, followed by the remaining items of the
+-- iterator, are the items of the original list.
 use Rattle.std.proofs.Common.{◌≡◌, ◌+◌, ◌++◌, length, vec_capacity, vec_len}
 use Rattle.thin_vec.proofs.list.ThinVec.moved_to.Given as goal
 

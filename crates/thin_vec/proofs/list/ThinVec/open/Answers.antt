@@ -1,6 +1,5 @@
--- `open` splits the items of the list into three parts: the front (the items before index `start`),
--- the middle run (the items `start..end`), and the tail (the items from index `end` onward). The
--- block that is returned holds these parts in order, with no empty slot between them.
+-- `open` splits the items of the list into the front (before index `start`), the middle
+-- (`start..end`), and the tail (from index `end` onward), without moving any item.
 use Rattle.std.proofs.Common.{◌≡◌, ◌≤◌, ap, sym, ◌∙◌, subst, arith, drop, length, take, rules}
 use Rattle.std.specs.Prelude.{slice_range}
 use Rattle.thin_block.specs.Slots.{items_in}

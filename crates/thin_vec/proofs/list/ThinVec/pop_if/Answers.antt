@@ -7,8 +7,8 @@ use Rattle.std.specs.Fn.{FnOnceReturnsAtMut}
 use lib.ListN.{set, length-set}
 use Rattle.thin_vec.proofs.list.ThinVec.pop_if.Goals as goal
 
--- Suppose that `xs` has `n + 1` items, and that `x` is the last item. Then `xs` is
--- `take n xs ++ x ∷ []`, and replacing the last item with `y` results in `take n xs ++ y ∷ []`.
+-- If `x` is the last item of the list `xs` of length `n + 1`, then `xs` is `take n xs ++ x ∷ []`,
+-- and replacing `x` with `y` results in `take n xs ++ y ∷ []`.
 last : {T : Type 0} (xs : List T) (n : ℕ) (x y : T) → length xs ≡ suc n → x ≡ get_or xs n x
     → (xs ≡ take n xs ++ x ∷ []) × (set xs n y ≡ take n xs ++ y ∷ [])
 last xs n x y all is = (

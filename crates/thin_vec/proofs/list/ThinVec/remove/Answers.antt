@@ -1,5 +1,5 @@
 -- `remove` takes the item at `index` out of its slot, and moves all later items down by one slot.
--- So the list contains all other items, in order, and the capacity does not change.
+-- The capacity does not change.
 use Rattle.std.proofs.Common.{◌+◌, ◌-◌, ap, ◌∙◌, length, arith, refl, ◌≡◌}
 use Rattle.std.specs.Prelude.{remove}
 use Rattle.thin_vec.proofs.ListLemmas.{Settled, thin-filled, thin-get, kept-filled}

@@ -1,7 +1,6 @@
--- `replace_range_from_copies` calls `reserve`. The contracts of both functions say the same about
--- the capacity and the error. Only `replace_range_from_copies` requires the item type to be `Copy`.
--- This makes no difference here, because both contracts depend only on the size and the alignment
--- of an item.
+-- `replace_range_from_copies` requires items that are `Copy`, and `reserve` does not. Their
+-- contracts agree, because the capacity and the error depend only on the size and alignment of an
+-- item.
 use Rattle.std.proofs.Common.{◌≡◌, ◌+◌, ◌-◌, ◌∙◌, Ok, ap, arith, length, refl}
 use denote.Param.{copied}
 use Rattle.thin_block.proofs.CapacityLemmas.{ruled-at}

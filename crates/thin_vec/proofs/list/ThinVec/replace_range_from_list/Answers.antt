@@ -1,7 +1,5 @@
 -- `replace_range_from_list` calls `reserve` with the number of items by which the list becomes
--- longer. This is the number of new items minus the length of the range, or 0 if there are fewer
--- new items than items in the range. So the list gets the capacity that `reserve` chooses. If
--- `reserve` fails, its error is returned.
+-- longer, or 0 if it does not become longer. If `reserve` fails, its error is returned.
 use Rattle.std.proofs.Common.{◌≡◌, ◌-◌, Ok, ap, arith, length}
 use denote.Param.{param}
 use Rattle.thin_vec.specs.ThinVec.{capacity_for}

@@ -1,6 +1,5 @@
--- The contract states that the new capacity is the capacity that `capacity_for` returns. If the
--- list already has room for `additional` more items, `capacity_for` returns the old capacity, and
--- `reserve` changes nothing. So the contract holds in this case.
+-- The new capacity is the capacity that `capacity_for` returns. If the list already has room for
+-- `additional` more items, this is the old capacity.
 use Rattle.std.proofs.Common.{arith}
 use Rattle.std.proofs.Common.{refl}
 use Rattle.thin_vec.proofs.list.ReservesLemmas.{reserves-room}

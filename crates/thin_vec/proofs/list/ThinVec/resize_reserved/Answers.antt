@@ -1,6 +1,5 @@
--- If every clone of `value` equals `value`, then `value` is appended `count` times. If a call to
--- clone `value` fails, `truncate` drops the clones that were made before, so the list contains its
--- old items again.
+-- If every clone of `value` equals `value`, then `value` is appended `count` times. If cloning
+-- fails, `truncate` drops the clones, and the list contains its old items again.
 use Rattle.std.proofs.Common.{arith}
 use Rattle.thin_vec.proofs.list.ClonesLemmas.{equal-repeated}
 use Rattle.std.proofs.lemmas.Grind.{common_steps}

@@ -1,6 +1,5 @@
--- `retain` calls `keep_those` with a test that calls the closure `keep` once for each item and does
--- not change the item. So after the call, the list contains exactly the items for which `keep`
--- returned true.
+-- `retain` calls `keep_those` with a test that calls the closure `keep` once for each item. So the
+-- list contains exactly the items for which `keep` returned true.
 use Rattle.std.specs.Fn.{CalledAt}
 use Rattle.thin_vec.specs.Edits.Retain.{Looks}
 use Rattle.thin_vec.proofs.RetainLemmas.{few-retained, retained-through, retained_filtered}

@@ -1,6 +1,5 @@
 -- `retain_mut` calls `keep_those` with a test that calls the closure `keep` once for each item. So
--- what the contract of `keep_those` says about the test is also true for `keep`. The list never
--- becomes longer.
+-- what `keep_those` guarantees about the test also holds for `keep`.
 use Rattle.std.specs.Fn.{CalledAtMut}
 use Rattle.thin_vec.proofs.RetainLemmas.{few-retained, retained-through}
 use Rattle.thin_vec.proofs.list.ThinVec.retain_mut.Goals as goal

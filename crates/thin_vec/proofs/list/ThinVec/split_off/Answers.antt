@@ -1,6 +1,5 @@
--- `split_off` makes a new list with exactly the capacity `len - at` for the items that are split
--- off. A block of this capacity is small enough to be allocated, because the block of the old list
--- has at least `len` slots.
+-- `split_off` makes a new list of capacity `len - at` for the last items. A block of this capacity
+-- can be allocated, because the block of the old list has at least `len` slots.
 use Rattle.std.proofs.Common.{◌-◌, arith, ◌∙◌}
 use denote.Param.{param}
 use Rattle.thin_block.proofs.CapacityLemmas.{fits-less}

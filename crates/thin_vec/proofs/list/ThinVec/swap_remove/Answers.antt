@@ -1,6 +1,5 @@
--- `take_replacing` takes the item at `index` out of its slot. If this item is not the last item,
--- the last item is moved into the slot. So the list changes as the specification function
--- `swap_remove` says, and the capacity does not change.
+-- `take_replacing` takes the item at `index` out of its slot. Unless this is the last item, the
+-- last item is moved into the slot, as the specification function `swap_remove` says.
 use Rattle.std.proofs.Common.{◌-◌, sym, ap, ◌∙◌, length, arith, ◌≡◌}
 use Rattle.std.specs.List.{slice_get, swap_remove}
 use Rattle.thin_block.proofs.BlockLemmas.{then-len}

@@ -1,5 +1,5 @@
--- The list has exactly `N` items, and `take_array` moves them out of the first `N` slots into an
--- array. Afterwards no slot holds an item, so the list is empty.
+-- The list has exactly `N` items. `take_array` moves them out of their slots into an array, so the
+-- list becomes empty.
 use Rattle.std.proofs.Common.{[], ◌∙◌, ap, arith, length, subst}
 use denote.Param.{param}
 use Rattle.thin_block.specs.Capacity.{Fits}

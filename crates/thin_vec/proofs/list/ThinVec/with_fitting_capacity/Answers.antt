@@ -1,5 +1,5 @@
--- A newly allocated block holds no items, so the list with this block is empty. The capacity of the
--- list is the argument `capacity`, and a block of this capacity is small enough to be allocated.
+-- A newly allocated block holds no items, so the list with this block is empty. Its capacity is the
+-- argument `capacity`.
 use Rattle.std.proofs.Common.{[]}
 use Rattle.thin_vec.proofs.ListLemmas.{Settled}
 use Rattle.thin_vec.proofs.ThinVecLemmas.{within-settled}

@@ -1,6 +1,5 @@
--- `advance_two` first tests two items. The clause `advances` holds in each of three cases: the
--- first item is to be removed, the second item is to be removed, or both are kept. If both are
--- kept, the later items are tested up to the first item to be removed.
+-- The clause `advances` holds in three cases: the first item is to be removed, the second item is
+-- to be removed, or both are kept and the later items are tested.
 use Rattle.std.proofs.Common.{◌≡◌, ◌++◌, ◌∙◌, ap, arith, drop, rules, sym, take}
 use Rattle.std.proofs.lemmas.List.{append-nil}
 use Rattle.thin_block.specs.Cost.{moving}
@@ -8,8 +7,8 @@ use Rattle.thin_vec.proofs.RetainLemmas.{moving-after, moving-none, one-stays, r
 use Rattle.std.proofs.lemmas.Grind.{common_steps}
 use Rattle.thin_vec.proofs.open_block.OpenBlock.advance_two.Goals as goal
 
--- If the test decides to remove the first item, then no item is kept and no item is moved. This is
--- the case `count = 0` of the clause `advances`.
+-- If the test decides to remove the first item, no item is kept or moved. This is the case
+-- `count = 0` of the clause `advances`.
 pub returns-then-not-test-clause-advances : goal.returns-then-not-test-clause-advances
 returns-then-not-test-clause-advances g c =
     let R = g.J.Test.tests in

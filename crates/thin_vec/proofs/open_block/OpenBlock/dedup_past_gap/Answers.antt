@@ -1,6 +1,5 @@
--- `Dedups` describes what iterations of the loop have done. If `Dedups` holds for all earlier
--- iterations, and also for the next iteration, then it holds for all these iterations together.
--- Before each iteration, there is at least one kept item with which the next item can be compared.
+-- `Dedups` describes what iterations of the loop have done. If it holds for the earlier iterations
+-- and for the next one, then it holds for all of them together.
 use Rattle.thin_vec.proofs.edits.DedupLemmas.{dedups-start, dedups-then}
 use Rattle.thin_vec.proofs.open_block.OpenBlock.dedup_past_gap.Goals as goal
 

@@ -1,4 +1,3 @@
--- A call to `dedup_two` ends when it has removed one item, or when no item remains to be tested.
 -- The clause `dedups` holds in each of four cases: the first item is removed, the second item is
 -- removed, a later item is removed, or no item is removed.
 use Rattle.std.proofs.Common.{◌≡◌, ◌∷◌, [], ap, false, refl, sym, ◌∙◌, arith, rules}

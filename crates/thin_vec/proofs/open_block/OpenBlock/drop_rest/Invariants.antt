@@ -1,6 +1,5 @@
--- Each iteration of the loop drops the first of the remaining items of the range, so fewer items
--- remain. The emptied slot becomes part of the gap before the remaining items. Nothing else
--- changes.
+-- Each iteration of the loop drops the first remaining item of the range. Its slot becomes part of
+-- the gap before the remaining items. Nothing else changes.
 use Rattle.std.proofs.Common.{◌≡◌, ◌+◌, length}
 use Rattle.thin_vec.proofs.open_block.OpenBlock.drop_rest.Given as goal
 

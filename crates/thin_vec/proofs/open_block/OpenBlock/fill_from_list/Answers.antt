@@ -1,6 +1,5 @@
--- `move_run_to` moves the items of the list `other` into the gap of empty slots directly after the
--- front items of the open block. So these items become front items, and all slots of `other` are
--- then empty.
+-- `move_run_to` moves all items of the list `other` into the gap directly after the front items of
+-- the open block. So these items become front items.
 use Rattle.thin_block.proofs.BlockLemmas.{then-len}
 use Rattle.thin_block.specs.Cost.{moving}
 use Rattle.thin_block.specs.Slots.{full, items_in, laid, run}
@@ -24,8 +23,8 @@ count g c = c.len-count.ensures.value ∙ c.other.invariant.packed.len
 same : (g : _) (c : goal.After-self-1 g) → c.len-count.result ≡ length c.args.other.now.items
 same g c = count g c ∙ ap (λ v. length v.items) c.other.view_is
 
--- After the move, the items of the list `other` are in the slots of the open block from index
--- `front_end` onward. No other slot of the open block has changed.
+-- After the move, the slots of the open block from index `front_end` onward hold the items of the
+-- list `other`. No other slot of the open block has changed.
 lies : (g : _) (c : goal.After-self-1 g) → c.move_run_to.new.other.slots
     ≡ laid c.self.inside.front_end (full (items_in c.other.inside.block.slots))
     c.self.inside.block.slots

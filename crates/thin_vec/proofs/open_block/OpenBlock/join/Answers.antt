@@ -1,5 +1,5 @@
--- `join` requires that there are no middle items. So no item separates the gap before the middle
--- items from the gap after them, and the two gaps form one gap.
+-- There are no middle items, as `join` requires. So the gap before the middle items and the gap
+-- after them form one gap.
 use Rattle.std.proofs.Common.{◌+◌, ap, sym, ◌∙◌}
 use Rattle.thin_vec.proofs.OpenBlockLemmas.{Found, join-step, joined, joined-seen}
 use Rattle.thin_vec.proofs.open_block.OpenBlock.join.Goals as goal

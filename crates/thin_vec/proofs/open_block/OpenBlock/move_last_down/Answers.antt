@@ -1,6 +1,5 @@
--- The slots of the last `count` tail items all hold an item, as `move_run` requires. `move_run`
--- moves these items into the empty slots directly after the front items, so they become front
--- items.
+-- `move_run` moves the last `count` tail items into the empty slots directly after the front items.
+-- So these items become front items.
 use Rattle.std.proofs.Common.{◌≡◌, ◌-◌, ◌≤◌, ◌++◌, ◌∙◌, ap, arith, drop, length, take}
 use Rattle.thin_block.specs.Cost.{moving}
 use Rattle.thin_vec.specs.OpenBlock.{open_of}

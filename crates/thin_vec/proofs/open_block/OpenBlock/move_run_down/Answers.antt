@@ -1,5 +1,5 @@
--- Each of the first `k` slots of the middle run holds an item. `close_gap` moves these items into
--- the slots directly after the front items, so they become front items.
+-- `close_gap` moves the first `k` middle items into the slots directly after the front items. So
+-- these items become front items.
 use Rattle.thin_block.specs.Block.{seen}
 use Rattle.std.proofs.Common.{◌≡◌, ◌≤◌, ◌+◌, ◌-◌, ◌++◌, ap, sym, subst, ◌∙◌, arith, length, take, drop}
 use Rattle.std.specs.Prelude.{IsSome}

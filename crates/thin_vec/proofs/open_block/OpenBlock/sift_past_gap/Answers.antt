@@ -1,6 +1,5 @@
--- `Sifts` describes the combined effect of consecutive iterations of the loop. If it holds for the
--- iterations so far, and for the next iteration alone, then it holds for all of them together.
--- After the loop, `sift_last` tests the remaining item, if there is one.
+-- `Sifts` describes what iterations of the loop have done. If it holds for the earlier iterations
+-- and for the next one, then it holds for all of them together.
 use Rattle.thin_vec.proofs.RetainLemmas.{sifts-start, sifts-then}
 use Rattle.thin_vec.proofs.open_block.OpenBlock.sift_past_gap.Goals as goal
 

@@ -1,5 +1,5 @@
--- The slot at index `rest_start + k` holds the item to be tested. After the test, this slot holds
--- the item as the test left it, and nothing else has changed.
+-- The slot at index `rest_start + k` holds the item to be tested. The test may change this item,
+-- and changes nothing else.
 use Rattle.std.proofs.Common.{◌<◌, ◌+◌, refl, ap, sym, ◌∙◌, arith, length}
 use Rattle.thin_block.specs.Lends.{with_item}
 use Rattle.thin_vec.specs.OpenBlock.{open_of}

@@ -1,5 +1,5 @@
--- The slots of the middle items at the indices `k - 1` and `k` are not empty. After the test, these
--- slots hold the two items as the test left them, and nothing else has changed.
+-- The slots of the middle items at the indices `k - 1` and `k` are not empty. The test may change
+-- these two items, and changes nothing else.
 use Rattle.std.proofs.Common.{◌-◌, ap, sym, ◌∙◌, arith, length}
 use Rattle.thin_vec.specs.OpenBlock.{open_of}
 use Rattle.thin_vec.proofs.OpenBlockLemmas.{rest-filled}
@@ -19,8 +19,7 @@ test_neighbours-requires-clause-filled g c = λ j low high.
       ap (λ v. length v.rest) c.self.view_is,
     ))
 
--- After the test, the slots of the middle items at the indices `k - 1` and `k` hold these items as
--- the test left them, and nothing else has changed.
+-- The test may change the middle items at the indices `k - 1` and `k`, and changes nothing else.
 facts : (g : _) (c : goal.After-test_neighbours g) → WrittenTwo c.self.inside c.self.invariant
     (c.args.k - 1) c.test_neighbours.new.block c.test_neighbours.ensures.asked.kept
     c.test_neighbours.ensures.asked.later c.test_neighbours.ensures.asked.kept_left

@@ -1,6 +1,5 @@
--- The first middle item is kept without a test, and each iteration of the loop tests the next item.
--- If this item is kept, then the number of kept items increases by 1. If it is to be removed, then
--- the loop ends.
+-- The first middle item is kept without a test. Each iteration of the loop tests the next item. The
+-- loop ends at the first item to be removed.
 use Rattle.std.proofs.Common.{arith, refl, rules}
 use Rattle.thin_vec.proofs.edits.DedupLemmas.{pair-goes, pair-more, pair-start}
 use Rattle.std.proofs.lemmas.Grind.{common_steps}

@@ -1,5 +1,4 @@
--- Each iteration of the loop tests the next item. If this item is kept, then the number of kept
--- items increases by 1. If it is to be removed, then the loop ends.
+-- Each iteration of the loop tests the next item. The loop ends at the first item to be removed.
 use Rattle.std.proofs.Common.{arith, refl, rules}
 use Rattle.thin_vec.proofs.RetainLemmas.{stays-goes, stays-more, stays-start}
 use Rattle.std.proofs.lemmas.Grind.{common_steps}

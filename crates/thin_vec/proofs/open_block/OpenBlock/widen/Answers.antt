@@ -33,8 +33,8 @@ open_gap-opened-requires-clause-filled g c = λ j low high.
     subst (λ b. IsSome (slot b.slots j)) (sym c.replace-block.ensures.value)
     (tail-filled c.self.inside (open_of c.self.inside) o j low (omega (arith, high, o.tail)))
 
--- After the call to `widen`, the tail items have been moved up by `count` slots, and the cost
--- counts one more move for each of them. Nothing else in the block has changed.
+-- The call to `widen` moves the tail items up by `count` slots and counts one move for each of
+-- them. Nothing else in the block changes.
 stored : (g : _) (c : goal.After-self-2-1 g)
     → let h = c.self.inside in
     seen c.replace-none.new.dest ≡ record (seen h.block) {

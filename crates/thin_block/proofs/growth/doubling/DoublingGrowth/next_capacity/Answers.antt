@@ -1,6 +1,5 @@
--- This file proves that `next_capacity` returns the result of the rule `doubling`. Unlike the rule,
--- the code limits the doubled capacity to `usize::MAX`. If the doubled capacity exceeds this limit,
--- both the code and the rule return `None`.
+-- This file proves that `next_capacity` returns the capacity that the rule `doubling` chooses,
+-- although the code caps the doubled capacity at `usize::MAX`.
 use Rattle.std.proofs.Common.{◌≡◌, ℕ, ◌*◌, ◌-◌, ◌^◌, ◌∙◌, ap, min}
 use Rattle.std.specs.Mem.{type_size}
 use Rattle.std.specs.Align.{type_align}

@@ -1,6 +1,5 @@
--- This file proves that `next_capacity` returns the result of the rule `power_bytes`. Unlike the
--- rule, the code limits sizes and capacities to `usize::MAX`. If a size or a capacity exceeds this
--- limit, both the code and the rule return `None`.
+-- This file proves that `next_capacity` returns the capacity that the rule `power_bytes` chooses,
+-- although the code caps sizes and capacities at `usize::MAX`.
 use Rattle.std.proofs.Common.{◌≡◌, ◌+◌, ◌*◌, ◌^◌, ◌<◌, ◌≤◌, ◌∙◌, ap, max, subst, sym}
 use Rattle.std.specs.Mem.{type_size}
 use Rattle.std.specs.Align.{type_align}

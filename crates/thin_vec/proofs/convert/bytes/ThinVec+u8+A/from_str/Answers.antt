@@ -1,7 +1,5 @@
--- `from_str` calls `from_copies`, and fails with the same error. The contract of `from_copies`
--- computes the capacity from the size and the alignment of a generic item type. In this call, the
--- item type has the size and the alignment of `u8`. So the contracts of both functions name the
--- same capacity.
+-- `from_str` fails with the error of `from_copies`. The contracts of both functions name the same
+-- capacity, because the item type has the size and the alignment of `u8`.
 use Rattle.std.proofs.Common.{◌∙◌, ap, length, refl, arith}
 use Rattle.std.specs.Borrow.{u8}
 use Rattle.thin_block.proofs.CapacityLemmas.{exact-at}

@@ -1,7 +1,5 @@
--- `write_all` reserves capacity with a call to `reserve_run`. The contract of `reserve_run`
--- computes the capacity from the size and the alignment of a generic item type. In this call, the
--- item type has the size and the alignment of `u8`. So the contracts of both functions name the
--- same capacity.
+-- `write_all` calls `reserve_run`. The contracts of both functions name the same capacity, because
+-- the item type has the size and the alignment of `u8`.
 use Rattle.std.proofs.Common.{◌+◌, ◌∙◌, Some, ap, length, refl, sym}
 use Rattle.std.specs.Borrow.{u8}
 use Rattle.thin_block.proofs.CapacityLemmas.{ruled-at}

@@ -1,6 +1,5 @@
--- `from_copies` calls `with_capacity`, and fails with `CapacityOverflow` in the same cases. Unlike
--- `with_capacity`, it requires the item type to be `Copy`. This makes no difference, because the
--- error depends only on the number of items and on the size and the alignment of an item.
+-- `from_copies` fails with `CapacityOverflow` in the same cases as `with_capacity`, which it calls.
+-- The bound `Copy` on the item type makes no difference.
 use Rattle.std.proofs.Common.{length, refl}
 use Rattle.thin_block.proofs.CapacityLemmas.{exact-at}
 use Rattle.thin_vec.proofs.list.ReservesLemmas.{tells-made, tells-same}

@@ -1,6 +1,5 @@
--- `as_mut_slice` lends the slots `start..end`, which are all filled. When the borrow ends, the
--- block is still the block of an iterator. This iterator contains the items of the slice as the
--- borrower left them.
+-- `as_mut_slice` lends the slots `start..end`. When the borrow ends, the block is still the block
+-- of an iterator, with the items as the borrower left them.
 use Rattle.std.proofs.Common.{ap, refl, ◌∙◌}
 use Rattle.thin_block.specs.Lends.{with_items as block_with_items}
 use Rattle.thin_vec.specs.Lends.{with_items}

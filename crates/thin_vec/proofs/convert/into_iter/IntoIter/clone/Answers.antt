@@ -1,6 +1,5 @@
--- `clone` calls `from_fitting_slice`, which requires that a block for all items of the slice is
--- small enough to be allocated. This holds because the number of items is at most the capacity of
--- the iterator's own block.
+-- `clone` calls `from_fitting_slice`, which requires that the items fit in a block. They do,
+-- because their number is at most the capacity of the iterator's own block.
 use Rattle.std.proofs.Common.{ap, arith, length}
 use denote.Param.{param}
 use Rattle.thin_block.proofs.CapacityLemmas.{fits-less}

@@ -1,6 +1,5 @@
--- The contract of the inherent method `clone` implies the contract of the trait method
--- `Clone::clone`. The contract of the trait method states that the list and its clone satisfy
--- `IsClonedList`. This means, among other things, that the clone contains a clone of each item.
+-- The contract of the trait method `Clone::clone` follows from the contract of the inherent method
+-- `clone`: the list and its clone satisfy `IsClonedList`.
 use Rattle.std.proofs.Common.{sym, ◌∙◌}
 use Rattle.std.proofs.lemmas.List.Elements.{length_all_zip}
 use Rattle.thin_vec.proofs.list.clones.ThinVecClone.clone.Goals as goal

@@ -1,6 +1,5 @@
 -- `from_iter` makes a list whose capacity is the lower bound of the iterator's size hint, and then
--- calls `extend_unhinted`. The clauses about the list and about the cause of a failure follow from
--- the contracts of these two steps.
+-- calls `extend_unhinted`. Its contract follows from the contracts of these two steps.
 use Rattle.std.specs.Iterator.{Yields}
 use Rattle.std.specs.Option.{option_to_list}
 use Rattle.std.proofs.Common.{None, [], refl, Some, inl, inr, ◌++◌, ◌≡◌, ◌∙◌, ap, arith, length, subst, sym}

@@ -1,6 +1,5 @@
--- `index_mut` borrows one slot, which holds the item at `index`. When the borrow ends, the slot
--- holds the item that was written through the reference. So the invariant of the list holds, and
--- the list contains the written item at `index`.
+-- `index_mut` borrows the slot of the item at `index`. When the borrow ends, the item at `index` is
+-- the value that was written through the reference.
 use Rattle.std.proofs.Common.{◌<◌, ap, arith, length, refl, sym, ◌∙◌}
 use Rattle.std.specs.List.{slice_get}
 use Rattle.std.proofs.lemmas.Option.{get_or_from_slice_get}
