@@ -174,8 +174,8 @@ module _ (E : El) {M : Type 1} {𝓤 : Ura M} {𝓛 : Logic 𝓤} {K : Type 0} {
       rewrite k 0 (λ (x : Slot E). ‵ (slot_place (R E) x b (i * sz E + o))) e refl $ rest)
 
 module _ (E : El) {M : Type 1} (𝓤 : Ura M) where
-  -- `Bits b o v` says that the memory at the offset `o` of the allocation `b` holds `v`, which is
-  -- the machine value of an item.
+  -- `Bits b o v` says that the memory at the offset `o` of the allocation `b` holds the value `v`.
+  -- The lemmas use it for the machine values of items.
   abbrev Bits : ℕ → ℕ → Val → Item 𝓤
   Bits b o v = ‵ (fat full_share (elτ E) b o v)
 

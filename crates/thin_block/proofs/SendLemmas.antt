@@ -41,8 +41,8 @@ way_back_Keyless (Some w) τ c b o =
     (((tt, tt), tt), (ways_Keyless τ w.0 (div_ceil c w.0) b (o + 16), tt))
 
 module _ (R : RattleType) where
-  -- If items may be sent to another thread, then the memory of one slot does not depend on the
-  -- thread that owns this memory.
+  -- If items may be sent to another thread, then the resource `place R x b o`, which describes the
+  -- memory of one slot, is the same for every thread.
   place_Keyless : IsSend R → (x : Option R.Denot) (b o : ℕ) → Keyless (place R x b o)
   place_Keyless s (Some x) b o = lies R s (block_ptr b o) x
   place_Keyless s None b o = tt

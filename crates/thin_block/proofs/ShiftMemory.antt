@@ -1,5 +1,6 @@
--- These lemmas are about moving adjacent items within a block. They separate the memory of the
--- affected slots before the move, and put the memory of all slots back together after it.
+-- These lemmas are about moving adjacent items within a block. Before the move, they separate the
+-- memory of the slots that the move affects from the memory of the other slots. After the move,
+-- they join the memory of all slots again.
 use Rattle.std.proofs.Common.{◌≡◌, ◌⊎◌, Bool, true, false, ℕ, Some, None, ◌+◌, ◌-◌, ◌*◌, ◌<◌, ◌≤◌, List, [], ◌∷◌, ◌++◌, length, refl, sym, ap, ◌∙◌, arith, append_assoc}
 use Rattle.std.proofs.lemmas.List.{length-map, length-replicate, length-append, length-take}
 use mathlib.Core.Logic.{inl, inr, ⊎_elim}

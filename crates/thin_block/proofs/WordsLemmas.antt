@@ -37,8 +37,8 @@ pub record Counts (m : ℕ) : Type 0 where
   pub least : (n : ℕ) → n ≤ n * m
   pub few : (c : ℕ) → div_ceil c m ≤ c
 
--- `Counts m` collects facts about words of `m` items each. This lemma and the next three lemmas
--- prove it for `m` equal to 1, 2, 4 and 8.
+-- `Counts m` collects facts about words that hold `m` items each. This lemma and the next three
+-- lemmas prove `Counts 1`, `Counts 2`, `Counts 4` and `Counts 8`.
 counts_1 : Counts 1
 counts_1 = record {
   some = omega arith;

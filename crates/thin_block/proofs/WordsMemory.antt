@@ -561,9 +561,9 @@ module _ {M : Type 1} {𝓤 : Ura M} (𝓛 : Logic 𝓤) (T : RattleType) (L : L
         use1 𝓛 (‵ (places (R E) (full xs) b o) ⊛ ‵ (places (R E) (empty j) b after))
         (cut E 𝓛 b (full xs) (empty j) o after last) $ split ! $ move ! (2 ∷ []) $ fsplit ! $
         -- The previous steps have separated the filled slots from the empty slots. They have also
-        -- split `slots_way` into two parts: the rights (`ways`) to convert memory for items into
-        -- words; and the unused memory after the last slot. The proof context now holds these
-        -- entries, in this order: the rights; the unused memory; the filled slots; the empty slots.
+        -- split `slots_way` into its two parts: the unused memory after the last slot, and the
+        -- rights (`ways`) to convert memory for items into memory for words. The proof context now
+        -- holds, in this order: the rights; the unused memory; the filled slots; the empty slots.
         move ! (2 ∷ 0 ∷ []) $
         use2 𝓛 (‵ (runs_at (R E) N (chunks n xs) b o) ⊛ ‵ (ways τ' m v b after))
         (to_runs n w v xs o after long total at_after) $ split ! $ move ! (3 ∷ 1 ∷ 2 ∷ []) $

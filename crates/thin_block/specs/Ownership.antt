@@ -80,8 +80,8 @@ abbrev pub asked_for : Option (ℕ × ℕ) → Ty → ℕ → Ty
 asked_for None τ c = whole_of τ c
 asked_for (Some w) τ c = ty_array (word_of τ w.0) (w.1 + div_ceil c w.0)
 
--- A block of `c` slots for items of the type `R` requests memory for one value of the type
--- `asked R c`.
+-- `asked R c` is the type whose size and alignment are requested from the allocator for a block of
+-- `c` slots for items of the type `R`.
 abbrev pub asked : RattleType → ℕ → Ty
 asked R c = asked_for (words_of R) (bare R) c
 
@@ -165,9 +165,8 @@ block_owns t R (block_ptr b o) n xs None = fsep (lent_at usize (block_ptr b o) 0
 block_owns t R (block_ptr b o) n xs (Some a) = fsep (frame (t a) R n (length xs) b o)
     (places R xs b (o + 16))
 
--- `place_lent R x p l` is a shared reference with the lifetime `l` to the item in the slot `x`. The
--- slot is at the address `p`, and the item has the type `R`. If the slot is empty, there is no
--- reference.
+-- `place_lent R x p l` states that there is a shared reference, with the lifetime `l`, to the item
+-- of the type `R` in the slot `x` at the address `p`. If the slot is empty, it states nothing.
 abbrev pub place_lent : (R : RattleType) → Option R.Denot → Ptr → Lft → Fml
 place_lent R (Some x) p = lent_at R p x
 place_lent R None p = nothing

@@ -131,7 +131,7 @@ module _ (s a c w n : ℕ) (some : 0 < s) (e : power_bytes s a c w ≡ Some n) w
         is_full = omega (arith, room, parts, whole, rest, next);
       }
 
--- The rule `power_bytes` satisfies `KeepsLaw`, the law of growth rules.
+-- The rule `power_bytes` satisfies `KeepsLaw`, the law that every growth rule must satisfy.
 pub power_bytes_law : KeepsLaw power_bytes
 power_bytes_law s a c w n more word e = elim (eq-zero-or-pos s) [
   | inl none ↦ doubling_law s a c w n more word (sym (powers_of_none s a c w none) ∙ e)

@@ -36,8 +36,8 @@ struct Header {
 /// Contracts also mention three counters, and the allocator that the memory came from. The block
 /// stores neither the counters nor the allocator.
 pub struct Block<T, A: Allocator> {
-    // A pointer to the capacity. The length and then the slots follow the capacity in memory. If
-    // the block has no allocation, this is a pointer to `NO_BLOCK`.
+    // A pointer to the capacity. In memory, the capacity is followed by the length, and then by the
+    // slots. If the block has no allocation, this is a pointer to `NO_BLOCK`.
     pub(crate) at: *mut usize,
     pub(crate) item: PhantomData<T>,
     pub(crate) handle: PhantomData<A>,

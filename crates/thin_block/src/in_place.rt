@@ -104,9 +104,10 @@ impl<T, A: Allocator> Block<T, A> {
     // allocator fails. `M` items form a word, and the header is as large as `K` words. The items
     // form `count` words, and `count` is at least `K`.
     //
-    // The function converts the items into words, and stores the last `K` words in the header until
-    // the allocator returns. So the memory of the block begins with an array of `count` words. The
-    // allocator resizes this memory from `held` to `wanted` words.
+    // The function converts the items into words. While the allocator runs, the last `K` words are
+    // stored in the memory of the header, directly before the other words. So the memory of the
+    // block begins with an array of `count` words. The allocator resizes this memory from `held` to
+    // `wanted` words.
     fn resize_words<const M: usize, const K: usize>(
         self,
         alloc: &A,

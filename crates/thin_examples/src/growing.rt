@@ -17,8 +17,8 @@ pub fn halves<A: Allocator>(alloc: A, numbers: &[u32]) -> Option<ThinVec<u32, A>
     }
 }
 
-/// Appends the items of `numbers` that are less than `limit`, in order. Returns whether all of
-/// these items were appended. The list keeps its old items in every case.
+/// Appends to `list`, in order, the items of `numbers` that are less than `limit`. Returns whether
+/// all of these items were appended. In either case, `list` keeps its old items.
 pub fn extend_below<A: Allocator, G: Growth>(
     list: &mut ThinVec<u32, A, G>,
     numbers: &[u32],

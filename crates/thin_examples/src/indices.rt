@@ -22,8 +22,8 @@ pub fn run_end<T, A: Allocator, G: Growth>(
     start + count
 }
 
-/// Returns the item at `index` and the item after it. The sum `index + 1` cannot overflow, because
-/// the length of a list is at most `isize::MAX`.
+/// Returns the item at `index` and the item after it. Both must exist. The sum `index + 1` cannot
+/// overflow, because it is less than the length of the list, which is at most `isize::MAX`.
 pub fn neighbours<A: Allocator, G: Growth>(list: &ThinVec<u32, A, G>, index: usize) -> (u32, u32)
     requires in_bounds { index + 1 < length list.now.items }
     ensures first { result.0 ≡ slice_index list.now.items index }

@@ -5,8 +5,8 @@ use std::alloc::{AllocError, Allocator};
 use std::iter::once;
 use thin_vec::{Growth, ThinVec, thin_vec};
 
-/// Inserts `value` after the first of three items. This moves three items: `value`, and the two
-/// items after it.
+/// Inserts `value` into a list of three items, after the first item. Three items are moved: `value`
+/// into the list, and the two items after it up by one slot.
 ///
 /// # Errors
 ///
@@ -63,8 +63,8 @@ pub fn kept_all<T: Drop, A: Allocator, G: Growth>(list: &mut ThinVec<T, A, G>)
     list.retain(|_item: &T| true);
 }
 
-/// Extracts 2, the first even number at the indices `1..5`, from the list 1, 2, 3, 4, 5, 6. The
-/// four numbers after it are moved without being tested.
+/// Extracts the first even number at the indices `1..5` of `list`, which must contain 1, 2, 3, 4, 5
+/// and 6. The result is 2. The four numbers after it are moved without being tested.
 pub fn extracted_first<A: Allocator, G: Growth>(list: &mut ThinVec<u32, A, G>) -> Option<u32>
     requires to_six { list.old.items ≡ 1 ∷ 2 ∷ 3 ∷ 4 ∷ 5 ∷ 6 ∷ [] }
     ensures value { result ≡ Some 2 }

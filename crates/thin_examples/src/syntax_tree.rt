@@ -16,7 +16,7 @@ pub struct Node {
 
 #[tactic(auto, using(crate::proofs::TreeLemmas::node_count_is))]
 impl Node {
-    /// Makes a node without children. The empty list of the children has no allocation, so no
+    /// Makes a node without children. Its list of children is empty and has no allocation, so no
     /// memory is requested.
     pub fn leaf(alloc: Global, kind: u32) -> Node
         ensures kind { kind_of result ≡ kind }

@@ -26,9 +26,13 @@ impl Call {
     ghost use Rattle.std.specs.Prelude.{◌≡◌, IfOk, IfSome};
     ghost use Rattle.thin_replay.specs.Lines.{IsCall};
 
-    /// Parses the words of a line as a command, with its judge if it uses one. Returns `None` if
-    /// the words do not have the form of a command. Fails if one of the words is invalid or memory
-    /// runs out.
+    /// Parses the words of a line as a command. If the command uses a judge, the words also specify
+    /// the judge, which is a value that makes decisions about items. Returns `None` if the words do
+    /// not have the form of a command.
+    ///
+    /// # Errors
+    ///
+    /// Fails if one of the words is invalid, or if there is not enough memory.
     pub fn parse(alloc: Global, words: &[&str]) -> Result<Option<Call>, LineError>
         ensures says { IfOk result (λ found. IfSome found (IsCall words.now)) }
     {

@@ -10,7 +10,7 @@ use std::alloc::Global;
 pub enum Line {
     /// The line `help`. It makes the program print the forms that a line can have.
     Help,
-    /// The line `new`. It makes the program drop the list and make a new list.
+    /// The line `new`: the program drops the list and starts a new one.
     New,
     /// Any other line. Such a line describes a command.
     Carry(Call),

@@ -21,8 +21,8 @@ pub enum LineError {
     /// The divisor of a judge is 0.
     #[error("DIVISOR is 0")]
     ZeroDivisor,
-    /// The word for the steps is invalid: it is not `-`, and it contains a letter other than `f`
-    /// and `b`.
+    /// The word STEPS is invalid: it is not `-`, and it contains a character other than `f` and
+    /// `b`.
     #[error("STEPS is neither `-` nor a word of the letters `f` and `b`")]
     BadSteps,
     /// There is not enough memory for the parsed line.

@@ -22,9 +22,10 @@ module _ (V A : RattleType) (allocator : AllocatorGhosts A.Denot) where
   LendsIfThere row column r = LendsIf (the_row V A allocator) V row r
       (insert row.now column) row.now
 
-  -- `LendsValue table i column r` says that `r` is a `&mut` to the value in row `i` of `table` at
-  -- `column`, or `None` if there is no such value. It also says that, after the borrow has ended,
-  -- this value is the final value of the reference, and nothing else in the table has changed.
+  -- `LendsValue table i column r` says that `r` is a mutable reference to the value of `table` at
+  -- row `i` and column `column`, or `None` if there is no such value. It also says that, after the
+  -- borrow has ended, the table contains the final value of the reference at this place, and is
+  -- otherwise unchanged.
   abbrev pub LendsValue : MutBor (Table V.Denot) → ℕ → ℕ → Option (MutBor V.Denot) → Fml
   LendsValue table i column r = LendsIf (table_row V A allocator) V table r
       (with_value table.now i column) table.now

@@ -67,8 +67,9 @@ module _ {T A : Type 0} where
   same-amortised : (m : ℕ) (v w : Thin T A) → IsAmortised m v → w ≡ v → IsAmortised (m + 0) w
   same-amortised m v w a same = let e : m + 0 ≡ m = omega arith in rw (same, e) a
 
--- Suppose that a list has the capacity `c` and the cost `k`. Growing the list has copied `k.grown`
--- items. If the list is cheap (`IsCheapAt c k`), and `c ≤ m`, then `k.grown + c < 2 * (m + 1)`.
+-- Suppose that a list has the capacity `c` and the cost `k`, where `k.grown` is the number of items
+-- that were copied when the list grew. If the list is cheap (`IsCheapAt c k`) and `c ≤ m`, then
+-- `k.grown + c < 2 * (m + 1)`.
 copied-growing : (c m : ℕ) (k : Cost) → IsCheapAt c k → c ≤ m → k.grown + c < 2 * (m + 1)
 copied-growing zero m k h few = let z = h.none refl in omega (arith, z.1)
 copied-growing (suc c) m k h few =

@@ -108,8 +108,8 @@ module _ {F T A J : Type 0} (g : Mut F (MutBor T × Unit {0}) (ℕ × (MutBor T 
     (judge_of : F → J) (key : J → T → ℕ × T × J)
     (told : (f : F) (x : T) (k : ℕ) (f' : F) (x' : T) → CalledAtMut g f x k f' x'
     → (k, x', judge_of f') ≡ key (judge_of f) x) where
-  -- If `dedup_by_key` turns the list `v` into `w`, and its closure asks a judge for the keys, then
-  -- `w` contains exactly the items of `v` that the judge keeps.
+  -- If `dedup_by_key` turns the list `v` into `w`, and its closure gets the keys from a judge, then
+  -- `w` contains exactly the items of `v` that are kept according to these keys.
   pub deduped-by-keys : (f : F) (v w : Thin T A)
       → IsDedupedBy (ComparesKeys g (λ a b. a == b)) f v w → w.capacity ≡ v.capacity
       → w.alloc ≡ v.alloc → w ≡ sifted v (asked_pairs (same_key key) (judge_of f) v.items)
@@ -172,8 +172,8 @@ module _ {T J : Type 0} where
       → length (left_at true (asked ask j xs)) ≤ length xs
   few-asked ask j xs = omega (arith, few-left (asked ask j xs), asked-length ask j xs)
 
-  -- If a judge in the state `j` compares each item of `xs` with the last kept item, at first `k`,
-  -- then it gives exactly `length xs` verdicts.
+  -- Suppose that a judge in the state `j` compares each item of `xs` with the last kept item, which
+  -- is `k` at the start. Then it gives exactly `length xs` verdicts.
   last-length : (same : J → T → T → Bool × T × T × J) (j : J) (k : T) (xs : List T)
       → length (asked_last same j k xs).1 ≡ length xs
   last-length same j k [] = refl
@@ -187,8 +187,8 @@ module _ {T J : Type 0} where
   pairs-length same j [] = refl
   pairs-length same j (x ∷ xs) = ap suc (last-length same j x xs)
 
-  -- If the first item of `xs` is kept, and each later item is compared with the last item kept
-  -- before it, then at most `length xs` items are kept.
+  -- Suppose that the first item of `xs` is kept, and that each later item is kept or removed after
+  -- a comparison (`same`) with the last kept item. Then at most `length xs` items are kept.
   pub few-pairs : (same : J → T → T → Bool × T × T × J) (j : J) (xs : List T)
       → length (left_at true (asked_pairs same j xs)) ≤ length xs
   few-pairs same j xs = omega (arith, few-left (asked_pairs same j xs), pairs-length same j xs)
@@ -201,8 +201,10 @@ module _ {T J : Type 0} (E : T → T → Bool) (j : J) where
   abbrev pub tells : J → T → T → Bool × T × T × J
   tells j later kept = (E later kept, later, kept, j)
 
-  -- `dedup_from E k xs` is the item `k`, followed by the items of `xs` that a judge keeps if it
-  -- compares items with the equality test `E`. `unlike_from E k xs` says which items these are.
+  -- `asked_last tells j k xs` is the result if a judge compares the items `xs`, which follow the
+  -- kept item `k`, with the equality test `E`. The lemma says that exactly the items
+  -- `dedup_from E k xs` are kept, and that `unlike_from E k xs` says which of the items `xs` these
+  -- are.
   dedup-last : (k : T) (xs : List T) → Leaves (unlike_from E k xs) (dedup_from E k xs)
       (asked_last tells j k xs)
   dedup-last k [] = (refl, refl)

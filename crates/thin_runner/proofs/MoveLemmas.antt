@@ -64,8 +64,9 @@ module _ {T A : Type 0} (v w : Thin T A) where
           few,
         )
 
-    -- If a splice of the range `a..b` with an iterator over the items `xs` fails, then it adds at
-    -- most `length xs` moves, plus at most two moves for each item after the range.
+    -- If a splice that replaces the range `a..b` with the items `xs` of an iterator fails, then it
+    -- adds at most `length xs` moves to the cost, plus at most two moves for each item after the
+    -- range.
     stopped-moves : (xs held : List T) (lower : ℕ) (cause : ThinVecError) (in_hand : Option T)
         (rest : Hinted T A) → StopsBetween rule R v a b xs held lower cause in_hand rest w
         → w.cost.moves ≤ v.cost.moves + (2 * (length v.items - b) + length xs)

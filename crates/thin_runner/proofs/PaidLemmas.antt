@@ -113,9 +113,9 @@ module _ {T A J : Type 0} (here : Setting T A J) (law : KeepsLaw here.rule) (v w
         ];
       }
 
-  -- Suppose that a call fails with `cause` and turns the list `v` into `w`. The call needs room for
-  -- `n` more items, and clones the items `sources`. If the items of `v` fit into its capacity, then
-  -- the cost bound `IsPaid v w` holds.
+  -- Suppose that a call that needs room for `n` more items and clones the items `sources` fails
+  -- with `cause`, and turns the list `v` into `w`. If the items of `v` fit into the capacity of
+  -- `v`, then the cost bound `IsPaid v w` holds.
   refused-paid : (n : ℕ) (sources : List T) (cause : ThinVecError)
       → RefusesClone here v n sources cause w → IsPaid v w
   refused-paid n sources cause r = stopped r.2

@@ -93,7 +93,7 @@ module _ {T A G J : Type 0} (here : Setting T A J) where
   abbrev pub reply_to : List T → Command T A G → Seen T A G
   reply_to xs command = (plain_step xs command).0
 
-  -- `items_after xs command` is the list of the items after a command that runs on a list with the
-  -- items `xs` and does not fail.
+  -- `items_after xs command` is the list of the items after `command` has run, without failing, on
+  -- a list with the items `xs`.
   abbrev pub items_after : List T → Command T A G → List T
   items_after xs command = (plain_step xs command).1

@@ -12,9 +12,8 @@ use std::alloc::{AllocError, Global};
 use std::io::Write;
 pub use thin::Thin;
 
-/// A kind of list: either `ThinVec`, or the `Vec` of Rattle's library. Each associated type is a
-/// list of this kind. For example, `Numbers` is a list of `u64`. The only exception is `Cells`,
-/// which is a table.
+/// A kind of list: either `ThinVec`, or the `Vec` of Rattle's library. Every associated type except
+/// `Cells` is a list of this kind. For example, `Numbers` is a list of `u64`. `Cells` is a table.
 pub trait Family {
     type Numbers: Numbers;
 

@@ -20,8 +20,8 @@ use crate::workloads::tables::run_tables;
 use std::alloc::Global;
 
 /// Runs `workload` on lists of the kind `F`, and returns the sum that the workload computes. The
-/// workload does its work `times` times. The meaning of `size` depends on the workload. For
-/// example, it is the number of items of a list, or the depth of a tree.
+/// work is repeated `times` times. The meaning of `size` depends on the workload: it may be, for
+/// example, the number of items of a list or the depth of a tree.
 ///
 /// # Errors
 ///

@@ -69,8 +69,8 @@ impl<B: Allocator> Refusing<B> {
         self.counts.refused.set(refused);
     }
 
-    /// Returns the number of requests since the allocator was created or since the last call to
-    /// `refuse`. A refused request counts, too.
+    /// Returns the number of requests since the last call to `refuse`, or since the allocator was
+    /// created if `refuse` has not been called. Refused requests count, too.
     pub fn requests(&self) -> u64 {
         self.counts.requests.get()
     }

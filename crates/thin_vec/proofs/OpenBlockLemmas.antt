@@ -507,8 +507,8 @@ module _ {T A : Type 0} where
     count-all : length (items_of (open_of h)) ≡ h.front_end + length all-after
     count-all = omega (arith, length-append (open_of h).front all-after, o.front)
 
-    -- If there is no gap before the tail items, then moving the middle and tail items directly
-    -- after the front items leaves all items in the first slots of the block.
+    -- If there is no gap before the tail items, then moving the middle items and the tail items to
+    -- the slots directly after the front items puts all items into the first slots of the block.
     pub close-row : (open_of h).gap_after ≡ 0
         → moved h.rest_start h.front_end (h.len - h.rest_start) h.block.slots ≡ front
         (items_of (open_of h)) (length h.block.slots)

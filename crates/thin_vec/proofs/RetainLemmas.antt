@@ -209,8 +209,8 @@ module _ {S T : Type 0} (R : S → T → Bool → S → T → Type 0) where
               (sym (append_assoc h.left (a.left ∷ []) a.after));
         }
 
-    -- If the items `k..m` were kept, and the closure decides to remove the item at index `m`, then
-    -- `AskedUpTo` holds: the tests stopped at index `m`.
+    -- If the closure keeps the items at the indices `k..m` and removes the item at index `m`, then
+    -- the tests stop at index `m`, as `AskedUpTo` states.
     pub stays-goes : (u : S) (zs : List T) → IsAskedAt R m t ys false u zs
         → AskedUpTo R k m s xs u zs
     stays-goes u zs a =
@@ -263,8 +263,8 @@ module _ {S T : Type 0} (R : S → T → Bool → S → T → Type 0) where
         length-append h.before (h.left ∷ h.after),
       )
 
-  -- If a closure tested and kept all items of `xs`, then the list `ys` of the items after the tests
-  -- has the same length as `xs`.
+  -- Suppose that a closure has tested and kept all items of `xs`. Then `ys`, the list of these
+  -- items as the tests left them, has the same length as `xs`.
   stay-count : (xs : List T) (s t : S) (ys : List T) → Asked R s xs (stay ys) t
       → length xs ≡ length ys
   stay-count [] s t [] h = refl

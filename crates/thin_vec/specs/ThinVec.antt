@@ -92,9 +92,9 @@ module _ {T A : Type 0} where
   abbrev pub cost_shrunk : Thin T A → Cost
   cost_shrunk v = cost_shrunk_to v (length v.items)
 
--- `IsCause named cause` holds if the error `cause` is not `CapacityOverflow`, or if `named` is
--- `None`. Here, `named` is the capacity that the failed call needed. If this capacity is too large,
--- `named` is `None`.
+-- `named` is the capacity that a failed call needed, or `None` if that capacity is too large.
+-- `IsCause named cause` states that the error `cause` can be `CapacityOverflow` only if `named` is
+-- `None`.
 abbrev pub IsCause : Option ℕ → ThinVecError → Type 0
 IsCause named cause = cause ≡ CapacityOverflow → named ≡ None
 

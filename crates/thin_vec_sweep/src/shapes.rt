@@ -33,8 +33,8 @@ const MANY: [usize; 2] = [1, 300];
 
 const MOST: [usize; 2] = [1, 100_000];
 
-/// For each `k` from 0 to 6, the number of test cases of a call that acts on `k` items, which are a
-/// whole list or a range.
+/// Numbers of test cases. The entry at index `k`, for `k` from 0 to 6, is the number of test cases
+/// of a call that acts on `k` items. These items are either a whole list or a range of a list.
 pub type Cases = [usize; 7];
 
 // The number of ranges that are tried on a list of more than 6 items.
@@ -119,7 +119,8 @@ impl Shape {
         }
     }
 
-    /// Returns one of the indices that a test tries. `number` selects the index.
+    /// Returns one of the indices at which a test tries a call on a list of this shape. `number`
+    /// selects one of them.
     pub fn index(self, number: usize) -> usize {
         if self.is_small() {
             return number;

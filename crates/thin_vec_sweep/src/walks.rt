@@ -74,8 +74,8 @@ pub fn some_steps(count: usize, number: usize) -> usize {
     }
 }
 
-/// The items that remain after some steps over an iterator, represented by the range of their
-/// indices. Each step takes an item from the front or from the back.
+/// The range of the indices of the items that an iterator has not yielded yet. Each step takes one
+/// item from the front or from the back.
 #[derive(Drop)]
 pub struct Remaining {
     start: usize,

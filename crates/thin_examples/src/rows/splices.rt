@@ -135,8 +135,8 @@ fn check_spliced<A: Allocator + Copy>(
     Ok(list)
 }
 
-// Checks a second `splice` of `list`, which is the list that `check_spliced` has returned. The
-// second `splice` yields an item that the `splice` in `check_spliced` has inserted.
+// Checks a second `splice` of `list`, the list that `check_spliced` returned. The second `splice`
+// yields an item that the first one, in `check_spliced`, inserted.
 fn check_spliced_again<A: Allocator + Copy>(
     checks: &mut Checks,
     alloc: A,

@@ -31,8 +31,8 @@ fn needs_sync<X: Sync>(value: &X) -> &X
     value
 }
 
-// Passes a list to `needs_send`, and returns the list. The compiler accepts this for all item
-// types, allocators and growth rules with the bound `Send`.
+// Passes a list to `needs_send`, and returns the list. The compiler accepts this whenever the item
+// type, the allocator and the growth rule are all `Send`.
 fn send_list<T: Send, A: Allocator + Send, G: Growth + Send>(
     list: ThinVec<T, A, G>,
 ) -> ThinVec<T, A, G>
@@ -42,7 +42,7 @@ fn send_list<T: Send, A: Allocator + Send, G: Growth + Send>(
 }
 
 // Passes a reference to a list to `needs_sync`, and returns the reference. The compiler accepts
-// this for all item types, allocators and growth rules with the bound `Sync`.
+// this whenever the item type, the allocator and the growth rule are all `Sync`.
 fn share_list<T: Sync, A: Allocator + Sync, G: Growth + Sync>(
     list: &ThinVec<T, A, G>,
 ) -> &ThinVec<T, A, G>

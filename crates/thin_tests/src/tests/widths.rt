@@ -7,8 +7,8 @@ use std::mem::size_of;
 use thin_block::Block;
 use thin_vec::{Growth, ThinVec};
 
-/// Returns three sizes in bytes: of a `Block` (the pointer inside a list), of a list, and of a
-/// `Vec`. The list and the vector use the global allocator.
+/// Returns the sizes in bytes of a `Block` (the pointer inside a list), of a list and of a `Vec`.
+/// The block uses the allocator `A`. The list and the vector use the global allocator.
 pub fn widths<T, A: Allocator, G: Growth>() -> (usize, usize, usize)
     ensures block { result.0 ≡ 8 }
     ensures list { result.1 ≡ 8 }

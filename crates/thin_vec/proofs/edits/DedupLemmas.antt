@@ -80,8 +80,8 @@ module _ {S T : Type 0} (R : OnPairs S T) where
       by-answer h.0 _ _ (0 < length ys) (λ m. last-some xs h.3 t h.2 h.4 ys m)
       (λ m. omega (arith, ap length m.2)) h.7
 
-  -- If the item `x` is tested against the kept item `k` and is removed, then only `k` is kept. The
-  -- test left `k` as `k'`.
+  -- Suppose that the item `x` is tested against the kept item `k`, and that the test changes `k` to
+  -- `k'`. If `x` is removed, then `k'` is the only item that is kept.
   pub last-goes : (s t : S) (k x x' k' : T) → R s x k true t x' k'
       → AskedLast R s k (x ∷ []) (false ∷ []) (k' ∷ []) t
   last-goes s t k x x' k' h = (true, x', k', t, [], h, refl, (refl, refl, refl))
@@ -344,8 +344,9 @@ module _ {S T : Type 0} (R : OnPairs S T) where
             now = now;
           }
 
-    -- If the first middle item `x` of the open block `v` was tested and removed, then `Dedups` (the
-    -- effect of tests for duplicates) relates `v` to the new open block `w`.
+    -- `Dedups` relates an open block before tests for duplicates to the open block after them. If
+    -- the first middle item `x` of the open block `v` was tested and removed, which turned `v` into
+    -- `w`, then `Dedups` relates `v` to `w`.
     pub dedups-goes : {s t : S} (x y : T) (front : List T)
         → IsLastAsked R s x v.front true t y front → v.rest ≡ x ∷ w.rest → 0 < w.gap
         → Moved front v.cost → Dedups R s v t w

@@ -32,9 +32,9 @@ module _ {T A : Type 0} where
 
 module _ {S T A : Type 0} (steps : S → Option T → S → Type 0) (can : S → Type 0)
     (remaining : S → Count) where
-  -- `FillsGap v a s w f` holds if the iterator `s` filled the gap of the open block `v` or ended,
-  -- and closing `v` gave the list `w` with the allocator `a`. `f` contains the rest of the
-  -- iterator.
+  -- `FillsGap v a s w f` holds if items of the iterator `s` were put into the gap of the open block
+  -- `v` until the gap was full or the iterator ended, and closing `v` then gave the list `w`, whose
+  -- allocator is `a`. The value `f` contains the rest of the iterator.
   abbrev pub FillsGap : Open T A → A → S → Thin T A → Filled S → Type 0
   FillsGap v a s w f =
       (by : IsFilledBy steps can remaining v.gap s f) × IsClosedWith v by.items a w

@@ -220,7 +220,7 @@ module _ {S X A : Type 0} (steps : S → Option X → S → Type 0) (can : S →
 
 -- The lemmas in this module are about a call to `finish` that failed with `error`. `rule` is the
 -- growth rule, `R` is the type of the items, and `v` is the list after the call. `tail` contains
--- the items after the replaced range. The iterator may still yield at most `left` items.
+-- the items after the replaced range. After the call, the iterator can yield at most `left` items.
 module _ {S T A : Type 0} (rule : Rule) (R : RattleType) (v : Thin T A) (tail : List T)
     (left : Count) (error : SpliceRefused T S A) where
   -- `IsStopCause` states why `finish` failed with `error`. It holds if there are items after the

@@ -75,10 +75,10 @@ module _ {S X : Type 0} (steps : S → Option X → S → Type 0) (s : S) where
   run_given xs o t P gave h =
       (run steps s (xs ++ option_to_list o) false (t, gave, λ e. absurd (false≢true e)), refl, h)
 
-  -- Suppose that a call failed with the error `e`. Suppose also that calls to `next` yielded items
-  -- that satisfy `P`, and then the item in `hand e`, if there is one. Then `SomeRun` holds: these
-  -- calls form a run of the iterator, which may be incomplete. If the call did not fail, nothing is
-  -- claimed.
+  -- Suppose that a call that consumes an iterator failed with the error `e`. Suppose also that the
+  -- calls to `next` yielded a list of items that satisfies `P`, and then the item in `hand e`, if
+  -- there is one. Then `SomeRun` holds: the calls to `next` form a run of the iterator, which may
+  -- be incomplete. If the consuming call did not fail, nothing is claimed.
   --
   -- The parameter `can` says when `next` may be called again, and `remaining` bounds the number of
   -- items that the iterator may still yield.
@@ -105,8 +105,8 @@ match-some P Q None some p = absurd (false≢true some)
 pub hand-empty : {X : Type 0} {o : Option X} → IsSome o → o ≡ None → ⊥
 hand-empty some none = false≢true (subst IsSome none some)
 
--- Suppose that the result `r` is an error whose field `in_hand` is `Some`. If the statement `P`
--- holds, then `MatchOption error.in_hand (Q error) (λ _. P)` holds, where `Q error` is the case for
+-- Suppose that the result `r` is `Err error`, and that `error.in_hand` is `Some`. If `P` holds,
+-- then `MatchOption error.in_hand (Q error) (λ _. P)` holds, because `Q error` is needed only for
 -- `None`.
 pub full-in-hand : {T S : Type 0} (P : Type 0) (Q : ExtendRefused T S → Type 0)
     (r : Result (Unit {0}) (ExtendRefused T S)) → IfErr r (λ error. IsSome error.in_hand)
@@ -117,9 +117,9 @@ full-in-hand P Q (Err error) some at_capacity =
 
 module _ {T : Type 0} where
   module _ (s s' r : List (Option T)) where
-    -- Suppose that the items `xs` are written into the slots from index `i` onward, and that the
-    -- item `x` is then written into slot `k`, the slot directly after them. Then the slots from
-    -- index `i` onward hold `xs ++ x ∷ []`, and all other slots are unchanged.
+    -- Suppose that the items `xs` are written into adjacent slots, starting at index `i`, and that
+    -- the item `x` is then written into slot `k`, directly after them. Then the slots `i` to `k`
+    -- hold `xs ++ x ∷ []`, and all other slots are unchanged.
     pub laid-more : (i k : ℕ) (xs : List T) (x : T) → s ≡ laid i (full xs) r → k ≡ i + length xs
         → k < length r → s' ≡ set s k (Some x) → s' ≡ laid i (full (xs ++ x ∷ [])) r
     laid-more i k xs x e at within e' =

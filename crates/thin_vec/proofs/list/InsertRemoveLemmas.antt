@@ -130,8 +130,8 @@ module _ {T A : Type 0} {b : Block T A} {a : A} (t : IsThin b a) where
       (omega (arith, len, t.packed.len, length-insert xs i v h))
       (omega (arith, o, t.packed.len, length-insert xs i v h))
 
-  -- If the block `b` has an empty slot after its last item, then moving the items from index `i`
-  -- onward up by one slot makes slot `i` empty.
+  -- If the block `b` has an empty slot after its last item, then moving each item whose index is at
+  -- least `i` up by one slot makes slot `i` empty.
   pub thin-gap : (i : ℕ) {j k : ℕ} → i ≤ length (items_in b.slots) → b.len < length b.slots
       → j ≡ i + 1 → k ≡ b.len - i → slot (moved i j k b.slots) i ≡ None
   thin-gap i {j} {k} h o e n =

@@ -12,8 +12,8 @@ use Rattle.thin_vec.specs.Cheap.{IsCheap}
 use Rattle.thin_vec.specs.List.Capacity.{Keeps, Reserves, TellsOverflow, TellsOverflowOf}
 use Rattle.thin_vec.specs.ThinVec.{HasRoomFor, IsWithin, Thin, capacity_for}
 
--- `TellsOverflow named r` states that the result `r` is `CapacityOverflow` if and only if `named`,
--- the capacity that the call needs, is `None`. It holds if `r` is `Ok x` and `named` is `Some n`.
+-- `TellsOverflow named r` states that the result `r` is the error `CapacityOverflow` if and only if
+-- `named` is `None`. This lemma proves it if `r` is `Ok x` and `named` is `Some n`.
 pub tells-ok : {X : Type 0} (x : X) (named : Option ℕ) (n : ℕ) → named ≡ Some n
     → TellsOverflow named (Ok x)
 tells-ok x named n is = record {

@@ -70,8 +70,9 @@ module _ {T A G : Type 0} {g : Ghosts G} {h : HoldsGhosts (Holder (Open T A)) (O
   DrainKeepsAlong first = (items : List T) (later : Drain T A G (Holder (Open T A)) g h)
       → Yields DrainSteps first items later → DrainKeeps first later
 
-  -- `DrainsInOrder d` states that, for every `Drain` of the same type as `d`, calls to `next` yield
-  -- the remaining items of the range (`drain_rest`) in order.
+  -- `DrainsInOrder d` states that calls to `next` yield the remaining items of the range
+  -- (`drain_rest`) in order. It states this for every `Drain` of the type of `d`. The value `d`
+  -- only names this type.
   abbrev pub DrainsInOrder : Drain T A G (Holder (Open T A)) g h → Type 0
   DrainsInOrder d = YieldsInOrder DrainSteps drain_rest
 

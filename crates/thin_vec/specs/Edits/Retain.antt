@@ -66,7 +66,8 @@ module _ {S T : Type 0} (R : S → T → Bool → S → T → Type 0) where
   abbrev pub IsRetained : {A : Type 0} → S → Thin T A → Thin T A → Type 0
   IsRetained s v w = (t : S) × IsRetainedTo s v w t
 
--- `Looks R` describes a test that does not change the tested item. A call with the item `x` returns
--- `b`, and changes the state of the test from `s` to `t` (`R s x b t`).
+-- `R s x b t` describes a test that is called with the item `x`, returns `b`, and changes its state
+-- from `s` to `t`. `Looks R s x b t y` states this, and that the test left the item unchanged
+-- (`y ≡ x`).
 abbrev pub Looks : {S T : Type 0} → (S → T → Bool → S → Type 0) → S → T → Bool → S → T → Type 0
 Looks R s x b t y = R s x b t × (y ≡ x)

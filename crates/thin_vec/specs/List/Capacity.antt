@@ -15,7 +15,7 @@ use Rattle.thin_vec.specs.Cheap.{IsCheap}
 use Rattle.thin_vec.specs.ThinVec.{Thin, HasRoomFor, IsWithin, capacity_for, cost_at}
 use Rattle.thin_vec.specs.declared.errors.Rejected.{Rejected}
 
--- `causes r` is the result `r`, where an error is replaced with its cause. In Rust, this is
+-- `causes r` is `r`, with the error, if there is one, replaced by its cause. In Rust, this is
 -- `r.map_err(|error| error.cause)`.
 abbrev pub causes : {X T : Type 0} → Result X (Rejected T) → Result X ThinVecError
 causes (Ok x) = Ok x

@@ -179,10 +179,9 @@ impl<T: Drop, A: Allocator, G: Growth> ThinVec<T, A, G> {
         self.close(block);
     }
 
-    // Drops the items `start..end`, and moves the last `count` items of the list into the slots of
-    // this range. If `count` is less than the length of the range, some of these slots stay empty.
-    // In this case, the items between the range and the last `count` items are moved down, so that
-    // no empty slot is left between two items.
+    // Drops the items `start..end`, and moves the last `count` items of the list into the first
+    // slots of this range. `count` is at most the length of the range. If it is less, the items
+    // after the range, except those that were moved, are moved down to close the gap.
     fn replace_by_last(&mut self, start: usize, end: usize, count: usize)
         requires start_le_end { start ≤ end }
         requires few { count ≤ end - start }

@@ -13,8 +13,8 @@ use std::process::Abort;
 use thin_testing::Ruled;
 use thin_vec::{Drain, Growth, ThinVec, bounds};
 
-/// A test that calls `drain` on several ranges, takes some items from both ends of the `Drain`, and
-/// then drops the `Drain`.
+/// A test that calls `drain` with several ranges. Each time, it takes some items from both ends of
+/// the `Drain`, and then drops the `Drain`.
 pub struct Drained {}
 
 impl<T: Sample, G: Ruled> Call<T, G> for Drained {
@@ -45,8 +45,8 @@ fn outside<R: Abort>(rt: &R, global: Global, range: Ranged, length: usize) -> Ve
     left
 }
 
-// Calls `drain` on `range`, takes some items from the `Drain`, checks the remaining items, and
-// drops the `Drain`.
+// Drains `range` of the list: takes some items from the `Drain`, checks the items that are left in
+// the `Drain`, and drops the `Drain`.
 fn drain<T: Sample, A: Allocator, G: Growth, R: Abort>(
     rt: &R,
     at: &At,
@@ -227,8 +227,8 @@ fn extract<T: Sample, A: Allocator, G: Growth, R: Abort>(
 // numbers `n`.
 const BOUNDS: usize = 19;
 
-/// A test that calls `bounds` with every pair of 19 bounds: `Unbounded`, and inclusive and
-/// exclusive bounds at nine small or very large numbers.
+/// A test that calls `bounds` with every pair of 19 bounds. These are `Unbounded`, and an inclusive
+/// and an exclusive bound at each of nine numbers, which are small or very large.
 pub struct Bounds {}
 
 impl<T: Sample, G: Ruled> Call<T, G> for Bounds {

@@ -21,8 +21,8 @@ use thin_vec::{Growth, Splice, SpliceRefused, ThinVec};
 // The number of size hints that are tried.
 const HINTS: usize = 5;
 
-// The number of pairs of a size hint (5 choices) and a number of new items (0 to 5). All pairs are
-// tried on lists of at most 6 items.
+// The number of ways to choose a size hint (5 choices) and a number of new items (0 to 5, so 6
+// choices). On lists of at most 6 items, all of them are tried.
 const FILLS: usize = 30;
 
 // The number of sequences of at most one call: no call, one call to `next`, and one call to

@@ -106,8 +106,8 @@ impl<T: Drop, A: Allocator + Copy> Shown<T, A> {
         }
     }
 
-    /// Returns the parts of a reply that contains items and a number, such as the capacity of a
-    /// list.
+    /// Takes apart a reply that contains items and a number. If the reply contains a list, the
+    /// number is the capacity of the list.
     pub fn with_items(
         form: Form,
         cause: Option<ThinVecError>,

@@ -246,8 +246,8 @@ module _ (g : Former {0}) (Z : Type 0) where
     get-map = got-map;
   }
 
--- `the_weighed` adds depths to the type former of blocks. The depth of a block is the depth of its
--- deepest item, or 0 if the block contains no items.
+-- `the_weighed` is the type former of blocks, with a depth for each block: the depth of its deepest
+-- item, or 0 if the block contains no items.
 abbrev pub the_weighed : {g : Former {0}} → Weighed g → (Z : Type 0) → Weighed (the_former g Z)
 the_weighed w Z = record {
   weight = λ X μ d. most (slot_weight w X μ) d.slots;

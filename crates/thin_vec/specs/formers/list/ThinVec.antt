@@ -40,8 +40,9 @@ the_former g Z Q =
     (λ X p. record { items = p.0; capacity = p.1.0; alloc = p.1.1.0; cost = p.1.1.1 })
     (λ X v. refl) (λ X p. refl)
 
--- `the_weighed w Z Q` computes the nesting depth of a list: the depth of its deepest item by `w`,
--- or 0 if the list is empty. The allocator type is `Z`, and the type of the growth rule is `Q`.
+-- `the_weighed w Z Q` computes the nesting depth of a list: the greatest depth that `w` computes
+-- for an item, or 0 if the list is empty. `Z` is the type of the allocator, and `Q` is the type of
+-- the growth rule.
 abbrev pub the_weighed : {g : Former {0}} → Weighed g → (Z Q : Type 0) → Weighed (the_former g Z Q)
 the_weighed w Z Q =
     record {

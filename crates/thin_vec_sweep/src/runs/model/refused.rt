@@ -1,5 +1,5 @@
-//! Specifies what a command does if one of its allocation requests is refused: the items and the
-//! capacity of the list, and the reply.
+//! Specifies the effect of a command if one of its allocation requests is refused: the items and
+//! the capacity of the list afterwards, and the reply.
 use super::Model;
 use crate::runs::orders::{Kind, Order};
 use crate::runs::samples::{Numbered, samples};

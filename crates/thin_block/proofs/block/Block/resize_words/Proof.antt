@@ -232,10 +232,11 @@ resize_words_spec 𝓤 𝓛 𝓜 𝓡 wired T A m k LT LA fits_m fits_k g d dd m
     (words_in 𝓛 T LT m k b hd items count j v w old (o + 16) whole_words slots_are fill
     (hd.counts.covers old)) $ split ! $ move ! (4 ∷ []) $ fsplit ! $ fsplit ! $ drop ! $
     keep ! (2 ∷ 3 ∷ 4 ∷ 5 ∷ 0 ∷ 9 ∷ 10 ∷ 6 ∷ 7 ∷ 8 ∷ []) $
-    -- The proof has split the slots into two parts: the items, and empty words. An empty word is
-    -- uninitialized memory for one word. The proof context now holds, in this order: the items; the
-    -- empty words; memory for the header; the right to free the block; the shared reference to the
-    -- allocator; the lifetime tokens of this reference and of `T`, `A`, `M` and `K`.
+    -- The proof has split the slots into the items and the empty slots. The memory of the empty
+    -- slots is now treated as empty words: uninitialized memory for whole words. The proof context
+    -- now holds, in this order: the items; the empty words; memory for the header; the right to
+    -- free the block; the shared reference to the allocator; the lifetime tokens of this reference
+    -- and of `T`, `A`, `M` and `K`.
     regoal ! (λ (us : List Val). prop (WpFn 𝓤 H C Λ fn us Post))
     (λ i. told i ++ (are.1.0.0 i ++ (are.1.1.0.0 i ++ (are.1.1.1.0.0 i ++ (are.1.1.1.1.0.0 i
     ++ (are.1.1.1.1.1.0.0 i ++ (are.1.1.1.1.1.1.0.0 i ++ (are.1.1.1.1.1.1.1.0.0 i ++ []))))))))
@@ -319,11 +320,10 @@ resize_words_spec 𝓤 𝓛 𝓜 𝓡 wired T A m k LT LA fits_m fits_k g d dd m
     use1 𝓛 (‵ (places Rw (full xs) b (o + 16)) ⊛ ‵ (part_at (Array Rw k) full_share ys b there) ⊛ ‵
     (places Rw (empty v) b (k * s + there))) (turn_out 𝓛 W b k sixteen o xs ys long count v parted)
     $ split3 ! $ move ! (3 ∷ []) $ split3 ! $ move ! (2 ∷ []) $ drop ! $
-    -- The last `k` words have been separated from the words before them. The proof context now
-    -- holds, in this order: the lifetime tokens of `T` and `M`; the words before the last `k`
-    -- words; the last `k` words; the empty words; memory for the header; the right to free the
-    -- block; the shared reference to the allocator and its lifetime token; the lifetime tokens of
-    -- `A` and `K`.
+    -- The last `k` words have been separated from the earlier words. The proof context now holds,
+    -- in this order: the lifetime tokens of `T` and `M`; the earlier words; the last `k` words; the
+    -- empty words; memory for the header; the right to free the block; the shared reference to the
+    -- allocator and its lifetime token; the lifetime tokens of `A` and `K`.
     move ! (1 ∷ 10 ∷ []) $ join ! $ move ! (9 ∷ 0 ∷ []) $ join ! $
     move ! (3 ∷ 2 ∷ 4 ∷ 5 ∷ 6 ∷ 7 ∷ 8 ∷ 1 ∷ 0 ∷ []) $
     -- The proof has reordered the entries of the proof context. The proof context now holds, in
@@ -537,11 +537,12 @@ resize_words_spec 𝓤 𝓛 𝓜 𝓡 wired T A m k LT LA fits_m fits_k g d dd m
     let good' = (((array_at_laws 3 Rw (param_laws 0 W.row W.laws) k).lawful 𝓛).typed ys (u₂ ∷ [])
     is_u₂).0 in
     move ! (1 ∷ []) $
-    -- The call to `resized` has failed, and the proof has split the old array into the last `k`
-    -- words, the preceding words and the empty words. The proof context now holds, in this order:
-    -- the bytes of the last `k` words, in the memory of the header; the resources that the last `k`
-    -- words own; uninitialized memory directly after the preceding words; the empty words; the
-    -- right to free the block; the preceding words; the lifetime tokens.
+    -- The call to `resized` has failed. The proof has split the old array into three parts: the
+    -- words before the last `k` words, the last `k` words, and the empty words. The proof context
+    -- now holds, in this order: the bytes of the last `k` words, in the memory of the header; the
+    -- resources that the last `k` words own; the uninitialized memory directly after the first
+    -- part; the empty words; the right to free the block; the words of the first part; the lifetime
+    -- tokens.
     sets ! (of_opd ! (load ! (through ! refl (stop !)) (look ! 0 refl))) refl good' $
     assigns ! (of_opd ! (get ! refl)) (through ! refl (stop !)) (init ! 2 refl good') $
     use1 𝓛 (‵ (froom (ty_array ω k) b o)) (𝓛.laws.at_room (ty_array ω k) b o u₂) $

@@ -69,11 +69,11 @@ take_replacing_spec 𝓤 𝓛 𝓜 𝓡 wired T A LT LA g d dd met md =
           let p = two_slots E 𝓛 b (o + 16) x.slots i j apart low low' in
           takes_two E ! b (o + 16) x.slots i j p (one.1, two.1) (λ v v' good good'.
           -- The slots `i` and `j` have been separated from the other slots. The proof context now
-          -- holds, in this order: the bytes of the item in slot `j`; the resources that this item
-          -- owns; the bytes of the item in slot `i`; the resources that this item owns; the other
-          -- slots; the header; the block's pointer; the right to close the borrow of the block,
-          -- with the lifetime token of this borrow; two ghost resources that record the value of
-          -- the block; the other lifetime tokens.
+          -- holds, in this order: the bytes of the item in slot `j`, and what this item owns; the
+          -- bytes of the item in slot `i`, and what this item owns; the other slots; the header;
+          -- the block's pointer; the right to close the borrow of the block, with the lifetime
+          -- token of this borrow; two ghost resources that record the value of the block; the other
+          -- lifetime tokens.
           sets ! (of_opd ! (load ! (through ! refl (stop !)) (look ! 2 refl))) refl good $
           sets ! (of_opd ! (load ! (through ! refl (stop !)) (look ! 0 refl))) refl good' $
           assigns ! (of_opd ! (get ! refl)) (through ! refl (stop !)) (store ! 2 refl good') $

@@ -18,8 +18,8 @@ returns-then-test_last-clause-dedups g c =
     c.take_first-later.result c.test_last.new.later c.test_last.new.self.front
     (search rules) (search rules) (search rules) (search rules)
 
--- If the test keeps the last untested item, `dedup_last` appends this item to the kept items. So
--- the clause `dedups` holds.
+-- If the test keeps the last untested item, `dedup_last` appends this item to the kept items, as
+-- the clause `dedups` requires.
 pub returns-clause-dedups : goal.returns-clause-dedups
 returns-clause-dedups g c =
     dedups-stays g.J.PairTest.tests c.args.self.now c.append_to_front.new.self
