@@ -66,8 +66,8 @@ module _ (f : ℕ → ℕ) where
       (is_less (nat_cmp x e.0) (both_hold _ _ below).0)
       ∙ none_found x entries (both_hold _ _ below).1
 
-  -- If the columns in `entries` are increasing and less than `n`, then the sum of `x * f c` over
-  -- all entries `(c, x)` is the sum of `term entries j` over all `j < n`.
+  -- If the columns in `entries` are strictly increasing and less than `n`, then the sum of
+  -- `x * f c` over all entries `(c, x)` is the sum of `term entries j` over all `j < n`.
   entries_sum : (entries : List (ℕ × ℕ)) (n : ℕ) → T (is_sorted nat_cmp entries)
       → ((k : ℕ) → k < length entries → (slice_index_or entries k (0, 0)).0 < n)
       → sum_by (λ e. e.1 * f e.0) entries ≡ sum_below n (term entries)

@@ -98,8 +98,8 @@ module _ {M : Type 1} {𝓤 : Ura M} (𝓛 : Logic 𝓤) (Ev : Env 𝓤 𝓛.H) 
     turned = set 𝓛 p₂ (holds p₂ (vptr b (o + 16))) first
 
     -- `meets p₃ p₄ p pᵢ` lists the context entries for the local variables that the computation of
-    -- a slot's address uses: `p` holds the block's pointer, `pᵢ` the index of the slot, `p₃` an
-    -- intermediate result, and `p₄` the address of the slot.
+    -- a slot's address uses. Among them, `p` holds the block's pointer, `pᵢ` the index of the slot,
+    -- `p₃` an intermediate result, and `p₄` the address of the slot.
     abbrev pub meets : ℕ → ℕ → ℕ → ℕ → List (Item 𝓤)
     meets p₃ p₄ p pᵢ = at 𝓛 p Γ ∷ at 𝓛 p₁ Γ ∷ at 𝓛 p₁ first ∷ at 𝓛 p₂ first
         ∷ goes_by turned E b (o + 16) i p₃ p₄ p₂ pᵢ

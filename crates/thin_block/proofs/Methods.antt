@@ -145,8 +145,8 @@ module _ {M : Type 1} {𝓤 : Ura M} {𝓛 : Logic 𝓤} {K : Type 0} {Γ : List
       (env f.locals l) (after k f.body) (at_ret (env f.locals l) P)
 
 module _ {n : ℕ} (s : Slot (suc n)) (ss : List (Slot (suc n))) where
-  -- `Passed Bd` is the type of all that a function receives: lifetimes that satisfy the bounds
-  -- `Bd`, lifetime tokens, and the arguments with their machine values.
+  -- `Passed Bd` is the type of all that is passed to a function: lifetimes that satisfy the bounds
+  -- `Bd`, shares of lifetime tokens, and the arguments with their machine values.
   abbrev Passed : (Lfts (suc n) → Type 0) → Type 0
   Passed Bd = (κs : Lfts (suc n)) × Shares (suc n) × Bd κs × Denots (types_at (s ∷ ss) κs)
       × Valss (types_at (s ∷ ss) κs)

@@ -37,8 +37,8 @@ module _ (E : El) (Y : Al) {M : Type 1} {𝓤 : Ura M} (𝓛 : Logic 𝓤) (at_m
 
   module _ (κ κT κA : Lft) (q qT qA : Share) (out : κ ⊑ κA) (p : ℕ × ℕ) (a : Y.row.Denot)
       (b o len held wanted : ℕ) (xs : List (el_x E)) where
-    -- `at_resizing` contains the ghost arguments of a call of `resized`: lifetimes, lifetime
-    -- tokens, the arguments with their machine values, and the items `xs`.
+    -- `at_resizing` contains the ghost arguments of a call of `resized`: lifetimes, shares of
+    -- lifetime tokens, the arguments with their machine values, and the items `xs`.
     abbrev pub at_resizing : Resizing.Ghost
     at_resizing = (
       (

@@ -364,15 +364,17 @@ module _ (E : El) {M : Type 1} {𝓤 : Ura M} (𝓛 : Logic 𝓤) (b o : ℕ) (s
   Way up = Moves (memory_before_copy (R E) up (distance up) k (block_ptr b src) (block_ptr b dst)
       xs) (memory_after_copy (R E) up (distance up) k (block_ptr b src) (block_ptr b dst) xs)
 
-  -- `GapAbove up` is about a move of items from the slots `from..from + k` to the slots `to..to +
-  -- k`. If `up` is true, the items are moved up, and `GapAbove up` states that `from ≤ to` and that
-  -- the slots `from + k..to + k` are empty. If `up` is false, `GapAbove up` states nothing.
+  -- `GapAbove up` is about a move of items from the slots `from..from + k` to the slots
+  -- `to..to + k`. If `up` is true, the items are moved up, and `GapAbove up` states that
+  -- `from ≤ to` and that the slots `from + k..to + k` are empty. If `up` is false, `GapAbove up`
+  -- states nothing.
   abbrev pub GapAbove : Bool → Type 0
   GapAbove up = up ≡ true → (from ≤ to) × AreEmpty slots (from + k) (to - from)
 
-  -- `GapBelow up` is about a move of items from the slots `from..from + k` to the slots `to..to +
-  -- k`. If `up` is false, the items are moved down, and `GapBelow up` states that `to ≤ from` and
-  -- that the slots `to..from` are empty. If `up` is true, `GapBelow up` states nothing.
+  -- `GapBelow up` is about a move of items from the slots `from..from + k` to the slots
+  -- `to..to + k`. If `up` is false, the items are moved down, and `GapBelow up` states that
+  -- `to ≤ from` and that the slots `to..from` are empty. If `up` is true, `GapBelow up` states
+  -- nothing.
   abbrev pub GapBelow : Bool → Type 0
   GapBelow up = up ≡ false → (to ≤ from) × AreEmpty slots to (from - to)
 
@@ -391,8 +393,8 @@ module _ (E : El) {M : Type 1} {𝓤 : Ura M} (𝓛 : Logic 𝓤) (b o : ℕ) (s
       slides_down (from - to) (omega arith) source
       (empty-run slots to (from - to) within gap.1)
 
-  -- The new address of the moved items is `distance up` slots above their old address if `up` is
-  -- true, and `distance up` slots below it otherwise.
+  -- If items are moved only through empty slots, then their new address is `distance up` slots
+  -- above their old address if `up` is true, and `distance up` slots below it otherwise.
   pub shifted : (up : Bool) → GapAbove up → GapBelow up → IsShifted (R E) up (distance up)
       (block_ptr b src) (block_ptr b dst)
   shifted true above below = let le : from ≤ to = (above refl).0 in

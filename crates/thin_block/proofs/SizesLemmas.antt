@@ -159,7 +159,7 @@ module _ (s a c : ℕ) (is : IsAlign a) where
       (lt-ltb (block_bytes s a c) (2 ^ 63) whole)
 
   -- If a block for `c` items of size `s` and alignment `a` is small enough to be allocated, then
-  -- `Told s a c` holds: `c` and the block's size are less than `2 ^ 63`.
+  -- `Told s a c` holds: `c` and the block's size are less than `2 ^ 63`, and `Small s a c` holds.
   pub small_tells : is_small s a c ≡ true → Told s a c
   small_tells e =
       let few : c < 2 ^ 63 =

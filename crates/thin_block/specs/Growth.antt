@@ -53,7 +53,8 @@ unfoldable pub least_power : ℕ → ℕ
 least_power n = doubled_to n n 1
 
 -- `power_bytes` is the growth rule `PowerBytes`. It rounds the size of a block up to a power of
--- two, and chooses the greatest capacity for which a block fits into the rounded size.
+-- two, and chooses the greatest capacity for which a block fits into the rounded size. For items of
+-- size 0, the rule is the same as `doubling`.
 unfoldable pub power_bytes : Rule
 power_bytes s a c w = if s == 0 then doubling s a c w else fitting s a
     ((least_power (items_offset a + max w (2 * c) * s) - items_offset a) / s)
@@ -67,12 +68,14 @@ pub record FillsPower (s a c : ℕ) : Type 0 where
   pub is_full : power < items_offset a + (c + 1) * s
 
 -- `ruled_capacity rule R c w` is the capacity of a block for items of the type `R` after reserving
--- room for `w` items under the growth rule `rule`. The old capacity is `c`.
+-- room for `w` items under the growth rule `rule`. The old capacity is `c`. If the new capacity
+-- would be too large, the result is `None`.
 unfoldable pub ruled_capacity : Rule → RattleType → ℕ → ℕ → Option ℕ
 ruled_capacity rule R c w = if nat_le w c then Some c else
     (if nat_lt w (2 ^ 64) then rule (type_size R) (type_align R) c w else None)
 
 -- `exact_capacity R c w` is the capacity of a block for items of the type `R` after reserving room
--- for exactly `w` items. The old capacity is `c`. It is `None` if the block would be too large.
+-- for exactly `w` items. The old capacity is `c`. If the new block would be too large, the result
+-- is `None`.
 unfoldable pub exact_capacity : RattleType → ℕ → ℕ → Option ℕ
 exact_capacity R c w = if nat_le w c then Some c else fitting (type_size R) (type_align R) w

@@ -146,9 +146,9 @@ backing_for t w τ c b o = fsep (way_back w τ c b o) (t (asked_for w τ c) (blo
 abbrev pub backing : (Ty → Ptr → Fml) → RattleType → ℕ → ℕ → ℕ → Fml
 backing t R c b o = backing_for t (words_of R) (bare R) c b o
 
--- `frame t R n c b o` is a block without its slots: the capacity `c`, the length `n`, and the
--- backing, which includes the right `t` to free the block. Items have the type `R`, and the block
--- is at the offset `o` of the allocation `b`.
+-- `frame t R n c b o` is a block without its slots: the capacity `c`, the length `n`, the fact that
+-- the block is small enough to be allocated, and the backing, which includes the right `t` to free
+-- the block. Items have the type `R`, and the block is at the offset `o` of the allocation `b`.
 abbrev pub frame : (Ty → Ptr → Fml) → RattleType → ℕ → ℕ → ℕ → ℕ → Fml
 frame t R n c b o =
     fsep (lies_at usize full_share (block_ptr b o) c)

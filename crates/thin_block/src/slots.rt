@@ -149,8 +149,8 @@ impl<T: Copy, A: Allocator> Block<T, A> {
     }
 }
 
-// Fills `row` with copies of `items`, and returns `row`. At most `FEW` items are copied one by one,
-// which is faster than a call to `Slots::copy_in`.
+// Fills `row` with copies of `items`, and returns `row`. If there are at most `FEW` items, they are
+// copied one by one, which is faster than a call to `Slots::copy_in`.
 fn copied<T: Copy>(mut row: Slots<T>, items: &[T]) -> Slots<T>
     requires room { slots_len row ≡ length items.now }
     ensures cap { SamePlaces row result }

@@ -39,7 +39,7 @@ abbrev pub IsStep : ℕ → Step → Type 0
 IsStep letter Front = letter ≡ 102
 IsStep letter Back = letter ≡ 98
 
--- `SpellsSteps text steps` holds if the text has exactly one letter for each step, in the same
--- order. The text `-` spells the empty list of steps.
+-- `SpellsSteps text steps` holds if the text consists of the letters that denote the steps, in the
+-- same order. The text `-` spells the empty list of steps.
 abbrev pub SpellsSteps : List ℕ → List Step → Type 0
 SpellsSteps text steps = ((text ≡ codes "-") × (steps ≡ [])) ⊎ AllZip IsStep text steps

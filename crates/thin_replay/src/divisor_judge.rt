@@ -7,7 +7,7 @@ use crate::words::number_of;
 use thin_runner::judge::Judge;
 
 /// A judge that computes the number `item + stride * n` for each item, where `n` is how many
-/// decisions it has already made. All arithmetic is modulo 2^64.
+/// decisions it has already made. All sums and products are modulo 2^64.
 ///
 /// - An item is chosen if its number is divisible by `divisor`.
 /// - The key of an item is its number divided by `divisor`, rounded down.

@@ -4,7 +4,7 @@ use std::alloc::AllocError;
 use thiserror::Error;
 
 /// The reason why a line of the input is invalid. The messages contain placeholders, such as
-/// `INDEX`, which the line `help` explains.
+/// `INDEX`, which also occur in the forms that the program prints for the line `help`.
 #[derive(Debug, Drop, Error)]
 pub enum LineError {
     /// The first word is not the name of a command.

@@ -156,8 +156,8 @@ module _ {V : Type 0} where
         same = λ e. ap (λ x. x.0) (get_or_default (map.entries row) k e d inside);
       })
 
-  -- If `row` has the value `v` at column `j`, then the list of its entries contains the entry `(j,
-  -- v)`.
+  -- If `row` has the value `v` at column `j`, then the list of its entries contains the entry
+  -- `(j, v)`.
   pub is_listed : (row : Columns V) (j : ℕ) (v : V) → map.get row j ≡ Some v
       → IsAmong (map.entries row) (j, v)
   is_listed row j v there = found_at j v (map.entries row) (sym (get-entries row j) ∙ there)

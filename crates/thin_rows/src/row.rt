@@ -107,8 +107,8 @@ impl<V, A: Allocator> Row<V, A> {
         &mut self.entries[at].1
     }
 
-    // Writes `value` at `column`, and returns the old value, if any. If there is no room for a new
-    // entry, fails with an error that contains `value`.
+    // Writes `value` at `column`, and returns the old value, if any. If `column` has no entry and
+    // there is no room for a new one, fails with an error that contains `value`.
     pub(crate) fn set(&mut self, column: usize, value: V) -> Result<Option<V>, Rejected<V>>
         ensures succeeds { IsSome (map.get self.old column) → IsOk result }
         ensures value { IfOk result (λ old. old ≡ map.get self.old column) }

@@ -147,8 +147,8 @@ module _ {T : Type 0} where
   few-left ((false, x) ∷ verdicts) = omega (arith, few-left verdicts)
 
   -- `next b x k a` adds the verdict on the item `x` to the verdicts in the pair `a`. If `b` is
-  -- true, `x` is removed. Otherwise, `x` is kept, and the new pair begins with `k`, the last item
-  -- kept before `x`.
+  -- true, `x` is removed. Otherwise, `x` is kept with its final value, which is the first component
+  -- of `a`, and the new pair begins with `k`, the last item kept before `x`.
   abbrev next : Bool → T → T → T × Verdicts T → T × Verdicts T
   next b x k a = if b then (a.0, (false, x) ∷ a.1) else (k, (true, a.0) ∷ a.1)
 

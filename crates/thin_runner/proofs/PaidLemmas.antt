@@ -90,7 +90,7 @@ module _ {T A : Type 0} (v w : Thin T A) (room : length v.items ≤ v.capacity) 
 module _ {T A J : Type 0} (here : Setting T A J) (law : KeepsLaw here.rule) (v w : Thin T A)
     (room : length v.items ≤ v.capacity) where
   -- If a call turns the list `v` into `w` by reserving room for `n` more items and adding at most
-  -- `n` items, then the cost bound `IsPaid v w` holds.
+  -- `n` items, and the items of `v` fit into its capacity, then the cost bound `IsPaid v w` holds.
   ruled-paid : (u : Thin T A) (n : ℕ) → capacity_for here.rule here.R v n ≡ Some w.capacity
       → w ≡ u → u.cost.blocks ≡ (cost_at v w.capacity).blocks
       → u.cost.grown ≡ (cost_at v w.capacity).grown

@@ -1,5 +1,5 @@
--- A weaker clone relation allows more values as clones of an item. Every run that is possible with
--- a clone relation is possible with any weaker one.
+-- A weaker clone relation allows at least the same values as clones of an item. Every run that is
+-- possible with a clone relation is possible with any weaker one.
 use Rattle.std.proofs.Common.{◌≡◌, ℕ, List, [], ◌∷◌}
 use Rattle.std.specs.List.{AllZip}
 use Rattle.thin_vec.specs.List.Clones.{ClonesEqual, IsResized}

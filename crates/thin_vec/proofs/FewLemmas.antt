@@ -1,5 +1,5 @@
--- These lemmas state how many items of a known type fit without a capacity overflow, and which
--- capacities the growth rule `Doubling` chooses.
+-- These lemmas state how many items of a known type fit without a capacity overflow, and how large
+-- a capacity the growth rule `Doubling` chooses.
 use Rattle.std.proofs.Common.{if◌then◌else◌, Bool, true, false, ◌≡◌, ℕ, zero, suc, ◌+◌, ◌-◌, ◌*◌, ◌^◌, ◌<◌, ◌≤◌, ap, arith, length, IfErr, Option, Result, Ok, Err, Some, None, inl, inr, refl, sym, ◌∙◌}
 use Rattle.std.specs.Borrow.{RattleType}
 use Rattle.std.specs.Align.{type_align}
@@ -50,8 +50,8 @@ either_few : (b : Bool) (m n : ℕ) → m < 2 ^ 31 → n < 2 ^ 31 → (if b then
 either_few true m n few less = few
 either_few false m n few less = less
 
--- `first s`, the least capacity that the growth rule `doubling` chooses for items of `s` bytes, is
--- less than `2 ^ 31`.
+-- `first s`, the least capacity that the growth rule `doubling` chooses for the first block of a
+-- list with items of `s` bytes, is less than `2 ^ 31`.
 first_few : (s : ℕ) → first s < 2 ^ 31
 unfolding first
 first_few s = either_few (nat_lt (2 ^ 61 - 1) s) 1 4 (omega arith) (omega arith)
@@ -101,8 +101,8 @@ first_most : (s : ℕ) → first s ≤ 4
 unfolding first
 first_most s = either_most (nat_lt (2 ^ 61 - 1) s)
 
--- If `c < w`, then `first s` (the least capacity of a list with items of `s` bytes) and `2 * c` are
--- at most `max 4 (2 * w)`.
+-- If `c < w`, then `first s` (the least capacity that the growth rule `doubling` chooses for the
+-- first block of a list with items of `s` bytes) and `2 * c` are at most `max 4 (2 * w)`.
 twice-most : (b : Bool) (s c w : ℕ) → c < w → (if b then first s else 2 * c) ≤ max 4 (2 * w)
 twice-most true s c w more = omega (arith, first_most s)
 twice-most false s c w more = omega (arith, more)

@@ -1,5 +1,5 @@
--- This file lists the modules of lemmas. The modules marked `pub` are for the proofs of other
--- crates.
+-- This file lists the modules of lemmas. The proofs of other crates can use the modules marked
+-- `pub`.
 mod ListLemmas
 pub mod ThinVecLemmas
 pub mod UndoLemmas

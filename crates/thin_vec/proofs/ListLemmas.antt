@@ -107,7 +107,8 @@ module _ {T : Type 0} where
       ∙ ap (λ (q : ℕ). full xs ++ replicate q None) m))
 
   -- `front xs c` is the list of the slots of the items `xs`, followed by empty slots up to the
-  -- capacity `c`. Appending `d - c` empty slots to it yields `front xs d`.
+  -- capacity `c`. If `length xs ≤ c` and `c ≤ d`, then appending `d - c` empty slots to
+  -- `front xs c` yields `front xs d`.
   pub front-grow : (xs : List T) (c d : ℕ) → length xs ≤ c → c ≤ d
       → front xs c ++ replicate (d - c) None ≡ front xs d
   front-grow xs c d h l =
@@ -170,8 +171,9 @@ module _ {T A : Type 0} where
     cost = cost i;
   }
 
-  -- If a new block `b'` with the items `xs` and the cost `k` replaces the block of the list `v`,
-  -- then contracts see a list with the capacity and the allocator of `v`.
+  -- If a new block `b'` with the items `xs`, the cost `k` and as many slots as the old block
+  -- replaces the block of the list `v`, then contracts see a list with these items, this cost, and
+  -- the capacity and the allocator of `v`.
   pub thin_of-keeps : {w v : Thin T A} → w ≡ v → (b' : Block T A) {xs : List T} {k : Cost}
       → length b'.slots ≡ w.capacity → items_in b'.slots ≡ xs → b'.cost ≡ k
       → thin_of b' w.alloc ≡ record v { items = xs; cost = k }
@@ -202,8 +204,9 @@ module _ {T A : Type 0} where
   abbrev pub IsWritten : Block T A → Block T A → List (Option T) → ℕ → Cost → Type 0
   IsWritten b b' s n k = seen b' ≡ record (seen b) { slots = s; len = n; cost = k }
 
-  -- If an operation on the block `b` of a list leaves the items `xs` in the first slots, and all
-  -- other slots empty, then the new block `b'` is the block of a list with the items `xs`.
+  -- If an operation on the block `b` of a list leaves the items `xs` in the first slots, leaves all
+  -- other slots empty, and stores the length of `xs`, then the new block `b'` is the block of a
+  -- list with the items `xs`.
   pub settle-front : {b : Block T A} {a : A} → IsThin b a → (b' : Block T A) (xs : List T) (c : ℕ)
       {s : List (Option T)} {n : ℕ} {k : Cost} → IsWritten b b' s n k → s ≡ front xs c
       → n ≡ length xs → length xs ≤ c → Settled b' a xs c

@@ -1,5 +1,5 @@
 -- These lemmas are about loops that put items into the empty slots of a block. They state how many
--- items a loop takes and what the slots contain.
+-- items a loop takes at most, and what the slots contain.
 use Rattle.std.proofs.Common.{◌≡◌, ℕ, ◌+◌, ◌<◌, ◌≤◌, List, [], ◌∷◌, ◌++◌, length, take, drop, Option, Some, None, sym, ap, ◌∙◌, append_assoc, arith, get_or, length-append}
 use Rattle.std.proofs.lemmas.List.{append-nil, length-take-le, length_push, set_at, take_more}
 use lib.ListN.{set}

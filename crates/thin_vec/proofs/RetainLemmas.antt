@@ -447,8 +447,9 @@ module _ {S T : Type 0} (R : S → T → Bool → S → T → Type 0) where
   -- list during an edit.
 
   module _ {A : Type 0} (v w : Open T A) where
-    -- If the middle items of the open block `v` were tested, and each was moved to the front items
-    -- or removed, then `Sifts` (the effect of tests and removals) relates `v` to the result `w`.
+    -- Suppose that some or all middle items of the open block `v` were tested, and that each tested
+    -- item was moved to the front items or removed. If the result `w` has a gap before its middle
+    -- items, then `Sifts` (the effect of tests and removals) relates `v` to `w`.
     pub sifts-of : (m : ℕ) (s t : S) (kept : List T) → Part m s v.rest t kept w.rest
         → 0 < w.gap → w ≡ record v {
           front = v.front ++ kept;
@@ -515,8 +516,8 @@ module _ {S T : Type 0} (R : S → T → Bool → S → T → Type 0) where
       runs-count 0 h.count s v.rest t h.left h.run,
     )
 
-  -- `Sifts`, which relates an open block before some tests and removals to the open block after
-  -- them, relates `v` to itself before the first test.
+  -- `Sifts` (the effect of tests and removals) relates the open block `v` to itself before the
+  -- first test, if `v` has a gap before its middle items.
   pub sifts-start : {A : Type 0} (s : S) (v : Open T A) → 0 < v.gap → Sifts R s v s v
   sifts-start s v gap =
       record {

@@ -53,8 +53,8 @@ all_none (x ∷ s) zero e = let n = ap length e in absurd (omega (arith, n))
 all_none (Some x ∷ s) (suc m) e = let n : 1 ≡ 2 = ap head_of e in absurd (omega (arith, n))
 all_none (None ∷ s) (suc m) e = ap (λ l. None ∷ l) (all_none s m (ap tail_of e))
 
--- If the same slots are filled in the rows `None ∷ s` and `full ys ++ empty m`, then `ys` is empty,
--- and the two rows are equal.
+-- If the rows `None ∷ s` and `full ys ++ empty m` have the same length, and the same slots are
+-- filled in both rows, then `ys` is empty, and the two rows are equal.
 none_first : {X : Type 0} (s : List (Option X)) (ys : List X) (m : ℕ)
     → false ∷ map is_some s ≡ shape (length ys) m → None ∷ s ≡ full ys ++ empty m
 unfolding head_of

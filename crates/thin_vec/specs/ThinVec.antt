@@ -55,7 +55,7 @@ module _ {T A : Type 0} where
     pub cost : v.cost ≡ no_cost
 
   -- `IsWithin R v` holds if the length of the list `v` is at most its capacity, and a block of this
-  -- capacity for items of the type `R` can be allocated.
+  -- capacity for items of the type `R` is small enough to be allocated.
   pub record IsWithin (R : RattleType) (v : Thin T A) : Type 0 where
     pub room : length v.items ≤ v.capacity
     pub small : v.capacity < 2 ^ 63

@@ -6,8 +6,8 @@ ghost use Rattle.thin_vec.specs.Ranges.{range_between};
 use std::ops::Bound;
 
 /// Returns the inclusive start and the exclusive end of the range with the bounds `start` and
-/// `end`, for a list of length `len`. Returns `None` if `start` is after `end`, or if the range
-/// ends after the end of the list.
+/// `end`, for a list of length `len`. Returns `None` if the inclusive start is greater than the
+/// exclusive end, or if the range ends after the end of the list.
 ///
 /// Rust's `slice::range` panics instead of returning `None`. The Rust crate thin-vec has no such
 /// function.

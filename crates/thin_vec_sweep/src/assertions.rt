@@ -70,9 +70,9 @@ pub fn assert_same_items<T: Sample, R: Abort>(rt: &R, at: &At, items: &[T], numb
     assert_same(rt, at, "first item that differs", difference, None);
 }
 
-/// Asserts that `items` items exist, and that all expected blocks are allocated: one for the list
-/// if `capacity` is not 0, and one for each item if items own blocks. The items are checked only if
-/// `ledger` counts items of type `T`.
+/// Asserts that exactly `items` items exist, and that exactly the expected blocks are allocated:
+/// one for the list if `capacity` is not 0, and one for each item if items own blocks. The items
+/// are checked only if `ledger` counts items of type `T`.
 pub fn assert_live<T: Sample, R: Abort>(
     rt: &R,
     at: &At,

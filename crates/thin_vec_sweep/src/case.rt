@@ -1,5 +1,5 @@
-//! One test case of a sweep: a call on a list, and its expected result. Each item is represented by
-//! the number from which it is made.
+//! One test case of a sweep: a call on a list, and its expected result. Each expected item is
+//! represented by the number from which it is made.
 use crate::assertions::{At, assert_live, assert_same, assert_same_item, assert_same_items};
 use crate::ledger::Ledger;
 use crate::samples::Sample;
@@ -186,7 +186,8 @@ impl<T: Sample, G: Ruled> Case<T, G> {
     }
 
     // Returns the expected outcome of a call that requests `blocks` blocks and then clones `clones`
-    // items. Stores the expected numbers of requests and clones.
+    // items. Stores the expected number of requests and, if the call is expected to succeed, the
+    // expected number of clones.
     fn verdict(&mut self, blocks: u64, clones: usize) -> Verdict {
         let refused = self.at.refused;
         let clones = clones as u64;

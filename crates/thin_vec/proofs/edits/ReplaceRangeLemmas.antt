@@ -1,5 +1,6 @@
--- These lemmas are about replacing a range of a list with clones. The clones are appended to the
--- list, and are then moved into the range.
+-- These lemmas are about replacing a range of a list with clones. If there are more clones than
+-- items in the range, the surplus clones are inserted directly after the range. The other clones
+-- are appended to the list, and are then moved into the range.
 use Rattle.std.proofs.Common.{if◌then◌else◌, inl, inr, eqb, min, Bool, true, false, ◌≡◌, ℕ, zero, suc, ◌+◌, ◌-◌, ◌≤◌, List, [], ◌∷◌, ◌++◌, None, Option, append_assoc, ap, arith, drop, length, length-append, refl, sym, take, ◌∙◌}
 use Rattle.std.proofs.lemmas.List.{drop_at, length-drop, length-take-le, replicate-append-replicate, take-append-drop, take-append-le, take_at}
 use Rattle.std.proofs.lemmas.Bool.{cases_lt}

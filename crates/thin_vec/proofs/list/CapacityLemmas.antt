@@ -39,8 +39,9 @@ module _ {T : Type 0} where
   front-none c = let same : c ≡ c - 0 = omega arith in ap (λ (m : ℕ). empty m) same
 
 module _ {T A : Type 0} {b : Block T A} {a : A} (t : IsThin b a) where
-  -- If a block `b'` of capacity `c` holds the items of the block `b` in its first slots, then `b'`
-  -- is the block of a list with the same items and the capacity `c`.
+  -- If a block `b'` of capacity `c` holds the items of the block `b` in its first slots, and all
+  -- its other slots are empty, then `b'` is the block of a list with the same items and the
+  -- capacity `c`.
   settle-remade : (b' : Block T A) (c : ℕ) {s : List (Option T)} {k : Cost}
       → seen b' ≡ record (seen b) { slots = s; alloc = Some a; cost = k }
       → s ≡ front (items_in b.slots) c → length (items_in b.slots) ≤ c

@@ -216,8 +216,9 @@ module _ (rule : Rule) (R : RattleType) (law : KeepsLaw rule) where
       ]
 
 module _ {T A : Type 0} where
-  -- If appending `k` items to the list `v` takes `k` moves and at most one reallocation, then
-  -- `CostsAdding v w 0` holds: no old item was moved apart from the reallocation.
+  -- Suppose that appending `k` items to the list `v` takes `k` moves and at most one reallocation,
+  -- which copies at most as many items as it adds slots. Then `CostsAdding v w 0` holds: no old
+  -- item was moved apart from the reallocation.
   pub filled-at : (v w : Thin T A) (k : ℕ) → w.cost ≡ moving k (cost_at v w.capacity)
       → length w.items ≡ length v.items + k
       → (cost_at v w.capacity).grown + v.capacity ≤ v.cost.grown + w.capacity → CostsAdding v w 0
@@ -233,8 +234,9 @@ module _ {T A : Type 0} where
         (omega (arith, ap (λ c. c.blocks) f), omega (arith, ap (λ c. c.grown) f));
   }
 
-  -- If reserving room in the list `v` takes at most one reallocation and keeps the items, then
-  -- `CostsAdding v w 0` holds: no old item was moved apart from the reallocation.
+  -- Suppose that reserving room in the list `v` keeps the items and takes at most one reallocation,
+  -- which copies at most as many items as it adds slots. Then `CostsAdding v w 0` holds: no old
+  -- item was moved apart from the reallocation.
   pub filled-reserved : (v w : Thin T A) → w.cost ≡ cost_at v w.capacity
       → w.items ≡ v.items
       → (cost_at v w.capacity).grown + v.capacity ≤ v.cost.grown + w.capacity → CostsAdding v w 0

@@ -143,7 +143,7 @@ module _ {T A : Type 0} {b : Block T A} {a : A} (t : IsThin b a) where
 
 module _ {T : Type 0} where
   -- `emptying xs k i c` is a row of `c` slots that begins with the items `xs`, but whose slots
-  -- `k..i` are empty.
+  -- `k..i` are empty. All slots after the items are empty, too.
   abbrev pub emptying : List T → ℕ → ℕ → ℕ → List (Option T)
   emptying xs k i c =
       full (take k xs) ++ (empty (i - k) ++ (full (drop i xs) ++ empty (c - length xs)))

@@ -1,5 +1,5 @@
--- These definitions describe methods that remove duplicates from a list. Each item is compared with
--- the last item kept before it. (std: `Vec::dedup_by`)
+-- These definitions describe methods that remove duplicates from a list. Each item except the first
+-- is tested against the last item kept before it. (std: `Vec::dedup_by`)
 use Rattle.std.specs.Prelude.{◌≡◌, List, [], ◌∷◌, Bool, true, false, MatchBool, if◌then◌else◌, not}
 use Rattle.thin_block.specs.Cost.{moving}
 use Rattle.thin_vec.specs.ThinVec.{Thin}

@@ -31,7 +31,8 @@ module _ {S T A : Type 0} (steps : S → Option T → S → Type 0) where
 
 module _ {T A : Type 0} where
   -- `IsStopCause` states why a call to `finish` failed with `error`. The growth rule is `rule`, the
-  -- item type is `R`, the list after the call is `w`, and the items after the range are `tail`.
+  -- item type is `R`, the list after the call is `w`, and the items after the range are `tail`. The
+  -- rest of the iterator may yield at most `left` items.
   pub record IsStopCause {S : Type 0} (rule : Rule) (R : RattleType) (w : Thin T A) (tail : List T)
       (left : Count) (error : SpliceRefused T S A) : Type 0 where
     -- If the error contains no items, the call could not reserve room for `h` items, where `h` is a
@@ -118,8 +119,9 @@ module _ {I T A G H : Type 0} {g : Ghosts G} {h : HoldsGhosts H (Open T A)} wher
   abbrev pub splice_replaced : Splice I T A G H g h → List T → List T
   splice_replaced s xs = with_between (splice_block s) xs
 
-  -- `HasPlacesFor s most` holds if the `Splice` `s` can insert `most` items without a request for
-  -- memory.
+  -- `HasPlacesFor s most` holds if the range of the `Splice` `s` has at least `most` slots, or if
+  -- no item follows the range and the list without the range has room for `most` more items. Then
+  -- `s` can insert `most` items without a request for memory.
   abbrev pub HasPlacesFor : Splice I T A G H g h → ℕ → Type 0
   HasPlacesFor s most =
       (most ≤ splice_range s)

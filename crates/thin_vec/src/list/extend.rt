@@ -152,9 +152,10 @@ impl<T, A: Allocator, G: Growth> ThinVec<T, A, G> {
           cost = moving (length self.new.items - length self.old.items) self.old.cost;
         } }
 
-        // If the call returns an item, the list is full, and `next` may be called on the returned
-        // iterator. `I.remaining`, an upper bound on the number of items that this iterator may
-        // still yield, is finite, and has decreased by more than the number of appended items.
+        // Suppose that the call returns an item. Then the list is full, and `next` may be called on
+        // the returned iterator. For this iterator, `I.remaining`, an upper bound on the number of
+        // items that it may still yield, is finite. The call has decreased this bound by more than
+        // the number of appended items.
         ensures full { OnSome result.1 (length self.new.items ≡ self.new.capacity) }
         ensures rest { OnSome result.1 (I.can_next result.0 × IsFinite (I.remaining result.0)) }
         ensures nearer { OnSome result.1

@@ -49,8 +49,8 @@ impl<T: Clone, A: Allocator, G: Growth> ThinVec<T, A, G> {
         ensures err_cost { OnErr result ((self.new ≡ self.old) ⊎ CostsUpToClone T.is_infallible
             (replicate (len - length self.old.items - 1) value) self.old self.new) }
 
-        // If the call adds `n` items, it changes the capacity exactly as `reserve(n)` would. It
-        // fails with `CapacityOverflow` if and only if `reserve(n)` would.
+        // Let `n` be the number of items to add. The call changes the capacity exactly as
+        // `reserve(n)` would. It fails with `CapacityOverflow` if and only if `reserve(n)` would.
         ensures reserves { Reserves G.rule T.row (len - length self.old.items) self.old self.new
             result }
         ensures keeps { Keeps T.row self.old self.new }
@@ -159,8 +159,8 @@ impl<T: Drop, A: Allocator, G: Growth> ThinVec<T, A, G> {
         // On failure, the list is unchanged.
         ensures err { OnErr result (self.new ≡ self.old) }
 
-        // If the call adds `n` items, it changes the capacity exactly as `reserve(n)` would. It
-        // fails if and only if `reserve(n)` would fail.
+        // Let `n` be the number of items to add. The call changes the capacity exactly as
+        // `reserve(n)` would. It fails if and only if `reserve(n)` would fail.
         ensures reserves { Reserves G.rule T.row (len - length self.old.items) self.old self.new
             result }
         ensures keeps { Keeps T.row self.old self.new }

@@ -212,8 +212,8 @@ impl<T, A: Allocator> OpenBlock<T, A> {
         self.rest_len() > 0
     }
 
-    // Tests the remaining item, if there is one, and returns whether it is to be removed. At most
-    // one item may remain, and there must be empty slots after the kept items.
+    // Does the same as `advance`, for at most one remaining item. Returns `false` if no item
+    // remains. There must be empty slots after the kept items.
     fn advance_last<J: Test<T>>(&mut self, test: &mut J) -> bool
         requires short { length self.old.rest ≤ 1 }
         requires gap { 0 < self.old.gap }

@@ -103,8 +103,8 @@ fn few_steps(number: usize) -> usize {
     }
 }
 
-// Returns the number of new items in test case `number` on a list of more than 6 items. `width` is
-// the length of the replaced range.
+// Returns the number of new items for a list of more than 6 items. `number` selects one of four
+// results. `width` is the length of the replaced range.
 fn many(width: usize, number: usize) -> usize {
     match number {
         0 => width.saturating_mul(2).saturating_add(9),

@@ -74,8 +74,8 @@ pub struct Order {
     pub at: usize,
     /// The end of the range on which the command acts.
     pub to: usize,
-    /// For an `ExtractIf`, the number of calls to `next`. For a command that takes new items, as
-    /// `Extend` does, the number of these items.
+    /// For an `ExtractIf`, the number of calls to `next`. For a command that takes a vector or a
+    /// list of new items, as `Extend` does, the number of these items.
     pub count: usize,
     /// A number whose meaning depends on the command:
     ///

@@ -141,8 +141,9 @@ fn runs_alike<'a, T: Numbered<Lender<'a>>, G: Ruled, J: Judge<T> + From<u64>>(
     Ok(alike && alloc.blocks() == 0)
 }
 
-/// Executes the random commands that `seed` determines, and records them in `done`. Asserts that
-/// `ThinVec` and the model agree on all of them, and that all blocks are freed.
+/// Executes the random commands that `seed` determines. Clears `done`, and then records each
+/// executed command in it. Asserts that `ThinVec` and the model agree on all of them, and that all
+/// blocks are freed.
 pub fn assert_alike<'a, T: Numbered<Lender<'a>>, G: Ruled, J: Judge<T> + From<u64>, R: Abort>(
     rt: &R,
     alloc: Lender<'a>,

@@ -122,8 +122,8 @@ module _ {X Y : Type 0} (h : X → Y) where
 
   module _ {Z : Type 0} (b : Block X Z) (a : Z) where
     -- Let `block.mapped h b` be the block `b` after the function `h` has been applied to each of
-    -- its items. If `b` is the block of a list with the allocator `a`, then so is `block.mapped h
-    -- b`.
+    -- its items. If `b` is the block of a list with the allocator `a`, then so is
+    -- `block.mapped h b`.
     thin_to : IsThin b a → IsThin (block.mapped h b) a
     thin_to t = record { packed = packed_to b.slots b.len t.packed; from = t.from }
 

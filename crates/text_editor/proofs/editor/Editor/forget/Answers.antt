@@ -1,5 +1,6 @@
--- `forget` removes all but the newest `count` changes. After the call, repeated calls to `undo`
--- restore the first `count` of the texts that they would have restored before it.
+-- `forget` removes all but the newest `count` of the changes that undo edits. After the call,
+-- repeated calls to `undo` restore the first `count` of the texts that they would have restored
+-- before it.
 use Rattle.std.proofs.Common.{◌≡◌, ℕ, ◌-◌, ap, arith, drop, length, rules, sym, take, ◌∙◌}
 use Rattle.std.proofs.lemmas.List.{take_all}
 use Rattle.text_editor.proofs.ChangesLemmas.{AllFit-drop, length-texts_of, texts_of-drop}

@@ -1,5 +1,5 @@
--- `dedup_by` calls `dedup_those` with a test that calls the closure `same` exactly once. So what
--- `dedup_those` guarantees about the test also holds for `same`.
+-- `dedup_by` calls `dedup_those` with a test. Each call of this test calls the closure `same`
+-- exactly once. So what `dedup_those` guarantees about the test also holds for `same`.
 use Rattle.std.specs.Fn.{CalledAtPairMut}
 use Rattle.thin_vec.proofs.edits.DedupLemmas.{deduped-through, few-deduped}
 use Rattle.thin_vec.proofs.list.ThinVec.dedup_by.Goals as goal

@@ -1,5 +1,6 @@
--- `extend_from_copies` requires items that are `Copy`, and `reserve_run` does not. Their contracts
--- agree, because the capacity and the error depend only on the size and alignment of an item.
+-- `extend_from_copies` calls `reserve_run`. Only `extend_from_copies` requires items that are
+-- `Copy`. The two contracts still agree about the capacity and the error, because all they use of
+-- the item type is its size and its alignment.
 use Rattle.std.proofs.Common.{◌+◌, Ok, length, refl}
 use Rattle.thin_block.proofs.CapacityLemmas.{ruled-at}
 use Rattle.thin_vec.proofs.list.ReservesLemmas.{reserves-failed, reserves-then}

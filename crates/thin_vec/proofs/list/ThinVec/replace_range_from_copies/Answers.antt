@@ -1,6 +1,6 @@
--- `replace_range_from_copies` requires items that are `Copy`, and `reserve` does not. Their
--- contracts agree, because the capacity and the error depend only on the size and alignment of an
--- item.
+-- `replace_range_from_copies` calls `reserve`. Only `replace_range_from_copies` requires items that
+-- are `Copy`. The two contracts still agree about the capacity and the error, because all they use
+-- of the item type is its size and its alignment.
 use Rattle.std.proofs.Common.{◌≡◌, ◌+◌, ◌-◌, ◌∙◌, Ok, ap, arith, length, refl}
 use denote.Param.{copied}
 use Rattle.thin_block.proofs.CapacityLemmas.{ruled-at}

@@ -1,5 +1,5 @@
 -- `put_iter` puts the items that the iterator yields into the gap directly after the front items.
--- So these items become front items, and the gap becomes shorter.
+-- So these items become front items, and each of them shortens the gap by one slot.
 use Rattle.std.proofs.Common.{◌≡◌, ◌-◌, ◌++◌, ◌≤◌, ◌∙◌, ap, arith, length, sym}
 use Rattle.thin_block.proofs.BlockLemmas.{slots-are}
 use Rattle.thin_block.specs.Block.{seen}

@@ -1,5 +1,5 @@
 -- `put_clones` puts the clones into the gap directly after the front items. So the clones become
--- front items, and the gap becomes shorter.
+-- front items, and each clone shortens the gap by one slot.
 use Rattle.std.proofs.Common.{◌≡◌, ◌+◌, ◌-◌, ◌++◌, ◌∙◌, ap, arith, length, sym}
 use Rattle.thin_block.specs.Cost.{moving}
 use Rattle.thin_vec.specs.OpenBlock.{open_of}

@@ -1,5 +1,5 @@
 -- `copy_in` puts the copies into the gap directly after the front items. So the copies become front
--- items, and the gap becomes shorter.
+-- items, and each copy shortens the gap by one slot.
 use Rattle.thin_block.specs.Cost.{moving}
 use Rattle.std.proofs.Common.{◌≡◌, ◌+◌, ◌-◌, ◌++◌, ◌∙◌, ap, arith, length, refl}
 use Rattle.thin_vec.specs.OpenBlock.{open_of}

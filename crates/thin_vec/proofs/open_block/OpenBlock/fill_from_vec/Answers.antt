@@ -1,5 +1,5 @@
 -- `put_vec` puts the items of the vector into the gap directly after the front items. So these
--- items become front items, and the gap becomes shorter.
+-- items become front items, and each of them shortens the gap by one slot.
 use Rattle.thin_block.specs.Cost.{moving}
 use Rattle.std.proofs.Common.{◌≡◌, ◌+◌, ◌-◌, ◌++◌, ◌∙◌, ap, arith, length}
 use Rattle.thin_vec.specs.OpenBlock.{open_of}
