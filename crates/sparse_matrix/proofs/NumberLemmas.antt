@@ -28,8 +28,8 @@ at_place f g i j v here columns rows k l = elim (cases_eq k i) [
       ∙ sym (if_false v (g k l) (and_left (k == i) (l == j) (ne_eqb k i other)))
 ]
 
--- In this module, the functions `f` and `g` of a row and a column agree everywhere, except that
--- `f i j` is `v`.
+-- In this module, `f` and `g` are functions of a row and a column. They agree everywhere except
+-- possibly at row `i` and column `j`, where the value of `f` is `v`.
 module _ (f g : ℕ → ℕ → ℕ) (i j v : ℕ)
     (told : (k l : ℕ) → f k l ≡ (if k == i && l == j then v else g k l)) where
   pub here : f i j ≡ v

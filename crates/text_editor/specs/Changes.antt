@@ -1,4 +1,5 @@
--- These definitions say which texts result from a list of changes, and when a change fits a text.
+-- These definitions say which texts result if the changes of a list are applied to a text one after
+-- another, and when a change fits a text, that is, when it can be applied to it.
 use Rattle.std.specs.Prelude.{ℕ, ◌≤◌, List, [], ◌∷◌, length, reverse}
 use Rattle.std.specs.List.{replace_range}
 use Rattle.text_editor.specs.declared.change.Change.{Change}
@@ -25,8 +26,8 @@ abbrev pub FitAlong : List Change → List ℕ → Type 0
 FitAlong [] text = Unit {0}
 FitAlong (change ∷ changes) text = Fits change text × FitAlong changes (changed change text)
 
--- `texts_of changes text` lists the text after each step when `changes` are applied to `text` one
--- after another, from the last change to the first.
+-- `texts_of changes text` applies `changes` to `text` one after another, beginning with the last
+-- change. It is the list of the texts after each step.
 abbrev pub texts_of : List Change → List ℕ → List (List ℕ)
 texts_of changes text = texts_along (reverse changes) text
 

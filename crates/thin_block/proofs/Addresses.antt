@@ -105,8 +105,8 @@ module _ {M : Type 1} {𝓤 : Ura M} (𝓛 : Logic 𝓤) (Ev : Env 𝓤 𝓛.H) 
         ∷ goes_by turned E b (o + 16) i p₃ p₄ p₂ pᵢ
 
     -- `needs p₃ p₄ p pᵢ` lists the context entries that the computation of a slot's address needs.
-    -- The local variable `p` must hold the block's pointer, and `pᵢ` the index of the slot. The
-    -- computation assigns values to `p₃` and `p₄`.
+    -- The arguments are the numbers of local variables: `p` holds the block's pointer, `pᵢ` holds
+    -- the index of the slot, and the computation assigns to `p₃` and `p₄`.
     abbrev pub needs : ℕ → ℕ → ℕ → ℕ → List (Item 𝓤)
     needs p₃ p₄ p pᵢ = holds p (vptr b o) ∷ free p₁ Γ ∷ holds p₁ (vptr b (o + 16)) ∷ free p₂ first
         ∷ goes_with turned E b (o + 16) i p₃ p₄ p₂ pᵢ

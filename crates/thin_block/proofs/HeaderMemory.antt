@@ -48,8 +48,8 @@ plainly Rs = Struct (record { name = []; args = []; types = []; fields = Rs })
 abbrev pub block_val : Ptr → Val
 block_val p = vstruct (vcons (ptr_val p) (vcons (vstruct vnil) (vcons (vstruct vnil) vnil)))
 
--- Suppose that a block has the pointer `p`, and that `vs` is the list of its machine values.
--- `block_own p vs` states what the fields of this block own.
+-- `block_own p vs` states what the fields of a block own. `p` is the block's pointer, and `vs`
+-- lists the machine values of the fields.
 abbrev pub block_own : Ptr → List Val → Fml
 block_own p = (plainly (RawPtr ∷ plainly [] ∷ plainly [] ∷ [])).own_val (p, (tt, (tt, tt)))
 

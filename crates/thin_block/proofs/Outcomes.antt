@@ -19,8 +19,8 @@ on-err (Err e) h p = h p
 pub at-some : {X P : Type 0} {o : Option X} {x : X} → o ≡ Some x → OnSome o P → P
 at-some {P = P} e p = subst (λ o. OnSome o P) e p
 
--- No result is both `Ok` and `Err`, so the assumption that a result is both implies every statement
--- `P`.
+-- No result is both `Ok` and `Err`. So every statement `P` follows from the assumption that `Ok x`
+-- equals `Err e`.
 pub ok-err : {X E P : Type 0} (x : X) (e : E) → Ok x ≡ Err e → P
 ok-err x e h = cc
 

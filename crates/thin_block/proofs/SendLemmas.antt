@@ -26,8 +26,8 @@ number_send = search sendable
 number_sync : IsSync usize
 number_sync = search sendable
 
--- `ways τ m w b o` contains one right for each of `w` words: the right to convert memory for `m`
--- items of the type `τ` into memory for one word. These rights do not depend on the thread that
+-- `ways τ m w b o` consists of `w` rights. Each of them allows the memory of `m` items of the type
+-- `τ` to be converted into the memory of one word. These rights do not depend on the thread that
 -- owns them.
 ways_Keyless : (τ : Ty) (m w b o : ℕ) → Keyless (ways τ m w b o)
 ways_Keyless τ m zero b o = tt

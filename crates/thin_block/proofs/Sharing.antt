@@ -1,5 +1,5 @@
 -- These lemmas are about shared references to a block. `block_seen` splits such a reference into
--- its parts, and `run_seen` converts a shared reference to contiguous items into a slice.
+-- its parts, and `run_seen` makes a slice from a shared reference to contiguous items.
 use Rattle.std.proofs.Common.{◌≡◌, ℕ, zero, suc, Some, None, ◌+◌, ◌*◌, ◌≤◌, List, [], ◌∷◌, ◌++◌, length, Bool, true, refl, sym, ap, subst, ◌∙◌, arith}
 use native.Mathlib.Nat.{zero-mul, suc-mul}
 use lib.ListN.{drop, take-append-drop}

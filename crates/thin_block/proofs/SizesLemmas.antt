@@ -89,8 +89,8 @@ align_known R = (align_w (layout R), align-bytes (layout R))
 pub rounded_at : (a x : ℕ) → IsAlign a → Rounded a x
 rounded_at a x is = subst (λ (k : ℕ). Rounded k x) (sym is.1) (rounded_to is.0 x)
 
--- If `a` is the alignment of an item type `R`, then the bounds `Rounded a x` hold for a block whose
--- items take `x` bytes in total.
+-- The bounds `Rounded a x` on the alignment and the size of a block hold if `a` is the alignment of
+-- the item type `R`. Here, `x` is the total size of the items in bytes.
 pub rounded : (R : RattleType) (x : ℕ) → Rounded (type_align R) x
 rounded R x = rounded_at (type_align R) x (align_known R)
 
@@ -178,8 +178,9 @@ module _ (R : RattleType) (c : ℕ) where
   pub fits_yes : c < 2 ^ 63 → Small (type_size R) (type_align R) c → IsSmall
   fits_yes few room = small_yes (type_size R) (type_align R) c (align_known R) few room
 
-  -- If a block for `c` items of type `R` is small enough to be allocated, then `c < 2 ^ 63`,
-  -- `Small` holds for these items, and the block takes less than `2 ^ 63` bytes.
+  -- If a block for `c` items of the type `R` is small enough to be allocated, then `Told` holds:
+  -- `c` is less than `2 ^ 63`, the block takes fewer than `2 ^ 63` bytes, and the inequality
+  -- `Small` holds for the size of the block.
   pub fits_tells : IsSmall → Told (type_size R) (type_align R) c
   fits_tells e = small_tells (type_size R) (type_align R) c (align_known R) e
 

@@ -404,8 +404,9 @@ module _ {T : Type 0} (s : List (Option T)) (n : ℕ) (packed : IsPacked s n) wh
       packed-carried c ∙ (tail-split xs (length s - n) (c - length s) (c - n) (omega arith)
       ∙ ap (λ (l : Row). l ++ empty (c - length s)) (sym parted))
 
-  -- Suppose that exactly the first `n` slots of `s` are filled, and that `n ≤ c ≤ length s`. Moving
-  -- their items to the start of `c` empty slots results in the first `c` slots of `s`.
+  -- Suppose that exactly the first `n` slots of `s` are filled, and that `n ≤ c ≤ length s`. If
+  -- their items are moved to the start of `c` empty slots, then these `c` slots equal the first `c`
+  -- slots of `s`.
   pub packed-shrunk : (c : ℕ) → n ≤ c → c ≤ length s → laid 0 (run 0 n s) (empty c) ≡ take c s
   packed-shrunk c enough less =
       let kept : Row = full xs ++ empty (c - n) in

@@ -87,9 +87,9 @@ module _ (Rw : RattleType) (c : ℕ) where
 module _ {M : Type 1} {𝓤 : Ura M} (𝓛 : Logic 𝓤) (E : El) (b c o : ℕ) where
   open 𝓛 use {H}
 
-  -- `Parts w` consists of the parts of a block's memory: the two halves of the header, the slots,
-  -- and the right to put these parts back together. Here, `w` is the result of `in_words` for the
-  -- item size.
+  -- `Parts w` is the ownership of a block's memory in parts: the two halves of the header and the
+  -- slots, together with the right to join these parts again. Here, `w` is the result of `in_words`
+  -- for the item size.
   abbrev Parts : Option (ℕ × ℕ) → SProp 𝓤
   Parts w = sep 𝓤 (H.room half b o) (sep 𝓤 (H.room half b (o + 8))
       (sep 𝓤 (H.room (array_of (R E) c) b (o + 16)) (sem 𝓛 (way_back w (bare (R E)) c b o))))
@@ -325,8 +325,8 @@ module _ {M : Type 1} {𝓤 : Ura M} (𝓛 : Logic 𝓤) (T : RattleType) (L : L
   units_out = via 𝓤 (H.room (array_of (R W) k) b o) (𝓛.laws.room-raw units b o)
       (header_out 𝓛 (bare (R Item)) m k b hd o)
 
-  -- Converts uninitialized memory for the capacity and the length into uninitialized memory for `k`
-  -- words. The lemma uses up `header_way`, the right to do this.
+  -- Converts the uninitialized memory of the capacity and the length, which is 16 bytes, into
+  -- uninitialized memory for `k` words. This uses up `header_way`, the right to do so.
   pub units_in : ent 𝓤 (sep 𝓤 (H.room half b o) (sep 𝓤 (H.room half b (o + 8))
       (sem 𝓛 (header_way (bare (R Item)) m k b o)))) (H.room units b o)
   units_in = via 𝓤 (H.room (array_of (R W) k) b o) (header_in 𝓛 (bare (R Item)) m k b hd o)
@@ -342,8 +342,9 @@ module _ {M : Type 1} {𝓤 : Ura M} (𝓛 : Logic 𝓤) (T : RattleType) (L : L
     asked_words : words_of (R Item) ≡ Some (m, k)
     asked_words = same_words (R Item) c ∙ is
 
-    -- Splits what a block owns besides its slots into memory for `k` words, the right to convert
-    -- the slots into memory for words, and the right to free the block.
+    -- Splits what a block owns, apart from its slots, into three parts: the memory of the header,
+    -- which is as large as `k` words; the right to convert the slots into memory for words; and the
+    -- right to free the block.
     pub header_apart : ent 𝓤 (sem 𝓛 (frame t (R Item) n c b o))
         (sep 𝓤 (H.room units b o) (sep 𝓤 (sem 𝓛 Rest) (sem 𝓛 Right)))
     header_apart =

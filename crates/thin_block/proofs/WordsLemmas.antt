@@ -198,8 +198,8 @@ by_test false false false false true s q ex ey ez eu ev e =
     (λ w d. in_words_by 16 (bytes w) 1 1 counts_1 (omega arith) refl (laid_16 w d))
 by_test false false false false false s q ex ey ez eu ev e = absurd (clash (ap is_some e))
 
--- If `in_words` returns `Some (m, k)` for the size of the type `R`, then `m` items make a word, and
--- the header takes as many bytes as `k` words.
+-- Suppose that `in_words` returns `Some (m, k)` for the size of the type `R`. Then a word consists
+-- of `m` items of the type `R`, and the header takes as many bytes as `k` words.
 pub words_told : (R : RattleType) (m k : ℕ) → in_words (type_size R) ≡ Some (m, k)
     → InWords (type_size R) (type_align R) m k
 words_told R m k e =

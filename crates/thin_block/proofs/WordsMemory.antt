@@ -392,8 +392,8 @@ module _ {M : Type 1} {𝓤 : Ura M} (𝓛 : Logic 𝓤) (T : RattleType) (L : L
   abbrev words : ℕ → List X → List W.row.Denot
   words n xs = words_made T m n xs
 
-  -- The filled slots `full xs` are `full (take m xs)`, the items of the first word, followed by
-  -- `full (rest m xs)`, the other items.
+  -- The filled slots `full xs` are the slots of the first word, `full (take m xs)`, followed by the
+  -- slots of the other words, `full (rest m xs)`.
   parted : (xs : List X) → full xs ≡ full (take m xs) ++ full (rest m xs)
   parted xs = ap full (sym (take-append-drop m xs)) ∙ map-append Some (take m xs) (rest m xs)
 

@@ -59,6 +59,6 @@ module _ (T A : RattleType) (g : Ghosts A.Denot) (b : MutBor (Block T.Denot A.De
   LendsItem i r = Lends (the_row T A g) T b r (with_item b.now i)
 
   -- `LendsItems i r` holds if `r` is a `&mut` to adjacent items of the block `b`, starting at slot
-  -- `i`. After the borrow, these slots will contain the final items of `r`.
+  -- `i`, and if these slots contain the final items of `r` when the borrow ends.
   abbrev pub LendsItems : ℕ → MutBor (List T.Denot) → Fml
   LendsItems i r = Lends (the_row T A g) (Array T 0) b r (with_items b.now i)

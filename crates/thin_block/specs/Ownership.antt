@@ -113,8 +113,8 @@ abbrev pub ways : Ty → ℕ → ℕ → ℕ → ℕ → Fml
 ways τ m zero b o = ftrue
 ways τ m (suc w) b o = fsep (way τ m b o) (ways τ m w b (o + size (word_of τ m)))
 
--- `header_way τ m k b o` is the right to convert memory for the header into memory for `k` words of
--- `m` items of the type `τ` each. The header is at the offset `o` of the allocation `b`.
+-- `header_way τ m k b o` is the right to convert the memory of the header, at the offset `o` of the
+-- allocation `b`, into memory for `k` words. Each word holds `m` items of the type `τ`.
 abbrev pub header_way : Ty → ℕ → ℕ → ℕ → ℕ → Fml
 header_way τ m k b o = fwand (header_room b o) (froom (ty_array (word_of τ m) k) b o)
 

@@ -54,8 +54,8 @@ impl<T, A: Allocator> Model for Block<T, A> {
     ghost also_shares = { λ b _ κ. block_lent T.row b.at b.len b.slots b.alloc κ };
 }
 
-// A block is `Send` if its items and its allocator are. It is the only owner of its allocation, and
-// no code writes to the static header that blocks without an allocation share.
+// A block is `Send` if its items and its allocator are. It is the only owner of its allocation. All
+// blocks without an allocation share one static header, to which no code writes.
 unsafe impl<T: Send, A: Allocator + Send> Send for Block<T, A> {}
 
 // A shared reference to a block is used only to read the header and the items. So a block is `Sync`

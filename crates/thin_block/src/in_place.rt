@@ -1,5 +1,6 @@
-//! Resizes a block with the methods `grow` and `shrink` of the allocator, which may leave the block
-//! at its address. For this purpose, the block is converted into an array of words and back.
+//! Functions that resize a block with the allocator's methods `grow` and `shrink`, which may leave
+//! the block at its address. These methods resize only arrays. So the functions convert the block
+//! into an array of words, and convert the array back afterwards.
 ghost use Rattle.std.specs.Prelude.{◌≡◌, ◌+◌, ◌*◌, ◌/◌, ◌<◌, ◌≤◌, IfErr, IfOk, List, OnErr, OnOk, length};
 ghost use Rattle.std.specs.declared.option.Option.TheVariants.{Some};
 ghost use Rattle.std.specs.Int.{div_ceil};

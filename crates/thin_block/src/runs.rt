@@ -51,7 +51,7 @@ impl<T, A: Allocator> Block<T, A> {
         self.slide_run(to, gap, 0, k, false);
     }
 
-    /// Moves the `k` items that start at slot `from` up by `gap` slots. The `gap` slots above the
+    /// Moves the items in the slots `from..from + k` up by `gap` slots. The `gap` slots above the
     /// items must be empty. For a constant `gap`, LLVM turns this call into a `memmove`.
     #[inline(always)]
     pub fn move_up(&mut self, from: usize, gap: usize, k: usize)

@@ -63,8 +63,9 @@ pub fn kept_all<T: Drop, A: Allocator, G: Growth>(list: &mut ThinVec<T, A, G>)
     list.retain(|_item: &T| true);
 }
 
-/// Extracts the first even number at the indices `1..5` of `list`, which must contain 1, 2, 3, 4, 5
-/// and 6. The result is 2. The four numbers after it are moved without being tested.
+/// Extracts the first even number among the items at the indices `1..5` of `list`, which must be
+/// `[1, 2, 3, 4, 5, 6]`. The result is 2. The items 3, 4, 5 and 6 are moved down without being
+/// tested.
 pub fn extracted_first<A: Allocator, G: Growth>(list: &mut ThinVec<u32, A, G>) -> Option<u32>
     requires to_six { list.old.items ≡ 1 ∷ 2 ∷ 3 ∷ 4 ∷ 5 ∷ 6 ∷ [] }
     ensures value { result ≡ Some 2 }

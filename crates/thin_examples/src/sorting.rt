@@ -1,4 +1,4 @@
-//! An example function that sorts the items of a list with a method of slices.
+//! An example function that sorts the items of a list by calling a method of slices.
 ghost use Rattle.std.specs.Prelude.{◌≡◌, IsPermutation, IsSorted};
 
 use std::alloc::Allocator;

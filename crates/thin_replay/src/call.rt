@@ -43,8 +43,7 @@ impl Call {
         Ok(command.map(Call::unjudged))
     }
 
-    // Makes a `Call` from a command that calls no method of a judge. The judge of the `Call` is a
-    // placeholder.
+    // Makes a `Call` from a command that uses no judge. The judge in the `Call` is a placeholder.
     fn unjudged(command: Command<u64>) -> Call
         ensures command { result.command ≡ command }
     {

@@ -14,15 +14,15 @@ pub enum LineError {
     /// field contains the form that the line should have.
     #[error("the form is `{0}`")]
     WrongForm(&'static str),
-    /// A word is not a number from 0 to 2^64 - 1. The field is a placeholder, such as `INDEX`. It
-    /// stands for this word in the forms that `help` prints.
+    /// A word is not a number from 0 to 2^64 - 1. The field is the name, such as `INDEX`, that
+    /// stands for this word in the text that `help` prints.
     #[error("{0} is not a number from 0 to 18446744073709551615")]
     NotANumber(&'static str),
     /// The divisor of a judge is 0.
     #[error("DIVISOR is 0")]
     ZeroDivisor,
-    /// The word STEPS is invalid: it is not `-`, and it contains a character other than `f` and
-    /// `b`.
+    /// The word that was given for STEPS is invalid: it is not `-`, and it contains a character
+    /// other than `f` and `b`.
     #[error("STEPS is neither `-` nor a word of the letters `f` and `b`")]
     BadSteps,
     /// There is not enough memory for the parsed line.

@@ -90,8 +90,8 @@ module _ {V : Type 0} where
       greater = λ k d from inside. g.greater (suc k) d (omega arith) (omega arith);
     }
 
-    -- If the columns of `e ∷ entries` are strictly increasing, and the entry of column `c` is at
-    -- index `at + 1`, then the column of `e` is less than `c`.
+    -- Suppose that the columns of `e ∷ entries` are strictly increasing. If the entry of column `c`
+    -- is at index `at + 1` of this list, then the column of `e` is less than `c`.
     before_place : (e : ℕ × V) (entries : List (ℕ × V)) (at : ℕ) → IsRising (e ∷ entries)
         → IsPlaceOf (e ∷ entries) c (suc at) → e.0 < c
     before_place e entries at h p =

@@ -169,7 +169,7 @@ pub record Stand (T : Type 0) : Type 0 where
   pub front : List T
   -- The number of items that have been yielded so far.
   pub out : ℕ
-  -- The cost of the list so far.
+  -- The cost of the list in this state.
   pub paid : Cost
 
 -- In this module, `asked` contains the verdict of an `ExtractIf` on each item of the range, `start`

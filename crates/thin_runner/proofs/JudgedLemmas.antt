@@ -201,10 +201,9 @@ module _ {T J : Type 0} (E : T → T → Bool) (j : J) where
   abbrev pub tells : J → T → T → Bool × T × T × J
   tells j later kept = (E later kept, later, kept, j)
 
-  -- `asked_last tells j k xs` is the result if a judge compares the items `xs`, which follow the
-  -- kept item `k`, with the equality test `E`. The lemma says that exactly the items
-  -- `dedup_from E k xs` are kept, and that `unlike_from E k xs` says which of the items `xs` these
-  -- are.
+  -- Suppose that a judge that uses the equality test `E` compares the items `xs`, which follow the
+  -- kept item `k`. Then exactly the items `dedup_from E k xs` are kept, and `unlike_from E k xs`
+  -- has one flag for each item of `xs`, which says whether this item is kept.
   dedup-last : (k : T) (xs : List T) → Leaves (unlike_from E k xs) (dedup_from E k xs)
       (asked_last tells j k xs)
   dedup-last k [] = (refl, refl)

@@ -42,8 +42,9 @@ module _ {T A : Type 0} (v w : Thin T A) where
   edited-moves : (xs : List T) (m : ℕ) → w ≡ edited v xs m → w.cost.moves ≤ v.cost.moves + m
   edited-moves xs m e = omega (arith, ap (λ z. z.cost.moves) e)
 
-  -- If `w` is the list `v` after a call that set its items and capacity and added `m` moves, then
-  -- `w` has at most `m` more moves than `v`.
+  -- Suppose that a call turned the list `v` into `w`: it set the items and the capacity, and added
+  -- `m` moves to the cost. Then the moves counted in `w` exceed those counted in `v` by at most
+  -- `m`.
   grown-moves : (xs : List T) (m : ℕ) → w ≡ grown v w.capacity xs m
       → w.cost.moves ≤ v.cost.moves + m
   grown-moves xs m e = omega (arith, ap (λ z. z.cost.moves) e, cost_at-moves v w.capacity)

@@ -144,9 +144,9 @@ module _ {T A : Type 0} (old : Thin T A) (a b : ℕ) where
         subst (λ (n : Count). of (cut old a b) n) count
         (subst (λ (v : Thin T A). of v left) left-is is_ruled)
 
-    -- `left_of block alloc` and `cut old a b` are the same list. If `cut old a b` has room for
-    -- `most` more items, and `size` equals `most`, then `left_of block alloc` has room for `size`
-    -- more items.
+    -- `left_of block alloc` and `cut old a b` are the same list (`left-is`). So if `cut old a b`
+    -- has room for `most` more items, and `size` equals `most`, then `left_of block alloc` has room
+    -- for `size` more items.
     pub room-left : (most size : ℕ) → size ≡ most → HasRoomFor (cut old a b) most
         → HasRoomFor (left_of block alloc) size
     room-left most size count room =

@@ -43,9 +43,9 @@ module _ {T A G : Type 0} where
   in_range xs command = true
 
 module _ {T A G J : Type 0} (here : Setting T A J) where
-  -- `granted xs command` is a pair: the reply to a command that runs on a list with the items `xs`,
-  -- and the items after this command. The reply is a value of the type `Seen`. The definition
-  -- assumes that the command does not fail, and that its index or range is in bounds.
+  -- `granted xs command` is a pair: the reply to `command` if it runs on a list with the items
+  -- `xs`, and the items of the list afterwards. The reply is a value of the type `Seen`. The
+  -- definition assumes that the command does not fail, and that its index or range is in bounds.
   abbrev pub granted : List T → Command T A G → Seen T A G × List T
   granted xs (Push v) = (says Done, xs ++ v ∷ [])
   granted xs Pop = let last = length xs - 1 in (says (Item (slice_get xs last)), take last xs)

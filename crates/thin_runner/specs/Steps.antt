@@ -35,8 +35,8 @@ module _ {T A G : Type 0} where
   IsInRange xs command = Unit {0}
 
 module _ {T A G J : Type 0} (here : Setting T A J) where
-  -- `Does old command reply new` holds if the command may turn the list `old` into `new` and get
-  -- this reply. The definition assumes that the index or the range of the command is in bounds.
+  -- `Does old command reply new` holds if `command` may turn the list `old` into `new` and return
+  -- `reply`. The definition assumes that the index or the range of the command is in bounds.
   abbrev pub Does : Thin T A → Command T A G → Reply T A G → Thin T A → Type 0
   Does old (Push v) Done new = Grows here old 1 (old.items ++ v ∷ []) 1 new
   Does old (Push v) (Returned w cause) new =

@@ -111,8 +111,8 @@ pub enum Reply<T, A: Allocator = Global, G: Growth = Doubling> {
     Refused(ThinVecError),
     /// A call to `extend`, or to `finish` on a `Splice`, failed.
     Stopped {
-        /// The results of the steps that were carried out before `finish` was called. If `extend`
-        /// failed, this vector is empty.
+        /// The results of the steps that were carried out before `finish` was called. If the
+        /// command is an `Extend`, there are no steps, and this vector is empty.
         answers: Vec<Option<T>, A>,
         /// The cause of the failure.
         cause: ThinVecError,

@@ -349,8 +349,8 @@ impl Pick for Nothing {
     }
 }
 
-/// A predicate that picks the numbers whose last four bits are not all 1. Of the numbers 0, 1, 2
-/// and so on, it picks fifteen in a row, skips one, picks the next fifteen, and so on.
+/// A predicate that picks the numbers whose last four bits are not all 1. Counting from 0, it
+/// repeatedly picks fifteen numbers in a row, and then skips one.
 pub struct InARun;
 
 impl Pick for InARun {

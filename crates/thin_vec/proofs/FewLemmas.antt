@@ -27,8 +27,8 @@ exact-few R (suc n) few small =
 none_some : {A B : Type 0} (x : A) → None ≡ Some x → B
 none_some x e = cc
 
--- If a call fails with the error `cause`, and the needed capacity `n` is not too large (`named` is
--- `Some n`), then `cause` is `OutOfMemory`.
+-- `named` is the capacity that a call needs, or `None` if this capacity is too large. If a call
+-- fails with the error `cause`, and `named` is `Some n`, then `cause` is `OutOfMemory`.
 cause-named : (named : Option ℕ) (n : ℕ) (cause : ThinVecError) → named ≡ Some n
     → IsCause named cause → cause ≡ OutOfMemory
 cause-named named n OutOfMemory here told = refl

@@ -171,8 +171,8 @@ module _ {T A : Type 0} where
         (length-full v.front ∙ s.front))
         ∙ items-full-alone v.front
 
-    -- The items in the slots `rest_start..rest_end` of the open block `h` are its middle items
-    -- `v.rest`.
+    -- The items in the slots `rest_start..rest_end` of the open block `h` are `v.rest`, the middle
+    -- items.
     shown-rest : items_in (slice_range h.block.slots h.rest_start h.rest_end) ≡ v.rest
     shown-rest =
         let count : length (full v.rest) ≡ h.rest_end - h.rest_start =
@@ -195,8 +195,8 @@ module _ {T A : Type 0} where
         ∙ ap (λ (k : ℕ). full v.tail ++ empty k) (sym some)))
         ∙ items-front v.tail (length v.tail + (v.capacity - reach v))
 
-    -- If `v` describes the layout of the open block `h`, and has the same allocator and cost, then
-    -- `h` is a valid open block, and contracts see it as `v`.
+    -- If `v` describes the layout of the open block `h`, and has the same allocator and cost as
+    -- `h`, then `h` is a valid open block, and `v` is how contracts see `h`.
     pub found : h.block.alloc ≡ v.alloc → h.block.cost ≡ v.cost → Found h v
     found alloc cost =
         let gap : h.rest_start - h.front_end ≡ v.gap = omega (arith, s.gap) in
@@ -280,8 +280,8 @@ module _ {T A : Type 0} where
       cost = v.cost;
     }
 
-    -- If the first middle item `x` of the open block `h` was removed, then contracts see the new
-    -- open block as `first-seen ys`, where `ys` are the other middle items.
+    -- If the first middle item `x` of the open block `h` is removed, then `first-seen ys` is how
+    -- contracts see the resulting open block. The list `ys` contains the remaining middle items.
     pub first-step : (x : T) → slot h.block.slots h.rest_start ≡ Some x
         → seen b ≡ record (seen h.block) { slots = set h.block.slots h.rest_start None }
         → (ys : List T) × (v.rest ≡ x ∷ ys) × Found first-left (first-seen ys)

@@ -100,9 +100,9 @@ module _ {S T : Type 0} (R : S → T → Bool → S → T → Type 0) where
   -- In this module, the items `ys` were tested with the results `b`. The tests changed the state of
   -- the closure from `t` to `u`.
   module _ (t u : S) (ys : List T) (b : Verdicts T) (k : Asked R t ys b u) where
-    -- If testing `xs` returned the verdicts `a`, and then testing `ys` returned `b`, then testing
-    -- `xs ++ ys` returned `a ++ b`. The state of the closure is first `s`, then `t`, and finally
-    -- `u`.
+    -- If testing `xs` takes the closure from the state `s` to `t` with the verdicts `a`, and
+    -- testing `ys` takes it from `t` to `u` with the verdicts `b`, then testing `xs ++ ys` takes it
+    -- from `s` to `u` with the verdicts `a ++ b`.
     asked-append : (xs : List T) (s : S) (a : Verdicts T) → Asked R s xs a t
         → Asked R s (xs ++ ys) (a ++ b) u
     asked-append [] s a h = subst (λ (c : Verdicts T). Asked R s ys (c ++ b) u) (sym h.0)
@@ -628,8 +628,9 @@ module _ {S T : Type 0} (R : S → T → Bool → S → T → Type 0) where
           });
         }
 
--- In this module, `J` is the type of a struct that wraps a closure and returns its results.
--- `inside` maps each state of this wrapper to the state of the closure.
+-- In this module, `J` is the type of a wrapper around a closure. A call to the wrapper returns what
+-- the closure returns. `inside` maps each state of the wrapper to the state of the closure inside
+-- it.
 module _ {J S T : Type 0} (R : S → T → Bool → S → T → Type 0) (inside : J → S) where
   -- `through` describes the calls to a wrapper of a closure. Each state of the wrapper contains a
   -- state of the closure. `through` applies `R`, the relation that describes the calls to the
@@ -663,8 +664,8 @@ module _ {J S T : Type 0} (R : S → T → Bool → S → T → Type 0) (inside 
 
 -- In this module, `R` describes the calls to a closure that only reads the item.
 module _ {S T : Type 0} (R : S → T → Bool → S → Type 0) where
-  -- If a closure that only reads its items tested the items `xs`, then it returned one flag for
-  -- each item. The kept items are those whose flag is true.
+  -- If a closure that cannot change the items tests the items `xs`, then it returns one flag for
+  -- each of them, and the kept items are those whose flag is true.
   told : (xs : List T) (s t : S) (a : Verdicts T) → Asked (Looks R) s xs a t
       → (length (flags_of a) ≡ length xs) × ReturnsInTurn R s (flags_of a) xs t
       × (left_at true a ≡ items_where_true (flags_of a) xs)

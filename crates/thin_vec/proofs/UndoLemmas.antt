@@ -1,5 +1,5 @@
--- These lemmas are for proofs about code that inserts an item and then removes it at the same
--- index.
+-- These lemmas are for proofs about code that inserts an item at an index, and then removes the
+-- item at this index again.
 use Rattle.std.proofs.Common.{◌≡◌, ℕ, zero, suc, ◌≤◌, List, [], ◌∷◌, ap, arith, length, refl}
 use Rattle.std.specs.Prelude.{Some, insert, remove, slice_get}
 

@@ -27,7 +27,7 @@ pub record IsFilledBy {S X : Type 0} (steps : S → Option X → S → Type 0) (
   -- least one slot is still empty.
   pub full : f.ended ≡ false → length items ≡ room
   pub short : f.ended ≡ true → length items < room
-  -- If the iterator has not ended, `next` may be called on its rest `f.rest`, and the bound on the
-  -- number of items that `f.rest` yields is finite.
+  -- If the iterator has not ended, then `next` may be called on what is left of it (`f.rest`), and
+  -- the number of items that `f.rest` can still yield has a finite bound.
   pub asked : f.ended ≡ false → can f.rest × IsFinite (remaining f.rest)
   pub nearer : f.ended ≡ false → length items + size (remaining f.rest) ≤ size (remaining s)

@@ -5,8 +5,8 @@ use Rattle.std.specs.Range.Bound.{end_index, start_index}
 use Rattle.std.specs.declared.option.Option.TheVariants.{None, Some}
 use Rattle.std.specs.declared.ops.Bound.{Bound}
 
--- `range_between start end len` is `Some (i, j)` if the range with the bounds `start` and `end` is
--- `i..j`, and `i ≤ j` and `j ≤ len`. Otherwise it is `None`.
+-- Let `i..j` be the range with the bounds `start` and `end` in a list of length `len`. Then
+-- `range_between start end len` is `Some (i, j)` if `i ≤ j ≤ len`, and `None` otherwise.
 abbrev pub range_between : Bound ℕ → Bound ℕ → ℕ → Option (ℕ × ℕ)
 range_between start end len =
     if nat_le (start_index start) (end_index end len) && nat_le (end_index end len) len

@@ -38,7 +38,7 @@ front_shape {X} [] m = none_shape X m
 front_shape (y ∷ ys) m = ap (λ l. true ∷ l) (front_shape ys m)
 
 -- If the row of slots `s` consists of `n` filled slots, followed by `m` empty slots, then
--- `map is_some s` consists of `n` times `true`, followed by `m` times `false`.
+-- `map is_some s` consists of `n` copies of `true`, followed by `m` copies of `false`.
 pub to_shape : {X : Type 0} (s : List (Option X)) (m : ℕ) → s ≡ full (items_in s) ++ empty m
     → map is_some s ≡ shape (length (items_in s)) m
 to_shape s m e = ap (map is_some) e ∙ front_shape (items_in s) m

@@ -86,8 +86,8 @@ pub fn every_edit<T: Sample, G: Ruled, R: Abort>(rt: &R, scope: &Scope) {
     sweep::<TryTake, T, G, R>(rt, scope);
 }
 
-/// Tests calls that replace a range, and calls that append items without growing the list. `scope`
-/// says on which lists the calls are tested.
+/// Tests calls that replace a range, and calls that append items to a list without changing its
+/// capacity. `scope` says on which lists the calls are tested.
 pub fn every_replacing<T: Sample, G: Ruled, R: Abort>(rt: &R, scope: &Scope) {
     sweep::<ReplaceRange, T, G, R>(rt, scope);
     sweep::<ReplaceRangeFromList, T, G, R>(rt, scope);

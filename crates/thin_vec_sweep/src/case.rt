@@ -107,9 +107,9 @@ impl<T: Sample, G: Ruled> Case<T, G> {
         fitting::<T>(want.max(self.capacity))
     }
 
-    /// Returns whether to skip the call because a list of capacity `capacity` would take too much
-    /// memory. Also stores the result in `is_left_out`. A call whose first request is refused is
-    /// never skipped.
+    /// Returns true if the call must be skipped: a list of the given capacity would take too much
+    /// memory, and the first request of the call is not refused. Also stores the result in
+    /// `is_left_out`.
     pub fn is_too_much(&mut self, capacity: Option<usize>) -> bool {
         let is_great = capacity.is_some_and(|capacity| capacity > 1_000_000);
         self.is_left_out = is_great && self.at.refused != 1 && T::LIMIT < isize::MAX as usize;
@@ -152,8 +152,7 @@ impl<T: Sample, G: Ruled> Case<T, G> {
         true
     }
 
-    /// Adds one to the expected number of allocation requests, and returns whether the allocator
-    /// grants this request.
+    /// Counts one more expected allocation request, and returns whether the allocator grants it.
     pub fn granted(&mut self) -> bool {
         self.requests = self.requests.saturating_add(1);
         self.requests != self.at.refused

@@ -104,8 +104,9 @@ impl Shape {
         self.length < 5
     }
 
-    /// Returns the greatest number of test cases for one argument. It is 50 for a list of at most
-    /// 40 items, and 2 for a longer list. A request is refused in all of them except one.
+    /// Returns the maximum number of test cases for each argument of the tested call: 50 for a list
+    /// of at most 40 items, and 2 for a longer list. In each of these test cases but one, the
+    /// allocator refuses one request.
     pub fn rounds(self) -> u64 {
         if self.is_long() { 2 } else { 50 }
     }
@@ -119,8 +120,8 @@ impl Shape {
         }
     }
 
-    /// Returns one of the indices at which a test tries a call on a list of this shape. `number`
-    /// selects one of them.
+    /// Returns the index that the test case `number` tries on a list of this shape. Some tests use
+    /// this index as a length or a count.
     pub fn index(self, number: usize) -> usize {
         if self.is_small() {
             return number;
@@ -133,8 +134,8 @@ impl Shape {
         }
     }
 
-    /// Returns the number of test cases of a call on the whole list. For a list of `k` items with
-    /// `k ≤ 6`, this is `cases[k]`.
+    /// Returns the number of test cases for a call that takes neither an index nor a range. If the
+    /// list has `k ≤ 6` items, this is `cases[k]`.
     pub fn cases(self, cases: &Cases) -> usize {
         cases.get(self.length).copied().unwrap_or(self.some())
     }

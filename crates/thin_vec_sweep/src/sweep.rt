@@ -1,5 +1,6 @@
-//! Sweeps. A sweep makes one call on many lists, with several arguments, and with each allocation
-//! request refused in turn.
+//! This file defines sweeps. A sweep tests one call on many lists, with several choices of its
+//! arguments. Each test is repeated with one of its allocation requests refused, for each request
+//! up to a limit.
 use crate::assertions::At;
 use crate::case::Case;
 use crate::ledger::Ledger;
@@ -33,8 +34,8 @@ pub trait Call<T: Sample, G: Ruled> {
     fn run<R: Abort>(rt: &R, case: &mut Case<T, G>, argument: usize);
 }
 
-/// Tests the call `C` on lists of all shapes in `scope`. Never inlined, because the sweeps would
-/// otherwise become one large function that takes long to compile.
+/// Tests the call `C` on lists of all shapes in `scope`. This function is not inlined, so that the
+/// sweeps do not become one large function that takes a long time to compile.
 #[inline(never)]
 pub fn sweep<C: Call<T, G>, T: Sample, G: Ruled, R: Abort>(rt: &R, scope: &Scope) {
     for number in scope.shapes.start..scope.shapes.end {

@@ -1,5 +1,5 @@
-//! Walks over an iterator. A walk is a sequence of steps, each of which is a call to `next` or
-//! `next_back`. This file also determines the item that each step must yield.
+//! This file defines walks over an iterator. A walk is a sequence of steps, each of which is a call
+//! to `next` or `next_back`. The functions also compute the item that each step must yield.
 use crate::shapes::Cases;
 
 /// For each `k` from 0 to 6, the number of sequences of at most `k + 1` calls to `next` and

@@ -22,7 +22,7 @@ pub fn row_3<A: Allocator + Copy>(alloc: A) -> Outcome {
     Ok(checks)
 }
 
-/// Checks that `into_array` returns the list if the array has fewer items than the list. Also
+/// Checks that `into_array` gives the list back if the array type is too short for its items. Also
 /// checks that the clone of an empty list has no allocation.
 pub fn row_20<A: Allocator + Copy>(alloc: A) -> Outcome {
     let mut checks = Checks::new();

@@ -8,7 +8,7 @@ use thin_runner::hinted::Hinted;
 use thin_vec::{SpliceRefused, ThinVec, ThinVecError};
 
 // Replaces two of five items with the three items of an iterator whose size hint has the lower
-// bound `claim`. Checks the new items, and that the new capacity is `capacity`.
+// bound `claim`. Checks that the list then has the expected items and the capacity `capacity`.
 fn check_claimed<A: Allocator + Copy>(
     checks: &mut Checks,
     alloc: A,

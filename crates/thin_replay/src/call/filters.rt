@@ -9,8 +9,13 @@ use crate::line_error::LineError;
 use crate::words::count_of;
 use thin_runner::command::Command;
 
-/// Parses the words of a line as a command and a judge. A judge makes decisions in place of a
-/// closure. Returns `None` if the words do not have the form of a command with a judge.
+/// Parses the words of a line as a command and a judge, which makes the decisions that a closure
+/// makes in a method call. Returns `None` if the words do not have the form of a command with a
+/// judge.
+///
+/// # Errors
+///
+/// Fails if the words have this form, but a word after the name of the command is invalid.
 pub fn parse(words: &[&str]) -> Result<Option<Call>, LineError>
     ensures says { IfOk result (λ found. IfSome found (IsCall words.now)) }
 {

@@ -35,10 +35,9 @@ module _ {T J : Type 0} (ask : J → T → Bool × T × J) where
       let a = ask j x in (not a.0, a.1) ∷ extracting a.2 (if a.0 then k else suc k) xs
 
 module _ {T J : Type 0} (same : J → T → T → Bool × T × T × J) where
-  -- `asked_last j k xs` compares each item of `xs` with the last kept item before it. The first
-  -- item is compared with `k`. The judge is in the state `j` before the first comparison. The
-  -- result is a pair. It contains the item `k` as it is after its comparisons, and the list of the
-  -- verdicts on `xs`.
+  -- `asked_last j k xs` describes comparisons of each item of `xs` with the last kept item before
+  -- it. The first item is compared with `k`. The judge starts in the state `j`. The result is a
+  -- pair: the item `k` as it is after its comparisons, and the list of the verdicts on `xs`.
   abbrev pub asked_last : J → T → List T → T × Verdicts T
   asked_last j k [] = (k, [])
   asked_last j k (x ∷ xs) =

@@ -21,9 +21,9 @@ fn assert_blocks(rt: &impl Abort, refusing: &Refusing<Global>, blocks: u64) {
     assert_same(rt, refusing.blocks(), blocks);
 }
 
-// Tries twice to push an item onto a new `Vec`. At first, the allocator has one block, which
-// belongs to another `Vec`. Asserts that the first push fails and allocates no block, and that the
-// second push succeeds and allocates a second block.
+// Asserts that `refusing` counts its blocks correctly. At the start, one block is allocated, which
+// belongs to another `Vec`. The function tries twice to push an item onto a new `Vec`. The first
+// push fails, so there is still one block. The second push succeeds, so there are two blocks.
 fn assert_blocks_by_pushes(rt: &impl Abort, refusing: &Refusing<Global>) {
     let mut other = Vec::new(refusing);
     assert_push(rt, &mut other, 2, false);

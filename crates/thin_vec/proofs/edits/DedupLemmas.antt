@@ -96,8 +96,9 @@ module _ {S T : Type 0} (R : OnPairs S T) where
   -- the items `zs` were kept, and `ws` is the list of the kept items, including `l`. The tests
   -- changed the state of the closure from `t` to `u`.
   module _ (t u : S) (l : T) (g : List Bool) (ws zs : List T) (m : AskedLast R t l zs g ws u) where
-    -- If testing `xs` after the kept item `k` leaves the kept items `pre` and then `l`, and testing
-    -- `zs` after `l` leaves `ws`, then testing `xs ++ zs` after `k` leaves `pre ++ ws`.
+    -- Suppose that testing `xs` after the kept item `k` results in the kept items `pre ++ l ∷ []`,
+    -- and that testing `zs` after `l` results in the kept items `ws`, including `l`. Then testing
+    -- `xs ++ zs` after `k` results in `pre ++ ws`.
     last-append : (xs : List T) (s : S) (k : T) (f : List Bool) (pre : List T)
         → AskedLast R s k xs f (pre ++ l ∷ []) t → AskedLast R s k (xs ++ zs) (f ++ g) (pre ++ ws) u
     last-append [] s k f pre h =
@@ -369,8 +370,9 @@ module _ {S T : Type 0} (R : OnPairs S T) where
     module _ (s t u : S) (x y z : T) (front ys zs : List T)
         (a : IsLastAsked R s x v.front false t y front) (b : Bool)
         (n : IsNextAsked R t y ys b u z zs) (whole : v.rest ≡ x ∷ ys) where
-      -- If the first middle item was kept and moved to the end of the front items, and the second
-      -- middle item was then tested, then the front items end with `a.kept_left` and `z`.
+      -- Suppose that the first middle item was kept and appended to the front items, and that the
+      -- second middle item was tested afterwards. Then the last two front items are `a.kept_left`
+      -- and `z`, where `z` is the appended item.
       two-front : (front ++ z ∷ [] ≡ a.before ++ a.kept_left ∷ z ∷ [])
       two-front = ap (λ (l : List T). l ++ z ∷ []) a.now
           ∙ append_assoc a.before (a.kept_left ∷ []) (z ∷ [])
@@ -480,8 +482,9 @@ module _ {S T : Type 0} (R : OnPairs S T) where
 
   module _ {A : Type 0} (v w : Open T A) (m : ℕ) (s t : S) (ys : List T)
       (r : PairsAskedUpTo R m s v.rest t ys) where
-    -- `RunPassed` holds if `w` is the open block `v` with the `m` kept items as its front items.
-    -- The gap and the middle items may also differ. The cost is the same.
+    -- `RunPassed` holds if the front items of the open block `w` are the `m` kept items, if its
+    -- cost is that of the open block `v`, and if, apart from this, `w` differs from `v` at most in
+    -- its first gap and its middle items.
     abbrev RunPassed : Type 0
     RunPassed = Moved v w (take m ys) v.cost
 
@@ -619,9 +622,9 @@ module _ {S T : Type 0} (E : T → T → Bool) where
       ]
       h.5.0 h.6 h.7
 
-  -- Suppose that the function `E` tested all items of the list `xs` except the first. Then the
-  -- flags `f`, which say which of these items are kept, are `unlike E xs`. The list `ys` of the
-  -- kept items, including the first item, is `dedup E xs`.
+  -- Suppose that each item of `xs` after the first was compared by `E` with the last item kept
+  -- before it. Then the flags `f`, which say which of these items are kept, are `unlike E xs`. The
+  -- list `ys` of the kept items, including the first item, is `dedup E xs`.
   pub pairs-compare : (xs : List T) (s t : S) (f : List Bool) (ys : List T)
       → AskedPairs (Compares E) s xs f ys t → (f ≡ unlike E xs) × (ys ≡ dedup E xs)
   pairs-compare [] s t f ys h = (h.0, h.1)

@@ -57,9 +57,9 @@ module _ {S T A : Type 0} {steps : S → Option T → S → Type 0} {can : S →
     {remaining : S → Count} where
   module _ {v : Open T A} {a : A} {s : S} {w : Thin T A} {f : Filled S}
       (p : FillsGap steps can remaining v a s w f) where
-    -- After items have been put into the gap of the open block `v`, and `v` has been closed, the
-    -- length of the list `w` is the number of front items, plus the number of tail items, plus the
-    -- number of inserted items.
+    -- Let `w` be the list that results if items are put into the gap of the open block `v`, and `v`
+    -- is then closed. The length of `w` is the number of front items, plus the number of tail
+    -- items, plus the number of inserted items.
     pub filled-long : length w.items ≡ length v.front + length v.tail + length p.0.items
     filled-long = omega (arith, ap length p.1.items, between-length v p.0.items)
 
@@ -162,9 +162,9 @@ module _ {S T A : Type 0} {steps : S → Option T → S → Type 0} {can : S →
               ((ap (λ n. n + (length xs + e.0)) (length-append v.front v.tail) ∙ want) i)) ∙ e.2,
         )
 
-    -- `IsReached` describes a state during `finish`. If it holds for the list `u`, and more items
-    -- were then inserted at index `end`, but the iterator has not ended yet, then it also holds for
-    -- the new list `w`.
+    -- `IsReached` describes an intermediate state of `finish`. Suppose that it holds for the list
+    -- `u`, and that inserting more items at index `end` turns `u` into `w`. If the iterator has not
+    -- ended yet, then `IsReached` also holds for `w`.
     pub reached-more : {w : Thin T A} {room : ℕ} {f : Filled S}
         (by : IsFilledBy steps can remaining room t f)
         → w.items ≡ (take end u.items ++ by.items) ++ drop end u.items

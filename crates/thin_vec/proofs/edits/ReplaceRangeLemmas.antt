@@ -54,7 +54,7 @@ module _ {T : Type 0} where
 
 module _ {T : Type 0} (xs : List T) (i j : ℕ) (order : i ≤ j) (within : j ≤ length xs) where
   -- Let `w` be `xs` with `zs` inserted at index `j` and `ys` appended. Removing the items `i..j` of
-  -- `w` and moving `ys` to index `i` replaces the items `i..j` of `xs` with `ys ++ zs`.
+  -- `w` and moving `ys` to index `i` yields `xs` with its items `i..j` replaced by `ys ++ zs`.
   pub brought-in : (ys zs : List T) {w : List T} {n : ℕ} → length ys ≡ n
       → w ≡ replace_range xs j j zs ++ ys
       → (take i w ++ drop (length w - n) w) ++ take (length w - n - j) (drop j w)

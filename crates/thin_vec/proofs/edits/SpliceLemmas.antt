@@ -310,8 +310,9 @@ module _ {T A : Type 0} where
         cost = free i;
       }
 
-  -- `with_between v xs` is the front items of the open block `v`, then `xs`, then its tail items.
-  -- Inserting `ys` directly after `xs` results in `with_between v (xs ++ ys)`.
+  -- `with_between v xs` is the list of the front items of the open block `v`, followed by `xs` and
+  -- by the tail items of `v`. Inserting `ys` directly after `xs` results in
+  -- `with_between v (xs ++ ys)`.
   pub between-more : (v : Open T A) (us xs ys : List T) (end : ℕ) → us ≡ with_between v xs
       → end ≡ length v.front + length xs
       → (take end us ++ ys) ++ drop end us ≡ with_between v (xs ++ ys)
@@ -341,10 +342,10 @@ module _ {T A : Type 0} where
 -- In this module, `rule` is the growth rule, `R` is the item type in Rattle, `T` is the item type
 -- in contracts, and `A` is the allocator type.
 module _ (rule : Rule) (R : RattleType) {T A : Type 0} where
-  -- `HasTaken rule R v w n left` states that adding items of an iterator turned the list `v` into
-  -- `w`, and that the old items were moved at most `n` times in total. The iterator could yield at
-  -- most `left` items. Suppose that adding `k` items took `k + m` moves, and that neither the
-  -- capacity nor the allocator changed. If `m ≤ n`, then `HasTaken` holds.
+  -- `HasTaken rule R v w n left` states that adding items from an iterator turned the list `v` into
+  -- `w`, that the old items were moved at most `n` times in total, and that the iterator could
+  -- yield at most `left` items. It holds if neither the capacity nor the allocator changed, and if
+  -- adding `k` items took `k + m` moves, where `m ≤ n`.
   pub taken-spare : (v w : Thin T A) (k m n : ℕ) (left : Count) → w.cost ≡ moving (k + m) v.cost
       → w.capacity ≡ v.capacity → length w.items ≡ length v.items + k → m ≤ n → w.alloc ≡ v.alloc
       → HasTaken rule R v w n left
@@ -394,10 +395,10 @@ module _ (rule : Rule) (R : RattleType) {T A : Type 0} where
       cheap = cheap;
     }
 
-    -- `HasTaken` describes how adding items of an iterator changed a list, and bounds the number of
-    -- moves of old items. Suppose that `HasTaken` holds with the bound `m` for a step from the list
-    -- `v` to `u`, and with the bound `n` for a step from `u` to `w`. If `m + n ≤ k`, then
-    -- `HasTaken` holds with the bound `k` for both steps together.
+    -- `HasTaken` describes how a list changed when items from an iterator were added to it, and
+    -- bounds the number of moves of old items. Suppose that `HasTaken` holds with the bound `m` for
+    -- a step from the list `v` to `u`, and with the bound `n` for a step from `u` to `w`. If
+    -- `m + n ≤ k`, then `HasTaken` holds with the bound `k` for both steps together.
     pub taken-join : (v u w : Thin T A) (m n k : ℕ) (left more : Count) → m + n ≤ k
         → length v.items ≤ length u.items
         → (HasRoomFor v (size left) → u.capacity ≡ v.capacity → HasRoomFor u (size more))

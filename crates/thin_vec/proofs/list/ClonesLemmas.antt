@@ -78,8 +78,8 @@ module _ {T : Type 0} (clones : T → T → Type 0) where
       each (y ∷ ys) e = λ i. equal y e.0 i ∷ each ys e.1 i
 
 -- If room for `k` items is reserved in the new list `v`, its capacity becomes
--- `ruled_capacity rule R 0 k`: 0 if `k` is 0, and the capacity that the growth rule chooses
--- otherwise.
+-- `ruled_capacity rule R 0 k`: 0 if `k` is 0, and otherwise the capacity that the growth rule
+-- chooses.
 pub capacity-new : {T A : Type 0} (rule : Rule) (R : RattleType) (v : Thin T A) (a : A) (k : ℕ)
     → IsNew v a → capacity_for rule R v (k - length v.items) ≡ ruled_capacity rule R 0 k
 capacity-new rule R v a k new =

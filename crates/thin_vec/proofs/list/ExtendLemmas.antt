@@ -56,9 +56,9 @@ module _ {S X : Type 0} (steps : S → Option X → S → Type 0) where
       → WholeRun steps s (λ p. P p.items)
   run_of s P all = (run steps s all.0 true (to_end steps s all.0 all.1), refl, refl, all.2)
 
-  -- Suppose that the result `r` is `Ok`, and that calls to `next` yielded items that satisfy `P`
-  -- and then returned `None`. Then `WholeRun` holds: these calls form a complete run of the
-  -- iterator, and the items of this run satisfy `P`.
+  -- Suppose that a method that calls `next` returned `r`. If `r` is `Ok`, and these calls yielded a
+  -- list of items that satisfies `P` and then returned `None`, then `WholeRun` holds: the calls
+  -- form a complete run of the iterator, and the list of its items satisfies `P`.
   pub run_of_ok : {E : Type 0} (s : S) (P : List X → Type 0) (r : Result (Unit {0}) E)
       → OnOk r ((xs : List X) × Drains steps s xs × P xs)
       → OnOk r (WholeRun steps s (λ p. P p.items))
@@ -204,9 +204,8 @@ module _ (rule : Rule) (R : RattleType) (law : KeepsLaw rule) where
   collected-after n h left hint e (inl same) = inr (h, hint, e ∙ ap Some (sym same))
   collected-after n h left hint e (inr p) = inl p
 
-  -- Suppose that `d` is the capacity of the list `v` after a call that reserves room for `k` more
-  -- items. Then `IsLoose` holds, which states that a list may grow from the old capacity of `v` to
-  -- `d`.
+  -- If the list `v` has the capacity `d` after a call that reserves room for `k` more items, then
+  -- the growth rule allows the change from the old capacity to `d`, as `IsLoose` states.
   pub loose-ruled : {T A : Type 0} (v : Thin T A) (k d : ℕ) → capacity_for rule R v k ≡ Some d
       → IsLoose rule R v.capacity d
   loose-ruled v k d e =

@@ -173,8 +173,8 @@ module _ {T A : Type 0} where
           };
         }
 
-  -- `WrittenLast h b x y` states that the last front item `x` of the open block `h` was overwritten
-  -- with `y`, and that nothing else has changed. Here, `b` is the resulting block.
+  -- `WrittenLast h b x y` states that the block `b` is the block of the open block `h` after `x`,
+  -- the last of the front items, was overwritten with `y`, and that nothing else was changed.
   pub record WrittenLast (h : Inside T A) (b : Block T A) (x y : T) : Type 0 where
     pub pre : List T
     pub was : (open_of h).front ≡ pre ++ x ∷ []

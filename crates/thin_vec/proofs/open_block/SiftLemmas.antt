@@ -49,13 +49,13 @@ module _ {T A : Type 0} where
 
   module _ (h : Inside T A) (o : IsOpen h) (b : Block T A) (k : ℕ)
       (low : k < length (open_of h).rest) where
-    -- `v` is how contracts see the open block `h` before its middle item at index `k` is
-    -- overwritten.
+    -- `v` is the value by which contracts describe the open block `h`, before its middle item at
+    -- index `k` is overwritten.
     abbrev v : Open T A
     v = open_of h
 
-    -- `written` is the open block `h` after its middle item at index `k` has been overwritten. Its
-    -- slots are the slots of the block `b`.
+    -- `written` is the open block `h` after its middle item at index `k` has been overwritten. The
+    -- slots of `written` are those of the block `b`.
     abbrev pub written : Inside T A
     written = record {
       block = b;
@@ -66,8 +66,8 @@ module _ {T A : Type 0} where
       len = h.len;
     }
 
-    -- `written-seen ys` is how contracts see the open block `written` if its middle items are `ys`.
-    -- It differs from `v` only in the middle items.
+    -- If the middle items of the open block `written` are `ys`, then `written-seen ys` is how
+    -- contracts see `written`. This value differs from `v` only in the middle items.
     abbrev pub written-seen : List T → Open T A
     written-seen ys = record v { rest = ys }
 

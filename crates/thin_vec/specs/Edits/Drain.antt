@@ -76,7 +76,8 @@ module _ {T A G : Type 0} {g : Ghosts G} {h : HoldsGhosts (Holder (Open T A)) (O
   abbrev pub DrainsInOrder : Drain T A G (Holder (Open T A)) g h → Type 0
   DrainsInOrder d = YieldsInOrder DrainSteps drain_rest
 
-  -- `DrainsInReverse d` states that, for every `Drain` of the same type as `d`, calls to
-  -- `next_back` yield the remaining items of the range (`drain_rest`) in reverse order.
+  -- `DrainsInReverse d` states that calls to `next_back` yield the remaining items of the range
+  -- (`drain_rest`) in reverse order. It states this for every `Drain` of the type of `d`. The value
+  -- `d` only names this type.
   abbrev pub DrainsInReverse : Drain T A G (Holder (Open T A)) g h → Type 0
   DrainsInReverse d = YieldsInReverse DrainStepsBack drain_rest

@@ -40,8 +40,8 @@ module _ {T A : Type 0} where
 module _ {S T A : Type 0} (steps : S → Option T → S → Type 0) (can : S → Type 0)
     (remaining : S → Count) where
   -- `IsFinished` describes a call that puts the items of the iterator `s` into the open block `v`,
-  -- in place of the removed range. The call returns `result`, and leaves the list `w` with the
-  -- allocator `a`, the growth rule `rule` and the item type `R`.
+  -- in place of the removed range. The call returns `result`, and the list after the call is `w`.
+  -- This list has the allocator `a`, the growth rule `rule` and the item type `R`.
   pub record IsFinished (rule : Rule) (R : RattleType) (v : Open T A) (a : A) (s : S)
       (w : Thin T A) (result : Result (Unit {0}) (SpliceRefused T S A)) : Type 0 where
     pub succeeds : size (remaining s) ≤ v.gap → IsOk result

@@ -16,11 +16,12 @@ use Rattle.thin_vec.specs.declared.edits.splice.Splice.{Splice}
 use Rattle.thin_vec.specs.declared.edits.holder.Holds.{Ghosts as HoldsGhosts}
 
 module _ {S T A : Type 0} (steps : S → Option T → S → Type 0) where
-  -- `Stopped can remaining s placed error` describes a call to `finish` that failed with `error`.
-  -- The iterator `s` yielded the inserted items `placed`, and then the items in `error`.
+  -- `Stopped can remaining s placed error` describes a call to `finish` that inserted the items
+  -- `placed` and then failed with `error`. The iterator `s` yielded first the items `placed`, and
+  -- then the items that `error` contains.
   --
   -- `can` says when `next` may be called on an iterator, and `remaining` bounds the number of items
-  -- that it still yields.
+  -- that an iterator can still yield.
   abbrev pub Stopped : (S → Type 0) → (S → Count) → S → List T → SpliceRefused T S A → Type 0
   Stopped can remaining s placed error =
       (PausedAfter steps can remaining s
@@ -35,9 +36,9 @@ module _ {T A : Type 0} where
   -- rest of the iterator may yield at most `left` items.
   pub record IsStopCause {S : Type 0} (rule : Rule) (R : RattleType) (w : Thin T A) (tail : List T)
       (left : Count) (error : SpliceRefused T S A) : Type 0 where
-    -- If the error contains no items, the call could not reserve room for `h` items, where `h` is a
-    -- possible lower bound in the size hint. The cause is `CapacityOverflow` if and only if the
-    -- growth rule chooses no capacity for `h` more items.
+    -- If the error contains no items, then the call failed to reserve room for `h` more items,
+    -- where `h` is a lower bound that the size hint may report. In this case, the cause is
+    -- `CapacityOverflow` if and only if the growth rule chooses no capacity for `h` more items.
     pub by_hint : error.held.items ≡ [] → error.in_hand ≡ None
         → FailsAtHint rule R w left error.cause
     -- If the vector `held` is not empty, and `in_hand` is `None`, the cause is `CapacityOverflow`

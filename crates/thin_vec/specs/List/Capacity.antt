@@ -1,8 +1,8 @@
 -- These definitions describe calls that reserve room for `k` more items of the type `R` in a list:
 -- the new capacity, the errors and the cost. (std: `Vec::reserve`)
 --
--- The list before the call is `v`, the list after the call is `w`, and the result is `r`. The
--- default growth rule chooses at least twice the old capacity.
+-- The list before the call is `v`, the list after the call is `w`, and the result is `r`. If the
+-- list must grow, the default growth rule chooses at least twice the old capacity.
 use Rattle.std.specs.Prelude.{◌≡◌, ◌↔◌, ◌⊎◌, ℕ, ◌≤◌, IsErrOf, OnErr, OnOk, Option, Result}
 use Rattle.std.specs.declared.option.Option.TheVariants.{None, Some}
 use Rattle.std.specs.declared.result.Result.TheVariants.{Ok, Err}

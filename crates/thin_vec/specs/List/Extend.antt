@@ -52,9 +52,9 @@ IsExtended rule R v d n left =
     IsKeptOrRuled rule R v.capacity d n
     ⊎ ((h : ℕ) × IsWithinCount h left × (capacity_for rule R v h ≡ Some d))
 
--- `IsCollected rule R d n left` holds if a new list may have capacity `d` after it was filled with
--- the items of an iterator. Its length is `n`, its growth rule is `rule`, and its item type is `R`.
--- The iterator could yield at most `left` items.
+-- `IsCollected rule R d n left` holds if `d` is a possible capacity of a new list that has been
+-- filled from an iterator. Here, `n` is the length of the list, `rule` is its growth rule, and `R`
+-- is its item type. At the start, the iterator could yield at most `left` items.
 abbrev pub IsCollected : Rule → RattleType → ℕ → ℕ → Count → Type 0
 IsCollected rule R d n left =
     IsRuled rule R d n ⊎ ((h : ℕ) × IsWithinCount h left × (exact_capacity R 0 h ≡ Some d))
@@ -79,8 +79,8 @@ module _ {T A : Type 0} where
     pub ruled : IsExtended rule R v w.capacity (length w.items) left
 
   -- `CostsAdding v w n` bounds the recorded cost of a call that added items to a list, and changed
-  -- the list from `v` to `w`. Each added item counts as one move, and the items of `v` count as at
-  -- most `n` moves in total.
+  -- the list from `v` to `w`. Each added item costs one move, and moving the items that were
+  -- already in `v` costs at most `n` moves in total.
   pub record CostsAdding (v w : Thin T A) (n : ℕ) : Type 0 where
     pub least : v.cost.moves + length w.items ≤ w.cost.moves + length v.items
     pub moves : w.cost.moves + length v.items ≤ v.cost.moves + n + length w.items
@@ -103,8 +103,8 @@ module _ {T A : Type 0} where
       : Type 0 where
     -- If the iterator cannot yield any items, the list has the capacity 0 after the call.
     pub none : size left ≡ 0 → w.capacity ≡ 0
-    -- The growth rule may choose the capacity for at most `length w.items` items, or the capacity
-    -- is a possible lower bound in the size hint of the iterator.
+    -- The capacity of `w` is either one that the growth rule may choose for at most
+    -- `length w.items` items, or a possible lower bound in the size hint of the iterator.
     pub ruled : IsCollected rule R w.capacity (length w.items) left
     -- Each item was moved exactly once.
     pub moves : w.cost.moves ≡ length w.items
@@ -154,8 +154,9 @@ module _ {T A : Type 0} where
   -- `left` items.
   pub record IsCollectCause {S : Type 0} (rule : Rule) (R : RattleType) (left : Count)
       (error : CollectRefused T S A) : Type 0 where
-    -- If the error contains an item in `in_hand`, the list had no room for this item. The cause is
-    -- `CapacityOverflow` if and only if the growth rule chooses no capacity for one more item.
+    -- If `error.in_hand` contains an item, then the list had no room for this item. In this case,
+    -- the cause is `CapacityOverflow` if and only if the growth rule chooses no capacity with room
+    -- for one more item.
     pub by_push : IsSome error.in_hand
         → (error.cause ≡ CapacityOverflow) ↔ (capacity_for rule R error.list 1 ≡ None)
     -- If the field `in_hand` of the error is `None`, the call could not allocate a block of

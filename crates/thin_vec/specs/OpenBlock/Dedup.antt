@@ -87,9 +87,9 @@ module _ {S T : Type 0} (R : S → T → T → Bool → S → T → T → Type 0
     pub stops : ((length over ≡ 1) × (stays ≡ replicate more true ++ false ∷ []))
         ⊎ ((over ≡ []) × ((after ≡ []) × (stays ≡ replicate more true)))
 
-  -- `Dedups s v t w` holds if testing some or all middle items of an open block for duplicates
-  -- turned the block `v` into `w`. Kept items were moved to the end of the front, and the other
-  -- tested items were removed. The state of the test changed from `s` to `t`.
+  -- `Dedups s v t w` holds if testing some or all middle items of the open block `v` for duplicates
+  -- turned `v` into `w`. The kept items were appended to the front items, and the other tested
+  -- items were removed. The state of the test changed from `s` to `t`.
   pub record Dedups {A : Type 0} (s : S) (v : Open T A) (t : S) (w : Open T A) : Type 0 where
     pub before : List T
     pub first : T

@@ -5,8 +5,8 @@ use Rattle.thin_block.specs.Cost.{moving}
 use Rattle.thin_vec.specs.Edits.Retain.{Verdicts, Asked, flags_of, left_at, moved_down, stay, trues}
 use Rattle.thin_vec.specs.Open.{Open}
 
--- `R s x b t y` describes one call of a test with the item `x`. The call returns `b` (true: keep
--- `x`), and changes the state of the test from `s` to `t`, and `x` to `y`.
+-- `R s x b t y` describes one call to a test with the item `x`. The call returns `b` (`true`: keep
+-- the item), changes the state of the test from `s` to `t`, and changes the item from `x` to `y`.
 module _ {S T : Type 0} (R : S → T → Bool → S → T → Type 0) where
   -- `IsAskedAt k s xs b t ys` states that the item at index `k` of the list `xs` was tested. `b` is
   -- true if the item is to be kept. The test changed its state from `s` to `t`, and the list from
@@ -60,9 +60,9 @@ module _ {S T : Type 0} (R : S → T → Bool → S → T → Type 0) where
       cost = if v.gap == 0 then v.cost else moving count v.cost;
     }
 
-  -- `Sifts s v t w` holds if testing some or all middle items of an open block turned the block `v`
-  -- into `w`. Kept items were moved to the end of the front, and the other tested items were
-  -- removed. The state of the test changed from `s` to `t`.
+  -- `Sifts s v t w` holds if testing some or all middle items of the open block `v` turned `v` into
+  -- `w`. The kept items were appended to the front items, and the other tested items were removed.
+  -- The state of the test changed from `s` to `t`.
   pub record Sifts {A : Type 0} (s : S) (v : Open T A) (t : S) (w : Open T A) : Type 0 where
     pub done : List T
     pub verdicts : Verdicts T
@@ -76,9 +76,9 @@ module _ {S T : Type 0} (R : S → T → Bool → S → T → Type 0) where
       cost = moving (trues (flags_of verdicts)) v.cost;
     }
 
-  -- `IsSifted s v t w` holds if testing all middle items of an open block turned the block `v` into
-  -- `w`. Kept items were added to the front, and the other middle items were removed. The state of
-  -- the test changed from `s` to `t`.
+  -- `IsSifted s v t w` holds if testing all middle items of the open block `v` turned `v` into `w`.
+  -- The kept items were appended to the front items, and the other middle items were removed. The
+  -- state of the test changed from `s` to `t`.
   pub record IsSifted {A : Type 0} (s : S) (v : Open T A) (t : S) (w : Open T A) : Type 0 where
     pub verdicts : Verdicts T
     pub asked : Asked R s v.rest verdicts t

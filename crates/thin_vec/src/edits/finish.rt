@@ -233,8 +233,8 @@ impl<T: Drop, A: Allocator, G: Growth> ThinVec<T, A, G> {
         iter: I,
         alloc: A,
     ) -> Result<(), SpliceRefused<T, I, A>>
-        // `block` was taken out of this list. It contains no item that follows the removed range
-        // (`tail`), and no item of the range itself (`rest`).
+        // `block` was taken out of this list. Its `tail` (the items after the removed range) and
+        // its `rest` (the items of the range itself) must be empty.
         requires no_tail { block.tail ≡ [] }
         requires within { reach block ≤ block.capacity }
         requires empty { self.old.items ≡ [] }

@@ -179,9 +179,9 @@ impl<T: Drop, A: Allocator, G: Growth> ThinVec<T, A, G> {
         self.close(block);
     }
 
-    // Drops the items `start..end`, and moves the last `count` items of the list into the first
-    // slots of this range. `count` is at most the length of the range. If it is less, the items
-    // after the range, except those that were moved, are moved down to close the gap.
+    // Drops the items `start..end`, and fills the first slots of this range with the last `count`
+    // items of the list. `count` must be at most the length of the range. If it is less, the items
+    // between the range and these last items are moved down to close the gap.
     fn replace_by_last(&mut self, start: usize, end: usize, count: usize)
         requires start_le_end { start ≤ end }
         requires few { count ≤ end - start }

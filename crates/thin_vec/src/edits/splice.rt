@@ -42,8 +42,9 @@ impl<T, A: Allocator, G: Growth> ThinVec<T, A, G> {
     /// Begins to replace the items `start..end` with the items of `iter`. The returned `Splice`
     /// yields the old items from either end. Its method `finish` puts the new items in their place.
     ///
-    /// The range must be in bounds. The function `bounds` of this crate checks a range. The call
-    /// cannot fail. It allocates nothing, moves no item, and takes no item from `iter`.
+    /// The range must be in bounds. To check a range, call the function `bounds` of this crate.
+    /// `splice` itself cannot fail: it allocates nothing, moves no item, and takes no item from
+    /// `iter`.
     pub fn splice<I: Iterator<Item = T>>(
         &mut self,
         start: usize,

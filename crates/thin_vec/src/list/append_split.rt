@@ -101,8 +101,8 @@ impl<T, A: Allocator, G: Growth> ThinVec<T, A, G> {
         self.append_from(other, 0);
     }
 
-    // Moves the items of `other` from index `start` onward to the end of this list. This list must
-    // have room for these items.
+    // Appends the items at index `start` and after it of `other` to this list, and removes them
+    // from `other`. This list must have room for these items.
     fn append_from(&mut self, other: &mut ThinVec<T, A, G>, start: usize)
         requires in_bounds { start ≤ length other.old.items }
         requires room { HasRoomFor self.old (length other.old.items - start) }

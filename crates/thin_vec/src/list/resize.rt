@@ -70,8 +70,8 @@ impl<T: Clone, A: Allocator, G: Growth> ThinVec<T, A, G> {
         requires some { 0 < count }
         requires room { HasRoomFor self.old count }
 
-        // The call succeeds if cloning `value` cannot fail, or if `count` is 1, because no clone is
-        // made in this case. On success, the items are appended.
+        // The call succeeds if cloning `value` cannot fail. It also succeeds if `count` is 1,
+        // because then only `value` itself is appended. On success, the items are appended.
         ensures succeeds { T.is_infallible value → IsOk result }
         ensures succeeds_by_one { count ≡ 1 → IsOk result }
         ensures items { OnOk result

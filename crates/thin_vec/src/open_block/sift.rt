@@ -122,8 +122,8 @@ impl<T, A: Allocator> OpenBlock<T, A> {
         self.rest_start += k;
     }
 
-    // Returns whether at least two items remain. There must be a gap before the remaining items, so
-    // `rest_end - 1` cannot overflow.
+    // Returns whether at least two items remain. There must be a gap before the remaining items. So
+    // `rest_end` is at least 1, and `rest_end - 1` cannot overflow.
     pub(crate) fn has_two(&self) -> bool
         requires gap { 0 < self.now.gap }
         ensures value { IsTrue result ↔ (1 < length self.now.rest) }
@@ -190,8 +190,9 @@ impl<T, A: Allocator> OpenBlock<T, A> {
         }
     }
 
-    // Does the same as `advance`: tests the remaining items up to the first item that is to be
-    // removed. At least two items must remain, and there must be a gap before them.
+    // Does the same as `advance`: tests the untested items up to the first item that is to be
+    // removed. Before the call, at least two items must be untested, and there must be a gap before
+    // them.
     fn advance_two<J: Test<T>>(&mut self, test: &mut J) -> bool
         requires two { 1 < length self.old.rest }
         requires gap { 0 < self.old.gap }

@@ -20,8 +20,8 @@ const FRESH: u64 = 800_000;
 // The number of size hints that are tried.
 const HINTS: usize = 10;
 
-// Returns a lower bound for the size hint of an iterator over `count` items. `number` selects the
-// bound. Some bounds depend on `length`, the length of the list.
+// Returns the lower bound that the size hint of an iterator over `count` items reports. `number`
+// selects one of several bounds. Some of them depend on `length`, the length of the list.
 fn hint<T: Sample>(number: usize, count: usize, length: usize) -> usize {
     match number {
         0 => 0,
@@ -214,8 +214,8 @@ impl<T: Sample, G: Ruled> Call<T, G> for Extend {
     }
 }
 
-/// A test that calls `extend` of the trait `std::iter::Extend`. If this call fails, it must drop
-/// the items that it did not append.
+/// A test that calls `extend` of the trait `std::iter::Extend`. In Rattle, this method returns a
+/// `Result`. If the call fails, it must drop the items that it did not append.
 pub struct ExtendAsTrait {}
 
 impl<T: Sample, G: Ruled> Call<T, G> for ExtendAsTrait {
@@ -330,8 +330,8 @@ impl<T: Sample> Call<T, Doubling> for Collect {
     }
 }
 
-// Drops the list under test. Returns an iterator to make a list from, and the expected outcome.
-// Returns `None` if the call would need too much memory.
+// Drops the list under test. Returns an iterator from which the test makes a new list, and the
+// expected outcome. Returns `None` if making this list would need too much memory.
 fn collection<T: Sample, R: Abort>(
     rt: &R,
     case: &mut Case<T, Doubling>,

@@ -37,8 +37,8 @@ impl<T: Sample, G: Ruled> Call<T, G> for Append {
     }
 }
 
-/// A test that calls `append_reserved` with a second list. The test tries each length from 1 to the
-/// number of empty slots of the list under test.
+/// A test that calls `append_reserved` with a second list. It tries every length of the second list
+/// from 1 to the number of empty slots of the list under test.
 pub struct AppendReserved {}
 
 impl<T: Sample, G: Ruled> Call<T, G> for AppendReserved {

@@ -1,5 +1,5 @@
 //! The judges that the runs use. A judge replaces the closure of a call such as `retain`: it
-//! decides which items are kept or removed.
+//! decides which items are kept and which are removed.
 ghost use Rattle.std.specs.Prelude.{◌≡◌, ◌==◌, ◌/◌, ◌%◌};
 
 use std::mem;

@@ -158,8 +158,8 @@ pub fn assert_alike<'a, T: Numbered<Lender<'a>>, G: Ruled, J: Judge<T> + From<u6
 // there are 100,000 runs in total.
 const RUNS: u64 = 5_000;
 
-// Counts the executed commands, those in which a request was to be refused, and those in which a
-// request was actually refused.
+// Three counts: the executed commands, the commands in which a request was to be refused, and the
+// commands in which a request was actually refused.
 #[derive(Debug, Drop)]
 struct Tally {
     commands: u64,
@@ -206,8 +206,9 @@ fn assert_all_from<'a, T: Numbered<Lender<'a>>, G: Ruled, R: Abort>(
     tally
 }
 
-// Asserts that `commands` commands were executed, and that a request was to be refused in `named`
-// of them. Also asserts that a request was actually refused in more than 2 percent of the commands.
+// Asserts that `commands` commands were executed, and that the allocator was set up to refuse a
+// request during `named` of them. Also asserts that it did refuse a request during more than 2
+// percent of all commands.
 fn assert_tally<R: Abort>(rt: &R, tally: &Tally, commands: u64, named: u64) {
     assert_eq!(rt; (tally.commands, tally.named), (commands, named));
     assert!(rt; tally.refused > commands / 50, "{tally:?}");
@@ -259,8 +260,8 @@ fn each_seed_makes_its_own_run(rt: HostRuntime) {
     assert_eq!(rt; counted, (217, 187, 12));
 }
 
-// Returns a box that owns a block. No command allocates this block. So each run must report a
-// difference between the list and the model as long as the block exists.
+// Returns a box that owns one allocation of `alloc`. No command made this allocation. So as long as
+// the box exists, each run must report a difference between the list and the model.
 fn block<'a, R: Abort>(rt: &R, alloc: Lender<'a>) -> Box<u64, Lender<'a>> {
     Box::new(alloc, 1).ok().expect(rt, "memory")
 }

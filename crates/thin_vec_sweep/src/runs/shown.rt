@@ -81,8 +81,8 @@ pub struct Shown<T, A: Allocator> {
     /// the command failed, these are the items that it returned. If the index or the range is out
     /// of bounds, these are the new items of the command.
     pub items: Vec<T, A>,
-    /// If the reply contains a list, the capacity of this list. If a splice failed, the number of
-    /// items that it had stored in a temporary vector.
+    /// If the reply contains a list, this is the capacity of the list. If a splice failed, this is
+    /// the number of items that it had stored in a temporary vector.
     pub number: usize,
     /// Whether the failed command had taken an item from the iterator and found no room for it. If
     /// so, this item is also in `items`, directly after the items that had been stored in a

@@ -9,8 +9,9 @@ use thin_testing::Ruled;
 use thin_vec::ThinVecError;
 
 impl<T: Numbered<A>, A: Allocator + Copy, G: Ruled> Model<T, A, G> {
-    // If `order` is an `Extend`, returns it with an empty range at the end of the list, and without
-    // steps (calls to `next` and `next_back`). Otherwise, returns `order` unchanged.
+    // If `order` is an `Extend`, returns a copy whose range is empty and at the end of the list,
+    // and which has no steps (calls to `next` and `next_back`). Otherwise, returns `order`
+    // unchanged.
     pub(crate) fn placed(&self, order: Order) -> Order {
         let len = self.items.len();
         if order.kind == Kind::Extend {
@@ -114,13 +115,13 @@ impl<T: Numbered<A>, A: Allocator + Copy, G: Ruled> Model<T, A, G> {
             && (given.in_hand || given.number == 0 || has_ended)
     }
 
-    // Increases the capacity of the model to the capacity that the list of the runner had when the
-    // request was refused. `given` is the reply of the runner, and `placed` is the number of new
-    // items that were moved into the list.
+    // Updates the capacity of the model after a command in which an allocation request was refused.
+    // `given` is the reply of the runner, and `placed` is the number of new items that were moved
+    // into the list.
     //
     // If `given` contains items that the command took from the iterator but did not move into the
-    // list, the command had already made room for the first `placed` new items. Otherwise, the
-    // capacity is unchanged.
+    // list, then the command made room for the first `placed` new items before the refusal, and the
+    // capacity of the model increases accordingly. Otherwise, the capacity does not change.
     fn make_first_rooms(&mut self, order: Order, placed: usize, given: &Shown<T, A>) {
         if given.number > 0 || given.in_hand {
             let first = Order {

@@ -205,7 +205,8 @@ move_run_charging_spec 𝓤 𝓛 𝓜 𝓡 wired T A LT LA g d dd met md =
     -- The borrow of `to_block` has been closed. The proof context now holds, in this order: a ghost
     -- resource that records the value of `to_block`; the borrow of `to_block`; the lifetime token
     -- of this borrow; the memory at the old address of the items; the lifetime tokens of `T` and
-    -- `A`; the other slots of `self`; five entries for the header and the open borrow of `self`.
+    -- `A`; the other slots of `self`; and five entries that together describe the header and the
+    -- open borrow of `self`.
     let left : List (Option T.Denot) = emptied from k x.slots in
     let long_empty : length (empty {T = T.Denot} k) ≡ k = length-replicate k None in
     let long_left : length left ≡ length x.slots =

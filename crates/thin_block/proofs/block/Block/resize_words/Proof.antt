@@ -160,8 +160,8 @@ resize_words_spec 𝓤 𝓛 𝓜 𝓡 wired T A m k LT LA fits_m fits_k g d dd m
     let held_is : held ≡ k + div_ceil old m = said.1.1.1.1.1.1.1.1.1.1.1.1.0 in
     let wanted_is : wanted ≡ k + div_ceil cap m = said.1.1.1.1.1.1.1.1.1.1.1.1.1.0 in
     let room : k ≤ count = said.1.1.1.1.1.1.1.1.1.1.1.1.1.1 in
-    -- These facts relate items, words and bytes: each word consists of `m` items, and `k` words
-    -- take 16 bytes, as the header does.
+    -- These facts relate the sizes of items, words and the header. One word is as large as `m`
+    -- items, and `k` words take 16 bytes, which is the size of the header.
     let hd : InWords (type_size Rt) (type_align Rt) m k = words_told Rt m k in_words in
     let sixteen : k * s ≡ 16 = ap (λ (n : ℕ). k * n) hd.size ∙ hd.room in
     let items : List T.Denot = items_in x.slots in
@@ -232,11 +232,11 @@ resize_words_spec 𝓤 𝓛 𝓜 𝓡 wired T A m k LT LA fits_m fits_k g d dd m
     (words_in 𝓛 T LT m k b hd items count j v w old (o + 16) whole_words slots_are fill
     (hd.counts.covers old)) $ split ! $ move ! (4 ∷ []) $ fsplit ! $ fsplit ! $ drop ! $
     keep ! (2 ∷ 3 ∷ 4 ∷ 5 ∷ 0 ∷ 9 ∷ 10 ∷ 6 ∷ 7 ∷ 8 ∷ []) $
-    -- The proof has split the slots into the items and the empty slots. The memory of the empty
-    -- slots is now treated as empty words: uninitialized memory for whole words. The proof context
-    -- now holds, in this order: the items; the empty words; memory for the header; the right to
-    -- free the block; the shared reference to the allocator; the lifetime tokens of this reference
-    -- and of `T`, `A`, `M` and `K`.
+    -- The proof has split the slots into the items and the empty slots. From here on, the memory of
+    -- the empty slots is a sequence of uninitialized words, which are called the empty words below.
+    -- The proof context now holds, in this order: the items; the empty words; memory for the
+    -- header; the right to free the block; the shared reference to the allocator; the lifetime
+    -- tokens of this reference and of `T`, `A`, `M` and `K`.
     regoal ! (λ (us : List Val). prop (WpFn 𝓤 H C Λ fn us Post))
     (λ i. told i ++ (are.1.0.0 i ++ (are.1.1.0.0 i ++ (are.1.1.1.0.0 i ++ (are.1.1.1.1.0.0 i
     ++ (are.1.1.1.1.1.0.0 i ++ (are.1.1.1.1.1.1.0.0 i ++ (are.1.1.1.1.1.1.1.0.0 i ++ []))))))))
@@ -566,12 +566,12 @@ resize_words_spec 𝓤 𝓛 𝓜 𝓡 wired T A m k LT LA fits_m fits_k g d dd m
     exec ! C Λ En (after 2 fn.body) (at_ret En Post) $
     sets ! (of_opd ! (get ! refl)) refl (tt, (record { fits = lit< tt }, (words, tt))) $
     returns ! (look_at ! 0 refl) $ free_all ! refl $
-    -- The call to `resized` has failed. The function has copied the bytes of the last `k` words to
-    -- the memory directly after the preceding words, and has written the header. The proof context
-    -- now holds, in this order: the capacity in the header; the length in the header; the right to
-    -- convert the memory of the header back into memory for words; the resources that the last `k`
-    -- words own; the bytes of these words; the empty words; the right to free the block; the
-    -- preceding words; the lifetime tokens.
+    -- The call to `resized` has failed. After this call, `resize_words` has copied the bytes of the
+    -- last `k` words to the memory directly after the preceding words, and has written the header.
+    -- The proof context now holds, in this order: the capacity in the header; the length in the
+    -- header; the right to convert the memory of the header back into memory for words; the
+    -- resources that the last `k` words own; the bytes of these words; the empty words; the right
+    -- to free the block; the preceding words; the lifetime tokens.
     rewrite ! 1 (λ (n : ℕ). ‵ (fat full_share (ty_int w64) b n (vint w64 len)))
     (let turned : 8 + o ≡ o + 8 = omega arith in turned) refl $
     use1 𝓛 (‵ (lies_at usize full_share (block_ptr b o) old)) (uint_in 𝓛 full_share w64 old b o) $

@@ -4,7 +4,8 @@ use Rattle.thin_examples.specs.SyntaxTree.{node_count}
 use Rattle.thin_examples.proofs.syntax_tree.Node.+count.Given as goal
 
 -- The loop invariant of `Node::count`: the count so far plus the node counts of the unvisited
--- children is the node count of this node. Both numbers are capped at `u64::MAX`.
+-- children equals the node count of this node, if the sum and the node count are both capped at
+-- `u64::MAX`.
 abbrev pub invariant-loop-child : goal.invariant-loop-child
 invariant-loop-child l =
     (min (l.count + sum (map node_count l.child-iterator.rest.now)) (2 ^ 64 - 1) ≡ min

@@ -1,5 +1,6 @@
 -- `dedup_by_key` calls `dedup_those` with a test that calls `key` on two items and compares the
--- results. So what `dedup_those` guarantees about the test implies the contract for `key`.
+-- results. So what `dedup_those` guarantees about the calls to the test implies what the contract
+-- of `dedup_by_key` states about the calls to `key`.
 use Rattle.std.specs.Fn.{ComparesKeys}
 use Rattle.thin_vec.proofs.edits.DedupLemmas.{deduped-through, few-deduped}
 use Rattle.thin_vec.proofs.list.ThinVec.dedup_by_key.Goals as goal

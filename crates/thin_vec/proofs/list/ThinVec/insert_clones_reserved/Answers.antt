@@ -1,5 +1,6 @@
--- If an item cannot be cloned, `drop_range` drops the clones. Each of the calls `open_wide`,
--- `close` and `drop_range` moves each old item from index `at` onward at most once.
+-- This file proves the contract of `insert_clones_reserved`. If an item cannot be cloned,
+-- `drop_range` drops the clones that were made so far. The calls `open_wide`, `close` and
+-- `drop_range` each move every old item whose index is at least `at` at most once.
 use Rattle.std.proofs.Common.{◌≡◌, ◌+◌, ◌-◌, ◌++◌, ◌∙◌, [], ap, arith, drop, eqb, length, length-append, sym, take}
 use Rattle.std.proofs.lemmas.List.{length-drop, length-take-le}
 use Rattle.std.proofs.lemmas.List.Elements.{length_all_zip}

@@ -1,5 +1,5 @@
 -- `push_mut` returns a `&mut` reference to the appended item. When the borrow ends, the last item
--- of the list is the value that was written through the reference.
+-- of the list is the final value of this reference.
 use Rattle.std.proofs.Common.{[], ap, arith, get_or, refl, sym, ◌∙◌}
 use Rattle.std.proofs.lemmas.List.{get_or_at, set_at}
 use lib.ListN.{length-set, set}

@@ -52,8 +52,8 @@ returns-then-not-test-2-clause-advances g c =
       });
     }
 
--- If the test keeps the first two items, all items before the first item to be removed are moved to
--- the end of the kept items. So the clause `advances` holds.
+-- If the test keeps the first two untested items, then all items before the first item to be
+-- removed are moved, so that they directly follow the kept items. So the clause `advances` holds.
 pub returns-clause-advances : goal.returns-clause-advances
 returns-clause-advances g c =
     let R = g.J.Test.tests in
