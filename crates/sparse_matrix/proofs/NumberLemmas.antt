@@ -90,8 +90,9 @@ pub still_small : (t u : Table ℕ) (i j v : ℕ) → v < 2 ^ 64
 still_small t u i j v fits small told k l =
     rw (told k l) (either_below (k == i && l == j) v (number_at t k l) (2 ^ 64) fits (small k l))
 
--- If a call writes a number `v` less than `2 ^ 64` or fails without effect, then all numbers of the
--- table stay less than `2 ^ 64`. The table is `t` before the call and `u` after it.
+-- Suppose that all numbers of the table `t` are less than `2 ^ 64`. If a call turns `t` into `u`,
+-- either by writing a number `v < 2 ^ 64` or by failing without any effect, then all numbers of `u`
+-- are less than `2 ^ 64`.
 pub small_if_written : {X E : Type 0} (result : Result X E) (t u : Table ℕ) (i j v : ℕ)
     → i < length t → v < 2 ^ 64 → ((k l : ℕ) → number_at t k l < 2 ^ 64)
     → OnOk result (u ≡ with_value t i j v) → OnErr result (u ≡ t)

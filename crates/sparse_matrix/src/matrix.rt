@@ -145,9 +145,9 @@ impl<A: Allocator> Matrix<A> {
         Ok(())
     }
 
-    // Writes the numbers in row `column` of `other` to column `column` of this matrix. Before the
-    // call, all numbers in this column must be 0. If the call fails, some of the numbers may
-    // already have been written.
+    // Copies a row of `other` into the column of this matrix that has the same index, `column`.
+    // Before the call, all numbers in this column must be 0. If the call fails, some of the numbers
+    // may already have been written.
     fn set_column(&mut self, column: usize, other: &Matrix<A>) -> Result<(), ThinVecError>
         requires column_in_bounds { column < self.old.columns }
         requires row_in_bounds { column < length other.now.numbers }

@@ -158,8 +158,8 @@ header t R n c None b o = fsep (lent_at usize (block_ptr b o) 0 [])
     (lent_at usize (block_ptr b (o + 8)) 0 [])
 header t R n c (Some a) b o = frame (t a) R n c b o
 
--- Suppose that `a` contains an allocator exactly if the list `xs` of slots is not empty. If `xs` is
--- not empty, then `a` is `Some h` for some `h`.
+-- Suppose that the option `a` contains an allocator if and only if the list `xs` of slots is not
+-- empty. If `xs` has at least one slot, then `a` is `Some h` for some allocator `h`.
 pub alloc_there : {D X : Type 0} (a : Option D) (xs : List X) → is_some a ≡ any xs → 0 < length xs
     → (h : D) × (a ≡ Some h)
 alloc_there (Some h) xs is some = (h, refl)

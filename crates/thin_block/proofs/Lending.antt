@@ -1,5 +1,5 @@
--- After a mutable reference to items of a block has ended, these lemmas return the items to the
--- block. `item_back` returns one item, and `items_back` returns contiguous items.
+-- When a mutable borrow of items of a block has ended, these lemmas give the items back to the
+-- block. `item_back` is for one item, and `items_back` is for several adjacent items.
 use Rattle.std.proofs.Common.{◌≡◌, ℕ, ◌+◌, ◌*◌, ◌<◌, ◌≤◌, List, ◌∷◌, [], length, Some, refl, sym, ◌∙◌, arith}
 use Rattle.std.proofs.lemmas.List.{length-map, length-set}
 use seplogic.Ra.Ura.{Ura}

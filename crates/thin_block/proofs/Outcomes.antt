@@ -1,5 +1,5 @@
 -- These lemmas are about values of the types `Result` and `Option`. Both this crate and `thin_vec`
--- use them.
+-- use these lemmas.
 use Rattle.std.proofs.Common.{Err, None, Ok, Option, Result, Some, subst, ◌≡◌}
 use Rattle.std.specs.Prelude.{OnErr, OnOk, OnSome}
 

@@ -30,8 +30,8 @@ pub further : (a d c s o : ℕ) → c ≡ d + a → c * s + o ≡ d * s + (a * s
 further a d c s o e = let sum = add_times d a s in
     let same : c * s ≡ (d + a) * s = ap (λ (k : ℕ). k * s) e in omega arith
 
--- `laid i new s` is the list `s` with the `n` slots from index `i` onward replaced with the `n`
--- slots `new`.
+-- If `new` has `n` slots, then `laid i new s` consists of the first `i` slots of `s`, then `new`,
+-- and then the slots of `s` from index `i + n` onward.
 laid-over : {T : Type 0} (s new : List (Option T)) (i n : ℕ) → length new ≡ n
     → laid i new s ≡ take i s ++ (new ++ drop (i + n) s)
 laid-over s new i n long = ap (λ (k : ℕ). take i s ++ (new ++ drop (i + k) s)) long

@@ -1,5 +1,5 @@
 -- These lemmas convert the memory of items, headers, slots and blocks into memory of words, and
--- back. A word is a struct of `m` items.
+-- back. Here, a word is a struct of `m` items, which takes 8 or 16 bytes.
 use Rattle.std.proofs.Common.{◌≡◌, ℕ, zero, suc, Some, ◌+◌, ◌-◌, ◌*◌, ◌≤◌, List, [], ◌∷◌, ◌++◌, length, map, take, drop as rest, refl, sym, ap, subst, ◌∙◌, arith, zero-mul, suc-mul}
 use Rattle.std.proofs.lemmas.List.{take-append-drop, length-take, length-drop, length-map, map-append}
 use Rattle.std.specs.Prelude.{Option}
@@ -203,9 +203,9 @@ module _ {M : Type 1} {𝓤 : Ura M} (𝓛 : Logic 𝓤) (τ : Ty) (m k b : ℕ)
     abbrev Back : Fml
     Back = fsep (header_way τ m k b o) (slots_way τ m w c b (o + 16))
 
-    -- Splits memory for a block of words into four parts: memory for the capacity, memory for the
-    -- length, memory for the slots, and `Back`, the right to convert these three kinds of memory
-    -- back into memory for words.
+    -- Splits memory for a block of words into three pieces: memory for the capacity, for the
+    -- length, and for the slots. Also yields `Back`, the right to convert these three pieces back
+    -- into memory for words.
     pub block_out : ent 𝓤 (H.room (ty_array ω (k + w)) b o)
         (sep 𝓤 (H.room half b o) (sep 𝓤 (H.room half b (o + 8))
         (sep 𝓤 (H.room (ty_array τ c) b (o + 16)) (sem 𝓛 Back))))
@@ -465,10 +465,11 @@ module _ {M : Type 1} {𝓤 : Ura M} (𝓛 : Logic 𝓤) (T : RattleType) (L : L
       use2 𝓛 (‵ (places (R E) (full (rest m xs)) b far) ⊛ ‵ (ways τ' m (j + n) b far))
       (of_runs n (j + n) j (rest m xs) far at (rest_long n xs o long) refl
       (omega (arith, ea, suc-mul n u'))) $ split ! $
-      -- The previous steps have converted all words into slots. They have also produced the rights
-      -- (`ways`) to convert these slots back. The proof context now holds these entries, in this
-      -- order: the slots of all words except the first; the rights for these words and for the `j`
-      -- words after them; the slots of the first word; the right for the first word.
+      -- The previous steps have converted the words of the items `xs` into slots. They have also
+      -- produced a right (`ways`) for each of these words, to convert its slots back. The proof
+      -- context now holds these entries, in this order: the slots of the words after the first; the
+      -- rights for these words, together with the `j` rights from before; the slots of the first
+      -- word; the right for the first word.
       move ! (2 ∷ 0 ∷ []) $ use2 𝓛 (‵ (places (R E) (full c ++ full (rest m xs)) b o))
       (glue E 𝓛 b (full c) (full (rest m xs)) o far (next n xs o long)) $
       rewrite ! 0 (λ (l : List (Option X)). ‵ (places (R E) l b o)) (sym (parted xs)) refl $

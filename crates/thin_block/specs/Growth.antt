@@ -14,8 +14,9 @@ use Rattle.thin_block.specs.Capacity.{fits, first, items_offset}
 abbrev pub Rule : Type 0
 Rule = ℕ → ℕ → ℕ → ℕ → Option ℕ
 
--- `IsGrown s a c w n` holds if the new capacity `n` is at least the required capacity `w`, at least
--- twice the old capacity `c`, and small enough for items of size `s` and alignment `a`.
+-- `IsGrown s a c w n` holds if the new capacity `n` is at least the required capacity `w` and at
+-- least twice the old capacity `c`, and a block for `n` items of size `s` and alignment `a` is
+-- small enough to be allocated.
 pub record IsGrown (s a c w n : ℕ) : Type 0 where
   pub enough : w ≤ n
   pub doubled : 2 * c ≤ n

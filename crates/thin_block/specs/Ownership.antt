@@ -113,8 +113,8 @@ abbrev pub ways : Ty → ℕ → ℕ → ℕ → ℕ → Fml
 ways τ m zero b o = ftrue
 ways τ m (suc w) b o = fsep (way τ m b o) (ways τ m w b (o + size (word_of τ m)))
 
--- `header_way τ m k b o` is the right to convert the memory of the header, at the offset `o` of the
--- allocation `b`, into memory for `k` words. Each word holds `m` items of the type `τ`.
+-- `header_way τ m k b o` is the right to convert the memory of the header, which is at the offset
+-- `o` of the allocation `b`, into memory for `k` words. Each word holds `m` values of the type `τ`.
 abbrev pub header_way : Ty → ℕ → ℕ → ℕ → ℕ → Fml
 header_way τ m k b o = fwand (header_room b o) (froom (ty_array (word_of τ m) k) b o)
 
@@ -125,9 +125,10 @@ header_way τ m k b o = fwand (header_room b o) (froom (ty_array (word_of τ m) 
 abbrev pub slots_way : Ty → ℕ → ℕ → ℕ → ℕ → ℕ → Fml
 slots_way τ m w c b o = fsep (ways τ m w b o) (froom (ty_array τ (w * m - c)) b (o + c * size τ))
 
--- `way_back w τ c b o` is the right to convert the uninitialized parts of a block back into memory
--- for the whole block. The block has `c` slots for items of the type `τ`. It is at the offset `o`
--- of the allocation `b`, and `w` says how its items form words.
+-- `way_back w τ c b o` is the right to join the uninitialized parts of a block into memory for the
+-- whole block. The block has `c` slots for items of the type `τ`, and is at the offset `o` of the
+-- allocation `b`. If the items form words, `w` is `Some`, as `in_words` says. Otherwise, `w` is
+-- `None`.
 abbrev pub way_back : Option (ℕ × ℕ) → Ty → ℕ → ℕ → ℕ → Fml
 way_back None τ c b o = fwand (parts_for τ c b o) (froom (whole_of τ c) b o)
 way_back (Some w) τ c b o = fsep (header_way τ w.0 w.1 b o)

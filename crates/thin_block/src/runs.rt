@@ -250,10 +250,9 @@ impl<T, A: Allocator> Block<T, A> {
         self.move_run_charging(from, other, to, k);
     }
 
-    // Moves the `k` items that start at slot `from` of this block to the slots `to..to + k` of
+    // Moves the `k` items in the slots `from..from + k` of this block to the slots `to..to + k` of
     // `to_block`. These slots of `to_block` must be empty. The ghost parameter `cost` is the cost
-    // that `to_block` has after the call: the counts of requests for memory, copied items and
-    // moves.
+    // that `to_block` has after the call: the numbers of memory requests, copied items and moves.
     pub(crate) fn move_run_charging(
         &mut self,
         from: usize,

@@ -50,10 +50,10 @@ module _ {S T : Type 0} (R : S → T → T → Bool → S → T → T → Type 0
         | false ↦ λ m. (m.0, kept_from xs h.1 h.2 m.0 m.1, m.2)
       ]) h.5)
 
-  -- Let `x` be the first item of the list `xs`, if there is one. Suppose that the items of the list
+  -- The closure applies `f` to each item except the first, `x`. Suppose that the items of the list
   -- `v` are `xs` with `f x` in place of `x`, and that `dedup_by` turns `v` into the list `w`. Then
   -- the items of `w` are `dedup same (map f xs)`, as if `f` had been applied to every item before
-  -- the call.
+  -- the call. (If `xs` is empty, `x` does not matter.)
   pub deduped_mapped : {A : Type 0} {s : S} {v w : Thin T A} (xs : List T) (x : T)
       → x ≡ slice_index_or xs 0 x → v.items ≡ slice_set xs 0 (f x) → IsDedupedBy R s v w
       → w.items ≡ dedup same (map f xs)

@@ -30,8 +30,8 @@ pub const ROWS: [u32; 35] = [
     30, 31, 32, 33, 34, 35, 36, 40, 41,
 ];
 
-/// The result of a worked example. `Ok` contains the counter of its comparisons, and `Err` contains
-/// the error of a call that failed unexpectedly.
+/// The result of a worked example. `Ok` contains the counter of the comparisons that the example
+/// made, and `Err` contains the error of a call that failed unexpectedly.
 pub type Outcome = Result<Checks, ThinVecError>;
 
 /// Runs the worked example `number`, and returns the counter of its comparisons. If there is no

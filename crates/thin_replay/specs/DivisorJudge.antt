@@ -1,5 +1,5 @@
--- Defines the decisions of a `DivisorJudge`, and what it writes to the items. A judge makes
--- decisions in place of a closure.
+-- A judge makes the decisions of the closure that a method such as `retain` calls. This file
+-- defines what a `DivisorJudge` decides for each item, and what it writes to the items.
 use Rattle.std.specs.Prelude.{◌≡◌, ℕ, List, Bool, ◌+◌, ◌/◌, ◌%◌, ◌^◌, ◌==◌}
 use Rattle.thin_runner.specs.Judge.{Judging}
 use Rattle.thin_replay.specs.Words.{Spells}

@@ -85,7 +85,8 @@ AsksNone (ExtractIf start end calls) = ⊥
 AsksNone command = Unit {0}
 
 -- `SaysUnjudged words command` holds if the words describe the command, and the command calls no
--- method of a judge. A judge makes decisions in place of a closure.
+-- method of a judge. A judge makes the decisions of the closure that a method such as `retain`
+-- calls.
 abbrev pub SaysUnjudged : {A G : Type 0} → Words → Command ℕ A G → Type 0
 SaysUnjudged words command = Says words command × AsksNone command
 

@@ -3,8 +3,8 @@
 use std::alloc::AllocError;
 use thiserror::Error;
 
-/// The reason why a line of the input is invalid. The messages contain placeholders, such as
-/// `INDEX`, which also occur in the forms that the program prints for the line `help`.
+/// The reason why a line of the input is invalid. The error messages contain placeholders, such as
+/// `INDEX`. The text that the program prints for the line `help` contains the same placeholders.
 #[derive(Debug, Drop, Error)]
 pub enum LineError {
     /// The first word is not the name of a command.

@@ -10,8 +10,8 @@ use Rattle.std.specs.Ordering.{eq_by_cmp}
 use Rattle.thin_rows.specs.Entries.{IsGapFor, IsPlaceOf, IsRising}
 use Rattle.thin_rows.proofs.EntriesLemmas.{find_at, find_gap, put_at, put_gap, stays, without_at, without_gap}
 
--- If `nat_cmp` compares the columns `q` and `k` as equal, then removing the entry of column `c`
--- keeps column `q` if and only if it keeps column `k`.
+-- If `nat_cmp` finds the columns `q` and `k` equal, then removing the entry of column `c` keeps an
+-- entry of column `q` if and only if it keeps an entry of column `k`.
 alike : (c q k : ℕ) → nat_cmp q k ≡ Equal → stays c k ≡ stays c q
 alike c q k e = ap (stays c) (sym (ranked q k Equal (sym e)))
 

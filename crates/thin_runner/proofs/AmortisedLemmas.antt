@@ -45,8 +45,8 @@ module _ {T A : Type 0} where
         blocks = λ some. absurd (omega (arith, new.capacity, some));
       }
 
-  -- If `v` is a new list, then `IsAmortised 0 v` holds: the list has no items, and growing it has
-  -- copied none.
+  -- If `v` is a new list, then `IsAmortised 0 v` holds: the list has no items, and no item has been
+  -- copied.
   pub new-amortised : (v : Thin T A) → IsNew v v.alloc → IsAmortised 0 v
   new-amortised v new = record {
     cheap = new-cheap v new;
@@ -75,8 +75,8 @@ copied-growing zero m k h few = let z = h.none refl in omega (arith, z.1)
 copied-growing (suc c) m k h few =
     let copied : k.grown < suc c = h.grown (omega arith) in omega (arith, copied, few)
 
--- Let `g` and `g'` be the values of the counter `grown` of a list before and after a call. If `g`
--- is 0 or less than `2 * m`, and `g'` equals `g`, then `g'` is 0 or less than `2 * (m + more)`.
+-- Let `g` and `g'` be the values of the counter `grown` of a list before and after a call. If
+-- `g < 2 * m` or `g = 0`, and `g'` equals `g`, then `g' < 2 * (m + more)` or `g' = 0`.
 copied-kept : (m more : ℕ) {g g' : ℕ} → (g < 2 * m) ⊎ (g ≡ 0) → g' ≡ g
     → (g' < 2 * (m + more)) ⊎ (g' ≡ 0)
 copied-kept m more (inl few) same = inl (omega (arith, few, same))

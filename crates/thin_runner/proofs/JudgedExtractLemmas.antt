@@ -184,10 +184,10 @@ module _ {T : Type 0} (asked : Verdicts T) (start : List T) (before : Cost) wher
     pub out : at.out ≡ length (left_at false done)
     pub paid : at.paid ≡ moving (moved_down (flags_of done)) before
 
-  -- Suppose that in the state `at`, the next verdicts are `now`, which first keep `k` items and
-  -- then only remove items. If an item was extracted before, these verdicts add `k` moves to the
-  -- cost `at.paid`. Otherwise, they add no moves. The new cost is `before`, the cost before the
-  -- first call to `next`, plus the moves for all verdicts so far, including `now`.
+  -- Let `now` be the next verdicts in the state `at`: they first keep `k` items, and then only
+  -- remove items. They add `k` moves to the cost `at.paid` if an item was extracted earlier, and no
+  -- moves otherwise. The lemma states that the result is `before`, the cost before the first call
+  -- to `next`, plus the moves for all verdicts up to and including `now`.
   paid-next : (at : Stand T) (h : IsExtracting at) (now : Verdicts T) (k : ℕ)
       → moved_down (flags_of now) ≡ 0 → trues (flags_of now) ≡ k
       → (if at.out == 0 then at.paid else moving k at.paid)

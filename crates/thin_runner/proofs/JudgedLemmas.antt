@@ -201,9 +201,9 @@ module _ {T J : Type 0} (E : T → T → Bool) (j : J) where
   abbrev pub tells : J → T → T → Bool × T × T × J
   tells j later kept = (E later kept, later, kept, j)
 
-  -- Suppose that a judge that uses the equality test `E` compares the items `xs`, which follow the
-  -- kept item `k`. Then exactly the items `dedup_from E k xs` are kept, and `unlike_from E k xs`
-  -- has one flag for each item of `xs`, which says whether this item is kept.
+  -- Suppose that a judge with the equality test `E` compares the items `xs`, which follow the kept
+  -- item `k`. Then exactly the items `dedup_from E k xs` are kept. For each item of `xs`, the list
+  -- `unlike_from E k xs` contains a flag that says whether the item is kept.
   dedup-last : (k : T) (xs : List T) → Leaves (unlike_from E k xs) (dedup_from E k xs)
       (asked_last tells j k xs)
   dedup-last k [] = (refl, refl)

@@ -37,8 +37,8 @@ module _ {T A : Type 0} (v w : Thin T A) where
       → w.cost.moves ≤ v.cost.moves + k
   same-moves u k e same = omega (arith, ap (λ z. z.cost.moves) e, same)
 
-  -- If `w` is the list `v` after a call that set its items to `xs` and added `m` moves, then `w`
-  -- has at most `m` more moves than `v`.
+  -- Suppose that a call turned the list `v` into `w`: it set the items to `xs` and added `m` moves
+  -- to the cost. Then the moves counted in `w` exceed those counted in `v` by at most `m`.
   edited-moves : (xs : List T) (m : ℕ) → w ≡ edited v xs m → w.cost.moves ≤ v.cost.moves + m
   edited-moves xs m e = omega (arith, ap (λ z. z.cost.moves) e)
 

@@ -126,8 +126,7 @@ module _ {T A J : Type 0} (here : Setting T A J) (law : KeepsLaw here.rule) (v w
       stopped (inl e) = same-paid v w room e
       stopped (inr s) = ruled-paid _ n s.3.0 s.3.1 refl refl (omega arith)
 
--- Each lemma of this module bounds the length of a list after a change, such as the length of
--- `take k xs`.
+-- Each lemma of this module bounds the length of a changed list, such as `take k xs`.
 module _ {T : Type 0} where
   few-swap_remove : (xs : List T) (i : ℕ) (x : T) → length (swap_remove xs i x) ≤ length xs
   few-swap_remove xs i x =

@@ -19,8 +19,7 @@ module _ {T A G J : Type 0} (here : Setting T A J) where
   -- replies of the run.
   pub record Headline (old : Thin T A) (commands : List (Command T A G))
       (before after : List (Reply T A G)) (new : Thin T A) : Type 0 where
-    -- `replies` contains the replies to the commands of the run. They were appended to the replies
-    -- in `before`.
+    -- The replies to the commands of the run, without the earlier replies in `before`.
     pub replies : List (Reply T A G)
     pub appended : after ≡ before ++ replies
     -- Suppose that each clone equals its source, and that no call failed. Then the final items of

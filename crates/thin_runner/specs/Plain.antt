@@ -14,8 +14,8 @@ use Rattle.thin_runner.specs.declared.command.Reply.{Reply}
 use Rattle.thin_runner.specs.declared.command.Reply.TheVariants.{Answers, Done, Item, List as Made, Other, OutOfRange}
 use Rattle.thin_runner.specs.declared.command.Step.TheVariants.{Front}
 
--- `Seen T A G` is the type of the part of a reply that the main theorem determines. For the reply
--- `Answers`, this part is the list of the results. For any other reply, it is the whole reply. `T`
+-- A value of the type `Seen T A G` is the part of a reply that the main theorem determines. For the
+-- reply `Answers`, this is the list of the results. For any other reply, it is the whole reply. `T`
 -- is the item type, `A` is the allocator type, and `G` is the growth rule.
 pub data Seen (T A G : Type 0) : Type 0 where
   says : Reply T A G → Seen T A G

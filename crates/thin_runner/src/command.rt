@@ -6,8 +6,8 @@ use crate::hinted::Hinted;
 use std::alloc::{Allocator, Global};
 use thin_vec::{Doubling, Growth, ThinVec, ThinVecError};
 
-/// A step on a `Drain` or a `Splice`. It describes a call that yields an item from one end of the
-/// range.
+/// A step of a `Drain` or a `Splice`: a call that takes the next item from the front or from the
+/// back of the range.
 #[derive(Clone, Copy, PartialEq, Eq)]
 pub enum Step {
     /// Calls `next`, which yields the first of the remaining items.

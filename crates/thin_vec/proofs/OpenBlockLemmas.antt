@@ -23,7 +23,7 @@ pub first-of : {X : Type 0} (xs : List X) → 0 < length xs → (x : X) × (ys :
 first-of [] h = absurd (omega arith)
 first-of (x ∷ ys) h = (x, ys, refl)
 
--- A non-empty list `xs` consists of a list `ys`, followed by the last item of `xs`.
+-- Every non-empty list `xs` can be split into a list `ys` and its last item.
 pub last-of : {X : Type 0} (xs : List X) → 0 < length xs → (ys : List X)
     × (x : X) × (xs ≡ ys ++ x ∷ [])
 last-of [] h = absurd (omega arith)
@@ -439,7 +439,7 @@ module _ {T A : Type 0} where
         }
 
     -- If the open block `h` has no middle items, then `joined` is a valid open block, and
-    -- `joined-seen` is its description in contracts.
+    -- `joined-seen` is how contracts see it.
     pub join-step : (open_of h).rest ≡ [] → Found joined joined-seen
     join-step none =
         let w : Open T A = open_of h in
@@ -723,8 +723,8 @@ module _ {T A : Type 0} where
       len = h.len + count;
     }
 
-    -- `widened-seen` is how contracts see the open block `widened`. The gap before its tail items
-    -- is `count` slots longer than in the open block `h`.
+    -- `widened-seen` is how contracts see the open block `widened`. In `widened`, the gap before
+    -- the tail items is `count` slots longer than in the open block `h`.
     abbrev pub widened-seen : Open T A
     widened-seen =
         let v : Open T A = open_of h in

@@ -89,8 +89,8 @@ module _ {T : Type 0} where
   trues-stay [] = refl
   trues-stay (x ∷ xs) = ap suc (trues-stay xs)
 
-  -- `moved_down` counts the kept items after the first removed item. Putting the verdicts
-  -- `stay xs`, which keep all items `xs`, before the verdicts `a` does not change this number.
+  -- `moved_down` counts the kept items after the first removed item. The verdicts `stay xs` keep
+  -- all items `xs`. Putting them in front of the verdicts `a` does not change this number.
   pub moved_down-stay : (xs : List T) (a : Verdicts T) → moved_down (flags_of (stay xs ++ a))
       ≡ moved_down (flags_of a)
   moved_down-stay [] a = refl
@@ -117,8 +117,8 @@ module _ {S T : Type 0} (R : S → T → Bool → S → T → Type 0) where
       ap (λ (c : Verdicts T). c ++ b) h.6,
     )
 
-  -- If the item `x` was tested with the result `b` and left as `y`, then `Asked` holds: all items
-  -- of the list `x ∷ []` were tested.
+  -- If testing the item `x` returned `b` and changed `x` to `y`, then `Asked` holds for the list
+  -- `x ∷ []`: all its items were tested.
   pub asked-one : (s t : S) (x y : T) (b : Bool) → R s x b t y → Asked R s (x ∷ []) ((b, y) ∷ []) t
   asked-one s t x y b h = (b, y, t, [], h, (refl, refl), refl)
 
@@ -568,9 +568,9 @@ module _ {S T : Type 0} (R : S → T → Bool → S → T → Type 0) where
     Passed = w ≡ record v
         { front = v.front ++ take m ys; gap = w.gap; rest = w.rest }
 
-    -- If removing `value`, the first item to be removed, and then testing all later middle items
-    -- turns the open block `v` into `z`, then `IsSifted` (the effect of all tests) relates `v` to
-    -- `z`.
+    -- Let `value` be the first item to be removed. If the open block `v` becomes `z` when `value`
+    -- is removed and all later middle items are tested, then `IsSifted` relates `v` to `z`.
+    -- `IsSifted` describes the effect of all these tests together.
     pub sifted-goes : (value : T) (u : S) (z : Open T A) → Passed → drop m ys ≡ value ∷ w.rest
         → Sifts R t w u z → z.rest ≡ [] → IsSifted R s v u z
     unfolding part-goes

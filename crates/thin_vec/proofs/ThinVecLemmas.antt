@@ -1,5 +1,5 @@
--- These lemmas are about the capacity of a list, and about the cost of its growth: requests for
--- memory and copied items. Other crates may use them.
+-- These lemmas are about the capacity of a list, and about the cost of its growth: memory requests
+-- and copied items. They are also meant for other crates.
 use Rattle.thin_block.proofs.Outcomes.{some-same}
 use Rattle.std.proofs.Common.{if◌then◌else◌, Bool, ◌≡◌, ℕ, zero, suc, ◌+◌, ◌*◌, ◌^◌, ◌<◌, ◌≤◌, true, false, Some, ap, List, [], arith, eqb, inl, inr, length, refl, subst, sym, ◌∙◌}
 use Rattle.std.specs.Borrow.{RattleType}

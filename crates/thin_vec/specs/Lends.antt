@@ -34,8 +34,9 @@ module _ (T A G : RattleType) (a : AllocatorGhosts A.Denot) (g : GrowthGhosts G.
   abbrev pub LendsItem : ℕ → MutBor T.Denot → Fml
   LendsItem i r = Lends (the_row T A G a g) T v r (with_item v.now i)
 
-  -- `LendsGet i r` describes the option `r`. If `r` is `Some`, it borrows the item at index `i` of
-  -- the list behind the reference `v`. If `r` is `None`, the list does not change.
+  -- `LendsGet i r` states how the option `r` affects the list to which the reference `v` points. If
+  -- `r` is `Some`, it borrows the item at index `i`, and only this item may change. If `r` is
+  -- `None`, the list does not change.
   abbrev pub LendsGet : ℕ → Option (MutBor T.Denot) → Fml
   LendsGet i r = LendsIf (the_row T A G a g) T v r (with_item v.now i) v.now
 

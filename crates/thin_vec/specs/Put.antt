@@ -23,8 +23,8 @@ pub record IsFilledBy {S X : Type 0} (steps : S → Option X → S → Type 0) (
   -- The items that were put into the slots, in the order in which the iterator yielded them.
   pub items : List X
   pub gave : Gives steps s items f.ended f.rest
-  -- If the iterator has not ended (`f.ended` is false), all slots are full. If it has ended, at
-  -- least one slot is still empty.
+  -- If the iterator has not ended (`f.ended` is false), the items fill all `room` slots. The next
+  -- field states that at least one slot is still empty if it has ended.
   pub full : f.ended ≡ false → length items ≡ room
   pub short : f.ended ≡ true → length items < room
   -- If the iterator has not ended, then `next` may be called on what is left of it (`f.rest`), and

@@ -64,8 +64,8 @@ impl<T, A: Allocator> ThinVec<T, A> {
         ThinVec::ruled(alloc)
     }
 
-    /// Returns an empty list of capacity 0, like `new`. The list owns the allocator `alloc`. This
-    /// method replaces the trait `Default`, whose method takes no allocator.
+    /// Returns an empty list of capacity 0, like `new`. The list owns the allocator `alloc`. Use
+    /// this method in place of the trait `Default`, whose method takes no allocator.
     pub fn default_in(alloc: A) -> ThinVec<T, A>
         ensures new { IsNew result alloc }
         ensures within { IsWithin T.row result }

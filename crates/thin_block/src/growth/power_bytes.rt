@@ -1,5 +1,6 @@
 //! Defines the growth rule `PowerBytes`. For items of at least one byte, this rule rounds the size
-//! of a block up to a power of two, and fills the rounded size with slots.
+//! of a block up to a power of two, and chooses the largest capacity for which a block fits into
+//! the rounded size.
 ghost use Rattle.std.specs.Prelude.{◌≡◌, ◌+◌, ◌*◌, ◌^◌, ◌<◌, ◌≤◌, IfNone, IfSome};
 ghost use Rattle.std.specs.Mem.{type_size};
 ghost use Rattle.std.specs.Align.{type_align};

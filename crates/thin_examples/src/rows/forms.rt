@@ -1,5 +1,5 @@
-//! Worked examples of `thin_vec!`, and of calls that iterate over, compare, hash, convert or write
-//! to lists.
+//! Worked examples of `thin_vec!`, and of calls that iterate over lists, compare, hash or convert
+//! them, or use them as a `Write`.
 use crate::checks::Checks;
 use crate::rows::{Outcome, listed};
 use std::alloc::Allocator;

@@ -7,8 +7,13 @@ use crate::words::{count_of, items_of, steps_of};
 use std::alloc::Global;
 use thin_runner::command::Command;
 
-/// Parses the words as a `dedup` command, or as a command that removes or replaces a range. Returns
-/// `None` if they have another form.
+/// Parses the words of a line as a `dedup` command, or as a command that removes or replaces a
+/// range. Returns `None` if the words do not have the form of such a command.
+///
+/// # Errors
+///
+/// Fails if the words have this form, but one of them is invalid. Also fails if there is not enough
+/// memory.
 pub fn parse(alloc: Global, words: &[&str]) -> Result<Option<Command<u64>>, LineError>
     ensures says { IfOk result (λ found. IfSome found (SaysUnjudged words.now)) }
 {

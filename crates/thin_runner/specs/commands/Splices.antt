@@ -1,5 +1,5 @@
 -- These definitions describe a splice, which replaces the items of a range with the items of an
--- iterator. (std: `Vec::splice`, `Vec::extend`)
+-- iterator, like `Vec::splice` of std. An `extend` is a splice at the end of the list.
 use Rattle.std.specs.Prelude.{◌≡◌, ◌↔◌, ◌⊎◌, ℕ, ◌+◌, ◌-◌, ◌*◌, ◌<◌, ◌≤◌, List, [], ◌++◌, IsSome, None, Option, drop, length, take}
 use Rattle.std.specs.Borrow.{RattleType}
 use Rattle.std.specs.Iterator.{at_most}

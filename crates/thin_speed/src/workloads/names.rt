@@ -5,8 +5,8 @@ use crate::workloads::growing::Growing;
 use crate::workloads::many::Many;
 use crate::workloads::tables::Tables;
 
-/// A workload, which is a task whose running time is measured. There is one variant for each file
-/// that defines workloads.
+/// A workload: a task whose running time is measured. Each variant is for the workloads that are
+/// defined in one file.
 #[derive(Clone, Copy)]
 pub enum Workload {
     Growing(Growing),

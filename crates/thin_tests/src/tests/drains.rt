@@ -224,8 +224,8 @@ fn assert_texts_drained<R: Abort>(
     assert_drained(rt, texts, range, false, wanted, left);
 }
 
-// A test case for `drain`: the first and the last index of the range, the texts that the `Drain`
-// yields, and the texts that remain in the list.
+// A test case for `drain`: the first and the last index of the range (both included), the texts
+// that the `Drain` yields, and the texts that remain in the list.
 type Drained = (
     (usize, usize),
     &'static [&'static str],

@@ -67,9 +67,9 @@ fn errors_print_their_texts(rt: HostRuntime) {
     assert_same(&rt, cause, ThinVecError::OutOfMemory);
 }
 
-// Proves limits for a list of one-byte items with the alignment 32, and for one with the alignment
-// 256. The limits are the largest capacity and the offset of the items. A test is not possible,
-// because no type of Rattle has such an alignment.
+// Proves the largest capacity of a list and the offset of its items, for one-byte items with the
+// alignment 32 and for one-byte items with the alignment 256. This can only be proved, and not
+// tested, because no type of Rattle has such an alignment.
 #[tactic(auto, unfolding(thin_block::specs::Capacity::fits))]
 fn states_limits_at_greater_alignments()
     ensures byte_items { items_offset 1 ≡ 16 }

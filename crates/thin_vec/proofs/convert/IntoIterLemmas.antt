@@ -228,8 +228,8 @@ module _ {T A : Type 0} where
     abbrev most : List T
     most = take (end - 1 - start) xs
 
-    -- The list `xs` of the items that have not been yielded yet is `most`, followed by the last
-    -- item.
+    -- The list `xs` contains the items that have not been yielded yet. It consists of the list
+    -- `most`, followed by the last item of `xs`.
     whole : xs ≡ most ++ get_or xs (end - 1 - start) v ∷ []
     whole = split-last xs (end - 1 - start) v (omega (arith, t.len))
 

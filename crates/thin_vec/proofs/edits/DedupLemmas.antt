@@ -299,8 +299,10 @@ module _ {S T : Type 0} (R : OnPairs S T) where
           | inr q ↦ (q.1.0, q.1.1)
         ]
 
-    -- The number `m` of kept items is 1 plus the number of true flags in `r.stays`. (A true flag
-    -- means that a tested item is kept. The first item is kept without a test.)
+    -- Suppose that `r.stays` consists of the flags `all-stay r.more`, followed by flags `f` that
+    -- are all false. Then the number `m` of kept items is 1 plus the number of true flags in
+    -- `r.stays`. (A true flag means that a tested item is kept. The first item is kept without a
+    -- test.)
     pub run-count : (f : List Bool) → trues f ≡ 0 → r.stays ≡ all-stay r.more ++ f
         → suc (trues r.stays) ≡ m
     run-count f none e =

@@ -40,9 +40,10 @@ module _ {S T A : Type 0} (steps : S → Option T → S → Type 0) (can : S →
       (by : IsFilledBy steps can remaining v.gap s f) × IsClosedWith v by.items a w
       × (f.end ≡ length v.front + length by.items)
 
-  -- `IsReached` describes a state during `finish`. The iterator `s` has yielded the items `xs`,
-  -- which fill the gap of the open block `v`. The iterator is now `t`, the list is `u`, and `end`
-  -- is the index directly after `xs`.
+  -- `IsReached` describes a state during `finish`, which began with the open block `v` and the
+  -- iterator `s`. The iterator has yielded the items `xs`, and is now `t`. The list is now `u`: it
+  -- contains `xs` between the front items and the tail items of `v`. The items `xs` are at least as
+  -- many as the slots of the gap of `v`. `end` is the index directly after `xs`.
   pub record IsReached (v : Open T A) (s : S) (u : Thin T A) (xs : List T) (end : ℕ)
       (t : S) : Type 0 where
     pub items : u.items ≡ with_between v xs

@@ -108,8 +108,9 @@ module _ {T A : Type 0} (h : Inside T A) (o : IsOpen h) (b : Block T A) (k : ℕ
     len = h.len - k;
   }
 
-  -- `brought-seen` is how contracts see the open block `brought`. The last `k` tail items of `h`
-  -- are the last front items of `brought`.
+  -- `brought-seen` is how contracts see the open block `brought`. Compared with the view `v` of
+  -- `h`, the last `k` tail items have been moved to the end of the front items. The allocator and
+  -- the cost are those of the block `b`.
   abbrev pub brought-seen : Open T A
   brought-seen = record {
     front = v.front ++ drop (length v.tail - k) v.tail;

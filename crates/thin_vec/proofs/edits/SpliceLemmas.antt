@@ -101,8 +101,8 @@ module _ {S X : Type 0} (steps : S → Option X → S → Type 0) where
     now.2,
   )
 
-  -- If calls to `next` yield the items `xs`, and one more call returns `Some x`, then all these
-  -- calls yield `xs ++ x ∷ []`.
+  -- If calls to `next` yield the items `xs`, and one more call returns `Some x`, then these calls
+  -- together yield `xs ++ x ∷ []`.
   pub yields-drawn : (s u : S) (xs : List X) (o : Option X) (x : X) → o ≡ Some x
       → YieldsThen steps s xs o u → Yields steps s (xs ++ x ∷ []) u
   yields-drawn s u xs o x is all =

@@ -1,5 +1,5 @@
--- These lemmas are for `append` and `split_off`, which move the last items of one list to the end
--- of another list.
+-- These lemmas are for `append` and `split_off`. Both methods move items to the end of another
+-- list: `append` moves all items, and `split_off` moves the items from an index onward.
 use Rattle.std.proofs.Common.{◌≡◌, ℕ, ◌+◌, ◌-◌, ◌≤◌, List, ◌++◌, length, take, drop, Option, None, sym, ap, ◌∙◌, arith, length-append, append_assoc}
 use Rattle.std.proofs.lemmas.List.{length-drop, length-replicate, length-take-le, take-append-drop, replicate-append-replicate}
 use Rattle.thin_block.specs.Cost.{Cost}

@@ -75,10 +75,10 @@ module _ {S X : Type 0} (steps : S → Option X → S → Type 0) (s : S) where
   run_given xs o t P gave h =
       (run steps s (xs ++ option_to_list o) false (t, gave, λ e. absurd (false≢true e)), refl, h)
 
-  -- Suppose that a call that consumes an iterator failed with the error `e`. Suppose also that the
-  -- calls to `next` yielded a list of items that satisfies `P`, and then the item in `hand e`, if
-  -- there is one. Then `SomeRun` holds: the calls to `next` form a run of the iterator, which may
-  -- be incomplete. If the consuming call did not fail, nothing is claimed.
+  -- Suppose that a method consumed an iterator and failed with the error `e`. Suppose also that its
+  -- calls to `next` first yielded a list that satisfies `P`, and then the item in `hand e`, if
+  -- there is one. Then `SomeRun` holds: these calls form a complete or incomplete run of the
+  -- iterator.
   --
   -- The parameter `can` says when `next` may be called again, and `remaining` bounds the number of
   -- items that the iterator may still yield.

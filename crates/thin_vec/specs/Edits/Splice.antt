@@ -49,8 +49,9 @@ module _ {T A : Type 0} where
     -- If items follow the range, and `in_hand` is `Some`, the cause is `OutOfMemory`, because the
     -- vector `held` could not get memory for the item in `in_hand`.
     pub by_in_hand : 0 < length tail → IsSome error.in_hand → error.cause ≡ OutOfMemory
-    -- If no item follows the range, and `in_hand` is `Some`, the cause is `CapacityOverflow` if and
-    -- only if the growth rule chooses no capacity with room for one more item.
+    -- Suppose that no item follows the range, and that `in_hand` is `Some`. Then the cause is
+    -- `CapacityOverflow` if and only if the growth rule chooses no capacity with room for one more
+    -- item.
     pub by_push : tail ≡ [] → IsSome error.in_hand
         → (error.cause ≡ CapacityOverflow) ↔ (capacity_for rule R w 1 ≡ None)
 

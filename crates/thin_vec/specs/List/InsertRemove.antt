@@ -10,8 +10,9 @@ use Rattle.thin_vec.specs.Cheap.{IsCheap}
 use Rattle.thin_vec.specs.ThinVec.{Thin, IsWithin, capacity_for, cost_at}
 use Rattle.thin_vec.specs.contracts.list.ThinVec.{the_row}
 
--- `IsAdded rule R v xs k w` holds if adding one item of the type `R` turned the list `v` into `w`,
--- whose items are `xs`. The call made `k` moves, and a full list grew by the growth rule `rule`.
+-- `IsAdded rule R v xs k w` holds if a call added one item of the type `R` to the list `v`, and
+-- turned it into the list `w` with the items `xs`. The call made `k` moves. If `v` was full, it
+-- grew under the growth rule `rule`.
 pub record IsAdded {T A : Type 0} (rule : Rule) (R : RattleType) (v : Thin T A) (xs : List T)
     (k : ℕ) (w : Thin T A) : Type 0 where
   pub items : w.items ≡ xs

@@ -60,7 +60,8 @@ impl<T: Drop, A: Allocator, G: Growth> ThinVec<T, A, G> {
     ghost use Rattle.thin_vec.specs.Edits.Drain.{DrainKeepsAlong, DrainsInOrder, DrainsInReverse, drain_alloc, drain_capacity, drain_cost, drain_kept, drain_lender, drain_rest};
 
     /// Removes the items `start..end` from the list, and returns an iterator that yields them from
-    /// either end. The range must be in bounds. The function `bounds` of this crate checks a range.
+    /// either end. The range must be in bounds. Callers can check a range with the function
+    /// `bounds` of this crate.
     ///
     /// The list is empty and has capacity 0 until the iterator is dropped. Then the items that were
     /// not yielded are dropped, and the list contains the items outside the range. If the iterator

@@ -93,17 +93,17 @@ impl<T: Drop, A: Allocator, G: Growth> ThinVec<T, A, G> {
     ///
     /// This method exists neither in Rust's `Vec` nor in the Rust crate thin-vec.
     ///
-    /// Moving an item cannot fail. So the old items are dropped before the new items are moved, and
-    /// the call needs room for only `other.len() - (end - start)` more items. If `other` is not
-    /// longer than the range, the call needs no additional room, and cannot fail. Each item after
-    /// the range is moved at most once.
+    /// The call first makes room, which is the only step that can fail. Then it drops the old
+    /// items, and moves the new items into their place. So the call needs room for only
+    /// `other.len() - (end - start)` more items. If `other` is not longer than the range, the call
+    /// needs no additional room, and cannot fail. Each item after the range is moved at most once.
     ///
     /// # Errors
     ///
     /// On failure, both lists are unchanged.
     ///
-    /// - `CapacityOverflow`: there is not enough room for the additional items, and the growth rule
-    ///   chooses no capacity for them.
+    /// - `CapacityOverflow`: there is not enough room for the additional items, and the new
+    ///   capacity would be too large.
     /// - `OutOfMemory`: there is not enough room for the additional items, and the allocator
     ///   failed.
     pub fn replace_range_from_list(

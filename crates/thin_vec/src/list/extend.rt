@@ -23,20 +23,20 @@ impl<T, A: Allocator, G: Growth> ThinVec<T, A, G> {
     /// Appends the items that `iter` yields before its first `None`. After this `None`, `next` is
     /// not called again.
     ///
-    /// First, the call gets the size hint of `iter` once, and reserves room for `n` more items,
-    /// where `n` is the lower bound of the size hint. Then it moves items into the spare capacity,
-    /// and pushes each further item. So the call cannot fail if there is room for all items that
-    /// the iterator may yield.
+    /// The call first reads the size hint of `iter`, once, and reserves room for `n` more items,
+    /// where `n` is the lower bound of the hint. Then it moves items into the spare capacity until
+    /// this is full, and pushes the remaining items one by one. So the call cannot fail if there is
+    /// room for all items that the iterator may yield.
     ///
     /// # Errors
     ///
-    /// The cause is `CapacityOverflow` if the new capacity would be too large, and `OutOfMemory` if
-    /// the allocator failed. There are two cases:
+    /// The field `cause` of the error is `CapacityOverflow` if the new capacity would be too large,
+    /// and `OutOfMemory` if the allocator failed. There are two cases:
     ///
-    /// - The call cannot reserve room for `n` more items. In this case, the list is unchanged,
+    /// - Room for `n` more items could not be reserved. In this case, the list is unchanged,
     ///   `in_hand` is `None`, and `rest` is the whole iterator.
-    /// - The call cannot push a further item. In this case, the list keeps the items that were
-    ///   appended before, and is full. `in_hand` is the item that could not be pushed, and `rest`
+    /// - A later item could not be pushed. In this case, the list is full, and keeps the items that
+    ///   were appended before. `in_hand` contains the item that could not be pushed, and `rest`
     ///   yields the items after it.
     pub fn extend<I: Iterator<Item = T>>(&mut self, iter: I) -> Result<(), ExtendRefused<T, I>>
         requires can_next { I.can_next iter }

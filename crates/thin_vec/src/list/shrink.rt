@@ -114,8 +114,8 @@ impl<T, A: Allocator, G: Growth> ThinVec<T, A, G> {
         Ok(())
     }
 
-    // Frees the allocation of the list, which must be empty. This sets the capacity to 0 and, in
-    // contracts, all counters in the field `cost` to 0.
+    // Frees the allocation of the list. The list must be empty. Afterwards, its capacity is 0, and
+    // so are all counters of its field `cost`, which exists only in contracts.
     fn give_block_back(&mut self)
         requires empty { self.old.items ≡ [] }
         ensures changes { self.new ≡ record self.old { items = []; capacity = 0; cost = no_cost } }

@@ -107,8 +107,8 @@ fn add_from_last<T: Sample, G: Ruled, R: Abort>(rt: &R, case: &mut Case<T, G>, m
 // For each `k` from 0 to 6, the number of test cases on a range of `k` items, which is always 1.
 const EACH_RANGE: Cases = [1; 7];
 
-/// A test that calls `extend_from_within` with each range of a list of at most 6 items, and with
-/// four ranges of a longer list.
+/// A test that calls `extend_from_within`. On lists of at most 6 items, it tries every range of
+/// each list. On a longer list, it tries four ranges.
 pub struct ExtendFromWithin {}
 
 impl<T: Sample, G: Ruled> Call<T, G> for ExtendFromWithin {

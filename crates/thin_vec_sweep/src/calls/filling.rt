@@ -91,9 +91,9 @@ impl Ending {
     }
 }
 
-/// Returns the expected outcome of a call that appends `count` items from an iterator. The call
-/// first grows the list to the capacity `hinted`, or fails if `hinted` is `None`. Also appends the
-/// expected items to `case.items`.
+/// Returns the expected outcome of a call that appends `count` items from an iterator, and adds the
+/// expected items to `case.items`. The call under test first grows the list to the capacity
+/// `hinted`, or fails if `hinted` is `None`.
 pub fn fill<T: Sample, G: Ruled, R: Abort>(
     rt: &R,
     case: &mut Case<T, G>,

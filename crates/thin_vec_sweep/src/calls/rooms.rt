@@ -99,8 +99,8 @@ impl<T: Sample, G: Ruled> Call<T, G> for ShrinkToFit {
 // The number of test cases in which the number of additional items is very large.
 const GREAT: usize = 6;
 
-// Returns the number of items for which the test case `argument` reserves room, in a list of the
-// shape `shape`. There are `GREAT` test cases with a very large number, and they are the last ones.
+// Returns for how many more items the test case `argument` reserves room, in a list of the shape
+// `shape`. In the last `GREAT` test cases, this number is very large.
 fn additional<T: Sample>(shape: Shape, argument: usize) -> usize {
     let most = T::LIMIT.saturating_sub(shape.length);
     match argument.checked_sub(shape.counts()) {

@@ -1,5 +1,6 @@
-//! Long runs of commands, and a run that fails. Unlike random runs, these runs are not compared
-//! with the model, a simple program that would be too slow for long runs.
+//! Long runs of commands, and a run that fails because it gets no memory for its replies. Random
+//! runs are compared with the model, which is a simple program. These runs are not compared with
+//! the model, because it would be too slow for the long ones.
 use crate::runs::judges::EACH_SECOND;
 use crate::runs::samples::{Lender, put};
 use std::alloc::Global;

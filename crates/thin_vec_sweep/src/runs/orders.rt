@@ -64,9 +64,9 @@ pub const KINDS: [Kind; 25] = [
     Kind::Splice,
 ];
 
-/// An order describes a command using only numbers. The runner does not execute the order, but a
-/// command that is made from it. The model, a simple program that specifies what the commands do,
-/// executes the order directly.
+/// An order describes a command using only numbers. The runner executes a command that is made from
+/// the order. The model executes the order itself. (The model is a simple program that specifies
+/// what the commands do.)
 #[derive(Clone, Copy, Debug)]
 pub struct Order {
     pub kind: Kind,

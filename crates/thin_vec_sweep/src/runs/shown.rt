@@ -33,9 +33,9 @@ pub struct Place {
     /// For a `Splice`, the lower bound of the size hint. For an `ExtractIf`, the number of calls to
     /// `next`. For any other command, 0.
     pub claim: usize,
-    /// The steps over the range, represented by a binary number. The first digit is always 1. Each
-    /// further digit is one step, in order: 1 is a step from the front, and 0 is a step from the
-    /// back.
+    /// The steps that take items from the range, represented by a binary number. The leading digit
+    /// 1 is only a marker. Each digit after it is one step, in order: 1 is a step from the front,
+    /// and 0 is a step from the back.
     pub walk: u64,
 }
 

@@ -73,8 +73,8 @@ module _ (g : Former {0}) where
   slot_get-put X None n t = refl
   slot_get-put X (Some y) n t = λ i. (Some (g.get-put X y n t i).0, (g.get-put X y n t i).1)
 
-  -- Suppose that `slot_get` splits the row `v` of values into a slot and a shorter row. Then
-  -- prepending the values in the slot to the shorter row restores `v`.
+  -- `slot_get` splits the row `v` of values into the values of the first slot and the remaining
+  -- row. Putting both parts back together with `slot_put` restores `v`.
   pub slot_put-get : (X : Type 0) (a : Option g.Shape) (n : Count) (v : Row X (slot_count a n))
       → ◌≡◌ {A = (b : Option g.Shape) × Row X (slot_count b n)} (
         on_slot (g.shape X) (slot_get X a n v).0,

@@ -392,8 +392,8 @@ resize_words_spec 𝓤 𝓛 𝓜 𝓡 wired T A m k LT LA fits_m fits_k g d dd m
     (Resizing-gives EX Y 𝓛 𝓜.mem 𝓡.returns κ κT κA q qT z.0.1.1.1.0 z.0.2.0 handle_at h b o count
     held wanted (ys ++ xs) u) $ await ! tt $ split ! $ move ! (1 ∷ []) $ split3 ! $
     -- `resized` has returned. The proof context now holds, in this order: the lifetime tokens of
-    -- the shared reference to the allocator, of `T` and of `A`; what `resized` has returned; the
-    -- lifetime tokens of `M` and `K`.
+    -- the allocator reference, of `T` and of `A`; the result of `resized`; the lifetime tokens of
+    -- `M` and `K`.
     move ! (2 ∷ 4 ∷ []) $ join ! $ move ! (2 ∷ 0 ∷ []) $ join ! $ move ! (1 ∷ 0 ∷ []) $ join ! $
     move ! (1 ∷ []) $
     -- The proof has joined the lifetime tokens into one entry. The proof context now holds, in this

@@ -1,5 +1,6 @@
--- The items before the first item to be removed become front items. If there is an item to be
--- removed, it is dropped, and `dedup_past_gap` tests the items after it.
+-- If no item is to be removed, all items become front items. Otherwise, the items before the first
+-- item to be removed become front items, this item is dropped, and `dedup_past_gap` tests the items
+-- after it.
 use Rattle.std.proofs.Common.{◌≡◌, [], sym, ap, ◌∙◌, arith, rules}
 use Rattle.thin_vec.proofs.edits.DedupLemmas.{deduped-ends, deduped-goes}
 use Rattle.std.proofs.lemmas.List.{nil_from_length}
