@@ -10,6 +10,7 @@ use Rattle.std.specs.Mem.{type_size}
 use Rattle.std.specs.Align.{type_align}
 use Rattle.std.specs.Prelude.{◌==◌, max}
 use Rattle.std.proofs.lemmas.Bool.Decides.{nat_tests}
+use Rattle.core.proofs.ptr.Rows.{times_below}
 use Rattle.thin_block.specs.Capacity.{fits, first, Fits}
 use Rattle.thin_block.specs.Growth.{Rule, KeepsLaw, doubling, exact_capacity, fitting, ruled_capacity}
 use Rattle.thin_block.proofs.SizesLemmas.{opened, closed, fits_none, fits_tells, fits_yes, rounded}
@@ -66,6 +67,11 @@ fits-small R c e = (fits_tells R c (opened R c e)).few
 -- `2 ^ 63` bytes in total.
 pub fits-bytes : (R : RattleType) (c : ℕ) → Fits R c → c * type_size R < 2 ^ 63
 fits-bytes R c e = let room = (fits_tells R c (opened R c e)).room in omega arith
+
+-- If a block of capacity `c` is small enough to be allocated, and `i ≤ c`, then `i` items take
+-- fewer than `2 ^ 63` bytes in total.
+pub fits-part : (R : RattleType) (i c : ℕ) → Fits R c → i ≤ c → i * type_size R < 2 ^ 63
+fits-part R i c e less = times_below i c (type_size R) (2 ^ 63) less (fits-bytes R c e)
 
 -- If a block of capacity `d` is small enough to be allocated and `c ≤ d`, then a block of capacity
 -- `c` is small enough too.

@@ -4,7 +4,7 @@ use Rattle.std.proofs.Common.{◌⊎◌, ◌≡◌, ℕ, zero, suc, ◌+◌, ◌
 use Rattle.std.proofs.lemmas.List.{take-append-drop, drop-drop, set_at, get_or-append_right, get_or-drop, length-replicate, length-map, length-append, length-take, length-drop, take_at, drop_at, drop-replicate, replicate-append-replicate}
 use mathlib.Core.Logic.{inl, inr, ⊎_elim}
 use lib.ListN.{set, get_or}
-use lib.Seq.{set-set, drop-cons, take-add}
+use lib.Seq.{set-set, set_split, drop-cons, take-add}
 use Rattle.core.proofs.str.Laws.{order}
 use borrow.Author.Tests.{clash}
 use Rattle.std.specs.Prelude.{Option, IsSome, take, drop, replicate}
@@ -19,14 +19,6 @@ same_or_not i j =
     (λ (q : i ≤ j). inl (let e : i ≡ j = omega arith in e)) (order j i)) (order i j)
 
 module _ {T : Type 0} where
-  -- If `i ≡ j`, then swapping the contents of the slots `i` and `j` of `s` is the same as
-  -- overwriting slot `i` with its own contents.
-  pub set-same : (s : List (Option T)) (i j : ℕ) → i ≡ j
-      → set s i (slot s i) ≡ set (set s i (slot s j)) j (slot s i)
-  set-same s i j same =
-      sym (set-set s i (slot s i) (slot s i))
-      ∙ (λ n. set (set s i (slot s (same n))) (same n) (slot s i))
-
   -- If the slot `x` is filled, then there is an item `y` with `x ≡ Some y`.
   pub the_item : (x : Option T) → IsSome x → (y : T) × (x ≡ Some y)
   the_item (Some y) is = (y, refl)
@@ -160,6 +152,13 @@ module _ {T : Type 0} where
   pub run-split : (s : List (Option T)) (i a k : ℕ) → run i (a + k) s ≡ run i a s ++ run (i + a) k s
   run-split s i a k = take-add a k (drop i s)
       ∙ ap (λ (l : List (Option T)). run i a s ++ take k l) (drop-drop a i s)
+
+  -- If only one slot is replaced, then `laid` is `set`.
+  pub laid_single : (s : List (Option T)) (i : ℕ) (x : T) → i < length s
+      → laid i (full (x ∷ [])) s ≡ set s i (Some x)
+  laid_single s i x within =
+      ap (λ (k : ℕ). take i s ++ (Some x ∷ drop k s)) (let e : i + 1 ≡ suc i = omega arith in e)
+      ∙ sym (set_split s i (Some x) within)
 
   -- If `i ≡ length pre` and `length ys ≡ length old`, then `laid i ys` replaces `old` with `ys` in
   -- the list `pre ++ (old ++ post)`.

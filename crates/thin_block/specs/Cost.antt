@@ -12,8 +12,8 @@ pub record Cost : Type 0 where
   -- The number of items that reallocations have copied. Each reallocation counts every item of the
   -- block, even if the address of the block does not change.
   pub grown : ℕ
-  -- The number of moves of items into the block or within the block. Putting in a clone and
-  -- exchanging two items count as one move each. Taking an item out does not count.
+  -- The number of moves of items into the block or within the block. Putting in a clone counts as
+  -- one move. Taking an item out does not count.
   pub moves : ℕ
 
 -- `cost_code` encodes a value of the type `Cost` as a tuple of its three counts. The ghost field
@@ -27,6 +27,14 @@ cost_code =
 -- `no_cost` is the cost whose three counts are all 0.
 abbrev pub no_cost : Cost
 no_cost = record { blocks = 0; grown = 0; moves = 0 }
+
+-- `requesting c` is the cost `c` with one more granted request for memory.
+abbrev pub requesting : Cost → Cost
+requesting c = record { blocks = c.blocks + 1; grown = c.grown; moves = c.moves }
+
+-- `relocating k c` is the cost `c` with `k` more copied items.
+abbrev pub relocating : ℕ → Cost → Cost
+relocating k c = record { blocks = c.blocks; grown = c.grown + k; moves = c.moves }
 
 -- `growing k c` is the cost `c` with one more granted request for memory and `k` more copied items.
 abbrev pub growing : ℕ → Cost → Cost

@@ -4,7 +4,7 @@ ghost use Rattle.std.specs.declared.option.Option.TheVariants.{Some};
 ghost use Rattle.std.specs.Mem.{type_size};
 ghost use Rattle.std.specs.Align.{type_align};
 ghost use Rattle.thin_block.specs.Capacity.{Fits, block_align, block_bytes};
-ghost use Rattle.thin_block.specs.Cost.{growing, no_cost};
+ghost use Rattle.thin_block.specs.Cost.{growing, no_cost, requesting};
 ghost use Rattle.thin_block.specs.Slots.{IsPacked, empty, run, laid};
 
 use crate::block::Block;
@@ -39,7 +39,28 @@ impl<T, A: Allocator> Block<T, A> {
         // On failure.
         ensures cause { IfErr result (λ cause. cause ≡ ThinVecError.OutOfMemory) }
     {
-        match Block::allocate_block(alloc, cap, bytes_of_block::<T>(cap), align_of_block::<T>()) {
+        let none = Block::none();
+        let block = none.replacement(alloc, cap);
+        none.forget_none();
+        block
+    }
+
+    // Allocates a block of `cap` empty slots with one request for memory. The new block is meant to
+    // replace this block, so it has the cost of this block, plus the request. This block does not
+    // change.
+    fn replacement(&self, alloc: &A, cap: usize) -> Result<Block<T, A>, ThinVecError>
+        requires some { 0 < cap }
+        requires fits { Fits T.row cap }
+        ensures ok { IfOk result (λ block. seen block ≡ record {
+          slots = empty cap;
+          len = 0;
+          alloc = Some alloc.now;
+          cost = requesting self.now.cost;
+        }) }
+        ensures cause { IfErr result (λ cause. cause ≡ ThinVecError.OutOfMemory) }
+    {
+        let bytes = bytes_of_block::<T>(cap);
+        match Block::allocate_block(alloc, cap, bytes, align_of_block::<T>(), self) {
             Ok(block) => Ok(block),
             Err(_refused) => Err(ThinVecError::OutOfMemory),
         }
@@ -75,14 +96,6 @@ impl<T, A: Allocator> Block<T, A> {
         self.resize(alloc, cap)
     }
 
-    // Sets the cost of this block to the cost of the block `from`, plus one request for memory and
-    // `from.len()` copied items. Does nothing at run time.
-    fn charge_as(&mut self, from: &Block<T, A>)
-        ensures changes { seen self.new ≡ record (seen self.old) {
-          cost = growing from.now.len from.now.cost;
-        } }
-    {}
-
     // Allocates `cap` slots for a block without an allocation. If the allocator fails, the call
     // fails, and the block is unchanged.
     fn begin(&mut self, alloc: &A, cap: usize) -> Result<(), ThinVecError>
@@ -97,8 +110,7 @@ impl<T, A: Allocator> Block<T, A> {
         ensures err { OnErr result (self.new ≡ self.old) }
         ensures cause { IfErr result (λ cause. cause ≡ ThinVecError.OutOfMemory) }
     {
-        let mut block = Block::allocate(alloc, cap)?;
-        block.charge_as(self);
+        let block = self.replacement(alloc, cap)?;
         let none = replace(self, block);
         none.forget_none();
         Ok(())
@@ -187,14 +199,10 @@ impl<T, A: Allocator> Block<T, A> {
         ensures err { OnErr result (self.new ≡ self.old) }
         ensures cause { IfErr result (λ cause. cause ≡ ThinVecError.OutOfMemory) }
     {
-        let mut other = Block::allocate(alloc, cap)?;
+        let mut other = self.replacement(alloc, cap)?;
         let len = self.len();
-        if len > 0 {
-            other.store_len(len);
-            self.move_run_charging(0, &mut other, 0, len);
-        } else {
-            other.charge_as(self);
-        }
+        other.store_len(len);
+        self.move_items_to(0, &mut other, 0, len, true);
         let old = replace(self, other);
         old.release(alloc);
         Ok(())
@@ -221,13 +229,15 @@ impl<T, A: Allocator> Block<T, A> {
         let _none = unsafe { ManuallyDrop::new_unchecked(self) };
     }
 
-    // Allocates a block as `allocate` does. `bytes` is the size of the block in bytes, and `align`
-    // is its alignment. The call fails only if the allocator fails.
+    // Allocates a block that is to replace the block `old`, as `replacement` does. `bytes` is the
+    // size of the new block in bytes, and `align` is its alignment. The call fails only if the
+    // allocator fails. At run time, `old` is not used.
     fn allocate_block(
         alloc: &A,
         cap: usize,
         bytes: usize,
         align: usize,
+        _old: &Block<T, A>,
     ) -> Result<Block<T, A>, AllocError>
         requires some { 0 < cap }
         requires fits { Fits T.row cap }
@@ -237,7 +247,7 @@ impl<T, A: Allocator> Block<T, A> {
           slots = empty cap;
           len = 0;
           alloc = Some alloc.now;
-          cost = growing 0 no_cost;
+          cost = requesting _old.now.cost;
         }) }
     {
         match alloc.allocate(bytes, align) {

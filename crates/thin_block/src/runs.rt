@@ -1,8 +1,8 @@
 //! Methods that move runs of items within a block or to another block. A run consists of the items
 //! in adjacent slots.
-ghost use Rattle.std.specs.Prelude.{◌≡◌, ◌⊎◌, ℕ, ◌+◌, ◌-◌, ◌<◌, ◌≤◌, false, length, true};
+ghost use Rattle.std.specs.Prelude.{◌≡◌, ◌⊎◌, ℕ, ◌+◌, ◌-◌, ◌<◌, ◌≤◌, false, if◌then◌else◌, length, true};
 ghost use Rattle.std.specs.declared.option.Option.TheVariants.{None};
-ghost use Rattle.thin_block.specs.Cost.{Cost, moving};
+ghost use Rattle.thin_block.specs.Cost.{moving, relocating};
 ghost use Rattle.thin_block.specs.Slots.{AreEmpty, AreFilled, slot, run, laid, emptied, moved};
 
 use crate::block::Block;
@@ -234,7 +234,7 @@ impl<T, A: Allocator> Block<T, A> {
 
     /// Moves the `k` items that start at slot `from` of this block to the slots `to..to + k` of the
     /// block `other`. These slots of `other` must be empty.
-    pub fn move_run_to(&mut self, from: usize, k: usize, other: &mut Block<T, A>, to: usize)
+    pub fn move_run_to(&mut self, from: usize, other: &mut Block<T, A>, to: usize, k: usize)
         requires source { from + k ≤ length self.old.slots }
         requires target { to + k ≤ length other.old.slots }
         requires filled { AreFilled self.old.slots from k }
@@ -247,34 +247,35 @@ impl<T, A: Allocator> Block<T, A> {
           cost = moving k other.old.cost;
         } }
     {
-        self.move_run_charging(from, other, to, k);
+        self.move_items_to(from, other, to, k, false);
     }
 
     // Moves the `k` items in the slots `from..from + k` of this block to the slots `to..to + k` of
-    // `to_block`. These slots of `to_block` must be empty. The ghost parameter `cost` is the cost
-    // that `to_block` has after the call: the numbers of memory requests, copied items and moves.
-    pub(crate) fn move_run_charging(
+    // `other`. These slots of `other` must be empty. `relocates` says how the cost of `other`
+    // counts the items: as copies of a reallocation if `relocates` is true, and as moves otherwise.
+    // At run time, `relocates` is not used.
+    pub(crate) fn move_items_to(
         &mut self,
         from: usize,
-        to_block: &mut Block<T, A>,
+        other: &mut Block<T, A>,
         to: usize,
         k: usize,
+        _relocates: bool,
     )
-        ghost cost: { Cost }
         requires source { from + k ≤ length self.old.slots }
-        requires target { to + k ≤ length to_block.old.slots }
+        requires target { to + k ≤ length other.old.slots }
         requires filled { AreFilled self.old.slots from k }
-        requires empty { AreEmpty to_block.old.slots to k }
+        requires empty { AreEmpty other.old.slots to k }
         ensures changes { seen self.new ≡ record (seen self.old) {
           slots = emptied from k self.old.slots;
         } }
-        ensures other_changes { seen to_block.new ≡ record (seen to_block.old) {
-          slots = laid to (run from k self.old.slots) to_block.old.slots;
-          cost = cost;
+        ensures other_changes { seen other.new ≡ record (seen other.old) {
+          slots = laid to (run from k self.old.slots) other.old.slots;
+          cost = if _relocates then relocating k other.old.cost else moving k other.old.cost;
         } }
     {
         let from_at = self.at;
-        let to_at = to_block.at;
+        let to_at = other.at;
         unsafe {
             let source = (from_at.add(HEADER_WORDS) as *const T).add(from);
             let target = (to_at.add(HEADER_WORDS) as *mut T).add(to);

@@ -25,8 +25,9 @@ impl<T, A: Allocator> Block<T, A> {
           cost = moving 1 self.old.cost;
         } }
     {
-        let at = self.at;
-        unsafe { (at.add(HEADER_WORDS) as *mut T).add(i).write(value) }
+        // This call tells the prover that an item takes fewer than `2 ^ 63` bytes.
+        let _cap = self.cap();
+        self.put_array(i, [value]);
     }
 
     /// Moves `value` into the empty slot `i`, and sets the stored length to `len`.
@@ -67,17 +68,11 @@ impl<T, A: Allocator> Block<T, A> {
         ensures changes { seen self.new ≡ record (seen self.old) {
           slots = slice_set
               (slice_set self.old.slots i (slot self.old.slots j)) j (slot self.old.slots i);
-          cost = moving 1 self.old.cost;
+          cost = moving (if i == j then 1 else 2) self.old.cost;
         } }
     {
-        let at = self.at;
-        unsafe {
-            let one = (at.add(HEADER_WORDS) as *mut T).add(i);
-            let two = (at.add(HEADER_WORDS) as *mut T).add(j);
-            let first = one.read();
-            one.write(two.read());
-            two.write(first)
-        }
+        let value = self.take_replacing(i, j);
+        self.put(j, value);
     }
 
     /// Removes the item from slot `i` and returns it. If `j != i`, then moves the item of slot `j`

@@ -118,7 +118,7 @@ impl<T, A: Allocator, G: Growth> ThinVec<T, A, G> {
     {
         let len = self.block.len();
         let count = other.block.len() - start;
-        other.block.move_run_to(start, count, &mut self.block, len);
+        other.block.move_run_to(start, &mut self.block, len, count);
         other.block.set_len(start);
         self.block.set_len(len + count);
     }

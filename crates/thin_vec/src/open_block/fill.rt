@@ -66,7 +66,7 @@ impl<T, A: Allocator> OpenBlock<T, A> {
         let count = other.block.len();
         other
             .block
-            .move_run_to(0, count, &mut self.block, self.front_end);
+            .move_run_to(0, &mut self.block, self.front_end, count);
         other.block.set_len(0);
         self.front_end += count;
     }

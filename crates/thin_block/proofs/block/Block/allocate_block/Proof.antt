@@ -34,7 +34,7 @@ use Rattle.std.proofs.raw_atomic.Walks.{proved_at}
 use Rattle.std.specs.Mem.{type_size}
 use Rattle.std.specs.Align.{type_align}
 use Rattle.core.proofs.mem.Param.{R}
-use Rattle.thin_block.specs.Cost.{growing, no_cost}
+use Rattle.thin_block.specs.Cost.{requesting}
 use Rattle.thin_block.specs.Capacity.{Fits, block_align, block_bytes}
 use Rattle.thin_block.specs.Ownership.{fits_block, places, frame, bare, words_of, way_back, asked as whole_block}
 use Rattle.thin_block.proofs.SizesLemmas.{fits_tells, opened, rounded}
@@ -57,7 +57,7 @@ allocate_block_spec 𝓤 𝓛 𝓜 𝓡 wired T A LT LA g d dd met md =
     proved_at 𝓛 En₀ hs c 𝓜 𝓡
     (all_go 𝓛 ps En₀.kept (
       (λ κs x f. refl),
-      ((λ κs x f. refl), ((λ κs x f. refl), ((λ κs x f. refl), tt))),
+      ((λ κs x f. refl), ((λ κs x f. refl), ((λ κs x f. refl), ((λ κs x f. refl), tt)))),
     ))
     (#self (args E Y)) fn (compiled.unfolded 𝓤 𝓛.H 𝓜 𝓡 wired (T, (A, tt)) d dd) (λ z are.
     let Post : Val → SProp 𝓤 = (walk_of 𝓛 En₀ hs c).post z in
@@ -71,6 +71,8 @@ allocate_block_spec 𝓤 𝓛 𝓜 𝓡 wired T A LT LA g d dd met md =
     let cap : ℕ = a.1.0 in
     let bytes : ℕ = a.1.1.0 in
     let al : ℕ = a.1.1.1.0 in
+    let old = a.1.1.1.1.0.now in
+    let old_at = a.1.1.1.1.0.ref_ptr in
     let τ : Ty = whole_block Rt cap in
     let Out : RattleType = type_at En₀.signature.result z.0.0 in
     let size_of_block : ℕ = block_bytes (type_size Rt) (type_align Rt) cap in
@@ -93,18 +95,18 @@ allocate_block_spec 𝓤 𝓛 𝓜 𝓡 wired T A LT LA g d dd met md =
     ∙ capped_is size_of_block (omega arith) ∙ sym bytes_are in
     let laid : capped (align τ) ≡ al = ap capped (asked_align Rt cap)
     ∙ capped_is align_of_block (omega arith) ∙ sym align_is in
-    enters ! fn (vptr at.0 at.1 ∷ vint w64 cap ∷ vint w64 bytes ∷ vint w64 al ∷ [])
-    (λ i. are.0.0 i ++ (are.1.0.0 i ++ (are.1.1.0.0 i ++ (are.1.1.1.0.0 i ++ [])))) $
+    enters ! fn (vptr at.0 at.1 ∷ vint w64 cap ∷ vint w64 bytes ∷ vint w64 al ∷ vptr old_at.0 old_at.1 ∷ [])
+    (λ i. are.0.0 i ++ (are.1.0.0 i ++ (are.1.1.0.0 i ++ (are.1.1.1.0.0 i ++ (are.1.1.1.1.0.0 i ++ []))))) $
     alloc_all ! (λ l. pass_all ! refl (
       (tt, tt),
       (
         (tt, record { fits = are.1.0.1 }),
-        ((tt, record { fits = are.1.1.0.1 }), ((tt, record { fits = are.1.1.1.0.1 }), tt)),
+        ((tt, record { fits = are.1.1.0.1 }), ((tt, record { fits = are.1.1.1.0.1 }), ((tt, tt), tt))),
       ),
     ) $
     let En : Env 𝓤 𝓛.H = env fn.locals l in
     use2 𝓛 (raw ((Takes Y 𝓛 𝓜.mem 𝓡.returns).pre y))
-    (Takes-goes Y 𝓛 𝓜.mem 𝓡.returns κ q at h (⊑_trans κ z.0.0.1.1.0 A.lives z.0.2.0 le)
+    (Takes-goes Y 𝓛 𝓜.mem 𝓡.returns κ q at h (⊑_trans κ z.0.0.1.1.1.0 A.lives z.0.2.0 le)
     bytes al τ sized laid are.1.1.0.1 are.1.1.1.0.1) $
     calls_at ! (fm 𝓛 𝓜 𝓡) (Takes Y 𝓛 𝓜.mem 𝓡.returns) (met.allocate dd) y
     (and_then ! (get ! refl) (and_then ! (get ! refl) (and_then ! (get ! refl) (no_more !))))
@@ -128,7 +130,7 @@ allocate_block_spec 𝓤 𝓛 𝓜 𝓡 wired T A LT LA g d dd met md =
       slots = none;
       len = 0;
       alloc = Some h;
-      cost = growing 0 no_cost;
+      cost = requesting old.cost;
       sound = (omega arith, any_some none (omega arith));
     } in
     lands_as ! e refl (tt, (record { fits = lit< tt }, (tt, tt))) $
@@ -175,9 +177,9 @@ allocate_block_spec 𝓤 𝓛 𝓜 𝓡 wired T A LT LA g d dd met md =
     block_made E Y ! x b o refl $
     use1 𝓛 (‵ (Out.own_val (Ok x) (live 0 (vcons (block_val p) vnil) ∷ [])))
     (ok_of 𝓛 B AE.the_row x (block_val p)) $
-    blank ! 4 $ move ! (0 ∷ 1 ∷ []) $ join ! $ move ! (1 ∷ 0 ∷ []) $ join ! $
+    blank ! 5 $ move ! (0 ∷ 1 ∷ []) $ join ! $ move ! (1 ∷ 0 ∷ []) $ join ! $
     suffices ! _ (ends_at 𝓛 En₀ hs c z (live 0 (vcons (block_val p) vnil)) (Ok x)
-    (tt, (tt, (tt, (tt, tt)))) (tt, (tt, (tt, (tt, tt))))) $
+    (tt, (tt, (tt, (tt, (tt, tt))))) (tt, (tt, (tt, (tt, (tt, tt)))))) $
     says_all ! (_ ∷ []) refl $ done !)
     (λ e.
     let none : WT (live 1 (vcons (vstruct vnil) vnil)) = (record { fits = lit< tt }, (tt, tt)) in
@@ -194,7 +196,7 @@ allocate_block_spec 𝓤 𝓛 𝓜 𝓡 wired T A LT LA g d dd met md =
     use0 𝓛 (‵ (AE.the_row.own_val (record {}) (vstruct vnil ∷ []))) (refused_made 𝓛) $
     use1 𝓛 (‵ (Out.own_val (Err (record {})) (live 1 (vcons (vstruct vnil) vnil) ∷ [])))
     (err_of 𝓛 B AE.the_row (record {}) (vstruct vnil)) $
-    blank ! 4 $ move ! (0 ∷ 1 ∷ []) $ join ! $ move ! (1 ∷ 0 ∷ []) $ join ! $
+    blank ! 5 $ move ! (0 ∷ 1 ∷ []) $ join ! $ move ! (1 ∷ 0 ∷ []) $ join ! $
     suffices ! _ (ends_at 𝓛 En₀ hs c z (live 1 (vcons (vstruct vnil) vnil)) (Err (record {}))
-    (tt, (tt, (tt, (tt, tt)))) (tt, (tt, (tt, (tt, tt))))) $
+    (tt, (tt, (tt, (tt, (tt, tt))))) (tt, (tt, (tt, (tt, (tt, tt)))))) $
     says_all ! (_ ∷ []) tt $ done !))))))

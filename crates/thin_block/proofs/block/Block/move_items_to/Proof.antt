@@ -1,10 +1,10 @@
--- This file proves the contract of `move_run_charging`, which moves adjacent items from one block
+-- This file proves the contract of `move_items_to`, which moves adjacent items from one block
 -- to another block.
 use Rattle.std.proofs.Common.{◌≡◌, ℕ, Some, None, ◌+◌, ◌*◌, ◌^◌, ◌<◌, ◌≤◌, List, ◌∷◌, [], ◌++◌, length, refl, sym, ap, subst, ◌∙◌, arith, w64}
 use lib.Dec.{T as Holds}
 use lib.ListN.{length-map, length-replicate}
 use mir.Syntax.{Fn, ty_array, ty_unit}
-use mir.Val.{Val, WT, has_ty, vint, vptr, vunit}
+use mir.Val.{Val, WT, vbool, has_ty, vint, vptr, vunit}
 use mir.MapTy.{inst_fn}
 use base.Fraction.{full_share}
 use base.Logic.{SProp}
@@ -25,14 +25,14 @@ use denote.Signature.{plain, types_at}
 use denote.Steps.{nothing, heard}
 use denote.Triple.Call.{calls_at_last}
 use denote.Triple.Walked.{Stays, stay_ref, stay_dropped, walk_of, Goes-dropped, Goes-ref, ends_at}
-use Rattle.std.specs.Prelude.{Option, IsSome}
+use Rattle.std.specs.Prelude.{Bool, Option, IsSome, if◌then◌else◌}
 use Rattle.std.proofs.raw_atomic.Walks.{proved_at}
 use Rattle.core.proofs.alloc.Calls.{Al}
 use Rattle.core.proofs.alloc.Moves.{Copies, at_copies, Copies-goes, Copies-gives}
 use Rattle.core.proofs.atomic.Steps.{fm as framed}
 use Rattle.core.proofs.mem.Param.{El, R}
 use Rattle.core.proofs.ptr.copy_nonoverlapping.Met as copy_met
-use Rattle.thin_block.specs.Cost.{Cost}
+use Rattle.thin_block.specs.Cost.{Cost, moving, relocating}
 use Rattle.thin_block.specs.Lends.{with_slots}
 use Rattle.thin_block.specs.Ownership.{places}
 use Rattle.thin_block.specs.Slots.{full, empty, slot, laid, emptied}
@@ -42,13 +42,13 @@ use Rattle.thin_block.proofs.HeaderMemory.{args, Br, header, t, block_opens, blo
 use Rattle.thin_block.proofs.SlotMemory.{sz, reach, around, run_out, run_in, to_items, of_items, to_room, of_room}
 use Rattle.thin_block.specs.Block.{seen}
 use Rattle.thin_block.proofs.Addresses.{near, slot_found}
-use Rattle.thin_block.specs.contracts.block.Block.move_run_charging.{ended, clauses}
-use Rattle.thin_block.specs.contracts.block.Block.move_run_charging.Key.{name as #self}
-use Rattle.thin_block.proofs.block.Block.move_run_charging.Statement.{statement}
-use Rattle.thin_block.proofs.block.Block.move_run_charging.Code as compiled
+use Rattle.thin_block.specs.contracts.block.Block.move_items_to.{ended, clauses}
+use Rattle.thin_block.specs.contracts.block.Block.move_items_to.Key.{name as #self}
+use Rattle.thin_block.proofs.block.Block.move_items_to.Statement.{statement}
+use Rattle.thin_block.proofs.block.Block.move_items_to.Code as compiled
 
-pub move_run_charging_spec : {M : Type 1} → statement M
-move_run_charging_spec 𝓤 𝓛 𝓜 𝓡 wired T A LT LA g d dd met md =
+pub move_items_to_spec : {M : Type 1} → statement M
+move_items_to_spec 𝓤 𝓛 𝓜 𝓡 wired T A LT LA g d dd met md =
     let H = 𝓛.H in
     let E : El = record { row = T; laws = LT } in
     let Y : Al = record { row = A; laws = LA; g = g; d = d; drops = dd } in
@@ -65,7 +65,10 @@ move_run_charging_spec 𝓤 𝓛 𝓜 𝓡 wired T A LT LA g d dd met md =
           stay_ref (1 ∷ []) tt (plain (λ _. B)),
           (
             stay_dropped (slot_at 3 ps) En₀.kept.1.1.1.0,
-            (stay_dropped (slot_at 4 ps) En₀.kept.1.1.1.1.0, tt),
+            (
+              stay_dropped (slot_at 4 ps) En₀.kept.1.1.1.1.0,
+              (stay_dropped (slot_at 5 ps) En₀.kept.1.1.1.1.1.0, tt),
+            ),
           ),
         ),
       ),
@@ -79,7 +82,10 @@ move_run_charging_spec 𝓤 𝓛 𝓜 𝓡 wired T A LT LA g d dd met md =
           Goes-ref 𝓛 4 1 tt (plain (λ _. B)),
           (
             Goes-dropped 𝓛 4 (slot_at 3 ps) En₀.kept.1.1.1.0 (λ κs x f. refl),
-            (Goes-dropped 𝓛 4 (slot_at 4 ps) En₀.kept.1.1.1.1.0 (λ κs x f. refl), tt),
+            (
+              Goes-dropped 𝓛 4 (slot_at 4 ps) En₀.kept.1.1.1.1.0 (λ κs x f. refl),
+              (Goes-dropped 𝓛 4 (slot_at 5 ps) En₀.kept.1.1.1.1.1.0 (λ κs x f. refl), tt),
+            ),
           ),
         ),
       ),
@@ -105,7 +111,8 @@ move_run_charging_spec 𝓤 𝓛 𝓜 𝓡 wired T A LT LA g d dd met md =
     let so : ℕ = a.1.1.0.ref_ptr.1 in
     let to : ℕ = a.1.1.1.0 in
     let k : ℕ = a.1.1.1.1.0 in
-    let cost : Cost = z.1 in
+    let relocates : Bool = a.1.1.1.1.1.0 in
+    let cost : Cost = if relocates then relocating k y.cost else moving k y.cost in
     let s : ℕ = sz E in
     let Source : Type 0 = from + k ≤ length x.slots in
     let Target : Type 0 = to + k ≤ length y.slots in
@@ -129,14 +136,16 @@ move_run_charging_spec 𝓤 𝓛 𝓜 𝓡 wired T A LT LA g d dd met md =
     move ! (4 ∷ []) $ fsplit3 ! $ keep ! (1 ∷ 2 ∷ 8 ∷ 4 ∷ 5 ∷ 9 ∷ 10 ∷ []) $
     regoal ! (λ (us : List Val). prop (WpFn 𝓤 H 𝓣.C 𝓣.Λ fn us Post))
     (λ n. are.0.0 n ++ (are.1.0.0 n
-    ++ (are.1.1.0.0 n ++ (are.1.1.1.0.0 n ++ (are.1.1.1.1.0.0 n ++ []))))) refl $
-    enter ! 𝓣.C 𝓣.Λ fn (vptr rb ro ∷ vint w64 from ∷ vptr sb so ∷ vint w64 to ∷ vint w64 k ∷ [])
+    ++ (are.1.1.0.0 n ++ (are.1.1.1.0.0 n
+    ++ (are.1.1.1.1.0.0 n ++ (are.1.1.1.1.1.0 n ++ [])))))) refl $
+    enter ! 𝓣.C 𝓣.Λ fn
+    (vptr rb ro ∷ vint w64 from ∷ vptr sb so ∷ vint w64 to ∷ vint w64 k ∷ vbool relocates ∷ [])
     Post $
     alloc_all ! (λ l. pass_all ! refl (
       (tt, tt),
       (
         (tt, record { fits = ff }),
-        ((tt, tt), ((tt, record { fits = ft }), ((tt, record { fits = fk }), tt))),
+        ((tt, tt), ((tt, record { fits = ft }), ((tt, record { fits = fk }), ((tt, tt), tt)))),
       ),
     ) $
     let En : Env 𝓤 H = env fn.locals l in
@@ -144,7 +153,7 @@ move_run_charging_spec 𝓤 𝓛 𝓜 𝓡 wired T A LT LA g d dd met md =
     block_opens E Y ! tt y sb so (λ b' o' at' fits'.
     -- The proof has split both blocks into their parts. The proof context now holds, in this order:
     -- the header, the slots, the memory that stores the pointer, the right to close the borrow, and
-    -- two ghost resources of `to_block`; the same six entries for `self`; the lifetime tokens of
+    -- two ghost resources of `other`; the same six entries for `self`; the lifetime tokens of
     -- `T` and `A`.
     let src : ℕ = from * s + (o + 16) in
     let dst : ℕ = to * s + (o' + 16) in
@@ -166,10 +175,10 @@ move_run_charging_spec 𝓤 𝓛 𝓜 𝓡 wired T A LT LA g d dd met md =
     (run_out E 𝓛 b (o + 16) x.slots from k source (full xs) items.1) $ split ! $
     use1 𝓛 (‵ (part_at (Array (R E) k) full_share xs b src)) (to_items E 𝓛 b k xs src long) $
     move ! (0 ∷ 2 ∷ []) $ move ! (14 ∷ []) $ split ! $ move ! (2 ∷ 3 ∷ 0 ∷ []) $
-    -- The proof has separated the items in `self` and their new slots in `to_block` from all other
+    -- The proof has separated the items in `self` and their new slots in `other` from all other
     -- slots. The proof context now holds, in this order: the items; the empty new slots; the
-    -- lifetime tokens of `T` and `A`; the other slots of `self`; the other slots of `to_block`;
-    -- five entries for `to_block` (its header, the memory that stores its pointer, the right to
+    -- lifetime tokens of `T` and `A`; the other slots of `self`; the other slots of `other`;
+    -- five entries for `other` (its header, the memory that stores its pointer, the right to
     -- close its borrow, and two ghost resources); the same five entries for `self`.
     let G = Copies T 𝓛 𝓜.mem 𝓡.returns in
     let y₀ : G.Ghost = at_copies T 𝓛 𝓜.mem 𝓡.returns κ₂ q₂ b src b' dst k xs in
@@ -188,9 +197,9 @@ move_run_charging_spec 𝓤 𝓛 𝓜 𝓡 wired T A LT LA g d dd met md =
     sets ! (of_opd ! (unit_lit !)) refl (tt, tt) $
     -- The function has copied the items to their new address. The proof context now holds, in this
     -- order: the items at their new address; the memory at their old address; the lifetime tokens
-    -- of `T` and `A`; the other slots of `self`; the other slots of `to_block`; the header, the
+    -- of `T` and `A`; the other slots of `self`; the other slots of `other`; the header, the
     -- memory that stores the pointer, the right to close the borrow, and two ghost resources of
-    -- `to_block`; the same five entries for `self`.
+    -- `other`; the same five entries for `self`.
     let laid_to : List (Option T.Denot) = laid to (full xs) y.slots in
     let long_full : length (full xs) ≡ k = length-map xs Some ∙ long in
     let long_to : length laid_to ≡ length y.slots =
@@ -202,8 +211,8 @@ move_run_charging_spec 𝓤 𝓛 𝓜 𝓡 wired T A LT LA g d dd met md =
     move ! (5 ∷ 0 ∷ 6 ∷ 7 ∷ 8 ∷ 9 ∷ []) $
     rewrite ! 0 (λ (n : ℕ). ‵ (header (t E Y) (R E) y.len n y.alloc b' o')) (sym long_to) refl $
     block_closes E Y ! tt y' b' o' sb so at' $
-    -- The borrow of `to_block` has been closed. The proof context now holds, in this order: a ghost
-    -- resource that records the value of `to_block`; the borrow of `to_block`; the lifetime token
+    -- The borrow of `other` has been closed. The proof context now holds, in this order: a ghost
+    -- resource that records the value of `other`; the borrow of `other`; the lifetime token
     -- of this borrow; the memory at the old address of the items; the lifetime tokens of `T` and
     -- `A`; the other slots of `self`; and five entries that together describe the header and the
     -- open borrow of `self`.
@@ -218,20 +227,21 @@ move_run_charging_spec 𝓤 𝓛 𝓜 𝓡 wired T A LT LA g d dd met md =
     move ! (6 ∷ 0 ∷ 7 ∷ 8 ∷ 9 ∷ 10 ∷ []) $
     rewrite ! 0 (λ (n : ℕ). ‵ (header (t E Y) (R E) x.len n x.alloc b o)) (sym long_left) refl $
     block_closes E Y ! tt x' b o rb ro at $
-    -- The borrows of `to_block` and of `self` are now closed. The proof context now holds, in this
+    -- The borrows of `other` and of `self` are now closed. The proof context now holds, in this
     -- order: a ghost resource that records the current value of `self`; the borrow of `self`; the
-    -- lifetime token of this borrow; the same three entries for `to_block`; the lifetime tokens of
+    -- lifetime token of this borrow; the same three entries for `other`; the lifetime tokens of
     -- `T` and `A`.
     returns ! (look_at ! 0 refl) $ free_all ! refl $
     feq_i ! (List Val) vss.0 (vptr rb ro ∷ []) are.0.0 $ fjoin3 ! $ move ! (2 ∷ 3 ∷ []) $
     feq_i ! (List Val) vss.1.1.0 (vptr sb so ∷ []) are.1.1.0.0 $ fjoin3 ! $
-    nothing ! $ nothing ! $ fjoin ! $ nothing ! $ fjoin ! $ move ! (1 ∷ 0 ∷ []) $ fjoin ! $
+    nothing ! $ nothing ! $ fjoin ! $ nothing ! $ fjoin ! $ nothing ! $ fjoin ! $
+    move ! (1 ∷ 0 ∷ []) $ fjoin ! $
     nothing ! $ fjoin ! $ move ! (1 ∷ 0 ∷ []) $ fjoin ! $
     feq_i ! (List Val) (vunit ∷ []) (vunit ∷ []) refl $ move ! (1 ∷ 0 ∷ []) $ join ! $
     move ! (3 ∷ 4 ∷ []) $ join ! $ move ! (3 ∷ 0 ∷ []) $ join ! $
     move ! (2 ∷ 0 ∷ []) $ join ! $ join ! $
-    suffices ! _ (ends_at 𝓛 En₀ hs c z vunit tt (x', (tt, (y', (tt, (tt, tt)))))
-    (tt, (tt, (tt, (tt, (tt, tt)))))) $
+    suffices ! _ (ends_at 𝓛 En₀ hs c z vunit tt (x', (tt, (y', (tt, (tt, (tt, tt))))))
+    (tt, (tt, (tt, (tt, (tt, (tt, tt))))))) $
     says_all ! (_ ∷ _ ∷ []) (
       refl,
       ap (λ (ys : List (Option T.Denot)).
