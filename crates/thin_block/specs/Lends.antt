@@ -1,6 +1,6 @@
 -- This file defines what a block contains after a mutable borrow (`&mut`) of some of its items has
 -- ended.
-use Rattle.std.specs.Prelude.{◌≡◌, ℕ, zero, suc, ◌≤◌, List, [], ◌∷◌, length, Option, slice_set}
+use Rattle.std.specs.Prelude.{◌≡◌, ℕ, zero, suc, ◌<◌, ◌≤◌, ◌^◌, List, [], ◌∷◌, length, Option, slice_set}
 use Rattle.std.specs.declared.option.Option.TheVariants.{None, Some}
 use Rattle.core.specs.declared.alloc.Allocator.{Ghosts}
 use Rattle.core.specs.Borrow.{Lends, MutBor, Fml, RattleType, Array}
@@ -40,6 +40,7 @@ module _ {X Z : Type 0} where
           subst (λ (n : ℕ). b.len ≤ n) (sym same) b.sound.0,
           b.sound.1
               ∙ sym (any_same b.slots s same),
+          subst (λ (n : ℕ). n < 2 ^ 63) (sym same) b.sound.2,
         );
       }
 

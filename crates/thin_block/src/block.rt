@@ -45,7 +45,7 @@ pub struct Block<T, A: Allocator> {
     pub ghost len: { ℕ },
     pub ghost alloc: { Option A } by { coded_option A.code },
     pub ghost cost: { Cost } by { cost_code },
-    ghost sound: { (len ≤ length slots) × (is_some alloc ≡ any slots) },
+    ghost sound: { (len ≤ length slots) × (is_some alloc ≡ any slots) × (length slots < 2 ^ 63) },
 }
 
 impl<T, A: Allocator> Model for Block<T, A> {
@@ -86,7 +86,6 @@ impl<T, A: Allocator> Block<T, A> {
     pub fn len(&self) -> usize
         ensures value { result ≡ self.now.len }
         ensures in_bounds { result ≤ length self.now.slots }
-        ensures small { length self.now.slots < 2 ^ 63 }
         ensures fits { Fits T.row result }
         ensures slots_fit { Fits T.row (length self.now.slots) }
     {
@@ -98,7 +97,6 @@ impl<T, A: Allocator> Block<T, A> {
     pub fn cap(&self) -> usize
         ensures value { result ≡ length self.now.slots }
         ensures in_bounds { self.now.len ≤ result }
-        ensures small { result < 2 ^ 63 }
         ensures fits { Fits T.row result }
     {
         let at = self.at;

@@ -81,8 +81,6 @@ impl<T, A: Allocator> Block<T, A> {
         ensures cap { length result.slots ≡ length self.slots }
     {
         let mut block = self;
-        // This call tells the prover that the number of slots is less than `2 ^ 63`.
-        let _cap = block.cap();
         // In each arm whose pattern is a number, LLVM knows the value of `gap`, and turns the call
         // in this arm into a `memmove`.
         match gap {
@@ -142,8 +140,6 @@ impl<T, A: Allocator> Block<T, A> {
         ensures cap { length result.slots ≡ length self.slots }
     {
         let mut block = self;
-        // This call tells the prover that the number of slots is less than `2 ^ 63`.
-        let _cap = block.cap();
         // In each arm whose pattern is a number, LLVM knows the value of `gap`, and turns the call
         // in this arm into a `memmove`.
         match gap {

@@ -50,8 +50,6 @@ pub(crate) fn put_vec<T, A: Allocator, B: Allocator>(
       cost = moving (length items.items) block.old.cost;
     } }
 {
-    // Needed only for the proof: by the contract of `cap`, the number of slots is less than 2^63.
-    let _whole = block.cap();
     while let Some(item) = items.pop() {
         block.put(start + items.len(), item);
     }
@@ -76,8 +74,6 @@ pub(crate) fn put_clones<T: Clone, A: Allocator>(
     ensures refused { result < length items.now
         → HoldsAt (λ x. ¬ (T.is_infallible x)) items.now result }
 {
-    // Needed only for the proof: by the contract of `cap`, the number of slots is less than 2^63.
-    let _whole = block.cap();
     for i in 0..items.len() {
         match items[i].clone() {
             Ok(item) => block.put(start + i, item),
@@ -106,8 +102,6 @@ pub(crate) fn put_repeated<T: Clone, A: Allocator>(
     } }
     ensures refused { result < count → ¬ (T.is_infallible value.now) }
 {
-    // Needed only for the proof: by the contract of `cap`, the number of slots is less than 2^63.
-    let _whole = block.cap();
     for i in 0..count {
         match value.clone() {
             Ok(item) => block.put(start + i, item),
@@ -135,8 +129,6 @@ pub(crate) fn put_results<T, A: Allocator, F: FnMut() -> T>(
       cost = moving count block.old.cost;
     } }
 {
-    // Needed only for the proof: by the contract of `cap`, the number of slots is less than 2^63.
-    let _whole = block.cap();
     for i in 0..count {
         block.put(start + i, make());
     }

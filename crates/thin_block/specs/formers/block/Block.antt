@@ -1,7 +1,7 @@
 -- This file defines the type former of `Block`. The type former states which values a block
 -- contains. Because of this type former, the prover accepts a type `T` that has a field of the type
 -- `Block<T, A>`.
-use Rattle.std.specs.Prelude.{◌≡◌, ℕ, suc, max, ◌+◌, ◌≤◌, List, [], ◌∷◌, map, length, Option}
+use Rattle.std.specs.Prelude.{◌≡◌, ℕ, suc, max, ◌+◌, ◌<◌, ◌≤◌, ◌^◌, List, [], ◌∷◌, map, length, Option}
 use Rattle.std.specs.declared.option.Option.TheVariants.{Some, None}
 use mathlib.Core.Path.{PathP, refl, sym, ap, ◌∙◌}
 use mathlib.Core.HLevel.{is_prop→PathP}
@@ -137,7 +137,7 @@ module _ {X Y Z : Type 0} (d : Block X Z) where
   -- this module. This means that the length of `ys` is at least the stored length of `d`, and that
   -- `ys` is empty exactly when `d` has no allocation.
   abbrev pub Fits : List (Option Y) → Type 0
-  Fits ys = (d.len ≤ length ys) × (is_some d.alloc ≡ any ys)
+  Fits ys = (d.len ≤ length ys) × (is_some d.alloc ≡ any ys) × (length ys < 2 ^ 63)
 
   -- `holding ys p` is the block `d` of this module with the slots `ys` instead of its own slots.
   -- `p` is a proof that `d` may have these slots.
@@ -156,14 +156,18 @@ module _ {X Y Z : Type 0} (d : Block X Z) where
   -- If the length of `ys` is the number of slots of the block `d`, then `Fits ys` holds: the slots
   -- of `d` may be replaced with `ys`.
   pub fits : (ys : List (Option Y)) → length ys ≡ length d.slots → Fits ys
-  fits ys e = (let le = d.sound.0 in omega (arith, e, le), d.sound.1 ∙ sym (any_same d.slots ys e))
+  fits ys e = (
+    let le = d.sound.0 in omega (arith, e, le),
+    d.sound.1 ∙ sym (any_same d.slots ys e),
+    let small = d.sound.2 in omega (arith, e, small),
+  )
 
   -- `Fits ys` states that the block `d` of this module may have the slots `ys`. If the lists `ys`
   -- and `zs` are equal, then each proof `p` of `Fits ys` equals each proof `q` of `Fits zs`.
   pub Fits-along : (ys zs : List (Option Y)) (e : ys ≡ zs) (p : Fits ys) (q : Fits zs)
       → PathP (λ i. Fits (e i)) p q
   Fits-along ys zs e = is_prop→PathP (λ i. Fits (e i))
-      (λ i p q j. (le_prop p.0 q.0 j, Coded-set coded_bool _ _ p.1 q.1 j))
+      (λ i p q j. (le_prop p.0 q.0 j, Coded-set coded_bool _ _ p.1 q.1 j, le_prop p.2 q.2 j))
 
   -- If the lists of slots `ys` and `zs` are equal, then the block `d` with the slots `ys` equals
   -- the block `d` with the slots `zs`. `p` and `q` are proofs that `d` may have these slots.
@@ -265,7 +269,7 @@ the_empty Z z = record {
   len = 0;
   alloc = None;
   cost = no_cost;
-  sound = (omega arith, refl);
+  sound = (omega arith, refl, omega arith);
 }
 
 -- Under the type former `this`, each item counts as one value. So the values in the slots `xs` are

@@ -95,13 +95,18 @@ allocate_block_spec 𝓤 𝓛 𝓜 𝓡 wired T A LT LA g d dd met md =
     ∙ capped_is size_of_block (omega arith) ∙ sym bytes_are in
     let laid : capped (align τ) ≡ al = ap capped (asked_align Rt cap)
     ∙ capped_is align_of_block (omega arith) ∙ sym align_is in
-    enters ! fn (vptr at.0 at.1 ∷ vint w64 cap ∷ vint w64 bytes ∷ vint w64 al ∷ vptr old_at.0 old_at.1 ∷ [])
-    (λ i. are.0.0 i ++ (are.1.0.0 i ++ (are.1.1.0.0 i ++ (are.1.1.1.0.0 i ++ (are.1.1.1.1.0.0 i ++ []))))) $
+    enters ! fn
+    (vptr at.0 at.1 ∷ vint w64 cap ∷ vint w64 bytes ∷ vint w64 al ∷ vptr old_at.0 old_at.1 ∷ [])
+    (λ i. are.0.0 i ++ (are.1.0.0 i
+    ++ (are.1.1.0.0 i ++ (are.1.1.1.0.0 i ++ (are.1.1.1.1.0.0 i ++ []))))) $
     alloc_all ! (λ l. pass_all ! refl (
       (tt, tt),
       (
         (tt, record { fits = are.1.0.1 }),
-        ((tt, record { fits = are.1.1.0.1 }), ((tt, record { fits = are.1.1.1.0.1 }), ((tt, tt), tt))),
+        (
+          (tt, record { fits = are.1.1.0.1 }),
+          ((tt, record { fits = are.1.1.1.0.1 }), ((tt, tt), tt)),
+        ),
       ),
     ) $
     let En : Env 𝓤 𝓛.H = env fn.locals l in
@@ -131,7 +136,11 @@ allocate_block_spec 𝓤 𝓛 𝓜 𝓡 wired T A LT LA g d dd met md =
       len = 0;
       alloc = Some h;
       cost = requesting old.cost;
-      sound = (omega arith, any_some none (omega arith));
+      sound = (
+        omega arith,
+        any_some none (omega arith),
+        let few = (fits_tells Rt cap fits).few in omega arith,
+      );
     } in
     lands_as ! e refl (tt, (record { fits = lit< tt }, (tt, tt))) $
     first ! $ switches_on ! (get_tag ! (vrt ! refl (fld ! refl (stop !))) (whole !)) $

@@ -14,7 +14,7 @@ use Rattle.thin_block.proofs.Walks.{says_all}
 use Rattle.thin_block.proofs.HeaderMemory.{args}
 use Rattle.thin_block.proofs.Sharing.{block_seen}
 use Rattle.thin_block.proofs.CapacityLemmas.{fits-less}
-use Rattle.thin_block.proofs.SizesLemmas.{closed, fits_tells}
+use Rattle.thin_block.proofs.SizesLemmas.{closed}
 use Rattle.thin_block.proofs.Methods.{item, source, others, dropped, all_go, seen, enters, leaves, continues}
 use Rattle.thin_block.specs.contracts.block.Block.len.{ended, clauses}
 use Rattle.thin_block.specs.contracts.block.Block.len.Key.{name as #self}
@@ -53,16 +53,13 @@ len_spec 𝓤 𝓛 𝓜 𝓡 wired T A LT LA g d dd met md =
     flt_i ! n (2 ^ 64) fits $ feq_i ! (List Val) (vint w64 n ∷ []) (vint w64 n ∷ []) refl $
     fjoin ! $ move ! (1 ∷ 0 ∷ 2 ∷ []) $ leaves ! 1 $
     suffices ! _ (ends_at 𝓛 En₀ hs c z (vint w64 n) n (tt, tt) (tt, tt)) $
-    says_all ! (_ ∷ _ ∷ _ ∷ _ ∷ _ ∷ []) (
+    says_all ! (_ ∷ _ ∷ _ ∷ _ ∷ []) (
       refl,
       (
         x.sound.0,
         (
-          (fits_tells (R E) (length x.slots) small).few,
-          (
-            fits-less (R E) n (length x.slots) (closed (R E) (length x.slots) small) x.sound.0,
-            closed (R E) (length x.slots) small,
-          ),
+          fits-less (R E) n (length x.slots) (closed (R E) (length x.slots) small) x.sound.0,
+          closed (R E) (length x.slots) small,
         ),
       ),
     ) $ done !))))))

@@ -88,7 +88,7 @@ none_spec 𝓤 𝓛 𝓜 𝓡 wired T A LT LA g d dd met md =
       len = 0;
       alloc = None;
       cost = no_cost;
-      sound = (omega arith, refl);
+      sound = (omega arith, refl, omega arith);
     } in
     returns ! (look_at ! 0 refl) $ free_all ! refl $ keep ! (0 ∷ 1 ∷ []) $
     nothing ! $ move ! (1 ∷ 0 ∷ []) $ block_made E Y ! x b 0 refl $

@@ -99,7 +99,7 @@ put_and_store_spec 𝓤 𝓛 𝓜 𝓡 wired T A LT LA g d dd met md =
     let y : (Br E Y).Denot = record z₀ {
       len = n;
       cost = moving 1 x.cost;
-      sound = (subst (λ (k : ℕ). n ≤ k) (sym long) counted, z₀.sound.1);
+      sound = (subst (λ (k : ℕ). n ≤ k) (sym long) counted, z₀.sound.1, z₀.sound.2);
     } in
     move ! (1 ∷ 0 ∷ []) $ closes_over E Y ! tt r y b o at long $
     returns ! (look_at ! 0 refl) $ free_all ! refl $ leaves_unit E Y ! r y 3 are.0.0 $

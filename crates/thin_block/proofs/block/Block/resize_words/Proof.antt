@@ -422,7 +422,7 @@ resize_words_spec 𝓤 𝓛 𝓜 𝓡 wired T A m k LT LA fits_m fits_k g d dd m
       len = x.len;
       alloc = Some h;
       cost = growing x.len x.cost;
-      sound = (omega arith, any_some news (omega arith));
+      sound = (omega arith, any_some news (omega arith), omega arith);
     } in
     let changes : seen y' ≡ record (seen y') { slots = laid 0 (run 0 x.len x.slots) (empty cap) } =
     ap (λ (l : List (Option T.Denot)). record (seen y') { slots = l })

@@ -63,7 +63,7 @@ store_len_spec 𝓤 𝓛 𝓜 𝓡 wired T A LT LA g d dd met md =
     use1 𝓛 (‵ (lies_at usize full_share (block_ptr b (o + 8)) n))
     (uint_in 𝓛 full_share w64 n b (o + 8)) $ fjoin ! $ move ! (1 ∷ 0 ∷ []) $ fjoin ! $
     rewrite ! 0 (λ (u : Option A.Denot). ‵ (header (t E Y) (R E) n cap u b o)) (sym alloc.1) refl $
-    let y : (Br E Y).Denot = record x { len = n; sound = (within, x.sound.1) } in
+    let y : (Br E Y).Denot = record x { len = n; sound = (within, x.sound.1, x.sound.2) } in
     block_closes E Y ! tt y b o r.ref_ptr.0 r.ref_ptr.1 at $
     returns ! (look_at ! 0 refl) $ free_all ! refl $ leaves_unit E Y ! r y 1 are.0.0 $
     suffices ! _ (ends_at 𝓛 En₀ hs c z vunit tt (y, (tt, tt)) (tt, (tt, tt))) $
