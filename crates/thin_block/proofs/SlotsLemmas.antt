@@ -4,7 +4,7 @@ use Rattle.std.proofs.Common.{◌⊎◌, ◌≡◌, ℕ, zero, suc, ◌+◌, ◌
 use Rattle.std.proofs.lemmas.List.{take-append-drop, drop-drop, set_at, get_or-append_right, get_or-drop, length-replicate, length-map, length-append, length-take, length-drop, take_at, drop_at, drop-replicate, replicate-append-replicate}
 use mathlib.Core.Logic.{inl, inr, ⊎_elim}
 use lib.ListN.{set, get_or}
-use lib.Seq.{set-set, set_split, drop-cons, take-add}
+use lib.Seq.{set_split, drop-cons, take-add}
 use Rattle.core.proofs.str.Laws.{order}
 use borrow.Author.Tests.{clash}
 use Rattle.std.specs.Prelude.{Option, IsSome, take, drop, replicate}

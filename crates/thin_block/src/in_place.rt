@@ -47,7 +47,7 @@ unsafe fn resized<T, A: Allocator>(
 }
 
 impl<T, A: Allocator> Block<T, A> {
-    ghost use Rattle.thin_block.specs.Block.{IsFrom, seen};
+    ghost use Rattle.thin_block.specs.Block.{IsFrom, Remade, seen};
 
     // Resizes the block of length `len` to `cap` slots, and may leave it at its address. `M` items
     // form a word, and the header is as large as `K` words. `len` must be a multiple of `M` and at
@@ -68,17 +68,7 @@ impl<T, A: Allocator> Block<T, A> {
         requires len { len ≡ self.old.len }
         requires whole { len / M * M ≡ len }
         requires room { K ≤ len / M }
-
-        // On success.
-        ensures ok { OnOk result (seen self.new ≡ record (seen self.old) {
-          slots = laid 0 (run 0 self.old.len self.old.slots) (empty cap);
-          alloc = Some alloc.now;
-          cost = growing self.old.len self.old.cost;
-        }) }
-
-        // On failure.
-        ensures err { OnErr result (self.new ≡ self.old) }
-        ensures cause { IfErr result (λ cause. cause ≡ ThinVecError.OutOfMemory) }
+        ensures remade { Remade self.old self.new alloc.now cap result }
     {
         let old = self.cap();
         let held = K + old.div_ceil(M);

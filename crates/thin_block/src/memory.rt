@@ -16,7 +16,7 @@ use std::marker::PhantomData;
 use std::mem::{ManuallyDrop, replace};
 
 impl<T, A: Allocator> Block<T, A> {
-    ghost use Rattle.thin_block.specs.Block.{IsFrom, seen};
+    ghost use Rattle.thin_block.specs.Block.{IsFrom, Remade, seen};
 
     /// Allocates a block of `cap` empty slots with one request for memory. The stored length of the
     /// block is 0.
@@ -91,29 +91,12 @@ impl<T, A: Allocator> Block<T, A> {
         ensures cause { IfErr result (λ cause. cause ≡ ThinVecError.OutOfMemory) }
     {
         if self.cap() == 0 {
-            return self.begin(alloc, cap);
+            let block = self.replacement(alloc, cap)?;
+            let none = replace(self, block);
+            none.forget_none();
+            return Ok(());
         }
-        self.resize(alloc, cap)
-    }
-
-    // Allocates `cap` slots for a block without an allocation. If the allocator fails, the call
-    // fails, and the block is unchanged.
-    fn begin(&mut self, alloc: &A, cap: usize) -> Result<(), ThinVecError>
-        requires none { self.old.slots ≡ [] }
-        requires some { 0 < cap }
-        requires fits { Fits T.row cap }
-        ensures ok { OnOk result (seen self.new ≡ record (seen self.old) {
-          slots = empty cap;
-          alloc = Some alloc.now;
-          cost = growing self.old.len self.old.cost;
-        }) }
-        ensures err { OnErr result (self.new ≡ self.old) }
-        ensures cause { IfErr result (λ cause. cause ≡ ThinVecError.OutOfMemory) }
-    {
-        let block = self.replacement(alloc, cap)?;
-        let none = replace(self, block);
-        none.forget_none();
-        Ok(())
+        self.resize(alloc, self.len(), cap)
     }
 
     /// Shrinks the block to its first `cap` slots with one request for memory. Each item is copied
@@ -140,67 +123,46 @@ impl<T, A: Allocator> Block<T, A> {
         ensures err { OnErr result (self.new ≡ self.old) }
         ensures cause { IfErr result (λ cause. cause ≡ ThinVecError.OutOfMemory) }
     {
-        // This call tells the prover that a block with the current number of slots is small enough
-        // to be allocated. So a block of the smaller capacity `cap` is also small enough.
-        let _whole = self.cap();
-        self.resize(alloc, cap)
+        let len = self.len();
+        self.resize(alloc, len, cap)
     }
 
-    // Changes the number of slots to `cap`. If the items form whole words and take at least
-    // `LONG * 8` bytes, the allocator resizes the block, possibly in place. Otherwise, the items
-    // are moved to a new block. If the allocator fails, the call fails, and the block is unchanged.
+    // Changes the number of slots of the block of length `len` to `cap`. If the items form whole
+    // words and take at least `LONG * 8` bytes, the allocator resizes the block, possibly in place.
+    // Otherwise, the items are moved to a new block. If the allocator fails, the call fails, and the
+    // block is unchanged.
     #[inline(always)]
-    fn resize(&mut self, alloc: &A, cap: usize) -> Result<(), ThinVecError>
+    fn resize(&mut self, alloc: &A, len: usize, cap: usize) -> Result<(), ThinVecError>
         requires from { IsFrom self.old.alloc alloc.now }
         requires some { 0 < cap }
         requires fits { Fits T.row cap }
         requires packed { IsPacked self.old.slots self.old.len }
         requires room { self.old.len ≤ cap }
-
-        // On success.
-        ensures ok { OnOk result (seen self.new ≡ record (seen self.old) {
-          slots = laid 0 (run 0 self.old.len self.old.slots) (empty cap);
-          alloc = Some alloc.now;
-          cost = growing self.old.len self.old.cost;
-        }) }
-
-        // On failure.
-        ensures err { OnErr result (self.new ≡ self.old) }
-        ensures cause { IfErr result (λ cause. cause ≡ ThinVecError.OutOfMemory) }
+        requires len { len ≡ self.old.len }
+        ensures remade { Remade self.old self.new alloc.now cap result }
     {
-        let len = self.len();
         match item_size::<T>() {
             1 if len >= LONG * 8 && len % 8 == 0 => self.remake_in_place::<8, 2>(alloc, len, cap),
             2 if len >= LONG * 4 && len % 4 == 0 => self.remake_in_place::<4, 2>(alloc, len, cap),
             4 if len >= LONG * 2 && len % 2 == 0 => self.remake_in_place::<2, 2>(alloc, len, cap),
             8 if len >= LONG => self.remake_in_place::<1, 2>(alloc, len, cap),
             16 if len >= LONG / 2 => self.remake_in_place::<1, 1>(alloc, len, cap),
-            _ => self.remake(alloc, cap),
+            _ => self.remake(alloc, len, cap),
         }
     }
 
     // Moves the items to a new block of `cap` slots, and frees the old block. If the allocator
     // fails, the call fails, and the block is unchanged.
-    fn remake(&mut self, alloc: &A, cap: usize) -> Result<(), ThinVecError>
+    fn remake(&mut self, alloc: &A, len: usize, cap: usize) -> Result<(), ThinVecError>
         requires from { IsFrom self.old.alloc alloc.now }
         requires some { 0 < cap }
         requires fits { Fits T.row cap }
         requires packed { IsPacked self.old.slots self.old.len }
         requires room { self.old.len ≤ cap }
-
-        // On success.
-        ensures ok { OnOk result (seen self.new ≡ record (seen self.old) {
-          slots = laid 0 (run 0 self.old.len self.old.slots) (empty cap);
-          alloc = Some alloc.now;
-          cost = growing self.old.len self.old.cost;
-        }) }
-
-        // On failure.
-        ensures err { OnErr result (self.new ≡ self.old) }
-        ensures cause { IfErr result (λ cause. cause ≡ ThinVecError.OutOfMemory) }
+        requires len { len ≡ self.old.len }
+        ensures remade { Remade self.old self.new alloc.now cap result }
     {
         let mut other = self.replacement(alloc, cap)?;
-        let len = self.len();
         other.store_len(len);
         self.move_items_to(0, &mut other, 0, len, true);
         let old = replace(self, other);

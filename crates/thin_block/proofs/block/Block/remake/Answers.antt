@@ -10,7 +10,7 @@ use Rattle.thin_block.proofs.block.Block.remake.Goals as goal
 -- The items fill the first slots of the old block.
 pub move_items_to-requires-clause-filled : goal.move_items_to-requires-clause-filled
 move_items_to-requires-clause-filled g c =
-    let len = c.len-len.ensures.value in
+    let len = c.requires.len in
     λ i p q. packed-filled c.args.self.now.slots c.args.self.now.len c.requires.packed i
     (omega arith)
 
@@ -21,6 +21,6 @@ release-requires-clause-empty g c =
     let left : c.replace-old.result.slots ≡ empty (length old) =
     ap (λ b. b.slots) c.replace-old.ensures.value
     ∙ (ap (λ v. v.slots) c.move_items_to.ensures.changes
-    ∙ (ap (λ (k : ℕ). emptied 0 k old) c.len-len.ensures.value
+    ∙ (ap (λ (k : ℕ). emptied 0 k old) c.requires.len
     ∙ packed-emptied old c.args.self.now.len c.requires.packed)) in
     left ∙ ap (λ (k : ℕ). empty k) (sym (ap length left ∙ length-replicate (length old) None))

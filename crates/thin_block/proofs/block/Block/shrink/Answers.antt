@@ -1,6 +1,6 @@
 -- This file proves that `shrink`, if it succeeds, keeps the first `cap` slots of the block, and
 -- removes all other slots.
-use Rattle.std.proofs.Common.{arith}
+use Rattle.std.proofs.Common.{length, arith}
 use denote.Param.{param}
 use Rattle.thin_block.proofs.BlockLemmas.{slots-are}
 use Rattle.thin_block.proofs.CapacityLemmas.{fits-less}
@@ -13,8 +13,8 @@ use Rattle.thin_block.proofs.block.Block.shrink.Goals as goal
 pub resize-requires-clause-fits : goal.resize-requires-clause-fits
 resize-requires-clause-fits g c =
     let smaller = c.requires.smaller in
-    let whole = c.cap-whole.ensures.value in
-    fits-less (param 0 g.row.T) c.args.cap c.cap-whole.result c.cap-whole.ensures.fits (omega arith)
+    fits-less (param 0 g.row.T) c.args.cap (length c.args.self.now.slots)
+    c.len-len.ensures.slots_fit (omega arith)
 
 -- If `shrink` succeeds, the new list of slots consists of the first `cap` slots of the old block.
 pub returns-clause-ok : goal.returns-clause-ok
@@ -22,4 +22,4 @@ returns-clause-ok g c =
     let smaller = c.requires.smaller in
     on-ok c.resize.result
     (λ e. slots-are e (packed-shrunk c.args.self.now.slots c.args.self.now.len c.requires.packed
-    c.args.cap c.requires.room (omega arith))) c.resize.ensures.ok
+    c.args.cap c.requires.room (omega arith))) c.resize.ensures.remade.ok
