@@ -19,4 +19,4 @@ pub use errors::ThinVecError;
 pub use growth::Growth;
 pub use growth::doubling::{Doubling, first_capacity, next_capacity};
 pub use growth::power_bytes::PowerBytes;
-pub use sizes::fits;
+pub use sizes::{fits, item_size};

@@ -15,8 +15,8 @@ pub(crate) const HEADER: usize = 16;
 // The size of the header in words of 8 bytes. The two words contain the capacity and the length.
 pub(crate) const HEADER_WORDS: usize = 2;
 
-// Returns the size of an item in bytes, or `usize::MAX` if the size exceeds `usize::MAX`.
-pub(crate) fn item_size<T>() -> usize
+/// Returns the size of an item in bytes, or `usize::MAX` if the size exceeds `usize::MAX`.
+pub fn item_size<T>() -> usize
     ensures value { result ≡ capped (type_size T.row) }
 {
     size_of::<T>()

@@ -2,7 +2,8 @@
 -- calls to the closure, and `s`, `t` and `u` are its states.
 use Rattle.std.proofs.Common.{◌≡◌, ℕ, zero, suc, ◌+◌, ◌<◌, ◌≤◌, Bool, true, false, List, [], ◌∷◌, ◌++◌, length, take, drop, refl, sym, ap, subst, ◌∙◌, arith, length-append, append_assoc}
 use Rattle.std.proofs.lemmas.Bool.{ne_eqb}
-use Rattle.std.proofs.lemmas.List.{append-nil, drop_at, length-drop, length-take-le, map-append, map_push, nil_from_length, take-append-drop, take_at}
+use Rattle.std.proofs.Math.Seq.{take-add}
+use Rattle.std.proofs.lemmas.List.{append-nil, drop-drop, drop_at, length-drop, length-take-le, map_push, nil_from_length, take-append-drop, take_at}
 use Rattle.std.specs.Prelude.{◌==◌, if◌then◌else◌}
 use Rattle.std.specs.List.{filter, items_where_true}
 use Rattle.std.specs.List.Retain.{IsFiltered, ReturnsInTurn}
@@ -297,52 +298,6 @@ module _ {S T : Type 0} (R : S → T → Bool → S → T → Type 0) where
         stop-count r.between r.after t r.end r.stops,
       )
 
-  -- If the first item was tested and kept, then `Stays` holds for this one item.
-  pub one-stays : (s : S) (xs : List T) (t : S) (ys : List T)
-      → IsAskedAt R 0 s xs true t ys → Stays 0 1 s xs t ys
-  one-stays s xs t ys a = stays-more 0 0 s xs s xs (stays-start 0 s xs (omega arith)) t ys a
-
-  -- If the first two items were tested and kept, then `Stays` holds for the range `0..2`.
-  pub two-stay : (s : S) (xs : List T) (t : S) (ys : List T) (u : S) (zs : List T)
-      → IsAskedAt R 0 s xs true t ys → IsAskedAt R 1 t ys true u zs → Stays 0 2 s xs u zs
-  two-stay s xs t ys u zs a b = stays-more 0 1 s xs t ys (one-stays s xs t ys a) u zs b
-
-  module _ (m n : ℕ) where
-    -- If all items before index `m` were tested and kept, and the tests from index `m` onward
-    -- stopped at index `n`, then the tests from index 0 onward also stopped at `n`.
-    pub runs-join : (s : S) (xs : List T) (t : S) (ys : List T) (u : S) (zs : List T)
-        → Stays 0 m s xs t ys → AskedUpTo R m n t ys u zs → AskedUpTo R 0 n s xs u zs
-    runs-join s xs t ys u zs h r =
-        let none = nil_from_length h.before h.place in
-        let same : h.left ++ h.more ≡ r.before ++ (r.run ++ r.after) =
-        sym (h.now ∙ ap (λ (l : List T). l ++ (h.left ++ h.more)) none) ∙ r.was in
-        let long : length h.left ≡ m = omega (arith, h.reached) in
-        let first : r.before ≡ h.left =
-        sym (take_at r.before (r.run ++ r.after) m r.place)
-        ∙ (ap (take m) (sym same) ∙ take_at h.left h.more m long) in
-        let second : h.more ≡ r.run ++ r.after =
-        sym (drop_at h.left h.more m long)
-        ∙ (ap (drop m) same ∙ drop_at r.before (r.run ++ r.after) m r.place) in
-        let joined : stay h.left ++ stay r.left ≡ stay (h.left ++ r.left) =
-        sym (map-append (λ (x : T). (true, x)) h.left r.left) in
-        record {
-          before = [];
-          run = h.run ++ r.run;
-          left = h.left ++ r.left;
-          after = r.after;
-          end = r.end;
-          between = r.between;
-          place = refl;
-          reached = omega (arith, length-append h.left r.left, long, r.reached);
-          was = h.was ∙ (ap (λ (l : List T). l ++ (h.run ++ h.more)) none
-              ∙ (ap (λ (l : List T). h.run ++ l) second ∙ sym (append_assoc h.run r.run r.after)));
-          asked = subst (λ (c : Verdicts T). Asked R s (h.run ++ r.run) c r.between) joined
-              (asked-append t r.between r.run (stay r.left) r.asked h.run s (stay h.left) h.asked);
-          stops = r.stops;
-          now = r.now ∙ (ap (λ (l : List T). l ++ (r.left ++ r.end)) first
-              ∙ sym (append_assoc h.left r.left r.end));
-        }
-
   -- The following definition and lemmas are about tests that stop at the first item to be removed.
   -- They state which items were kept before this item.
 
@@ -515,6 +470,181 @@ module _ {S T : Type 0} (R : S → T → Bool → S → T → Type 0) where
       length-drop h.count h.left,
       runs-count 0 h.count s v.rest t h.left h.run,
     )
+
+  -- Let `IsAskedAt` hold for the first item of `drop n ys`. Then it holds for the item at index `n`
+  -- of `ys`.
+  asked-later : (n : ℕ) (t : S) (ys : List T) (b : Bool) (u : S) (zs : List T) → n ≤ length ys
+      → IsAskedAt R 0 t (drop n ys) b u zs → IsAskedAt R n t ys b u (take n ys ++ zs)
+  asked-later n t ys b u zs low a =
+      let none = nil_from_length a.before a.place in
+      record {
+        before = take n ys;
+        item = a.item;
+        left = a.left;
+        after = a.after;
+        place = length-take-le n ys low;
+        was = sym (take-append-drop n ys) ∙ ap (λ (l : List T). take n ys ++ l)
+            (a.was ∙ ap (λ (l : List T). l ++ a.item ∷ a.after) none);
+        asked = a.asked;
+        now = ap (λ (l : List T). take n ys ++ l)
+            (a.now ∙ ap (λ (l : List T). l ++ a.left ∷ a.after) none);
+      }
+
+  -- `Keeps s v t w` states that the first `count` middle items of the open block `v` were tested and
+  -- kept, and that each of them was moved to the end of the front items. This changed the block from
+  -- `v` to `w`, and the state of the test from `s` to `t`. The list `left` contains all middle items
+  -- of `v`, as the tests left them.
+  pub record Keeps {A : Type 0} (s : S) (v : Open T A) (t : S) (w : Open T A) : Type 0 where
+    pub count : ℕ
+    pub left : List T
+    pub run : Stays 0 count s v.rest t left
+    pub now : w ≡ record v {
+      front = v.front ++ take count left;
+      rest = drop count left;
+      cost = moving count v.cost;
+    }
+
+  -- Before the first test, `Keeps` holds for no items.
+  pub keeps-start : {A : Type 0} (s : S) (v : Open T A) → Keeps s v s v
+  keeps-start s v =
+      record {
+        count = 0;
+        left = v.rest;
+        run = stays-start 0 s v.rest (omega arith);
+        now = λ i. record v
+            { front = sym (append-nil v.front) i; cost = sym (moving-none v.cost) i };
+      }
+
+  module _ {A : Type 0} (s : S) (v : Open T A) (t : S) (w : Open T A) (h : Keeps s v t w) where
+    -- The number of kept items is at most the number of all middle items of `v`.
+    room : h.count ≤ length h.left
+    room = omega (
+      arith,
+      ap length h.run.now,
+      length-append h.run.before (h.run.left ++ h.run.more),
+      length-append h.run.left h.run.more,
+      h.run.place,
+      h.run.reached,
+    )
+
+    -- In this module, the first middle item of `w` was tested. The test returned `b`, and changed
+    -- the middle items to `zs`, the state of the test to `u`, and the block to `z`.
+    module _ (b : Bool) (u : S) (zs : List T) (a : IsAskedAt R 0 t w.rest b u zs) (z : Open T A)
+        (changes : z ≡ record w { rest = zs }) where
+      -- `all` contains all middle items of `v`, as the tests left them.
+      abbrev all : List T
+      all = take h.count h.left ++ zs
+
+      -- The test was a test of the item at index `count` of the middle items of `v`.
+      asked-all : IsAskedAt R h.count t h.left b u all
+      asked-all = asked-later h.count t h.left b u zs room
+          (subst (λ (l : List T). IsAskedAt R 0 t l b u zs) (ap (λ x. x.rest) h.now) a)
+
+      -- The test did not change the items that were kept before it.
+      before-is : take h.count all ≡ take h.count h.left
+      before-is = take_at (take h.count h.left) zs h.count (length-take-le h.count h.left room)
+
+      -- From index `count` onward, the items are `zs`.
+      after-is : drop h.count all ≡ zs
+      after-is = drop_at (take h.count h.left) zs h.count (length-take-le h.count h.left room)
+
+      -- If the test keeps the item, and the item is moved to the end of the front items, then `Keeps`
+      -- holds for one more item.
+      pub keeps-more : b ≡ true → (y : Open T A) → y ≡ record z {
+        front = z.front ++ take 1 z.rest;
+        rest = drop 1 z.rest;
+        cost = moving 1 z.cost;
+      } → Keeps s v u y
+      keeps-more stays y moved =
+          let n = h.count in
+          record {
+            count = n + 1;
+            left = all;
+            run = stays-more 0 n s v.rest t h.left h.run u all
+                (subst (λ (c : Bool). IsAskedAt R n t h.left c u all) stays asked-all);
+            now = moved
+                ∙ ((λ i. let x = changes i in record x {
+                  front = x.front ++ take 1 x.rest;
+                  rest = drop 1 x.rest;
+                  cost = moving 1 x.cost;
+                })
+                ∙ ((λ i. let x = h.now i in record x {
+                  front = x.front ++ take 1 zs;
+                  rest = drop 1 zs;
+                  cost = moving 1 x.cost;
+                })
+                ∙ (λ i. record v {
+                  front = (append_assoc v.front (take n h.left) (take 1 zs)
+                      ∙ ap (λ (l : List T). v.front ++ l)
+                      ((λ j. sym before-is j ++ take 1 (sym after-is j))
+                      ∙ sym (take-add n 1 all))) i;
+                  rest = (ap (drop 1) (sym after-is) ∙ drop-drop 1 n all) i;
+                  cost = moving-more 1 n v.cost i;
+                })));
+          }
+
+      -- If the test does not keep the item, then the search for the next item to be removed ends at
+      -- this item.
+      pub keeps-goes : b ≡ false → 0 < v.gap → Advances R s v u z
+      keeps-goes goes gap =
+          let n = h.count in
+          record {
+            count = n;
+            left = all;
+            run = stays-goes 0 n s v.rest t h.left h.run u all
+                (subst (λ (c : Bool). IsAskedAt R n t h.left c u all) goes asked-all);
+            now = changes
+                ∙ ((λ i. record (h.now i) { rest = zs })
+                ∙ (λ i. record v {
+                  front = v.front ++ sym before-is i;
+                  rest = sym after-is i;
+                  cost = sym (moving-after v.gap n v.cost gap) i;
+                }));
+          }
+
+    -- If no middle item is left, then the search for an item to be removed ends without one.
+    pub keeps-ends : w.rest ≡ [] → 0 < v.gap → Advances R s v t w
+    keeps-ends none gap =
+        let n = h.count in
+        record {
+          count = n;
+          left = h.left;
+          run = stays-end 0 n s v.rest t h.left h.run
+              (omega (arith, length-drop n h.left, ap (λ x. length x.rest) h.now, ap length none));
+          now = h.now ∙ (λ i. record v {
+            front = v.front ++ take n h.left;
+            rest = drop n h.left;
+            cost = sym (moving-after v.gap n v.cost gap) i;
+          });
+        }
+
+    -- `Sifts`, the effect of tests and removals, holds for tests that keep all tested items.
+    pub keeps-sifts : 0 < v.gap → Sifts R s v t w
+    keeps-sifts gap =
+        let n = h.count in
+        let r = h.run in
+        let none = nil_from_length r.before r.place in
+        let now : h.left ≡ r.left ++ r.more =
+        r.now ∙ ap (λ (l : List T). l ++ (r.left ++ r.more)) none in
+        let long : length r.left ≡ n = omega (arith, r.reached) in
+        sifts-of v w n s t (take n h.left)
+        (record {
+          done = r.run;
+          verdicts = stay r.left;
+          was = r.was ∙ (ap (λ (l : List T). l ++ (r.run ++ r.more)) none
+              ∙ ap (λ (l : List T). r.run ++ l)
+              (sym (ap (λ x. x.rest) h.now ∙ (ap (drop n) now ∙ drop_at r.left r.more n long))));
+          asked = r.asked;
+          left = left_at-stay r.left ∙ sym (ap (take n) now ∙ take_at r.left r.more n long);
+          count = trues-stay r.left ∙ long;
+        })
+        (omega (arith, gap, ap (λ x. x.gap) h.now))
+        (h.now ∙ (λ i. record v {
+          front = v.front ++ take n h.left;
+          gap = sym (ap (λ x. x.gap) h.now) i;
+          rest = sym (ap (λ x. x.rest) h.now) i;
+          cost = moving n v.cost;
+        }))
 
   -- `Sifts` (the effect of tests and removals) relates the open block `v` to itself before the
   -- first test, if `v` has a gap before its middle items.

@@ -7,8 +7,9 @@ ghost use Rattle.thin_block.specs.Slots.{AreFilled};
 ghost use Rattle.thin_vec.specs.OpenBlock.Dedup.{AreAskedIn};
 
 use crate::open_block::OpenBlock;
+use crate::open_block::sift::LARGE;
 use std::alloc::Allocator;
-use thin_block::Block;
+use thin_block::{Block, item_size};
 
 /// Decides whether an item of a list is to be removed, by a test against the last kept item before
 /// it. The test may write to both items.
@@ -142,21 +143,20 @@ impl<T: Drop, A: Allocator> OpenBlock<T, A> {
         ensures dedups { Dedups J.tests test.old self.old test.new self.new }
         ensures rest { self.new.rest ≡ [] }
     {
-        while self.has_two() {
-            self.dedup_two(test);
+        while self.rest_len() > 0 {
+            self.dedup_next(test);
         }
-        self.dedup_last(test);
     }
 
-    // Tests the remaining items, in order, each against the last kept item before it. Drops the
-    // first item that is to be removed, and stops there. The items that pass the test are kept. At
-    // least two items must remain before the call.
+    // Tests the first remaining item against the last kept item. Appends it to the kept items, or
+    // drops it. If it is kept and the items are large, goes on with the items after it, up to the
+    // first item that is to be removed. Moves the items before that item together, and drops it.
     //
     // The first remaining item is taken out of the block before its test, because the block
     // provides two mutable references only for adjacent items.
-    fn dedup_two<J: PairTest<T>>(&mut self, test: &mut J)
+    fn dedup_next<J: PairTest<T>>(&mut self, test: &mut J)
         requires some { 0 < length self.old.front }
-        requires two { 1 < length self.old.rest }
+        requires rest { 0 < length self.old.rest }
         requires gap { 0 < self.old.gap }
         requires ready { J.ready test.old }
         ensures dedups { Dedups J.tests test.old self.old test.new self.new }
@@ -172,6 +172,14 @@ impl<T: Drop, A: Allocator> OpenBlock<T, A> {
             drop(later);
             return;
         }
+        if item_size::<T>() < LARGE {
+            self.append_to_front(later);
+            return;
+        }
+        if self.rest_len() == 0 {
+            self.append_to_front(later);
+            return;
+        }
         let goes = self.test_next(&mut later, test);
         self.append_to_front(later);
         if goes {
@@ -183,27 +191,6 @@ impl<T: Drop, A: Allocator> OpenBlock<T, A> {
         if self.rest_len() > 0 {
             drop(self.take_first());
         }
-    }
-
-    // Tests the last remaining item, if there is one. If the test keeps the item, appends it to the
-    // kept items. Otherwise, drops it.
-    fn dedup_last<J: PairTest<T>>(&mut self, test: &mut J)
-        requires some { 0 < length self.old.front }
-        requires short { length self.old.rest ≤ 1 }
-        requires gap { 0 < self.old.gap }
-        requires ready { J.ready test.old }
-        ensures dedups { Dedups J.tests test.old self.old test.new self.new }
-        ensures rest { self.new.rest ≡ [] }
-    {
-        if self.rest_len() == 0 {
-            return;
-        }
-        let mut later = self.take_first();
-        if self.test_last(&mut later, test) {
-            drop(later);
-            return;
-        }
-        self.append_to_front(later);
     }
 }
 

@@ -6,10 +6,11 @@ ghost use Rattle.thin_block.specs.Cost.{moving};
 use crate::open_block::OpenBlock;
 use std::alloc::Allocator;
 use std::mem;
-use thin_block::Block;
+use thin_block::{Block, item_size};
 
-// If at least this many items have to be moved, it is faster to move them together than one by one.
-const MANY: usize = 8;
+// The kept items that lie side by side are moved together if an item has at least this many bytes.
+// Smaller items are moved one by one, which is faster for them.
+pub(crate) const LARGE: usize = 128;
 
 /// A test of one item. It decides whether the item is to be kept, and may write to the item.
 pub(crate) trait Test<T> {
@@ -74,9 +75,8 @@ impl<T, A: Allocator> OpenBlock<T, A> {
         self.rest_start += 1;
     }
 
-    // Moves the first `k` remaining items down to the end of the kept items. If `k` is at least
-    // `MANY`, the items are moved together. Otherwise, they are moved one by one.
-    #[inline(always)]
+    // Moves the first `k` remaining items down to the end of the kept items. Two or more items are
+    // moved together.
     pub(crate) fn move_down(&mut self, k: usize)
         requires in_bounds { k ≤ length self.old.rest }
         requires gap { 0 < self.old.gap }
@@ -86,17 +86,12 @@ impl<T, A: Allocator> OpenBlock<T, A> {
           cost = moving k self.old.cost;
         } }
     {
-        if k == 2 {
-            self.move_one_down();
+        if k == 1 {
             self.move_one_down();
             return;
         }
-        if k >= MANY {
+        if k > 1 {
             self.move_run_down(k);
-            return;
-        }
-        for done in 0..k {
-            self.move_one_down();
         }
     }
 
@@ -120,15 +115,6 @@ impl<T, A: Allocator> OpenBlock<T, A> {
         none.forget_none();
         self.front_end += k;
         self.rest_start += k;
-    }
-
-    // Returns whether at least two items remain. There must be a gap before the remaining items. So
-    // `rest_end` is at least 1, and `rest_end - 1` cannot overflow.
-    pub(crate) fn has_two(&self) -> bool
-        requires gap { 0 < self.now.gap }
-        ensures value { IsTrue result ↔ (1 < length self.now.rest) }
-    {
-        self.rest_start < self.rest_end - 1
     }
 
     // Tests the remaining items from index `k` onward, and stops at the first item that is to be
@@ -183,54 +169,18 @@ impl<T, A: Allocator> OpenBlock<T, A> {
         ensures goes { IsTrue result ↔ (0 < length self.new.rest) }
         ensures ready { J.ready test.new }
     {
-        if self.has_two() {
-            self.advance_two(test)
-        } else {
-            self.advance_last(test)
+        if item_size::<T>() >= LARGE {
+            let count = self.test_run(0, test);
+            self.move_down(count);
+            return self.rest_len() > 0;
         }
-    }
-
-    // Does the same as `advance`: tests the untested items up to the first item that is to be
-    // removed. Before the call, at least two items must be untested, and there must be a gap before
-    // them.
-    fn advance_two<J: Test<T>>(&mut self, test: &mut J) -> bool
-        requires two { 1 < length self.old.rest }
-        requires gap { 0 < self.old.gap }
-        requires ready { J.ready test.old }
-        ensures advances { Advances J.tests test.old self.old test.new self.new }
-        ensures goes { IsTrue result ↔ (0 < length self.new.rest) }
-        ensures ready { J.ready test.new }
-    {
-        if !self.test(0, test) {
-            return true;
-        }
-        if !self.test(1, test) {
+        while self.rest_len() > 0 {
+            if !self.test(0, test) {
+                return true;
+            }
             self.move_one_down();
-            return true;
         }
-        let count = self.test_run(2, test);
-        self.move_down(count);
-        self.rest_len() > 0
-    }
-
-    // Does the same as `advance`, for at most one remaining item. Returns `false` if no item
-    // remains. There must be empty slots after the kept items.
-    fn advance_last<J: Test<T>>(&mut self, test: &mut J) -> bool
-        requires short { length self.old.rest ≤ 1 }
-        requires gap { 0 < self.old.gap }
-        requires ready { J.ready test.old }
-        ensures advances { Advances J.tests test.old self.old test.new self.new }
-        ensures goes { IsTrue result ↔ (0 < length self.new.rest) }
-        ensures ready { J.ready test.new }
-    {
-        if self.rest_len() == 0 {
-            return false;
-        }
-        if self.test(0, test) {
-            self.move_one_down();
-            return false;
-        }
-        true
+        false
     }
 }
 
@@ -260,37 +210,31 @@ impl<T: Drop, A: Allocator> OpenBlock<T, A> {
         ensures sifts { Sifts J.tests test.old self.old test.new self.new }
         ensures rest { self.new.rest ≡ [] }
     {
-        while self.has_two() {
-            self.sift_two(test);
+        while self.rest_len() > 0 {
+            self.sift_next(test);
         }
-        self.sift_last(test);
     }
 
-    // Tests the remaining items, in order. Drops the first item that is to be removed, and stops
-    // there. The tested items before it are kept. At least two items must remain before the call.
-    fn sift_two<J: Test<T>>(&mut self, test: &mut J)
-        requires two { 1 < length self.old.rest }
+    // Tests the first remaining item. Appends it to the kept items, or drops it. If the items are
+    // large, tests the remaining items up to the first item that is to be removed. Then appends the
+    // items before it to the kept items, and drops it.
+    fn sift_next<J: Test<T>>(&mut self, test: &mut J)
+        requires some { 0 < length self.old.rest }
         requires gap { 0 < self.old.gap }
         requires ready { J.ready test.old }
         ensures sifts { Sifts J.tests test.old self.old test.new self.new }
         ensures less { length self.new.rest < length self.old.rest }
         ensures ready { J.ready test.new }
     {
-        if self.advance_two(test) {
-            drop(self.take_first());
+        if item_size::<T>() >= LARGE {
+            if self.advance_past_gap(test) {
+                drop(self.take_first());
+            }
+            return;
         }
-    }
-
-    // Tests the last remaining item, if there is one. If the test keeps the item, appends it to the
-    // kept items. Otherwise, drops it.
-    fn sift_last<J: Test<T>>(&mut self, test: &mut J)
-        requires short { length self.old.rest ≤ 1 }
-        requires gap { 0 < self.old.gap }
-        requires ready { J.ready test.old }
-        ensures sifts { Sifts J.tests test.old self.old test.new self.new }
-        ensures rest { self.new.rest ≡ [] }
-    {
-        if self.advance_last(test) {
+        if self.test(0, test) {
+            self.move_one_down();
+        } else {
             drop(self.take_first());
         }
     }

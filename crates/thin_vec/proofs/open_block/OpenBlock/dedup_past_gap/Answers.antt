@@ -16,11 +16,7 @@ pub loop-self-preserved : goal.loop-self-preserved
 loop-self-preserved g c =
     record {
       dedups = dedups-then g.J.PairTest.tests c.loop-self.invariant.dedups
-          c.dedup_two.ensures.dedups;
-      some = c.dedup_two.ensures.some;
-      ready = c.dedup_two.ensures.ready;
+          c.dedup_next.ensures.dedups;
+      some = c.dedup_next.ensures.some;
+      ready = c.dedup_next.ensures.ready;
     }
-
-pub returns-clause-dedups : goal.returns-clause-dedups
-returns-clause-dedups g c =
-    dedups-then g.J.PairTest.tests c.loop-self.invariant.dedups c.dedup_last.ensures.dedups

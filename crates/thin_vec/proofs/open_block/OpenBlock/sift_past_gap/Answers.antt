@@ -13,10 +13,6 @@ loop-self-init g c =
 pub loop-self-preserved : goal.loop-self-preserved
 loop-self-preserved g c =
     record {
-      sifts = sifts-then g.J.Test.tests c.loop-self.invariant.sifts c.sift_two.ensures.sifts;
-      ready = c.sift_two.ensures.ready;
+      sifts = sifts-then g.J.Test.tests c.loop-self.invariant.sifts c.sift_next.ensures.sifts;
+      ready = c.sift_next.ensures.ready;
     }
-
-pub returns-clause-sifts : goal.returns-clause-sifts
-returns-clause-sifts g c =
-    sifts-then g.J.Test.tests c.loop-self.invariant.sifts c.sift_last.ensures.sifts

@@ -1,12 +1,13 @@
--- The clause `dedups` holds in each of four cases: the first item is removed, the second item is
--- removed, a later item is removed, or no item is removed.
+-- The clause `dedups` holds in each of six cases: the first item is removed, it is kept alone (since
+-- the items are small, or no item follows it), or it is kept and the items are large. Then the
+-- second item is removed, a later item is removed, or no item is removed.
 use Rattle.std.proofs.Common.{◌≡◌, ◌∷◌, [], ap, false, refl, sym, ◌∙◌, arith, rules}
 use Rattle.std.proofs.lemmas.List.{append-nil, nil_from_length}
-use Rattle.thin_vec.proofs.edits.DedupLemmas.{run-count, run-ends, run-goes, dedups-goes, dedups-run, dedups-two}
+use Rattle.thin_vec.proofs.edits.DedupLemmas.{run-count, run-ends, run-goes, dedups-goes, dedups-run, dedups-stays, dedups-two}
 use Rattle.std.proofs.lemmas.Grind.{common_steps}
-use Rattle.thin_vec.proofs.open_block.OpenBlock.dedup_two.Goals as goal
+use Rattle.thin_vec.proofs.open_block.OpenBlock.dedup_next.Goals as goal
 
--- If the test decides to remove the next item, `dedup_two` drops this item. So the clause `dedups`
+-- If the test decides to remove the next item, `dedup_next` drops this item. So the clause `dedups`
 -- holds.
 pub returns-then-test_last-clause-dedups : goal.returns-then-test_last-clause-dedups
 returns-then-test_last-clause-dedups g c =
@@ -14,7 +15,21 @@ returns-then-test_last-clause-dedups g c =
     c.take_first-later.result c.test_last.new.later c.test_last.new.self.front
     (search rules) (search rules) (search rules) (search rules)
 
--- If the test keeps the next item and decides to remove the item after it, `dedup_two` appends the
+-- If the items are small, `dedup_next` appends an item that the test keeps to the kept items.
+pub returns-then-item_size-lt-LARGE-clause-dedups : goal.returns-then-item_size-lt-LARGE-clause-dedups
+returns-then-item_size-lt-LARGE-clause-dedups g c =
+    dedups-stays g.J.PairTest.tests c.args.self.now c.append_to_front.new.self
+    c.take_first-later.result c.test_last.new.later c.test_last.new.self.front
+    (search rules) (search rules) (search rules) (search rules)
+
+-- If no item follows, `dedup_next` appends an item that the test keeps to the kept items.
+pub returns-then-rest_len-eq0-clause-dedups : goal.returns-then-rest_len-eq0-clause-dedups
+returns-then-rest_len-eq0-clause-dedups g c =
+    dedups-stays g.J.PairTest.tests c.args.self.now c.append_to_front-then-rest_len-eq0.new.self
+    c.take_first-later.result c.test_last.new.later c.test_last.new.self.front
+    (search rules) (search rules) (search rules) (search rules)
+
+-- If the test keeps the next item and decides to remove the item after it, `dedup_next` appends the
 -- first of these items to the kept items, and drops the second. So the clause `dedups` holds.
 pub returns-then-goes-clause-dedups : goal.returns-then-goes-clause-dedups
 returns-then-goes-clause-dedups g c =
@@ -26,7 +41,7 @@ returns-then-goes-clause-dedups g c =
     c.test_next-goes.result c.test_next-goes.ensures.asked (search rules)
     c.if-goes.true c.take_first.result (search rules) (search rules) (search rules)
 
--- If the test keeps the next two items and decides to remove a later item, `dedup_two` moves all
+-- If the test keeps the next two items and decides to remove a later item, `dedup_next` moves all
 -- items before that item to the end of the kept items, and drops that item. So the clause `dedups`
 -- holds.
 pub returns-then-rest_len-gt0-clause-dedups : goal.returns-then-rest_len-gt0-clause-dedups
@@ -35,19 +50,19 @@ returns-then-rest_len-gt0-clause-dedups g c =
     let r = c.test_pairs-kept.ensures.asked in
     let w = c.take_first-then-rest_len-gt0.new.self in
     let goes = run-goes R c.test_pairs-kept.result c.test_next-goes.new.test
-    c.append_to_front.new.self.rest c.test_pairs-kept.new.test c.test_pairs-kept.new.self.rest r
+    c.append_to_front-2.new.self.rest c.test_pairs-kept.new.test c.test_pairs-kept.new.self.rest r
     c.take_first-then-rest_len-gt0.result w.rest
     (sym (ap (λ v. v.rest) c.move_down.ensures) ∙ c.take_first-then-rest_len-gt0.ensures.rest) in
     dedups-run R c.args.self.now w c.args.test.now c.test_last.new.test c.test_next-goes.new.test
     c.take_first-later.result c.test_last.new.later c.test_next-goes.new.kept
-    c.test_last.new.self.front c.test_last.new.self.rest c.append_to_front.new.self.rest
+    c.test_last.new.self.front c.test_last.new.self.rest c.append_to_front-2.new.self.rest
     (search rules)
     c.test_next-goes.result (search rules) (search rules)
     c.if-goes.false c.test_pairs-kept.result c.test_pairs-kept.new.test
     c.test_pairs-kept.new.self.rest r goes.0 (run-count R _ _ _ _ _ r (false ∷ []) refl goes.1)
     (search rules) (search rules)
 
--- If the test keeps all remaining items, `dedup_two` moves all of them to the end of the kept
+-- If the test keeps all remaining items, `dedup_next` moves all of them to the end of the kept
 -- items. So the clause `dedups` holds.
 pub returns-else-rest_len-gt0-clause-dedups : goal.returns-else-rest_len-gt0-clause-dedups
 returns-else-rest_len-gt0-clause-dedups g c =
@@ -55,13 +70,13 @@ returns-else-rest_len-gt0-clause-dedups g c =
     let r = c.test_pairs-kept.ensures.asked in
     let w = c.move_down.new.self in
     let none : w.rest ≡ [] =
-    nil_from_length w.rest (omega (arith, c.rest_len.ensures.value, c.if-rest_len-gt0.false)) in
+    nil_from_length w.rest (omega (arith, c.rest_len-2.ensures.value, c.if-rest_len-gt0.false)) in
     let ends = run-ends R c.test_pairs-kept.result c.test_next-goes.new.test
-    c.append_to_front.new.self.rest c.test_pairs-kept.new.test c.test_pairs-kept.new.self.rest r
+    c.append_to_front-2.new.self.rest c.test_pairs-kept.new.test c.test_pairs-kept.new.self.rest r
     (sym (ap (λ v. v.rest) c.move_down.ensures) ∙ none) in
     dedups-run R c.args.self.now w c.args.test.now c.test_last.new.test c.test_next-goes.new.test
     c.take_first-later.result c.test_last.new.later c.test_next-goes.new.kept
-    c.test_last.new.self.front c.test_last.new.self.rest c.append_to_front.new.self.rest
+    c.test_last.new.self.front c.test_last.new.self.rest c.append_to_front-2.new.self.rest
     (search rules)
     c.test_next-goes.result (search rules) (search rules)
     c.if-goes.false c.test_pairs-kept.result c.test_pairs-kept.new.test
