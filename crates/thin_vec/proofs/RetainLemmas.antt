@@ -125,131 +125,105 @@ module _ {S T : Type 0} (R : S → T → Bool → S → T → Type 0) where
 
   -- The following definitions and lemmas are about adjacent items that a closure tests and keeps.
 
-  -- `Stays` holds if the items `k..m` of the list `xs` were tested and kept. The tests turned `xs`
-  -- into `ys`, and the closure's state `s` into `t`.
-  pub record Stays (k m : ℕ) (s : S) (xs : List T) (t : S) (ys : List T) : Type 0 where
-    pub before : List T
+  -- `Stays` holds if the first `m` items of the list `xs` were tested and kept. The tests turned
+  -- `xs` into `ys`, and the closure's state `s` into `t`.
+  pub record Stays (m : ℕ) (s : S) (xs : List T) (t : S) (ys : List T) : Type 0 where
     pub run : List T
     pub left : List T
     pub more : List T
-    pub place : length before ≡ k
-    pub reached : k + length left ≡ m
-    pub was : xs ≡ before ++ (run ++ more)
+    pub reached : length left ≡ m
+    pub was : xs ≡ run ++ more
     pub asked : Asked R s run (stay left) t
-    pub now : ys ≡ before ++ (left ++ more)
+    pub now : ys ≡ left ++ more
 
-  -- `Stays` states that a range of items was tested and kept. Before the first test, it holds for
-  -- the empty range `k..k`: the state `s` and the list `xs` have not changed.
-  pub stays-start : (k : ℕ) (s : S) (xs : List T) → k ≤ length xs → Stays k k s xs s xs
-  stays-start k s xs low =
+  -- `Stays` states that the first items were tested and kept. Before the first test, it holds for
+  -- no items: the state `s` and the list `xs` have not changed.
+  pub stays-start : (s : S) (xs : List T) → Stays 0 s xs s xs
+  stays-start s xs =
       record {
-        before = take k xs;
         run = [];
         left = [];
-        more = drop k xs;
-        place = length-take-le k xs low;
-        reached = omega arith;
-        was = sym (take-append-drop k xs);
+        more = xs;
+        reached = refl;
+        was = refl;
         asked = (refl, refl);
-        now = sym (take-append-drop k xs);
+        now = refl;
       }
 
-  module _ (k m : ℕ) (s : S) (xs : List T) (t : S) (ys : List T) (h : Stays k m s xs t ys) where
-    -- `asked-part` is the list of all items before index `m`: the untested items before index `k`,
-    -- followed by the tested items `k..m`.
-    abbrev asked-part : List T
-    asked-part = h.before ++ h.left
-
-    -- The list `asked-part` has `m` items.
-    long : length asked-part ≡ m
-    long = omega (arith, length-append h.before h.left, h.place, h.reached)
-
-    -- The list `ys` is `asked-part`, followed by the items that have not been tested yet.
-    parted : ys ≡ asked-part ++ h.more
-    parted = h.now ∙ sym (append_assoc h.before h.left h.more)
-
-    -- If `a` is the test of the item at index `m`, then `asked-part` contains the items before it,
-    -- and `h.more` is this item, followed by `a.after`.
+  module _ (m : ℕ) (s : S) (xs : List T) (t : S) (ys : List T) (h : Stays m s xs t ys) where
+    -- If `a` is the test of the item at index `m`, then `h.left` contains the items before it, and
+    -- `h.more` is this item, followed by `a.after`.
     next-parts : (b : Bool) (u : S) (zs : List T) (a : IsAskedAt R m t ys b u zs)
-        → (a.before ≡ asked-part) × (h.more ≡ a.item ∷ a.after)
+        → (a.before ≡ h.left) × (h.more ≡ a.item ∷ a.after)
     next-parts b u zs a =
-        let e : asked-part ++ h.more ≡ a.before ++ a.item ∷ a.after = sym parted ∙ a.was in (
+        let e : h.left ++ h.more ≡ a.before ++ a.item ∷ a.after = sym h.now ∙ a.was in (
           sym (take_at a.before (a.item ∷ a.after) m a.place)
-              ∙ (ap (take m) (sym e) ∙ take_at asked-part h.more m long),
-          sym (drop_at asked-part h.more m long)
+              ∙ (ap (take m) (sym e) ∙ take_at h.left h.more m h.reached),
+          sym (drop_at h.left h.more m h.reached)
               ∙ (ap (drop m) e ∙ drop_at a.before (a.item ∷ a.after) m a.place),
         )
 
     -- The test `a` of the item at index `m` changes no other item of the list.
     next-now : (b : Bool) (u : S) (zs : List T) (a : IsAskedAt R m t ys b u zs)
-        → zs ≡ h.before ++ (h.left ++ a.left ∷ a.after)
-    next-now b u zs a = a.now ∙ (ap (λ (l : List T). l ++ a.left ∷ a.after) (next-parts b u zs a).0
-        ∙ append_assoc h.before h.left (a.left ∷ a.after))
+        → zs ≡ h.left ++ a.left ∷ a.after
+    next-now b u zs a = a.now ∙ ap (λ (l : List T). l ++ a.left ∷ a.after) (next-parts b u zs a).0
 
-    -- If `Stays` holds for the items `k..m`, and the test of the item at index `m` keeps it, then
-    -- `Stays` holds for the items `k..m + 1`.
+    -- If `Stays` holds for the first `m` items, and the test of the item at index `m` keeps it,
+    -- then `Stays` holds for the first `m + 1` items.
     pub stays-more : (u : S) (zs : List T) → IsAskedAt R m t ys true u zs
-        → Stays k (m + 1) s xs u zs
+        → Stays (m + 1) s xs u zs
     stays-more u zs a =
         let joined : stay h.left ++ (true, a.left) ∷ [] ≡ stay (h.left ++ a.left ∷ []) =
         sym (map_push (λ (x : T). (true, x)) h.left a.left) in
         record {
-          before = h.before;
           run = h.run ++ a.item ∷ [];
           left = h.left ++ a.left ∷ [];
           more = a.after;
-          place = h.place;
           reached = omega (arith, h.reached, length-append h.left (a.left ∷ []));
-          was = h.was ∙ ap (λ (l : List T). h.before ++ l)
-              (ap (λ (l : List T). h.run ++ l) (next-parts true u zs a).1
+          was = h.was ∙ (ap (λ (l : List T). h.run ++ l) (next-parts true u zs a).1
               ∙ sym (append_assoc h.run (a.item ∷ []) a.after));
           asked = subst (λ (c : Verdicts T). Asked R s (h.run ++ a.item ∷ []) c u) joined
               (asked-append t u (a.item ∷ []) ((true, a.left) ∷ [])
               (asked-one t u a.item a.left true a.asked) h.run s (stay h.left) h.asked);
-          now = next-now true u zs a ∙ ap (λ (l : List T). h.before ++ l)
-              (sym (append_assoc h.left (a.left ∷ []) a.after));
+          now = next-now true u zs a ∙ sym (append_assoc h.left (a.left ∷ []) a.after);
         }
 
-    -- If the closure keeps the items at the indices `k..m` and removes the item at index `m`, then
-    -- the tests stop at index `m`, as `AskedUpTo` states.
+    -- If the closure keeps the first `m` items and removes the item at index `m`, then the tests
+    -- stop at index `m`, as `AskedUpTo` states.
     pub stays-goes : (u : S) (zs : List T) → IsAskedAt R m t ys false u zs
-        → AskedUpTo R k m s xs u zs
+        → AskedUpTo R m s xs u zs
     stays-goes u zs a =
         record {
-          before = h.before;
           run = h.run;
           left = h.left;
           after = a.item ∷ a.after;
           end = a.left ∷ a.after;
           between = t;
-          place = h.place;
           reached = h.reached;
-          was = h.was ∙ ap (λ (l : List T). h.before ++ (h.run ++ l)) (next-parts false u zs a).1;
+          was = h.was ∙ ap (λ (l : List T). h.run ++ l) (next-parts false u zs a).1;
           asked = h.asked;
           stops = (a.left, a.asked, refl);
           now = next-now false u zs a;
         }
 
-    -- If the items `k..m` were tested and kept, and the list has no item at index `m`, then
+    -- If the first `m` items were tested and kept, and the list has no item at index `m`, then
     -- `AskedUpTo` holds: the tests stopped at the end of the list.
-    pub stays-end : length ys ≤ m → AskedUpTo R k m s xs t ys
+    pub stays-end : length ys ≤ m → AskedUpTo R m s xs t ys
     stays-end short =
         let none : h.more ≡ [] =
         nil_from_length h.more (omega
-        (arith, short, ap length parted, length-append asked-part h.more, long)) in
+        (arith, short, ap length h.now, length-append h.left h.more, h.reached)) in
         record {
-          before = h.before;
           run = h.run;
           left = h.left;
           after = [];
           end = [];
           between = t;
-          place = h.place;
           reached = h.reached;
-          was = h.was ∙ ap (λ (l : List T). h.before ++ (h.run ++ l)) none;
+          was = h.was ∙ ap (λ (l : List T). h.run ++ l) none;
           asked = h.asked;
           stops = (refl, refl);
-          now = h.now ∙ ap (λ (l : List T). h.before ++ (h.left ++ l)) none;
+          now = h.now ∙ ap (λ (l : List T). h.left ++ l) none;
         }
 
   -- Testing one item does not change the number of items.
@@ -281,18 +255,16 @@ module _ {S T : Type 0} (R : S → T → Bool → S → T → Type 0) where
   stop-count u [] t e h = ap length h.0
   stop-count u (x ∷ b) t e h = ap length h.2
 
-  -- If a closure tested the items of `xs` from index `k` up to the first item to be removed, then
-  -- the resulting list `ys` has the same length as `xs`.
-  pub runs-count : (k m : ℕ) (s : S) (xs : List T) (t : S) (ys : List T) → AskedUpTo R k m s xs t ys
+  -- If a closure tested the items of `xs` up to the first item to be removed, then the resulting
+  -- list `ys` has the same length as `xs`.
+  pub runs-count : (m : ℕ) (s : S) (xs : List T) (t : S) (ys : List T) → AskedUpTo R m s xs t ys
       → length ys ≡ length xs
-  runs-count k m s xs t ys r =
+  runs-count m s xs t ys r =
       omega (
         arith,
         ap length r.was,
         ap length r.now,
-        length-append r.before (r.run ++ r.after),
         length-append r.run r.after,
-        length-append r.before (r.left ++ r.end),
         length-append r.left r.end,
         stay-count r.run s r.between r.left r.asked,
         stop-count r.between r.after t r.end r.stops,
@@ -312,35 +284,15 @@ module _ {S T : Type 0} (R : S → T → Bool → S → T → Type 0) where
     pub left : left_at true verdicts ≡ kept
     pub count : trues (flags_of verdicts) ≡ m
 
-  module _ (m : ℕ) (s : S) (xs : List T) (t : S) (ys : List T) (r : AskedUpTo R 0 m s xs t ys) where
-    -- The tests that `r` describes began at index 0. So `r.before`, the list of the items before
-    -- the first tested item, is empty.
-    run-none : r.before ≡ []
-    run-none = nil_from_length r.before r.place
-
-    -- `r.left` is the list of the kept items, as the closure left them. The number of kept items is
-    -- `m`.
-    run-long : length r.left ≡ m
-    run-long = omega (arith, r.reached)
-
-    -- After the tests, the list `ys` consists of the kept items `r.left`, followed by `r.end`: the
-    -- item to be removed, if any, and the untested items.
-    run-now : ys ≡ r.left ++ r.end
-    run-now = r.now ∙ ap (λ (l : List T). l ++ (r.left ++ r.end)) run-none
-
-    -- Before the tests, the list `xs` consisted of `r.run` (the items that the tests kept),
-    -- followed by `r.after` (all other items).
-    pub run-was : xs ≡ r.run ++ r.after
-    run-was = r.was ∙ ap (λ (l : List T). l ++ (r.run ++ r.after)) run-none
-
+  module _ (m : ℕ) (s : S) (xs : List T) (t : S) (ys : List T) (r : AskedUpTo R m s xs t ys) where
     -- The first `m` items of the list `ys` are the kept items, as the closure left them.
     pub run-kept : take m ys ≡ r.left
-    run-kept = ap (take m) run-now ∙ take_at r.left r.end m run-long
+    run-kept = ap (take m) r.now ∙ take_at r.left r.end m r.reached
 
     -- From index `m` onward, the list `ys` consists of the items `r.end`: the item to be removed,
     -- if there is one, and the untested items.
     pub run-end : drop m ys ≡ r.end
-    run-end = ap (drop m) run-now ∙ drop_at r.left r.end m run-long
+    run-end = ap (drop m) r.now ∙ drop_at r.left r.end m r.reached
 
     -- If the last test turned the list `b` into `v ∷ rest`, then `b` was `x ∷ rest` for some item
     -- `x`, and the test returned false for `x` and left it as `v`.
@@ -362,7 +314,7 @@ module _ {S T : Type 0} (R : S → T → Bool → S → T → Type 0) where
         record {
           done = r.run ++ g.0 ∷ [];
           verdicts = stay r.left ++ (false, v) ∷ [];
-          was = run-was ∙ (ap (λ (l : List T). r.run ++ l) g.1
+          was = r.was ∙ (ap (λ (l : List T). r.run ++ l) g.1
               ∙ sym (append_assoc r.run (g.0 ∷ []) rest));
           asked = asked-append r.between t (g.0 ∷ []) ((false, v) ∷ [])
               (asked-one r.between t g.0 v false g.2) r.run s (stay r.left) r.asked;
@@ -373,7 +325,7 @@ module _ {S T : Type 0} (R : S → T → Bool → S → T → Type 0) where
                 arith,
                 trues-append (stay r.left) ((false, v) ∷ []),
                 trues-stay r.left,
-                run-long,
+                r.reached,
                 none,
               );
         }
@@ -392,10 +344,10 @@ module _ {S T : Type 0} (R : S → T → Bool → S → T → Type 0) where
         record {
           done = r.run;
           verdicts = stay r.left;
-          was = run-was ∙ ap (λ (l : List T). r.run ++ l) g.0;
+          was = r.was ∙ ap (λ (l : List T). r.run ++ l) g.0;
           asked = subst (λ (q : S). Asked R s r.run (stay r.left) q) (sym g.1) r.asked;
           left = left_at-stay r.left ∙ sym run-kept;
-          count = trues-stay r.left ∙ run-long;
+          count = trues-stay r.left ∙ r.reached;
         }
 
   -- The following definitions and lemmas are about open blocks. An open block is the block of a
@@ -468,7 +420,7 @@ module _ {S T : Type 0} (R : S → T → Bool → S → T → Type 0) where
       arith,
       ap (λ u. length u.rest) h.now,
       length-drop h.count h.left,
-      runs-count 0 h.count s v.rest t h.left h.run,
+      runs-count h.count s v.rest t h.left h.run,
     )
 
   -- Let `IsAskedAt` hold for the first item of `drop n ys`. Then it holds for the item at index `n`
@@ -490,14 +442,14 @@ module _ {S T : Type 0} (R : S → T → Bool → S → T → Type 0) where
             (a.now ∙ ap (λ (l : List T). l ++ a.left ∷ a.after) none);
       }
 
-  -- `Keeps s v t w` states that the first `count` middle items of the open block `v` were tested and
-  -- kept, and that each of them was moved to the end of the front items. This changed the block from
-  -- `v` to `w`, and the state of the test from `s` to `t`. The list `left` contains all middle items
-  -- of `v`, as the tests left them.
+  -- `Keeps s v t w` states that the first `count` middle items of the open block `v` were tested
+  -- and kept, and that each of them was moved to the end of the front items. This changed the block
+  -- from `v` to `w`, and the state of the test from `s` to `t`. The list `left` contains all middle
+  -- items of `v`, as the tests left them.
   pub record Keeps {A : Type 0} (s : S) (v : Open T A) (t : S) (w : Open T A) : Type 0 where
     pub count : ℕ
     pub left : List T
-    pub run : Stays 0 count s v.rest t left
+    pub run : Stays count s v.rest t left
     pub now : w ≡ record v {
       front = v.front ++ take count left;
       rest = drop count left;
@@ -510,7 +462,7 @@ module _ {S T : Type 0} (R : S → T → Bool → S → T → Type 0) where
       record {
         count = 0;
         left = v.rest;
-        run = stays-start 0 s v.rest (omega arith);
+        run = stays-start s v.rest;
         now = λ i. record v
             { front = sym (append-nil v.front) i; cost = sym (moving-none v.cost) i };
       }
@@ -518,14 +470,8 @@ module _ {S T : Type 0} (R : S → T → Bool → S → T → Type 0) where
   module _ {A : Type 0} (s : S) (v : Open T A) (t : S) (w : Open T A) (h : Keeps s v t w) where
     -- The number of kept items is at most the number of all middle items of `v`.
     room : h.count ≤ length h.left
-    room = omega (
-      arith,
-      ap length h.run.now,
-      length-append h.run.before (h.run.left ++ h.run.more),
-      length-append h.run.left h.run.more,
-      h.run.place,
-      h.run.reached,
-    )
+    room = omega
+        (arith, ap length h.run.now, length-append h.run.left h.run.more, h.run.reached)
 
     -- In this module, the first middle item of `w` was tested. The test returned `b`, and changed
     -- the middle items to `zs`, the state of the test to `u`, and the block to `z`.
@@ -548,8 +494,8 @@ module _ {S T : Type 0} (R : S → T → Bool → S → T → Type 0) where
       after-is : drop h.count all ≡ zs
       after-is = drop_at (take h.count h.left) zs h.count (length-take-le h.count h.left room)
 
-      -- If the test keeps the item, and the item is moved to the end of the front items, then `Keeps`
-      -- holds for one more item.
+      -- If the test keeps the item, and the item is moved to the end of the front items, then
+      -- `Keeps` holds for one more item.
       pub keeps-more : b ≡ true → (y : Open T A) → y ≡ record z {
         front = z.front ++ take 1 z.rest;
         rest = drop 1 z.rest;
@@ -560,7 +506,7 @@ module _ {S T : Type 0} (R : S → T → Bool → S → T → Type 0) where
           record {
             count = n + 1;
             left = all;
-            run = stays-more 0 n s v.rest t h.left h.run u all
+            run = stays-more n s v.rest t h.left h.run u all
                 (subst (λ (c : Bool). IsAskedAt R n t h.left c u all) stays asked-all);
             now = moved
                 ∙ ((λ i. let x = changes i in record x {
@@ -591,7 +537,7 @@ module _ {S T : Type 0} (R : S → T → Bool → S → T → Type 0) where
           record {
             count = n;
             left = all;
-            run = stays-goes 0 n s v.rest t h.left h.run u all
+            run = stays-goes n s v.rest t h.left h.run u all
                 (subst (λ (c : Bool). IsAskedAt R n t h.left c u all) goes asked-all);
             now = changes
                 ∙ ((λ i. record (h.now i) { rest = zs })
@@ -609,7 +555,7 @@ module _ {S T : Type 0} (R : S → T → Bool → S → T → Type 0) where
         record {
           count = n;
           left = h.left;
-          run = stays-end 0 n s v.rest t h.left h.run
+          run = stays-end n s v.rest t h.left h.run
               (omega (arith, length-drop n h.left, ap (λ x. length x.rest) h.now, ap length none));
           now = h.now ∙ (λ i. record v {
             front = v.front ++ take n h.left;
@@ -623,20 +569,16 @@ module _ {S T : Type 0} (R : S → T → Bool → S → T → Type 0) where
     keeps-sifts gap =
         let n = h.count in
         let r = h.run in
-        let none = nil_from_length r.before r.place in
-        let now : h.left ≡ r.left ++ r.more =
-        r.now ∙ ap (λ (l : List T). l ++ (r.left ++ r.more)) none in
-        let long : length r.left ≡ n = omega (arith, r.reached) in
         sifts-of v w n s t (take n h.left)
         (record {
           done = r.run;
           verdicts = stay r.left;
-          was = r.was ∙ (ap (λ (l : List T). l ++ (r.run ++ r.more)) none
-              ∙ ap (λ (l : List T). r.run ++ l)
-              (sym (ap (λ x. x.rest) h.now ∙ (ap (drop n) now ∙ drop_at r.left r.more n long))));
+          was = r.was ∙ ap (λ (l : List T). r.run ++ l)
+              (sym (ap (λ x. x.rest) h.now
+              ∙ (ap (drop n) r.now ∙ drop_at r.left r.more n r.reached)));
           asked = r.asked;
-          left = left_at-stay r.left ∙ sym (ap (take n) now ∙ take_at r.left r.more n long);
-          count = trues-stay r.left ∙ long;
+          left = left_at-stay r.left ∙ sym (ap (take n) r.now ∙ take_at r.left r.more n r.reached);
+          count = trues-stay r.left ∙ r.reached;
         })
         (omega (arith, gap, ap (λ x. x.gap) h.now))
         (h.now ∙ (λ i. record v {
@@ -690,7 +632,7 @@ module _ {S T : Type 0} (R : S → T → Bool → S → T → Type 0) where
       }
 
   module _ {A : Type 0} (v w : Open T A) (m : ℕ) (s t : S) (ys : List T)
-      (run : AskedUpTo R 0 m s v.rest t ys) where
+      (run : AskedUpTo R m s v.rest t ys) where
     -- `Passed` states that the open block `w` is `v` after the first `m` tested items were kept
     -- without being moved. These items are added to the front items. Apart from this, `w` may
     -- differ from `v` only in its gap and its middle items.

@@ -1,7 +1,7 @@
 -- These lemmas are about the item that `next` on an `ExtractIf` extracts: the first untested item
 -- for which the closure returns true.
 use Rattle.std.proofs.Common.{◌≡◌, ℕ, ◌+◌, ◌≤◌, Bool, true, false, List, [], ◌∷◌, ◌++◌, Option, None, Some, length, take, drop, refl, sym, ap, subst, ◌∙◌, arith, length-append}
-use Rattle.std.proofs.lemmas.List.{drop_at, length-take-le, nil_from_length, take_at}
+use Rattle.std.proofs.lemmas.List.{drop_at, length-take-le, take_at}
 use Rattle.std.specs.List.Retain.{ExtractsNext}
 use Rattle.std.specs.Option.{option_to_list}
 use Rattle.std.specs.Prelude.{◌==◌, MatchBool, if◌then◌else◌, not}
@@ -89,48 +89,28 @@ module _ {F T : Type 0} (R : F → T → Bool → F → T → Type 0) where
         (true, of t, a.0, a.1, (ap Some (cons-head same), refl, refl, cons-tail same))
 
     module _ (m : ℕ) (s : S) (xs : List T) (t : S) (ys : List T)
-        (h : AskedUpTo J 0 m s xs t ys) where
-      -- The tests that `h` describes began at index 0. So `h.before`, the list of the items before
-      -- the first tested item, is empty.
-      none-before : h.before ≡ []
-      none-before = nil_from_length h.before h.place
-
-      -- Before the tests, the list `xs` consisted of `h.run` (the items that the tests kept),
-      -- followed by `h.after` (all other items).
-      was : xs ≡ h.run ++ h.after
-      was = h.was ∙ ap (λ (l : List T). l ++ (h.run ++ h.after)) none-before
-
-      -- After the tests, the list `ys` consists of the kept items `h.left`, followed by `h.end`:
-      -- the item to be extracted, if any, and the untested items.
-      now : ys ≡ h.left ++ h.end
-      now = h.now ∙ ap (λ (l : List T). l ++ (h.left ++ h.end)) none-before
-
-      -- `h.left` is the list of the kept items, as the closure left them. The number of kept items
-      -- is `m`.
-      reached : length h.left ≡ m
-      reached = omega (arith, h.reached)
-
+        (h : AskedUpTo J m s xs t ys) where
       -- After the tests, the first `m` items of the list `ys` are `h.left`, the list of the kept
       -- items.
       left-is : take m ys ≡ h.left
-      left-is = ap (take m) now ∙ take_at h.left h.end m reached
+      left-is = ap (take m) h.now ∙ take_at h.left h.end m h.reached
 
       -- From index `m` onward, the list `ys` consists of the items `h.end`: the item to be
       -- extracted, if there is one, and the untested items.
       end-is : drop m ys ≡ h.end
-      end-is = ap (drop m) now ∙ drop_at h.left h.end m reached
+      end-is = ap (drop m) h.now ∙ drop_at h.left h.end m h.reached
 
       -- If the tests kept the first `m` items, then the list `ys` after the tests contains at least
       -- `m` items.
       pub picked-room : m ≤ length ys
-      picked-room = omega (arith, reached, ap length now, length-append h.left h.end)
+      picked-room = omega (arith, h.reached, ap length h.now, length-append h.left h.end)
 
       -- If the first `m` items of the list `xs` were kept, and the search through the items after
       -- them yields `item`, then the search through `xs` yields `item`.
       whole : (item : Option T) (rest : List T) → ExtractsNext R (of h.between) h.after item (of t)
           [] rest → ExtractsNext R (of s) xs item (of t) (take m ys) rest
       whole item rest e =
-          subst (λ (l : List T). ExtractsNext R (of s) l item (of t) (take m ys) rest) (sym was)
+          subst (λ (l : List T). ExtractsNext R (of s) l item (of t) (take m ys) rest) (sym h.was)
           (subst (λ (l : List T). ExtractsNext R (of s) (h.run ++ h.after) item (of t) l rest)
           (sym left-is)
           (picked-after h.between h.after item (of t) rest e s h.run h.left h.asked))

@@ -1,6 +1,6 @@
 -- These definitions describe how items that fail a test are removed from an open block (the block
 -- of a list during an edit), as in `Vec::retain_mut`.
-use Rattle.std.specs.Prelude.{◌≡◌, ℕ, ◌+◌, ◌<◌, ◌==◌, List, [], ◌∷◌, ◌++◌, Bool, true, false, drop, if◌then◌else◌, length, take}
+use Rattle.std.specs.Prelude.{◌≡◌, ℕ, ◌<◌, ◌==◌, List, [], ◌∷◌, ◌++◌, Bool, true, false, drop, if◌then◌else◌, length, take}
 use Rattle.thin_block.specs.Cost.{moving}
 use Rattle.thin_vec.specs.Edits.Retain.{Verdicts, Asked, flags_of, left_at, moved_down, stay, trues}
 use Rattle.thin_vec.specs.Open.{Open}
@@ -28,22 +28,20 @@ module _ {S T : Type 0} (R : S → T → Bool → S → T → Type 0) where
   Stops s [] t ys = (ys ≡ []) × (t ≡ s)
   Stops s (x ∷ xs) t ys = (y : T) × R s x false t y × (ys ≡ y ∷ xs)
 
-  -- `AskedUpTo k m s xs t ys` states that the items `k..m` of `xs` were tested and kept, and that
+  -- `AskedUpTo m s xs t ys` states that the first `m` items of `xs` were tested and kept, and that
   -- the item at index `m`, if there is one, failed the test. The tests changed their state from `s`
   -- to `t`, and the list from `xs` to `ys`.
-  pub record AskedUpTo (k m : ℕ) (s : S) (xs : List T) (t : S) (ys : List T) : Type 0 where
-    pub before : List T
+  pub record AskedUpTo (m : ℕ) (s : S) (xs : List T) (t : S) (ys : List T) : Type 0 where
     pub run : List T
     pub left : List T
     pub after : List T
     pub end : List T
     pub between : S
-    pub place : length before ≡ k
-    pub reached : k + length left ≡ m
-    pub was : xs ≡ before ++ (run ++ after)
+    pub reached : length left ≡ m
+    pub was : xs ≡ run ++ after
     pub asked : Asked R s run (stay left) between
     pub stops : Stops between after t end
-    pub now : ys ≡ before ++ (left ++ end)
+    pub now : ys ≡ left ++ end
 
   -- `Advances s v t w` describes a search in an open block for the next item that fails a test. It
   -- changes the block from `v` to `w`, and the state of the test from `s` to `t`.
@@ -53,7 +51,7 @@ module _ {S T : Type 0} (R : S → T → Bool → S → T → Type 0) where
   pub record Advances {A : Type 0} (s : S) (v : Open T A) (t : S) (w : Open T A) : Type 0 where
     pub count : ℕ
     pub left : List T
-    pub run : AskedUpTo 0 count s v.rest t left
+    pub run : AskedUpTo count s v.rest t left
     pub now : w ≡ record v {
       front = v.front ++ take count left;
       rest = drop count left;

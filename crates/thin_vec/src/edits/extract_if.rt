@@ -1,8 +1,9 @@
 //! The method `extract_if`, and the iterator `ExtractIf` that it returns. The iterator tests the
 //! items of a range with a closure, and removes each item for which the closure returns true.
 //!
-//! The removed items leave a gap of empty slots. At the next removal, or after the last test, the
-//! items kept since the previous removal are moved down to the start of the gap.
+//! The removed items leave a gap of empty slots. A kept item behind the gap is moved down to the
+//! start of the gap after its test. If the items are large, they wait until the next removal, or
+//! until the last test, and are then moved together.
 ghost use Rattle.std.specs.Prelude.{◌≡◌, ◌≤◌, IfSome, Some, drop, length, not, slice_range, take};
 ghost use Rattle.std.specs.Fn.{CalledAtMut};
 ghost use Rattle.std.specs.Iterator.{UpTo, at_most};

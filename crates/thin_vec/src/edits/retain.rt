@@ -1,8 +1,9 @@
 //! The methods `retain` and `retain_mut`, which keep the items for which a closure returns true,
 //! and drop the other items.
 //!
-//! The removed items leave a gap of empty slots. At the next removal, or after the last test, the
-//! items kept since the previous removal are moved down to the start of the gap.
+//! The removed items leave a gap of empty slots. A kept item behind the gap is moved down to the
+//! start of the gap after its test. If the items are large, they wait until the next removal, or
+//! until the last test, and are then moved together.
 ghost use Rattle.std.specs.Prelude.{◌≡◌, ◌<◌, ◌≤◌, length};
 ghost use Rattle.std.specs.List.Retain.{IsFiltered};
 ghost use Rattle.std.specs.Fn.{CalledAt, CalledAtMut};

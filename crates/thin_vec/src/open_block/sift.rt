@@ -8,9 +8,9 @@ use std::alloc::Allocator;
 use std::mem;
 use thin_block::{Block, item_size};
 
-// The kept items that lie side by side are moved together if an item has at least this many bytes.
+// If an item has at least this many bytes, the kept items that lie side by side are moved together.
 // Smaller items are moved one by one, which is faster for them.
-pub(crate) const LARGE: usize = 128;
+pub(crate) const LARGE: usize = 256;
 
 /// A test of one item. It decides whether the item is to be kept, and may write to the item.
 pub(crate) trait Test<T> {
@@ -117,18 +117,16 @@ impl<T, A: Allocator> OpenBlock<T, A> {
         self.rest_start += k;
     }
 
-    // Tests the remaining items from index `k` onward, and stops at the first item that is to be
-    // removed. Returns the index of this item among the remaining items. If there is no such item,
-    // returns the number of all remaining items, including the items before index `k`. No item is
-    // moved.
-    pub(crate) fn test_run<J: Test<T>>(&mut self, k: usize, test: &mut J) -> usize
-        requires in_bounds { k ≤ length self.old.rest }
+    // Tests the remaining items, and stops at the first item that is to be removed. Returns the
+    // index of this item among the remaining items. If there is no such item, returns the number of
+    // the remaining items. No item is moved.
+    pub(crate) fn test_run<J: Test<T>>(&mut self, test: &mut J) -> usize
         requires ready { J.ready test.old }
-        ensures asked { AskedUpTo J.tests k result test.old self.old.rest test.new self.new.rest }
+        ensures asked { AskedUpTo J.tests result test.old self.old.rest test.new self.new.rest }
         ensures ready { J.ready test.new }
         ensures changes { self.new ≡ record self.old { rest = self.new.rest } }
     {
-        let mut at = k;
+        let mut at = 0;
         while at < self.rest_len() {
             if !self.test(at, test) {
                 return at;
@@ -154,7 +152,7 @@ impl<T, A: Allocator> OpenBlock<T, A> {
         if self.has_gap() {
             return self.advance_past_gap(test);
         }
-        let count = self.test_run(0, test);
+        let count = self.test_run(test);
         self.pass(count);
         self.rest_len() > 0
     }
@@ -170,7 +168,7 @@ impl<T, A: Allocator> OpenBlock<T, A> {
         ensures ready { J.ready test.new }
     {
         if item_size::<T>() >= LARGE {
-            let count = self.test_run(0, test);
+            let count = self.test_run(test);
             self.move_down(count);
             return self.rest_len() > 0;
         }
@@ -194,7 +192,7 @@ impl<T: Drop, A: Allocator> OpenBlock<T, A> {
         requires ready { J.ready test.old }
         ensures sifted { IsSifted J.tests test.old self.old test.new self.new }
     {
-        let first = self.test_run(0, test);
+        let first = self.test_run(test);
         self.pass(first);
         if self.rest_len() > 0 {
             drop(self.take_first());

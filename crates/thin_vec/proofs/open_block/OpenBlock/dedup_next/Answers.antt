@@ -1,6 +1,6 @@
--- The clause `dedups` holds in each of six cases: the first item is removed, it is kept alone (since
--- the items are small, or no item follows it), or it is kept and the items are large. Then the
--- second item is removed, a later item is removed, or no item is removed.
+-- The clause `dedups` holds in each of six cases: the first item is removed, it is kept alone
+-- (since the items are small, or no item follows it), or it is kept and the items are large. Then
+-- the second item is removed, a later item is removed, or no item is removed.
 use Rattle.std.proofs.Common.{◌≡◌, ◌∷◌, [], ap, false, refl, sym, ◌∙◌, arith, rules}
 use Rattle.std.proofs.lemmas.List.{append-nil, nil_from_length}
 use Rattle.thin_vec.proofs.edits.DedupLemmas.{run-count, run-ends, run-goes, dedups-goes, dedups-run, dedups-stays, dedups-two}

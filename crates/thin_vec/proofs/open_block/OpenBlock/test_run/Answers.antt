@@ -7,8 +7,7 @@ use Rattle.thin_vec.proofs.open_block.OpenBlock.test_run.Goals as goal
 
 pub loop-at-init : goal.loop-at-init
 loop-at-init g c = record {
-  stays = stays-start g.J.Test.tests c.args.k c.args.test.now
-      c.args.self.now.rest c.requires.in_bounds;
+  stays = stays-start g.J.Test.tests c.args.test.now c.args.self.now.rest;
   ready = c.requires.ready;
   same = refl;
 }
@@ -16,14 +15,14 @@ loop-at-init g c = record {
 pub returns-then-not-test-clause-asked : goal.returns-then-not-test-clause-asked
 returns-then-not-test-clause-asked g c =
     let l = c.loop-at in
-    stays-goes g.J.Test.tests c.args.k l.at c.args.test.now c.args.self.now.rest l.test l.self.rest
+    stays-goes g.J.Test.tests l.at c.args.test.now c.args.self.now.rest l.test l.self.rest
     l.invariant.stays c.test.new.test c.test.new.self.rest (search rules)
 
 pub loop-at-preserved : goal.loop-at-preserved
 loop-at-preserved g c =
     let l = c.loop-at in
     record {
-      stays = stays-more g.J.Test.tests c.args.k l.at c.args.test.now c.args.self.now.rest l.test
+      stays = stays-more g.J.Test.tests l.at c.args.test.now c.args.self.now.rest l.test
           l.self.rest l.invariant.stays c.test.new.test c.test.new.self.rest (search rules);
       ready = search rules;
       same = search rules;

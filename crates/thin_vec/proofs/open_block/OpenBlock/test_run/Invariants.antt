@@ -1,12 +1,12 @@
--- Before each iteration of the loop, the middle items `k..at` have been tested and kept, and only
--- middle items have changed. Each iteration reduces the number of untested items.
+-- Before each iteration of the loop, the first `at` middle items have been tested and kept, and
+-- only middle items have changed. Each iteration reduces the number of untested items.
 use Rattle.std.proofs.Common.{◌≡◌, ◌-◌, length}
 use Rattle.thin_vec.proofs.RetainLemmas.{Stays}
 use Rattle.thin_vec.proofs.open_block.OpenBlock.test_run.Given as goal
 
 abbrev pub invariant-loop-at : goal.invariant-loop-at
 invariant-loop-at g l = record {
-  stays : Stays g.J.Test.tests l.fn.k l.at l.fn.test l.fn.self.rest l.test l.self.rest;
+  stays : Stays g.J.Test.tests l.at l.fn.test l.fn.self.rest l.test l.self.rest;
   ready : g.J.Test.ready l.test;
   same : l.self ≡ record l.fn.self { rest = l.self.rest };
 }
