@@ -172,11 +172,7 @@ impl<T: Drop, A: Allocator> OpenBlock<T, A> {
             drop(later);
             return;
         }
-        if item_size::<T>() < LARGE {
-            self.append_to_front(later);
-            return;
-        }
-        if self.rest_len() == 0 {
+        if item_size::<T>() < LARGE || self.rest_len() == 0 {
             self.append_to_front(later);
             return;
         }

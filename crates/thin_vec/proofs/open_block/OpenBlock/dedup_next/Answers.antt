@@ -15,17 +15,12 @@ returns-then-test_last-clause-dedups g c =
     c.take_first-later.result c.test_last.new.later c.test_last.new.self.front
     (search rules) (search rules) (search rules) (search rules)
 
--- If the items are small, `dedup_next` appends an item that the test keeps to the kept items.
-pub returns-then-item_size-lt-LARGE-clause-dedups : goal.returns-then-item_size-lt-LARGE-clause-dedups
+-- If the items are small, or if no item follows, `dedup_next` appends an item that the test keeps to
+-- the kept items.
+pub returns-then-item_size-lt-LARGE-clause-dedups :
+    goal.returns-then-item_size-lt-LARGE-clause-dedups
 returns-then-item_size-lt-LARGE-clause-dedups g c =
     dedups-stays g.J.PairTest.tests c.args.self.now c.append_to_front.new.self
-    c.take_first-later.result c.test_last.new.later c.test_last.new.self.front
-    (search rules) (search rules) (search rules) (search rules)
-
--- If no item follows, `dedup_next` appends an item that the test keeps to the kept items.
-pub returns-then-rest_len-eq0-clause-dedups : goal.returns-then-rest_len-eq0-clause-dedups
-returns-then-rest_len-eq0-clause-dedups g c =
-    dedups-stays g.J.PairTest.tests c.args.self.now c.append_to_front-then-rest_len-eq0.new.self
     c.take_first-later.result c.test_last.new.later c.test_last.new.self.front
     (search rules) (search rules) (search rules) (search rules)
 
