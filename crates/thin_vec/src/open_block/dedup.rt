@@ -7,9 +7,12 @@ ghost use Rattle.thin_block.specs.Slots.{AreFilled};
 ghost use Rattle.thin_vec.specs.OpenBlock.Dedup.{AreAskedIn};
 
 use crate::open_block::OpenBlock;
-use crate::open_block::sift::LARGE;
 use std::alloc::Allocator;
 use thin_block::{Block, item_size};
+
+// If an item has at least this many bytes, the kept items that lie side by side are moved together.
+// Smaller items are moved one by one, which is faster for them.
+const LARGE: usize = 128;
 
 /// Decides whether an item of a list is to be removed, by a test against the last kept item before
 /// it. The test may write to both items.

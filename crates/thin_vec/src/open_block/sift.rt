@@ -10,7 +10,7 @@ use thin_block::{Block, item_size};
 
 // If an item has at least this many bytes, the kept items that lie side by side are moved together.
 // Smaller items are moved one by one, which is faster for them.
-pub(crate) const LARGE: usize = 256;
+const LARGE: usize = 512;
 
 /// A test of one item. It decides whether the item is to be kept, and may write to the item.
 pub(crate) trait Test<T> {

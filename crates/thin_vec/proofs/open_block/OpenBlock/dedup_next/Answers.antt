@@ -1,4 +1,4 @@
--- The clause `dedups` holds in each of six cases: the first item is removed, it is kept alone
+-- The clause `dedups` holds in each of five cases: the first item is removed, it is kept alone
 -- (since the items are small, or no item follows it), or it is kept and the items are large. Then
 -- the second item is removed, a later item is removed, or no item is removed.
 use Rattle.std.proofs.Common.{◌≡◌, ◌∷◌, [], ap, false, refl, sym, ◌∙◌, arith, rules}
