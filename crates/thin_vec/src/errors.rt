@@ -67,10 +67,11 @@ pub struct SpliceRefused<T, I, A: Allocator = Global> {
     pub rest: I,
 }
 
+// The conversions below drop the values that the error holds. They are written out, because `rt ci`
+// refuses an `impl` that a macro of this repository writes.
 impl<S: Drop> From<Rejected<S>> for ThinVecError {
     ghost from_gives = { λ refused cause. cause ≡ refused.cause };
 
-    // Returns the field `cause` of the error, and drops the field `value`.
     fn from(refused: Rejected<S>) -> ThinVecError {
         refused.cause
     }
@@ -79,7 +80,6 @@ impl<S: Drop> From<Rejected<S>> for ThinVecError {
 impl<T: Drop, I: Drop> From<ExtendRefused<T, I>> for ThinVecError {
     ghost from_gives = { λ refused cause. cause ≡ refused.cause };
 
-    // Returns the field `cause` of the error, and drops the fields `in_hand` and `rest`.
     fn from(refused: ExtendRefused<T, I>) -> ThinVecError {
         refused.cause
     }
@@ -88,7 +88,6 @@ impl<T: Drop, I: Drop> From<ExtendRefused<T, I>> for ThinVecError {
 impl<T: Drop, I: Drop, A: Allocator> From<CollectRefused<T, I, A>> for ThinVecError {
     ghost from_gives = { λ refused cause. cause ≡ refused.cause };
 
-    // Returns the field `cause` of the error, and drops the fields `list`, `in_hand` and `rest`.
     fn from(refused: CollectRefused<T, I, A>) -> ThinVecError {
         refused.cause
     }
@@ -97,49 +96,40 @@ impl<T: Drop, I: Drop, A: Allocator> From<CollectRefused<T, I, A>> for ThinVecEr
 impl<T: Drop, I: Drop, A: Allocator> From<SpliceRefused<T, I, A>> for ThinVecError {
     ghost from_gives = { λ refused cause. cause ≡ refused.cause };
 
-    // Returns the field `cause` of the error, and drops the fields `held`, `in_hand` and `rest`.
     fn from(refused: SpliceRefused<T, I, A>) -> ThinVecError {
         refused.cause
     }
 }
 
+// The cause is lost, because `AllocError` has no field for it.
 impl<S: Drop> From<Rejected<S>> for AllocError {
-    // Drops all fields of the argument. The cause of the failure is lost, because `AllocError` has
-    // no field for it.
     fn from(_refused: Rejected<S>) -> AllocError {
         AllocError
     }
 }
 
 impl<T: Drop, I: Drop> From<ExtendRefused<T, I>> for AllocError {
-    // Drops all fields of the argument. The cause of the failure is lost, because `AllocError` has
-    // no field for it.
     fn from(_refused: ExtendRefused<T, I>) -> AllocError {
         AllocError
     }
 }
 
 impl<T: Drop, I: Drop, A: Allocator> From<CollectRefused<T, I, A>> for AllocError {
-    // Drops all fields of the argument. The cause of the failure is lost, because `AllocError` has
-    // no field for it.
     fn from(_refused: CollectRefused<T, I, A>) -> AllocError {
         AllocError
     }
 }
 
 impl<T: Drop, I: Drop, A: Allocator> From<SpliceRefused<T, I, A>> for AllocError {
-    // Drops all fields of the argument. The cause of the failure is lost, because `AllocError` has
-    // no field for it.
     fn from(_refused: SpliceRefused<T, I, A>) -> AllocError {
         AllocError
     }
 }
 
+// The kind is always `OutOfMemory`, because std has no `ErrorKind` for a capacity overflow.
 impl<S: Drop> From<Rejected<S>> for io::Error {
     ghost from_gives = { λ _ error. error_kind error ≡ Kind.OutOfMemory };
 
-    // Drops the argument. The kind of the returned error is always `OutOfMemory`, because std has
-    // no `ErrorKind` for a capacity overflow.
     fn from(_refused: Rejected<S>) -> io::Error {
         io::Error::from(ErrorKind::OutOfMemory)
     }
@@ -148,8 +138,6 @@ impl<S: Drop> From<Rejected<S>> for io::Error {
 impl<T: Drop, I: Drop> From<ExtendRefused<T, I>> for io::Error {
     ghost from_gives = { λ _ error. error_kind error ≡ Kind.OutOfMemory };
 
-    // Drops the argument. The kind of the returned error is always `OutOfMemory`, because std has
-    // no `ErrorKind` for a capacity overflow.
     fn from(_refused: ExtendRefused<T, I>) -> io::Error {
         io::Error::from(ErrorKind::OutOfMemory)
     }
@@ -158,8 +146,6 @@ impl<T: Drop, I: Drop> From<ExtendRefused<T, I>> for io::Error {
 impl<T: Drop, I: Drop, A: Allocator> From<CollectRefused<T, I, A>> for io::Error {
     ghost from_gives = { λ _ error. error_kind error ≡ Kind.OutOfMemory };
 
-    // Drops the argument. The kind of the returned error is always `OutOfMemory`, because std has
-    // no `ErrorKind` for a capacity overflow.
     fn from(_refused: CollectRefused<T, I, A>) -> io::Error {
         io::Error::from(ErrorKind::OutOfMemory)
     }
@@ -168,8 +154,6 @@ impl<T: Drop, I: Drop, A: Allocator> From<CollectRefused<T, I, A>> for io::Error
 impl<T: Drop, I: Drop, A: Allocator> From<SpliceRefused<T, I, A>> for io::Error {
     ghost from_gives = { λ _ error. error_kind error ≡ Kind.OutOfMemory };
 
-    // Drops the argument. The kind of the returned error is always `OutOfMemory`, because std has
-    // no `ErrorKind` for a capacity overflow.
     fn from(_refused: SpliceRefused<T, I, A>) -> io::Error {
         io::Error::from(ErrorKind::OutOfMemory)
     }
