@@ -5,7 +5,7 @@ use Rattle.std.specs.FinMap as columns
 use Rattle.std.specs.Option.{unwrap_or}
 use Rattle.std.specs.Prelude.{slice_index_or}
 use Rattle.std.proofs.lemmas.Bool.{cases_eq, cases_lt}
-use Rattle.thin_rows.specs.Table.{Columns, Table, row_of, value_at}
+use Rattle.thin_rows.specs.Table.{Columns, Table, row_at, value_at}
 use Rattle.thin_rows.proofs.TableLemmas.{in_order, is_listed, listed}
 
 -- `None` never equals `Some x`, so the assumption that they are equal implies every statement `P`.
@@ -83,10 +83,10 @@ module _ (write : ℕ → ℕ → ℕ) (row : Columns ℕ) (old : ℕ → ℕ) w
 -- If the table `t` has no value in the columns from `n` onward, then all entries of each row are in
 -- columns less than `n`.
 pub columns_below : (t : Table ℕ) (n : ℕ) → ((i j : ℕ) → n ≤ j → value_at t i j ≡ None) → (i : ℕ)
-    (entries : List (ℕ × ℕ)) → entries ≡ columns.entries (row_of t i) → (k : ℕ)
+    (entries : List (ℕ × ℕ)) → entries ≡ columns.entries (row_at t i) → (k : ℕ)
     → k < length entries → (slice_index_or entries k (0, 0)).0 < n
 columns_below t n none i entries is = rw is (λ k inside.
-    elim (cases_lt (slice_index_or (columns.entries (row_of t i)) k (0, 0)).0 n) [
+    elim (cases_lt (slice_index_or (columns.entries (row_at t i)) k (0, 0)).0 n) [
       | inl less ↦ less
-      | inr past ↦ never (sym (none i _ past) ∙ listed (row_of t i) k (0, 0) inside)
+      | inr past ↦ never (sym (none i _ past) ∙ listed (row_at t i) k (0, 0) inside)
     ])

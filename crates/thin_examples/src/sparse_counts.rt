@@ -3,7 +3,7 @@
 ghost use Rattle.std.specs.FinMap as columns;
 ghost use Rattle.std.specs.Option.{unwrap_or};
 ghost use Rattle.std.specs.Prelude.{◌≡◌, ◌↔◌, ◌+◌, ◌-◌, ◌^◌, ◌<◌, ◌/◌, IfErr, IfOk, IfSome, IsNone, IsOk, IsSome, IsTrue, OnErr, OnOk, Some, length, min, replicate};
-ghost use Rattle.thin_rows.specs.Table.{row_of, value_at, with_value, without_value};
+ghost use Rattle.thin_rows.specs.Table.{row_at, value_at, with_value, without_value};
 
 use std::alloc::{AllocError, Allocator, Global};
 use thin_rows::Rows;
@@ -92,7 +92,7 @@ pub fn halve<A: Allocator>(counts: &mut Rows<u32, A>, row: usize, column: usize)
 /// Returns whether `row` has no entries.
 pub fn is_row_empty<A: Allocator>(counts: &Rows<u32, A>, row: usize) -> bool
     requires in_bounds { row < length counts.now }
-    ensures value { IsTrue result ↔ (columns.len (row_of counts.now row) ≡ 0) }
+    ensures value { IsTrue result ↔ (columns.len (row_at counts.now row) ≡ 0) }
 {
     !counts.owns_block(row)
 }

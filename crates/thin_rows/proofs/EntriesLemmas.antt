@@ -1,5 +1,5 @@
--- Lemmas about the entries of a row in a sparse table: what a binary search for a column returns,
--- and how an edit at the returned index changes the entries.
+-- A binary search for a column in the entries of a row, and the edits at the index that it
+-- returns.
 use Rattle.std.proofs.Common.{◌≡◌, ℕ, zero, suc, ◌+◌, ◌<◌, ◌≤◌, ◌≢◌, Bool, true, false, cond, not, ◌&&◌, T, List, [], ◌∷◌, length, map, get_or, set, Some, None, Result, Ok, Err, IfOk, IfErr, refl, sym, ap, ◌∙◌, nat_cmp, is_lt, is_eq, Less, Equal, Greater, insert, remove, arith}
 use Rattle.std.specs.FinMap.{find, put}
 use Rattle.std.specs.FinMap.Entries.{below_all, by_order, where_key}
@@ -9,14 +9,12 @@ use Rattle.std.proofs.lemmas.Bool.Decides.{nat_tests}
 use Rattle.std.specs.Cmp.{ranked}
 use Rattle.std.proofs.lemmas.List.{get_or-map}
 use lib.ListN.{length-map}
-use Rattle.thin_rows.specs.Entries.{IsGapFor, IsPlaceOf, IsRising}
+use Rattle.thin_rows.specs.Entries.{IsInsertionPoint, IsFoundAt, IsSortedByColumn}
 
 both_hold : (a b : Bool) → T (a && b) → T a × T b
 both_hold true b h = (tt, h)
 both_hold false b h = absurd h
 
--- If `c < k`, then `nat_cmp c k` is `Less`. The next two lemmas cover the cases `c ≡ k` and
--- `k < c`.
 is_less : (c k : ℕ) → c < k → nat_cmp c k ≡ Less
 is_less c k less = grind (arith, nat_tests)
 
@@ -29,8 +27,7 @@ is_more c k more = grind (arith, nat_tests)
 less_from : (c k : ℕ) → T (is_lt (nat_cmp c k)) → c < k
 less_from c k h = grind (arith, nat_tests)
 
--- `stays c k` is true if the columns `c` and `k` differ. If the entry of column `c` is removed, an
--- entry of column `k` is kept if and only if `stays c k` is true.
+-- Whether an entry of column `k` is kept when the entry of column `c` is removed.
 abbrev pub stays : ℕ → ℕ → Bool
 stays c k = not (eq_by_cmp nat_cmp c k)
 
@@ -38,8 +35,6 @@ other_stays : (c k : ℕ) → k ≢ c → stays c k ≡ true
 other_stays c k other = grind (arith, nat_tests)
 
 module _ {V : Type 0} where
-  -- `column_at entries k d` is the column of the entry at index `k`. If there is no such entry, it
-  -- is the column of the default entry `d`.
   abbrev column_at : List (ℕ × V) → ℕ → ℕ × V → ℕ
   column_at entries k d = (get_or entries k d).0
 
@@ -50,9 +45,7 @@ module _ {V : Type 0} where
   all_above c (e ∷ entries) h (suc k) d inside =
       all_above c entries (both_hold _ _ h).1 k d (omega arith)
 
-  -- If the columns of the entries are strictly increasing, and `i < k`, then the column at index
-  -- `i` is less than the column at index `k`.
-  pub columns_rise : (entries : List (ℕ × V)) → IsRising entries → (i k : ℕ) (d : ℕ × V) → i < k
+  pub columns_rise : (entries : List (ℕ × V)) → IsSortedByColumn entries → (i k : ℕ) (d : ℕ × V) → i < k
       → k < length entries → column_at entries i d < column_at entries k d
   columns_rise [] h i k d before inside = absurd (omega arith)
   columns_rise (e ∷ entries) h zero zero d before inside = absurd (omega arith)
@@ -62,9 +55,7 @@ module _ {V : Type 0} where
   columns_rise (e ∷ entries) h (suc i) (suc k) d before inside =
       columns_rise entries (both_hold _ _ h).1 i k d (omega arith) (omega arith)
 
-  -- If the entries satisfy `IsRising`, then the list of their columns satisfies std's
-  -- `IsStrictlyIncreasing`. Both predicates say that the columns are strictly increasing.
-  pub columns_increase : (entries : List (ℕ × V)) → IsRising entries
+  pub columns_increase : (entries : List (ℕ × V)) → IsSortedByColumn entries
       → IsStrictlyIncreasing (map (λ entry. entry.0) entries)
   columns_increase (e ∷ entries) h k inside =
       let count : length (map (λ (x : ℕ × V). x.0) (e ∷ entries)) ≡ length (e ∷ entries) =
@@ -76,29 +67,25 @@ module _ {V : Type 0} where
   columns_increase [] h k inside = absurd (omega arith)
 
   module _ (c : ℕ) where
-    -- If the entry of column `c` is at index `at + 1` of the list `e ∷ entries`, then it is at
-    -- index `at` of `entries`.
     place_after : (e : ℕ × V) (entries : List (ℕ × V)) (at : ℕ)
-        → IsPlaceOf (e ∷ entries) c (suc at) → IsPlaceOf entries c at
+        → IsFoundAt (e ∷ entries) c (suc at) → IsFoundAt entries c at
     place_after e entries at p = record { in_bounds = omega (arith, p.in_bounds); same = p.same }
 
-    gap_after : (e : ℕ × V) (entries : List (ℕ × V)) (at : ℕ) → IsGapFor (e ∷ entries) c (suc at)
-        → IsGapFor entries c at
+    gap_after : (e : ℕ × V) (entries : List (ℕ × V)) (at : ℕ) → IsInsertionPoint (e ∷ entries) c (suc at)
+        → IsInsertionPoint entries c at
     gap_after e entries at g = record {
       in_bounds = omega (arith, g.in_bounds);
       smaller = λ k d before. g.smaller (suc k) d (omega arith);
       greater = λ k d from inside. g.greater (suc k) d (omega arith) (omega arith);
     }
 
-    -- Suppose that the columns of `e ∷ entries` are strictly increasing. If the entry of column `c`
-    -- is at index `at + 1` of this list, then the column of `e` is less than `c`.
-    before_place : (e : ℕ × V) (entries : List (ℕ × V)) (at : ℕ) → IsRising (e ∷ entries)
-        → IsPlaceOf (e ∷ entries) c (suc at) → e.0 < c
+    before_place : (e : ℕ × V) (entries : List (ℕ × V)) (at : ℕ) → IsSortedByColumn (e ∷ entries)
+        → IsFoundAt (e ∷ entries) c (suc at) → e.0 < c
     before_place e entries at h p =
         omega (arith, columns_rise (e ∷ entries) h 0 (suc at) e (omega arith) p.in_bounds, p.same e)
 
-    pub find_at : (entries : List (ℕ × V)) (at : ℕ) (d : ℕ × V) → IsRising entries
-        → IsPlaceOf entries c at → find nat_cmp c entries ≡ Some (get_or entries at d).1
+    pub find_at : (entries : List (ℕ × V)) (at : ℕ) (d : ℕ × V) → IsSortedByColumn entries
+        → IsFoundAt entries c at → find nat_cmp c entries ≡ Some (get_or entries at d).1
     find_at [] at d h p = absurd (omega (arith, p.in_bounds))
     find_at (e ∷ entries) zero d h p = ap (λ o. cond (is_eq o) (Some e.1) (find nat_cmp c entries))
         (is_same c e.0 (sym (p.same d)))
@@ -107,8 +94,8 @@ module _ {V : Type 0} where
         (is_more c e.0 (before_place e entries at h p))
         ∙ find_at entries at d (both_hold _ _ h).1 (place_after e entries at p)
 
-    pub put_at : (entries : List (ℕ × V)) (at : ℕ) (v : V) → IsRising entries
-        → IsPlaceOf entries c at → put nat_cmp c v entries ≡ set entries at (c, v)
+    pub put_at : (entries : List (ℕ × V)) (at : ℕ) (v : V) → IsSortedByColumn entries
+        → IsFoundAt entries c at → put nat_cmp c v entries ≡ set entries at (c, v)
     put_at [] at v h p = absurd (omega (arith, p.in_bounds))
     put_at (e ∷ entries) zero v h p =
         ap (λ o. by_order o ((c, v) ∷ e ∷ entries) ((e.0, v) ∷ entries)
@@ -128,7 +115,7 @@ module _ {V : Type 0} where
         (where_key nat_cmp (stays c) entries)) (other_stays c e.0 (others 0 e (omega arith)))
         ∙ ap (λ rest. e ∷ rest) (all_stay entries (λ k d inside. others (suc k) d (omega arith)))
 
-    pub without_at : (entries : List (ℕ × V)) (at : ℕ) → IsRising entries → IsPlaceOf entries c at
+    pub without_at : (entries : List (ℕ × V)) (at : ℕ) → IsSortedByColumn entries → IsFoundAt entries c at
         → where_key nat_cmp (stays c) entries ≡ remove entries at
     without_at [] at h p = absurd (omega (arith, p.in_bounds))
     without_at (e ∷ entries) zero h p =
@@ -142,7 +129,7 @@ module _ {V : Type 0} where
         ∙ ap (λ rest. e ∷ rest) (without_at entries at (both_hold _ _ h).1
         (place_after e entries at p))
 
-    pub find_gap : (entries : List (ℕ × V)) (at : ℕ) → IsGapFor entries c at
+    pub find_gap : (entries : List (ℕ × V)) (at : ℕ) → IsInsertionPoint entries c at
         → find nat_cmp c entries ≡ None
     find_gap [] at g = refl
     find_gap (e ∷ entries) zero g = ap (λ o. cond (is_eq o) (Some e.1) (find nat_cmp c entries))
@@ -157,12 +144,12 @@ module _ {V : Type 0} where
         (is_more c e.0 (g.smaller 0 e (omega arith)))
         ∙ find_gap entries at (gap_after e entries at g)
 
-    pub without_gap : (entries : List (ℕ × V)) (at : ℕ) → IsGapFor entries c at
+    pub without_gap : (entries : List (ℕ × V)) (at : ℕ) → IsInsertionPoint entries c at
         → where_key nat_cmp (stays c) entries ≡ entries
     without_gap entries at g = all_stay entries
         (λ k d inside same. grind (arith, g.smaller k d, g.greater k d))
 
-    pub put_gap : (entries : List (ℕ × V)) (at : ℕ) (v : V) → IsGapFor entries c at
+    pub put_gap : (entries : List (ℕ × V)) (at : ℕ) (v : V) → IsInsertionPoint entries c at
         → put nat_cmp c v entries ≡ insert entries at (c, v)
     put_gap [] zero v g = refl
     put_gap [] (suc at) v g = absurd (omega (arith, g.in_bounds))
@@ -174,9 +161,7 @@ module _ {V : Type 0} where
         (e ∷ put nat_cmp c v entries)) (is_more c e.0 (g.smaller 0 e (omega arith)))
         ∙ ap (λ rest. e ∷ rest) (put_gap entries at v (gap_after e entries at g))
 
-    -- If the columns of the entries are strictly increasing, then comparing them with `c` yields
-    -- results in the order `Less`, `Equal`, `Greater`.
-    comparisons_rise : (entries : List (ℕ × V)) → IsRising entries
+    comparisons_rise : (entries : List (ℕ × V)) → IsSortedByColumn entries
         → IsNonDecreasingBy (λ e. ordering_index (nat_cmp e.0 c)) entries
     comparisons_rise entries h i k d before inside =
         let rise : column_at entries i d ≤ column_at entries k d =
@@ -187,14 +172,11 @@ module _ {V : Type 0} where
         ) in
         grind (arith, nat_tests)
 
-    -- Suppose that the columns of the entries are strictly increasing, and that `r` is the result
-    -- of a binary search for column `c`. If there is an entry of this column, then `r` is `Ok` with
-    -- the index of this entry. Otherwise, `r` is `Err` with the index at which such an entry would
-    -- be inserted.
-    pub searched : (entries : List (ℕ × V)) → IsRising entries → (r : Result ℕ ℕ)
+    -- What the binary search returns is what `search` promises.
+    pub searched : (entries : List (ℕ × V)) → IsSortedByColumn entries → (r : Result ℕ ℕ)
         → IsSearchInRange r (length entries)
         → IsBinarySearchResult (λ e. nat_cmp e.0 c) entries r
-        → IfOk r (IsPlaceOf entries c) × IfErr r (IsGapFor entries c)
+        → IfOk r (IsFoundAt entries c) × IfErr r (IsInsertionPoint entries c)
     searched entries h (Ok at) inside equal =
         (record { in_bounds = inside; same = λ d. ranked _ c _ (sym (equal d)) }, tt)
     searched entries h (Err at) inside parted = (

@@ -9,35 +9,23 @@ use Rattle.thin_vec.specs.declared.ThinVecError.TheVariants.{CapacityOverflow}
 use Rattle.thin_vec.specs.List.Capacity.{TellsOverflow, TellsOverflowOf}
 use Rattle.thin_vec.specs.Growth.{Rule, exact_capacity, ruled_capacity}
 
--- If the types `R` and `S` have the same size and alignment, then `exact_capacity` returns the same
--- capacity for both types, given the old capacity `c` and the required capacity `w`.
 pub exact_of_same : (R S : RattleType) (c w : ℕ) → type_size R ≡ type_size S
     → type_align R ≡ type_align S → exact_capacity R c w ≡ exact_capacity S c w
 unfolding exact_capacity
 exact_of_same R S c w size align = rw (size, align) refl
 
--- If the item types `R` and `S` have the same size and alignment, `c ≡ d` and `v ≡ w`, then the
--- growth rule `rule` chooses the same capacity for both types.
 pub ruled_of_same : (rule : Rule) (R S : RattleType) (c d v w : ℕ) → type_size R ≡ type_size S
     → type_align R ≡ type_align S → c ≡ d → v ≡ w
     → ruled_capacity rule R c v ≡ ruled_capacity rule S d w
 unfolding ruled_capacity
 ruled_of_same rule R S c d v w size align capacity want = rw (size, align, capacity, want) refl
 
--- The result `Ok x` is not an error. So any statement `P` follows from the assumption that `Ok x`
--- is the error `e`.
 no_error : {X E P : Type 0} {x : X} {e : E} → IsErrOf (Ok x) e → P
 no_error same = cc
 
--- `IsErrOf (Err d) e` says that the result `Err d` contains the error `e`. If it holds, then `d`
--- equals `e`.
 pub same_cause : {X E : Type 0} {d e : E} → IsErrOf {T = X} (Err d) e → d ≡ e
 same_cause same = cc
 
--- Suppose that the types `R` and `S` have the same size and alignment, and that `result` is the
--- error `cause`. Suppose also that `cause` is `CapacityOverflow` if and only if a block for `w`
--- items of the type `R` is too large. Then `result` is `CapacityOverflow` if and only if a block
--- for `w` items of the type `S` is too large.
 pub error_tells : {X Y : Type 0} (R S : RattleType) (w : ℕ) (cause : ThinVecError)
     (result : Result Y ThinVecError) → type_size S ≡ type_size R → type_align S ≡ type_align R
     → IsErrAnd result (λ e. e ≡ cause) → TellsOverflowOf {X = X} R w (Err cause)
@@ -51,9 +39,6 @@ error_tells R S w cause (Err e) size align passed told = record {
   );
 }
 
--- `TellsOverflow a r` says that the result `r` is the error `CapacityOverflow` if and only if the
--- capacity `a` is `None`. Suppose that `a` equals `b`, and that `cause` is `CapacityOverflow` if
--- and only if `b` is `None`. Then `TellsOverflow a (Err cause)` holds.
 pub failure_tells : {X Y : Type 0} {a b : Option ℕ} {cause : ThinVecError} → a ≡ b
     → IsErrOf {T = X} (Err cause) CapacityOverflow ↔ (b ≡ None)
     → TellsOverflow a (let r : Result Y ThinVecError = Err cause in r)
@@ -64,8 +49,6 @@ failure_tells same told = record {
   );
 }
 
--- `TellsOverflowOf R w (Ok x)` says that a block for `w` items of the type `R` is not too large. If
--- it holds, then it also holds for a type `S` of the same size and alignment.
 pub made_tells : {X Y : Type 0} (R S : RattleType) (w : ℕ) (x : X) (y : Y)
     → type_size S ≡ type_size R → type_align S ≡ type_align R
     → TellsOverflowOf R w (Ok x) → TellsOverflowOf S w (Ok y)

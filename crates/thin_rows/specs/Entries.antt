@@ -7,19 +7,19 @@ use Rattle.thin_vec.specs.ThinVec.{Thin}
 use Rattle.thin_rows.specs.Table.{Columns}
 
 module _ {V : Type 0} where
-  -- `IsRising entries` holds if the columns of the entries are strictly increasing.
-  abbrev pub IsRising : List (ℕ × V) → Type 0
-  IsRising entries = T (is_sorted nat_cmp entries)
+  -- `IsSortedByColumn entries` holds if the columns of the entries are strictly increasing.
+  abbrev pub IsSortedByColumn : List (ℕ × V) → Type 0
+  IsSortedByColumn entries = T (is_sorted nat_cmp entries)
 
-  -- `IsPlaceOf entries column i` holds if the entry at index `i` of the list `entries` has the
+  -- `IsFoundAt entries column i` holds if the entry at index `i` of the list `entries` has the
   -- column `column`.
-  pub record IsPlaceOf (entries : List (ℕ × V)) (column i : ℕ) : Type 0 where
+  pub record IsFoundAt (entries : List (ℕ × V)) (column i : ℕ) : Type 0 where
     pub in_bounds : i < length entries
     pub same : (d : ℕ × V) → (slice_index_or entries i d).0 ≡ column
 
-  -- `IsGapFor entries column i` holds if an entry of `column` would be inserted at index `i`: the
+  -- `IsInsertionPoint entries column i` holds if an entry of `column` would be inserted at index `i`: the
   -- columns before `i` are less than `column`, and all others are greater.
-  pub record IsGapFor (entries : List (ℕ × V)) (column i : ℕ) : Type 0 where
+  pub record IsInsertionPoint (entries : List (ℕ × V)) (column i : ℕ) : Type 0 where
     pub in_bounds : i ≤ length entries
     pub smaller : (k : ℕ) (d : ℕ × V) → k < i → (slice_index_or entries k d).0 < column
     pub greater : (k : ℕ) (d : ℕ × V) → i ≤ k → k < length entries
@@ -29,7 +29,7 @@ module _ {V A : Type 0} where
   -- `IsRow list` holds if the columns of the entries are strictly increasing, and the list owns a
   -- block of memory if and only if it has an entry.
   pub record IsRow (list : Thin (ℕ × V) A) : Type 0 where
-    pub rising : IsRising list.items
+    pub sorted : IsSortedByColumn list.items
     pub block : (0 < list.capacity) ↔ (0 < length list.items)
 
   -- `columns_of list` is the finite map that the entries of the list represent.

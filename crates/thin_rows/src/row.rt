@@ -3,7 +3,7 @@
 ghost use Rattle.std.specs.Prelude.{◌≡◌, ◌↔◌, ◌+◌, ◌<◌, IfErr, IfOk, IsOk, IsSome, IsTrue, OnErr, OnOk, Some, length};
 ghost use Rattle.std.specs.FinMap as map;
 ghost use Rattle.std.specs.Option.{option_copied};
-ghost use Rattle.thin_rows.specs.Entries.{IsGapFor, IsPlaceOf, IsRising};
+ghost use Rattle.thin_rows.specs.Entries.{IsInsertionPoint, IsFoundAt, IsSortedByColumn};
 
 use std::alloc::Allocator;
 use std::marker::Model;
@@ -39,11 +39,11 @@ impl<V, A: Allocator> Row<V, A> {
     ghost use Rattle.thin_vec.specs.Growth.{doubling, ruled_capacity};
     ghost use Rattle.thin_vec.specs.List.Capacity.{TellsOverflow, causes};
     ghost use Rattle.thin_rows.specs.EntryType.{entry_type};
-    ghost use Rattle.thin_rows.specs.Lends.{LendsColumn, LendsIfThere};
+    ghost use Rattle.thin_rows.specs.Lends.{LendsColumn, LendsColumnIfSome};
 
     // Returns a row without entries. No memory is allocated.
     pub(crate) fn new(alloc: A) -> Row<V, A>
-        ensures new { result ≡ map.empty }
+        ensures value { result ≡ map.empty }
     {
         Row {
             entries: ThinVec::new(alloc),
@@ -53,7 +53,7 @@ impl<V, A: Allocator> Row<V, A> {
     // Returns the entries in increasing order of their columns.
     pub(crate) fn entries(&self) -> &[(usize, V)]
         ensures value { result.now ≡ map.entries self.now }
-        ensures rising { IsRising result.now }
+        ensures sorted { IsSortedByColumn result.now }
     {
         self.entries.as_slice()
     }
@@ -78,7 +78,7 @@ impl<V, A: Allocator> Row<V, A> {
         ensures value { option_copied result ≡ map.get self.now column }
     {
         let entries = self.entries.as_slice();
-        match place(entries, column) {
+        match search(entries, column) {
             Ok(at) => Some(&entries[at].1),
             Err(_gap) => None,
         }
@@ -87,19 +87,19 @@ impl<V, A: Allocator> Row<V, A> {
     // Returns a mutable reference to the value at `column`, or `None` if the column has no entry.
     pub(crate) fn get_mut(&mut self, column: usize) -> Option<&mut V>
         ensures* writes_back { sem 𝓛
-            (LendsIfThere V.row A.row A.Allocator self.entry column result) }
+            (LendsColumnIfSome V.row A.row A.Allocator self.entry column result) }
         ensures value { option_copied_mut result ≡ map.get self.old column }
     {
-        match place(self.entries.as_slice(), column) {
+        match search(self.entries.as_slice(), column) {
             Ok(at) => Some(self.value_mut(column, at)),
             Err(_gap) => None,
         }
     }
 
-    // Returns a mutable reference to the value at `column`. The entry of this column must be at the
-    // index `at`.
+    // Returns a mutable reference to the value at `column`, whose entry must be at the index `at`.
+    // `get_mut` calls it in one arm alone: the loan out of a row is proved here, without the search.
     fn value_mut(&mut self, column: usize, at: usize) -> &mut V
-        requires place { IsPlaceOf (map.entries self.old) column at }
+        requires found { IsFoundAt (map.entries self.old) column at }
         ensures* writes_back { sem 𝓛
             (LendsColumn V.row A.row A.Allocator self.entry column result) }
         ensures value { map.get self.old column ≡ Some result.now }
@@ -112,13 +112,13 @@ impl<V, A: Allocator> Row<V, A> {
     pub(crate) fn set(&mut self, column: usize, value: V) -> Result<Option<V>, Rejected<V>>
         ensures succeeds { IsSome (map.get self.old column) → IsOk result }
         ensures value { IfOk result (λ old. old ≡ map.get self.old column) }
-        ensures columns { OnOk result (self.new ≡ map.insert self.old column value) }
+        ensures entries { OnOk result (self.new ≡ map.insert self.old column value) }
         ensures overflow { OnErr result (TellsOverflow (ruled_capacity doubling (entry_type V.row)
             (map.len self.old) (map.len self.old + 1)) (causes result)) }
         ensures err { OnErr result (self.new ≡ self.old) }
         ensures value_returned { IfErr result (λ refused. refused.value ≡ value) }
     {
-        match place(self.entries.as_slice(), column) {
+        match search(self.entries.as_slice(), column) {
             Ok(at) => {
                 let (_column, old) = mem::replace(&mut self.entries[at], (column, value));
                 Ok(Some(old))
@@ -139,14 +139,14 @@ impl<V, A: Allocator> Row<V, A> {
     // entries, frees the block of the row.
     pub(crate) fn remove(&mut self, column: usize) -> Option<V>
         ensures value { result ≡ map.get self.old column }
-        ensures columns { self.new ≡ map.remove self.old column }
+        ensures entries { self.new ≡ map.remove self.old column }
     {
-        let at = match place(self.entries.as_slice(), column) {
+        let at = match search(self.entries.as_slice(), column) {
             Ok(at) => at,
             Err(_gap) => return None,
         };
         let (_column, value) = self.entries.remove(at);
-        give_block_back(&mut self.entries);
+        free_if_empty(&mut self.entries);
         Some(value)
     }
 }
@@ -154,10 +154,10 @@ impl<V, A: Allocator> Row<V, A> {
 impl<V: Drop, A: Allocator> Row<V, A> {
     // Removes all entries, drops their values, and frees the block of the row.
     pub(crate) fn clear(&mut self)
-        ensures columns { self.new ≡ map.empty }
+        ensures entries { self.new ≡ map.empty }
     {
         self.entries.clear();
-        give_block_back(&mut self.entries);
+        free_if_empty(&mut self.entries);
     }
 }
 
@@ -173,9 +173,9 @@ impl<V: fmt::Debug, A: Allocator> fmt::Debug for Row<V, A> {
 }
 
 // Frees the block of `list` if `list` is empty. This requests no memory, so it cannot fail.
-fn give_block_back<T, A: Allocator>(list: &mut ThinVec<T, A>)
+fn free_if_empty<T, A: Allocator>(list: &mut ThinVec<T, A>)
     ensures items { list.new.items ≡ list.old.items }
-    ensures block { (0 < list.new.capacity) ↔ (0 < length list.new.items) }
+    ensures capacity { (0 < list.new.capacity) ↔ (0 < length list.new.items) }
 {
     if list.is_empty() {
         match list.shrink_to_fit() {
@@ -185,12 +185,12 @@ fn give_block_back<T, A: Allocator>(list: &mut ThinVec<T, A>)
     }
 }
 
-// Returns the index of the entry at `column`. If there is no such entry, returns an `Err` with the
-// index at which the entry would be inserted.
-fn place<V>(entries: &[(usize, V)], column: usize) -> Result<usize, usize>
-    requires rising { IsRising entries.now }
-    ensures found { IfOk result (IsPlaceOf entries.now column) }
-    ensures gap { IfErr result (IsGapFor entries.now column) }
+// Returns the index of the entry at `column`, or an `Err` with the index at which it would be
+// inserted.
+fn search<V>(entries: &[(usize, V)], column: usize) -> Result<usize, usize>
+    requires sorted { IsSortedByColumn entries.now }
+    ensures ok { IfOk result (IsFoundAt entries.now column) }
+    ensures err { IfErr result (IsInsertionPoint entries.now column) }
 {
     entries.binary_search_by_key(&column, |entry| entry.0)
 }

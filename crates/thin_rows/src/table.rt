@@ -4,7 +4,7 @@ ghost use Rattle.std.specs.Prelude.{◌≡◌, ◌↔◌, ◌+◌, ◌-◌, ◌^
 ghost use Rattle.std.specs.FinMap as columns;
 ghost use Rattle.std.specs.List.Sorted.{IsStrictlyIncreasing};
 ghost use Rattle.std.specs.Option.{option_copied};
-ghost use Rattle.thin_rows.specs.Table.{row_of, value_at, with_empty_row, with_value, without_value};
+ghost use Rattle.thin_rows.specs.Table.{row_at, value_at, with_empty_row, with_value, without_value};
 
 use crate::row::Row;
 use std::alloc::{Allocator, Global};
@@ -131,7 +131,7 @@ impl<V, A: Allocator> Rows<V, A> {
         // On failure, the table is unchanged. The error contains `value`, and its cause is
         // `CapacityOverflow` if and only if the new capacity of the row would be too large.
         ensures overflow { OnErr result (TellsOverflow (ruled_capacity doubling (entry_type V.row)
-            (columns.len (row_of self.old row)) (columns.len (row_of self.old row) + 1))
+            (columns.len (row_at self.old row)) (columns.len (row_at self.old row) + 1))
             (causes result)) }
         ensures err { OnErr result (self.new ≡ self.old) }
         ensures value_returned { IfErr result (λ refused. refused.value ≡ value) }
@@ -154,8 +154,8 @@ impl<V, A: Allocator> Rows<V, A> {
     #[tactic(auto, using(crate::proofs::EntriesLemmas::columns_increase))]
     pub fn row(&self, row: usize) -> &[(usize, V)]
         requires in_bounds { row < length self.now }
-        ensures value { result.now ≡ columns.entries (row_of self.now row) }
-        ensures rising { IsStrictlyIncreasing (map (λ entry. entry.0) result.now) }
+        ensures value { result.now ≡ columns.entries (row_at self.now row) }
+        ensures sorted { IsStrictlyIncreasing (map (λ entry. entry.0) result.now) }
     {
         self.rows[row].entries()
     }
@@ -164,7 +164,7 @@ impl<V, A: Allocator> Rows<V, A> {
     /// entry.
     pub fn owns_block(&self, row: usize) -> bool
         requires in_bounds { row < length self.now }
-        ensures value { IsTrue result ↔ (0 < columns.len (row_of self.now row)) }
+        ensures value { IsTrue result ↔ (0 < columns.len (row_at self.now row)) }
     {
         self.rows[row].owns_block()
     }

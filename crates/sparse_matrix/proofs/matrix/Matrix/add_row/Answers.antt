@@ -1,7 +1,7 @@
 -- After its loop, `add_row` has added all numbers of a row of `other` to the same row of `self`.
 use Rattle.std.proofs.Common.{◌≡◌, ap, arith, length, ◌∙◌}
 use Rattle.std.specs.Prelude.{slice_index_or}
-use Rattle.thin_rows.specs.Table.{row_of}
+use Rattle.thin_rows.specs.Table.{row_at}
 use Rattle.sparse_matrix.specs.Numbers.{added, number_at}
 use Rattle.sparse_matrix.proofs.NumberLemmas.{at_row, here, other_columns, other_rows}
 use Rattle.sparse_matrix.proofs.WritesLemmas.{all_written, columns_below, next_written}
@@ -26,7 +26,7 @@ loop-column-preserved g c =
     let number = (slice_index_or entries c.loop-column.column-index (0, 0)).1 in
     let told = c.in_ok-set.ensures.numbers in
     record {
-      written = next_written added (row_of c.args.other.now.numbers row)
+      written = next_written added (row_at c.args.other.now.numbers row)
           (number_at c.args.self.now.numbers row) _ c.row-column-items.ensures.value
           c.loop-column.column-index (number_at now row) (number_at c.set.new.self.numbers row)
           c.loop-column-test.true c.loop-column.invariant.written
@@ -50,7 +50,7 @@ returns-clause-numbers g c =
     omega (arith, c.loop-column-test.false, c.loop-column.auto.column-index-end) in
     at_row (number_at c.loop-column.self.numbers) (number_at old)
     (λ i j. added (number_at old i j) (number_at other i j)) row
-    (λ j. all_written added (row_of other row) (number_at old row) c.loop-column.column-index
+    (λ j. all_written added (row_at other row) (number_at old row) c.loop-column.column-index
     (number_at c.loop-column.self.numbers row)
     (all ∙ ap length c.row-column-items.ensures.value) c.loop-column.invariant.written j
     (omega (arith, c.args.self.now.small row j)))

@@ -2,7 +2,7 @@
 -- equal, because a column without an entry contributes 0.
 use Rattle.std.proofs.Common.{◌≡◌, ℕ, ◌<◌, ◌-◌, ◌^◌, ap, arith, length, min, slice_index, slice_index_or, ◌∙◌}
 use Rattle.std.proofs.lemmas.Grind.{common_steps, elements}
-use Rattle.thin_rows.specs.Table.{row_of}
+use Rattle.thin_rows.specs.Table.{row_at}
 use Rattle.sparse_matrix.specs.Numbers.{dot}
 use Rattle.sparse_matrix.proofs.WritesLemmas.{columns_below}
 use Rattle.sparse_matrix.proofs.SumLemmas.{row_sum}
@@ -28,7 +28,7 @@ loop-row-preserved g c =
     let row = c.loop-row.row in
     let pushed : c.row_product.result ≡ min (dot matrix.numbers row vector) (2 ^ 64 - 1) =
     c.row_product.ensures.value ∙ ap (λ s. min s (2 ^ 64 - 1))
-    (row_sum (slice_index vector) (row_of matrix.numbers row) (length vector) _
+    (row_sum (slice_index vector) (row_at matrix.numbers row) (length vector) _
     c.row.ensures.value below) in
     record {
       numbers = λ i less. grind (

@@ -1,6 +1,6 @@
 -- After its loop, `set_column` has written all numbers of a row of `other` into a column of `self`.
 use Rattle.std.proofs.Common.{◌≡◌, ap, arith, length, sym, ◌∙◌}
-use Rattle.thin_rows.specs.Table.{row_of}
+use Rattle.thin_rows.specs.Table.{row_at}
 use Rattle.sparse_matrix.specs.Numbers.{number_at}
 use Rattle.sparse_matrix.proofs.NumberLemmas.{at_row, here, other_columns, other_rows}
 use Rattle.sparse_matrix.proofs.WritesLemmas.{all_written, columns_below, next_written}
@@ -23,7 +23,7 @@ loop-row-preserved g c =
     let column = c.args.column in
     let told = c.in_ok-set.ensures.numbers in
     record {
-      written = next_written (λ old number. number) (row_of c.args.other.now.numbers column)
+      written = next_written (λ old number. number) (row_at c.args.other.now.numbers column)
           (λ i. number_at c.args.self.now.numbers i column) _ c.row-row-items.ensures.value
           c.loop-row.row-index (λ i. number_at now i column)
           (λ i. number_at c.set.new.self.numbers i column)
@@ -47,7 +47,7 @@ returns-clause-numbers g c =
     omega (arith, c.loop-row-test.false, c.loop-row.auto.row-index-end) in
     λ i j. at_row (λ b a. number_at c.loop-row.self.numbers a b) (λ b a. number_at old a b)
     (λ b a. number_at other column a) column
-    (λ a. all_written (λ old number. number) (row_of other column) (λ a. number_at old a column)
+    (λ a. all_written (λ old number. number) (row_at other column) (λ a. number_at old a column)
     c.loop-row.row-index (λ a. number_at c.loop-row.self.numbers a column)
     (all ∙ ap length c.row-row-items.ensures.value) c.loop-row.invariant.written a
     (sym (c.requires.zeros a)))

@@ -2,14 +2,14 @@
 -- entries that the loop has visited so far have been written, and nothing else in the matrix has
 -- changed.
 use Rattle.std.proofs.Common.{◌≡◌, ◌≢◌, ℕ, length}
-use Rattle.thin_rows.specs.Table.{row_of}
+use Rattle.thin_rows.specs.Table.{row_at}
 use Rattle.sparse_matrix.specs.Numbers.{number_at}
 use Rattle.sparse_matrix.proofs.WritesLemmas.{IsWritten}
 use Rattle.sparse_matrix.proofs.matrix.Matrix.set_column.Given as goal
 
 abbrev pub invariant-loop-row : goal.invariant-loop-row
 invariant-loop-row g l = record {
-  written : IsWritten (λ old number. number) (row_of l.other.numbers l.column)
+  written : IsWritten (λ old number. number) (row_at l.other.numbers l.column)
       (λ i. number_at l.fn.self.numbers i l.column) l.row-index
       (λ i. number_at l.self.numbers i l.column);
   others : (i j : ℕ) → j ≢ l.column

@@ -1,4 +1,4 @@
--- Proves the contract of `clear`: after the call, the row is the empty map.
+-- After `clear`, the row is the empty map.
 use Rattle.std.proofs.Common.{ap, ◌∙◌}
 use Rattle.std.specs.FinMap.{from_sorted}
 use Rattle.thin_rows.proofs.RowLemmas.{none_stored}
@@ -6,5 +6,5 @@ use Rattle.thin_rows.proofs.row.Row.clear.Goals as goal
 
 pub returns : goal.returns
 returns g c = record {
-  columns = ap from_sorted (c.give_block_back.ensures.items ∙ c.clear.ensures.items) ∙ none_stored;
+  entries = ap from_sorted (c.free_if_empty.ensures.items ∙ c.clear.ensures.items) ∙ none_stored;
 }

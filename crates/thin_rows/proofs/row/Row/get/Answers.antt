@@ -1,5 +1,4 @@
--- Proves the contract of `get`: the method returns the value of the row at the given column, or
--- `None` if there is no such value.
+-- The entry at the index that the search found has the value of the map at the column.
 use Rattle.std.proofs.Common.{sym}
 use Rattle.thin_rows.proofs.RowLemmas.{get_at, get_gap}
 use Rattle.thin_rows.proofs.row.Row.get.Goals as goal
@@ -7,18 +6,18 @@ use Rattle.thin_rows.proofs.row.Row.get.Goals as goal
 pub returns-in-Ok : goal.returns-in-Ok
 returns-in-Ok g c =
     let row = c.self.inside.entries in
-    let place = rw c.as_slice-entries.ensures.value at c.in-Ok.ensures.found in
+    let place = rw c.as_slice-entries.ensures.value at c.in-Ok.ensures.ok in
     record {
       value = rw (← c.self.view_is, c.as_slice-entries.ensures.value)
-          (sym (get_at row.items c.self.invariant.rising c.args.column c.in-Ok.at place
+          (sym (get_at row.items c.self.invariant.sorted c.args.column c.in-Ok.at place
           c.index-entries-at.result));
     }
 
 pub returns-in-Err : goal.returns-in-Err
 returns-in-Err g c =
     let row = c.self.inside.entries in
-    let gap = rw c.as_slice-entries.ensures.value at c.in-Err.ensures.gap in
+    let gap = rw c.as_slice-entries.ensures.value at c.in-Err.ensures.err in
     record {
       value = rw (← c.self.view_is) (sym
-          (get_gap row.items c.self.invariant.rising c.args.column c.in-Err._gap gap));
+          (get_gap row.items c.self.invariant.sorted c.args.column c.in-Err._gap gap));
     }

@@ -1,5 +1,4 @@
--- `len` returns the number of entries in the stored list. This is also the number of entries of the
--- map that the row represents.
+-- The stored list has as many entries as the map.
 use Rattle.std.proofs.Common.{sym, ap, ◌∙◌}
 use Rattle.std.specs.FinMap.{len}
 use Rattle.thin_rows.proofs.RowLemmas.{len_is}
@@ -9,6 +8,6 @@ pub returns : goal.returns
 returns g c =
     let row = c.self.inside.entries in
     record {
-      value = c.len.ensures.value ∙ (sym (len_is row.items c.self.invariant.rising)
+      value = c.len.ensures.value ∙ (sym (len_is row.items c.self.invariant.sorted)
           ∙ ap len c.self.view_is);
     }

@@ -1,5 +1,4 @@
--- This file proves that `owns_block` returns whether the row has an entry. By the invariant of the
--- row, its list owns a block if and only if the list has an entry.
+-- By the invariant of a row, its list owns a block if and only if it has an entry.
 use Rattle.std.proofs.Common.{◌≡◌, ◌∙◌, length, sym, ap}
 use Rattle.std.specs.FinMap.{len}
 use Rattle.thin_rows.proofs.RowLemmas.{len_is}
@@ -9,7 +8,7 @@ pub returns : goal.returns
 returns g c =
     let row = c.self.inside.entries in
     let count : len c.args.self.now ≡ length row.items = ap len (sym c.self.view_is)
-    ∙ len_is row.items c.self.invariant.rising in
+    ∙ len_is row.items c.self.invariant.sorted in
     let owns = c.has_capacity.ensures.value in
     let block = c.self.invariant.block in
     record { value = rw count ((λ yes. block.0 (owns.0 yes)), (λ some. owns.1 (block.1 some))) }

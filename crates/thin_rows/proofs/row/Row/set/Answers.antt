@@ -1,5 +1,4 @@
--- Proves the contract of `set`: the new row is the old row with the new value at the given column.
--- `set` overwrites the entry of this column or inserts one.
+-- `set` overwrites the entry of the column, or inserts one at the index that the search returned.
 use Rattle.std.proofs.Common.{inl, inr, ◌≡◌, ◌+◌, sym, ap, ◌∙◌, length, length-set, arith, refl, Some}
 use Rattle.std.proofs.lemmas.Bool.{cases_lt, false≢true}
 use Rattle.std.specs.FinMap.{len}
@@ -10,46 +9,43 @@ use Rattle.thin_rows.proofs.RowLemmas.{get_at, get_gap, insert_is, insert_rises,
 use Rattle.thin_rows.proofs.RowTypeLemmas.{failure_tells, ruled_of_same}
 use Rattle.thin_rows.proofs.row.Row.set.Goals as goal
 
--- If the column has an entry, overwriting this entry preserves the invariant of the row.
 pub invariant_of-self : goal.invariant_of-self
 invariant_of-self g c =
     let row = c.self.inside.entries in
-    let place = rw c.as_slice.ensures.value at c.in-Ok.ensures.found in
+    let place = rw c.as_slice.ensures.value at c.in-Ok.ensures.ok in
     let same = length-set row.items c.in-Ok.at c.replace-column.new.dest in
     record {
-      rising = rw c.replace-column.ensures.after
-          (set_rises row.items c.self.invariant.rising c.args.column c.in-Ok.at place c.args.value);
+      sorted = rw c.replace-column.ensures.after
+          (set_rises row.items c.self.invariant.sorted c.args.column c.in-Ok.at place c.args.value);
       block = rw same c.self.invariant.block;
     }
 
 pub returns-in-Ok-clause-value : goal.returns-in-Ok-clause-value
 returns-in-Ok-clause-value g c =
     let row = c.self.inside.entries in
-    let place = rw c.as_slice.ensures.value at c.in-Ok.ensures.found in
+    let place = rw c.as_slice.ensures.value at c.in-Ok.ensures.ok in
     let read = get_or_from_slice_get row.items c.in-Ok.at _ c.index_mut.result.now
     c.index_mut.ensures.found in
-    let found = get_at row.items c.self.invariant.rising c.args.column c.in-Ok.at place
+    let found = get_at row.items c.self.invariant.sorted c.args.column c.in-Ok.at place
     c.index_mut.result.now in
     rw (← c.self.view_is, c.replace-column.ensures.value)
     (sym (found ∙ ap (λ entry. Some entry.1) read))
 
-pub returns-in-Ok-clause-columns : goal.returns-in-Ok-clause-columns
-returns-in-Ok-clause-columns g c =
+pub returns-in-Ok-clause-entries : goal.returns-in-Ok-clause-entries
+returns-in-Ok-clause-entries g c =
     let row = c.self.inside.entries in
-    let place = rw c.as_slice.ensures.value at c.in-Ok.ensures.found in
+    let place = rw c.as_slice.ensures.value at c.in-Ok.ensures.ok in
     rw (c.replace-column.ensures.after, ← c.self.view_is)
-    (set_is row.items c.self.invariant.rising c.args.column c.in-Ok.at place c.args.value)
+    (set_is row.items c.self.invariant.sorted c.args.column c.in-Ok.at place c.args.value)
 
--- If the column has no entry, inserting an entry at the index that the search returned preserves
--- the invariant of the row.
 pub invariant_of-self-in-Err : goal.invariant_of-self-in-Err
 invariant_of-self-in-Err g c =
     let row = c.self.inside.entries in
-    let gap = rw c.as_slice.ensures.value at c.in-Err.ensures.gap in
+    let gap = rw c.as_slice.ensures.value at c.in-Err.ensures.err in
     let items = c.in_default.ensures.items in
     let longer = length-insert row.items c.in-Err.at (c.args.column, c.args.value) gap.in_bounds in
     record {
-      rising = rw items (insert_rises row.items c.self.invariant.rising c.args.column c.in-Err.at
+      sorted = rw items (insert_rises row.items c.self.invariant.sorted c.args.column c.in-Err.at
           gap c.args.value);
       block = (
         λ _. rw (items, longer) (omega arith),
@@ -60,17 +56,15 @@ invariant_of-self-in-Err g c =
 pub returns-in-Err-insert-clause-succeeds : goal.returns-in-Err-insert-clause-succeeds
 returns-in-Err-insert-clause-succeeds g c some =
     let row = c.self.inside.entries in
-    let gap = rw c.as_slice.ensures.value at c.in-Err.ensures.gap in
-    rw (← c.self.view_is, get_gap row.items c.self.invariant.rising c.args.column c.in-Err.at gap)
+    let gap = rw c.as_slice.ensures.value at c.in-Err.ensures.err in
+    rw (← c.self.view_is, get_gap row.items c.self.invariant.sorted c.args.column c.in-Err.at gap)
     at some
 
--- If `set` fails to insert an entry, then the error is `CapacityOverflow` if and only if the
--- capacity for one more entry is too large.
 pub returns-in-Err-insert-clause-overflow : goal.returns-in-Err-insert-clause-overflow
 returns-in-Err-insert-clause-overflow g c =
     let row = c.self.inside.entries in
     let many : len c.args.self.now ≡ length row.items =
-    sym (sym (len_is row.items c.self.invariant.rising) ∙ ap len c.self.view_is) in
+    sym (sym (len_is row.items c.self.invariant.sorted) ∙ ap len c.self.view_is) in
     let full : len c.args.self.now ≡ row.capacity =
     elim (cases_lt row.capacity (length row.items + 1)) [
       | inl few ↦ omega (arith, few, many, c.insert.ensures.keeps.within.0.room)
@@ -83,13 +77,13 @@ returns-in-Err-insert-clause-overflow g c =
 pub returns-in_default-clause-value : goal.returns-in_default-clause-value
 returns-in_default-clause-value g c =
     let row = c.self.inside.entries in
-    let gap = rw c.as_slice.ensures.value at c.in-Err.ensures.gap in
+    let gap = rw c.as_slice.ensures.value at c.in-Err.ensures.err in
     rw (← c.self.view_is)
-    (sym (get_gap row.items c.self.invariant.rising c.args.column c.in-Err.at gap))
+    (sym (get_gap row.items c.self.invariant.sorted c.args.column c.in-Err.at gap))
 
-pub returns-in_default-clause-columns : goal.returns-in_default-clause-columns
-returns-in_default-clause-columns g c =
+pub returns-in_default-clause-entries : goal.returns-in_default-clause-entries
+returns-in_default-clause-entries g c =
     let row = c.self.inside.entries in
-    let gap = rw c.as_slice.ensures.value at c.in-Err.ensures.gap in
+    let gap = rw c.as_slice.ensures.value at c.in-Err.ensures.err in
     rw (c.in_default.ensures.items, ← c.self.view_is)
-    (insert_is row.items c.self.invariant.rising c.args.column c.in-Err.at gap c.args.value)
+    (insert_is row.items c.self.invariant.sorted c.args.column c.in-Err.at gap c.args.value)

@@ -1,5 +1,4 @@
--- Proves the contract of `value_mut`: through the returned reference, the caller can change the
--- value of one entry, but not its column.
+-- A write through the returned reference changes the value of one entry, but not its column.
 use Rattle.std.proofs.Common.{◌≡◌, Some, nat_cmp, length-set, refl, sym, ap, ◌∙◌}
 use Rattle.std.proofs.lemmas.Option.{get_or_from_slice_get}
 use Rattle.std.specs.FinMap.{entries-from_sorted}
@@ -10,26 +9,24 @@ pub index_mut-requires : goal.index_mut-requires
 index_mut-requires g c =
     (rw (
       ← c.self.view_is,
-      entries-from_sorted nat_cmp c.self.inside.entries.items c.self.invariant.rising,
+      entries-from_sorted nat_cmp c.self.inside.entries.items c.self.invariant.sorted,
     ) at
-    c.requires.place).in_bounds
+    c.requires.found).in_bounds
 
--- The row satisfies its invariant after any write through the returned reference, because the
--- column of the entry does not change.
 pub invariant_of-self-lent : goal.invariant_of-self-lent
 invariant_of-self-lent g c w =
     let row = c.self.inside.entries in
     let place = rw (
       ← c.self.view_is,
-      entries-from_sorted nat_cmp row.items c.self.invariant.rising,
-    ) at c.requires.place in
+      entries-from_sorted nat_cmp row.items c.self.invariant.sorted,
+    ) at c.requires.found in
     let read = get_or_from_slice_get row.items c.args.at _ c.index_mut.result.now
     c.index_mut.ensures.found in
     let column : c.index_mut.result.now.0 ≡ c.args.column = sym (ap (λ entry. entry.0) read)
     ∙ place.same c.index_mut.result.now in
     record {
-      rising = rw column
-          (set_rises row.items c.self.invariant.rising c.args.column c.args.at place w);
+      sorted = rw column
+          (set_rises row.items c.self.invariant.sorted c.args.column c.args.at place w);
       block = rw (length-set row.items c.args.at
           (c.index_mut.result.now.0, w)) c.self.invariant.block;
     }
@@ -39,18 +36,18 @@ returns g c =
     let row = c.self.inside.entries in
     let place = rw (
       ← c.self.view_is,
-      entries-from_sorted nat_cmp row.items c.self.invariant.rising,
-    ) at c.requires.place in
+      entries-from_sorted nat_cmp row.items c.self.invariant.sorted,
+    ) at c.requires.found in
     let read = get_or_from_slice_get row.items c.args.at _ c.index_mut.result.now
     c.index_mut.ensures.found in
     let column : c.index_mut.result.now.0 ≡ c.args.column = sym (ap (λ entry. entry.0) read)
     ∙ place.same c.index_mut.result.now in
-    let found = get_at row.items c.self.invariant.rising c.args.column c.args.at place
+    let found = get_at row.items c.self.invariant.sorted c.args.column c.args.at place
     c.index_mut.result.now in (
       (
         refl,
         λ w. rw (column, ← c.self.view_is)
-            (set_is row.items c.self.invariant.rising c.args.column c.args.at place w),
+            (set_is row.items c.self.invariant.sorted c.args.column c.args.at place w),
       ),
       record {
         writes_back = tt;

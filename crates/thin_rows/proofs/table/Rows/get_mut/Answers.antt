@@ -1,4 +1,4 @@
--- Proves the contract of `get_mut`, which borrows one row of the table.
+-- A write to the borrowed row changes this row alone.
 use Rattle.std.proofs.Common.{◌≡◌, ap, slice_index_or, slice_set, sym, ◌∙◌}
 use Rattle.std.proofs.lemmas.List.{set-get_or}
 use Rattle.std.proofs.lemmas.Option.{get_or_from_slice_get}
@@ -8,8 +8,6 @@ use borrow.Follows.Closed.{read_of}
 use Rattle.thin_rows.specs.Table.{value_at}
 use Rattle.thin_rows.proofs.table.Rows.get_mut.Goals as goal
 
--- If there is an entry at `row` and `column`, the returned reference borrows the value of this
--- entry. Writing through the reference changes nothing else in the table.
 pub returns : goal.returns
 returns g c =
     let rows = c.self.inside.rows.items in

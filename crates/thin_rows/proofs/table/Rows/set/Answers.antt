@@ -1,5 +1,4 @@
--- Proves the contract of `set` on a table, which calls `set` on a row. If the call on the row
--- fails, the table does not change.
+-- If `set` fails on the row, the table does not change.
 use Rattle.std.proofs.Common.{◌≡◌, ◌+◌, subst, ℕ, List, OnErr, Result, Ok, Err, Some, slice_get, slice_set, sym, ap, ◌∙◌}
 use Rattle.std.proofs.lemmas.List.{set-get_or}
 use Rattle.std.proofs.lemmas.Option.{get_or_from_slice_get}
@@ -8,11 +7,10 @@ use Rattle.std.specs.FinMap as map
 use Rattle.thin_vec.specs.Growth.{doubling, ruled_capacity}
 use Rattle.thin_vec.specs.List.Capacity.{TellsOverflow, causes}
 use Rattle.thin_rows.specs.EntryType.{entry_type}
-use Rattle.thin_rows.specs.Table.{row_of}
+use Rattle.thin_rows.specs.Table.{row_at}
 use Rattle.thin_rows.proofs.table.Rows.set.Goals as goal
 
--- Suppose that a failed call leaves the item at index `i` of the list `xs` unchanged (`new ≡ old`).
--- If `result` is an error, then writing `new` to index `i` does not change `xs`.
+-- Writing back an item that a failed call left unchanged does not change the list.
 left : {X Y E : Type 0} (result : Result Y E) (xs : List X) (i : ℕ) (old new : X)
     → slice_get xs i ≡ Some old → OnErr result (new ≡ old) → OnErr result (slice_set xs i new ≡ xs)
 left (Ok _) xs i old new there same = tt
@@ -28,7 +26,7 @@ returns-clause-err g c =
 pub returns-clause-overflow : goal.returns-clause-overflow
 returns-clause-overflow g c =
     let table = c.self.inside.rows.items in
-    let there : row_of table c.args.row ≡ c.index_mut.result.now =
+    let there : row_at table c.args.row ≡ c.index_mut.result.now =
     get_or_from_slice_get table c.args.row c.index_mut.result.now map.empty
     c.index_mut.ensures.found in
     rw (← c.self.view_is)

@@ -1,5 +1,4 @@
--- Proves the contract of `with_rows` from the contract of `with_capacity`. The item types in both
--- contracts have the same size and alignment.
+-- `Row` and the type in the contract of `with_capacity` have the same size and alignment.
 use Rattle.std.proofs.Common.{◌≡◌, ◌∙◌, ap, arith, refl, replicate}
 use Rattle.std.specs.FinMap as map
 use Rattle.thin_rows.proofs.RowTypeLemmas.{error_tells, made_tells}
