@@ -10,20 +10,15 @@ use prog.Routine.{Routine}
 use types.Logic.{Logic, sem}
 use contract.Monad.{Fun}
 use types.Kit.{‵, raw, ◌⊛◌, some, later, ◌$◌, ◌∵◌, !, qed, move, keep, use0, use1, split, join, pick, fjoin, feq_i, feq_l, check, await, updating, now as at_once, done}
-use denote.RattleType.{RattleType}
 use denote.Memory.{hidden_shr}
 use denote.Builtin.{unit}
 use denote.Steps.{nothing, only}
 use denote.Triple.Statement.{Contract}
 use denote.Triple.Spec.{triple_of}
 use Rattle.std.proofs.alloc.Calls.{Answer}
-use Rattle.thin_testing.specs.contracts.refusing.Counts as CT
+use Rattle.thin_testing.proofs.Asks.{Row}
 use Rattle.thin_testing.specs.contracts.refusing.granted as GR
 use Rattle.thin_testing.specs.contracts.refusing.returned as RE
-
--- `Row` is the type `Counts`.
-abbrev pub Row : RattleType
-Row = CT.the_row
 
 module _ {M : Type 1} {𝓤 : Ura M} (𝓛 : Logic 𝓤) (at_mem : Memory → SProp 𝓤)
     (run : Routine → Fun 𝓤) where

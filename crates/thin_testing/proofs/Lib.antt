@@ -1,4 +1,4 @@
--- These lemmas are about calls to `refuses`, `granted` and `returned`. The hand-written proofs of
--- the allocator `Refusing` use them.
+-- Lemmas about calls to `refuses`, `granted` and `returned`, for the hand-written proofs of the
+-- methods of `Refusing`.
 mod Asks
 mod Counting

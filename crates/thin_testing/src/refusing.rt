@@ -1,6 +1,7 @@
 //! Defines `Refusing`, an allocator for tests that wraps another allocator, `inner`. It refuses one
 //! request, which the test chooses, and passes all other requests on to `inner`. A request is a
-//! call to `allocate`, `grow` or `shrink`.
+//! call to `allocate`. The methods `grow` and `shrink` are those of the trait: each makes one
+//! request, for a new block, and then frees the old one. So no block grows in place.
 //!
 //! Pass the allocator by reference, as `&Refusing<Global>`. Such a reference is itself an
 //! allocator, and it is `Copy`.
@@ -106,31 +107,5 @@ unsafe impl<B: Allocator> Allocator for Refusing<B> {
     unsafe fn deallocate(&self, ptr: *mut u8, size: usize, align: usize) {
         returned(&self.counts);
         self.inner.deallocate(ptr, size, align);
-    }
-
-    unsafe fn grow<T>(
-        &self,
-        ptr: *mut T,
-        len: usize,
-        old_cap: usize,
-        new_cap: usize,
-    ) -> Result<*mut T, AllocError> {
-        if refuses(&self.counts) {
-            return Err(AllocError);
-        }
-        self.inner.grow(ptr, len, old_cap, new_cap)
-    }
-
-    unsafe fn shrink<T>(
-        &self,
-        ptr: *mut T,
-        len: usize,
-        old_cap: usize,
-        new_cap: usize,
-    ) -> Result<*mut T, AllocError> {
-        if refuses(&self.counts) {
-            return Err(AllocError);
-        }
-        self.inner.shrink(ptr, len, old_cap, new_cap)
     }
 }
