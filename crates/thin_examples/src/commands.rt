@@ -5,7 +5,7 @@ ghost use Rattle.std.specs.Prelude.{◌≡◌, [], ◌∷◌, ◌++◌, All, OnO
 ghost use Rattle.thin_vec.specs.List.Clones.{ClonesEqual};
 ghost use Rattle.thin_runner.specs.Plain.{items_after};
 ghost use Rattle.thin_runner.specs.Replies.{IsGranted};
-ghost use Rattle.thin_runner.specs.Setting.{setting};
+ghost use Rattle.thin_runner.specs.Env.{env};
 
 use std::alloc::Allocator;
 use thin_runner::command::{Command, Reply};
@@ -51,7 +51,7 @@ pub fn carry_out<T: Clone + Eq, A: Allocator + Copy, G: Growth, J: Judge<T>>(
 ) -> Result<(), ThinVecError>
     requires clones_equal { ClonesEqual T.is_clone }
     ensures items { OnOk result (list.new.items ≡ fold
-        (items_after (setting T.is_clone T.is_infallible T.eq J.judging G.rule T.row alloc
+        (items_after (env T.is_clone T.is_infallible T.eq J.model G.rule T.row alloc
         judge.now)) list.old.items commands.items) }
 {
     let mut replies = Vec::new(alloc);

@@ -1,7 +1,7 @@
 -- A judge makes the decisions of the closure that a method such as `retain` calls. This file
 -- defines what a `DivisorJudge` decides for each item, and what it writes to the items.
 use Rattle.std.specs.Prelude.{◌≡◌, ℕ, List, Bool, ◌+◌, ◌/◌, ◌%◌, ◌^◌, ◌==◌}
-use Rattle.thin_runner.specs.Judge.{Judging}
+use Rattle.thin_runner.specs.Judge.{CallbackModel}
 use Rattle.thin_replay.specs.Words.{Spells}
 use Rattle.thin_replay.specs.declared.divisor_judge.DivisorJudge.{DivisorJudge}
 
@@ -23,10 +23,10 @@ written judge x = (x + judge.added) % 2 ^ 64
 abbrev pub chooses : DivisorJudge → ℕ → Bool
 chooses judge x = number_for judge x % judge.divisor == 0
 
--- `judging` specifies the methods of a `DivisorJudge`: what each method returns, what it writes to
+-- `model` specifies the methods of a `DivisorJudge`: what each method returns, what it writes to
 -- the items, and how it changes the judge.
-abbrev pub judging : Judging ℕ DivisorJudge
-judging = record {
+abbrev pub model : CallbackModel ℕ DivisorJudge
+model = record {
   look = λ judge x. (chooses judge x, counted judge);
   keep = λ judge x. (chooses judge x, written judge x, counted judge);
   same = λ judge later kept. (

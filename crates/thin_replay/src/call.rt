@@ -47,7 +47,7 @@ impl Call {
     fn unjudged(command: Command<u64>) -> Call
         ensures command { result.command ≡ command }
     {
-        let judge = DivisorJudge::idle();
+        let judge = DivisorJudge::placeholder();
         Call { command, judge }
     }
 }

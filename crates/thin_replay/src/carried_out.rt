@@ -1,7 +1,7 @@
 //! Carries out a single command with the function `run` of the crate `thin_runner`.
 ghost use Rattle.std.specs.Prelude.{◌≡◌, [], ◌∷◌, IfErr, IfOk, OnErr};
 ghost use Rattle.thin_runner.specs.Headline.{Headline};
-ghost use Rattle.thin_runner.specs.Setting.{setting};
+ghost use Rattle.thin_runner.specs.Env.{env};
 
 use std::alloc::Allocator;
 use thin_runner::command::{Command, Reply};
@@ -18,7 +18,7 @@ pub fn carry_out<T: Clone + Eq, A: Allocator + Copy, G: Growth, J: Judge<T>>(
     judge: &J,
 ) -> Result<Reply<T, A, G>, ThinVecError>
     ensures ok { IfOk result (λ reply. Headline
-        (setting T.is_clone T.is_infallible T.eq J.judging G.rule T.row alloc judge.now)
+        (env T.is_clone T.is_infallible T.eq J.model G.rule T.row alloc judge.now)
         list.old (command ∷ []) [] (reply ∷ []) list.new) }
     ensures err { OnErr result (list.new ≡ list.old) }
     ensures cause { IfErr result (λ cause. cause ≡ ThinVecError.OutOfMemory) }

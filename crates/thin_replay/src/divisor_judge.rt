@@ -29,7 +29,7 @@ impl DivisorJudge {
     ghost use Rattle.thin_replay.specs.DivisorJudge.{SpellsJudge, chooses, counted, number_for, written};
 
     /// Returns a placeholder judge for a command that needs no judge.
-    pub fn idle() -> DivisorJudge {
+    pub fn placeholder() -> DivisorJudge {
         DivisorJudge {
             divisor: 1,
             stride: 0,
@@ -85,9 +85,9 @@ impl DivisorJudge {
 }
 
 impl Judge<u64> for DivisorJudge {
-    ghost use Rattle.thin_replay.specs.DivisorJudge.{judging};
+    ghost use Rattle.thin_replay.specs.DivisorJudge.{model};
 
-    ghost judging = { judging };
+    ghost model = { model };
 
     fn look(&mut self, item: &u64) -> bool {
         self.divides(*item)

@@ -17,8 +17,8 @@ module _ {V : Type 0} where
     pub in_bounds : i < length entries
     pub same : (d : ℕ × V) → (slice_index_or entries i d).0 ≡ column
 
-  -- `IsInsertionPoint entries column i` holds if an entry of `column` would be inserted at index `i`: the
-  -- columns before `i` are less than `column`, and all others are greater.
+  -- `IsInsertionPoint entries column i` holds if an entry of `column` would be inserted at index
+  -- `i`: the columns before `i` are less than `column`, and all others are greater.
   pub record IsInsertionPoint (entries : List (ℕ × V)) (column i : ℕ) : Type 0 where
     pub in_bounds : i ≤ length entries
     pub smaller : (k : ℕ) (d : ℕ × V) → k < i → (slice_index_or entries k d).0 < column

@@ -15,9 +15,9 @@ module _ (V A : RattleType) (allocator : AllocatorGhosts A.Denot) where
   abbrev pub LendsColumn : MutBor (Columns V.Denot) → ℕ → MutBor V.Denot → Fml
   LendsColumn row column r = Lends (the_row V A allocator) V row r (insert row.now column)
 
-  -- `LendsColumnIfSome row column r` says that `r` is a `&mut` to the value of `row` at `column`, or
-  -- `None` if there is no such value. It also says that, after the borrow has ended, this value is
-  -- the final value of the reference, and nothing else in the row has changed.
+  -- `LendsColumnIfSome row column r` says that `r` is a `&mut` to the value of `row` at `column`,
+  -- or `None` if there is no such value. It also says that, after the borrow has ended, this value
+  -- is the final value of the reference, and nothing else in the row has changed.
   abbrev pub LendsColumnIfSome : MutBor (Columns V.Denot) → ℕ → Option (MutBor V.Denot) → Fml
   LendsColumnIfSome row column r = LendsIf (the_row V A allocator) V row r
       (insert row.now column) row.now

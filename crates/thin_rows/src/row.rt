@@ -97,7 +97,8 @@ impl<V, A: Allocator> Row<V, A> {
     }
 
     // Returns a mutable reference to the value at `column`, whose entry must be at the index `at`.
-    // `get_mut` calls it in one arm alone: the loan out of a row is proved here, without the search.
+    // `get_mut` calls it in one arm alone: the loan out of a row is proved here, without the
+    // search.
     fn value_mut(&mut self, column: usize, at: usize) -> &mut V
         requires found { IsFoundAt (map.entries self.old) column at }
         ensures* writes_back { sem 𝓛

@@ -1,5 +1,5 @@
--- If a new list is changed only by pushes and pops, and `m ≥ 1` pushes succeed, then growing the
--- list copies fewer than `2 * m` items in total.
+-- After pushes and pops on a new list, of which `m ≥ 1` pushes succeed, growth has copied fewer
+-- than `2 * m` items.
 use Rattle.std.proofs.Common.{◌≡◌, ℕ, zero, suc, ◌+◌, ◌*◌, ◌<◌, ◌≤◌, List, [], ◌∷◌, length, arith, ap, ◌∙◌, refl, subst, inl, inr}
 use Rattle.std.proofs.lemmas.Bool.{cases_lt}
 use Rattle.std.proofs.lemmas.List.{length-append, length_push}
@@ -11,22 +11,16 @@ use Rattle.thin_vec.specs.Cheap.{IsCheap, IsCheapAt}
 use Rattle.thin_vec.specs.Growth.{KeepsLaw}
 use Rattle.thin_vec.specs.ThinVec.{Thin, IsNew, cost_at}
 use Rattle.thin_vec.proofs.ThinVecLemmas.{cost_at-kept, cost_at-grown}
-use Rattle.thin_runner.specs.Setting.{Setting}
+use Rattle.thin_runner.specs.Env.{Env}
 use Rattle.thin_runner.specs.Steps.{Steps}
-use Rattle.thin_runner.specs.Run.{IsPushOrPop, Runs, accepted}
+use Rattle.thin_runner.specs.Run.{IsPushOrPop, Runs, successful_pushes}
 use Rattle.thin_runner.specs.declared.command.Command.{Command}
 use Rattle.thin_runner.specs.declared.command.Command.TheVariants.{Push, Pop}
 use Rattle.thin_runner.specs.declared.command.Reply.{Reply}
 use Rattle.thin_runner.specs.declared.command.Reply.TheVariants.{Done, Item, Returned, OutOfRange}
 use Rattle.thin_runner.proofs.PaidLemmas.{step-paid}
 
--- `IsAmortised m v` holds if the list `v` meets four conditions:
---
--- - The number of items that were copied when the list grew, and the number of its allocations, are
---   small compared with its capacity (`IsCheap`).
--- - The length of the list is at most its capacity.
--- - The length of the list is at most `m`.
--- - Growing the list has copied fewer than `2 * m` items, or no items at all.
+-- What holds of a list after pushes and pops, of which `m` pushes succeeded.
 pub record IsAmortised {T A : Type 0} (m : ℕ) (v : Thin T A) : Type 0 where
   pub cheap : IsCheap v
   pub room : length v.items ≤ v.capacity
@@ -34,7 +28,6 @@ pub record IsAmortised {T A : Type 0} (m : ℕ) (v : Thin T A) : Type 0 where
   pub copied : (v.cost.grown < 2 * m) ⊎ (v.cost.grown ≡ 0)
 
 module _ {T A : Type 0} where
-  -- Every new list `v` is cheap: growing it has cost nothing so far.
   new-cheap : (v : Thin T A) → IsNew v v.alloc → IsCheap v
   new-cheap v new =
       let blocks : v.cost.blocks ≡ 0 = ap (λ c. c.blocks) new.cost in
@@ -45,8 +38,6 @@ module _ {T A : Type 0} where
         blocks = λ some. absurd (omega (arith, new.capacity, some));
       }
 
-  -- If `v` is a new list, then `IsAmortised 0 v` holds: the list has no items, and no item has been
-  -- copied.
   pub new-amortised : (v : Thin T A) → IsNew v v.alloc → IsAmortised 0 v
   new-amortised v new = record {
     cheap = new-cheap v new;
@@ -55,8 +46,6 @@ module _ {T A : Type 0} where
     copied = inr (ap (λ c. c.grown) new.cost);
   }
 
-  -- If `IsAmortised m w` and `0 < m` hold, then growing the list `w` has copied fewer than `2 * m`
-  -- items.
   pub copied-run : (w : Thin T A) (m : ℕ) → IsAmortised (0 + m) w → 0 < m → w.cost.grown < 2 * m
   copied-run w m a some = below a.copied
     where
@@ -67,29 +56,20 @@ module _ {T A : Type 0} where
   same-amortised : (m : ℕ) (v w : Thin T A) → IsAmortised m v → w ≡ v → IsAmortised (m + 0) w
   same-amortised m v w a same = let e : m + 0 ≡ m = omega arith in rw (same, e) a
 
--- Suppose that a list has the capacity `c` and the cost `k`, where `k.grown` is the number of items
--- that were copied when the list grew. If the list is cheap (`IsCheapAt c k`) and `c ≤ m`, then
--- `k.grown + c < 2 * (m + 1)`.
 copied-growing : (c m : ℕ) (k : Cost) → IsCheapAt c k → c ≤ m → k.grown + c < 2 * (m + 1)
 copied-growing zero m k h few = let z = h.none refl in omega (arith, z.1)
 copied-growing (suc c) m k h few =
     let copied : k.grown < suc c = h.grown (omega arith) in omega (arith, copied, few)
 
--- Let `g` and `g'` be the values of the counter `grown` of a list before and after a call. If
--- `g < 2 * m` or `g = 0`, and `g'` equals `g`, then `g' < 2 * (m + more)` or `g' = 0`.
 copied-kept : (m more : ℕ) {g g' : ℕ} → (g < 2 * m) ⊎ (g ≡ 0) → g' ≡ g
     → (g' < 2 * (m + more)) ⊎ (g' ≡ 0)
 copied-kept m more (inl few) same = inl (omega (arith, few, same))
 copied-kept m more (inr none) same = inr (same ∙ none)
 
-module _ {T A G J : Type 0} (here : Setting T A J) (law : KeepsLaw here.rule) where
-  -- `IsAmortised m v` says that growing the list `v` has copied few items compared with `m`.
-  -- Suppose that it holds. Suppose also that `command` is a push or a pop, gets the reply `reply`,
-  -- and turns `v` into `w`. If `command` is a successful push, then `IsAmortised (m + 1) w` holds.
-  -- Otherwise, `IsAmortised m w` holds.
+module _ {T A G J : Type 0} (here : Env T A J) (law : KeepsLaw here.rule) where
   step-amortised : (m : ℕ) (v w : Thin T A) (command : Command T A G) (reply : Reply T A G)
       → IsPushOrPop command → IsAmortised m v → Steps here v command reply w
-      → IsAmortised (m + accepted (command ∷ []) (reply ∷ [])) w
+      → IsAmortised (m + successful_pushes (command ∷ []) (reply ∷ [])) w
   step-amortised m v w (Push x) Done only a s =
       let was : length v.items ≤ m = a.items in
       let paid : w.cost.grown ≡ (cost_at v w.capacity).grown = ap (λ z. z.cost.grown) s.1.1 in
@@ -128,23 +108,18 @@ module _ {T A G J : Type 0} (here : Setting T A J) (law : KeepsLaw here.rule) wh
   step-amortised m v w Pop reply only a s = absurd s.1
   step-amortised m v w command reply only a s = absurd only
 
-  -- If each successful push of a run counts as 1, and each other command as 0, then the sum is
-  -- `accepted commands replies`, the number of successful pushes.
-  accepted-counted : (commands : List (Command T A G)) (replies : List (Reply T A G))
-      → counted (λ c r. accepted (c ∷ []) (r ∷ [])) commands replies ≡ accepted commands replies
-  accepted-counted (Push x ∷ commands) (Done ∷ replies) =
-      omega (arith, accepted-counted commands replies)
-  accepted-counted (command ∷ commands) (reply ∷ replies) =
-      omega (arith, accepted-counted commands replies)
-  accepted-counted commands replies = refl
+  successful_pushes-counted : (commands : List (Command T A G)) (replies : List (Reply T A G))
+      → counted (λ c r. successful_pushes (c ∷ []) (r ∷ [])) commands replies ≡ successful_pushes commands replies
+  successful_pushes-counted (Push x ∷ commands) (Done ∷ replies) =
+      omega (arith, successful_pushes-counted commands replies)
+  successful_pushes-counted (command ∷ commands) (reply ∷ replies) =
+      omega (arith, successful_pushes-counted commands replies)
+  successful_pushes-counted commands replies = refl
 
-  -- `IsAmortised n w` says that growing the list `w` has copied few items compared with `n`.
-  -- Suppose that `IsAmortised 0 v` holds, that a run of pushes and pops turns the list `v` into
-  -- `w`, and that `n` pushes of this run succeed. Then `IsAmortised n w` holds.
   pub runs-amortised : (v w : Thin T A) (commands : List (Command T A G))
       (replies : List (Reply T A G)) → All IsPushOrPop commands → IsAmortised 0 v
-      → Runs here v commands replies w → IsAmortised (0 + accepted commands replies) w
+      → Runs here v commands replies w → IsAmortised (0 + successful_pushes commands replies) w
   runs-amortised v w commands replies only a run =
-      subst (λ n. IsAmortised (0 + n) w) (accepted-counted commands replies)
-      (runs-keep here IsAmortised IsPushOrPop (λ c r. accepted (c ∷ []) (r ∷ [])) step-amortised
+      subst (λ n. IsAmortised (0 + n) w) (successful_pushes-counted commands replies)
+      (runs-keep here IsAmortised IsPushOrPop (λ c r. successful_pushes (c ∷ []) (r ∷ [])) step-amortised
       0 v w commands replies only a run)

@@ -1,11 +1,11 @@
--- This file proves the main theorem (`Headline`) from the lemmas of the other files.
+-- The main theorem, from the lemmas of the other files.
 use Rattle.std.proofs.Common.{◌≡◌, List, [], ◌++◌, ap, sym, subst, ◌∙◌}
 use Rattle.std.proofs.lemmas.List.{append-nil}
 use Rattle.thin_vec.specs.Growth.{KeepsLaw}
 use Rattle.thin_vec.specs.ThinVec.{IsWithin, Thin}
-use Rattle.thin_runner.specs.Setting.{Setting}
+use Rattle.thin_runner.specs.Env.{Env}
 use Rattle.thin_runner.specs.Headline.{Headline}
-use Rattle.thin_runner.specs.Run.{Runs, accepted}
+use Rattle.thin_runner.specs.Run.{Runs, successful_pushes}
 use Rattle.thin_runner.specs.declared.command.Command.{Command}
 use Rattle.thin_runner.specs.declared.command.Reply.{Reply}
 use Rattle.thin_runner.proofs.AmortisedLemmas.{copied-run, new-amortised, runs-amortised}
@@ -15,10 +15,8 @@ use Rattle.thin_runner.proofs.PlainLemmas.{run-plain}
 use Rattle.thin_runner.proofs.RunLemmas.{HasRun}
 use Rattle.thin_runner.proofs.SlackLemmas.{runs-slack}
 
-module _ {T A G J : Type 0} (here : Setting T A J) (law : KeepsLaw here.rule) where
+module _ {T A G J : Type 0} (here : Env T A J) (law : KeepsLaw here.rule) where
   module _ {old new : Thin T A} where
-    -- If a run has carried out all `commands`, and the list is within its size limits (`IsWithin`)
-    -- before and after the run, then the main theorem (`Headline`) holds.
     pub headline : {commands left : List (Command T A G)} {before after : List (Reply T A G)}
         → IsWithin here.R old → IsWithin here.R new → left ≡ []
         → HasRun here old commands left before after new
@@ -40,7 +38,7 @@ module _ {T A G J : Type 0} (here : Setting T A J) (law : KeepsLaw here.rule) wh
               (runs-paid here law old new commands replies only was.room run).copied;
           amortised = λ only is_new some.
               let none = new-amortised old is_new in
-              copied-run new (accepted commands replies)
+              copied-run new (successful_pushes commands replies)
               (runs-amortised here law old new commands replies only none run) some;
           slack = λ doubles only.
               runs-slack here law doubles old new commands replies only run;

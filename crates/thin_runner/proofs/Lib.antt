@@ -1,11 +1,11 @@
--- These modules contain lemmas about commands, and about runs, which are sequences of commands.
+-- Lemmas about commands, and about runs, which are sequences of commands.
 pub mod HintedLemmas
 mod CommandLemmas
 pub mod RunLemmas
 mod SplicesLemmas
-mod JudgedLemmas
+mod CallbackLemmas
 mod WalkLemmas
-mod JudgedExtractLemmas
+mod CallbackExtractLemmas
 mod MoveLemmas
 pub mod WeakerClonesLemmas
 mod PaidLemmas

@@ -1,6 +1,4 @@
--- Each item that is put into a list or moved within it counts as one move. These lemmas prove that
--- a command adds at most `may_move` moves to the cost of a list, and a run of commands at most
--- `run_may_move` moves.
+-- A command adds at most `may_move` moves to the cost of a list, and a run at most `run_may_move`.
 use Rattle.std.proofs.Common.{Bool, true, false, ◌≡◌, ℕ, ◌+◌, ◌-◌, ◌==◌, ◌<◌, ◌≤◌, List, [], ◌∷◌, ◌++◌, Option, Some, None, length, arith, ap, refl, inl, inr}
 use Rattle.std.proofs.lemmas.List.{length-append, length-replicate}
 use Rattle.std.specs.Prelude.{◌*◌, ◌⊎◌, drop, take, HoldsAt, replicate, if◌then◌else◌}
@@ -10,14 +8,13 @@ use Rattle.thin_vec.specs.Cost.{growing, no_cost}
 use Rattle.thin_vec.specs.Growth.{Rule}
 use Rattle.thin_vec.specs.ThinVec.{Thin, cost_shrunk}
 use Rattle.thin_vec.proofs.ThinVecLemmas.{cost_at-moves}
-use Rattle.thin_runner.specs.Setting.{Setting}
+use Rattle.thin_runner.specs.Env.{Env}
 use Rattle.thin_runner.specs.Steps.{Steps}
-use Rattle.thin_runner.specs.commands.Items.{Grows, edited}
+use Rattle.thin_runner.specs.commands.Items.{ReservesAndSets, set_capacity, set_items}
 use Rattle.thin_runner.specs.commands.Many.{RefusesClone}
 use Rattle.thin_runner.specs.commands.Splices.{Replaces, StopsBetween}
 use Rattle.thin_runner.specs.declared.hinted.Hinted.{Hinted}
 use Rattle.thin_vec.specs.declared.ThinVecError.{ThinVecError}
-use Rattle.thin_runner.proofs.CommandLemmas.{grown}
 use Rattle.thin_runner.specs.Hinted.{hinted_items}
 use Rattle.thin_runner.specs.Run.{Runs, may_move, run_may_move}
 use Rattle.thin_runner.specs.declared.command.Command.{Command}
@@ -25,33 +22,22 @@ use Rattle.thin_runner.specs.declared.command.Command.TheVariants.{Push, Pop, In
 use Rattle.thin_runner.specs.declared.command.Reply.{Reply}
 use Rattle.thin_runner.specs.declared.command.Reply.TheVariants.{Answers, Done, Item, List as Made, Other, Returned, Refused, Stopped, OutOfRange}
 
--- A list of `k - 1` copies of `x` has at most `k` items.
 few-repeats : {T : Type 0} (k : ℕ) (x : T) → length (replicate (k - 1) x) ≤ k
 few-repeats k x = omega (arith, length-replicate (k - 1) x)
 
 module _ {T A : Type 0} (v w : Thin T A) where
-  -- Suppose that the lists `w` and `u` are equal, and that the costs of `u` and `v` count the same
-  -- number of moves. Then, for every number `k`, the cost of `w` counts at most `k` more moves than
-  -- the cost of `v`.
   same-moves : (u : Thin T A) (k : ℕ) → w ≡ u → u.cost.moves ≡ v.cost.moves
       → w.cost.moves ≤ v.cost.moves + k
   same-moves u k e same = omega (arith, ap (λ z. z.cost.moves) e, same)
 
-  -- Suppose that a call turned the list `v` into `w`: it set the items to `xs` and added `m` moves
-  -- to the cost. Then the moves counted in `w` exceed those counted in `v` by at most `m`.
-  edited-moves : (xs : List T) (m : ℕ) → w ≡ edited v xs m → w.cost.moves ≤ v.cost.moves + m
-  edited-moves xs m e = omega (arith, ap (λ z. z.cost.moves) e)
+  set_items-moves : (xs : List T) (m : ℕ) → w ≡ set_items v xs m → w.cost.moves ≤ v.cost.moves + m
+  set_items-moves xs m e = omega (arith, ap (λ z. z.cost.moves) e)
 
-  -- Suppose that a call turned the list `v` into `w`: it set the items and the capacity, and added
-  -- `m` moves to the cost. Then the moves counted in `w` exceed those counted in `v` by at most
-  -- `m`.
-  grown-moves : (xs : List T) (m : ℕ) → w ≡ grown v w.capacity xs m
+  grown-moves : (xs : List T) (m : ℕ) → w ≡ set_items (set_capacity v w.capacity) xs m
       → w.cost.moves ≤ v.cost.moves + m
   grown-moves xs m e = omega (arith, ap (λ z. z.cost.moves) e, cost_at-moves v w.capacity)
 
   module _ (rule : Rule) (R : RattleType) (a b : ℕ) where
-    -- If a splice replaces the items `a..b` of the list `v` with at most `k` items `placed`, then
-    -- it adds at most `k` moves, plus at most two moves for each item after the range.
     spliced-moves : (placed : List T) (most k : ℕ) → Replaces rule R v a b placed most w
         → length placed ≤ k → w.cost.moves ≤ v.cost.moves + (2 * (length v.items - b) + k)
     spliced-moves placed most k f few =
@@ -65,9 +51,6 @@ module _ {T A : Type 0} (v w : Thin T A) where
           few,
         )
 
-    -- If a splice that replaces the range `a..b` with the items `xs` of an iterator fails, then it
-    -- adds at most `length xs` moves to the cost, plus at most two moves for each item after the
-    -- range.
     stopped-moves : (xs held : List T) (lower : ℕ) (cause : ThinVecError) (in_hand : Option T)
         (rest : Hinted T A) → StopsBetween rule R v a b xs held lower cause in_hand rest w
         → w.cost.moves ≤ v.cost.moves + (2 * (length v.items - b) + length xs)
@@ -76,8 +59,6 @@ module _ {T A : Type 0} (v w : Thin T A) where
         spliced-moves s.placed (lower + length xs) (length xs) s.filled
         (omega (arith, ap length s.all, length-append s.placed others))
 
--- A call to `shrink_to_fit` does not increase the number of moves. If the call frees the allocation
--- of an empty list, this number becomes 0.
 shrunk-moves : {T A : Type 0} (v : Thin T A) → (cost_shrunk v).moves ≤ v.cost.moves
 shrunk-moves v = go (length v.items == v.capacity) (length v.items == 0)
   where
@@ -87,22 +68,18 @@ shrunk-moves v = go (length v.items == v.capacity) (length v.items == 0)
     go false true = omega arith
     go false false = omega arith
 
-module _ {T A J : Type 0} (here : Setting T A J) (v w : Thin T A) where
-  -- If a call that clones at most `k` items `sources` fails, then it adds at most `k` moves to the
-  -- cost of the list.
+module _ {T A J : Type 0} (here : Env T A J) (v w : Thin T A) where
   refused-moves : (k : ℕ) (sources : List T) (cause : ThinVecError) → length sources ≤ k
       → RefusesClone here v k sources cause w → w.cost.moves ≤ v.cost.moves + k
   refused-moves k sources cause few r = stopped r.2
     where
       stopped : (w ≡ v) ⊎ ((at : ℕ) × (at < length sources)
-          × HoldsAt (λ x. ¬ (here.infallible x)) sources at × Grows here v k v.items at w)
+          × HoldsAt (λ x. ¬ (here.infallible x)) sources at × ReservesAndSets here v k v.items at w)
           → w.cost.moves ≤ v.cost.moves + k
       stopped (inl e) = same-moves v w v k e refl
       stopped (inr s) = omega (arith, few, s.1, grown-moves v w v.items s.0 s.3.1)
 
-module _ {T A G J : Type 0} (here : Setting T A J) where
-  -- If `command` turns the list `v` into `w` and gets the reply `reply`, then it adds at most
-  -- `may_move` moves to the cost of the list.
+module _ {T A G J : Type 0} (here : Env T A J) where
   pub step-moves : (v w : Thin T A) (command : Command T A G) (reply : Reply T A G)
       → Steps here v command reply w
       → w.cost.moves ≤ v.cost.moves + may_move here v.items command reply
@@ -112,8 +89,8 @@ module _ {T A G J : Type 0} (here : Setting T A J) where
   step-moves v w Pop (Item o) s = same-moves v w _ 0 s.1.2 refl
   step-moves v w (Insert i x) Done s = grown-moves v w _ _ s.1.1
   step-moves v w (Insert i x) (Returned y cause) s = same-moves v w v 0 s.1.1.2 refl
-  step-moves v w (Remove i) (Item (Some x)) s = edited-moves v w _ _ s.1.1
-  step-moves v w (SwapRemove i) (Item (Some x)) s = edited-moves v w _ _ s.1.1
+  step-moves v w (Remove i) (Item (Some x)) s = set_items-moves v w _ _ s.1.1
+  step-moves v w (SwapRemove i) (Item (Some x)) s = set_items-moves v w _ _ s.1.1
   step-moves v w (Set i x) (Item (Some y)) s = same-moves v w _ 0 s.1.1 refl
   step-moves v w (Truncate k) Done s = same-moves v w _ 0 s.1 refl
   step-moves v w Clear Done s = same-moves v w _ 0 s.1 refl
@@ -147,14 +124,14 @@ module _ {T A G J : Type 0} (here : Setting T A J) where
   step-moves v w (SplitOff i) (Refused cause) s = same-moves v w v 0 s.1.2 refl
   step-moves v w Clone (Made copy) s = same-moves v w v 0 s.1.2 refl
   step-moves v w Clone (Refused cause) s = same-moves v w v 0 s.1.2 refl
-  step-moves v w Retain Done s = edited-moves v w _ _ s.1
-  step-moves v w RetainMut Done s = edited-moves v w _ _ s.1
-  step-moves v w Dedup Done s = edited-moves v w _ _ s.1
-  step-moves v w DedupBy Done s = edited-moves v w _ _ s.1
-  step-moves v w DedupByKey Done s = edited-moves v w _ _ s.1
-  step-moves v w (Drain a b steps) (Answers answers) s = edited-moves v w _ _ s.1.1
+  step-moves v w Retain Done s = set_items-moves v w _ _ s.1
+  step-moves v w RetainMut Done s = set_items-moves v w _ _ s.1
+  step-moves v w Dedup Done s = set_items-moves v w _ _ s.1
+  step-moves v w DedupBy Done s = set_items-moves v w _ _ s.1
+  step-moves v w DedupByKey Done s = set_items-moves v w _ _ s.1
+  step-moves v w (Drain a b steps) (Answers answers) s = set_items-moves v w _ _ s.1.1
   step-moves v w (Drain a b steps) (Refused cause) s = same-moves v w v 0 s.1.2 refl
-  step-moves v w (ExtractIf a b k) (Answers answers) s = edited-moves v w _ _ s.1.1
+  step-moves v w (ExtractIf a b k) (Answers answers) s = set_items-moves v w _ _ s.1.1
   step-moves v w (ExtractIf a b k) (Refused cause) s = same-moves v w v 0 s.1.2 refl
   step-moves v w (Splice a b steps xs lower) (Answers answers) s =
       let most = lower + length xs.items in
@@ -164,8 +141,6 @@ module _ {T A G J : Type 0} (here : Setting T A J) where
   step-moves v w (Splice a b steps xs lower) (Refused cause) s = same-moves v w v 0 s.1.2 refl
   step-moves v w command reply s = absurd s.1
 
-  -- If a run of `commands` turns the list `v` into `w`, then it adds at most `run_may_move` moves
-  -- to the cost of the list. This is the sum of the bounds for its commands.
   pub runs-moves : (v w : Thin T A) (commands : List (Command T A G))
       (replies : List (Reply T A G)) (run : Runs here v commands replies w)
       → w.cost.moves ≤ v.cost.moves + run_may_move here v w commands replies run

@@ -1,6 +1,5 @@
--- A list is cheap (`IsCheap`) if growing it has cost little. A cheap list is still cheap after a
--- sequence of commands that contains neither `ReserveExact` nor `ShrinkToFit`. The number of items
--- that growth copies during these commands is at most the increase of the capacity.
+-- Without `ReserveExact` and `ShrinkToFit`, a cheap list stays cheap, and growth copies at most as
+-- many items as the capacity increases.
 use Rattle.std.proofs.Common.{◌≡◌, ℕ, suc, ◌+◌, ◌-◌, ◌^◌, ◌<◌, ◌≤◌, List, [], ◌∷◌, ◌++◌, Some, None, length, arith, ap, sym, subst, ◌∙◌, refl, inl, inr}
 use Rattle.std.proofs.lemmas.Bool.{cases_lt}
 use Rattle.std.proofs.lemmas.List.{length-append, length-set, length_push, length-drop, length-take}
@@ -8,8 +7,8 @@ use Rattle.std.proofs.lemmas.List.Edits.{length-insert}
 use Rattle.std.specs.List.{AllZip, AppendsClones, remove_range, swap_remove, slice_index_or}
 use Rattle.thin_vec.specs.List.Clones.{IsResized}
 use Rattle.thin_runner.specs.commands.Filters.{same_key}
-use Rattle.thin_runner.proofs.JudgedExtractLemmas.{few-extracted}
-use Rattle.thin_runner.proofs.JudgedLemmas.{few-asked, few-pairs, looks, tells}
+use Rattle.thin_runner.proofs.CallbackExtractLemmas.{few-extracted}
+use Rattle.thin_runner.proofs.CallbackLemmas.{few-test_each, few-pairs, looks, tells}
 use Rattle.thin_runner.proofs.RunLemmas.{runs-keep}
 use Rattle.std.specs.Prelude.{◌⊎◌, All, HoldsAt, drop, remove, slice_set, take}
 use Rattle.std.specs.Option.{option_to_list}
@@ -18,10 +17,11 @@ use Rattle.thin_vec.specs.Cheap.{IsCheap, IsCheapAt}
 use Rattle.thin_vec.specs.Growth.{KeepsLaw}
 use Rattle.thin_vec.specs.ThinVec.{Thin, capacity_for, cost_at}
 use Rattle.thin_vec.proofs.ThinVecLemmas.{cap-kept, cap-grown, cheap-regrown, cost_at-copied}
-use Rattle.thin_runner.specs.Setting.{Setting}
+use Rattle.thin_runner.specs.Env.{Env}
 use Rattle.thin_runner.specs.Steps.{Steps}
-use Rattle.thin_runner.specs.commands.Items.{Grows}
+use Rattle.thin_runner.specs.commands.Items.{ReservesAndSets}
 use Rattle.thin_runner.specs.commands.Many.{RefusesClone}
+use Rattle.thin_runner.specs.commands.Splices.{Replaces}
 use Rattle.thin_vec.specs.declared.ThinVecError.{ThinVecError}
 use Rattle.thin_runner.specs.Run.{KeepsCheap, Runs}
 use Rattle.thin_runner.specs.declared.command.Command.{Command}
@@ -29,8 +29,7 @@ use Rattle.thin_runner.specs.declared.command.Command.TheVariants.{Push, Pop, In
 use Rattle.thin_runner.specs.declared.command.Reply.{Reply}
 use Rattle.thin_runner.specs.declared.command.Reply.TheVariants.{Answers, Done, Item, List as Made, Other, Returned, Refused, Stopped, OutOfRange}
 
--- `IsCheapAt c k` depends only on `k.blocks` and `k.grown`. If `k'` has the same two numbers, then
--- `IsCheapAt c k` implies `IsCheapAt c k'`.
+-- `IsCheapAt c k` reads only the counters `blocks` and `grown` of `k`.
 cheap-same : (c : ℕ) (k k' : Cost) → k'.blocks ≡ k.blocks → k'.grown ≡ k.grown
     → IsCheapAt c k → IsCheapAt c k'
 cheap-same c k k' blocks grown h = record {
@@ -42,22 +41,16 @@ cheap-same c k k' blocks grown h = record {
       omega (arith, same, b);
 }
 
--- `IsPaid v w` bounds the cost of the calls that turned the list `v` into `w`. If `v` is cheap, so
--- is `w`. Growth copied at most `w.capacity - v.capacity` items. The items of `w` fit into its
--- capacity.
+-- What holds of a call, or of a run, that turned the list `v` into `w`.
 pub record IsPaid {T A : Type 0} (v w : Thin T A) : Type 0 where
   pub cheap : IsCheap v → IsCheap w
   pub copied : w.cost.grown + v.capacity ≤ v.cost.grown + w.capacity
   pub room : length w.items ≤ w.capacity
 
 module _ {T A : Type 0} where
-  -- `IsPaid v w` bounds the cost of turning the list `v` into the list `w`. If the items of `v` fit
-  -- into its capacity, then `IsPaid v v` holds.
   pub none-paid : (v : Thin T A) → length v.items ≤ v.capacity → IsPaid v v
   none-paid v room = record { cheap = λ c. c; copied = omega arith; room = room }
 
-  -- `IsPaid v w` bounds the cost of turning the list `v` into the list `w`. If `IsPaid v u` and
-  -- `IsPaid u w` hold, then `IsPaid v w` also holds.
   pub join-paid : {v u w : Thin T A} → IsPaid v u → IsPaid u w → IsPaid v w
   join-paid p q = record {
     cheap = λ c. q.cheap (p.cheap c);
@@ -66,15 +59,9 @@ module _ {T A : Type 0} where
   }
 
 module _ {T A : Type 0} (v w : Thin T A) (room : length v.items ≤ v.capacity) where
-  -- If the lists `w` and `v` are equal, and the items of `v` fit into its capacity, then the cost
-  -- bound `IsPaid v w` holds.
   same-paid : w ≡ v → IsPaid v w
   same-paid e = subst (IsPaid v) (sym e) (none-paid v room)
 
-  -- `IsPaid v w` bounds the cost of turning the list `v` into the list `w`. Suppose that `w` equals
-  -- `u`, that `u` and `v` have the same capacity and the same counters `blocks` and `grown`, and
-  -- that `u` has at most as many items as `v`. If the items of `v` fit into its capacity, then
-  -- `IsPaid v w` holds.
   kept-paid : (u : Thin T A) → w ≡ u → u.capacity ≡ v.capacity
       → u.cost.blocks ≡ v.cost.blocks → u.cost.grown ≡ v.cost.grown
       → length u.items ≤ length v.items → IsPaid v w
@@ -87,10 +74,9 @@ module _ {T A : Type 0} (v w : Thin T A) (room : length v.items ≤ v.capacity) 
         room = omega (arith, room, few, cap);
       })
 
-module _ {T A J : Type 0} (here : Setting T A J) (law : KeepsLaw here.rule) (v w : Thin T A)
+module _ {T A J : Type 0} (here : Env T A J) (law : KeepsLaw here.rule) (v w : Thin T A)
     (room : length v.items ≤ v.capacity) where
-  -- If a call turns the list `v` into `w` by reserving room for `n` more items and adding at most
-  -- `n` items, and the items of `v` fit into its capacity, then the cost bound `IsPaid v w` holds.
+  -- A call that reserves room for `n` more items and adds at most `n`.
   ruled-paid : (u : Thin T A) (n : ℕ) → capacity_for here.rule here.R v n ≡ Some w.capacity
       → w ≡ u → u.cost.blocks ≡ (cost_at v w.capacity).blocks
       → u.cost.grown ≡ (cost_at v w.capacity).grown
@@ -113,18 +99,20 @@ module _ {T A J : Type 0} (here : Setting T A J) (law : KeepsLaw here.rule) (v w
         ];
       }
 
-  -- Suppose that a call that needs room for `n` more items and clones the items `sources` fails
-  -- with `cause`, and turns the list `v` into `w`. If the items of `v` fit into the capacity of
-  -- `v`, then the cost bound `IsPaid v w` holds.
   refused-paid : (n : ℕ) (sources : List T) (cause : ThinVecError)
       → RefusesClone here v n sources cause w → IsPaid v w
   refused-paid n sources cause r = stopped r.2
     where
       stopped : (w ≡ v) ⊎ ((at : ℕ) × (at < length sources)
-          × HoldsAt (λ x. ¬ (here.infallible x)) sources at × Grows here v n v.items at w)
+          × HoldsAt (λ x. ¬ (here.infallible x)) sources at × ReservesAndSets here v n v.items at w)
           → IsPaid v w
       stopped (inl e) = same-paid v w room e
       stopped (inr s) = ruled-paid _ n s.3.0 s.3.1 refl refl (omega arith)
+
+  placed-paid : (a b : ℕ) (placed : List T) (most : ℕ)
+      → Replaces here.rule here.R v a b placed most w → IsPaid v w
+  placed-paid a b placed most f =
+      record { cheap = f.keeps.cheap; copied = f.cost.copied; room = f.keeps.within.1.room }
 
 -- Each lemma of this module bounds the length of a changed list, such as `take k xs`.
 module _ {T : Type 0} where
@@ -169,9 +157,7 @@ module _ {T : Type 0} where
       let count = zipped-more clones more a.0 a.2 in
       omega (arith, ap length a.1, length-append xs a.0, count)
 
-module _ {T A G J : Type 0} (here : Setting T A J) (law : KeepsLaw here.rule) where
-  -- If a command other than `ReserveExact` and `ShrinkToFit` turns the list `v` into `w`, then the
-  -- cost bound `IsPaid v w` holds.
+module _ {T A G J : Type 0} (here : Env T A J) (law : KeepsLaw here.rule) where
   pub step-paid : (v w : Thin T A) (command : Command T A G) (reply : Reply T A G)
       → KeepsCheap command → length v.items ≤ v.capacity → Steps here v command reply w
       → IsPaid v w
@@ -211,10 +197,9 @@ module _ {T A G J : Type 0} (here : Setting T A J) (law : KeepsLaw here.rule) wh
   step-paid v w (ExtendFromSlice xs) (Refused cause) keeps room s =
       refused-paid here law v w room (length xs.items) xs.items cause s.1.1
   step-paid v w (Extend xs lower) Done keeps room s =
-      record { cheap = s.1.cheap; copied = s.1.cost.copied; room = s.1.within.room }
+      placed-paid here law v w room _ _ _ _ s.1
   step-paid v w (Extend xs lower) (Stopped answers cause held in_hand rest) keeps room s =
-      let filled = s.1.1.filled in
-      record { cheap = filled.cheap; copied = filled.cost.copied; room = filled.within.room }
+      placed-paid here law v w room _ _ _ _ s.1.1.filled
   step-paid v w (Append given) (Other back None) keeps room s =
       let few = all-more v.items given.items in
       ruled-paid here law v w room _ (length given.items) s.1.1.0 s.1.1.1 refl refl few
@@ -225,35 +210,32 @@ module _ {T A G J : Type 0} (here : Setting T A J) (law : KeepsLaw here.rule) wh
   step-paid v w Clone (Made copy) keeps room s = same-paid v w room s.1.2
   step-paid v w Clone (Refused cause) keeps room s = same-paid v w room s.1.2
   step-paid v w Retain Done keeps room s =
-      let few = few-asked (looks here.judging.look) here.judge v.items in
+      let few = few-test_each (looks here.model.look) here.judge v.items in
       kept-paid v w room _ s.1 refl refl refl few
   step-paid v w RetainMut Done keeps room s =
-      kept-paid v w room _ s.1 refl refl refl (few-asked here.judging.keep here.judge v.items)
+      kept-paid v w room _ s.1 refl refl refl (few-test_each here.model.keep here.judge v.items)
   step-paid v w Dedup Done keeps room s =
       let few = few-pairs (tells here.eq here.judge) here.judge v.items in
       kept-paid v w room _ s.1 refl refl refl few
   step-paid v w DedupBy Done keeps room s =
-      kept-paid v w room _ s.1 refl refl refl (few-pairs here.judging.same here.judge v.items)
+      kept-paid v w room _ s.1 refl refl refl (few-pairs here.model.same here.judge v.items)
   step-paid v w DedupByKey Done keeps room s =
-      let few = few-pairs (same_key here.judging.key) here.judge v.items in
+      let few = few-pairs (same_key here.model.key) here.judge v.items in
       kept-paid v w room _ s.1 refl refl refl few
   step-paid v w (Drain i j steps) (Answers answers) keeps room s =
       kept-paid v w room _ s.1.1 refl refl refl (few-drained v.items i j s.0)
   step-paid v w (Drain i j steps) (Refused cause) keeps room s = same-paid v w room s.1.2
   step-paid v w (ExtractIf i j k) (Answers answers) keeps room s =
-      let few = few-extracted here.judging.take here.judge k v.items i j s.0.0 s.0.1 in
+      let few = few-extracted here.model.take here.judge k v.items i j s.0.0 s.0.1 in
       kept-paid v w room _ s.1.1 refl refl refl few
   step-paid v w (ExtractIf i j k) (Refused cause) keeps room s = same-paid v w room s.1.2
   step-paid v w (Splice i j steps xs lower) (Answers answers) keeps room s =
-      record { cheap = s.1.1.cheap; copied = s.1.1.cost.copied; room = s.1.1.within.room }
+      placed-paid here law v w room _ _ _ _ s.1.1
   step-paid v w (Splice i j steps xs lower) (Stopped answers cause held in_hand rest) keeps room s =
-      let filled = s.1.1.filled in
-      record { cheap = filled.cheap; copied = filled.cost.copied; room = filled.within.room }
+      placed-paid here law v w room _ _ _ _ s.1.1.filled
   step-paid v w (Splice i j steps xs lower) (Refused cause) keeps room s = same-paid v w room s.1.2
   step-paid v w command reply keeps room s = absurd s.1
 
-  -- If a run without `ReserveExact` and `ShrinkToFit` turns the list `v` into `w`, and the items of
-  -- `v` fit into its capacity, then `IsPaid v w` holds.
   pub runs-paid : (v w : Thin T A) (commands : List (Command T A G)) (replies : List (Reply T A G))
       → All KeepsCheap commands → length v.items ≤ v.capacity → Runs here v commands replies w
       → IsPaid v w

@@ -1,12 +1,10 @@
--- A run is a sequence of commands with their replies. Suppose that each clone equals its source,
--- and that no command of a run fails. Then two functions on plain lists of items predict the run.
--- For each command, `items_after` computes the items after the command, and `reply_to` computes the
--- reply.
+-- If each clone equals its source, and no command fails, `items_after` and `reply_to` predict a
+-- run.
 use Rattle.std.proofs.Common.{◌≡◌, ℕ, ◌+◌, ◌-◌, ◌&&◌, ◌<◌, ◌≤◌, ◌↔◌, List, [], ◌∷◌, ◌++◌, All, Decides, IsSome, Option, Some, None, length, map, take, drop, true, arith, ap, nat_le, refl, slice_get, sym, take_all, ◌∙◌, inl, inr, append_assoc, length-append}
 use Rattle.std.proofs.lemmas.Bool.{and_from, and_parts, cases_lt, cond-false, cond-true, false_from_ne_true, false≢true, le-leb, leb-true, lt-ltb, ltb-true}
 use Rattle.std.proofs.lemmas.List.{append-nil, replicate-append-replicate}
 use Rattle.std.proofs.lemmas.List.Elements.{All-head, All-tail, recursion_from_All}
-use Rattle.std.proofs.Math.Seq.{take-append_seam, take-length, drop-length}
+use Rattle.std.proofs.Math.Seq.{take-append_seam}
 use Rattle.std.specs.List.{AllByRecursion, AllZip, dedup, each_same, fold, replace_range, scan, swap_remove}
 use Rattle.std.specs.Option.{option_map_or, option_to_list}
 use Rattle.std.specs.Prelude.{replicate, slice_range}
@@ -14,27 +12,25 @@ use Rattle.thin_vec.specs.List.Clones.{ClonesEqual, IsResized}
 use Rattle.thin_vec.specs.Edits.Retain.{Verdicts, left_at, stay}
 use Rattle.thin_vec.specs.ThinVec.{Thin}
 use Rattle.thin_vec.proofs.RetainLemmas.{left_at-append, left_at-stay}
-use Rattle.thin_runner.specs.Setting.{Setting}
-use Rattle.thin_runner.specs.Plain.{granted, in_range, items_after, plain_step, reply_to, says, seen, yields}
+use Rattle.thin_runner.specs.Env.{Env}
+use Rattle.thin_runner.specs.Plain.{reference_step, in_range, items_after, plain_step, reply_to, says, observed, yields}
 use Rattle.thin_runner.specs.Replies.{IsGranted}
 use Rattle.thin_runner.specs.Run.{Runs}
 use Rattle.thin_runner.specs.Steps.{Does, IsInRange, Steps}
-use Rattle.thin_runner.specs.commands.Filters.{around, extracting}
+use Rattle.thin_runner.specs.commands.Filters.{keep_outside, extract_results}
 use Rattle.thin_runner.specs.commands.Room.{made}
 use Rattle.thin_runner.specs.declared.command.Command.{Command}
 use Rattle.thin_runner.specs.declared.command.Command.TheVariants.{Push, Pop, Insert, Remove, SwapRemove, Set, Truncate, Clear, Reserve, ReserveExact, ShrinkToFit, Resize, ExtendFromSlice, Extend, Append, SplitOff, Clone, Retain, RetainMut, Dedup, DedupBy, DedupByKey, Drain, ExtractIf, Splice}
 use Rattle.thin_runner.specs.declared.command.Reply.{Reply}
 use Rattle.thin_runner.specs.declared.command.Reply.TheVariants.{Answers, Done, Item, List as Made, Other, Returned, Refused, Stopped, OutOfRange}
-use Rattle.thin_runner.proofs.JudgedLemmas.{dedup-pairs}
+use Rattle.thin_runner.proofs.CallbackLemmas.{dedup-pairs}
+use Rattle.thin_runner.proofs.SplicesLemmas.{at-end}
 use Rattle.thin_runner.proofs.WalkLemmas.{last-of}
 use Rattle.thin_runner.proofs.WeakerClonesLemmas.{zip-weaker}
 
--- `Some x` never equals `None`, so the equation `Some x ≡ None` implies every statement `B`.
 refused : {X B : Type 0} (x : X) → Some x ≡ None → B
 refused x e = cc
 
--- The Boolean expression `nat_le a b && nat_le b n` is true if and only if the range `a..b` is in
--- bounds for `n` items.
 range-decides : (a b n : ℕ) → Decides (nat_le a b && nat_le b n) ((a ≤ b) × (b ≤ n))
 range-decides a b n = (
   (λ e. let both = and_parts (nat_le a b) (nat_le b n) e in
@@ -43,9 +39,6 @@ range-decides a b n = (
 )
 
 module _ {T A G : Type 0} where
-  -- `IsInRange xs command` holds if the index or the range of `command` is in bounds for the items
-  -- `xs`, or if `command` has neither. The Boolean `in_range xs command` is true if and only if
-  -- `IsInRange xs command` holds.
   in_range-decides : (xs : List T) (command : Command T A G)
       → Decides (in_range xs command) (IsInRange xs command)
   in_range-decides xs (Insert i v) = (leb-true i (length xs), le-leb i (length xs))
@@ -59,9 +52,7 @@ module _ {T A G : Type 0} where
   in_range-decides xs command = ((λ e. tt), (λ e. refl))
 
 module _ {T : Type 0} where
-  -- If a call to `pop` turns the list `xs` into `ys` and returns `o`, then `o` is the last item of
-  -- `xs`, and `ys` contains the items before the last one. If `xs` is empty, then `o` is `None`,
-  -- and `ys` is empty, too.
+  -- `pop` returns the last item, if there is one.
   popped : (xs ys : List T) (o : Option T) → (IsSome o ↔ (0 < length xs))
       → xs ≡ ys ++ option_to_list o
       → (o ≡ slice_get xs (length xs - 1)) × (ys ≡ take (length xs - 1) xs)
@@ -76,22 +67,16 @@ module _ {T : Type 0} where
   popped [] ys None some e = (refl, sym (e ∙ append-nil ys))
   popped (x ∷ xs) ys None some e = absurd (false≢true (some.1 (omega arith)))
 
-  -- If each clone equals its source, and the items of `ys` are clones of the items of `xs`, in
-  -- order, then `ys` equals `xs`.
   zip-equal : {clones : T → T → Type 0} → ClonesEqual clones → (xs ys : List T)
       → AllZip clones xs ys → ys ≡ xs
   zip-equal {clones} equal xs ys z =
       each_same xs ys (zip-weaker clones (λ x y. y ≡ x) equal xs ys z)
 
-  -- If each clone equals its source, and each item of `ys` is a clone of `x`, then each item of
-  -- `ys` equals `x`.
   each-equal : {clones : T → T → Type 0} → ClonesEqual clones → (x : T) (ys : List T)
       → AllByRecursion (clones x) ys → ys ≡ replicate (length ys) x
   each-equal equal x [] e = refl
   each-equal equal x (y ∷ ys) e = λ i. equal x y e.0 i ∷ each-equal equal x ys e.1 i
 
-  -- If each clone equals its source, then resizing the list `xs` to the length `k` with the value
-  -- `x` results in `take k xs ++ replicate (k - length xs) x`.
   resized : (clones : T → T → Type 0) → ClonesEqual clones → (xs : List T) (k : ℕ) (x : T)
       (ys : List T) → IsResized clones xs k x ys → ys ≡ take k xs ++ replicate (k - length xs) x
   resized clones equal xs k x ys r = elim (cases_lt (length xs) k) [
@@ -112,18 +97,9 @@ module _ {T : Type 0} where
         r.shorter less ∙ sym (ap (λ n. take k xs ++ replicate n x) none ∙ append-nil (take k xs))
   ]
 
-  -- If the empty range at the end of the list `xs` is replaced with `ys`, the result is `xs ++ ys`.
-  at-end : (xs ys : List T) → (take (length xs) xs ++ ys) ++ drop (length xs) xs ≡ xs ++ ys
-  at-end xs ys =
-      ap (λ (t : List T). (t ++ ys) ++ drop (length xs) xs) (take-length xs)
-      ∙ (ap (λ (t : List T). (xs ++ ys) ++ t) (drop-length xs) ∙ append-nil (xs ++ ys))
-
-  -- Suppose that only the items `a..b` of the list `xs` are tested, and that `verdicts` contains
-  -- the results of these tests. Then removing the rejected items from `xs` has the same result as
-  -- replacing the items `a..b` with the tested items that are kept.
-  left-around : (xs : List T) (a b : ℕ) (verdicts : Verdicts T)
-      → left_at true (around xs a b verdicts) ≡ replace_range xs a b (left_at true verdicts)
-  left-around xs a b verdicts =
+  left-keep_outside : (xs : List T) (a b : ℕ) (verdicts : Verdicts T)
+      → left_at true (keep_outside xs a b verdicts) ≡ replace_range xs a b (left_at true verdicts)
+  left-keep_outside xs a b verdicts =
       let before : List T = take a xs in
       let kept : List T = left_at true verdicts in
       let after : List T = drop b xs in
@@ -131,94 +107,85 @@ module _ {T : Type 0} where
       ∙ ((λ i. left_at-stay before i ++ left_at-append verdicts (stay after) i)
       ∙ ((λ i. before ++ (kept ++ left_at-stay after i)) ∙ sym (append_assoc before kept after)))
 
-module _ {T A G J : Type 0} (here : Setting T A J) (equal : ClonesEqual here.clones) where
-  -- Suppose that each clone equals its source. If `command` is in bounds and turns the list `v`
-  -- into `w` without failing, then `granted` computes the items of `w` and the part of the reply
-  -- that `seen` extracts.
-  does-granted : (v w : Thin T A) (command : Command T A G) (reply : Reply T A G)
+module _ {T A G J : Type 0} (here : Env T A J) (equal : ClonesEqual here.clones) where
+  does-reference_step : (v w : Thin T A) (command : Command T A G) (reply : Reply T A G)
       → IsGranted reply → Does here v command reply w
-      → (seen reply, w.items) ≡ granted here v.items command
-  does-granted v w (Push x) Done ok d = λ j. (says Done, (d.1 j).items)
-  does-granted v w command (Returned y cause) ok d = refused cause ok
-  does-granted v w command (Refused cause) ok d = refused cause ok
-  does-granted v w command (Stopped answers cause held in_hand rest) ok d = refused cause ok
-  does-granted v w Pop (Item o) ok d =
+      → (observed reply, w.items) ≡ reference_step here v.items command
+  does-reference_step v w (Push x) Done ok d = λ j. (says Done, (d.1 j).items)
+  does-reference_step v w command (Returned y cause) ok d = refused cause ok
+  does-reference_step v w command (Refused cause) ok d = refused cause ok
+  does-reference_step v w command (Stopped answers cause held in_hand rest) ok d = refused cause ok
+  does-reference_step v w Pop (Item o) ok d =
       let last = popped v.items w.items o d.0 d.1 in λ j. (says (Item (last.0 j)), last.1 j)
-  does-granted v w (Insert i x) Done ok d = λ j. (says Done, (d.1 j).items)
-  does-granted v w (Remove i) (Item (Some x)) ok d =
+  does-reference_step v w (Insert i x) Done ok d = λ j. (says Done, (d.1 j).items)
+  does-reference_step v w (Remove i) (Item (Some x)) ok d =
       λ j. (says (Item (sym d.0 j)), (d.1 j).items)
-  does-granted v w (SwapRemove i) (Item (Some x)) ok d =
+  does-reference_step v w (SwapRemove i) (Item (Some x)) ok d =
       let left : w.items ≡ option_map_or (swap_remove v.items i) (slice_get v.items i) v.items =
       (λ j. (d.1 j).items) ∙ ap (λ o. option_map_or (swap_remove v.items i) o v.items) (sym d.0) in
       λ j. (says (Item (sym d.0 j)), left j)
-  does-granted v w (Set i x) (Item (Some y)) ok d =
+  does-reference_step v w (Set i x) (Item (Some y)) ok d =
       λ j. (says (Item (sym d.0 j)), (d.1 j).items)
-  does-granted v w (Truncate k) Done ok d = λ j. (says Done, (d j).items)
-  does-granted v w Clear Done ok d = λ j. (says Done, (d j).items)
-  does-granted v w (Reserve k) Done ok d = λ j. (says Done, (d.1 j).items)
-  does-granted v w (ReserveExact k) Done ok d = λ j. (says Done, (d.1 j).items)
-  does-granted v w ShrinkToFit Done ok d = λ j. (says Done, (d j).items)
-  does-granted v w (Resize k x) Done ok d =
+  does-reference_step v w (Truncate k) Done ok d = λ j. (says Done, (d j).items)
+  does-reference_step v w Clear Done ok d = λ j. (says Done, (d j).items)
+  does-reference_step v w (Reserve k) Done ok d = λ j. (says Done, (d.1 j).items)
+  does-reference_step v w (ReserveExact k) Done ok d = λ j. (says Done, (d.1 j).items)
+  does-reference_step v w ShrinkToFit Done ok d = λ j. (says Done, (d j).items)
+  does-reference_step v w (Resize k x) Done ok d =
       let left = resized here.clones equal v.items k x w.items d.0 in λ j. (says Done, left j)
-  does-granted v w (ExtendFromSlice xs) Done ok d =
+  does-reference_step v w (ExtendFromSlice xs) Done ok d =
       let a = d.0 in
       let left : w.items ≡ v.items ++ xs.items =
       a.1 ∙ ap (λ l. v.items ++ l) (zip-equal equal xs.items a.0 a.2) in
       λ j. (says Done, left j)
-  does-granted v w (Extend xs lower) Done ok d =
+  does-reference_step v w (Extend xs lower) Done ok d =
       let left : w.items ≡ v.items ++ xs.items = d.items ∙ at-end v.items xs.items in
       λ j. (says Done, left j)
-  does-granted v w (Append other) (Other back None) ok d =
+  does-reference_step v w (Append other) (Other back None) ok d =
       λ j. (says (Other (d.0 j) None), (d.1.1 j).items)
-  does-granted v w (Append other) (Other back (Some cause)) ok d = refused cause ok
-  does-granted v w (SplitOff i) (Made out) ok d = λ j. (says (Made (d.0 j)), (d.1 j).items)
-  does-granted v w Clone (Made copy) ok d =
+  does-reference_step v w (Append other) (Other back (Some cause)) ok d = refused cause ok
+  does-reference_step v w (SplitOff i) (Made out) ok d = λ j. (says (Made (d.0 j)), (d.1 j).items)
+  does-reference_step v w Clone (Made copy) ok d =
       let same : copy ≡ made here.alloc v.items =
       d.1 ∙ ap (λ l. made here.alloc l) (zip-equal equal v.items copy.items d.0) in
       λ j. (says (Made (same j)), (d.2 j).items)
-  does-granted v w Retain Done ok d = λ j. (says Done, (d j).items)
-  does-granted v w RetainMut Done ok d = λ j. (says Done, (d j).items)
-  does-granted v w Dedup Done ok d =
+  does-reference_step v w Retain Done ok d = λ j. (says Done, (d j).items)
+  does-reference_step v w RetainMut Done ok d = λ j. (says Done, (d j).items)
+  does-reference_step v w Dedup Done ok d =
       let left : w.items ≡ dedup here.eq v.items =
       (λ j. (d j).items) ∙ sym (dedup-pairs here.eq here.judge v.items).1 in
       λ j. (says Done, left j)
-  does-granted v w DedupBy Done ok d = λ j. (says Done, (d j).items)
-  does-granted v w DedupByKey Done ok d = λ j. (says Done, (d j).items)
-  does-granted v w (Drain a b steps) (Answers answers) ok d = λ j. (yields (d.0 j), (d.1 j).items)
-  does-granted v w (ExtractIf a b k) (Answers answers) ok d =
-      let asked = extracting here.judging.take here.judge k (slice_range v.items a b) in
-      let left : w.items ≡ replace_range v.items a b (left_at true asked) =
-      (λ j. (d.1 j).items) ∙ left-around v.items a b asked in
+  does-reference_step v w DedupBy Done ok d = λ j. (says Done, (d j).items)
+  does-reference_step v w DedupByKey Done ok d = λ j. (says Done, (d j).items)
+  does-reference_step v w (Drain a b steps) (Answers answers) ok d = λ j. (yields (d.0 j), (d.1 j).items)
+  does-reference_step v w (ExtractIf a b k) (Answers answers) ok d =
+      let results = extract_results here.model.take here.judge k (slice_range v.items a b) in
+      let left : w.items ≡ replace_range v.items a b (left_at true results) =
+      (λ j. (d.1 j).items) ∙ left-keep_outside v.items a b results in
       λ j. (yields (d.0 j), left j)
-  does-granted v w (Splice a b steps xs lower) (Answers answers) ok d =
+  does-reference_step v w (Splice a b steps xs lower) (Answers answers) ok d =
       λ j. (yields (d.0 j), d.1.items j)
-  does-granted v w command reply ok d = absurd d
+  does-reference_step v w command reply ok d = absurd d
 
-  -- Suppose that each clone equals its source. If `command` turns the list `v` into `w` without
-  -- failing, then `plain_step` computes the items of `w` and the part of the reply that `seen`
-  -- extracts. If `command` is out of bounds, its reply is `OutOfRange`, which is not a failure.
   step-plain : (v w : Thin T A) (command : Command T A G) (reply : Reply T A G)
       → IsGranted reply → Steps here v command reply w
-      → (seen reply, w.items) ≡ plain_step here v.items command
+      → (observed reply, w.items) ≡ plain_step here v.items command
   step-plain v w command (OutOfRange back) ok s =
       let decides = in_range-decides v.items command in
       let out = false_from_ne_true (in_range v.items command) (λ e. s.1 (decides.0 e)) in
       (λ j. (says (OutOfRange (s.0 j)), (s.2 j).items))
-      ∙ sym (cond-false (in_range v.items command) (granted here v.items command)
+      ∙ sym (cond-false (in_range v.items command) (reference_step here v.items command)
       (says (OutOfRange command), v.items) out)
   step-plain v w command reply ok s =
       let inside = (in_range-decides v.items command).1 s.0 in
-      does-granted v w command reply ok s.1
-      ∙ sym (cond-true (in_range v.items command) (granted here v.items command)
+      does-reference_step v w command reply ok s.1
+      ∙ sym (cond-true (in_range v.items command) (reference_step here v.items command)
       (says (OutOfRange command), v.items) inside)
 
-  -- Suppose that each clone equals its source, and that no command of a run fails. Then the final
-  -- items of the list are the result of applying `items_after` for each command, in order. The
-  -- function `reply_to` computes the part of each reply that `seen` extracts.
   pub run-plain : (v w : Thin T A) (commands : List (Command T A G)) (replies : List (Reply T A G))
       → All IsGranted replies → Runs here v commands replies w
       → (w.items ≡ fold (items_after here) v.items commands)
-      × (map seen replies ≡ scan (items_after here) (reply_to here) v.items commands)
+      × (map observed replies ≡ scan (items_after here) (reply_to here) v.items commands)
   run-plain v w [] [] ok run = ((λ j. (run j).items), refl)
   run-plain v w (c ∷ commands) (r ∷ replies) ok run =
       let first = step-plain v run.0 c r (All-head IsGranted r replies ok) run.1.0 in
@@ -226,7 +193,7 @@ module _ {T A G J : Type 0} (here : Setting T A J) (equal : ClonesEqual here.clo
       let items : w.items ≡ fold (items_after here) v.items (c ∷ commands) =
       rest.0 ∙ (λ j. fold (items_after here) (first j).1 commands) in
       let xs : List T = items_after here v.items c in
-      let later : map seen replies ≡ scan (items_after here) (reply_to here) xs commands =
+      let later : map observed replies ≡ scan (items_after here) (reply_to here) xs commands =
       rest.1 ∙ (λ j. scan (items_after here) (reply_to here) (first j).1 commands) in
       (items, (λ j. (first j).0 ∷ later j))
   run-plain v w commands replies ok run = absurd run

@@ -1,5 +1,5 @@
--- If the growth rule is `Doubling`, then the capacity after a run of pushes and pops is at most the
--- largest of 4, the capacity before the run, and twice the greatest length during the run.
+-- With the growth rule `Doubling`, pushes and pops leave a capacity of at most 4, the old
+-- capacity, or twice the greatest length.
 use Rattle.std.proofs.Common.{◌≡◌, ℕ, ◌+◌, ◌*◌, ◌≤◌, max, List, [], ◌∷◌, Some, length, arith, ap, subst, inl, inr, All, ◌∙◌}
 use Rattle.std.proofs.lemmas.Bool.{cases_lt}
 use Rattle.std.proofs.lemmas.List.{length_push}
@@ -8,7 +8,7 @@ use Rattle.thin_vec.specs.Growth.{KeepsLaw, Rule, doubling, ruled_capacity}
 use Rattle.thin_vec.specs.ThinVec.{Thin}
 use Rattle.thin_vec.proofs.FewLemmas.{doubling-most}
 use Rattle.thin_vec.proofs.ThinVecLemmas.{cap-kept}
-use Rattle.thin_runner.specs.Setting.{Setting}
+use Rattle.thin_runner.specs.Env.{Env}
 use Rattle.thin_runner.specs.Steps.{Steps}
 use Rattle.thin_runner.specs.Run.{IsPushOrPop, Runs, peak}
 use Rattle.thin_runner.specs.declared.command.Command.{Command}
@@ -16,21 +16,14 @@ use Rattle.thin_runner.specs.declared.command.Command.TheVariants.{Push, Pop}
 use Rattle.thin_runner.specs.declared.command.Reply.{Reply}
 use Rattle.thin_runner.specs.declared.command.Reply.TheVariants.{Done, Item, Returned, OutOfRange}
 
--- This lemma combines two bounds on the capacity, one for the first step of a run and one for all
--- later steps, into a bound for the whole run.
---
--- The capacity is `before` at the start of the run, `mid` after the first step, and `after` at the
--- end. The length is `len` at the start, `long` after the first step, and at most `rest` from then
--- on.
+-- The bound of the first step and the bound of the rest give the bound of the run.
 slack-join : (before mid after len long rest : ℕ) → mid ≤ max before (max 4 (2 * long))
     → after ≤ max mid (max 4 (2 * rest)) → long ≤ rest
     → after ≤ max before (max 4 (2 * max len rest))
 slack-join before mid after len long rest first later less = omega (arith, first, later, less)
 
-module _ {T A G J : Type 0} (here : Setting T A J) (law : KeepsLaw here.rule)
+module _ {T A G J : Type 0} (here : Env T A J) (law : KeepsLaw here.rule)
     (doubles : here.rule ≡ doubling) where
-  -- If the growth rule is `Doubling`, then the capacity after a push or a pop is at most the
-  -- largest of 4, the old capacity, and twice the new length.
   step-slack : (v w : Thin T A) (command : Command T A G) (reply : Reply T A G)
       → IsPushOrPop command → Steps here v command reply w
       → w.capacity ≤ max v.capacity (max 4 (2 * length w.items))
@@ -56,14 +49,11 @@ module _ {T A G J : Type 0} (here : Setting T A J) (law : KeepsLaw here.rule)
   step-slack v w Pop reply only s = absurd s.1
   step-slack v w command reply only s = absurd only
 
-  -- The length before a run is at most `peak`, which is the greatest length during the run.
   peak-first : (v w : Thin T A) (commands : List (Command T A G)) (replies : List (Reply T A G))
       (run : Runs here v commands replies w) → length v.items ≤ peak here v w commands replies run
   peak-first v w (c ∷ commands) (r ∷ replies) run = omega arith
   peak-first v w commands replies run = omega arith
 
-  -- If the growth rule is `Doubling`, then the capacity after a run of pushes and pops is at most
-  -- the largest of 4, the capacity before the run, and twice the greatest length during the run.
   pub runs-slack : (v w : Thin T A) (commands : List (Command T A G)) (replies : List (Reply T A G))
       → All IsPushOrPop commands → (run : Runs here v commands replies w)
       → w.capacity ≤ max v.capacity (max 4 (2 * peak here v w commands replies run))

@@ -1,10 +1,9 @@
--- A weaker clone relation allows at least the same values as clones of an item. Every run that is
--- possible with a clone relation is possible with any weaker one.
+-- Every run that is possible with a relation of clones is possible with any weaker relation.
 use Rattle.std.proofs.Common.{◌≡◌, ℕ, List, [], ◌∷◌}
 use Rattle.std.specs.List.{AllZip}
 use Rattle.thin_vec.specs.List.Clones.{ClonesEqual, IsResized}
 use Rattle.thin_vec.specs.ThinVec.{Thin}
-use Rattle.thin_runner.specs.Setting.{Setting}
+use Rattle.thin_runner.specs.Env.{Env}
 use Rattle.thin_runner.specs.Run.{Runs}
 use Rattle.thin_runner.specs.Steps.{Steps}
 use Rattle.thin_runner.specs.declared.command.Command.{Command}
@@ -14,16 +13,11 @@ use Rattle.thin_runner.specs.declared.command.Reply.TheVariants.{Done, List as M
 
 module _ {T : Type 0} (clones like : T → T → Type 0)
     (weaker : (x y : T) → clones x y → like x y) where
-  -- Suppose that the relation `like` allows every clone that `clones` allows. If `clones` allows
-  -- the items of `ys` as clones of the items of `xs`, in order, then `like` also allows them.
   pub zip-weaker : (xs ys : List T) → AllZip clones xs ys → AllZip like xs ys
   zip-weaker [] [] z = tt
   zip-weaker (x ∷ xs) (y ∷ ys) z = (weaker x y z.0, zip-weaker xs ys z.1)
   zip-weaker xs ys z = absurd z
 
-  -- Suppose that the relation `like` allows every clone that `clones` allows. If resizing the list
-  -- `xs` to the length `n` with clones of `x` may result in `ys` according to `clones`, then it may
-  -- also result in `ys` according to `like`.
   resized-weaker : (xs ys : List T) (n : ℕ) (x : T) → IsResized clones xs n x ys
       → IsResized like xs n x ys
   resized-weaker xs ys n x r = record {
@@ -32,11 +26,8 @@ module _ {T : Type 0} (clones like : T → T → Type 0)
     len = r.len;
   }
 
-module _ {T A G J : Type 0} (here : Setting T A J) (like : T → T → Type 0)
+module _ {T A G J : Type 0} (here : Env T A J) (like : T → T → Type 0)
     (weaker : (x y : T) → here.clones x y → like x y) where
-  -- The clone relation says which values may be clones of an item. If the relation `like` allows
-  -- every clone that `here.clones` allows, then every step that is possible with `here.clones` is
-  -- also possible with `like`.
   pub step-weaker : (old new : Thin T A) (command : Command T A G) (reply : Reply T A G)
       → Steps here old command reply new
       → Steps (record here { clones = like }) old command reply new
@@ -49,9 +40,6 @@ module _ {T A G J : Type 0} (here : Setting T A J) (like : T → T → Type 0)
       (s.0, (zip-weaker here.clones like weaker old.items copy.items s.1.0, s.1.1, s.1.2))
   step-weaker old new command reply s = s
 
-  -- The clone relation says which values may be clones of an item. If the relation `like` allows
-  -- every clone that `here.clones` allows, then every run that is possible with `here.clones` is
-  -- also possible with `like`.
   pub run-weaker : (old new : Thin T A) (commands : List (Command T A G))
       (replies : List (Reply T A G)) → Runs here old commands replies new
       → Runs (record here { clones = like }) old commands replies new
@@ -61,10 +49,7 @@ module _ {T A G J : Type 0} (here : Setting T A J) (like : T → T → Type 0)
       (run.0, (step-weaker old run.0 c r run.1.0, rest))
   run-weaker old new commands replies run = absurd run
 
--- In this module, each clone equals its source.
-module _ {T A G J : Type 0} (here : Setting T A J) (equal : ClonesEqual here.clones) where
-  -- If a run is possible in the setting `here`, then the same run, with the same lists and replies,
-  -- is also possible in the setting in which every clone must equal its source.
+module _ {T A G J : Type 0} (here : Env T A J) (equal : ClonesEqual here.clones) where
   pub run-equal : (old new : Thin T A) (commands : List (Command T A G))
       (replies : List (Reply T A G)) → Runs here old commands replies new
       → Runs (record here { clones = λ x y. y ≡ x }) old commands replies new

@@ -6,14 +6,14 @@ use Rattle.thin_vec.specs.Cheap.{IsCheap}
 use Rattle.thin_vec.specs.List.Clones.{ClonesEqual}
 use Rattle.thin_vec.specs.Growth.{doubling}
 use Rattle.thin_vec.specs.ThinVec.{IsNew, IsWithin, Thin}
-use Rattle.thin_runner.specs.Setting.{Setting}
-use Rattle.thin_runner.specs.Plain.{items_after, reply_to, seen}
+use Rattle.thin_runner.specs.Env.{Env}
+use Rattle.thin_runner.specs.Plain.{items_after, reply_to, observed}
 use Rattle.thin_runner.specs.Replies.{IsGranted}
-use Rattle.thin_runner.specs.Run.{IsPushOrPop, KeepsCheap, Runs, accepted, peak, run_may_move}
+use Rattle.thin_runner.specs.Run.{IsPushOrPop, KeepsCheap, Runs, successful_pushes, peak, run_may_move}
 use Rattle.thin_runner.specs.declared.command.Command.{Command}
 use Rattle.thin_runner.specs.declared.command.Reply.{Reply}
 
-module _ {T A G J : Type 0} (here : Setting T A J) where
+module _ {T A G J : Type 0} (here : Env T A J) where
   -- `Headline` states the main theorem about a run of `commands` that turned the list `old` into
   -- `new`. The list `after` contains the replies that were in the list `before`, followed by the
   -- replies of the run.
@@ -24,10 +24,10 @@ module _ {T A G J : Type 0} (here : Setting T A J) where
     pub appended : after ≡ before ++ replies
     -- Suppose that each clone equals its source, and that no call failed. Then the final items of
     -- the list are the result of applying `items_after` for each command, in order. The function
-    -- `reply_to` computes the part of each reply that `seen` extracts.
+    -- `reply_to` computes the part of each reply that `observed` extracts.
     pub plain : ClonesEqual here.clones → All IsGranted replies
         → (new.items ≡ fold (items_after here) old.items commands)
-        × (map seen replies ≡ scan (items_after here) (reply_to here) old.items commands)
+        × (map observed replies ≡ scan (items_after here) (reply_to here) old.items commands)
     -- The predicate `Runs` holds for this run, even if calls failed. `Runs` states which replies
     -- are possible, and which items, capacity and cost the list `new` may have.
     pub allowed : Runs here old commands replies new
@@ -46,7 +46,7 @@ module _ {T A G J : Type 0} (here : Setting T A J) where
     -- Suppose that the list was new before the run, and that all commands are pushes and pops. If
     -- `m` pushes succeeded, and `m` is at least 1, then growth has copied fewer than `2 * m` items.
     pub amortised : All IsPushOrPop commands → IsNew old old.alloc
-        → 0 < accepted commands replies → new.cost.grown < 2 * accepted commands replies
+        → 0 < successful_pushes commands replies → new.cost.grown < 2 * successful_pushes commands replies
     -- If the growth rule is `Doubling`, and all commands are pushes and pops, then the capacity
     -- after the run is at most the largest of 4, the capacity before the run, and twice the
     -- greatest length during the run.

@@ -3,22 +3,22 @@
 use Rattle.std.specs.Prelude.{◌≡◌, ℕ, ◌+◌, ◌-◌, ◌*◌, ◌==◌, List, [], ◌∷◌, None, if◌then◌else◌, length, max, slice_range}
 use Rattle.std.specs.Option.{unwrap_or}
 use Rattle.thin_vec.specs.ThinVec.{Thin}
-use Rattle.thin_runner.specs.Setting.{Setting}
+use Rattle.thin_runner.specs.Env.{Env}
 use Rattle.thin_vec.specs.Edits.Retain.{flags_of, moved_down}
 use Rattle.thin_runner.specs.Steps.{Steps}
-use Rattle.thin_runner.specs.commands.Filters.{answered, around, extracting}
+use Rattle.thin_runner.specs.commands.Filters.{filter_results, keep_outside, extract_results}
 use Rattle.thin_runner.specs.declared.command.Command.{Command}
 use Rattle.thin_runner.specs.declared.command.Command.TheVariants.{Push, Pop, Insert, Remove, SwapRemove, ReserveExact, ShrinkToFit, Resize, ExtendFromSlice, Extend, Append, Drain, ExtractIf, Splice}
 use Rattle.thin_runner.specs.declared.command.Reply.{Reply}
 use Rattle.thin_runner.specs.declared.command.Reply.TheVariants.{Answers, Done, Item, OutOfRange, Other, Refused}
 
 module _ {T A G : Type 0} where
-  -- `accepted commands replies` is the number of pushes in `commands` that succeeded. The list
-  -- `replies` contains the reply to each command.
-  abbrev pub accepted : List (Command T A G) → List (Reply T A G) → ℕ
-  accepted (Push v ∷ commands) (Done ∷ replies) = 1 + accepted commands replies
-  accepted (command ∷ commands) (reply ∷ replies) = accepted commands replies
-  accepted commands replies = 0
+  -- `successful_pushes commands replies` is the number of pushes in `commands` that succeeded. The
+  -- list `replies` contains the reply to each command.
+  abbrev pub successful_pushes : List (Command T A G) → List (Reply T A G) → ℕ
+  successful_pushes (Push v ∷ commands) (Done ∷ replies) = 1 + successful_pushes commands replies
+  successful_pushes (command ∷ commands) (reply ∷ replies) = successful_pushes commands replies
+  successful_pushes commands replies = 0
 
   -- `IsPushOrPop` holds if the command is a push or a pop.
   abbrev pub IsPushOrPop : Command T A G → Type 0
@@ -33,7 +33,7 @@ module _ {T A G : Type 0} where
   KeepsCheap ShrinkToFit = ⊥
   KeepsCheap command = Unit {0}
 
-module _ {T A G J : Type 0} (here : Setting T A J) where
+module _ {T A G J : Type 0} (here : Env T A J) where
   -- `Runs old commands replies new` holds if the commands, carried out in order, may turn the list
   -- `old` into `new` and get these replies.
   abbrev pub Runs : Thin T A → List (Command T A G) → List (Reply T A G) → Thin T A → Type 0
@@ -57,11 +57,11 @@ module _ {T A G J : Type 0} (here : Setting T A J) where
   may_move xs (Append given) (Other back None) = length given.items
   may_move xs (Drain a b steps) (Answers answers) = if a == b then 0 else length xs - b
   may_move xs (ExtractIf a b k) (Answers answers) =
-      let asked = extracting here.judging.take here.judge k (slice_range xs a b) in
-      moved_down (flags_of (around xs a b asked))
+      let results = extract_results here.model.take here.judge k (slice_range xs a b) in
+      moved_down (flags_of (keep_outside xs a b results))
   may_move xs (Splice a b steps ys lower) (Refused cause) = 0
   may_move xs (Splice a b steps ys lower) reply = 2 * (length xs - b) + length ys.items
-  may_move xs command reply = moved_down (flags_of (unwrap_or (answered here xs command) []))
+  may_move xs command reply = moved_down (flags_of (unwrap_or (filter_results here xs command) []))
 
   -- `run_may_move` is the sum of the bounds `may_move` of all commands of a run. It is an upper
   -- bound on the number of items that the run moves.

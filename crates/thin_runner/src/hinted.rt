@@ -23,7 +23,7 @@ impl<T, A: Allocator> Hinted<T, A> {
     /// hint is always `lower`.
     pub fn new(items: Vec<T, A>, lower: usize) -> Hinted<T, A>
         ensures items { hinted_items result ≡ items.items }
-        ensures claim { hinted_claim result ≡ lower }
+        ensures lower { hinted_claim result ≡ lower }
         ensures runs { YieldsInOrder (HintedSteps {T = T} {A = A}) hinted_items }
     {
         Hinted {

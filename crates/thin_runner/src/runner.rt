@@ -1,18 +1,17 @@
 //! Defines the functions `step` and `run`, which carry out commands on a list.
 ghost use Rattle.std.specs.Prelude.{◌≡◌, ◌<◌, ◌+◌, ◌≤◌, ◌↔◌, IsTrue, IfErr, IsOk, OnErr, OnOk, vec_capacity, vec_len};
 ghost use Rattle.thin_runner.specs.Headline.{Headline};
-ghost use Rattle.thin_runner.specs.Setting.{setting};
-ghost use Rattle.thin_runner.specs.Steps.{IsInRange, Steps};
+ghost use Rattle.thin_runner.specs.Env.{env};
+ghost use Rattle.thin_runner.specs.Steps.{Allows, IsInRange};
 
 use crate::command::{Command, Reply};
 use crate::judge::Judge;
-use crate::steps::Setting;
+use crate::steps::Context;
 use std::alloc::Allocator;
 use std::marker::PhantomData;
 use thin_vec::{Growth, ThinVec, ThinVecError};
 
-// Returns whether the index or the range of `command` is in bounds. Also returns true if `command`
-// has neither an index nor a range.
+// Returns whether `command` has neither an index nor a range, or has one that is in bounds.
 fn is_in_range<T, A: Allocator, G: Growth>(
     list: &ThinVec<T, A, G>,
     command: &Command<T, A, G>,
@@ -44,45 +43,44 @@ pub fn step<T: Clone + Eq, A: Allocator + Copy, G: Growth, J: Judge<T>>(
     command: Command<T, A, G>,
     judge: &J,
 ) -> Reply<T, A, G>
-    ensures allowed { Steps
-        (setting T.is_clone T.is_infallible T.eq J.judging G.rule T.row alloc judge.now) list.old
-        command result list.new }
+    ensures allowed { Allows T.is_clone T.is_infallible T.eq J.model G.rule T.row alloc judge.now
+        list.old command result list.new }
 {
     if !is_in_range(list, &command) {
         return Reply::OutOfRange(command);
     }
-    let here = Setting {
+    let context = Context {
         alloc,
         judge: *judge,
         of: PhantomData,
     };
     match command {
-        Command::Push(value) => here.push(list, value),
-        Command::Pop => here.pop(list),
-        Command::Insert(index, value) => here.insert(list, index, value),
-        Command::Remove(index) => here.remove(list, index),
-        Command::SwapRemove(index) => here.swap_remove(list, index),
-        Command::Set(index, value) => here.set(list, index, value),
-        Command::Truncate(len) => here.truncate(list, len),
-        Command::Clear => here.clear(list),
-        Command::Reserve(additional) => here.reserve(list, additional),
-        Command::ReserveExact(additional) => here.reserve_exact(list, additional),
-        Command::ShrinkToFit => here.shrink_to_fit(list),
-        Command::Resize(len, value) => here.resize(list, len, value),
-        Command::ExtendFromSlice(items) => here.extend_from_slice(list, items),
-        Command::Extend(items, lower) => here.extend(list, items, lower),
-        Command::Append(other) => here.append(list, other),
-        Command::SplitOff(at) => here.split_off(list, at),
-        Command::Clone => here.clone(list),
-        Command::Retain => here.retain(list),
-        Command::RetainMut => here.retain_mut(list),
-        Command::Dedup => here.dedup(list),
-        Command::DedupBy => here.dedup_by(list),
-        Command::DedupByKey => here.dedup_by_key(list),
-        Command::Drain(start, end, steps) => here.drain(list, start, end, steps),
-        Command::ExtractIf(start, end, count) => here.extract_if(list, start, end, count),
+        Command::Push(value) => context.push(list, value),
+        Command::Pop => context.pop(list),
+        Command::Insert(index, value) => context.insert(list, index, value),
+        Command::Remove(index) => context.remove(list, index),
+        Command::SwapRemove(index) => context.swap_remove(list, index),
+        Command::Set(index, value) => context.set(list, index, value),
+        Command::Truncate(len) => context.truncate(list, len),
+        Command::Clear => context.clear(list),
+        Command::Reserve(additional) => context.reserve(list, additional),
+        Command::ReserveExact(additional) => context.reserve_exact(list, additional),
+        Command::ShrinkToFit => context.shrink_to_fit(list),
+        Command::Resize(len, value) => context.resize(list, len, value),
+        Command::ExtendFromSlice(items) => context.extend_from_slice(list, items),
+        Command::Extend(items, lower) => context.extend(list, items, lower),
+        Command::Append(other) => context.append(list, other),
+        Command::SplitOff(at) => context.split_off(list, at),
+        Command::Clone => context.clone(list),
+        Command::Retain => context.retain(list),
+        Command::RetainMut => context.retain_mut(list),
+        Command::Dedup => context.dedup(list),
+        Command::DedupBy => context.dedup_by(list),
+        Command::DedupByKey => context.dedup_by_key(list),
+        Command::Drain(start, end, steps) => context.drain(list, start, end, steps),
+        Command::ExtractIf(start, end, count) => context.extract_if(list, start, end, count),
         Command::Splice(start, end, steps, items, lower) => {
-            here.splice(list, start, end, steps, items, lower)
+            context.splice(list, start, end, steps, items, lower)
         }
     }
 }
@@ -106,7 +104,7 @@ pub fn run<T: Clone + Eq, A: Allocator + Copy, G: Growth, J: Judge<T>>(
 ) -> Result<(), ThinVecError>
     // On success.
     ensures ok { OnOk result
-        (Headline (setting T.is_clone T.is_infallible T.eq J.judging G.rule T.row alloc judge.now)
+        (Headline (env T.is_clone T.is_infallible T.eq J.model G.rule T.row alloc judge.now)
         list.old commands.items replies.old.items replies.new.items list.new) }
 
     // When it must succeed.
@@ -118,8 +116,7 @@ pub fn run<T: Clone + Eq, A: Allocator + Copy, G: Growth, J: Judge<T>>(
         × (vec_capacity replies.new ≡ vec_capacity replies.old)) }
     ensures cause { IfErr result (λ cause. cause ≡ ThinVecError.OutOfMemory) }
 {
-    // Only the proof needs this call. By the contract of `capacity`, the items of the list fit into
-    // its capacity before the first command.
+    // Only the proof needs this call: its contract says that the items fit into the capacity.
     let _capacity = list.capacity();
     match replies.reserve(commands.len()) {
         Ok(()) => (),
@@ -132,8 +129,7 @@ pub fn run<T: Clone + Eq, A: Allocator + Copy, G: Growth, J: Judge<T>>(
             Err(_refused) => unreachable!(),
         }
     }
-    // Only the proof needs this call. The field `within` of `Headline` does not follow from the
-    // contract of `step`, but it follows from the contract of `capacity`.
+    // The same for the field `within` of `Headline`, which the contract of `step` does not give.
     let _end = list.capacity();
     Ok(())
 }

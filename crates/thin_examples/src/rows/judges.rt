@@ -12,7 +12,7 @@ use thin_runner::judge::Judge;
 pub struct Evens;
 
 impl Judge<i32> for Evens {
-    ghost judging = { record {
+    ghost model = { record {
       look = λ j x. (int_eq (int_rem x (pos 2)) (pos 0), j);
       keep = λ j x. (int_eq (int_rem x (pos 2)) (pos 0), x, j);
       same = λ j x y. (int_eq x y, x, y, j);

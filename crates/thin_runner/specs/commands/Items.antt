@@ -5,18 +5,18 @@ use Rattle.thin_vec.specs.Cost.{moving}
 use Rattle.thin_vec.specs.ThinVec.{HasRoomFor, Thin, capacity_for, cost_at}
 use Rattle.thin_vec.specs.declared.ThinVecError.{ThinVecError}
 use Rattle.thin_vec.specs.declared.ThinVecError.TheVariants.{CapacityOverflow}
-use Rattle.thin_runner.specs.Setting.{Setting}
+use Rattle.thin_runner.specs.Env.{Env}
 
 module _ {T A : Type 0} where
-  -- `edited old xs m` is the list `old` after its items were replaced with the items `xs`. Its cost
-  -- contains `m` more moves than the cost of `old`.
-  abbrev pub edited : Thin T A → List T → ℕ → Thin T A
-  edited old xs m = record old { items = xs; cost = moving m old.cost }
+  -- `set_items old xs m` is the list `old` after its items were replaced with the items `xs`. Its
+  -- cost contains `m` more moves than the cost of `old`.
+  abbrev pub set_items : Thin T A → List T → ℕ → Thin T A
+  set_items old xs m = record old { items = xs; cost = moving m old.cost }
 
-  -- `at_capacity old c` is the list `old` after its capacity was changed to `c`. Its cost includes
+  -- `set_capacity old c` is the list `old` after its capacity was changed to `c`. Its cost includes
   -- the cost of this change.
-  abbrev pub at_capacity : Thin T A → ℕ → Thin T A
-  at_capacity old c = record old { capacity = c; cost = cost_at old c }
+  abbrev pub set_capacity : Thin T A → ℕ → Thin T A
+  set_capacity old c = record old { capacity = c; cost = cost_at old c }
 
   -- `Refuses named old k cause new` holds if a call may fail with `cause` because the list `old`
   -- has no room for `k` more items. The list does not change, so `new` equals `old`. The option
@@ -26,10 +26,10 @@ module _ {T A : Type 0} where
   Refuses named old k cause new =
       ¬ (HasRoomFor old k) × ((named ≡ None) ↔ (cause ≡ CapacityOverflow)) × (new ≡ old)
 
-module _ {T A J : Type 0} (here : Setting T A J) where
-  -- `Grows old k xs m new` holds if a call may turn the list `old` into `new` in two steps. First,
-  -- the call reserves room for `k` more items. Second, the call replaces all items with the items
-  -- `xs`, and adds `m` moves to the cost.
-  abbrev pub Grows : Thin T A → ℕ → List T → ℕ → Thin T A → Type 0
-  Grows old k xs m new = (capacity_for here.rule here.R old k ≡ Some new.capacity)
-      × (new ≡ edited (at_capacity old new.capacity) xs m)
+module _ {T A J : Type 0} (here : Env T A J) where
+  -- `ReservesAndSets old k xs m new` holds if a call may turn the list `old` into `new` in two
+  -- steps. First, the call reserves room for `k` more items. Second, the call replaces all items
+  -- with the items `xs`, and adds `m` moves to the cost.
+  abbrev pub ReservesAndSets : Thin T A → ℕ → List T → ℕ → Thin T A → Type 0
+  ReservesAndSets old k xs m new = (capacity_for here.rule here.R old k ≡ Some new.capacity)
+      × (new ≡ set_items (set_capacity old new.capacity) xs m)

@@ -4,10 +4,10 @@ use Rattle.std.specs.Prelude.{◌≡◌, ◌⊎◌, ℕ, ◌<◌, ◌↔◌, Lis
 use Rattle.thin_vec.specs.ThinVec.{HasRoomFor, Thin, capacity_for}
 use Rattle.thin_vec.specs.declared.ThinVecError.{ThinVecError}
 use Rattle.thin_vec.specs.declared.ThinVecError.TheVariants.{CapacityOverflow}
-use Rattle.thin_runner.specs.Setting.{Setting}
-use Rattle.thin_runner.specs.commands.Items.{Grows}
+use Rattle.thin_runner.specs.Env.{Env}
+use Rattle.thin_runner.specs.commands.Items.{ReservesAndSets}
 
-module _ {T A J : Type 0} (here : Setting T A J) where
+module _ {T A J : Type 0} (here : Env T A J) where
   -- `RefusesClone old k sources cause new` holds if a call that adds `k` items and clones the items
   -- `sources` may fail with `cause` and turn the list `old` into `new`. The items of the list do
   -- not change, but its capacity may grow.
@@ -16,4 +16,4 @@ module _ {T A J : Type 0} (here : Setting T A J) where
       ((capacity_for here.rule here.R old k ≡ None) ↔ (cause ≡ CapacityOverflow))
       × (HasRoomFor old k → ¬ (All here.infallible sources))
       × ((new ≡ old) ⊎ ((at : ℕ) × (at < length sources)
-      × HoldsAt (λ x. ¬ (here.infallible x)) sources at × Grows here old k old.items at new))
+      × HoldsAt (λ x. ¬ (here.infallible x)) sources at × ReservesAndSets here old k old.items at new))

@@ -6,43 +6,30 @@ use Rattle.std.specs.Iterator.{at_most}
 use Rattle.std.specs.List.{remove_range}
 use Rattle.std.specs.Option.{option_to_list}
 use Rattle.std.specs.Vec.Iter.{into_iter_items}
-use Rattle.thin_vec.specs.Cheap.{IsCheap}
-use Rattle.thin_vec.specs.List.Extend.{CostsAdding, IsExtended, IsLoose, FailsAtHint}
+use Rattle.thin_vec.specs.List.Extend.{CostsAdding, FailsAtHint, GrowsFor}
+use Rattle.thin_vec.specs.List.Capacity.{Keeps}
 use Rattle.thin_vec.specs.Growth.{Rule}
-use Rattle.thin_vec.specs.ThinVec.{HasRoomFor, IsWithin, Thin, capacity_for}
+use Rattle.thin_vec.specs.ThinVec.{HasRoomFor, Thin, capacity_for}
 use Rattle.thin_vec.specs.declared.ThinVecError.{ThinVecError}
 use Rattle.thin_vec.specs.declared.ThinVecError.TheVariants.{CapacityOverflow, OutOfMemory}
 use Rattle.thin_runner.specs.declared.hinted.Hinted.{Hinted}
 
 module _ {T A : Type 0} (old : Thin T A) (a b : ℕ) where
-  -- `cut` is the list `old` without the items `a..b`. Its capacity, its allocator and its cost are
-  -- those of `old`.
-  abbrev pub cut : Thin T A
-  cut = record old { items = remove_range old.items a b }
-
-  -- `HasPlacesFor most` holds if `most` items can replace the range `a..b` of the list `old`
-  -- without new memory. This is the case if the range has at least `most` items. It is also the
-  -- case if no item follows the range, and the list without the range has room for `most` more
-  -- items.
-  abbrev pub HasPlacesFor : ℕ → Type 0
-  HasPlacesFor most = (most ≤ b - a) ⊎ ((b ≡ length old.items) × HasRoomFor cut most)
+  -- `without_range` is the list `old` without the items `a..b`, and otherwise unchanged.
+  abbrev pub without_range : Thin T A
+  without_range = record old { items = remove_range old.items a b }
 
 module _ {T A : Type 0} (rule : Rule) (R : RattleType) (old : Thin T A) (a b : ℕ) where
   -- `Replaces placed most new` holds if a call may replace the items `a..b` of the list `old` with
   -- the items `placed`, so that the list becomes `new`. The items `placed` come from an iterator
   -- that could yield at most `most` items.
   --
-  -- Each placed item counts as one move, and each item after the range counts as at most two moves.
-  -- If the capacity changed, then the growth rule chose the new capacity.
+  -- Each placed item counts as one move, and each item after the range as at most two.
   pub record Replaces (placed : List T) (most : ℕ) (new : Thin T A) : Type 0 where
     pub items : new.items ≡ (take a old.items ++ placed) ++ drop b old.items
-    pub capacity : IsLoose rule R old.capacity new.capacity
-    pub ruled : IsExtended rule R (cut old a b) new.capacity (length new.items) (at_most most)
-    pub within : IsWithin R new
-    pub had_room : HasRoomFor (cut old a b) most → new.capacity ≡ old.capacity
-    pub cost : CostsAdding (cut old a b) new (2 * (length old.items - b))
-    pub cheap : IsCheap old → IsCheap new
-    pub alloc : new.alloc ≡ old.alloc
+    pub capacity : GrowsFor rule R (without_range old a b) new (at_most most)
+    pub cost : CostsAdding (without_range old a b) new (2 * (length old.items - b))
+    pub keeps : Keeps R (without_range old a b) new
 
   -- `StopsBetween` describes a splice, or a call to `extend`, that failed with `cause` and turned
   -- the list `old` into `new`. The iterator had the items `xs`, and its size hint had the lower
@@ -54,7 +41,10 @@ module _ {T A : Type 0} (rule : Rule) (R : RattleType) (old : Thin T A) (a b : �
     pub all : xs ≡ placed ++ (held ++ (option_to_list in_hand ++ into_iter_items rest.items))
     pub claim : rest.lower ≡ lower
     pub filled : Replaces placed (lower + length xs) new
-    pub no_room : ¬ (HasPlacesFor old a b (lower + length xs))
+    -- As many items as the iterator could yield fit neither into the slots of the range nor, if no
+    -- item follows the range, into the capacity.
+    pub no_room : ¬ ((lower + length xs ≤ b - a) ⊎ ((b ≡ length old.items)
+        × HasRoomFor (without_range old a b) (lower + length xs)))
     -- If `held` is empty and `in_hand` is `None`, then the call could not reserve room for `h` more
     -- items. The number `h` is a lower bound that the size hint of `rest` may have.
     pub by_hint : held ≡ [] → in_hand ≡ None
@@ -85,4 +75,4 @@ module _ {T A : Type 0} (rule : Rule) (R : RattleType) (old : Thin T A) (a b : �
         × (IsSome in_hand → length new.items ≡ new.capacity)
     -- If no item follows the range, and `in_hand` is `None`, then the call placed no item, so `new`
     -- is `old` without the items of the range.
-    pub unchanged : b ≡ length old.items → in_hand ≡ None → new ≡ cut old a b
+    pub unchanged : b ≡ length old.items → in_hand ≡ None → new ≡ without_range old a b

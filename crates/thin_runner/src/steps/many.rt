@@ -1,21 +1,19 @@
 //! Implements the commands that may add many items: `Resize`, `ExtendFromSlice`, `Extend` and
 //! `Append`.
-ghost use Rattle.thin_runner.specs.Setting.{setting};
-ghost use Rattle.thin_runner.specs.Steps.{Steps};
+ghost use Rattle.thin_runner.specs.Steps.{Allows};
 ghost use Rattle.thin_runner.specs.declared.command.Command.TheVariants.{Resize, ExtendFromSlice, Extend, Append};
 
 use crate::command::Reply;
 use crate::hinted::Hinted;
 use crate::judge::Judge;
-use crate::steps::Setting;
+use crate::steps::Context;
 use std::alloc::Allocator;
 use thin_vec::{ExtendRefused, Growth, ThinVec};
 
-impl<T: Clone + Eq, A: Allocator + Copy, G: Growth, J: Judge<T>> Setting<T, A, G, J> {
+impl<T: Clone + Eq, A: Allocator + Copy, G: Growth, J: Judge<T>> Context<T, A, G, J> {
     pub(crate) fn resize(self, list: &mut ThinVec<T, A, G>, len: usize, value: T) -> Reply<T, A, G>
-        ensures allowed { Steps
-            (setting T.is_clone T.is_infallible T.eq J.judging G.rule T.row self.alloc self.judge)
-            list.old (Resize len value) result list.new }
+        ensures allowed { Allows T.is_clone T.is_infallible T.eq J.model G.rule T.row self.alloc
+            self.judge list.old (Resize len value) result list.new }
     {
         match list.resize(len, value) {
             Ok(()) => Reply::Done,
@@ -28,9 +26,8 @@ impl<T: Clone + Eq, A: Allocator + Copy, G: Growth, J: Judge<T>> Setting<T, A, G
         list: &mut ThinVec<T, A, G>,
         items: Vec<T, A>,
     ) -> Reply<T, A, G>
-        ensures allowed { Steps
-            (setting T.is_clone T.is_infallible T.eq J.judging G.rule T.row self.alloc self.judge)
-            list.old (ExtendFromSlice items) result list.new }
+        ensures allowed { Allows T.is_clone T.is_infallible T.eq J.model G.rule T.row self.alloc
+            self.judge list.old (ExtendFromSlice items) result list.new }
     {
         match list.extend_from_slice(items.as_slice()) {
             Ok(()) => Reply::Done,
@@ -44,9 +41,8 @@ impl<T: Clone + Eq, A: Allocator + Copy, G: Growth, J: Judge<T>> Setting<T, A, G
         items: Vec<T, A>,
         lower: usize,
     ) -> Reply<T, A, G>
-        ensures allowed { Steps
-            (setting T.is_clone T.is_infallible T.eq J.judging G.rule T.row self.alloc self.judge)
-            list.old (Extend items lower) result list.new }
+        ensures allowed { Allows T.is_clone T.is_infallible T.eq J.model G.rule T.row self.alloc
+            self.judge list.old (Extend items lower) result list.new }
     {
         let filled = list.extend(Hinted::new(items, lower));
         match filled {
@@ -73,9 +69,8 @@ impl<T: Clone + Eq, A: Allocator + Copy, G: Growth, J: Judge<T>> Setting<T, A, G
         list: &mut ThinVec<T, A, G>,
         mut other: ThinVec<T, A, G>,
     ) -> Reply<T, A, G>
-        ensures allowed { Steps
-            (setting T.is_clone T.is_infallible T.eq J.judging G.rule T.row self.alloc self.judge)
-            list.old (Append other) result list.new }
+        ensures allowed { Allows T.is_clone T.is_infallible T.eq J.model G.rule T.row self.alloc
+            self.judge list.old (Append other) result list.new }
     {
         match list.append(&mut other) {
             Ok(()) => Reply::Other(other, None),

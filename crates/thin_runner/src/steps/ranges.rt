@@ -1,18 +1,17 @@
 //! Implements the commands `Drain` and `ExtractIf`, which remove items from a range of the list.
 ghost use Rattle.std.specs.Prelude.{◌≡◌, ◌+◌, ◌≤◌, List, ◌∷◌, ◌++◌, length, vec_capacity, vec_len};
-ghost use Rattle.thin_runner.specs.Setting.{setting};
-ghost use Rattle.thin_runner.specs.Steps.{Steps};
-ghost use Rattle.thin_runner.specs.commands.Ranges.{walked};
+ghost use Rattle.thin_runner.specs.Steps.{Allows};
+ghost use Rattle.thin_runner.specs.commands.Ranges.{ends_taken};
 ghost use Rattle.thin_runner.specs.declared.command.Command.TheVariants.{Drain as Drained, ExtractIf as Extracted};
 ghost use Rattle.thin_vec.specs.Edits.Drain.{DrainKeeps, drain_rest};
 
 use crate::command::{Reply, Step};
 use crate::judge::Judge;
-use crate::steps::Setting;
+use crate::steps::Context;
 use std::alloc::Allocator;
 use thin_vec::{Drain, Growth, ThinVec, ThinVecError};
 
-impl<T: Clone + Eq, A: Allocator + Copy, G: Growth, J: Judge<T>> Setting<T, A, G, J> {
+impl<T: Clone + Eq, A: Allocator + Copy, G: Growth, J: Judge<T>> Context<T, A, G, J> {
     // Carries out the command `Drain`. First reserves room for the results of the steps, and then
     // drains the range `start..end`.
     pub(crate) fn drain(
@@ -24,9 +23,8 @@ impl<T: Clone + Eq, A: Allocator + Copy, G: Growth, J: Judge<T>> Setting<T, A, G
     ) -> Reply<T, A, G>
         requires start_le_end { start ≤ end }
         requires in_bounds { end ≤ length list.old.items }
-        ensures allowed { Steps
-            (setting T.is_clone T.is_infallible T.eq J.judging G.rule T.row self.alloc self.judge)
-            list.old (Drained start end steps) result list.new }
+        ensures allowed { Allows T.is_clone T.is_infallible T.eq J.model G.rule T.row self.alloc
+            self.judge list.old (Drained start end steps) result list.new }
     {
         let mut answers = Vec::new(self.alloc);
         match answers.reserve(steps.len()) {
@@ -34,7 +32,7 @@ impl<T: Clone + Eq, A: Allocator + Copy, G: Growth, J: Judge<T>> Setting<T, A, G
             Err(_refused) => return Reply::Refused(ThinVecError::OutOfMemory),
         }
         let mut drain = list.drain(start, end);
-        walk(&mut drain, steps, &mut answers);
+        take_ends(&mut drain, steps, &mut answers);
         drop(drain);
         Reply::Answers(answers)
     }
@@ -50,9 +48,8 @@ impl<T: Clone + Eq, A: Allocator + Copy, G: Growth, J: Judge<T>> Setting<T, A, G
     ) -> Reply<T, A, G>
         requires start_le_end { start ≤ end }
         requires in_bounds { end ≤ length list.old.items }
-        ensures allowed { Steps
-            (setting T.is_clone T.is_infallible T.eq J.judging G.rule T.row self.alloc self.judge)
-            list.old (Extracted start end count) result list.new }
+        ensures allowed { Allows T.is_clone T.is_infallible T.eq J.model G.rule T.row self.alloc
+            self.judge list.old (Extracted start end count) result list.new }
     {
         let mut answers = Vec::new(self.alloc);
         match answers.reserve(count) {
@@ -64,7 +61,7 @@ impl<T: Clone + Eq, A: Allocator + Copy, G: Growth, J: Judge<T>> Setting<T, A, G
             start,
             end,
             move |item: &mut T|
-                ensures value { (result, item.new, judge.exit) ≡ J.judging.take judge.entry
+                ensures value { (result, item.new, judge.exit) ≡ J.model.take judge.entry
                     item.old }
             { judge.take(item) },
         );
@@ -79,19 +76,20 @@ impl<T: Clone + Eq, A: Allocator + Copy, G: Growth, J: Judge<T>> Setting<T, A, G
     }
 }
 
-// Carries out the steps on `drain` in order, and appends their results to `answers`.
-fn walk<T: Drop, A: Allocator, G: Growth>(
+// Carries out the steps on `drain` in order, and appends their results to `answers`. `Splice` has
+// the same two functions: no trait of both names the remaining items and what a step keeps.
+fn take_ends<T: Drop, A: Allocator, G: Growth>(
     drain: &mut Drain<'_, T, A, G>,
     steps: Vec<Step, A>,
     answers: &mut Vec<Option<T>, A>,
 )
     requires room { vec_len answers.old + vec_len steps ≤ vec_capacity answers.old }
-    ensures answers { answers.new.items ≡ answers.old.items ++ walked
+    ensures items { answers.new.items ≡ answers.old.items ++ ends_taken
         (drain_rest drain.old) steps.items }
     ensures keeps { DrainKeeps drain.old drain.new }
 {
     for step in steps {
-        match answers.push(take(drain, step)) {
+        match answers.push(take_end(drain, step)) {
             Ok(()) => (),
             Err(_refused) => unreachable!(),
         }
@@ -99,9 +97,9 @@ fn walk<T: Drop, A: Allocator, G: Growth>(
 }
 
 // Carries out one step on `drain`, and returns its result.
-fn take<T, A: Allocator, G: Growth>(drain: &mut Drain<'_, T, A, G>, step: Step) -> Option<T>
-    ensures value { (steps : List Step) → walked (drain_rest drain.old) (step ∷ steps)
-        ≡ result ∷ walked (drain_rest drain.new) steps }
+fn take_end<T, A: Allocator, G: Growth>(drain: &mut Drain<'_, T, A, G>, step: Step) -> Option<T>
+    ensures value { (steps : List Step) → ends_taken (drain_rest drain.old) (step ∷ steps)
+        ≡ result ∷ ends_taken (drain_rest drain.new) steps }
     ensures keeps { DrainKeeps drain.old drain.new }
 {
     match step {

@@ -2,21 +2,19 @@
 //! capacity. Also implements the commands `SplitOff` and `Clone`, which make a list without spare
 //! capacity.
 ghost use Rattle.std.specs.Prelude.{◌≤◌, length};
-ghost use Rattle.thin_runner.specs.Setting.{setting};
-ghost use Rattle.thin_runner.specs.Steps.{Steps};
+ghost use Rattle.thin_runner.specs.Steps.{Allows};
 ghost use Rattle.thin_runner.specs.declared.command.Command.TheVariants.{Reserve, ReserveExact, ShrinkToFit, SplitOff, Clone};
 
 use crate::command::Reply;
 use crate::judge::Judge;
-use crate::steps::Setting;
+use crate::steps::Context;
 use std::alloc::Allocator;
 use thin_vec::{Growth, ThinVec};
 
-impl<T: Clone + Eq, A: Allocator + Copy, G: Growth, J: Judge<T>> Setting<T, A, G, J> {
+impl<T: Clone + Eq, A: Allocator + Copy, G: Growth, J: Judge<T>> Context<T, A, G, J> {
     pub(crate) fn reserve(self, list: &mut ThinVec<T, A, G>, additional: usize) -> Reply<T, A, G>
-        ensures allowed { Steps
-            (setting T.is_clone T.is_infallible T.eq J.judging G.rule T.row self.alloc self.judge)
-            list.old (Reserve additional) result list.new }
+        ensures allowed { Allows T.is_clone T.is_infallible T.eq J.model G.rule T.row self.alloc
+            self.judge list.old (Reserve additional) result list.new }
     {
         match list.reserve(additional) {
             Ok(()) => Reply::Done,
@@ -29,9 +27,8 @@ impl<T: Clone + Eq, A: Allocator + Copy, G: Growth, J: Judge<T>> Setting<T, A, G
         list: &mut ThinVec<T, A, G>,
         additional: usize,
     ) -> Reply<T, A, G>
-        ensures allowed { Steps
-            (setting T.is_clone T.is_infallible T.eq J.judging G.rule T.row self.alloc self.judge)
-            list.old (ReserveExact additional) result list.new }
+        ensures allowed { Allows T.is_clone T.is_infallible T.eq J.model G.rule T.row self.alloc
+            self.judge list.old (ReserveExact additional) result list.new }
     {
         match list.reserve_exact(additional) {
             Ok(()) => Reply::Done,
@@ -40,9 +37,8 @@ impl<T: Clone + Eq, A: Allocator + Copy, G: Growth, J: Judge<T>> Setting<T, A, G
     }
 
     pub(crate) fn shrink_to_fit(self, list: &mut ThinVec<T, A, G>) -> Reply<T, A, G>
-        ensures allowed { Steps
-            (setting T.is_clone T.is_infallible T.eq J.judging G.rule T.row self.alloc self.judge)
-            list.old ShrinkToFit result list.new }
+        ensures allowed { Allows T.is_clone T.is_infallible T.eq J.model G.rule T.row self.alloc
+            self.judge list.old ShrinkToFit result list.new }
     {
         match list.shrink_to_fit() {
             Ok(()) => Reply::Done,
@@ -52,9 +48,8 @@ impl<T: Clone + Eq, A: Allocator + Copy, G: Growth, J: Judge<T>> Setting<T, A, G
 
     pub(crate) fn split_off(self, list: &mut ThinVec<T, A, G>, at: usize) -> Reply<T, A, G>
         requires in_bounds { at ≤ length list.old.items }
-        ensures allowed { Steps
-            (setting T.is_clone T.is_infallible T.eq J.judging G.rule T.row self.alloc self.judge)
-            list.old (SplitOff at) result list.new }
+        ensures allowed { Allows T.is_clone T.is_infallible T.eq J.model G.rule T.row self.alloc
+            self.judge list.old (SplitOff at) result list.new }
     {
         match list.split_off(self.alloc, at) {
             Ok(tail) => Reply::List(tail),
@@ -63,9 +58,8 @@ impl<T: Clone + Eq, A: Allocator + Copy, G: Growth, J: Judge<T>> Setting<T, A, G
     }
 
     pub(crate) fn clone(self, list: &mut ThinVec<T, A, G>) -> Reply<T, A, G>
-        ensures allowed { Steps
-            (setting T.is_clone T.is_infallible T.eq J.judging G.rule T.row self.alloc self.judge)
-            list.old Clone result list.new }
+        ensures allowed { Allows T.is_clone T.is_infallible T.eq J.model G.rule T.row self.alloc
+            self.judge list.old Clone result list.new }
     {
         match list.clone(self.alloc) {
             Ok(copy) => Reply::List(copy),

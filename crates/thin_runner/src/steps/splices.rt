@@ -1,20 +1,19 @@
 //! Implements the command `Splice`, which replaces the items of a range with the items of an
 //! iterator.
 ghost use Rattle.std.specs.Prelude.{◌≡◌, ◌+◌, ◌≤◌, List, ◌∷◌, ◌++◌, length, vec_capacity, vec_len};
-ghost use Rattle.thin_runner.specs.Setting.{setting};
-ghost use Rattle.thin_runner.specs.Steps.{Steps};
-ghost use Rattle.thin_runner.specs.commands.Ranges.{walked};
+ghost use Rattle.thin_runner.specs.Steps.{Allows};
+ghost use Rattle.thin_runner.specs.commands.Ranges.{ends_taken};
 ghost use Rattle.thin_runner.specs.declared.command.Command.TheVariants.{Splice as Spliced};
 ghost use Rattle.thin_vec.specs.Edits.Splice.{SpliceKeeps, splice_rest};
 
 use crate::command::{Reply, Step};
 use crate::hinted::Hinted;
 use crate::judge::Judge;
-use crate::steps::Setting;
+use crate::steps::Context;
 use std::alloc::Allocator;
 use thin_vec::{Growth, Splice, SpliceRefused, ThinVec, ThinVecError};
 
-impl<T: Clone + Eq, A: Allocator + Copy, G: Growth, J: Judge<T>> Setting<T, A, G, J> {
+impl<T: Clone + Eq, A: Allocator + Copy, G: Growth, J: Judge<T>> Context<T, A, G, J> {
     // Carries out the command `Splice`. First reserves room for the results of the steps, and then
     // replaces the items `start..end` with `items`.
     pub(crate) fn splice(
@@ -28,9 +27,8 @@ impl<T: Clone + Eq, A: Allocator + Copy, G: Growth, J: Judge<T>> Setting<T, A, G
     ) -> Reply<T, A, G>
         requires start_le_end { start ≤ end }
         requires in_bounds { end ≤ length list.old.items }
-        ensures allowed { Steps
-            (setting T.is_clone T.is_infallible T.eq J.judging G.rule T.row self.alloc self.judge)
-            list.old (Spliced start end steps items lower) result list.new }
+        ensures allowed { Allows T.is_clone T.is_infallible T.eq J.model G.rule T.row self.alloc
+            self.judge list.old (Spliced start end steps items lower) result list.new }
     {
         let mut answers = Vec::new(self.alloc);
         match answers.reserve(steps.len()) {
@@ -38,7 +36,7 @@ impl<T: Clone + Eq, A: Allocator + Copy, G: Growth, J: Judge<T>> Setting<T, A, G
             Err(_refused) => return Reply::Refused(ThinVecError::OutOfMemory),
         }
         let mut splice = list.splice(start, end, Hinted::new(items, lower));
-        walk(&mut splice, steps, &mut answers);
+        take_ends(&mut splice, steps, &mut answers);
         match splice.finish(self.alloc) {
             Ok(()) => Reply::Answers(answers),
             Err(refused) => {
@@ -61,18 +59,18 @@ impl<T: Clone + Eq, A: Allocator + Copy, G: Growth, J: Judge<T>> Setting<T, A, G
 }
 
 // Carries out the steps on `splice` in order, and appends their results to `answers`.
-fn walk<T: Drop, A: Allocator, G: Growth>(
+fn take_ends<T: Drop, A: Allocator, G: Growth>(
     splice: &mut Splice<'_, Hinted<T, A>, T, A, G>,
     steps: Vec<Step, A>,
     answers: &mut Vec<Option<T>, A>,
 )
     requires room { vec_len answers.old + vec_len steps ≤ vec_capacity answers.old }
-    ensures answers { answers.new.items ≡ answers.old.items ++ walked
+    ensures items { answers.new.items ≡ answers.old.items ++ ends_taken
         (splice_rest splice.old) steps.items }
     ensures keeps { SpliceKeeps splice.old splice.new }
 {
     for step in steps {
-        match answers.push(take(splice, step)) {
+        match answers.push(take_end(splice, step)) {
             Ok(()) => (),
             Err(_refused) => unreachable!(),
         }
@@ -80,12 +78,12 @@ fn walk<T: Drop, A: Allocator, G: Growth>(
 }
 
 // Carries out one step on `splice`, and returns its result.
-fn take<T, A: Allocator, G: Growth>(
+fn take_end<T, A: Allocator, G: Growth>(
     splice: &mut Splice<'_, Hinted<T, A>, T, A, G>,
     step: Step,
 ) -> Option<T>
-    ensures value { (steps : List Step) → walked (splice_rest splice.old) (step ∷ steps)
-        ≡ result ∷ walked (splice_rest splice.new) steps }
+    ensures value { (steps : List Step) → ends_taken (splice_rest splice.old) (step ∷ steps)
+        ≡ result ∷ ends_taken (splice_rest splice.new) steps }
     ensures keeps { SpliceKeeps splice.old splice.new }
 {
     match step {

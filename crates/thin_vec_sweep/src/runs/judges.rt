@@ -39,7 +39,7 @@ impl From<u64> for Digits {
 }
 
 impl<T> Judge<T> for Digits {
-    ghost judging = { record {
+    ghost model = { record {
       look = λ j x. (j.digits % 2 == 1, record { digits = j.digits / 2 });
       keep = λ j x. (j.digits % 2 == 1, x, record { digits = j.digits / 2 });
       same = λ j x y. (j.digits % 2 == 1, y, x, record { digits = j.digits / 2 });
@@ -83,7 +83,7 @@ impl From<u64> for Evens {
 }
 
 impl Judge<u64> for Evens {
-    ghost judging = { record {
+    ghost model = { record {
       look = λ j x. (x % 2 == 0, j);
       keep = λ j x. (x % 2 == 0, x / 2, j);
       same = λ j x y. (x / 2 == y / 2, x, 0, j);

@@ -1,10 +1,9 @@
--- Each iteration of the loop in `run` carries out one command. So all commands have been carried
--- out when the loop ends, and the main theorem follows.
+-- Each iteration carries out one command, so all have run when the loop ends.
 use Rattle.std.proofs.Common.{◌≡◌, ◌∷◌, [], ap, arith, length, rules}
 use Rattle.std.specs.Vec.Iter.{into_iter_items}
 use Rattle.std.proofs.lemmas.List.{nil_from_length}
 use denote.Param.{param}
-use Rattle.thin_runner.specs.Setting.{setting}
+use Rattle.thin_runner.specs.Env.{env}
 use Rattle.thin_runner.proofs.HeadlineLemmas.{headline}
 use Rattle.thin_runner.proofs.RunLemmas.{HasRun-none, HasRun-push}
 use Rattle.thin_runner.proofs.runner.run.Goals as goal
@@ -22,8 +21,8 @@ loop-command-init g c =
         c.len.ensures,
         c.args.commands.ok.0,
       );
-      ran = HasRun-none (setting g.T.Clone.is_clone g.T.Clone.is_infallible g.T.PartialEq.eq
-          g.J.Judge.judging g.G.Growth.rule (param 0 g.row.T) c.args.alloc c.args.judge.now)
+      ran = HasRun-none (env g.T.Clone.is_clone g.T.Clone.is_infallible g.T.PartialEq.eq
+          g.J.Judge.model g.G.Growth.rule (param 0 g.row.T) c.args.alloc c.args.judge.now)
           c.args.list.now _ _ _ _ items c.reserve.ensures.items;
     }
 
@@ -39,8 +38,8 @@ loop-command-preserved g c =
         ap length next,
         c.loop-command.invariant.room,
       );
-      ran = HasRun-push (setting g.T.Clone.is_clone g.T.Clone.is_infallible g.T.PartialEq.eq
-          g.J.Judge.judging g.G.Growth.rule (param 0 g.row.T) c.args.alloc c.args.judge.now)
+      ran = HasRun-push (env g.T.Clone.is_clone g.T.Clone.is_infallible g.T.PartialEq.eq
+          g.J.Judge.model g.G.Growth.rule (param 0 g.row.T) c.args.alloc c.args.judge.now)
           _ _ c.in-Some.command c.step-reply.result c.step-reply.ensures.allowed
           c.loop-command.invariant.ran next c.in-Ok-push.ensures.items;
     }
@@ -50,8 +49,8 @@ returns-clause-ok g c =
     let left = into_iter_items c.loop-command.command-iterator in
     let none : left ≡ [] = nil_from_length left
     (omega (arith, c.in-None.ensures.steps, c.loop-command.command-iterator.rest.ok)) in
-    headline (setting g.T.Clone.is_clone g.T.Clone.is_infallible g.T.PartialEq.eq
-    g.J.Judge.judging g.G.Growth.rule (param 0 g.row.T) c.args.alloc c.args.judge.now)
+    headline (env g.T.Clone.is_clone g.T.Clone.is_infallible g.T.PartialEq.eq
+    g.J.Judge.model g.G.Growth.rule (param 0 g.row.T) c.args.alloc c.args.judge.now)
     g.met.G.Growth.law c.capacity-capacity.ensures.within c.capacity-end.ensures.within none
     c.loop-command.invariant.ran
 

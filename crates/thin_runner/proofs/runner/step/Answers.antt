@@ -1,5 +1,4 @@
--- Each arm of the `match` in `step` calls one method. The clause `allowed` of `step` follows from
--- the clause `allowed` of this method.
+-- Each arm of `step` calls one method, whose clause `allowed` is that of `step`.
 use Rattle.thin_runner.proofs.runner.step.Goals as goal
 
 pub returns-in-Push : goal.returns-in-Push

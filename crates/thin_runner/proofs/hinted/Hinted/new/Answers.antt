@@ -1,5 +1,4 @@
--- The iterator that `new` returns yields its items in order, because each call to `next` yields the
--- first of the remaining items.
+-- Each call to `next` yields the first of the remaining items.
 use Rattle.std.proofs.Common.{length, ap, rules}
 use Rattle.std.proofs.iter.runs.Sources.{from_front, as_is}
 use Rattle.thin_runner.specs.Hinted.{HintedSteps, hinted_items}
@@ -11,5 +10,5 @@ returns-clause-runs g c run seen =
     as_is run _ (from_front steps (λ item. item) hinted_items (λ old new step. ap length step.0.0)
     (λ old item new step. step.0) run seen)
 
-pub returns-clause-claim : goal.returns-clause-claim
-returns-clause-claim g c = search rules
+pub returns-clause-lower : goal.returns-clause-lower
+returns-clause-lower g c = search rules

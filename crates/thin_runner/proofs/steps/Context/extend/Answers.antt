@@ -1,0 +1,70 @@
+-- If `extend` fails, each item of the iterator is in the list, in `in_hand` or in `rest`.
+use Rattle.std.proofs.Common.{rules, ◌≡◌, ◌++◌, ◌+◌, ap, arith, length, sym, ◌∙◌, append_assoc}
+use Rattle.std.proofs.lemmas.Bool.{false≢true}
+use Rattle.std.specs.Iterator.{at_most, size}
+use Rattle.std.specs.Option.{option_to_list}
+use Rattle.thin_runner.specs.Hinted.{hinted_count, hinted_items}
+use Rattle.thin_runner.proofs.HintedLemmas.{drains-items, yields-claim, yields-items}
+use Rattle.thin_runner.proofs.SplicesLemmas.{at-end, at-no-in-hand, at-some-in-hand, places-end, replaces, without_range-end}
+use Rattle.thin_vec.specs.ThinVec.{HasRoomFor}
+use Rattle.thin_runner.proofs.steps.Context.extend.Goals as goal
+
+pub returns-in-Ok : goal.returns-in-Ok
+returns-in-Ok g c =
+    let e = c.in-Ok.ensures in
+    let old = c.args.list.now in
+    let items = drains-items c.new.result e.items.0 e.items.1 ∙ c.new.ensures.items in
+    let count : hinted_count c.new.result ≡ at_most (c.args.lower + length c.args.items.items) =
+    λ i. at_most (c.new.ensures.lower i + length (c.new.ensures.items i)) in
+    record {
+      allowed = (
+        tt,
+        replaces ((e.items.2 ∙ ap (λ l. old.items ++ l) items) ∙ sym (at-end old.items _))
+            e.capacity e.cost e.keeps (sym (without_range-end old)) count (omega arith),
+      );
+    }
+
+pub returns-in-Err : goal.returns-in-Err
+returns-in-Err g c =
+    let e = c.in-Err.ensures in
+    let old = c.args.list.now in
+    let rest = c.in-Err.refused.rest in
+    let one = option_to_list c.in-Err.refused.in_hand in
+    let all = yields-items c.new.result rest (e.placed.0 ++ one) e.placed.2.gave in
+    let claim = yields-claim c.new.result rest (e.placed.0 ++ one) e.placed.2.gave in
+    let none = c.new-in-Err-2.ensures.items in
+    let may = c.args.lower + length c.args.items.items in
+    let most : size (hinted_count c.new.result) ≡ may =
+    omega (arith, c.new.ensures.lower, ap length c.new.ensures.items) in
+    let full : ¬ (HasRoomFor old may) = search rules in
+    let count : hinted_count c.new.result ≡ at_most (c.args.lower + length c.args.items.items) =
+    λ i. at_most (c.new.ensures.lower i + length (c.new.ensures.items i)) in
+    record {
+      allowed = (
+        tt,
+        (
+          c.new-in-Err.ensures.items,
+          record {
+            placed = e.placed.0;
+            all = sym c.new.ensures.items
+                ∙ (all ∙ (append_assoc e.placed.0 one (hinted_items rest)
+                ∙ sym (ap (λ h. e.placed.0 ++ (h ++ (one ++ hinted_items rest))) none)));
+            claim = claim ∙ c.new.ensures.lower;
+            filled = replaces (e.placed.1 ∙ sym (at-end old.items e.placed.0)) e.capacity e.cost
+                e.keeps (sym (without_range-end old)) count (omega arith);
+            no_room = places-end old ⊥ may
+                (λ nothing. false≢true
+                (e.succeeds (omega (arith, nothing, most, e.keeps.within.0.room)))) full;
+            by_hint = λ _ empty. e.cause.by_hint empty;
+            by_held = λ some _. absurd (omega (arith, ap length none, some));
+            by_in_hand = λ more. absurd (omega (arith, more));
+            by_push = λ _ some. e.cause.by_push some;
+            ended = λ nothing some. absurd (omega (arith, ap length none, some));
+            range = λ more. absurd (omega (arith, more));
+            at_end = λ end. (none, at-some-in-hand _ _ c.in-Err.refused.in_hand e.in_hand);
+            unchanged = λ end empty.
+                (at-no-in-hand _ _ c.in-Err.refused.in_hand e.in_hand empty).0 ∙ sym (without_range-end old);
+          },
+        ),
+      );
+    }
