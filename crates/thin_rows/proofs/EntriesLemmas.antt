@@ -45,7 +45,8 @@ module _ {V : Type 0} where
   all_above c (e ∷ entries) h (suc k) d inside =
       all_above c entries (both_hold _ _ h).1 k d (omega arith)
 
-  pub columns_rise : (entries : List (ℕ × V)) → IsSortedByColumn entries → (i k : ℕ) (d : ℕ × V) → i < k
+  pub columns_rise : (entries : List (ℕ × V)) → IsSortedByColumn entries → (i k : ℕ) (d : ℕ × V)
+      → i < k
       → k < length entries → column_at entries i d < column_at entries k d
   columns_rise [] h i k d before inside = absurd (omega arith)
   columns_rise (e ∷ entries) h zero zero d before inside = absurd (omega arith)
@@ -71,7 +72,8 @@ module _ {V : Type 0} where
         → IsFoundAt (e ∷ entries) c (suc at) → IsFoundAt entries c at
     place_after e entries at p = record { in_bounds = omega (arith, p.in_bounds); same = p.same }
 
-    gap_after : (e : ℕ × V) (entries : List (ℕ × V)) (at : ℕ) → IsInsertionPoint (e ∷ entries) c (suc at)
+    gap_after : (e : ℕ × V) (entries : List (ℕ × V)) (at : ℕ)
+        → IsInsertionPoint (e ∷ entries) c (suc at)
         → IsInsertionPoint entries c at
     gap_after e entries at g = record {
       in_bounds = omega (arith, g.in_bounds);
@@ -115,7 +117,8 @@ module _ {V : Type 0} where
         (where_key nat_cmp (stays c) entries)) (other_stays c e.0 (others 0 e (omega arith)))
         ∙ ap (λ rest. e ∷ rest) (all_stay entries (λ k d inside. others (suc k) d (omega arith)))
 
-    pub without_at : (entries : List (ℕ × V)) (at : ℕ) → IsSortedByColumn entries → IsFoundAt entries c at
+    pub without_at : (entries : List (ℕ × V)) (at : ℕ) → IsSortedByColumn entries
+        → IsFoundAt entries c at
         → where_key nat_cmp (stays c) entries ≡ remove entries at
     without_at [] at h p = absurd (omega (arith, p.in_bounds))
     without_at (e ∷ entries) zero h p =

@@ -33,7 +33,8 @@ pub error_tells : {X Y : Type 0} (R S : RattleType) (w : ℕ) (cause : ThinVecEr
 error_tells R S w cause (Ok y) size align passed told = absurd passed
 error_tells R S w cause (Err e) size align passed told = record {
   overflow = (
-    λ over. exact_of_same S R 0 w size align ∙ told.overflow.0 (ap Err (sym passed ∙ same_cause over)),
+    λ over. exact_of_same S R 0 w size align
+        ∙ told.overflow.0 (ap Err (sym passed ∙ same_cause over)),
     λ none. ap Err (passed ∙ same_cause (told.overflow.1
         (sym (exact_of_same S R 0 w size align) ∙ none))),
   );
