@@ -109,7 +109,8 @@ module _ {T A G J : Type 0} (here : Env T A J) (law : KeepsLaw here.rule) where
   step-amortised m v w command reply only a s = absurd only
 
   successful_pushes-counted : (commands : List (Command T A G)) (replies : List (Reply T A G))
-      → counted (λ c r. successful_pushes (c ∷ []) (r ∷ [])) commands replies ≡ successful_pushes commands replies
+      → counted (λ c r. successful_pushes (c ∷ []) (r ∷ [])) commands replies
+          ≡ successful_pushes commands replies
   successful_pushes-counted (Push x ∷ commands) (Done ∷ replies) =
       omega (arith, successful_pushes-counted commands replies)
   successful_pushes-counted (command ∷ commands) (reply ∷ replies) =
@@ -121,5 +122,6 @@ module _ {T A G J : Type 0} (here : Env T A J) (law : KeepsLaw here.rule) where
       → Runs here v commands replies w → IsAmortised (0 + successful_pushes commands replies) w
   runs-amortised v w commands replies only a run =
       subst (λ n. IsAmortised (0 + n) w) (successful_pushes-counted commands replies)
-      (runs-keep here IsAmortised IsPushOrPop (λ c r. successful_pushes (c ∷ []) (r ∷ [])) step-amortised
+      (runs-keep here IsAmortised IsPushOrPop (λ c r. successful_pushes (c ∷ []) (r ∷ []))
+      step-amortised
       0 v w commands replies only a run)

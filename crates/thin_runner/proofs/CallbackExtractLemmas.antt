@@ -87,7 +87,8 @@ module _ {S T J : Type 0} (R : S → T → Bool → S → T → Type 0) (judge_o
         ∙ none-left (judge_of t) k)
     extracts-by s (x ∷ xs) kept e =
         subst (λ a. (not a.0, a.1) ∷ extract_results ask a.2 (if a.0 then k else suc k) xs
-        ≡ stay kept ++ (goes item ++ extract_results ask (judge_of t) k rest)) (told s x e.0 e.1 e.2 e.3)
+        ≡ stay kept ++ (goes item ++ extract_results ask (judge_of t) k rest))
+            (told s x e.0 e.1 e.2 e.3)
         (by_test e.0 (λ ks n. extracts-by e.1 xs ks n) e.4)
       where
         by_test : (b : Bool)
@@ -99,7 +100,8 @@ module _ {S T J : Type 0} (R : S → T → Bool → S → T → Type 0) (judge_o
             → (not b, e.2) ∷ extract_results ask (judge_of e.1) (if b then k else suc k) xs
             ≡ stay kept ++ (goes item ++ extract_results ask (judge_of t) k rest)
         by_test true by m =
-            sym (λ i. stay (m.2 i) ++ (goes (m.0 i) ++ extract_results ask (judge_of (m.1 i)) k (m.3 i)))
+            sym (λ i. stay (m.2 i)
+                ++ (goes (m.0 i) ++ extract_results ask (judge_of (m.1 i)) k (m.3 i)))
         by_test false by m =
             ap (λ l. (true, e.2) ∷ l) (by m.0 m.1)
             ∙ sym (ap (λ l. stay l ++ (goes item ++ extract_results ask (judge_of t) k rest)) m.2)
@@ -237,7 +239,8 @@ module _ {T A : Type 0} (v w : Thin T A) (a b : ℕ) (results : Verdicts T) wher
     pub alloc : w.alloc ≡ v.alloc
 
   pub extracting-ends : (at : Stand T) (rest tail : List T)
-      → IsExtracting results (take a v.items) v.cost at → at.left ≡ stay rest → tail ≡ drop b v.items
+      → IsExtracting results (take a v.items) v.cost at → at.left ≡ stay rest
+      → tail ≡ drop b v.items
       → IsLeft at rest tail → w ≡ filtered_list v (keep_outside v.items a b results)
   extracting-ends at rest tail h none same_tail left_is =
       let front = take a v.items in
@@ -280,14 +283,16 @@ module _ {T J : Type 0} (ask : J → T → Bool × T × J) where
   stay-length : (xs : List T) → length (stay xs) ≡ length xs
   stay-length xs = length-map xs (λ (x : T). (true, x))
 
-  extracting-length : (j : J) (k : ℕ) (xs : List T) → length (extract_results ask j k xs) ≡ length xs
+  extracting-length : (j : J) (k : ℕ) (xs : List T) → length (extract_results ask j k xs)
+      ≡ length xs
   extracting-length j zero xs = stay-length xs
   extracting-length j (suc k) [] = refl
   extracting-length j (suc k) (x ∷ xs) =
       ap suc (extracting-length (ask j x).2 (if (ask j x).0 then k else suc k) xs)
 
   pub few-extracted : (j : J) (k : ℕ) (xs : List T) (a b : ℕ) → a ≤ b → b ≤ length xs
-      → length (left_at true (keep_outside xs a b (extract_results ask j k (slice_range xs a b)))) ≤ length xs
+      → length (left_at true (keep_outside xs a b (extract_results ask j k (slice_range xs a b))))
+      ≤ length xs
   few-extracted j k xs a b order within =
       let middle = extract_results ask j k (slice_range xs a b) in
       omega (

@@ -125,7 +125,8 @@ module _ {T : Type 0} where
   one-answer false x k a = refl
 
 module _ {T J : Type 0} where
-  pub test_each-length : (ask : J → T → Bool × T × J) (j : J) (xs : List T) → length (test_each ask j xs)
+  pub test_each-length : (ask : J → T → Bool × T × J) (j : J) (xs : List T)
+      → length (test_each ask j xs)
       ≡ length xs
   test_each-length ask j [] = refl
   test_each-length ask j (x ∷ xs) = ap suc (test_each-length ask (ask j x).2 xs)
@@ -162,7 +163,8 @@ module _ {T J : Type 0} (E : T → T → Bool) (j : J) where
   dedup-last k [] = (refl, refl)
   dedup-last k (x ∷ xs) = told (λ l. dedup-last l xs) (E x k)
     where
-      told : ((l : T) → Leaves (unlike_from E l xs) (dedup_from E l xs) (test_against_last tells j l xs))
+      told : ((l : T)
+          → Leaves (unlike_from E l xs) (dedup_from E l xs) (test_against_last tells j l xs))
           → (b : Bool)
           → (let a = test_against_last tells j (if b then k else x) xs in
           Leaves (if b then false ∷ unlike_from E k xs else true ∷ unlike_from E x xs)
@@ -179,7 +181,8 @@ module _ {T J : Type 0} (E : T → T → Bool) (j : J) where
 
   pub deduped-alike : {A : Type 0} (v w : Thin T A) → w.items ≡ dedup E v.items → w.cost
       ≡ moving (moved_down (unlike E v.items)) v.cost
-      → w.capacity ≡ v.capacity → w.alloc ≡ v.alloc → w ≡ filtered_list v (test_pairs tells j v.items)
+      → w.capacity ≡ v.capacity → w.alloc ≡ v.alloc
+      → w ≡ filtered_list v (test_pairs tells j v.items)
   deduped-alike v w items cost capacity alloc =
       let by = dedup-pairs v.items in
       let left = items ∙ by.1 in

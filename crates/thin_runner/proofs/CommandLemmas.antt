@@ -32,7 +32,8 @@ module _ {T A : Type 0} where
         → (w ≡ v) ⊎ CostsUpToClone infallible sources v w
         → (w ≡ v) ⊎ ((at : ℕ) × (at < length sources)
         × HoldsAt (λ x. ¬ (infallible x)) sources at
-        × ((capacity_for rule R v k ≡ Some w.capacity) × (w ≡ set_items (set_capacity v w.capacity) v.items at)))
+        × ((capacity_for rule R v k ≡ Some w.capacity)
+            × (w ≡ set_items (set_capacity v w.capacity) v.items at)))
     refuses-clone R k same alloc (inl e) _ = inl e
     refuses-clone R k same alloc (inr _) (inl e) = inl e
     refuses-clone R k {v = v} {w} same alloc (inr capacity) (inr r) =

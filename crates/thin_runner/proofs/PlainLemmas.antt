@@ -157,7 +157,8 @@ module _ {T A G J : Type 0} (here : Env T A J) (equal : ClonesEqual here.clones)
       λ j. (says Done, left j)
   does-reference_step v w DedupBy Done ok d = λ j. (says Done, (d j).items)
   does-reference_step v w DedupByKey Done ok d = λ j. (says Done, (d j).items)
-  does-reference_step v w (Drain a b steps) (Answers answers) ok d = λ j. (yields (d.0 j), (d.1 j).items)
+  does-reference_step v w (Drain a b steps) (Answers answers) ok d =
+      λ j. (yields (d.0 j), (d.1 j).items)
   does-reference_step v w (ExtractIf a b k) (Answers answers) ok d =
       let results = extract_results here.model.take here.judge k (slice_range v.items a b) in
       let left : w.items ≡ replace_range v.items a b (left_at true results) =

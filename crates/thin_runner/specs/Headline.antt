@@ -46,7 +46,8 @@ module _ {T A G J : Type 0} (here : Env T A J) where
     -- Suppose that the list was new before the run, and that all commands are pushes and pops. If
     -- `m` pushes succeeded, and `m` is at least 1, then growth has copied fewer than `2 * m` items.
     pub amortised : All IsPushOrPop commands → IsNew old old.alloc
-        → 0 < successful_pushes commands replies → new.cost.grown < 2 * successful_pushes commands replies
+        → 0 < successful_pushes commands replies
+        → new.cost.grown < 2 * successful_pushes commands replies
     -- If the growth rule is `Doubling`, and all commands are pushes and pops, then the capacity
     -- after the run is at most the largest of 4, the capacity before the run, and twice the
     -- greatest length during the run.

@@ -49,7 +49,8 @@ module _ {T A G J : Type 0} (here : Env T A J) where
   -- range is in bounds.
   abbrev pub reference_step : List T → Command T A G → ObservedReply T A G × List T
   reference_step xs (Push v) = (says Done, xs ++ v ∷ [])
-  reference_step xs Pop = let last = length xs - 1 in (says (Item (slice_get xs last)), take last xs)
+  reference_step xs Pop =
+      let last = length xs - 1 in (says (Item (slice_get xs last)), take last xs)
   reference_step xs (Insert i v) = (says Done, insert xs i v)
   reference_step xs (Remove i) = (says (Item (slice_get xs i)), remove xs i)
   reference_step xs (SwapRemove i) =
@@ -79,7 +80,8 @@ module _ {T A G J : Type 0} (here : Env T A J) where
       (yields (ends_taken (slice_range xs a b) steps.items), replace_range xs a b ys.items)
   -- This case is about `Retain`, `RetainMut`, `DedupBy` and `DedupByKey`, which test the items and
   -- remove some of them.
-  reference_step xs command = (says Done, left_at true (unwrap_or (filter_results here xs command) []))
+  reference_step xs command =
+      (says Done, left_at true (unwrap_or (filter_results here xs command) []))
 
   -- `plain_step xs command` is a pair: the reply to a command that runs on a list with the items
   -- `xs` and does not fail, and the items after this command. The reply is a value of the type

@@ -72,7 +72,8 @@ module _ {T A G J : Type 0} (here : Env T A J) where
   Does old ShrinkToFit (Refused cause) new = (0 < length old.items)
       × ¬ (length old.items ≡ old.capacity) × (cause ≡ OutOfMemory) × (new ≡ old)
   Does old (Resize k v) Done new = let more = k - length old.items in
-      IsResized here.clones old.items k v new.items × ReservesAndSets here old more new.items more new
+      IsResized here.clones old.items k v new.items
+      × ReservesAndSets here old more new.items more new
   Does old (Resize k v) (Refused cause) new = let more = k - length old.items in
       (0 < more) × RefusesClone here old more (replicate (more - 1) v) cause new
   Does old (ExtendFromSlice xs) Done new = let more = length xs.items in
@@ -123,7 +124,8 @@ module _ {T A G J : Type 0} (here : Env T A J) where
   -- A command that tests the items (`Retain`, `RetainMut`, `Dedup`, `DedupBy` or `DedupByKey`)
   -- leaves only the kept items in the list.
   Does old command Done new =
-      MatchOption (filter_results here old.items command) ⊥ (λ verdicts. new ≡ filtered_list old verdicts)
+      MatchOption (filter_results here old.items command) ⊥
+          (λ verdicts. new ≡ filtered_list old verdicts)
   Does old command reply new = ⊥
 
   -- `Steps old command reply new` holds if the command may turn the list `old` into `new` and get

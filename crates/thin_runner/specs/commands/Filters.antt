@@ -62,7 +62,8 @@ module _ {T : Type 0} where
   -- them were removed. For each item, `verdicts` says whether the item is kept, and contains the
   -- item as it is after its test. Each kept item that is moved to another index counts as one move.
   abbrev pub filtered_list : {A : Type 0} → Thin T A → Verdicts T → Thin T A
-  filtered_list old verdicts = set_items old (left_at true verdicts) (moved_down (flags_of verdicts))
+  filtered_list old verdicts =
+      set_items old (left_at true verdicts) (moved_down (flags_of verdicts))
 
 module _ {T A G J : Type 0} (here : Env T A J) where
   -- If the command is `Retain`, `RetainMut`, `Dedup`, `DedupBy` or `DedupByKey`, then

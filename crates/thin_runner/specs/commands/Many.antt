@@ -16,4 +16,5 @@ module _ {T A J : Type 0} (here : Env T A J) where
       ((capacity_for here.rule here.R old k ≡ None) ↔ (cause ≡ CapacityOverflow))
       × (HasRoomFor old k → ¬ (All here.infallible sources))
       × ((new ≡ old) ⊎ ((at : ℕ) × (at < length sources)
-      × HoldsAt (λ x. ¬ (here.infallible x)) sources at × ReservesAndSets here old k old.items at new))
+      × HoldsAt (λ x. ¬ (here.infallible x)) sources at
+      × ReservesAndSets here old k old.items at new))

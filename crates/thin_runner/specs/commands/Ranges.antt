@@ -11,4 +11,5 @@ module _ {T : Type 0} where
   abbrev pub ends_taken : List T → List Step → List (Option T)
   ends_taken xs [] = []
   ends_taken xs (Front ∷ steps) = slice_get xs 0 ∷ ends_taken (drop 1 xs) steps
-  ends_taken xs (Back ∷ steps) = slice_get xs (length xs - 1) ∷ ends_taken (take (length xs - 1) xs) steps
+  ends_taken xs (Back ∷ steps) = slice_get xs (length xs - 1)
+      ∷ ends_taken (take (length xs - 1) xs) steps

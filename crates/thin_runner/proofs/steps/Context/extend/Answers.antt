@@ -63,7 +63,8 @@ returns-in-Err g c =
             range = λ more. absurd (omega (arith, more));
             at_end = λ end. (none, at-some-in-hand _ _ c.in-Err.refused.in_hand e.in_hand);
             unchanged = λ end empty.
-                (at-no-in-hand _ _ c.in-Err.refused.in_hand e.in_hand empty).0 ∙ sym (without_range-end old);
+                (at-no-in-hand _ _ c.in-Err.refused.in_hand e.in_hand empty).0
+                    ∙ sym (without_range-end old);
           },
         ),
       );

@@ -14,7 +14,8 @@ loop-init g c =
     let a = c.args in
     let e = c.extract_if-extract.ensures in
     let extract = c.extract_if-extract.result in
-    let results = extract_results ask a.self.judge a.count (slice_range a.list.now.items a.start a.end) in
+    let results =
+        extract_results ask a.self.judge a.count (slice_range a.list.now.items a.start a.end) in
     let all : a.count - 0 ≡ a.count = omega arith in
     let none : c.reserve.new.self.items ≡ [] = c.reserve.ensures.items
     ∙ c.new-answers.ensures.items in
@@ -42,10 +43,12 @@ loop-preserved g c =
     let was = c.loop.extract in
     let now = c.next.new.self in
     let k = a.count - (c.loop.counter + 1) in
-    let results = extract_results ask a.self.judge a.count (slice_range a.list.now.items a.start a.end) in
+    let results =
+        extract_results ask a.self.judge a.count (slice_range a.list.now.items a.start a.end) in
     let one : a.count - c.loop.counter ≡ suc k = omega (arith, c.loop-test.true) in
     let left = extract_results ask (extract_callee now).0 k (extract_rest now) in
-    let next : extract_results ask (extract_callee was).0 (a.count - c.loop.counter) (extract_rest was)
+    let next : extract_results ask (extract_callee was).0 (a.count - c.loop.counter)
+        (extract_rest was)
     ≡ stay s.kept ++ (goes c.next.result ++ left) =
     ap (λ n. extract_results ask (extract_callee was).0 n (extract_rest was)) one
     ∙ extracts-by _ (λ f. f.0) ask
@@ -86,7 +89,8 @@ returns g c =
     let a = c.args in
     let at = c.loop.invariant in
     let end = c.loop.extract in
-    let results = extract_results ask a.self.judge a.count (slice_range a.list.now.items a.start a.end) in
+    let results =
+        extract_results ask a.self.judge a.count (slice_range a.list.now.items a.start a.end) in
     let none : a.count - c.loop.counter ≡ 0 =
     omega (arith, c.loop-test.false, c.loop.auto.counter-end) in
     let left = λ (n : ℕ). extract_results ask (extract_callee end).0 n (extract_rest end) in

@@ -119,7 +119,8 @@ returns-in-Err-finish g c =
               length-append block.front placed,
               length-append block.front block.tail,
             );
-            at_end = λ full. let fails = e.without_tail (no-tail old start end block alloc is full) in
+            at_end = λ full.
+                let fails = e.without_tail (no-tail old start end block alloc is full) in
                 (fails.held, at-some-in-hand _ _ refused.in_hand fails.in_hand);
             unchanged = λ full none.
                 let fails = e.without_tail (no-tail old start end block alloc is full) in
