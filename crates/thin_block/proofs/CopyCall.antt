@@ -1,26 +1,13 @@
 -- These lemmas verify a call of the function `copied`, which copies the items of a slice into a
 -- value of type `Slots`.
-use mathlib.Core.Path.{◌≡◌, refl, sym, ap, ◌∙◌}
-use Prim.Native.Nat.{ℕ}
-use mathlib.Core.List.{List, [], ◌∷◌}
-use lib.ListN.{length}
-use seplogic.Ra.Ura.{Ura}
-use mir.Syntax.{Dict, named}
-use mir.Val.{Val}
-use base.Logic.{SProp, ent, sep, ex, guard, emp, id⊢}
-use base.Fml.{Lft, Share, Fml, ftrue, fsep, flft}
-use prog.Memory.{Memory}
-use prog.Routine.{Routine}
-use types.Logic.{Logic, sem}
-use contract.BorrowLft.{◌⊑◌}
-use contract.Monad.{Fun, fact, fact_i}
-use types.Kit.{‵, raw, ◌⊛◌, some, later, ◌$◌, ◌∵◌, !, qed, move, keep, drop, use0, use1, split, split3, join, pick, fjoin, rewrite, show, check, await, updating, now, done}
+use Rattle.std.proofs.Common.{◌≡◌, refl, sym, ap, ◌∙◌, ℕ, List, [], ◌∷◌, length}
+use Rattle.thin_block.proofs.Walks.{Ura, named, Val, SProp, ent, sep, ex, emp, id⊢, Lft, Share, Fml, ftrue, fsep, flft, Memory, Routine, Logic, sem, ◌⊑◌, Fun, fact, fact_i, ‵, raw, ◌⊛◌, some, later, ◌$◌, ◌∵◌, !, qed, move, keep, drop, use0, use1, split, split3, join, pick, fjoin, rewrite, await, updating, done, block_ptr, only, heard, nothing, triple_of}
+use mir.Syntax.{Dict}
+use base.Logic.{guard}
+use types.Kit.{show, check, now}
 use denote.Param.{copied}
-use denote.RawPtr.{block_ptr}
 use denote.Ref.{Bor}
 use denote.Slice.{ShrSlice, shr_slice_vals}
-use denote.Steps.{only, heard, nothing}
-use denote.Triple.Spec.{triple_of}
 use denote.Triple.Statement.{Contract}
 use Rattle.core.specs.declared.clone.Clone.{Ghosts}
 use Rattle.core.specs.Mem.Slots.{slots_items, slots_ptr, slots_len, SamePlaces, IsFull}

@@ -1,42 +1,28 @@
 -- These lemmas split the memory of a block into its header and its slots, and put these parts back
 -- together.
-use Rattle.std.proofs.Common.{◌≡◌, Bool, true, ℕ, Some, None, ◌+◌, ◌*◌, ◌<◌, List, [], ◌∷◌, ◌++◌, length, refl, sym, ap, subst, ◌∙◌, arith, w64}
-use seplogic.Ra.Ura.{Ura}
-use mir.Syntax.{Ty, Tys, Width, Args, w8, w16, w32, w128, a_type, dcons, dnil, ty_int, ty_array, tcons, tnil}
+use Rattle.std.proofs.Common.{◌≡◌, Bool, true, ℕ, Some, None, ◌+◌, ◌*◌, ◌<◌, List, [], ◌∷◌, ◌++◌, length, refl, sym, ap, subst, ◌∙◌, arith, w64, Option}
+use Rattle.thin_block.proofs.Walks.{Ura, Ty, Width, Args, w8, w16, w32, w128, a_type, dcons, dnil, ty_int, ty_array, size, align, align_w, align-bytes, size-raw, lone, cell_at, mem, Val, vstruct, vcons, vnil, bytes, ent, emp, sep, wand, id⊢, never, apply∗, Lft, GName, Share, Fml, ftrue, fsep, froom, flft, fbor, Logic, sem, ‵, ◌⊛◌, ◌$◌, ◌∵◌, !, qed, by, move, keep, drop, use0, use1, use2, split, split3, join, fsplit, fsplit3, fjoin, rewrite, keeps, assume, feq_i, feq_l, Item, Goal, Step, step, Seq, done, RattleType, param, bounded, Ptr, RawPtr, block_ptr, ptr_val, Struct, usize, shows, nothing, peeks, full_share, El, R, Al, type_size, type_align}
+use mir.Syntax.{Tys, tcons, tnil}
 use mir.Raw.{raw}
-use prog.Memory.{size, align, up}
-use prog.Align.{align_w, align-bytes}
-use prog.RawLaws.{size-raw, align-raw}
-use denote.Memory.{lone, cell_at, mem}
-use Rattle.std.specs.Prelude.{max, Option}
-use mir.Val.{Val, vstruct, vcons, vnil, of_list, bytes}
-use base.Logic.{ent, emp, sep, wand, id⊢, never, apply∗}
+use prog.Memory.{up}
+use prog.RawLaws.{align-raw}
+use Rattle.std.specs.Prelude.{max}
+use mir.Val.{of_list}
 use base.Stored.{Gv}
-use base.Fml.{Lft, GName, Share, Fml, ftrue, fsep, fwand, froom, flft, fobs, fauth, fbor, fobor}
+use base.Fml.{fwand, fobs, fauth, fobor}
 use prog.Model.{rooms_at}
-use types.Logic.{Logic, sem}
-use types.Kit.{‵, raw as given_raw, ◌⊛◌, ◌$◌, ◌∵◌, !, qed, by, move, keep, drop, use0, use1, use2, split, split3, join, fsplit, fsplit3, fjoin, rewrite, frame as keeps, assume, feq_i, feq_l, Item, Goal, Soaks, Step, step, Seq, done}
+use types.Kit.{raw as given_raw, Soaks}
 use types.SemTy.{Body}
-use denote.RattleType.{RattleType}
-use denote.Param.{param, bounded}
-use denote.RawPtr.{Ptr, RawPtr, block_ptr, ptr_val, in_a_block}
+use denote.RawPtr.{in_a_block}
 use denote.Shadow.{shadow, makes_shadow}
-use denote.Struct.Struct.{Struct}
 use denote.Struct.Lending.{lent_at}
-use denote.Builtin.{usize}
-use denote.Laws.{shows}
-use denote.Steps.{nothing, peeks, opens, closes}
-use base.Fraction.{full_share}
+use denote.Steps.{opens, closes}
 use borrow.Author.Tests.{clash}
-use Rattle.core.proofs.mem.Param.{El, R}
-use Rattle.core.proofs.alloc.Calls.{Al}
 use Rattle.std.specs.Option.{is_some}
 use Rattle.thin_block.specs.Ownership.{any, fits_block, places, parts, whole, frame, block_owns}
-use Rattle.thin_block.specs.contracts.block.Block as block
-use Rattle.std.specs.Mem.{type_size}
-use Rattle.std.specs.Align.{type_align}
 use Rattle.thin_block.specs.Capacity.{block_align, block_bytes}
 use Rattle.thin_block.proofs.SizesLemmas.{fits_none}
+use Rattle.thin_block.specs.contracts.block.Block as block
 
 -- `plainly Rs` is the struct type with the field types `Rs` and an empty name. What a struct owns
 -- does not depend on its name.

@@ -1,19 +1,10 @@
 -- When a mutable borrow of items of a block has ended, these lemmas give the items back to the
 -- block. `item_back` is for one item, and `items_back` is for several adjacent items.
 use Rattle.std.proofs.Common.{◌≡◌, ℕ, ◌+◌, ◌*◌, ◌<◌, ◌≤◌, List, ◌∷◌, [], length, Some, refl, sym, ◌∙◌, arith}
+use Rattle.thin_block.proofs.Walks.{Ura, full_share, ent, sep, Fml, fsep, Val, Logic, sem, cells, ‵, ◌$◌, ◌∵◌, !, qed, by, move, use1, use2, rewrite, fsplit, fjoin, done, cell_at, mem, block_ptr, Al, El, R, el_x}
 use Rattle.std.proofs.lemmas.List.{length-map, length-set}
-use seplogic.Ra.Ura.{Ura}
-use base.Fraction.{full_share}
-use base.Logic.{ent, sep}
-use base.Fml.{Fml, fsep}
-use mir.Val.{Val}
-use types.Logic.{Logic, sem}
-use types.SemTy.{cells}
-use types.Kit.{‵, ◌$◌, ◌∵◌, !, qed, by, move, use1, use2, rewrite, fsplit, fjoin, fpack, done}
-use denote.Memory.{cell_at, part_of, mem}
-use denote.RawPtr.{block_ptr}
-use Rattle.core.proofs.alloc.Calls.{Al}
-use Rattle.core.proofs.mem.Param.{El, R, el_x}
+use types.Kit.{fpack}
+use denote.Memory.{part_of}
 use Rattle.thin_block.specs.Lends.{length-over, with_slots, with_item, with_items}
 use Rattle.thin_block.specs.Ownership.{place, places}
 use Rattle.std.specs.Prelude.{IsSome}

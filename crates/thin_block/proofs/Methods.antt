@@ -1,40 +1,23 @@
 -- These lemmas begin and end the proofs of methods that take `&mut self` or `&self`. They also say
 -- which arguments a method gives back to its caller.
-use Rattle.std.proofs.Common.{◌≡◌, true, ℕ, zero, suc, ◌+◌, ◌^◌, ◌<◌, List, [], ◌∷◌, length, refl, sym, w64}
-use lib.Dec.{T}
-use seplogic.Ra.Ura.{Ura}
-use mir.Syntax.{Fn, ty_int, Args, Dict, a_type, a_number, dcons, dnil, named}
-use mir.Val.{Val, vint, vptr, vunit, WT, has_ty}
-use base.Fraction.{full_share}
-use base.Logic.{SProp, ent, sep, id⊢}
+use Rattle.std.proofs.Common.{◌≡◌, true, ℕ, zero, suc, ◌+◌, ◌^◌, ◌<◌, List, [], ◌∷◌, length, refl, sym, w64, T}
+use Rattle.thin_block.proofs.Walks.{Ura, Fn, ty_int, Args, a_type, a_number, dcons, dnil, named, Val, vint, vptr, vunit, WT, has_ty, full_share, SProp, ent, sep, id⊢, Fml, Lft, Share, ftrue, fsep, feq, flft, fbor, Calls, Loops, Wp, WpFn, fact, tables, Logic, sem, Item, Goal, Seq, Sq, Step, step, ‵, raw, ◌⊛◌, prop, runs, at_ret, keep, ◌$◌, ◌∵◌, !, qed, move, use1, split, join, fsplit, fsplit3, fjoin, fjoin3, feq_i, rewrite, regoal, drop, enter, exec, env, yes, cell_at, mem, bounded, number, Laws, RattleType, owns, block_ptr, Slot, plain, types_at, nothing, heard, Stays, stay_ref, stay_dropped, Goes-ref, Goes-dropped, Al, El, R, Facts, Shown, after}
+use mir.Syntax.{Dict}
 use base.Stored.{Gv}
-use base.Fml.{Fml, Lft, Share, ftrue, fsep, feq, flft, fobs, fauth, fbor, fobor}
+use base.Fml.{fobs, fauth, fobor}
 use prog.Model.{Model}
-use prog.Wp.{Calls, Loops, Wp, WpFn}
 use contract.Lifetimes.{Lfts, Shares, toks}
-use contract.Monad.{fact}
-use contract.Running.{Running, tables}
-use types.Logic.{Logic, sem}
+use contract.Running.{Running}
 use types.SemTy.{Body}
-use types.Kit.{Item, Goal, Soaks, Seq, Sq, Step, step, ‵, raw, ◌⊛◌, prop, allocs, params', runs, at_ret, post, keep, ◌$◌, ◌∵◌, !, qed, move, use1, split, join, fsplit, fsplit3, fjoin, fjoin3, feq_i, rewrite, regoal, drop}
-use types.Run.{enter, exec}
-use types.ByLocal.{env}
-use denote.Exit.{yes}
-use denote.Memory.{cell_at, hidden_shr, mem}
-use denote.Param.{bounded, number}
-use denote.Param.Laws.{Laws}
-use denote.RattleType.{RattleType, Denots, Valss, owns}
-use denote.RawPtr.{block_ptr}
+use types.Kit.{Soaks, allocs, params', post}
+use denote.Memory.{hidden_shr}
+use denote.RattleType.{Denots, Valss}
 use denote.Ref.{MutBor, MutRef, mut_vals, at_last}
-use denote.Signature.{Slot, mut_ref_to, shr_ref_to, plain, types_at}
-use denote.Steps.{nothing, heard}
+use denote.Signature.{mut_ref_to, shr_ref_to}
 use denote.Triple.End.{Kepts}
-use denote.Triple.Walked.{Stays, AllGo, Silent, stay_ref, stay_dropped, Goes-ref, Goes-dropped}
-use Rattle.core.proofs.alloc.Calls.{Al}
+use denote.Triple.Walked.{AllGo, Silent}
 use Rattle.core.specs.declared.alloc.Allocator.{Ghosts}
-use Rattle.core.proofs.mem.Param.{El, R}
 use Rattle.thin_block.specs.Ownership.{fits_block, places}
-use Rattle.thin_block.proofs.Walks.{Facts, Shown, after}
 use Rattle.thin_block.proofs.HeaderMemory.{Br, Header, Slots, header, t, block_val, block_opens, block_closes}
 
 -- `others ss` is the list of all parameters in `ss` except the first.

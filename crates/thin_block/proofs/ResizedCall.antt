@@ -1,24 +1,12 @@
 -- These lemmas verify a call of the function `resized`, which grows or shrinks a block. They state
 -- what the caller owns before and after the call.
 use Rattle.std.proofs.Common.{ℕ, ◌≤◌, List, [], ◌∷◌, refl, w64, ◌^◌, ◌<◌}
-use seplogic.Ra.Ura.{Ura}
-use mir.Val.{Val, vint, vptr}
-use base.Logic.{SProp, ent, sep, ex, emp, never, id⊢, fst∗}
-use base.Fml.{Lft, Share, Fml, ftrue, ffalse, fsep, flft}
-use contract.BorrowLft.{◌⊑◌}
-use contract.Monad.{Fun, fact, fact_i}
-use prog.Memory.{Memory}
-use prog.Routine.{Routine}
-use types.Logic.{Logic, sem}
-use types.Kit.{‵, raw, ◌⊛◌, some as exists, later, pick, updating, now as at_once, await, ◌$◌, ◌∵◌, !, qed, move, keep, drop, use0, use1, use2, split, split3, join, fjoin, feq_i, flt_i, done}
-use denote.RawPtr.{block_ptr, null_ptr}
-use denote.Steps.{nothing}
-use denote.Triple.Spec.{triple_of}
+use Rattle.thin_block.proofs.Walks.{Ura, Val, vint, vptr, SProp, ent, sep, ex, emp, never, id⊢, fst∗, Lft, Share, Fml, ftrue, ffalse, fsep, flft, ◌⊑◌, Fun, fact, fact_i, Memory, Routine, Logic, sem, ‵, raw, ◌⊛◌, exists, later, pick, updating, await, ◌$◌, ◌∵◌, !, qed, move, keep, drop, use0, use1, use2, split, split3, join, fjoin, feq_i, flt_i, done, block_ptr, null_ptr, nothing, triple_of, array_of, block_with_items, Al, token, El, R, el_x}
+use types.Kit.{now as at_once}
 use denote.Triple.Statement.{Contract}
-use Rattle.core.specs.Allocator.{FitsBlock, array_of, block_with_items, resized_if_ok}
-use Rattle.core.proofs.alloc.Calls.{Al, token, seen, Answer}
+use Rattle.core.specs.Allocator.{FitsBlock, resized_if_ok}
+use Rattle.core.proofs.alloc.Calls.{seen, Answer}
 use Rattle.core.proofs.alloc.Resizes.{Sizes, Flagged, by_flag}
-use Rattle.core.proofs.mem.Param.{El, R, el_x}
 use Rattle.thin_block.specs.contracts.in_place.resized as F
 
 -- `Sized E len held wanted` holds if `len` items fit into memory blocks for `held` and for `wanted`

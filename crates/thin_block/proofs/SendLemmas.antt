@@ -1,15 +1,8 @@
 -- These lemmas say when a block may be sent to another thread (`block_send`), and when a block may
 -- be shared between threads (`block_sync`).
-use Rattle.std.specs.Prelude.{ℕ, zero, suc, ◌+◌, List, [], ◌∷◌, length, Option}
-use Rattle.std.specs.declared.option.Option.TheVariants.{Some, None}
-use Rattle.std.specs.Int.{div_ceil}
-use Rattle.std.specs.Mem.{type_size}
-use mir.Syntax.{Ty}
+use Rattle.std.proofs.Common.{ℕ, zero, suc, ◌+◌, List, [], ◌∷◌, length, Option, Some, None}
+use Rattle.thin_block.proofs.Walks.{div_ceil, type_size, Ty, size, RattleType, Ptr, block_ptr, null_ptr, usize}
 use base.Shift.{Keyless}
-use prog.Memory.{size}
-use denote.RattleType.{RattleType}
-use denote.RawPtr.{Ptr, block_ptr, null_ptr}
-use denote.Builtin.{usize}
 use denote.Struct.Struct.{exits_of}
 use denote.Struct.Owning.{shape, fields, to}
 use denote.Param.Send.{IsSend, IsSync, Common, AllSend, AllSync, Frees, owning_send, struct_send, struct_sync, sendable}

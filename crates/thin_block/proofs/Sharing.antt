@@ -1,36 +1,26 @@
 -- These lemmas are about shared references to a block. `block_seen` splits such a reference into
 -- its parts, and `run_seen` makes a slice from a shared reference to contiguous items.
-use Rattle.std.proofs.Common.{◌≡◌, ℕ, zero, suc, Some, None, ◌+◌, ◌*◌, ◌≤◌, List, [], ◌∷◌, ◌++◌, length, Bool, true, refl, sym, ap, subst, ◌∙◌, arith}
-use native.Mathlib.Nat.{zero-mul, suc-mul}
+use Rattle.std.proofs.Common.{◌≡◌, ℕ, zero, suc, Some, None, ◌+◌, ◌*◌, ◌≤◌, List, [], ◌∷◌, ◌++◌, length, Bool, true, refl, sym, ap, subst, ◌∙◌, arith, Option}
+use Rattle.thin_block.proofs.Walks.{zero-mul, suc-mul, Ura, ent, sep, via, id⊢, never, Lft, Fml, feq, Logic, sem, Item, Goal, Seq, ‵, ◌⊛◌, ◌$◌, ◌∵◌, !, qed, by, move, keep, use1, split, split3, rewrite, fsplit, feq_i, feq_l, done, RattleType, usize, param, RawPtr, block_ptr, nothing, Struct, Al, El, R, el_x}
 use lib.ListN.{drop, take-append-drop}
-use seplogic.Ra.Ura.{Ura}
-use base.Logic.{ent, sep, via, id⊢, snd∗, never}
-use base.Fml.{Lft, Fml, fhide, feq}
-use types.Logic.{Logic, sem}
-use types.Kit.{Item, Goal, Seq, ‵, ◌⊛◌, ◌$◌, ◌∵◌, !, qed, by, move, keep, use1, split, split3, rewrite, frame, fsplit, feq_i, feq_l, done}
-use denote.RattleType.{RattleType}
-use denote.Builtin.{usize}
+use base.Logic.{snd∗}
+use base.Fml.{fhide}
+use types.Kit.{frame}
 use denote.Memory.{hidden_shr, shared_of}
 use denote.Opens.{unhide}
-use denote.Param.{param}
-use denote.RawPtr.{RawPtr, block_ptr, in_a_block}
+use denote.RawPtr.{in_a_block}
 use denote.Slice.{elements_shared}
-use denote.Steps.{nothing}
 use denote.Struct.Lending.{lent_out}
 use denote.Struct.Owning.{shape}
-use denote.Struct.Struct.{Struct}
 use borrow.Author.Tests.{clash}
-use Rattle.std.specs.Prelude.{Option}
-use Rattle.core.proofs.alloc.Calls.{Al}
-use Rattle.core.proofs.mem.Param.{El, R, el_x}
-use Rattle.core.specs.contracts.marker.PhantomData as marker
 use Rattle.std.specs.Option.{is_some}
 use Rattle.thin_block.specs.Ownership.{any, fits_block, block_lent, place_lent, places_lent}
 use Rattle.thin_block.specs.Slots.{full, run}
-use Rattle.thin_block.specs.contracts.block.Block as block
 use Rattle.thin_block.proofs.SizesLemmas.{fits_none}
 use Rattle.thin_block.proofs.HeaderMemory.{Br}
 use Rattle.thin_block.proofs.SlotMemory.{Slot, sz}
+use Rattle.core.specs.contracts.marker.PhantomData as marker
+use Rattle.thin_block.specs.contracts.block.Block as block
 
 module _ (R : RattleType) {D : Type 0} {M : Type 1} {𝓤 : Ura M} (𝓛 : Logic 𝓤) (κ : Lft) where
   words_lent : (n : ℕ) (xs : List (Option R.Denot)) (a : Option D) (b o : ℕ)

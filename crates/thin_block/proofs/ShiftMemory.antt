@@ -1,23 +1,11 @@
 -- These lemmas are about moving adjacent items within a block. Before the move, they separate the
 -- memory of the slots that the move affects from the memory of the other slots. After the move,
 -- they join the memory of all slots again.
-use Rattle.std.proofs.Common.{◌≡◌, ◌⊎◌, Bool, true, false, ℕ, Some, None, ◌+◌, ◌-◌, ◌*◌, ◌<◌, ◌≤◌, List, [], ◌∷◌, ◌++◌, length, refl, sym, ap, ◌∙◌, arith, append_assoc}
-use Rattle.std.proofs.lemmas.List.{length-map, length-replicate, length-append, length-take}
+use Rattle.std.proofs.Common.{◌≡◌, ◌⊎◌, Bool, true, false, ℕ, Some, None, ◌+◌, ◌-◌, ◌*◌, ◌<◌, ◌≤◌, List, [], ◌∷◌, ◌++◌, length, refl, sym, ap, ◌∙◌, arith, append_assoc, Option, take}
+use Rattle.thin_block.proofs.Walks.{length-append, length-take, Ura, full_share, ent, sep, Fml, fsep, froom, ty_array, Logic, sem, ‵, ◌⊛◌, ◌$◌, ◌∵◌, !, qed, by, move, use1, use2, use3, split, split3, rewrite, fsplit, fjoin, done, Array, part_at, block_ptr, El, R, el_x, elτ, add_times, memory_before_copy, memory_after_copy}
+use Rattle.std.proofs.lemmas.List.{length-map, length-replicate}
 use mathlib.Core.Logic.{inl, inr, ⊎_elim}
-use seplogic.Ra.Ura.{Ura}
-use base.Fraction.{full_share}
-use base.Logic.{ent, sep}
-use base.Fml.{Fml, fsep, froom}
-use mir.Syntax.{ty_array}
-use types.Logic.{Logic, sem}
-use types.Kit.{‵, ◌⊛◌, ◌$◌, ◌∵◌, !, qed, by, move, use1, use2, use3, split, split3, rewrite, fsplit, fjoin, done}
-use denote.Array.{Array}
-use denote.Memory.{part_at}
-use denote.RawPtr.{block_ptr}
-use Rattle.std.specs.Prelude.{Option, take, drop}
-use Rattle.core.proofs.mem.Param.{El, R, el_x, elτ}
-use Rattle.core.proofs.ptr.Rows.{add_times}
-use Rattle.core.specs.Ptr.{memory_before_copy, memory_after_copy}
+use Rattle.std.specs.Prelude.{drop}
 use Rattle.thin_block.specs.Ownership.{places}
 use Rattle.thin_block.specs.Slots.{AreEmpty, full, empty, slot, run, laid, moved}
 use Rattle.thin_block.specs.Shifts.{IsShifted}

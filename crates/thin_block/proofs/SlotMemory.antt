@@ -1,33 +1,18 @@
 -- These lemmas separate the memory of some slots of a block from the memory of the other slots, and
 -- convert the memory of slots into arrays, slice elements or uninitialized memory.
-use Rattle.std.proofs.Common.{◌≡◌, true, ℕ, zero, suc, None, ◌+◌, ◌*◌, ◌^◌, ◌<◌, ◌≤◌, List, [], ◌∷◌, ◌++◌, length, refl, sym, ap, ◌∙◌, arith}
-use native.Mathlib.Nat.{zero-mul, suc-mul}
-use lib.ListN.{take, drop, set, get_or, take-append-drop, length-take, length-drop, length-set}
+use Rattle.std.proofs.Common.{◌≡◌, true, ℕ, zero, suc, None, ◌+◌, ◌*◌, ◌^◌, ◌<◌, ◌≤◌, List, [], ◌∷◌, ◌++◌, length, refl, sym, ap, ◌∙◌, arith, take, Option}
+use Rattle.thin_block.proofs.Walks.{zero-mul, suc-mul, set, get_or, length-set, Ura, full_share, ty_array, bare, ent, sep, emp, via, id⊢, Fml, ftrue, fsep, froom, Logic, sem, ‵, ◌⊛◌, given, ◌$◌, ◌∵◌, !, qed, by, move, keep, use1, use2, use3, split, split3, learn, rewrite, keeps, fsplit, fjoin, done, Array, part_at, mem, cells, RattleType, nothing, type_size, El, R, el_x, elτ, times_below}
+use lib.ListN.{drop, take-append-drop, length-take, length-drop}
 use mathlib.Core.Logic.{⊎_elim}
 use Rattle.core.proofs.str.Laws.{order}
 use lib.Seq.{drop-cons, drop-drop, set_split, set_comm, get_or-take, take-set-lt, drop-set-lt}
-use seplogic.Ra.Ura.{Ura}
-use base.Fraction.{full_share}
-use mir.Syntax.{ty_array}
-use mir.Raw.{raw as bare}
-use base.Logic.{ent, sep, guard, emp, via, id⊢, mono_r}
-use base.Fml.{Fml, ftrue, fsep, froom}
-use types.Logic.{Logic, sem}
-use types.Kit.{‵, ◌⊛◌, given, ◌$◌, ◌∵◌, !, qed, by, move, keep, drop as skip, use1, use2, use3, split, split3, learn, check, rewrite, frame as keeps, fsplit, fjoin, done}
-use denote.Array.{Array}
-use denote.Memory.{part_at, mem}
-use types.SemTy.{cells}
-use denote.RattleType.{RattleType}
+use base.Logic.{guard, mono_r}
+use types.Kit.{drop as skip, check}
 use denote.Index.{row}
-use denote.Steps.{nothing}
-use Rattle.std.specs.Mem.{type_size}
-use Rattle.std.specs.Prelude.{Option}
-use Rattle.core.proofs.mem.Param.{El, R, el_x, elτ}
-use Rattle.core.proofs.ptr.Rows as arrays
-use Rattle.core.proofs.ptr.Rows.{times_below}
 use Rattle.thin_block.specs.Ownership.{fits_block, place, places}
 use Rattle.thin_block.specs.Slots.{full, empty, run, laid}
 use Rattle.thin_block.proofs.SizesLemmas.{fits_tells}
+use Rattle.core.proofs.ptr.Rows as arrays
 
 -- If a block of `c` slots is small enough to be allocated, and `i ≤ c`, then `i` items take fewer
 -- than `2 ^ 63` bytes in total.

@@ -1,35 +1,10 @@
 -- These lemmas convert a block into one array of words, which an allocator can grow or shrink, and
 -- back. A word is a struct of whole items that takes 8 or 16 bytes.
-use Rattle.std.proofs.Common.{◌≡◌, true, ℕ, Some, None, ◌+◌, ◌-◌, ◌*◌, List, [], ◌∷◌, ◌++◌, length, refl, sym, ap, ◌∙◌, arith, w64, append_assoc}
-use Rattle.std.proofs.lemmas.List.{length-map, length-append, length-replicate, map-append, replicate-append-replicate}
-use Rattle.std.specs.Prelude.{Bool}
-use seplogic.Ra.Ura.{Ura}
-use base.Fraction.{full_share}
-use mir.Syntax.{Ty, ty_int, ty_array}
-use prog.Memory.{size, align}
-use prog.RawLaws.{size-raw, align-raw}
-use base.Logic.{SProp, ent, sep, via, apply∗}
-use base.Fml.{Fml, froom, fat}
-use mir.Val.{vint}
-use denote.Plain.{uint_out}
-use denote.Builtin.{usize}
-use denote.RawPtr.{lies_at}
-use types.Logic.{Logic, sem}
-use types.Kit.{‵, ◌⊛◌, ◌$◌, ◌∵◌, !, qed, by, move, drop, use1, use2, use3, split, fsplit, fsplit3, fjoin, fjoin3, group, rewrite, feq_i, done}
-use denote.Array.{Array}
-use denote.Memory.{part_at, lone}
-use denote.Param.{param}
-use denote.Param.Laws.{Laws}
-use denote.RattleType.{RattleType}
-use denote.RawPtr.{Ptr, block_ptr}
-use Rattle.core.proofs.mem.Param.{El, R, el_x, elτ}
-use Rattle.core.proofs.ptr.Rows.{add_times}
+use Rattle.std.proofs.Common.{◌≡◌, true, ℕ, Some, None, ◌+◌, ◌-◌, ◌*◌, List, [], ◌∷◌, ◌++◌, length, refl, sym, ap, ◌∙◌, arith, w64, append_assoc, Bool, Option}
+use Rattle.thin_block.proofs.Walks.{length-append, Ura, full_share, Ty, ty_int, ty_array, size, align, size-raw, SProp, ent, sep, via, apply∗, Fml, froom, fat, vint, uint_out, usize, lies_at, Logic, sem, ‵, ◌⊛◌, ◌$◌, ◌∵◌, !, qed, by, move, drop, use1, use2, use3, split, fsplit, fsplit3, fjoin, fjoin3, group, rewrite, feq_i, done, Array, part_at, lone, param, Laws, RattleType, Ptr, block_ptr, El, R, el_x, elτ, add_times, array_of, block_with_items, div_ceil, type_size, type_align}
+use Rattle.std.proofs.lemmas.List.{length-map, length-replicate, map-append, replicate-append-replicate}
+use prog.RawLaws.{align-raw}
 use native.Mathlib.Nat.{add_comm}
-use Rattle.core.specs.Allocator.{array_of, block_with_items}
-use Rattle.std.specs.Prelude.{Option}
-use Rattle.std.specs.Int.{div_ceil}
-use Rattle.std.specs.Mem.{type_size}
-use Rattle.std.specs.Align.{type_align}
 use Rattle.thin_block.specs.Capacity.{in_words, block_align, block_bytes}
 use Rattle.thin_block.specs.Ownership.{places, parts, frame, fits_block, bare, words_of, whole_of, asked_for, asked, header_way, slots_way, way_back, backing_for}
 use Rattle.thin_block.specs.Slots.{full, empty}

@@ -1,41 +1,22 @@
 -- These lemmas convert the memory of items, headers, slots and blocks into memory of words, and
 -- back. Here, a word is a struct of `m` items, which takes 8 or 16 bytes.
-use Rattle.std.proofs.Common.{◌≡◌, ℕ, zero, suc, Some, ◌+◌, ◌-◌, ◌*◌, ◌≤◌, List, [], ◌∷◌, ◌++◌, length, map, take, drop as rest, refl, sym, ap, subst, ◌∙◌, arith, zero-mul, suc-mul}
-use Rattle.std.proofs.lemmas.List.{take-append-drop, length-take, length-drop, length-map, map-append}
-use Rattle.std.specs.Prelude.{Option}
+use Rattle.std.proofs.Common.{◌≡◌, ℕ, zero, suc, Some, ◌+◌, ◌-◌, ◌*◌, ◌≤◌, List, [], ◌∷◌, ◌++◌, length, map, take, drop as rest, refl, sym, ap, subst, ◌∙◌, arith, zero-mul, suc-mul, Option, w64}
+use Rattle.thin_block.proofs.Walks.{length-take, Ura, full_share, SProp, ent, sep, apply∗, Fml, ftrue, fsep, froom, Ty, Width, w8, w16, w32, w128, ty_int, ty_array, bare, bytes, size, align, align_w, align-bytes, size-raw, Logic, sem, ‵, raw, ◌⊛◌, ◌$◌, ◌∵◌, !, qed, by, move, keep, drop, use0, use1, use2, use3, split, split3, join, fsplit, fjoin, rewrite, keeps, assume, done, Array, part_at, layout, param, number, ArrayAt, Laws, param_laws, array_at_laws, RattleType, nothing, Struct, El, R, el_x, add_times, type_size}
+use Rattle.std.proofs.lemmas.List.{take-append-drop, length-drop, length-map, map-append}
 use native.Mathlib.Nat.{add_comm, mul_assoc}
-use seplogic.Ra.Ura.{Ura}
-use base.Fraction.{full_share}
-use base.Logic.{SProp, ent, sep, apply∗}
-use base.Fml.{Fml, ftrue, fsep, fwand, froom}
+use base.Fml.{fwand}
 use contract.Monad.{conj, conj_r}
-use mir.Syntax.{Ty, Width, w8, w16, w32, w64, w128, ty_int, ty_array}
-use mir.Raw.{raw as bare}
-use mir.Val.{bytes}
-use prog.Memory.{size, align, up}
-use prog.Align.{align_w, align-bytes}
-use prog.RawLaws.{size-raw}
-use types.Logic.{Logic, sem}
-use types.Kit.{‵, raw, ◌⊛◌, ◌$◌, ◌∵◌, !, qed, by, move, keep, drop, use0, use1, use2, use3, split, split3, join, fsplit, fjoin, rewrite, frame as keeps, assume, done}
-use denote.Array.{Array, Array-Lawful}
+use prog.Memory.{up}
+use denote.Array.{Array-Lawful}
 use denote.Builtin.{u64}
 use denote.Index.{place, place_is}
-use denote.Memory.{part_at}
-use denote.Param.{layout, param, number, ArrayAt}
-use denote.Param.Laws.{Laws, param_laws, array_at_laws}
-use denote.RattleType.{RattleType}
 use denote.RawPtr.Room.{past, room_cut, room_glue}
-use denote.Steps.{nothing}
 use denote.Struct.Declared.{shape}
 use denote.Struct.Laws.{u64-laws}
 use denote.Struct.Members.{Member, parts_at, rooms_for}
 use denote.Struct.Parts.{shape_of, PartsBack, RoomBack, Struct-parts_free}
 use denote.Struct.Recorded.{Recorded-part}
-use denote.Struct.Struct.{Struct}
-use Rattle.core.proofs.mem.Param.{El, R, el_x}
-use Rattle.core.proofs.ptr.Rows.{add_times}
 use Rattle.core.specs.Simd.{first_chunks}
-use Rattle.std.specs.Mem.{type_size}
 use Rattle.thin_block.specs.Ownership.{places, word_of, way, ways, header_room, header_way, slots_way}
 use Rattle.thin_block.specs.Slots.{full, empty}
 use Rattle.thin_block.specs.Words.{word, runs_at}

@@ -1,51 +1,21 @@
 -- This file proves the contract of `resized`, which calls the method `grow` or `shrink` of the
 -- allocator.
-use mathlib.Core.Path.{◌≡◌, refl, sym, subst}
-use mathlib.Core.Bool.{Bool}
-use mathlib.Core.List.{List, [], ◌∷◌}
-use Prim.Native.Nat.{ℕ, ◌<◌, ◌≤◌, ◌^◌}
-use native.Mathlib.Omega.{arith}
-use lib.Dec.{T as Holds, ltb→lt, nltb→le}
-use seplogic.Ra.Ura.{Ura}
-use mir.Syntax.{Fn, Body, w64, place, assign, rv_opd, copy, seq, return}
-use mir.MapTy.{inst_fn}
-use mir.Val.{Val, vint, vptr, has_ty, WT}
-use base.Logic.{SProp, ent, never_e}
-use base.Fml.{Lft, Share, Fml, ftrue, flft}
-use contract.BorrowLft.{◌⊑◌, ⊑_trans}
-use contract.Monad.{Fun}
-use contract.Running.{tables, tables_of}
-use prog.Memory.{Memory}
-use prog.Routine.{Routine}
-use prog.Wp.{Env, Calls, Loops, WpFn, Tables}
-use sound.WpLaws.{FmC, fm_of, WpFn-mono}
-use types.Logic.{Logic}
-use types.Kit.{Item, Post as After, ‵, raw, ◌⊛◌, ⋆, some as exists, given, later, at_ret, ◌$◌, ◌∵◌, !, qed, by, move, keep, use0, use1, use2, split, split3, join, pick, learn, fsplit, fjoin, suffices, await, done}
-use types.Run.{bin, no_more, and_then, of_opd, first, blocks, skips, branches, exec, returns, returns_within, enter}
-use types.ByLocal.{alloc_all, pass_all, free_all, look_at, get, sets, lands_last, is, env}
-use denote.Exit.{yes}
-use denote.RattleType.{RattleType, owns}
+use Rattle.std.proofs.Common.{◌≡◌, refl, sym, subst, Bool, List, [], ◌∷◌, ℕ, ◌<◌, ◌≤◌, ◌^◌, arith, w64}
+use Rattle.thin_block.proofs.Walks.{Holds, ltb→lt, nltb→le, Ura, Fn, Body, place, assign, rv_opd, copy, seq, inst_fn, Val, vint, vptr, has_ty, WT, SProp, ent, never_e, Lft, Share, Fml, ftrue, flft, ◌⊑◌, ⊑_trans, Fun, tables, Memory, Routine, Env, Calls, Loops, WpFn, Tables, WpFn-mono, Logic, Item, After, ‵, raw, ◌⊛◌, exists, given, later, at_ret, ◌$◌, ◌∵◌, !, qed, by, move, keep, use0, use1, use2, split, split3, join, pick, learn, fsplit, fjoin, suffices, await, done, bin, no_more, and_then, of_opd, first, blocks, skips, branches, exec, returns, enter, alloc_all, pass_all, free_all, look_at, get, sets, lands_last, is, env, yes, RattleType, owns, layout, param, uint_vals, uint_Tells, Slot, plain, types_at, nothing, Ptr, block_ptr, null_ptr, ptr_val, rawptr_vals, rawptr_Tells, usize, RawPtr, calls_at_last, Ended, Clauses, triple_of, entered, Stays, stay_dropped, walk_of, ends_at, walked, Goes-dropped, walk_Meets, block_with_items, Al, token, El, R, el_x, after, then_runs}
+use mir.Syntax.{return}
+use contract.Running.{tables_of}
+use sound.WpLaws.{FmC, fm_of}
+use types.Kit.{⋆}
+use types.Run.{returns_within}
 use denote.Ref.{Bor, shr_vals}
-use denote.Param.{layout, param}
-use denote.Plain.{uint_vals, uint_Tells}
-use denote.Signature.{Slot, plain, types_at}
-use denote.Steps.{nothing}
-use denote.RawPtr.{Ptr, block_ptr, null_ptr, ptr_val, rawptr_vals, rawptr_Tells}
-use denote.Builtin.{usize, RawPtr, RefOf}
-use denote.Triple.Call.{calls_at_last}
-use denote.Triple.Clauses.{Ended, Clauses}
-use denote.Triple.Spec.{triple_of}
+use denote.Builtin.{RefOf}
 use denote.Triple.Statement.{Triple}
-use denote.Triple.Table.{entered}
-use denote.Triple.Walked.{Stays, stay_dropped, walk_of, ends_at, walked, Goes-dropped, walk_Meets}
-use Rattle.core.specs.Allocator.{block_with_items, resized_if_ok}
-use Rattle.core.proofs.alloc.Calls.{Al, token, Answer, answer_val, Answer-typed}
+use Rattle.core.specs.Allocator.{resized_if_ok}
+use Rattle.core.proofs.alloc.Calls.{Answer, answer_val, Answer-typed}
 use Rattle.core.proofs.alloc.Resizes.{Grows, Shrinks, resize_key, Resizes, at_resizes, Resizes-goes, Resizes-gives, result_of, result_own, asked, heard_all}
-use Rattle.core.proofs.mem.Param.{El, R, el_x}
 use Rattle.thin_block.proofs.Methods.{item, source}
 use Rattle.thin_block.proofs.ResizedCall.{Sized}
 use Rattle.thin_block.proofs.HeaderMemory.{args}
-use Rattle.thin_block.proofs.Walks.{after, then_runs}
 use Rattle.thin_block.specs.contracts.in_place.resized as F
 use Rattle.thin_block.specs.contracts.in_place.resized.Key as key
 use Rattle.thin_block.proofs.in_place.resized.Statement as stated

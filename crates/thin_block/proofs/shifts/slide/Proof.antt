@@ -1,57 +1,25 @@
 -- This file proves the contract of `slide`, which moves items one by one. The proof is like core's
 -- proof for `ptr::copy`.
-use mathlib.Core.Path.{◌≡◌, refl, sym, subst}
-use mathlib.Core.Bool.{Bool, true, false}
-use mathlib.Core.List.{List, [], ◌∷◌}
-use mathlib.Core.WellFounded.InvImage
-use Prim.Native.Nat.{ℕ, zero, suc, ◌+◌, ◌-◌, ◌*◌, ◌≤◌, ◌<◌, ◌^◌}
-use native.Mathlib.Omega.{arith}
-use seplogic.Ra.Ura.{Ura}
-use lib.Dec.{lit<, ltb→lt, nltb→le}
-use lib.ListN.{length}
+use Rattle.std.proofs.Common.{◌≡◌, refl, sym, subst, Bool, true, false, List, [], ◌∷◌, ℕ, zero, suc, ◌+◌, ◌-◌, ◌*◌, ◌≤◌, ◌<◌, ◌^◌, arith, lit<, length, w64}
+use Rattle.thin_block.proofs.Walks.{Ura, ltb→lt, nltb→le, full_share, Ty, Fn, Body, Args, a_type, ty_int, ty_array, inst_fn, Val, vunit, vbool, vint, vptr, SProp, ent, sep, never_e, Lft, Share, Fml, ftrue, ffalse, fsep, fat, flft, froom, ◌⊑◌, Memory, Routine, Env, Wp, WpFn, Tables, after_seq, after_block, Logic, sem, Fun, fact, tables, WpFn-mono, Item, Sq, any_q, runs, ‵, raw, ◌⊛◌, some, given, at_ret, ◌$◌, ◌∵◌, !, qed, by, move, keep, drop, use1, use2, join, split, split3, pick, learn, rewrite, fsplit, fjoin, feq_i, suffices, done, stop, look, load, lit, bin, unit_lit, of_opd, init, assigns_last, first, blocks, skips, branches, exec, returns, enter, alloc_all, pass_all, free_all, look_at, get, through, sets, sets_last, is, env, RattleType, owns, yes, usize, Array, part_at, layouts, uint_vals, uint_Tells, Ptr, RawPtr, block_ptr, null_ptr, ptr_val, rawptr_vals, rawptr_Tells, plain, heard, nothing, Ended, Clauses, triple_of, entered, Stays, stay_dropped, walk_of, ends_at, walked, Goes-dropped, walk_Meets, times_below, seq, assign, place, copy, rv_opd, memory_before_copy, memory_after_copy}
 use lib.WfN.{lt-wf_rel}
-use base.Fraction.{full_share}
-use mir.Syntax.{Ty, Fn, Body, Args, a_type, w64, ty_int, ty_array}
-use mir.MapTy.{inst_fn}
-use mir.Val.{Val, vunit, vbool, vint, vptr}
-use base.Logic.{SProp, ent, sep, never_e}
-use base.Fml.{Lft, Share, Fml, ftrue, ffalse, fsep, fat, flft, froom}
-use contract.BorrowLft.{◌⊑◌}
-use prog.Memory.{Memory}
-use prog.Routine.{Routine}
-use prog.Wp.{Env, Out, Wp, WpFn, Tables, at_return, after_seq, after_block, after_turn}
-use types.Logic.{Logic, sem}
-use contract.Monad.{Fun, fact}
-use contract.Running.{tables, tables_of}
-use sound.WpLaws.{WpFn-mono}
-use types.Kit.{Item, Sq, any_q, runs, ‵, raw, ◌⊛◌, some, given, at_ret, ◌$◌, ◌∵◌, !, qed, by, move, keep, drop, use1, use2, join, split, split3, pick, learn, rewrite, fsplit, fjoin, feq_i, suffices, done}
-use types.Run.{stop, look, load, lit, size_lit, bin, unit_lit, of_opd, init, assigns_last, first, blocks, skips, jumps, branches, exec, returns, enter, forget, loops, again, Below}
-use types.ByLocal.{alloc_all, pass_all, free_all, look_at, get, through, sets, sets_last, is, env, holding, forget_but, take_at, give_at}
-use denote.RattleType.{RattleType, owns}
-use denote.Exit.{yes}
-use denote.Builtin.{usize, bool}
-use denote.Array.{Array}
+use prog.Wp.{Out, at_return, after_turn}
+use contract.Running.{tables_of}
+use types.Run.{size_lit, jumps, forget, loops, again, Below}
+use types.ByLocal.{holding, forget_but, take_at, give_at}
+use denote.Builtin.{bool}
 use denote.Index.{row}
-use denote.Memory.{part_at}
-use denote.Param.{layouts}
-use denote.Plain.{uint_vals, uint_Tells, bool_vals, bool_Tells}
-use denote.RawPtr.{Ptr, RawPtr, block_ptr, null_ptr, ptr_val, rawptr_vals, rawptr_Tells}
-use denote.Signature.{plain}
-use denote.Steps.{heard, nothing}
-use denote.Triple.Clauses.{Ended, Clauses}
-use denote.Triple.Spec.{triple_of}
-use denote.Triple.Table.{entered}
-use denote.Triple.Walked.{Stays, stay_dropped, walk_of, ends_at, walked, Goes-dropped, walk_Meets}
-use Rattle.core.proofs.ptr.Rows.{El, R, el_x, elτ, el_own, sz, Good, el_out, el_in, apart, whole, one_more, times_below, one_below}
-use mir.Syntax.{seq, assign, block, cond, skip, return, place, deref, copy, rv_opd, opd_unit, op2, mul, add, sub, offset, unsigned, size_of, int}
-use Rattle.core.specs.Ptr.{memory_before_copy, memory_after_copy}
+use denote.Plain.{bool_vals, bool_Tells}
+use Rattle.core.proofs.ptr.Rows.{El, R, el_x, elτ, el_own, sz, Good, el_out, el_in, apart, whole, one_more, one_below}
+use mir.Syntax.{block, cond, skip, return, deref, opd_unit, op2, mul, add, sub, offset, unsigned, size_of, int}
 use Rattle.thin_block.specs.Shifts.{IsShifted}
 use Rattle.core.proofs.ptr.Plans.{Plan, down_Plan, up_Plan}
-use Rattle.thin_block.specs.contracts.shifts.slide as F
 use Rattle.thin_block.specs.contracts.shifts.slide.Key.{name as #self}
+use mir.Syntax.{lt, exit}
+use mathlib.Core.WellFounded.InvImage
+use Rattle.thin_block.specs.contracts.shifts.slide as F
 use Rattle.thin_block.proofs.shifts.slide.Statement as stated
 use Rattle.thin_block.proofs.shifts.slide.Code as code
-use mir.Syntax.{lt, exit}
 
 abbrev counts : El → Body
 counts E = assign (place 5 []) (op2 (add unsigned) (copy (place 5 [])) (int w64 1))

@@ -1,37 +1,16 @@
 -- This file proves the contract of `item_align`, which returns the alignment of an item.
-use mathlib.Core.Path.{◌≡◌, refl, sym, subst, ◌∙◌}
-use native.Mathlib.Omega.{arith}
-use mathlib.Core.List.{List, [], ◌∷◌}
-use Prim.Native.Nat.{ℕ, ◌^◌, ◌<◌}
-use seplogic.Ra.Ura.{Ura}
-use mir.Syntax.{Ty, Width, Fn, Args, w8, w16, w32, w64, w128, a_type}
-use mir.MapTy.{inst_fn}
-use mir.Val.{Val, vint, bytes}
-use base.Logic.{SProp, ent, sep, emp, via, fst∗}
-use base.Fml.{Lft, Share, ftrue, flft}
-use prog.Memory.{Memory, align, capped}
-use prog.Capped.{capped_fits, capped_is}
-use prog.Align.{align_w, align-bytes}
+use Rattle.std.proofs.Common.{◌≡◌, refl, sym, subst, ◌∙◌, arith, List, [], ◌∷◌, ℕ, ◌^◌, ◌<◌, w64}
+use Rattle.thin_block.proofs.Walks.{Ura, Ty, Width, Fn, Args, w8, w16, w32, w128, a_type, inst_fn, Val, vint, bytes, SProp, ent, sep, emp, via, fst∗, Lft, Share, ftrue, flft, Memory, align, capped, capped_is, align_w, align-bytes, Routine, WpFn, Tables, Logic, Fun, fact, fact_i, tables, WpFn-mono, Item, Step, step, prop, raw, use0, ‵, ◌⊛◌, ◌$◌, ◌∵◌, !, qed, move, keep, join, fjoin, feq_i, flt_i, suffices, done, of_opd, returns, enter, alloc_all, pass_all, free_all, look_at, sets, RattleType, layout, layouts, nothing, Clauses, triple_of, entered, walk_of, ends_at, walked, walk_Meets}
+use prog.Capped.{capped_fits}
 use Rattle.thin_block.specs.Capacity.{IsAlign}
-use prog.Routine.{Routine}
-use prog.Wp.{WpFn, Tables}
-use types.Logic.{Logic}
-use contract.Monad.{Fun, fact, fact_i}
-use contract.Running.{tables, tables_of}
-use sound.WpLaws.{WpFn-mono}
-use types.Kit.{Item, Step, step, prop, raw, use0, frame, ‵, ◌⊛◌, ◌$◌, ◌∵◌, !, qed, move, keep, join, fjoin, feq_i, flt_i, suffices, done}
-use types.Run.{align_word, of_opd, returns, enter}
-use types.ByLocal.{alloc_all, pass_all, free_all, look_at, sets}
-use denote.RattleType.{RattleType}
-use denote.Param.{layout, layouts}
-use denote.Steps.{nothing}
-use denote.Triple.Clauses.{Clauses, closing}
+use contract.Running.{tables_of}
+use types.Kit.{frame}
+use types.Run.{align_word}
+use denote.Triple.Clauses.{closing}
 use denote.Triple.Entry.{on_entry}
-use denote.Triple.Spec.{Meets, triple_of}
-use denote.Triple.Table.{entered}
-use denote.Triple.Walked.{walk_of, ends_at, walked, walk_Meets}
-use Rattle.thin_block.specs.contracts.sizes.item_align as F
+use denote.Triple.Spec.{Meets}
 use Rattle.thin_block.specs.contracts.sizes.item_align.Key.{name as #self}
+use Rattle.thin_block.specs.contracts.sizes.item_align as F
 use Rattle.thin_block.proofs.sizes.item_align.Statement as stated
 use Rattle.thin_block.proofs.sizes.item_align.Code as code
 

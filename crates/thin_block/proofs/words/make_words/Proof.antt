@@ -1,67 +1,29 @@
 -- This file proves the contract of `make_words`. For each word, the function reads the items of the
 -- word, and writes them back as one word at the same address.
-use mathlib.Core.Path.{◌≡◌, refl, sym, ap, ◌∙◌}
-use mathlib.Core.List.{List, [], ◌∷◌, map}
-use mathlib.Core.WellFounded.InvImage
-use Prim.Native.Nat.{ℕ, suc, ◌+◌, ◌-◌, ◌*◌, ◌<◌, ◌^◌}
-use native.Mathlib.Nat.{suc-mul, zero-mul}
-use native.Mathlib.Omega.{arith}
-use seplogic.Ra.Ura.{Ura}
-use lib.Dec.{lit<, ltb→lt, nltb→le}
-use lib.ListN.{length}
+use Rattle.std.proofs.Common.{◌≡◌, refl, sym, ap, ◌∙◌, List, [], ◌∷◌, map, ℕ, suc, ◌+◌, ◌-◌, ◌*◌, ◌<◌, ◌^◌, arith, lit<, length, w64}
+use Rattle.thin_block.proofs.Walks.{suc-mul, zero-mul, Ura, ltb→lt, nltb→le, full_share, Ty, Fn, Body, Args, a_type, a_number, ty_int, ty_array, bare, inst_fn, Val, vunit, vint, vptr, vstruct, vcons, vnil, WT, has_ty, SProp, ent, emp, sep, wand, never_e, apply∗, Lft, Share, Fml, ftrue, fat, flft, froom, ◌⊑◌, Memory, size, size-raw, Routine, Env, Wp, WpFn, Tables, after_seq, after_block, Holds, Logic, sem, Fun, fact, tables, WpFn-mono, Item, Sq, any_q, runs, ‵, raw, ◌⊛◌, exists, prop, at_ret, ◌$◌, ◌∵◌, !, qed, by, move, keep, drop, use0, use1, use2, join, split, pick, rewrite, fsplit, fjoin, feq_i, assume, suffices, done, agg, stop, look, load, lit, bin, unit_lit, of_opd, no_more, and_then, init, assigns_last, first, blocks, skips, branches, exec, returns, enter, alloc_all, pass_all, free_all, look_at, get, through, sets, sets_last, env, Array, usize, yes, Is, shows, part_at, layout, layouts, number, ArrayAt, param_laws, array_at_laws, uint_vals, uint_Tells, RattleType, owns, Ptr, RawPtr, block_ptr, null_ptr, ptr_val, rawptr_vals, rawptr_Tells, plain, heard, nothing, peeks, Ended, Clauses, triple_of, entered, Stays, stay_dropped, walk_of, ends_at, walked, Goes-dropped, walk_Meets, part_out, part_in, El, R, el_x, times_below, type_size}
 use lib.WfN.{lt-wf_rel}
-use base.Fraction.{full_share}
-use mir.Syntax.{Ty, Fn, Body, Args, a_type, a_number, w64, ty_int, ty_array}
-use mir.Raw.{raw as bare}
-use mir.MapTy.{inst_fn}
-use mir.Val.{Val, vunit, vint, vptr, vstruct, vcons, vnil, WT, has_ty}
-use base.Logic.{SProp, ent, emp, sep, wand, never_e, apply∗}
-use base.Fml.{Lft, Share, Fml, ftrue, fat, flft, froom}
-use contract.BorrowLft.{◌⊑◌}
-use prog.Memory.{Memory, size}
 use prog.Align.{both}
-use prog.RawLaws.{size-raw}
-use prog.Routine.{Routine}
-use prog.Wp.{Env, Out, Wp, WpFn, Tables, at_return, after_seq, after_block, after_turn}
-use lib.Dec.{T as Holds}
-use types.Logic.{Logic, sem}
-use contract.Monad.{Fun, fact}
-use contract.Running.{tables, tables_of}
-use sound.WpLaws.{WpFn-mono}
-use types.Kit.{Item, Sq, any_q, runs, ‵, raw, ◌⊛◌, some as exists, prop, at_ret, ◌$◌, ◌∵◌, !, qed, by, move, keep, drop, use0, use1, use2, join, split, pick, rewrite, fsplit, fjoin, feq_i, assume, suffices, done}
-use types.Part.{agg}
-use types.Run.{stop, look, load, lit, size_lit, bin, unit_lit, of_opd, no_more, and_then, init, assigns_last, first, blocks, skips, jumps, branches, exec, returns, enter, loops, again, Below}
-use types.ByLocal.{alloc_all, pass_all, free_all, look_at, get, through, sets, sets_last, env, holding, forget_but, take_at, give_at}
-use denote.Array.{Array, Array-Makes}
-use denote.Builtin.{u64, usize}
-use denote.Exit.{yes}
-use denote.Laws.{Is, shows}
-use denote.Memory.{part_at}
-use denote.Param.{layout, layouts, number, ArrayAt}
-use denote.Param.Laws.{param_laws, array_at_laws}
-use denote.Plain.{uint_vals, uint_Tells, uint_Makes}
-use denote.RattleType.{RattleType, owns}
-use denote.RawPtr.{Ptr, RawPtr, block_ptr, null_ptr, ptr_val, rawptr_vals, rawptr_Tells}
-use denote.Signature.{plain}
+use prog.Wp.{Out, at_return, after_turn}
+use contract.Running.{tables_of}
+use types.Run.{size_lit, jumps, loops, again, Below}
+use types.ByLocal.{holding, forget_but, take_at, give_at}
+use denote.Array.{Array-Makes}
+use denote.Builtin.{u64}
+use denote.Plain.{uint_Makes}
 use denote.Signature.Struct.{makes}
-use denote.Steps.{heard, nothing, owned, peeks}
+use denote.Steps.{owned}
 use denote.Struct.Declared.{shape}
-use denote.Triple.Clauses.{Ended, Clauses}
-use denote.Triple.Spec.{triple_of}
-use denote.Triple.Table.{entered}
-use denote.Triple.Walked.{Stays, stay_dropped, walk_of, ends_at, walked, Goes-dropped, walk_Meets}
-use borrow.Table.OneValue.{part_out, part_in}
-use Rattle.core.proofs.mem.Param.{El, R, el_x}
-use Rattle.core.proofs.ptr.Rows.{one_more, times_below, one_below}
+use Rattle.core.proofs.ptr.Rows.{one_more, one_below}
 use Rattle.core.proofs.slots.Bodies.{after, head}
-use Rattle.std.specs.Mem.{type_size}
 use Rattle.thin_block.specs.Ownership.{places, word_of}
 use Rattle.thin_block.specs.Slots.{full}
 use Rattle.thin_block.specs.Words.{word, runs_at, runs_from}
 use Rattle.thin_block.specs.contracts.words.Words.{the_type}
 use Rattle.thin_block.proofs.WordsMemory.{word_row, number_of_items}
-use Rattle.thin_block.specs.contracts.words.make_words as F
 use Rattle.thin_block.specs.contracts.words.make_words.Key.{name as #self}
+use mathlib.Core.WellFounded.InvImage
+use Rattle.thin_block.specs.contracts.words.make_words as F
 use Rattle.thin_block.proofs.words.make_words.Statement as stated
 use Rattle.thin_block.proofs.words.make_words.Code as code
 

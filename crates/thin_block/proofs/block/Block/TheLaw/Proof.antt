@@ -1,40 +1,28 @@
 -- This file proves that a shared reference to a block lends what separate references to the
 -- capacity, to the length and to each item would lend.
-use mathlib.Core.List.{List, [], ◌∷◌, ◌++◌, not-mem-nil}
-use Prim.Native.Nat.{ℕ, ◌+◌}
-use mathlib.Core.Bool.{Bool, true}
-use lib.ListN.{length}
-use seplogic.Ra.Ura.{Ura}
+use Rattle.std.proofs.Common.{List, [], ◌∷◌, ◌++◌, ℕ, ◌+◌, Bool, true, length, w64, Option, Some, None}
+use Rattle.thin_block.proofs.Walks.{Ura, full_share, sep, wand, apply∗, Lft, Fml, ftrue, ffalse, fsep, feq, fbor, Logic, sem, ‵, raw, ◌⊛◌, later, ◌$◌, !, qed, move, drop, use1, use2, split, updating, await, done, Ty, RattleType, usize, Ptr, block_ptr, null_ptr, lies_at, Laws, nothing, type_size}
+use mathlib.Core.List.{not-mem-nil}
 use base.Before.{chain}
-use base.Fraction.{full_share}
-use base.Logic.{sep, wand, apply∗}
-use base.Fml.{Lft, Fml, ftrue, ffalse, fsep, feq, fbor, Incl, Incl-trans}
-use types.Logic.{Logic, sem, lfts}
-use types.Kit.{‵, raw, ◌⊛◌, later, ◌$◌, !, qed, move, drop, use1, use2, split, fpack, updating, await, now, done}
-use mir.Syntax.{Ty, w64}
+use base.Fml.{Incl, Incl-trans}
+use types.Logic.{lfts}
+use types.Kit.{fpack, now}
 use contract.BorrowLft.{meet_⊑_left}
-use denote.RattleType.{RattleType, RowLaws}
-use denote.Builtin.{usize}
+use denote.RattleType.{RowLaws}
 use denote.Copied.{uint_Copied}
 use denote.Plain.{uint_row_laws}
 use denote.Sharing.{ShrLaws, said, beside}
 use denote.SharingLaws.{nothing_shr_laws, said_shr_laws, beside_shr_laws}
-use denote.RawPtr.{Ptr, block_ptr, null_ptr, lies_at}
 use denote.Shares.{Shares, Shares-less}
-use denote.Param.Laws.{Laws}
 use denote.Param.Shared.{copy_shared}
-use denote.Steps.{nothing}
 use denote.Struct.Field.{RawPtr-field}
 use denote.Struct.Laws.{RawPtr-copy, field_copy}
 use denote.Struct.Lending.{lent_at, lent_at_shr_laws, Lends, Lends-false, Lends-lies, Lends-said, Lends-nothing, Lends-first, Lends-both, of_Lends}
-use Rattle.std.specs.Prelude.{Option}
-use Rattle.std.specs.Mem.{type_size}
-use Rattle.std.specs.declared.option.Option.TheVariants.{Some, None}
-use Rattle.core.specs.contracts.marker.PhantomData as marker
 use Rattle.core.specs.declared.alloc.Allocator.{Ghosts}
 use Rattle.thin_block.specs.Ownership.{fits_block, place, places, place_lent, places_lent, frame, frame_lent, backing, block_owns, block_lent}
-use Rattle.thin_block.specs.contracts.block.Block as C
 use Rattle.thin_block.proofs.block.Block.TheLaw.Statement.{statement}
+use Rattle.core.specs.contracts.marker.PhantomData as marker
+use Rattle.thin_block.specs.contracts.block.Block as C
 
 word_laws : (p : Ptr) (n : ℕ) → ShrLaws (lent_at usize p n)
 word_laws p n = lent_at_shr_laws usize (uint_row_laws w64) p n

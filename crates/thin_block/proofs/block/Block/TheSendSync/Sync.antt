@@ -1,4 +1,4 @@
-use denote.RattleType.{RattleType}
+use Rattle.thin_block.proofs.Walks.{RattleType}
 use denote.Param.Send.{IsSync}
 use Rattle.core.specs.declared.alloc.Allocator.{Ghosts}
 use Rattle.thin_block.proofs.SendLemmas.{block_sync}

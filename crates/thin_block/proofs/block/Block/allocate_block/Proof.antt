@@ -1,44 +1,18 @@
 -- This file proves the contract of `allocate_block`, which allocates the memory of a block with
 -- empty slots and writes its header.
 use Rattle.std.proofs.Common.{◌≡◌, ℕ, ◌+◌, ◌<◌, List, [], ◌∷◌, ◌++◌, length, replicate, Bool, true, refl, sym, ap, ◌∙◌, arith, lit<, w64, Some, None, Option}
-use mir.Syntax.{Ty, Body, ty_int}
-use mir.Val.{Val, WT, vint, vptr, vstruct, vcons, vnil}
-use mir.MapTy.{inst_fn}
-use lib.ListN.{length-replicate}
-use base.Fraction.{full_share}
-use base.Logic.{SProp}
-use base.Fml.{Lft, Share, fat, froom, flft}
-use prog.Memory.{size, align, capped}
-use prog.Capped.{capped_is}
-use prog.Wp.{Env}
-use contract.BorrowLft.{⊑_trans}
-use contract.Running.{tables}
-use types.Kit.{Post as After, ‵, raw, ◌⊛◌, later, at_ret, ◌$◌, !, move, keep, drop, use0, use1, use2, split, split3, join, rewrite, fsplit, fjoin, feq_i, await, suffices, done}
-use types.Part.{whole, agg}
+use Rattle.thin_block.proofs.Walks.{Ty, Body, ty_int, Val, WT, vint, vptr, vstruct, vcons, vnil, inst_fn, length-replicate, full_share, SProp, Lft, Share, fat, froom, flft, size, align, capped, capped_is, Env, ⊑_trans, tables, After, ‵, raw, ◌⊛◌, later, at_ret, ◌$◌, !, move, keep, drop, use0, use1, use2, split, split3, join, rewrite, fsplit, fjoin, feq_i, await, suffices, done, whole, agg, stop, fld, lit, bin, init, of_opd, no_more, and_then, assigns, assigns_last, first, blocks, exec, returns, alloc_all, pass_all, free_all, look_at, get, get_in, through, sets, sets_last, lands_as, env, RattleType, usize, uint_in, Ptr, block_ptr, lies_at, calls_at, walk_of, ends_at, token, fm, proved_at, type_size, type_align, R, slot_at, then_runs, after, head, arm_body, says_all, refused_made}
 use types.Match.{live, vrt, in_variant}
-use types.Run.{stop, fld, lit, bin, init, of_opd, no_more, and_then, assigns, assigns_last, first, blocks, switches_on, exec, returns}
-use types.ByLocal.{alloc_all, pass_all, free_all, look_at, get, get_in, get_tag, through, sets, sets_last, lands_as, env}
-use denote.RattleType.{RattleType}
-use denote.Builtin.{usize}
-use denote.Plain.{uint_in}
-use denote.RawPtr.{Ptr, block_ptr, lies_at}
+use types.Run.{switches_on}
+use types.ByLocal.{get_tag}
 use denote.Signature.{type_at}
-use denote.Triple.Call.{calls_at}
-use denote.Triple.Walked.{walk_of, ends_at}
-use Rattle.core.proofs.alloc.Calls.{token, Takes, at_takes, Answered, Takes-goes, Takes-gives, answers}
-use Rattle.core.proofs.atomic.Steps.{fm}
-use Rattle.core.specs.contracts.alloc.AllocError as AE
+use Rattle.core.proofs.alloc.Calls.{Takes, at_takes, Answered, Takes-goes, Takes-gives, answers}
 use Rattle.core.specs.declared.result.Result.TheVariants.{Ok, Err}
 use Rattle.std_alloc.proofs.ResultValues.{ok_of, err_of}
-use Rattle.std.proofs.raw_atomic.Walks.{proved_at}
-use Rattle.std.specs.Mem.{type_size}
-use Rattle.std.specs.Align.{type_align}
-use Rattle.core.proofs.mem.Param.{R}
 use Rattle.thin_block.specs.Cost.{requesting}
 use Rattle.thin_block.specs.Capacity.{Fits, block_align, block_bytes}
 use Rattle.thin_block.specs.Ownership.{fits_block, places, frame, bare, words_of, way_back, asked as whole_block}
 use Rattle.thin_block.proofs.SizesLemmas.{fits_tells, opened, rounded}
-use Rattle.thin_block.proofs.Walks.{slot_at, then_runs, after, head, arm_body, says_all, refused_made}
 use Rattle.thin_block.proofs.Turning.{asked_size, asked_align, carve_asked}
 use Rattle.thin_block.proofs.HeaderMemory.{args, Br, any_some, block_val, block_made, items}
 use Rattle.thin_block.proofs.SlotMemory.{of_raw}
@@ -46,6 +20,7 @@ use Rattle.thin_block.proofs.Methods.{item, source, others, dropped, all_go, arr
 use Rattle.thin_block.specs.contracts.block.Block.allocate_block.{ended, clauses}
 use Rattle.thin_block.specs.contracts.block.Block.allocate_block.Key.{name as #self}
 use Rattle.thin_block.proofs.block.Block.allocate_block.Statement.{statement}
+use Rattle.core.specs.contracts.alloc.AllocError as AE
 use Rattle.thin_block.proofs.block.Block.allocate_block.Code as compiled
 
 pub allocate_block_spec : {M : Type 1} → statement M

@@ -1,16 +1,8 @@
 -- This file proves the contract of `cap`, which reads the capacity through a shared reference to
 -- the block.
 use Rattle.std.proofs.Common.{ℕ, ◌+◌, ◌^◌, List, ◌∷◌, [], ◌++◌, length, refl, w64}
-use mir.Val.{Val, vint, vptr}
-use mir.MapTy.{inst_fn}
-use types.Kit.{◌$◌, !, move, keep, fjoin, feq_i, flt_i, suffices, done}
-use types.Run.{stop, fld, look, load, of_opd, first, blocks, returns}
-use types.ByLocal.{alloc_all, pass_all, free_all, look_at, through, sets, sets_last, get}
-use denote.Triple.Walked.{walk_of, ends_at}
-use Rattle.std.proofs.raw_atomic.Walks.{proved_at}
-use Rattle.core.proofs.mem.Param.{R}
-use Rattle.core.proofs.slots.Lent.{pointer_in, pointer_out, word_in, word_out}
-use Rattle.thin_block.proofs.Walks.{says_all}
+use Rattle.thin_block.proofs.Walks.{Val, vint, vptr, inst_fn, ◌$◌, !, move, keep, fjoin, feq_i, flt_i, suffices, done, stop, fld, look, load, of_opd, first, blocks, returns, alloc_all, pass_all, free_all, look_at, through, sets, sets_last, get, walk_of, ends_at, proved_at, R, pointer_in, pointer_out, says_all}
+use Rattle.core.proofs.slots.Lent.{word_in, word_out}
 use Rattle.thin_block.proofs.HeaderMemory.{args}
 use Rattle.thin_block.proofs.Sharing.{block_seen}
 use Rattle.thin_block.proofs.SizesLemmas.{closed}

@@ -1,36 +1,13 @@
 -- This file proves the contract of `free_block`. The proof joins the parts of the block into one
 -- piece of memory, which the function returns to the allocator.
 use Rattle.std.proofs.Common.{◌≡◌, ℕ, ◌+◌, List, [], ◌∷◌, ◌++◌, length, refl, sym, ap, ◌∙◌, arith, w64, Some, Option}
-use mir.Syntax.{Ty, place}
-use mir.Val.{Val, vint, vptr, vunit}
-use mir.MapTy.{inst_fn}
-use base.Logic.{SProp}
-use base.Fml.{Lft, Share, froom, flft}
-use prog.Memory.{size, align, capped}
-use prog.Capped.{capped_is}
-use prog.Wp.{Env}
-use contract.BorrowLft.{⊑_trans}
-use contract.Running.{tables}
-use types.Kit.{‵, raw, ◌⊛◌, given, later, settles, at_ret, ◌$◌, !, by, move, keep, drop, use1, use2, use3, split, join, learn, rewrite, regoal, fsplit, feq_i, await}
-use types.Part.{whole, sub}
-use types.Run.{stop, fld, unit_lit, of_opd, no_more, and_then, first, blocks, exec, returns}
-use types.ByLocal.{alloc_all, pass_all, free_all, look_at, get, get_in, sets, lands_last, env}
-use denote.RattleType.{RattleType}
-use denote.RawPtr.{block_ptr}
-use denote.Steps.{nothing}
-use denote.Triple.Call.{calls_at_last}
-use denote.Triple.Walked.{walk_of}
-use Rattle.core.proofs.alloc.Calls.{token, Goes-blank, Gives, at_gives, Gives-goes, Gives-Gives}
-use Rattle.core.proofs.atomic.Steps.{fm}
-use Rattle.std.proofs.raw_atomic.Walks.{proved_at, leaves}
-use Rattle.std.specs.Mem.{type_size}
-use Rattle.std.specs.Align.{type_align}
-use Rattle.core.proofs.mem.Param.{R}
+use Rattle.thin_block.proofs.Walks.{Ty, place, Val, vint, vptr, vunit, inst_fn, SProp, Lft, Share, froom, flft, size, align, capped, capped_is, Env, ⊑_trans, tables, ‵, raw, ◌⊛◌, given, later, at_ret, ◌$◌, !, by, move, keep, drop, use1, use2, use3, split, join, learn, rewrite, regoal, fsplit, feq_i, await, whole, sub, stop, fld, unit_lit, of_opd, no_more, and_then, first, blocks, exec, returns, alloc_all, pass_all, free_all, look_at, get, get_in, sets, lands_last, env, RattleType, block_ptr, nothing, calls_at_last, walk_of, token, fm, proved_at, leaves, type_size, type_align, R, slot_at, then_runs, out_of_block, after}
+use types.Kit.{settles}
+use Rattle.core.proofs.alloc.Calls.{Goes-blank, Gives, at_gives, Gives-goes, Gives-Gives}
 use Rattle.thin_block.specs.Slots.{empty}
 use Rattle.thin_block.specs.Capacity.{block_align, block_bytes}
 use Rattle.thin_block.specs.Ownership.{places, asked as whole_block}
 use Rattle.thin_block.proofs.SizesLemmas.{fits_tells, rounded}
-use Rattle.thin_block.proofs.Walks.{slot_at, then_runs, out_of_block, after}
 use Rattle.thin_block.proofs.Turning.{asked_size, asked_align, gather}
 use Rattle.thin_block.proofs.HeaderMemory.{args, header, t, block_val, block_had, items}
 use Rattle.thin_block.proofs.SlotMemory.{to_raw}

@@ -1,36 +1,15 @@
 -- This file proves the contract of `move_apart`, which moves items to slots that do not overlap
 -- with their old slots.
-use Rattle.std.proofs.Common.{◌≡◌, ℕ, Some, ◌+◌, ◌*◌, ◌^◌, ◌<◌, ◌≤◌, List, ◌∷◌, [], ◌++◌, length, refl, sym, ap, subst, ◌∙◌, arith, w64}
-use lib.ListN.{length-map}
-use lib.Dec.{T as Holds}
-use mir.Syntax.{ty_array, ty_unit}
-use mir.Val.{Val, WT, has_ty, vint, vunit}
-use mir.MapTy.{inst_fn}
-use base.Fraction.{full_share}
-use base.Fml.{Lft, Share, Fml, froom, flft}
-use types.Kit.{‵, raw, ◌⊛◌, given, later, learn, await, ◌$◌, !, move, use1, use2, use3, split, split3, join, fsplit, fjoin, suffices, done}
-use types.Run.{unit_lit, of_opd, no_more, and_then, first, blocks, returns}
-use types.ByLocal.{alloc_all, pass_all, free_all, look_at, sets, lands_last, get}
-use denote.Array.{Array}
-use denote.Memory.{part_at}
-use denote.Param.{layout}
-use denote.Triple.Call.{calls_at_last}
-use denote.Triple.Walked.{walk_of, ends_at}
-use Rattle.std.specs.Prelude.{Option}
-use Rattle.std.proofs.raw_atomic.Walks.{proved_at}
+use Rattle.std.proofs.Common.{◌≡◌, ℕ, Some, ◌+◌, ◌*◌, ◌^◌, ◌<◌, ◌≤◌, List, ◌∷◌, [], ◌++◌, length, refl, sym, ap, subst, ◌∙◌, arith, w64, Option}
+use Rattle.thin_block.proofs.Walks.{length-map, Holds, ty_array, ty_unit, Val, WT, has_ty, vint, vunit, inst_fn, full_share, Lft, Share, Fml, froom, flft, ‵, raw, ◌⊛◌, given, later, learn, await, ◌$◌, !, move, use1, use2, use3, split, split3, join, fsplit, fjoin, suffices, done, unit_lit, of_opd, no_more, and_then, first, blocks, returns, alloc_all, pass_all, free_all, look_at, sets, lands_last, get, Array, part_at, layout, calls_at_last, walk_of, ends_at, proved_at, framed, R, says_all}
 use Rattle.core.proofs.alloc.Moves.{Copies, at_copies, Copies-goes, Copies-gives}
-use Rattle.core.proofs.atomic.Steps.{fm as framed}
-use Rattle.core.proofs.mem.Param.{R}
-use Rattle.core.proofs.ptr.copy_nonoverlapping.Met as copy_met
 use Rattle.thin_block.specs.Cost.{moving}
 use Rattle.thin_block.specs.Lends.{with_slots}
 use Rattle.thin_block.specs.Ownership.{places}
 use Rattle.thin_block.specs.Slots.{moved}
-use Rattle.thin_block.proofs.Walks.{says_all}
 use Rattle.thin_block.proofs.SlotsLemmas.{full-run, length-run}
 use Rattle.thin_block.proofs.HeaderMemory.{args, Br}
 use Rattle.thin_block.proofs.SlotMemory.{sz, reach}
-use mir.Syntax.{w64}
 use Rattle.thin_block.proofs.SlotsLemmas.{length-moved}
 use Rattle.thin_block.proofs.ShiftMemory.{Was, apart}
 use Rattle.thin_block.proofs.Methods.{item, source, others, block_stays, goes, begins, enters, closes_over, token_out, leaves_unit, ptr_of, opens_self, continues, word}
@@ -38,6 +17,7 @@ use Rattle.thin_block.proofs.Addresses.{near, its_ptr, slot_found, moves_on}
 use Rattle.thin_block.specs.contracts.block.Block.move_apart.{ended, clauses}
 use Rattle.thin_block.specs.contracts.block.Block.move_apart.Key.{name as #self}
 use Rattle.thin_block.proofs.block.Block.move_apart.Statement.{statement}
+use Rattle.core.proofs.ptr.copy_nonoverlapping.Met as copy_met
 use Rattle.thin_block.proofs.block.Block.move_apart.Code as compiled
 
 pub move_apart_spec : {M : Type 1} → statement M

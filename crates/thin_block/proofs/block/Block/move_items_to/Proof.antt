@@ -1,42 +1,13 @@
 -- This file proves the contract of `move_items_to`, which moves adjacent items from one block
 -- to another block.
-use Rattle.std.proofs.Common.{◌≡◌, ℕ, Some, None, ◌+◌, ◌*◌, ◌^◌, ◌<◌, ◌≤◌, List, ◌∷◌, [], ◌++◌, length, refl, sym, ap, subst, ◌∙◌, arith, w64}
-use lib.Dec.{T as Holds}
-use lib.ListN.{length-map, length-replicate}
-use mir.Syntax.{Fn, ty_array, ty_unit}
-use mir.Val.{Val, WT, vbool, has_ty, vint, vptr, vunit}
-use mir.MapTy.{inst_fn}
-use base.Fraction.{full_share}
-use base.Logic.{SProp}
-use base.Fml.{Lft, Share, ftrue, froom, flft}
-use prog.Wp.{Env, WpFn}
-use contract.BorrowLft.{◌⊑◌}
-use contract.Monad.{fact}
-use contract.Running.{tables}
-use types.Kit.{‵, raw, ◌⊛◌, given, later, prop, at_ret, ◌$◌, ◌∵◌, !, qed, move, keep, drop, use1, use2, use3, split, split3, join, fsplit, fsplit3, fjoin, fjoin3, feq_i, rewrite, regoal, learn, await, suffices, done}
-use types.Part.{whole, sub, look_in}
-use types.Run.{stop, fld, load, unit_lit, of_opd, no_more, and_then, first, blocks, exec, returns, enter}
-use types.ByLocal.{alloc_all, pass_all, free_all, look_at, through, sets, lands_last, env, get}
-use denote.Array.{Array}
-use denote.Memory.{part_at}
-use denote.RattleType.{RattleType, owns}
-use denote.Param.{layout}
-use denote.Signature.{plain, types_at}
-use denote.Steps.{nothing, heard}
-use denote.Triple.Call.{calls_at_last}
-use denote.Triple.Walked.{Stays, stay_ref, stay_dropped, walk_of, Goes-dropped, Goes-ref, ends_at}
-use Rattle.std.specs.Prelude.{Bool, Option, IsSome, if◌then◌else◌}
-use Rattle.std.proofs.raw_atomic.Walks.{proved_at}
-use Rattle.core.proofs.alloc.Calls.{Al}
+use Rattle.std.proofs.Common.{◌≡◌, ℕ, Some, None, ◌+◌, ◌*◌, ◌^◌, ◌<◌, ◌≤◌, List, ◌∷◌, [], ◌++◌, length, refl, sym, ap, subst, ◌∙◌, arith, w64, Bool, Option}
+use Rattle.thin_block.proofs.Walks.{Holds, length-map, length-replicate, Fn, ty_array, ty_unit, Val, WT, vbool, has_ty, vint, vptr, vunit, inst_fn, full_share, SProp, Lft, Share, ftrue, froom, flft, Env, WpFn, ◌⊑◌, fact, tables, ‵, raw, ◌⊛◌, given, later, prop, at_ret, ◌$◌, ◌∵◌, !, qed, move, keep, drop, use1, use2, use3, split, split3, join, fsplit, fsplit3, fjoin, fjoin3, feq_i, rewrite, regoal, learn, await, suffices, done, whole, sub, look_in, stop, fld, load, unit_lit, of_opd, no_more, and_then, first, blocks, exec, returns, enter, alloc_all, pass_all, free_all, look_at, through, sets, lands_last, env, get, Array, part_at, RattleType, owns, layout, plain, types_at, nothing, heard, calls_at_last, Stays, stay_ref, stay_dropped, walk_of, Goes-dropped, Goes-ref, ends_at, proved_at, Al, framed, El, R, slot_at, after, says_all}
+use Rattle.std.specs.Prelude.{IsSome, if◌then◌else◌}
 use Rattle.core.proofs.alloc.Moves.{Copies, at_copies, Copies-goes, Copies-gives}
-use Rattle.core.proofs.atomic.Steps.{fm as framed}
-use Rattle.core.proofs.mem.Param.{El, R}
-use Rattle.core.proofs.ptr.copy_nonoverlapping.Met as copy_met
 use Rattle.thin_block.specs.Cost.{Cost, moving, relocating}
 use Rattle.thin_block.specs.Lends.{with_slots}
 use Rattle.thin_block.specs.Ownership.{places}
 use Rattle.thin_block.specs.Slots.{full, empty, slot, laid, emptied}
-use Rattle.thin_block.proofs.Walks.{slot_at, after, says_all}
 use Rattle.thin_block.proofs.SlotsLemmas.{full-run, empty-run, length-run, length-laid}
 use Rattle.thin_block.proofs.HeaderMemory.{args, Br, header, t, block_opens, block_closes}
 use Rattle.thin_block.proofs.SlotMemory.{sz, reach, around, run_out, run_in, to_items, of_items, to_room, of_room}
@@ -45,6 +16,7 @@ use Rattle.thin_block.proofs.Addresses.{near, slot_found}
 use Rattle.thin_block.specs.contracts.block.Block.move_items_to.{ended, clauses}
 use Rattle.thin_block.specs.contracts.block.Block.move_items_to.Key.{name as #self}
 use Rattle.thin_block.proofs.block.Block.move_items_to.Statement.{statement}
+use Rattle.core.proofs.ptr.copy_nonoverlapping.Met as copy_met
 use Rattle.thin_block.proofs.block.Block.move_items_to.Code as compiled
 
 pub move_items_to_spec : {M : Type 1} → statement M

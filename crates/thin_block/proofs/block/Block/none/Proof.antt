@@ -1,33 +1,15 @@
 -- This file proves the contract of `none`, which returns a block without slots. Such a block points
 -- to a static header with the capacity 0 and the length 0.
 use Rattle.std.proofs.Common.{[], ◌∷◌, refl, arith, lit<, w64, None}
-use mir.Syntax.{Ty, Fn, Tys, ty_int, ty_array, ty_struct, tcons, tnil, w128}
-use mir.Val.{Val, Vals, vint, vstruct, vcons, vnil}
-use mir.MapTy.{inst_fn}
-use base.Logic.{SProp}
-use base.Fml.{ftrue, fat, flent}
-use contract.BorrowLft.{◌⊑◌}
-use contract.Monad.{fact}
-use contract.Running.{tables}
-use types.Kit.{‵, raw, ◌⊛◌, later, ◌$◌, ◌∵◌, !, qed, move, keep, use1, split, split3, join, fjoin, await, suffices, done}
-use types.Part.{agg}
-use types.Run.{stop, addr, no_more, and_then, statics, returns, enter}
-use types.ByLocal.{alloc_all, pass_all, free_all, look_at, get, through, sets, lands_as}
-use denote.RattleType.{owns}
-use denote.Builtin.{usize}
+use Rattle.thin_block.proofs.Walks.{Ty, Fn, ty_int, ty_array, w128, Val, vint, vstruct, vcons, vnil, inst_fn, SProp, ftrue, fat, ◌⊑◌, fact, tables, ‵, raw, ◌⊛◌, later, ◌$◌, ◌∵◌, !, qed, move, keep, use1, split, split3, join, fjoin, await, suffices, done, agg, stop, no_more, and_then, returns, enter, alloc_all, pass_all, free_all, look_at, get, through, sets, lands_as, owns, usize, part_at, uint_in, block_ptr, types_at, nothing, Stays, walk_of, ends_at, proved_at, Al, El, says_all}
+use mir.Syntax.{Tys, ty_struct, tcons, tnil}
+use mir.Val.{Vals}
+use base.Fml.{flent}
+use types.Run.{addr, statics}
 use denote.Copied.{uint_Copied}
-use denote.Memory.{part_at, shared_of}
-use denote.Plain.{uint_in}
-use denote.RawPtr.{block_ptr}
-use denote.Signature.{types_at}
-use denote.Steps.{nothing}
+use denote.Memory.{shared_of}
 use denote.Triple.Entry.{alive}
-use denote.Triple.Walked.{Stays, walk_of, ends_at}
-use Rattle.std.proofs.raw_atomic.Walks.{proved_at}
-use Rattle.core.proofs.alloc.Calls.{Al}
-use Rattle.core.proofs.mem.Param.{El}
 use Rattle.thin_block.specs.Cost.{no_cost}
-use Rattle.thin_block.proofs.Walks.{says_all}
 use Rattle.thin_block.proofs.HeaderMemory.{args, Br, block_val, block_made}
 use Rattle.thin_block.specs.contracts.block.Block.none.{ended, clauses}
 use Rattle.thin_block.specs.contracts.block.Block.none.Key.{name as #self}

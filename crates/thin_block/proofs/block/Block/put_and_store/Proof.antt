@@ -1,28 +1,12 @@
 -- This file proves the contract of `put_and_store`, which puts an item into an empty slot and then
 -- writes the length of the block.
-use Rattle.std.proofs.Common.{◌≡◌, ℕ, Some, ◌+◌, ◌*◌, ◌<◌, ◌≤◌, List, ◌∷◌, [], ◌++◌, length, refl, sym, subst, arith, w64}
-use lib.ListN.{set, length-set}
-use mir.Syntax.{ty_int}
-use mir.Val.{Val, vint, vunit}
-use mir.MapTy.{inst_fn}
-use base.Fraction.{full_share}
-use base.Fml.{fat, froom}
-use types.Kit.{‵, ◌$◌, !, move, keep, drop, use1, use2, fsplit, fjoin, rewrite, suffices, done}
-use types.Run.{stop, lit, bin, init, store, unit_lit, of_opd, assigns, assigns_last, first, blocks, returns}
-use types.ByLocal.{alloc_all, pass_all, free_all, look_at, through, sets, get}
-use denote.Builtin.{usize}
-use denote.Plain.{uint_in, uint_out}
-use denote.RawPtr.{block_ptr, lies_at}
-use denote.Param.{layout}
-use denote.Triple.Walked.{walk_of, ends_at}
-use Rattle.std.specs.Prelude.{Option}
-use Rattle.std.proofs.raw_atomic.Walks.{proved_at}
-use Rattle.core.proofs.mem.Param.{R, lawful, one}
+use Rattle.std.proofs.Common.{◌≡◌, ℕ, Some, ◌+◌, ◌*◌, ◌<◌, ◌≤◌, List, ◌∷◌, [], ◌++◌, length, refl, sym, subst, arith, w64, Option}
+use Rattle.thin_block.proofs.Walks.{set, length-set, ty_int, Val, vint, vunit, inst_fn, full_share, fat, froom, ‵, ◌$◌, !, move, keep, drop, use1, use2, fsplit, fjoin, rewrite, suffices, done, stop, lit, bin, init, store, unit_lit, of_opd, assigns, assigns_last, first, blocks, returns, alloc_all, pass_all, free_all, look_at, through, sets, get, usize, uint_in, uint_out, block_ptr, lies_at, layout, walk_of, ends_at, proved_at, R, says_all}
+use Rattle.core.proofs.mem.Param.{lawful, one}
 use Rattle.core.proofs.slice.Rows.{el_in}
 use Rattle.thin_block.specs.Cost.{moving}
 use Rattle.thin_block.specs.Lends.{with_slots}
 use Rattle.thin_block.specs.Ownership.{place, places}
-use Rattle.thin_block.proofs.Walks.{says_all}
 use Rattle.thin_block.proofs.HeaderMemory.{alloc_there, args, Br, header, t}
 use Rattle.thin_block.proofs.SlotMemory.{sz, slot_in}
 use Rattle.thin_block.proofs.Methods.{item, source, others, block_stays, goes, begins_with, enters, closes_over, leaves_unit, ptr_of, opens_self, continues, word}

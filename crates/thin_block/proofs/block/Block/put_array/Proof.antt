@@ -1,38 +1,15 @@
 -- This file proves the contract of `put_array`, which moves the items of an array into adjacent
 -- empty slots.
-use Rattle.std.proofs.Common.{◌≡◌, ℕ, Some, ◌+◌, ◌*◌, ◌≤◌, List, ◌∷◌, [], ◌++◌, length, refl, ◌∙◌, arith, w64}
-use lib.ListN.{length-map}
-use mir.Syntax.{ty_array}
-use mir.Val.{Val, vint, vunit}
-use mir.MapTy.{inst_fn}
-use base.Fraction.{full_share}
-use base.Fml.{froom}
-use types.Kit.{‵, ◌⊛◌, given, learn, ◌$◌, !, move, keep, drop, use1, use2, split, fsplit, rewrite, suffices, done}
-use types.Run.{stop, init, unit_lit, of_opd, assigns_last, first, blocks, returns}
-use types.ByLocal.{alloc_all, pass_all, free_all, look_at, through, sets, get}
-use denote.Array.{Array}
-use denote.Memory.{part_at}
-use denote.RattleType.{RattleType}
-use denote.Param.{layout, param, number}
-use denote.Signature.{plain}
-use denote.Triple.Walked.{walk_of, Goes-dropped, Goes-ref, ends_at}
-use Rattle.std.specs.Prelude.{Option}
-use Rattle.std.proofs.raw_atomic.Walks.{proved_at}
-use Rattle.core.proofs.mem.Param.{R}
+use Rattle.std.proofs.Common.{◌≡◌, ℕ, Some, ◌+◌, ◌*◌, ◌≤◌, List, ◌∷◌, [], ◌++◌, length, refl, ◌∙◌, arith, w64, Option}
+use Rattle.thin_block.proofs.Walks.{length-map, ty_array, Val, vint, vunit, inst_fn, full_share, froom, ‵, ◌⊛◌, given, learn, ◌$◌, !, move, keep, drop, use1, use2, split, fsplit, rewrite, suffices, done, stop, init, unit_lit, of_opd, assigns_last, first, blocks, returns, alloc_all, pass_all, free_all, look_at, through, sets, get, Array, part_at, RattleType, layout, param, number, plain, walk_of, Goes-dropped, Goes-ref, ends_at, proved_at, R, slot_at, says_all, ArrayAt, param_laws, array_at_laws, via, part_in, alone, nothing_left}
 use Rattle.thin_block.specs.Cost.{moving}
 use Rattle.thin_block.specs.Lends.{with_slots}
 use Rattle.thin_block.specs.Ownership.{places}
 use Rattle.thin_block.specs.Slots.{full, empty, laid}
-use Rattle.thin_block.proofs.Walks.{slot_at, says_all}
 use Rattle.thin_block.proofs.SlotsLemmas.{empty-run, length-laid}
 use Rattle.thin_block.proofs.HeaderMemory.{Br}
 use Rattle.thin_block.proofs.SlotMemory.{sz, around, run_out, run_in, of_items, to_room}
 use denote.Exit.{all_rest}
-use denote.Param.{ArrayAt}
-use denote.Param.Laws.{param_laws, array_at_laws}
-use base.Logic.{via}
-use borrow.Table.OneValue.{part_in}
-use Rattle.thin_block.proofs.Walks.{alone, nothing_left}
 use Rattle.thin_block.proofs.SlotMemory.{counted}
 use Rattle.thin_block.proofs.Methods.{item, source, others, block_stays, begins_with, enters, closes_over, args_at, leaves_unit, ptr_of, opens_self, continues, word}
 use Rattle.thin_block.proofs.Addresses.{near, its_ptr, slot_found}

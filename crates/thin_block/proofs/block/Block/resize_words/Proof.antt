@@ -1,62 +1,28 @@
 -- This file proves the contract of `resize_words`, which converts a block into an array of words,
 -- resizes the array, and converts it back into a block.
-use Rattle.std.proofs.Common.{◌≡◌, ℕ, ◌+◌, ◌-◌, ◌*◌, ◌^◌, ◌<◌, ◌≤◌, List, [], ◌∷◌, ◌++◌, length, true, refl, sym, ap, subst, ◌∙◌, arith, lit<, w64, Some, None, Option}
-use Rattle.std.specs.Prelude.{take, drop as rest}
-use Rattle.std.specs.Int.{div_ceil}
-use Rattle.std.proofs.lemmas.List.{take-append-drop, length-take, length-drop, length-append, length-map, length-replicate}
+use Rattle.std.proofs.Common.{◌≡◌, ℕ, ◌+◌, ◌-◌, ◌*◌, ◌^◌, ◌<◌, ◌≤◌, List, [], ◌∷◌, ◌++◌, length, true, refl, sym, ap, subst, ◌∙◌, arith, lit<, w64, Some, None, Option, take, drop as rest}
+use Rattle.thin_block.proofs.Walks.{div_ceil, length-take, length-append, Ty, Fn, Body, Args, ty_int, ty_array, a_type, a_number, dcons, dnil, bare, Val, WT, vint, vptr, vcons, vnil, inst_fn, full_share, SProp, ex, emp, id⊢, Fml, Lft, Share, ftrue, fsep, fat, froom, flft, Env, WpFn, ◌⊑◌, fact, fact_i, tables, After, ‵, raw, ◌⊛◌, exists, pick, later, prop, at_ret, ◌$◌, ◌∵◌, !, qed, move, keep, drop, group, use0, use1, use2, use3, split, split3, join, regoal, rewrite, fsplit, await, feq_l, suffices, done, whole, sub, agg, stop, fld, lit, bin, init, look, load, size_word, of_opd, no_more, and_then, assigns, first, blocks, exec, returns, enter, alloc_all, pass_all, free_all, look_at, get, get_in, through, is, sets, sets_last, lands_as, env, Array, usize, unit, part_at, RattleType, owns, yes, layout, param, number, bounded, ArrayAt, param_laws, array_at_laws, Is, shows, uint_in, Ptr, RawPtr, block_ptr, lies_at, types_at, peeks, nothing, only, calls_at, triple_of, walk_of, ends_at, part_out, part_in, array_of, block_with_items, Al, token, fm, uncapped, proved_at, type_size, type_align, El, R, slot_at, then_runs, out_of_block, after, head, inside, arm_body, says_all}
+use Rattle.std.proofs.lemmas.List.{take-append-drop, length-drop, length-map, length-replicate}
 use native.Mathlib.Nat.{mul_assoc}
-use mir.Syntax.{Ty, Fn, Body, Args, ty_int, ty_array, a_type, a_number, dcons, dnil}
-use mir.Raw.{raw as bare}
-use mir.Val.{Val, WT, vint, vptr, vcons, vnil}
-use mir.MapTy.{inst_fn}
-use base.Fraction.{full_share}
-use base.Logic.{SProp, ex, emp, id⊢}
-use base.Fml.{Fml, Lft, Share, ftrue, fsep, fat, froom, flft}
-use prog.Wp.{Env, WpFn}
-use contract.BorrowLft.{◌⊑◌, ⊑_meet, ⊑_static}
-use contract.Monad.{fact, fact_i}
-use contract.Running.{tables}
-use types.Kit.{Post as After, ‵, raw, ◌⊛◌, some as exists, pick, later, prop, at_ret, ◌$◌, ◌∵◌, !, qed, move, keep, drop, group, use0, use1, use2, use3, split, split3, join, regoal, rewrite, fsplit, await, feq_l, suffices, done}
-use types.Part.{whole, sub, agg}
+use contract.BorrowLft.{⊑_meet, ⊑_static}
 use types.Match.{live, vrt, in_variant}
-use types.Run.{stop, fld, lit, bin, init, look, load, size_word, of_opd, no_more, and_then, assigns, first, blocks, switches_on, exec, returns, enter}
-use types.ByLocal.{alloc_all, pass_all, free_all, look_at, get, get_in, get_tag, through, is, sets, sets_last, lands_as, env}
-use denote.Array.{Array}
-use denote.Builtin.{usize, unit}
-use denote.Memory.{part_at}
-use denote.RattleType.{RattleType, owns}
-use denote.Exit.{yes}
-use denote.Param.{arg, layout, param, number, bounded, ArrayAt}
-use denote.Param.Laws.{arg_laws, param_laws, array_at_laws}
-use denote.Laws.{Is, shows}
-use denote.Plain.{uint_in}
-use denote.RawPtr.{Ptr, RawPtr, block_ptr, lies_at}
+use types.Run.{switches_on}
+use types.ByLocal.{get_tag}
+use denote.Param.{arg}
+use denote.Param.Laws.{arg_laws}
 use denote.Shadow.{pure_i}
-use denote.Signature.{types_at, type_at}
-use denote.Steps.{peeks, nothing, only}
-use denote.Triple.Call.{calls_at}
-use denote.Triple.Spec.{triple_of}
-use denote.Triple.Walked.{walk_of, ends_at}
-use borrow.Table.OneValue.{part_out, part_in}
-use Rattle.core.specs.Allocator.{array_of, block_with_items}
+use denote.Signature.{type_at}
 use Rattle.core.specs.Simd.{first_chunks}
-use Rattle.core.proofs.alloc.Calls.{Al, token, Goes-blank}
+use Rattle.core.proofs.alloc.Calls.{Goes-blank}
 use Rattle.core.proofs.alloc.Resizes.{Flagged, flagged}
-use Rattle.core.proofs.atomic.Steps.{fm}
-use Rattle.core.proofs.slots.Leases.{uncapped}
 use Rattle.core.specs.declared.result.Result.TheVariants.{Ok, Err}
 use Rattle.std_alloc.proofs.ResultValues.{ok_of, err_of}
-use Rattle.std.proofs.raw_atomic.Walks.{proved_at}
-use Rattle.std.specs.Mem.{type_size}
-use Rattle.std.specs.Align.{type_align}
-use Rattle.core.proofs.mem.Param.{El, R}
 use Rattle.thin_block.specs.Cost.{growing}
 use Rattle.thin_block.specs.Capacity.{block_bytes}
 use Rattle.thin_block.specs.Slots.{items_in, full, empty, laid, run}
 use Rattle.thin_block.specs.Ownership.{fits_block, places, frame, word_of, header_way, slots_way}
 use Rattle.thin_block.specs.Words.{runs_at}
 use Rattle.thin_block.proofs.SizesLemmas.{fits_tells, opened}
-use Rattle.thin_block.proofs.Walks.{slot_at, then_runs, out_of_block, after, head, inside, arm_body, says_all}
 use Rattle.thin_block.proofs.HeaderMemory.{Br, header, t, any_some, block_val, block_had, block_made}
 use Rattle.thin_block.proofs.SlotMemory.{sz, reach}
 use Rattle.thin_block.proofs.SlotsLemmas.{packed-carried}
@@ -64,14 +30,14 @@ use Rattle.thin_block.proofs.Turning.{turn_out, turn_back, turn_up, turn_down, u
 use Rattle.thin_block.proofs.WordsLemmas.{InWords, words_told}
 use Rattle.thin_block.proofs.WordsMemory.{word_el, words_made, words_long, chunks_long, words_in, words_joined, words_back}
 use Rattle.thin_block.proofs.ResizedCall.{Sized, Resizing, at_resizing, leaves, Resizing-goes, Resizing-gives}
-use Rattle.thin_block.proofs.in_place.resized.Met as resized_met
-use Rattle.thin_block.proofs.words.make_words.Met as make_met
-use Rattle.thin_block.specs.contracts.words.make_words as make
 use Rattle.thin_block.specs.Block.{seen}
 use Rattle.thin_block.proofs.Methods.{others, dropped, all_go, heard_all, blank}
 use Rattle.thin_block.specs.contracts.block.Block.resize_words.{ended, clauses}
 use Rattle.thin_block.specs.contracts.block.Block.resize_words.Key.{name as #self}
 use Rattle.thin_block.proofs.block.Block.resize_words.Statement.{statement}
+use Rattle.thin_block.proofs.in_place.resized.Met as resized_met
+use Rattle.thin_block.proofs.words.make_words.Met as make_met
+use Rattle.thin_block.specs.contracts.words.make_words as make
 use Rattle.thin_block.proofs.block.Block.resize_words.Code as compiled
 
 pub resize_words_spec : {M : Type 1} → statement M

@@ -1,18 +1,9 @@
 -- This file proves the contract of `slice`, which returns the items in adjacent slots as a slice.
 use Rattle.std.proofs.Common.{◌≡◌, ℕ, ◌+◌, ◌*◌, ◌-◌, ◌^◌, ◌<◌, ◌≤◌, List, ◌∷◌, [], ◌++◌, length, Some, refl, sym, ap, subst, ◌∙◌, arith, w64}
-use lib.ListN.{length-map}
-use mir.Val.{Val, vint, vptr}
-use mir.MapTy.{inst_fn}
-use base.Fml.{Lft, fhide}
-use types.Kit.{‵, ◌$◌, !, move, keep, use1, fjoin, feq_i, flt_i, suffices, done}
-use types.Part.{agg}
-use types.Run.{stop, fld, look, load, bin, of_opd, no_more, and_then, first, blocks, returns}
-use types.ByLocal.{alloc_all, pass_all, free_all, look_at, through, sets, sets_last, get}
-use denote.Slice.{elements_shared, slice_val}
-use denote.Triple.Walked.{walk_of, says, ends_at}
-use Rattle.std.proofs.raw_atomic.Walks.{proved_at}
-use Rattle.core.proofs.mem.Param.{R}
-use Rattle.core.proofs.slots.Lent.{pointer_in, pointer_out}
+use Rattle.thin_block.proofs.Walks.{length-map, Val, vint, vptr, inst_fn, Lft, ‵, ◌$◌, !, move, keep, use1, fjoin, feq_i, flt_i, suffices, done, agg, stop, fld, look, load, bin, of_opd, no_more, and_then, first, blocks, returns, alloc_all, pass_all, free_all, look_at, through, sets, sets_last, get, slice_val, walk_of, ends_at, proved_at, R, pointer_in, pointer_out}
+use base.Fml.{fhide}
+use denote.Slice.{elements_shared}
+use denote.Triple.Walked.{says}
 use Rattle.thin_block.proofs.HeaderMemory.{args}
 use Rattle.thin_block.proofs.SlotMemory.{sz, reach}
 use Rattle.thin_block.proofs.Sharing.{block_seen, run_seen}

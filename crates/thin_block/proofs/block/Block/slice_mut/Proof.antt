@@ -1,28 +1,11 @@
 -- This file proves the contract of `slice_mut`, which returns the items in adjacent slots as a
 -- mutable slice.
 use Rattle.std.proofs.Common.{◌≡◌, ℕ, Some, ◌+◌, ◌-◌, ◌*◌, ◌^◌, ◌<◌, ◌≤◌, List, ◌∷◌, [], ◌++◌, length, refl, sym, ap, subst, ◌∙◌, arith, w64}
-use lib.ListN.{length-map}
-use mir.Syntax.{named}
-use mir.Val.{vint}
-use mir.MapTy.{inst_fn}
-use base.Logic.{ent, sep, emp}
-use base.Fml.{Lft, Share, GName, Fml, fsep, flft}
-use contract.Monad.{fact, fact_i}
-use types.Logic.{sem}
-use types.Kit.{‵, raw, ◌⊛◌, some as exists, later, pick, await, ◌$◌, !, by, move, use0, use1, split, split3, join, group, fjoin, rewrite}
-use types.Part.{agg}
-use types.Run.{bin, of_opd, no_more, and_then, first, blocks, returns}
-use types.ByLocal.{alloc_all, pass_all, free_all, look_at, sets, sets_last, get}
-use types.SemTy.{cells}
-use denote.Array.{Array}
+use Rattle.thin_block.proofs.Walks.{length-map, named, vint, inst_fn, ent, sep, emp, Lft, Share, GName, Fml, fsep, flft, fact, fact_i, sem, ‵, raw, ◌⊛◌, exists, later, pick, await, ◌$◌, !, by, move, use0, use1, split, split3, join, group, fjoin, rewrite, agg, bin, of_opd, no_more, and_then, first, blocks, returns, alloc_all, pass_all, free_all, look_at, sets, sets_last, get, cells, Array, mem, slice_val, walk_of, proved_at, leaves, R}
 use denote.Follow.{follows}
 use denote.FollowSlice.{lends_Elements}
-use denote.Memory.{mem}
-use denote.Slice.{MutSlice, slice_val}
-use denote.Triple.Walked.{walk_of}
+use denote.Slice.{MutSlice}
 use Rattle.std.specs.Prelude.{slice_range}
-use Rattle.std.proofs.raw_atomic.Walks.{proved_at, leaves}
-use Rattle.core.proofs.mem.Param.{R}
 use Rattle.thin_block.specs.Lends.{with_items}
 use Rattle.thin_block.specs.Ownership.{places}
 use Rattle.thin_block.specs.Slots.{full}

@@ -1,56 +1,25 @@
 -- This file proves the contract of `slide_run`, which moves adjacent items up or down by `d` slots.
-use Rattle.std.proofs.Common.{◌≡◌, ℕ, Some, ◌+◌, ◌*◌, ◌^◌, ◌<◌, ◌≤◌, List, ◌∷◌, [], ◌++◌, length, refl, sym, ap, subst, ◌∙◌, arith, w64}
-use lib.ListN.{length-map}
-use lib.Dec.{T as Holds}
-use mir.Syntax.{ty_unit}
-use mir.Val.{Val, WT, has_ty, vint, vptr, vunit}
-use mir.MapTy.{inst_fn}
-use base.Logic.{emp}
-use base.Fml.{Lft, Share, Fml, ftrue, fsep, flft}
-use contract.BorrowLft.{◌⊑◌}
-use contract.Monad.{fact, fact_i}
-use types.Kit.{‵, raw, ◌⊛◌, some as exists, later, pick, await, ◌$◌, !, move, drop, use0, use1, use2, split, join, suffices, done}
-use types.Run.{bin, size_word, unit_lit, of_opd, no_more, and_then, first, blocks, returns}
-use types.ByLocal.{alloc_all, pass_all, free_all, look_at, is, sets, lands_last, get}
-use denote.Builtin.{usize}
-use denote.RattleType.{owns}
-use denote.RawPtr.{RawPtr, block_ptr}
-use denote.Steps.{nothing}
-use denote.Triple.Call.{calls_at_last}
-use denote.Triple.Walked.{walk_of, ends_at}
-use Rattle.std.specs.Prelude.{Option}
-use Rattle.std.proofs.raw_atomic.Walks.{proved_at}
-use Rattle.core.proofs.atomic.Steps.{fm as framed}
-use Rattle.core.proofs.mem.Param.{R}
-use Rattle.core.proofs.slots.Leases.{uncapped}
+use Rattle.std.proofs.Common.{◌≡◌, ℕ, Some, ◌+◌, ◌*◌, ◌^◌, ◌<◌, ◌≤◌, List, ◌∷◌, [], ◌++◌, length, refl, sym, ap, subst, ◌∙◌, arith, w64, Option, Bool}
+use Rattle.thin_block.proofs.Walks.{length-map, Holds, ty_unit, Val, WT, has_ty, vint, vptr, vunit, inst_fn, emp, Lft, Share, Fml, ftrue, fsep, flft, ◌⊑◌, fact, fact_i, ‵, raw, ◌⊛◌, exists, later, pick, await, ◌$◌, !, move, drop, use0, use1, use2, split, join, suffices, done, bin, size_word, unit_lit, of_opd, no_more, and_then, first, blocks, returns, alloc_all, pass_all, free_all, look_at, is, sets, lands_last, get, usize, owns, RawPtr, block_ptr, nothing, calls_at_last, walk_of, ends_at, proved_at, framed, R, uncapped, says_all, feq_l, id⊢, unit, only, triple_of, vbool, memory_before_copy, memory_after_copy}
 use Rattle.thin_block.specs.Cost.{moving}
 use Rattle.thin_block.specs.Lends.{with_slots}
 use Rattle.thin_block.specs.Ownership.{places}
 use Rattle.thin_block.specs.Slots.{moved}
-use Rattle.thin_block.proofs.Walks.{says_all}
 use Rattle.thin_block.proofs.SlotsLemmas.{full-run, length-run}
 use Rattle.thin_block.proofs.HeaderMemory.{args, Br}
 use Rattle.thin_block.proofs.SlotMemory.{sz, reach}
-use Rattle.std.specs.Prelude.{Bool}
-use types.Kit.{feq_l}
-use base.Logic.{id⊢}
-use denote.Builtin.{bool, unit}
+use denote.Builtin.{bool}
 use denote.Shadow.{pure_i}
-use denote.Steps.{only}
-use denote.Triple.Spec.{triple_of}
-use mir.Syntax.{w64}
-use mir.Val.{vbool}
-use Rattle.core.specs.Ptr.{memory_before_copy, memory_after_copy}
 use Rattle.thin_block.specs.Shifts.{IsShifted}
 use Rattle.thin_block.proofs.SlotsLemmas.{length-moved}
 use Rattle.thin_block.proofs.ShiftMemory.{further, slides, distance, shifted}
-use Rattle.thin_block.proofs.shifts.slide.Met as slide_met
-use Rattle.thin_block.specs.contracts.shifts.slide as slide
 use Rattle.thin_block.proofs.Methods.{item, source, others, block_stays, goes, begins, enters, closes_over, token_out, leaves_unit, ptr_of, opens_self, continues, word}
 use Rattle.thin_block.proofs.Addresses.{near, its_ptr, slot_found}
 use Rattle.thin_block.specs.contracts.block.Block.slide_run.{ended, clauses}
 use Rattle.thin_block.specs.contracts.block.Block.slide_run.Key.{name as #self}
 use Rattle.thin_block.proofs.block.Block.slide_run.Statement.{statement}
+use Rattle.thin_block.proofs.shifts.slide.Met as slide_met
+use Rattle.thin_block.specs.contracts.shifts.slide as slide
 use Rattle.thin_block.proofs.block.Block.slide_run.Code as compiled
 
 pub slide_run_spec : {M : Type 1} → statement M

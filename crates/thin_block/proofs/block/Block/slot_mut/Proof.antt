@@ -1,22 +1,10 @@
 -- This file proves the contract of `slot_mut`, which returns a mutable reference to the item in a
 -- filled slot.
 use Rattle.std.proofs.Common.{◌≡◌, ℕ, Some, None, ◌+◌, ◌*◌, ◌<◌, ◌∷◌, [], ◌++◌, length, refl, arith, w64}
-use lib.ListN.{get_or}
-use mir.Syntax.{named}
-use mir.Val.{vint, vptr}
-use mir.MapTy.{inst_fn}
-use base.Logic.{emp}
-use base.Fml.{Lft, Share, GName, Fml, fsep, flft}
-use contract.Monad.{fact, fact_i}
-use types.Logic.{sem}
-use types.Kit.{‵, raw, ◌⊛◌, some as exists, later, pick, await, ◌$◌, !, by, move, use0, use1, split3, join, group, fjoin}
-use types.Run.{stop, addr, of_opd, first, blocks, returns}
-use types.ByLocal.{alloc_all, pass_all, free_all, look_at, through, sets, sets_last, get}
+use Rattle.thin_block.proofs.Walks.{get_or, named, vint, vptr, inst_fn, emp, Lft, Share, GName, Fml, fsep, flft, fact, fact_i, sem, ‵, raw, ◌⊛◌, exists, later, pick, await, ◌$◌, !, by, move, use0, use1, split3, join, group, fjoin, stop, of_opd, first, blocks, returns, alloc_all, pass_all, free_all, look_at, through, sets, sets_last, get, walk_of, proved_at, leaves, R}
+use types.Run.{addr}
 use denote.Follow.{follows, lends_Part}
 use denote.Ref.{MutRef}
-use denote.Triple.Walked.{walk_of}
-use Rattle.std.proofs.raw_atomic.Walks.{proved_at, leaves}
-use Rattle.core.proofs.mem.Param.{R}
 use Rattle.thin_block.specs.Lends.{with_item}
 use Rattle.thin_block.proofs.SlotsLemmas.{the_item, filled-within}
 use Rattle.thin_block.proofs.HeaderMemory.{args, Br}

@@ -1,22 +1,6 @@
 -- This file proves the contract of `store_len`, which writes the length to the header of the block.
-use Rattle.std.proofs.Common.{◌≡◌, ℕ, ◌+◌, ◌≤◌, ◌∷◌, [], ◌++◌, length, refl, sym, arith, w64}
-use mir.Syntax.{ty_int}
-use mir.Val.{vint, vunit}
-use mir.MapTy.{inst_fn}
-use base.Fraction.{full_share}
-use base.Fml.{fat}
-use types.Kit.{‵, ◌$◌, !, move, use1, fsplit, fjoin, rewrite, suffices, done}
-use types.Part.{whole, sub, look_in}
-use types.Run.{stop, fld, load, lit, bin, store, unit_lit, of_opd, assigns_last, first, blocks, returns}
-use types.ByLocal.{alloc_all, pass_all, free_all, look_at, through, sets, get}
-use denote.Builtin.{usize}
-use denote.Plain.{uint_in, uint_out}
-use denote.RawPtr.{block_ptr, lies_at}
-use denote.Triple.Walked.{walk_of, ends_at}
-use Rattle.std.specs.Prelude.{Option}
-use Rattle.std.proofs.raw_atomic.Walks.{proved_at}
-use Rattle.core.proofs.mem.Param.{R}
-use Rattle.thin_block.proofs.Walks.{says_all}
+use Rattle.std.proofs.Common.{◌≡◌, ℕ, ◌+◌, ◌≤◌, ◌∷◌, [], ◌++◌, length, refl, sym, arith, w64, Option}
+use Rattle.thin_block.proofs.Walks.{ty_int, vint, vunit, inst_fn, full_share, fat, ‵, ◌$◌, !, move, use1, fsplit, fjoin, rewrite, suffices, done, whole, sub, look_in, stop, fld, load, lit, bin, store, unit_lit, of_opd, assigns_last, first, blocks, returns, alloc_all, pass_all, free_all, look_at, through, sets, get, usize, uint_in, uint_out, block_ptr, lies_at, walk_of, ends_at, proved_at, R, says_all}
 use Rattle.thin_block.proofs.HeaderMemory.{alloc_there, args, Br, header, t, block_closes}
 use Rattle.thin_block.proofs.Methods.{item, source, others, block_stays, goes, begins, enters, leaves_unit, ptr_of, opens_self, continues, word}
 use Rattle.thin_block.specs.contracts.block.Block.store_len.{ended, clauses}

@@ -1,19 +1,8 @@
 -- This file proves the contract of `take`, which moves the item out of a filled slot.
 use Rattle.std.proofs.Common.{ℕ, None, ◌+◌, ◌*◌, ◌<◌, ◌∷◌, [], ◌++◌, length, refl, arith, w64}
-use lib.ListN.{set, length-set, get_or}
-use mir.Val.{vint}
-use mir.MapTy.{inst_fn}
-use base.Fml.{froom}
-use types.Kit.{‵, ◌$◌, !, move, use1, use2, suffices, done}
-use types.Run.{stop, load, look, of_opd, first, blocks, returns}
-use types.ByLocal.{alloc_all, pass_all, free_all, look_at, through, sets, sets_last, get}
-use denote.Param.{layout}
-use denote.Triple.Walked.{walk_of, ends_at}
-use Rattle.std.proofs.raw_atomic.Walks.{proved_at}
-use Rattle.core.proofs.mem.Param.{R}
+use Rattle.thin_block.proofs.Walks.{set, length-set, get_or, vint, inst_fn, froom, ‵, ◌$◌, !, move, use1, use2, suffices, done, stop, load, look, of_opd, first, blocks, returns, alloc_all, pass_all, free_all, look_at, through, sets, sets_last, get, layout, walk_of, ends_at, proved_at, R, says_all}
 use Rattle.thin_block.specs.Lends.{with_slots}
 use Rattle.thin_block.specs.Ownership.{place, places}
-use Rattle.thin_block.proofs.Walks.{says_all}
 use Rattle.thin_block.proofs.SlotsLemmas.{the_item, filled-within}
 use Rattle.thin_block.proofs.HeaderMemory.{args, Br}
 use Rattle.thin_block.proofs.Addresses.{near, its_ptr, slot_found, takes_item}

@@ -1,35 +1,13 @@
 -- This file proves the contract of `take_array`, which moves the items out of adjacent slots and
 -- returns them as an array.
-use Rattle.std.proofs.Common.{◌≡◌, ℕ, Some, None, ◌+◌, ◌*◌, ◌≤◌, List, ◌∷◌, [], ◌++◌, length, refl, sym, ap, ◌∙◌, arith, w64}
-use lib.ListN.{length-map, length-replicate}
-use mir.Syntax.{ty_array}
-use mir.Val.{Val, vint}
-use mir.MapTy.{inst_fn}
-use base.Fraction.{full_share}
-use base.Fml.{fat, froom}
-use types.Kit.{‵, ◌⊛◌, some as exists, pick, ◌$◌, !, move, use1, use2, split, suffices, done}
-use types.Run.{stop, look, load, of_opd, first, blocks, returns}
-use types.ByLocal.{alloc_all, pass_all, free_all, look_at, through, sets, sets_last, get}
-use denote.Array.{Array}
-use denote.Memory.{part_at}
-use denote.RattleType.{RattleType}
-use denote.Param.{layout, param, number}
-use denote.Triple.Walked.{walk_of, ends_at}
-use Rattle.std.specs.Prelude.{Option}
-use Rattle.std.proofs.raw_atomic.Walks.{proved_at}
-use Rattle.core.proofs.mem.Param.{R}
+use Rattle.std.proofs.Common.{◌≡◌, ℕ, Some, None, ◌+◌, ◌*◌, ◌≤◌, List, ◌∷◌, [], ◌++◌, length, refl, sym, ap, ◌∙◌, arith, w64, Option}
+use Rattle.thin_block.proofs.Walks.{length-map, length-replicate, ty_array, Val, vint, inst_fn, full_share, fat, froom, ‵, ◌⊛◌, exists, pick, ◌$◌, !, move, use1, use2, split, suffices, done, stop, look, load, of_opd, first, blocks, returns, alloc_all, pass_all, free_all, look_at, through, sets, sets_last, get, Array, part_at, RattleType, layout, param, number, walk_of, ends_at, proved_at, R, says_all, Is, shows, ArrayAt, param_laws, array_at_laws, peeks, part_out}
 use Rattle.thin_block.specs.Lends.{with_slots}
 use Rattle.thin_block.specs.Ownership.{places}
 use Rattle.thin_block.specs.Slots.{full, empty, emptied}
-use Rattle.thin_block.proofs.Walks.{says_all}
 use Rattle.thin_block.proofs.SlotsLemmas.{full-run, length-run, length-laid}
 use Rattle.thin_block.proofs.HeaderMemory.{Br}
 use Rattle.thin_block.proofs.SlotMemory.{sz, around, run_out, run_in, to_items, of_room}
-use denote.Laws.{Is, shows}
-use denote.Param.{ArrayAt}
-use denote.Param.Laws.{param_laws, array_at_laws}
-use denote.Steps.{peeks}
-use borrow.Table.OneValue.{part_out}
 use Rattle.thin_block.proofs.Methods.{item, source, others, block_stays, goes, begins, enters, closes_over, args_at, leaves_with, ptr_of, opens_self, continues, word}
 use Rattle.thin_block.proofs.Addresses.{near, its_ptr, slot_found}
 use Rattle.thin_block.specs.contracts.block.Block.take_array.{ended, clauses}

@@ -1,26 +1,14 @@
 -- This file proves the contract of `take_replacing`. The proof first follows the proof of `swap`,
 -- and then the proof of `take` for slot `j`.
-use Rattle.std.proofs.Common.{◌≡◌, ℕ, Some, None, ◌+◌, ◌*◌, ◌<◌, List, ◌∷◌, [], ◌++◌, length, refl, sym, ap, ◌∙◌, arith, w64}
-use lib.ListN.{set, length-set}
+use Rattle.std.proofs.Common.{◌≡◌, ℕ, Some, None, ◌+◌, ◌*◌, ◌<◌, List, ◌∷◌, [], ◌++◌, length, refl, sym, ap, ◌∙◌, arith, w64, Option}
+use Rattle.thin_block.proofs.Walks.{set, length-set, vint, inst_fn, full_share, fat, froom, ‵, ◌$◌, !, move, use1, use2, use3, rewrite, suffices, done, stop, look, load, store, of_opd, assigns, first, blocks, returns, alloc_all, pass_all, free_all, look_at, through, sets, sets_last, get, layout, walk_of, ends_at, proved_at, R, says_all}
 use lib.Seq.{set-set}
-use mir.Val.{vint}
-use mir.MapTy.{inst_fn}
-use base.Fraction.{full_share}
-use base.Fml.{fat, froom}
-use types.Kit.{‵, ◌$◌, !, move, use1, use2, use3, rewrite, suffices, done}
-use types.Run.{stop, look, load, store, of_opd, assigns, first, blocks, returns}
-use types.ByLocal.{alloc_all, pass_all, free_all, look_at, through, sets, sets_last, get}
-use denote.Param.{layout}
-use denote.Triple.Walked.{walk_of, ends_at}
-use Rattle.std.specs.Prelude.{Option, ◌==◌, if◌then◌else◌}
-use Rattle.std.proofs.raw_atomic.Walks.{proved_at}
-use Rattle.core.proofs.mem.Param.{R}
+use Rattle.std.specs.Prelude.{◌==◌, if◌then◌else◌}
 use Rattle.core.proofs.slice.Rows.{el_in}
 use Rattle.thin_block.specs.Cost.{moving}
 use Rattle.thin_block.specs.Lends.{with_slots}
 use Rattle.thin_block.specs.Ownership.{place, places}
 use Rattle.thin_block.specs.Slots.{slot}
-use Rattle.thin_block.proofs.Walks.{says_all}
 use Rattle.thin_block.proofs.SlotsLemmas.{the_item, filled-within}
 use Rattle.thin_block.proofs.HeaderMemory.{args, Br}
 use Rattle.thin_block.proofs.SlotMemory.{sz, slot_in}
