@@ -13,7 +13,7 @@ use Rattle.std.proofs.lemmas.Bool.Decides.{nat_tests}
 use Rattle.core.proofs.ptr.Rows.{times_below}
 use Rattle.thin_block.specs.Capacity.{fits, first, Fits}
 use Rattle.thin_block.specs.Growth.{Rule, KeepsLaw, doubling, exact_capacity, fitting, ruled_capacity}
-use Rattle.thin_block.proofs.SizesLemmas.{opened, closed, fits_none, fits_tells, fits_yes, rounded}
+use Rattle.thin_block.proofs.sizes.SizesLemmas.{opened, closed, fits_none, fits_tells, fits_yes, rounded}
 
 -- If the old capacity `c` suffices for `w` items, then `ruled_capacity` is `Some c`: the capacity
 -- does not change.

@@ -21,7 +21,7 @@ use borrow.Author.Tests.{clash}
 use Rattle.std.specs.Option.{is_some}
 use Rattle.thin_block.specs.Ownership.{any, fits_block, places, parts, whole, frame, block_owns}
 use Rattle.thin_block.specs.Capacity.{block_align, block_bytes}
-use Rattle.thin_block.proofs.SizesLemmas.{fits_none}
+use Rattle.thin_block.proofs.sizes.SizesLemmas.{fits_none}
 use Rattle.thin_block.specs.contracts.block.Block as block
 
 -- `plainly Rs` is the struct type with the field types `Rs` and an empty name. What a struct owns

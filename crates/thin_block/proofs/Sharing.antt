@@ -16,7 +16,7 @@ use borrow.Author.Tests.{clash}
 use Rattle.std.specs.Option.{is_some}
 use Rattle.thin_block.specs.Ownership.{any, fits_block, block_lent, place_lent, places_lent}
 use Rattle.thin_block.specs.Slots.{full, run}
-use Rattle.thin_block.proofs.SizesLemmas.{fits_none}
+use Rattle.thin_block.proofs.sizes.SizesLemmas.{fits_none}
 use Rattle.thin_block.proofs.HeaderMemory.{Br}
 use Rattle.thin_block.proofs.SlotMemory.{Slot, sz}
 use Rattle.core.specs.contracts.marker.PhantomData as marker

@@ -11,7 +11,7 @@ use types.Kit.{drop as skip, check}
 use denote.Index.{row}
 use Rattle.thin_block.specs.Ownership.{fits_block, place, places}
 use Rattle.thin_block.specs.Slots.{full, empty, run, laid}
-use Rattle.thin_block.proofs.SizesLemmas.{fits_tells}
+use Rattle.thin_block.proofs.sizes.SizesLemmas.{fits_tells}
 use Rattle.core.proofs.ptr.Rows as arrays
 
 -- If a block of `c` slots is small enough to be allocated, and `i ≤ c`, then `i` items take fewer

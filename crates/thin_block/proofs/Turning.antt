@@ -10,8 +10,9 @@ use Rattle.thin_block.specs.Ownership.{places, parts, frame, fits_block, bare, w
 use Rattle.thin_block.specs.Slots.{full, empty}
 use Rattle.thin_block.proofs.HeaderMemory.{carve, whole_size, whole_align}
 use Rattle.thin_block.proofs.SlotMemory.{cut, glue, to_items, of_items, to_raw, of_raw, of_room, to_room}
-use Rattle.thin_block.proofs.WordsLemmas.{InWords, word_align, word_size, words_told, nameless}
-use Rattle.thin_block.proofs.WordsMemory.{word_el, header_out, header_in, block_out, block_in}
+use Rattle.thin_block.proofs.words.WordsLemmas.{InWords, word_align, word_size, words_told, nameless}
+use Rattle.thin_block.proofs.words.WordRooms.{header_out, header_in, block_out, block_in}
+use Rattle.thin_block.proofs.words.WordsMemory.{word_el}
 
 -- `half` is the type of one half of the header. Both the capacity and the length have this type.
 abbrev half : Ty

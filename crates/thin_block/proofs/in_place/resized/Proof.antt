@@ -14,7 +14,7 @@ use Rattle.core.specs.Allocator.{resized_if_ok}
 use Rattle.core.proofs.alloc.Calls.{Answer, answer_val, Answer-typed}
 use Rattle.core.proofs.alloc.Resizes.{Grows, Shrinks, resize_key, Resizes, at_resizes, Resizes-goes, Resizes-gives, result_of, result_own, asked, heard_all}
 use Rattle.thin_block.proofs.Methods.{item, source}
-use Rattle.thin_block.proofs.ResizedCall.{Sized}
+use Rattle.thin_block.proofs.in_place.ResizedCall.{Sized}
 use Rattle.thin_block.proofs.HeaderMemory.{args}
 use Rattle.thin_block.specs.contracts.in_place.resized as F
 use Rattle.thin_block.specs.contracts.in_place.resized.Key as key

@@ -5,7 +5,7 @@ use Rattle.std.specs.Mem.{type_size}
 use Rattle.std.specs.Align.{type_align}
 use Rattle.std.specs.Int.{next_multiple_of}
 use Rattle.thin_block.specs.Capacity.{items_offset, block_bytes, Fits}
-use Rattle.thin_block.proofs.SizesLemmas.{opened, fits_tells, rounded, capped_product}
+use Rattle.thin_block.proofs.sizes.SizesLemmas.{opened, fits_tells, rounded, capped_product}
 use prog.Memory.{capped}
 use denote.Param.{param}
 use denote.RattleType.{RattleType}

@@ -4,7 +4,7 @@ use Rattle.std.proofs.Common.{◌≡◌, ℕ, ◌-◌, ◌*◌, ◌/◌, ◌^◌
 use Rattle.std.specs.Mem.{type_size}
 use Rattle.std.specs.Align.{type_align}
 use Rattle.thin_block.specs.Capacity.{block_align, Fits}
-use Rattle.thin_block.proofs.SizesLemmas.{opened, closed, fits_yes, fits_tells, divided, dividing, rounded, whole_product, positive}
+use Rattle.thin_block.proofs.sizes.SizesLemmas.{opened, closed, fits_yes, fits_tells, divided, dividing, rounded, whole_product, positive}
 use borrow.Author.Tests.{leb-true, le-leb}
 use prog.Memory.{capped}
 use denote.Param.{param}

@@ -20,7 +20,7 @@ use Rattle.thin_block.specs.Ownership.{places, word_of}
 use Rattle.thin_block.specs.Slots.{full}
 use Rattle.thin_block.specs.Words.{word, runs_at, runs_from}
 use Rattle.thin_block.specs.contracts.words.Words.{the_type}
-use Rattle.thin_block.proofs.WordsMemory.{word_row, number_of_items}
+use Rattle.thin_block.proofs.words.WordsMemory.{word_row, number_of_items}
 use Rattle.thin_block.specs.contracts.words.make_words.Key.{name as #self}
 use mathlib.Core.WellFounded.InvImage
 use Rattle.thin_block.specs.contracts.words.make_words as F

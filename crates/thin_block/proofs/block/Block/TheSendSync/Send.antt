@@ -1,7 +1,7 @@
 use Rattle.thin_block.proofs.Walks.{RattleType}
 use denote.Param.Send.{IsSend, Frees}
 use Rattle.core.specs.declared.alloc.Allocator.{Ghosts}
-use Rattle.thin_block.proofs.SendLemmas.{block_send}
+use Rattle.thin_block.proofs.block.SendLemmas.{block_send}
 use Rattle.thin_block.specs.contracts.block.Block.{the_row}
 
 pub send : (R Z : RattleType) (g : Ghosts Z.Denot) → IsSend R → IsSend Z → Frees g g.dealloc_token

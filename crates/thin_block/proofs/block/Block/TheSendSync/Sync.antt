@@ -1,7 +1,7 @@
 use Rattle.thin_block.proofs.Walks.{RattleType}
 use denote.Param.Send.{IsSync}
 use Rattle.core.specs.declared.alloc.Allocator.{Ghosts}
-use Rattle.thin_block.proofs.SendLemmas.{block_sync}
+use Rattle.thin_block.proofs.block.SendLemmas.{block_sync}
 use Rattle.thin_block.specs.contracts.block.Block.{the_row}
 
 pub sync : (R Z : RattleType) (g : Ghosts Z.Denot) → IsSync R → IsSync Z → IsSync (the_row R Z g)

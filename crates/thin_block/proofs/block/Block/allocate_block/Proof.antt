@@ -12,7 +12,7 @@ use Rattle.std_alloc.proofs.ResultValues.{ok_of, err_of}
 use Rattle.thin_block.specs.Cost.{requesting}
 use Rattle.thin_block.specs.Capacity.{Fits, block_align, block_bytes}
 use Rattle.thin_block.specs.Ownership.{fits_block, places, frame, bare, words_of, way_back, asked as whole_block}
-use Rattle.thin_block.proofs.SizesLemmas.{fits_tells, opened, rounded}
+use Rattle.thin_block.proofs.sizes.SizesLemmas.{fits_tells, opened, rounded}
 use Rattle.thin_block.proofs.Turning.{asked_size, asked_align, carve_asked}
 use Rattle.thin_block.proofs.HeaderMemory.{args, Br, any_some, block_val, block_made, items}
 use Rattle.thin_block.proofs.SlotMemory.{of_raw}

@@ -5,7 +5,7 @@ use Rattle.thin_block.proofs.Walks.{Val, vint, vptr, inst_fn, ◌$◌, !, move, 
 use Rattle.core.proofs.slots.Lent.{word_in, word_out}
 use Rattle.thin_block.proofs.HeaderMemory.{args}
 use Rattle.thin_block.proofs.Sharing.{block_seen}
-use Rattle.thin_block.proofs.SizesLemmas.{closed}
+use Rattle.thin_block.proofs.sizes.SizesLemmas.{closed}
 use Rattle.thin_block.proofs.Methods.{item, source, others, dropped, all_go, seen, enters, leaves, continues}
 use Rattle.thin_block.specs.contracts.block.Block.cap.{ended, clauses}
 use Rattle.thin_block.specs.contracts.block.Block.cap.Key.{name as #self}

@@ -14,7 +14,7 @@ use Rattle.thin_block.specs.Cost.{moving}
 use Rattle.thin_block.specs.Lends.{with_slots}
 use Rattle.thin_block.specs.Ownership.{places}
 use Rattle.thin_block.specs.Slots.{full, empty, slot, laid}
-use Rattle.thin_block.proofs.CopyCall.{Copied, at_copied, IsCopy, Copied-goes, Copied-gives}
+use Rattle.thin_block.proofs.slots.CopyCall.{Copied, at_copied, IsCopy, Copied-goes, Copied-gives}
 use Rattle.thin_block.proofs.HeaderMemory.{Br}
 use Rattle.thin_block.proofs.SlotMemory.{sz, around, run_out, run_in, of_items, to_room}
 use Rattle.thin_block.proofs.SlotsLemmas.{empty-run, length-laid}

@@ -7,7 +7,7 @@ use Rattle.core.proofs.alloc.Calls.{Goes-blank, Gives, at_gives, Gives-goes, Giv
 use Rattle.thin_block.specs.Slots.{empty}
 use Rattle.thin_block.specs.Capacity.{block_align, block_bytes}
 use Rattle.thin_block.specs.Ownership.{places, asked as whole_block}
-use Rattle.thin_block.proofs.SizesLemmas.{fits_tells, rounded}
+use Rattle.thin_block.proofs.sizes.SizesLemmas.{fits_tells, rounded}
 use Rattle.thin_block.proofs.Turning.{asked_size, asked_align, gather}
 use Rattle.thin_block.proofs.HeaderMemory.{args, header, t, block_val, block_had, items}
 use Rattle.thin_block.proofs.SlotMemory.{to_raw}

@@ -6,7 +6,7 @@ use Rattle.core.proofs.slots.Lent.{word_in, word_out}
 use Rattle.thin_block.proofs.HeaderMemory.{args}
 use Rattle.thin_block.proofs.Sharing.{block_seen}
 use Rattle.thin_block.proofs.CapacityLemmas.{fits-less}
-use Rattle.thin_block.proofs.SizesLemmas.{closed}
+use Rattle.thin_block.proofs.sizes.SizesLemmas.{closed}
 use Rattle.thin_block.proofs.Methods.{item, source, others, dropped, all_go, seen, enters, leaves, continues}
 use Rattle.thin_block.specs.contracts.block.Block.len.{ended, clauses}
 use Rattle.thin_block.specs.contracts.block.Block.len.Key.{name as #self}

@@ -11,7 +11,7 @@ use Rattle.thin_block.proofs.SlotsLemmas.{full-run, length-run}
 use Rattle.thin_block.proofs.HeaderMemory.{args, Br}
 use Rattle.thin_block.proofs.SlotMemory.{sz, reach}
 use Rattle.thin_block.proofs.SlotsLemmas.{length-moved}
-use Rattle.thin_block.proofs.ShiftMemory.{Was, apart}
+use Rattle.thin_block.proofs.shifts.ShiftMemory.{Was, apart}
 use Rattle.thin_block.proofs.Methods.{item, source, others, block_stays, goes, begins, enters, closes_over, token_out, leaves_unit, ptr_of, opens_self, continues, word}
 use Rattle.thin_block.proofs.Addresses.{near, its_ptr, slot_found, moves_on}
 use Rattle.thin_block.specs.contracts.block.Block.move_apart.{ended, clauses}

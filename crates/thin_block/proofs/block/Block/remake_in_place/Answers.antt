@@ -1,8 +1,8 @@
 -- `remake_in_place` computes the number of words of the new block. This file proves that this
 -- number does not exceed `usize::MAX`.
 use Rattle.std.proofs.Common.{arith}
-use Rattle.thin_block.proofs.SizesLemmas.{opened, fits_tells}
-use Rattle.thin_block.proofs.WordsLemmas.{words_told}
+use Rattle.thin_block.proofs.sizes.SizesLemmas.{opened, fits_tells}
+use Rattle.thin_block.proofs.words.WordsLemmas.{words_told}
 use denote.Param.{param}
 use Rattle.thin_block.proofs.block.Block.remake_in_place.Goals as goal
 

@@ -22,14 +22,14 @@ use Rattle.thin_block.specs.Capacity.{block_bytes}
 use Rattle.thin_block.specs.Slots.{items_in, full, empty, laid, run}
 use Rattle.thin_block.specs.Ownership.{fits_block, places, frame, word_of, header_way, slots_way}
 use Rattle.thin_block.specs.Words.{runs_at}
-use Rattle.thin_block.proofs.SizesLemmas.{fits_tells, opened}
+use Rattle.thin_block.proofs.sizes.SizesLemmas.{fits_tells, opened}
 use Rattle.thin_block.proofs.HeaderMemory.{Br, header, t, any_some, block_val, block_had, block_made}
 use Rattle.thin_block.proofs.SlotMemory.{sz, reach}
 use Rattle.thin_block.proofs.SlotsLemmas.{packed-carried}
 use Rattle.thin_block.proofs.Turning.{turn_out, turn_back, turn_up, turn_down, units_out, header_apart, header_whole}
-use Rattle.thin_block.proofs.WordsLemmas.{InWords, words_told}
-use Rattle.thin_block.proofs.WordsMemory.{word_el, words_made, words_long, chunks_long, words_in, words_joined, words_back}
-use Rattle.thin_block.proofs.ResizedCall.{Sized, Resizing, at_resizing, leaves, Resizing-goes, Resizing-gives}
+use Rattle.thin_block.proofs.words.WordsLemmas.{InWords, words_told}
+use Rattle.thin_block.proofs.words.WordsMemory.{word_el, words_made, words_long, chunks_long, words_in, words_joined, words_back}
+use Rattle.thin_block.proofs.in_place.ResizedCall.{Sized, Resizing, at_resizing, leaves, Resizing-goes, Resizing-gives}
 use Rattle.thin_block.specs.Block.{seen}
 use Rattle.thin_block.proofs.Methods.{others, dropped, all_go, heard_all, blank}
 use Rattle.thin_block.specs.contracts.block.Block.resize_words.{ended, clauses}

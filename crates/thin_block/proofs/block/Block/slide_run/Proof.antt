@@ -12,7 +12,7 @@ use denote.Builtin.{bool}
 use denote.Shadow.{pure_i}
 use Rattle.thin_block.specs.Shifts.{IsShifted}
 use Rattle.thin_block.proofs.SlotsLemmas.{length-moved}
-use Rattle.thin_block.proofs.ShiftMemory.{further, slides, distance, shifted}
+use Rattle.thin_block.proofs.shifts.ShiftMemory.{further, slides, distance, shifted}
 use Rattle.thin_block.proofs.Methods.{item, source, others, block_stays, goes, begins, enters, closes_over, token_out, leaves_unit, ptr_of, opens_self, continues, word}
 use Rattle.thin_block.proofs.Addresses.{near, its_ptr, slot_found}
 use Rattle.thin_block.specs.contracts.block.Block.slide_run.{ended, clauses}

@@ -2,7 +2,7 @@
 -- code caps the item size at `usize::MAX`.
 use Rattle.std.proofs.Common.{arith}
 use Rattle.std.specs.Mem.{type_size}
-use Rattle.thin_block.proofs.SizesLemmas.{first_one, first_many}
+use Rattle.thin_block.proofs.sizes.SizesLemmas.{first_one, first_many}
 use denote.Param.{param}
 use Rattle.thin_block.proofs.growth.doubling.first_capacity.Goals as goal
 

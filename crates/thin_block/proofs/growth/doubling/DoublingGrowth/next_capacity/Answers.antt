@@ -5,7 +5,7 @@ use Rattle.std.specs.Mem.{type_size}
 use Rattle.std.specs.Align.{type_align}
 use Rattle.thin_block.specs.Capacity.{first}
 use Rattle.thin_block.specs.Growth.{fitting}
-use Rattle.thin_block.proofs.SizesLemmas.{doubling_is}
+use Rattle.thin_block.proofs.sizes.SizesLemmas.{doubling_is}
 use denote.Param.{param}
 use Rattle.thin_block.proofs.growth.doubling.DoublingGrowth.next_capacity.Goals as goal
 use Rattle.thin_block.proofs.growth.doubling.DoublingGrowth.next_capacity.Goals.{then-cap-eq0, else-cap-eq0}

@@ -5,8 +5,8 @@ use Rattle.std.specs.Mem.{type_size}
 use Rattle.std.specs.Align.{type_align}
 use Rattle.thin_block.specs.Growth.{least_power}
 use Rattle.thin_block.specs.PowerLaws.{powers_of_none}
-use Rattle.thin_block.proofs.PowersLemmas.{each_fills, power_is, power_past, takes_none}
-use Rattle.thin_block.proofs.SizesLemmas.{positive}
+use Rattle.thin_block.proofs.growth.PowersLemmas.{each_fills, power_is, power_past, takes_none}
+use Rattle.thin_block.proofs.sizes.SizesLemmas.{positive}
 use denote.Param.{param}
 use Rattle.thin_block.proofs.growth.power_bytes.PowerBytesGrowth.next_capacity.Goals as goal
 

@@ -1,15 +1,13 @@
--- These lemmas convert the memory of items, headers, slots and blocks into memory of words, and
--- back. Here, a word is a struct of `m` items, which takes 8 or 16 bytes.
+-- These lemmas convert the memory of items into memory of words, and back. Here, a word is a struct
+-- of `m` items, which takes 8 or 16 bytes.
 use Rattle.std.proofs.Common.{◌≡◌, ℕ, zero, suc, Some, ◌+◌, ◌-◌, ◌*◌, ◌≤◌, List, [], ◌∷◌, ◌++◌, length, map, take, drop as rest, refl, sym, ap, subst, ◌∙◌, arith, zero-mul, suc-mul, Option, w64}
-use Rattle.thin_block.proofs.Walks.{length-take, Ura, full_share, SProp, ent, sep, apply∗, Fml, ftrue, fsep, froom, Ty, Width, w8, w16, w32, w128, ty_int, ty_array, bare, bytes, size, align, align_w, align-bytes, size-raw, Logic, sem, ‵, raw, ◌⊛◌, ◌$◌, ◌∵◌, !, qed, by, move, keep, drop, use0, use1, use2, use3, split, split3, join, fsplit, fjoin, rewrite, keeps, assume, done, Array, part_at, layout, param, number, ArrayAt, Laws, param_laws, array_at_laws, RattleType, nothing, Struct, El, R, el_x, add_times, type_size}
+use Rattle.thin_block.proofs.Walks.{length-take, Ura, full_share, SProp, ent, sep, apply∗, Fml, ftrue, froom, Ty, Width, w8, w16, w32, w128, ty_int, ty_array, bare, bytes, size, align, align_w, align-bytes, size-raw, Logic, sem, ‵, raw, ◌⊛◌, ◌$◌, ◌∵◌, !, qed, by, move, keep, use0, use1, use2, use3, split, split3, join, fsplit, fjoin, rewrite, assume, done, Array, part_at, layout, param, number, ArrayAt, Laws, param_laws, array_at_laws, RattleType, nothing, Struct, El, R, el_x, add_times, type_size}
 use Rattle.std.proofs.lemmas.List.{take-append-drop, length-drop, length-map, map-append}
-use native.Mathlib.Nat.{add_comm, mul_assoc}
-use base.Fml.{fwand}
+use native.Mathlib.Nat.{mul_assoc}
 use contract.Monad.{conj, conj_r}
 use prog.Memory.{up}
 use denote.Array.{Array-Lawful}
 use denote.Builtin.{u64}
-use denote.Index.{place, place_is}
 use denote.RawPtr.Room.{past, room_cut, room_glue}
 use denote.Struct.Declared.{shape}
 use denote.Struct.Laws.{u64-laws}
@@ -17,202 +15,14 @@ use denote.Struct.Members.{Member, parts_at, rooms_for}
 use denote.Struct.Parts.{shape_of, PartsBack, RoomBack, Struct-parts_free}
 use denote.Struct.Recorded.{Recorded-part}
 use Rattle.core.specs.Simd.{first_chunks}
-use Rattle.thin_block.specs.Ownership.{places, word_of, way, ways, header_room, header_way, slots_way}
+use Rattle.thin_block.specs.Ownership.{places, word_of, way, ways, slots_way}
 use Rattle.thin_block.specs.Slots.{full, empty}
 use Rattle.thin_block.specs.Words.{word, runs_at}
 use Rattle.thin_block.specs.contracts.words.Words.{the_row, the_type}
+use Rattle.thin_block.proofs.words.WordRooms.{past_is, ways_in, ways_out}
 use Rattle.thin_block.proofs.SlotMemory.{cut, glue, to_items, of_items, to_raw, of_raw}
-use Rattle.thin_block.proofs.WordsLemmas.{InWords, nameless}
+use Rattle.thin_block.proofs.words.WordsLemmas.{InWords, nameless}
 use Rattle.thin_block.proofs.words.Words.TheLaws.{the_row_laws}
-
--- An array of `n` values of type `τ` that begins at the offset `o` ends at the offset `past τ n o`,
--- which is `o` plus `n` times the size of a value.
-past-place : (τ : Ty) (n o : ℕ) → past τ n o ≡ place (size τ) o n
-past-place τ zero o = refl
-past-place τ (suc n) o = past-place τ n (o + size τ)
-
-past_is : (τ : Ty) (n o : ℕ) → past τ n o ≡ o + n * size τ
-past_is τ n o = past-place τ n o ∙ (place_is (size τ) o n ∙ add_comm (n * size τ) o)
-
-module _ {M : Type 1} {𝓤 : Ura M} (𝓛 : Logic 𝓤) (τ : Ty) (m k b : ℕ)
-    (hd : InWords (size τ) (align τ) m k) where
-  open 𝓛 use {H}
-
-  abbrev ω : Ty
-  ω = word_of τ m
-
-  abbrev u : ℕ
-  u = size ω
-
-  abbrev run : Ty
-  run = ty_array τ m
-
-  -- `half` is the type of one half of the header. Both the capacity and the length have this type.
-  abbrev half : Ty
-  half = ty_int w64
-
-  abbrev two : Ty
-  two = ty_array half 2
-
-  abbrev units : Ty
-  units = ty_array ω k
-
-  -- `m` items that begin at the offset `o` end at `past τ m o`, which is `o + u`. Here, `u` is the
-  -- size of a word of `m` items.
-  after_run : (o : ℕ) → past τ m o ≡ o + u
-  after_run o = past_is τ m o ∙ ap (λ (n : ℕ). o + n) (sym hd.size)
-
-  -- If `m` items make a word, then `w + 1` words hold `m` more items than `w` words.
-  one_more : (w : ℕ) → m + w * m ≡ suc w * m
-  one_more w = omega (arith, suc-mul w m)
-
-  -- Splits memory for `w` words into two parts: memory for the items of these words, and the rights
-  -- (`ways`) to convert the first part back into memory for words.
-  pub ways_out : (w o : ℕ) → ent 𝓤 (H.room (ty_array ω w) b o)
-      (sep 𝓤 (H.room (ty_array τ (w * m)) b o) (sem 𝓛 (ways τ m w b o)))
-  ways_out zero o =
-      qed 𝓛 (‵ (froom (ty_array ω 0) b o) ∷ []) ∵ drop ! $ nothing ! $
-      use0 𝓛 (‵ (froom (ty_array τ 0) b o)) (𝓛.laws.room_nil τ b o) $
-      rewrite ! 0 (λ (n : ℕ). ‵ (froom (ty_array τ n) b o)) (sym (zero-mul m)) refl $ done !
-  ways_out (suc w) o =
-      qed 𝓛 (‵ (froom (ty_array ω (suc w)) b o) ∷ []) ∵
-      use1 𝓛 (‵ (froom ω b o) ⊛ ‵ (froom (ty_array ω w) b (o + u)))
-      (𝓛.laws.room_uncons ω w b o) $ split ! $
-      use1 𝓛 (‵ (froom run b o) ⊛ ‵ (way τ m b o))
-      (𝓛.laws.room_as ω run b o (sym hd.size) hd.item) $
-      split ! $ move ! (2 ∷ []) $
-      use1 𝓛 (‵ (froom (ty_array τ (w * m)) b (o + u)) ⊛ ‵ (ways τ m w b (o + u)))
-      (ways_out w (o + u)) $ split ! $
-      -- The previous steps have split the memory for the words into memory for their items, and the
-      -- rights to convert this memory back. The proof context now holds these entries, in this
-      -- order: memory for the items of all words except the first; the rights for these words;
-      -- memory for the items of the first word; the right for the first word.
-      rewrite ! 0 (λ (n : ℕ). ‵ (froom (ty_array τ (w * m)) b n)) (sym (after_run o)) refl $
-      move ! (2 ∷ 0 ∷ []) $ use2 𝓛 (‵ (froom (ty_array τ (m + w * m)) b o))
-      (room_glue 𝓛 τ m (w * m) b o) $
-      rewrite ! 0 (λ (n : ℕ). ‵ (froom (ty_array τ n) b o)) (one_more w) refl $
-      move ! (2 ∷ 1 ∷ 0 ∷ []) $ fjoin ! $ move ! (1 ∷ 0 ∷ []) $ done !
-
-  -- Converts memory for the items of `w` words into memory for these words. The lemma uses up
-  -- `ways`, the rights to do this.
-  pub ways_in : (w o : ℕ) → ent 𝓤 (sep 𝓤 (H.room (ty_array τ (w * m)) b o) (sem 𝓛 (ways τ m w b o)))
-      (H.room (ty_array ω w) b o)
-  ways_in zero o = qed 𝓛 (‵ (froom (ty_array τ (0 * m)) b o) ∷ ‵ ftrue ∷ []) ∵ keep ! [] $
-      by ! (𝓛.laws.room_nil ω b o)
-  ways_in (suc w) o =
-      qed 𝓛 (‵ (froom (ty_array τ (suc w * m)) b o) ∷ ‵ (ways τ m (suc w) b o) ∷ []) ∵
-      rewrite ! 0 (λ (n : ℕ). ‵ (froom (ty_array τ n) b o)) (sym (one_more w)) refl $
-      use1 𝓛 (‵ (froom run b o) ⊛ ‵ (froom (ty_array τ (w * m)) b (past τ m o)))
-      (room_cut 𝓛 τ m (w * m) b o) $ split ! $ move ! (2 ∷ []) $ fsplit ! $
-      -- The previous steps have separated the memory for the items of the first word from the
-      -- memory for the other items. The proof context now holds these entries, in this order: the
-      -- right to convert memory for the items of the first word into memory for a word; the same
-      -- right for the other words; memory for the items of the first word; memory for the items of
-      -- the other words.
-      move ! (2 ∷ 0 ∷ []) $ use2 𝓛 (‵ (froom ω b o)) (apply∗ 𝓤 (H.room run b o) (H.room ω b o)) $
-      move ! (2 ∷ 1 ∷ []) $
-      rewrite ! 0 (λ (n : ℕ). ‵ (froom (ty_array τ (w * m)) b n)) (after_run o) refl $
-      use2 𝓛 (‵ (froom (ty_array ω w) b (o + u))) (ways_in w (o + u)) $ move ! (1 ∷ 0 ∷ []) $
-      by ! (𝓛.laws.room_cons ω w b o)
-
-  -- `k` words of the size `u` take 16 bytes in total, as many as the header.
-  header_bytes : k * u ≡ 16
-  header_bytes = ap (λ (n : ℕ). k * n) hd.size ∙ hd.room
-
-  after_header : (o : ℕ) → past ω k o ≡ o + 16
-  after_header o = past_is ω k o ∙ ap (λ (n : ℕ). o + n) header_bytes
-
-  -- Splits memory for `k` words into memory for the capacity, memory for the length, and
-  -- `header_way`, the right to convert these two parts back.
-  pub header_out : (o : ℕ) → ent 𝓤 (H.room units b o)
-      (sep 𝓤 (H.room half b o) (sep 𝓤 (H.room half b (o + 8)) (sem 𝓛 (header_way τ m k b o))))
-  header_out o =
-      qed 𝓛 (‵ (froom units b o) ∷ []) ∵
-      use1 𝓛 (‵ (froom two b o) ⊛ ‵ (fwand (froom two b o) (froom units b o)))
-      (𝓛.laws.room_as units two b o (sym header_bytes) hd.eight) $ split ! $
-      use1 𝓛 (‵ (froom half b o) ⊛ ‵ (froom (ty_array half 1) b (o + 8)))
-      (𝓛.laws.room_uncons half 1 b o) $ split ! $ move ! (1 ∷ []) $
-      use1 𝓛 (‵ (froom half b (o + 8)) ⊛ ‵ (froom (ty_array half 0) b (o + 8 + 8)))
-      (𝓛.laws.room_uncons half 0 b (o + 8)) $ split ! $ move ! (2 ∷ 0 ∷ 3 ∷ []) $
-      keeps ! $ keeps ! $ keep ! (0 ∷ []) $
-      assume {P = H.room units b o} ! (‵ (header_room b o)) $ fsplit ! $
-      use0 𝓛 (‵ (froom (ty_array half 0) b (o + 8 + 8)))
-      (𝓛.laws.room_nil half b (o + 8 + 8)) $ move ! (2 ∷ 0 ∷ []) $
-      use2 𝓛 (‵ (froom (ty_array half 1) b (o + 8))) (𝓛.laws.room_cons half 0 b (o + 8)) $
-      move ! (1 ∷ 0 ∷ []) $ use2 𝓛 (‵ (froom two b o)) (𝓛.laws.room_cons half 1 b o) $
-      by ! (apply∗ 𝓤 (H.room two b o) (H.room units b o))
-
-  -- Converts memory for the capacity and the length into memory for `k` words. The lemma uses up
-  -- `header_way`, the right to do this.
-  pub header_in : (o : ℕ) → ent 𝓤 (sep 𝓤 (H.room half b o) (sep 𝓤 (H.room half b (o + 8))
-      (sem 𝓛 (header_way τ m k b o)))) (H.room units b o)
-  header_in o =
-      qed 𝓛 (‵ (froom half b o) ∷ ‵ (froom half b (o + 8)) ∷ ‵ (header_way τ m k b o) ∷ []) ∵
-      fjoin ! $ by ! (apply∗ 𝓤 (sem 𝓛 (header_room b o)) (H.room units b o))
-
-  -- If `c` slots fit into `w` words, then memory for these words can be split into memory for the
-  -- slots and `slots_way`, the right to convert the memory for the slots back into memory for
-  -- words.
-  slots_out : (w c o : ℕ) → c ≤ w * m → ent 𝓤 (H.room (ty_array ω w) b o)
-      (sep 𝓤 (H.room (ty_array τ c) b o) (sem 𝓛 (slots_way τ m w c b o)))
-  slots_out w c o le =
-      let pad : ℕ = w * m - c in
-      let whole : w * m ≡ c + pad = omega arith in
-      qed 𝓛 (‵ (froom (ty_array ω w) b o) ∷ []) ∵
-      use1 𝓛 (‵ (froom (ty_array τ (w * m)) b o) ⊛ ‵ (ways τ m w b o)) (ways_out w o) $ split ! $
-      rewrite ! 0 (λ (n : ℕ). ‵ (froom (ty_array τ n) b o)) whole refl $
-      use1 𝓛 (‵ (froom (ty_array τ c) b o) ⊛ ‵ (froom (ty_array τ pad) b (past τ c o)))
-      (room_cut 𝓛 τ c pad b o) $ split ! $ move ! (1 ∷ []) $
-      rewrite ! 0 (λ (n : ℕ). ‵ (froom (ty_array τ pad) b n)) (past_is τ c o) refl $
-      move ! (2 ∷ 0 ∷ []) $ fjoin ! $ move ! (1 ∷ 0 ∷ []) $ done !
-
-  -- If `w` words have room for `c` slots, then the memory of the slots and `slots_way` (conversion
-  -- rights and unused memory) can be converted into memory for the words.
-  slots_in : (w c o : ℕ) → c ≤ w * m → ent 𝓤 (sep 𝓤 (H.room (ty_array τ c) b o)
-      (sem 𝓛 (slots_way τ m w c b o))) (H.room (ty_array ω w) b o)
-  slots_in w c o le =
-      let pad : ℕ = w * m - c in
-      let whole : w * m ≡ c + pad = omega arith in
-      qed 𝓛 (‵ (froom (ty_array τ c) b o) ∷ ‵ (slots_way τ m w c b o) ∷ []) ∵
-      move ! (1 ∷ []) $ fsplit ! $ move ! (1 ∷ []) $
-      rewrite ! 0 (λ (n : ℕ). ‵ (froom (ty_array τ pad) b n)) (sym (past_is τ c o)) refl $
-      move ! (2 ∷ 0 ∷ []) $ use2 𝓛 (‵ (froom (ty_array τ (c + pad)) b o))
-      (room_glue 𝓛 τ c pad b o) $
-      rewrite ! 0 (λ (n : ℕ). ‵ (froom (ty_array τ n) b o)) (sym whole) refl $ by ! (ways_in w o)
-
-  module _ (w c o : ℕ) (le : c ≤ w * m) where
-    abbrev Back : Fml
-    Back = fsep (header_way τ m k b o) (slots_way τ m w c b (o + 16))
-
-    -- Splits memory for a block of words into three pieces: memory for the capacity, for the
-    -- length, and for the slots. Also yields `Back`, the right to convert these three pieces back
-    -- into memory for words.
-    pub block_out : ent 𝓤 (H.room (ty_array ω (k + w)) b o)
-        (sep 𝓤 (H.room half b o) (sep 𝓤 (H.room half b (o + 8))
-        (sep 𝓤 (H.room (ty_array τ c) b (o + 16)) (sem 𝓛 Back))))
-    block_out =
-        qed 𝓛 (‵ (froom (ty_array ω (k + w)) b o) ∷ []) ∵
-        use1 𝓛 (‵ (froom units b o) ⊛ ‵ (froom (ty_array ω w) b (past ω k o)))
-        (room_cut 𝓛 ω k w b o) $ split ! $
-        use1 𝓛 (‵ (froom half b o) ⊛ ‵ (froom half b (o + 8)) ⊛ ‵ (header_way τ m k b o))
-        (header_out o) $ split3 ! $ move ! (3 ∷ []) $
-        rewrite ! 0 (λ (n : ℕ). ‵ (froom (ty_array ω w) b n)) (after_header o) refl $
-        use1 𝓛 (‵ (froom (ty_array τ c) b (o + 16)) ⊛ ‵ (slots_way τ m w c b (o + 16)))
-        (slots_out w c (o + 16) le) $ split ! $ move ! (4 ∷ 1 ∷ []) $ fjoin ! $
-        move ! (2 ∷ 3 ∷ 1 ∷ 0 ∷ []) $ done !
-
-    -- Converts memory for the capacity, the length and the slots into memory for a block of words.
-    -- This uses up `Back`, the right to do so.
-    pub block_in : ent 𝓤 (sep 𝓤 (H.room half b o) (sep 𝓤 (H.room half b (o + 8))
-        (sep 𝓤 (H.room (ty_array τ c) b (o + 16)) (sem 𝓛 Back)))) (H.room (ty_array ω (k + w)) b o)
-    block_in =
-        qed 𝓛 (‵ (froom half b o) ∷ ‵ (froom half b (o + 8)) ∷ ‵
-        (froom (ty_array τ c) b (o + 16)) ∷ ‵ Back ∷ []) ∵ move ! (3 ∷ []) $ fsplit ! $
-        move ! (4 ∷ 1 ∷ []) $ use2 𝓛 (‵ (froom (ty_array ω w) b (o + 16)))
-        (slots_in w c (o + 16) le) $
-        rewrite ! 0 (λ (n : ℕ). ‵ (froom (ty_array ω w) b n)) (sym (after_header o)) refl $
-        move ! (2 ∷ 3 ∷ 1 ∷ []) $ use3 𝓛 (‵ (froom units b o)) (header_in o) $
-        by ! (room_glue 𝓛 ω k w b o)
 
 -- `number_of_items m` is the const argument of the type `Words` for words of `m` items. This
 -- argument is the number of items in a word.

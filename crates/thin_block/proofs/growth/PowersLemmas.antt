@@ -14,7 +14,7 @@ use Rattle.thin_block.specs.Capacity.{Fits, items_offset}
 use Rattle.thin_block.specs.Growth.{FillsPower, fitting, least_power, power_bytes}
 use Rattle.thin_block.specs.PowerLaws.{least_power_is, powers_filled, powers_of_some}
 use Rattle.thin_block.proofs.CapacityLemmas.{fitting_none}
-use Rattle.thin_block.proofs.SizesLemmas.{fits_tells, opened, rounded}
+use Rattle.thin_block.proofs.sizes.SizesLemmas.{fits_tells, opened, rounded}
 
 -- The code of the growth rule `PowerBytes` uses the item size `size`, which is `s` capped at
 -- `usize::MAX`. If `size` is 0, then `s` is 0.

@@ -1,0 +1,2 @@
+-- These are the lemma files about `src/in_place.rt`. Rattle includes this file automatically.
+pub mod ResizedCall

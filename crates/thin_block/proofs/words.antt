@@ -1,0 +1,4 @@
+-- These are the lemma files about `src/words.rt`. Rattle includes this file automatically.
+pub mod WordRooms
+pub mod WordsLemmas
+pub mod WordsMemory
