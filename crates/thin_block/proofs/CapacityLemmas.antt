@@ -12,7 +12,7 @@ use Rattle.std.specs.Prelude.{◌==◌, max}
 use Rattle.std.proofs.lemmas.Bool.Decides.{nat_tests}
 use Rattle.core.proofs.ptr.Rows.{times_below}
 use Rattle.thin_block.specs.Capacity.{fits, first, Fits}
-use Rattle.thin_block.specs.Growth.{Rule, KeepsLaw, doubling, exact_capacity, fitting, ruled_capacity}
+use Rattle.thin_block.specs.Growth.{Grows, Rule, KeepsLaw, doubling, exact_capacity, fitting, ruled_capacity}
 use Rattle.thin_block.proofs.sizes.SizesLemmas.{opened, closed, fits_none, fits_tells, fits_yes, rounded}
 
 -- If the old capacity `c` suffices for `w` items, then `ruled_capacity` is `Some c`: the capacity
@@ -36,26 +36,17 @@ pub ruled-rule : (rule : Rule) (R : RattleType) (c w : ℕ) → c < w → w < 2 
 unfolding ruled_capacity
 ruled-rule rule R c w more word = rw (lt-leb w c more) (rw (lt-ltb w (2 ^ 64) word) refl)
 
--- `Grown R c w n` says that the new capacity `n` is at least the required capacity `w` and at least
--- twice the old capacity `c`. It also says that a block of capacity `n` for items of type `R` is
--- small enough to be allocated.
-pub record Grown (R : RattleType) (c w n : ℕ) : Type 0 where
-  pub enough : w ≤ n
-  pub doubled : 2 * c ≤ n
-  pub fits : Fits R n
-
 none_some : {A B : Type 0} (x : A) → None ≡ Some x → B
 none_some x e = cc
 
 -- Suppose that `rule` satisfies the law of growth rules (`KeepsLaw`), and that `c < w`. If
--- `ruled_capacity rule R c w` is `Some n`, then `Grown R c w n` holds: `n` is at least `w` and at
--- least `2 * c`, and a block of capacity `n` is small enough to be allocated.
+-- `ruled_capacity rule R c w` is `Some n`, then `n` is at least `w` and at least `2 * c`, and a
+-- block of capacity `n` is small enough to be allocated.
 pub ruled-grows : (rule : Rule) (R : RattleType) (c w n : ℕ) → KeepsLaw rule → c < w
-    → ruled_capacity rule R c w ≡ Some n → Grown R c w n
+    → ruled_capacity rule R c w ≡ Some n → Grows R c w n
 ruled-grows rule R c w n law more e = elim (dec_lt w (2 ^ 64)) [
-  | yes word ↦ (let grown = law (type_size R) (type_align R) c w n more word
-      (sym (ruled-rule rule R c w more word) ∙ e) in
-      record { enough = grown.enough; doubled = grown.doubled; fits = grown.fits })
+  | yes word ↦ law (type_size R) (type_align R) c w n more word
+      (sym (ruled-rule rule R c w more word) ∙ e)
   | no high ↦ none_some n (sym (ruled-overflow rule R c w more (omega arith)) ∙ e)
 ]
 

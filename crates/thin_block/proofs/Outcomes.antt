@@ -1,19 +1,13 @@
 -- These lemmas are about values of the types `Result` and `Option`. Both this crate and `thin_vec`
 -- use these lemmas.
 use Rattle.std.proofs.Common.{Err, None, Ok, Option, Result, Some, subst, ◌≡◌}
-use Rattle.std.specs.Prelude.{OnErr, OnOk, OnSome}
+use Rattle.std.specs.Prelude.{OnOk, OnSome}
 
 -- If `P` holds whenever the result `r` is `Ok`, and `P` implies `Q`, then `Q` holds whenever `r` is
 -- `Ok`.
 pub on-ok : {T E P Q : Type 0} (r : Result T E) → (P → Q) → OnOk r P → OnOk r Q
 on-ok (Ok x) h p = h p
 on-ok (Err e) h p = p
-
--- If `P` holds whenever the result `r` is `Err`, and `P` implies `Q`, then `Q` holds whenever `r`
--- is `Err`.
-pub on-err : {T E P Q : Type 0} (r : Result T E) → (P → Q) → OnErr r P → OnErr r Q
-on-err (Ok x) h p = tt
-on-err (Err e) h p = h p
 
 -- If `P` holds whenever the option `o` is `Some`, and `o` is `Some x`, then `P` holds.
 pub at-some : {X P : Type 0} {o : Option X} {x : X} → o ≡ Some x → OnSome o P → P

@@ -309,12 +309,6 @@ module _ {T : Type 0} where
         ∙ (laid-at from front (empty k) ys post l m ∙ joined (empty k ++ post)))
         (laid-at to pre ys (empty k) (mid ++ (empty k ++ post)) t (sym m))
 
-  -- Slot `i` of the list `empty k` is `None` for every index `i`.
-  pub slot-empty : (k i : ℕ) → slot (empty {T = T} k) i ≡ None
-  slot-empty zero i = refl
-  slot-empty (suc k) zero = refl
-  slot-empty (suc k) (suc i) = slot-empty k i
-
   -- If a list of slots begins with `full xs`, then each of its first `length xs` slots is filled.
   full-filled : (xs : List T) (rest : List (Option T)) (i : ℕ) → i < length xs
       → IsSome (slot (full xs ++ rest) i)

@@ -1,17 +1,11 @@
 -- This file computes the size of a block in bytes, and defines when a block is small enough to be
 -- allocated.
-use Rattle.std.specs.Prelude.{◌≡◌, ℕ, ◌+◌, ◌*◌, ◌-◌, ◌^◌, ◌&&◌, ◌==◌, Bool, IsTrue, Option, if◌then◌else◌, max, nat_lt}
+use Rattle.std.specs.Prelude.{ℕ, ◌+◌, ◌*◌, ◌-◌, ◌^◌, ◌&&◌, ◌==◌, Bool, IsTrue, Option, if◌then◌else◌, max, nat_lt}
 use Rattle.std.specs.declared.option.Option.TheVariants.{Some, None}
 use Rattle.std.specs.Int.{next_multiple_of}
 use Rattle.std.specs.Mem.{type_size}
 use Rattle.std.specs.Align.{type_align}
-use mir.Syntax.{Width}
-use mir.Val.{bytes}
 use denote.RattleType.{RattleType}
-
--- `IsAlign a` holds if `a` is 1, 2, 4, 8 or 16. In Rattle, no type has any other alignment.
-abbrev pub IsAlign : ℕ → Type 0
-IsAlign a = (w : Width) × (a ≡ bytes w)
 
 -- `items_offset a` is the offset in bytes of the first item in a block whose items have the
 -- alignment `a`.

@@ -86,6 +86,7 @@ impl<T, A: Allocator> Block<T, A> {
     pub fn len(&self) -> usize
         ensures value { result ≡ self.now.len }
         ensures in_bounds { result ≤ length self.now.slots }
+        // This clause follows from the other clauses.
         ensures fits { Fits T.row result }
         ensures slots_fit { Fits T.row (length self.now.slots) }
     {

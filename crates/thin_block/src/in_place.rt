@@ -17,7 +17,7 @@ use crate::sizes::HEADER_WORDS;
 use crate::words::{Words, make_words};
 use std::alloc::{AllocError, Allocator};
 use std::marker::PhantomData;
-use std::mem::{ManuallyDrop, replace};
+use std::mem::replace;
 
 // The least total size of the items, in words of 8 bytes, for which the allocator resizes the
 // block, possibly in place. For fewer words, it is cheaper to allocate a new block.
@@ -86,8 +86,7 @@ impl<T, A: Allocator> Block<T, A> {
             Ok(larger) => (larger, Ok(())),
             Err(same) => (same, Err(ThinVecError::OutOfMemory)),
         };
-        let none = replace(self, block);
-        let _none = unsafe { ManuallyDrop::new_unchecked(none) };
+        replace(self, block).forget_none();
         grown
     }
 

@@ -92,8 +92,7 @@ impl<T, A: Allocator> Block<T, A> {
     {
         if self.cap() == 0 {
             let block = self.replacement(alloc, cap)?;
-            let none = replace(self, block);
-            none.forget_none();
+            replace(self, block).forget_none();
             return Ok(());
         }
         self.resize(alloc, self.len(), cap)
@@ -129,11 +128,12 @@ impl<T, A: Allocator> Block<T, A> {
 
     // Changes the number of slots of the block of length `len` to `cap`. If the items form whole
     // words and take at least `LONG * 8` bytes, the allocator resizes the block, possibly in place.
-    // Otherwise, the items are moved to a new block. If the allocator fails, the call fails, and the
-    // block is unchanged.
+    // Otherwise, the items are moved to a new block, and the old block is freed. If the allocator
+    // fails, the call fails, and the block is unchanged. The block must have an allocation.
     #[inline(always)]
     fn resize(&mut self, alloc: &A, len: usize, cap: usize) -> Result<(), ThinVecError>
         requires from { IsFrom self.old.alloc alloc.now }
+        requires block { 0 < length self.old.slots }
         requires some { 0 < cap }
         requires fits { Fits T.row cap }
         requires packed { IsPacked self.old.slots self.old.len }
@@ -147,27 +147,16 @@ impl<T, A: Allocator> Block<T, A> {
             4 if len >= LONG * 2 && len % 2 == 0 => self.remake_in_place::<2, 2>(alloc, len, cap),
             8 if len >= LONG => self.remake_in_place::<1, 2>(alloc, len, cap),
             16 if len >= LONG / 2 => self.remake_in_place::<1, 1>(alloc, len, cap),
-            _ => self.remake(alloc, len, cap),
+            _ => {
+                let mut other = self.replacement(alloc, cap)?;
+                other.store_len(len);
+                self.move_items_to(0, &mut other, 0, len, true);
+                let old = replace(self, other);
+                let bytes = bytes_of_block::<T>(old.cap());
+                old.free_block(alloc, bytes, align_of_block::<T>());
+                Ok(())
+            }
         }
-    }
-
-    // Moves the items to a new block of `cap` slots, and frees the old block. If the allocator
-    // fails, the call fails, and the block is unchanged.
-    fn remake(&mut self, alloc: &A, len: usize, cap: usize) -> Result<(), ThinVecError>
-        requires from { IsFrom self.old.alloc alloc.now }
-        requires some { 0 < cap }
-        requires fits { Fits T.row cap }
-        requires packed { IsPacked self.old.slots self.old.len }
-        requires room { self.old.len ≤ cap }
-        requires len { len ≡ self.old.len }
-        ensures remade { Remade self.old self.new alloc.now cap result }
-    {
-        let mut other = self.replacement(alloc, cap)?;
-        other.store_len(len);
-        self.move_items_to(0, &mut other, 0, len, true);
-        let old = replace(self, other);
-        old.release(alloc);
-        Ok(())
     }
 
     /// Frees the allocation of the block, if there is one. Every slot must be empty.

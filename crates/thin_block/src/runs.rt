@@ -1,5 +1,7 @@
 //! Methods that move runs of items within a block or to another block. A run consists of the items
-//! in adjacent slots.
+//! in adjacent slots. The arguments of each method come in one order: the lower end of the slots
+//! concerned or the start of the run, then the distance or the new start, then the number of items.
+//! The last clause of a method, about the number of slots, follows from the clause before it.
 ghost use Rattle.std.specs.Prelude.{◌≡◌, ◌⊎◌, ℕ, ◌+◌, ◌-◌, ◌<◌, ◌≤◌, false, if◌then◌else◌, length, true};
 ghost use Rattle.std.specs.declared.option.Option.TheVariants.{None};
 ghost use Rattle.thin_block.specs.Cost.{moving, relocating};
@@ -28,7 +30,7 @@ impl<T, A: Allocator> Block<T, A> {
         ensures cap { length self.new.slots ≡ length self.old.slots }
     {
         if from.abs_diff(to) < k {
-            self.move_overlapping(from, to, k);
+            self.slide_run(0, from, to, k, from < to);
         } else {
             self.move_apart(from, to, k);
         }
@@ -161,23 +163,6 @@ impl<T, A: Allocator> Block<T, A> {
             _ => block.move_run(from, from + gap, k),
         }
         block
-    }
-
-    // Moves items as `move_run` does. The old slots and the new slots of the items must overlap.
-    fn move_overlapping(&mut self, from: usize, to: usize, k: usize)
-        requires source { from + k ≤ length self.old.slots }
-        requires target { to + k ≤ length self.old.slots }
-        requires filled { AreFilled self.old.slots from k }
-        requires empty { (i : ℕ) → to ≤ i → i < to + k → (i < from) ⊎ (from + k ≤ i)
-            → slot self.old.slots i ≡ None }
-        requires above { to < from + k }
-        requires below { from < to + k }
-        ensures changes { seen self.new ≡ record (seen self.old) {
-          slots = moved from to k self.old.slots;
-          cost = moving k self.old.cost;
-        } }
-    {
-        self.slide_run(0, from, to, k, from < to);
     }
 
     // Moves the `k` items from slot `low + from` onward to the slots from `low + to` onward. `up`

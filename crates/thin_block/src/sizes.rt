@@ -4,7 +4,7 @@ ghost use Rattle.std.specs.Prelude.{◌≡◌, ◌↔◌, IsTrue};
 ghost use Rattle.std.specs.Mem.{type_size};
 ghost use Rattle.std.specs.Align.{type_align};
 ghost use prog.Memory.{capped};
-ghost use Rattle.thin_block.specs.Capacity.{IsAlign, block_align, block_bytes, Fits};
+ghost use Rattle.thin_block.specs.Capacity.{block_align, block_bytes, Fits};
 
 use std::mem::{align_of, size_of};
 
@@ -22,19 +22,12 @@ pub fn item_size<T>() -> usize
     size_of::<T>()
 }
 
-// Returns the alignment of an item in bytes.
-fn item_align<T>() -> usize
-    ensures value { result ≡ type_align T.row }
-    ensures known { IsAlign result }
-{
-    align_of::<T>()
-}
-
 // Returns the alignment of a block in bytes.
 pub(crate) fn align_of_block<T>() -> usize
     ensures value { result ≡ block_align (type_align T.row) }
 {
-    item_align::<T>().max(8)
+    let align = align_of::<T>();
+    if align > 8 { align } else { 8 }
 }
 
 // Returns the size in bytes of a block for `cap` items.

@@ -25,7 +25,8 @@ impl<T, A: Allocator> Block<T, A> {
           cost = moving 1 self.old.cost;
         } }
     {
-        // This call tells the prover that an item takes fewer than `2 ^ 63` bytes.
+        // The clause `fits` of `cap` shows that `[value]` takes fewer than `2 ^ 63` bytes, which a
+        // call to `put_array` requires.
         let _cap = self.cap();
         self.put_array(i, [value]);
     }
@@ -61,10 +62,13 @@ impl<T, A: Allocator> Block<T, A> {
         unsafe { (at.add(HEADER_WORDS) as *mut T).add(i).read() }
     }
 
-    /// Exchanges the items in the slots `i` and `j`. The indices `i` and `j` may be equal.
+    /// Exchanges the items in the slots `i` and `j`. The indices `i` and `j` may be equal. A caller
+    /// that only needs the item of slot `j` in slot `i` calls `take_replacing`, which moves one item
+    /// and not two.
     pub fn swap(&mut self, i: usize, j: usize)
         requires first { IsSome (slot self.old.slots i) }
         requires second { IsSome (slot self.old.slots j) }
+        // The cost counts each slot that is written: both, or one if `i` equals `j`.
         ensures changes { seen self.new ≡ record (seen self.old) {
           slots = slice_set
               (slice_set self.old.slots i (slot self.old.slots j)) j (slot self.old.slots i);
@@ -144,28 +148,18 @@ impl<T: Copy, A: Allocator> Block<T, A> {
     }
 }
 
-// Fills `row` with copies of `items`, and returns `row`. If there are at most `FEW` items, they are
-// copied one by one, which is faster than a call to `Slots::copy_in`.
+// Fills `row` with copies of `items`, and returns `row`. At most `FEW` items are copied one by one,
+// which is faster than a call to `Slots::copy_in`.
 fn copied<T: Copy>(mut row: Slots<T>, items: &[T]) -> Slots<T>
     requires room { slots_len row ≡ length items.now }
     ensures cap { SamePlaces row result }
     ensures items { slots_items result ≡ items.now }
     ensures filled { IsFull result }
 {
-    if items.len() <= FEW {
-        return copied_singly(row, items);
+    if items.len() > FEW {
+        row.copy_in(0, items);
+        return row;
     }
-    row.copy_in(0, items);
-    row
-}
-
-// Fills `row` with copies of `items`, one item at a time, and returns `row`.
-fn copied_singly<T: Copy>(mut row: Slots<T>, items: &[T]) -> Slots<T>
-    requires room { slots_len row ≡ length items.now }
-    ensures cap { SamePlaces row result }
-    ensures items { slots_items result ≡ items.now }
-    ensures filled { IsFull result }
-{
     for i in 0..items.len() {
         row.put(i, items[i]);
     }

@@ -2,7 +2,7 @@
 -- memory of the slots that the move affects from the memory of the other slots. After the move,
 -- they join the memory of all slots again.
 use Rattle.std.proofs.Common.{◌≡◌, ◌⊎◌, Bool, true, false, ℕ, Some, None, ◌+◌, ◌-◌, ◌*◌, ◌<◌, ◌≤◌, List, [], ◌∷◌, ◌++◌, length, refl, sym, ap, ◌∙◌, arith, append_assoc, Option, take}
-use Rattle.thin_block.proofs.Walks.{length-append, length-take, Ura, full_share, ent, sep, Fml, fsep, froom, ty_array, Logic, sem, ‵, ◌⊛◌, ◌$◌, ◌∵◌, !, qed, by, move, use1, use2, use3, split, split3, rewrite, fsplit, fjoin, done, Array, part_at, block_ptr, El, R, el_x, elτ, add_times, memory_before_copy, memory_after_copy}
+use Rattle.thin_block.proofs.Walks.{length-append, length-take, Ura, full_share, ent, sep, Fml, ftrue, fsep, froom, ty_array, Logic, sem, ‵, ◌⊛◌, ◌$◌, ◌∵◌, !, qed, by, move, keep, nothing, use1, use2, split, split3, rewrite, fsplit, fjoin, done, Array, part_at, block_ptr, El, R, el_x, elτ, add_times, memory_before_copy, memory_after_copy}
 use Rattle.std.proofs.lemmas.List.{length-map, length-replicate}
 use mathlib.Core.Logic.{inl, inr, ⊎_elim}
 use Rattle.std.specs.Prelude.{drop}
@@ -61,6 +61,32 @@ module _ (E : El) {M : Type 1} {𝓤 : Ura M} (𝓛 : Logic 𝓤) (b o : ℕ) (s
   empty-long : (n : ℕ) → length (empty {T = el_x E} n) ≡ n
   empty-long n = length-replicate n None
 
+  -- Suppose that the slots `i..i + n` are `old`, and that the move turns them into `new`. If the
+  -- memory of `old` can be split into `Was` and `Kept`, and `Is` and `Kept` can be joined into the
+  -- memory of `new`, then `Moves Was Is` holds.
+  moves_by : (i n : ℕ) (old new : S) (Was Is Kept : Fml) → i + n ≤ length slots
+      → run i n slots ≡ old → length new ≡ n
+      → moved from to k (take i slots ++ (old ++ drop (i + n) slots))
+      ≡ take i slots ++ (new ++ drop (i + n) slots)
+      → ent 𝓤 (sem 𝓛 (Row (i * s + o) old)) (sep 𝓤 (sem 𝓛 Was) (sem 𝓛 Kept))
+      → ent 𝓤 (sep 𝓤 (sem 𝓛 Is) (sem 𝓛 Kept)) (sem 𝓛 (Row (i * s + o) new)) → Moves Was Is
+  moves_by i n old new Was Is Kept le is count goes splits joins =
+      let Others : Fml = around E 𝓛 b o slots i n in
+      let whole : slots ≡ take i slots ++ (old ++ drop (i + n) slots) = parted-run slots i n
+      ∙ ap (λ (l : S). take i slots ++ (l ++ drop (i + n) slots)) is in
+      let result : laid i new slots ≡ moved from to k slots = laid-over slots new i n count
+      ∙ (sym goes ∙ ap (λ (l : S). moved from to k l) (sym whole)) in
+      record {
+        Rest = fsep Kept Others;
+        out = qed 𝓛 (‵ (Row o slots) ∷ []) ∵ use1 𝓛 (‵ (Row (i * s + o) old) ⊛ ‵ Others)
+            (run_out E 𝓛 b o slots i n le old is) $ split ! $ use1 𝓛 (‵ Was ⊛ ‵ Kept) splits $
+            split ! $ move ! (1 ∷ 2 ∷ []) $ fjoin ! $ move ! (1 ∷ 0 ∷ []) $ done !;
+        back = qed 𝓛 (‵ Is ∷ ‵ (fsep Kept Others) ∷ []) ∵ move ! (1 ∷ []) $ fsplit ! $
+            move ! (2 ∷ 0 ∷ []) $ use2 𝓛 (‵ (Row (i * s + o) new)) joins $
+            use2 𝓛 (‵ (Row o (laid i new slots))) (run_in E 𝓛 b o slots i n le new count) $
+            rewrite ! 0 (λ (l : S). ‵ (Row o l)) result refl $ done !;
+      }
+
   -- Suppose that the slots `from..from + k` hold items, and that the `d` slots directly before them
   -- are empty. Then the memory of the items and of the `d` empty slots can be separated from the
   -- memory of the other slots. After the items have been moved down by `d` slots, the memory of all
@@ -71,48 +97,30 @@ module _ (E : El) {M : Type 1} {𝓤 : Ura M} (𝓛 : Logic 𝓤) (b o : ℕ) (s
   slides_down d apart within gap =
       let n : ℕ = d + k in
       let le : to + n ≤ length slots = omega arith in
-      let turned : from ≡ d + to = omega arith in
-      let end : to + n ≡ from + k = omega arith in
       let pre : S = take to slots in
       let post : S = drop (to + n) slots in
-      let old : S = empty d ++ full xs in
-      let new : S = full xs ++ empty d in
-      let is : run to n slots ≡ old = run-split slots to d k
-      ∙ (λ m. gap m ++ (ap (λ (i : ℕ). run i k slots) (sym apart) ∙ items) m) in
-      let at : src ≡ length (empty {T = el_x E} d) * s + dst = further to d from s o turned
-      ∙ ap (λ (m : ℕ). m * s + dst) (sym (empty-long d)) in
-      let beyond : k * s + dst ≡ length (full xs) * s + dst =
-      ap (λ (m : ℕ). m * s + dst) (sym full-long) in
-      let long_new : length new ≡ n =
-      omega (arith, length-append (full xs) (empty d), full-long, empty-long d) in
       let front : to ≡ length pre = omega (arith, length-take to slots) in
-      let whole : slots ≡ pre ++ (empty d ++ (full xs ++ post)) =
-      parted-run slots to n
-      ∙ (ap (λ (l : S). pre ++ (l ++ post)) is
-      ∙ ap (λ (l : S). pre ++ l) (append_assoc (empty d) (full xs) post)) in
-      let result : laid to new slots ≡ moved from to k slots =
-      laid-over slots new to n long_new
-      ∙ (ap (λ (l : S). pre ++ l) (append_assoc (full xs) (empty d) post)
-      ∙ (sym (moved_left from to k d pre (full xs) post front apart (sym full-long))
-      ∙ ap (λ (l : S). moved from to k l) (sym whole))) in
-      record {
-        Rest = around E 𝓛 b o slots to n;
-        out = qed 𝓛 (‵ (Row o slots) ∷ []) ∵ use1 𝓛
-            (‵ (Row dst old) ⊛ ‵ (around E 𝓛 b o slots to n))
-            (run_out E 𝓛 b o slots to n le old is) $ split ! $
-            use1 𝓛 (‵ (Row dst (empty d)) ⊛ ‵ (Row src (full xs)))
-            (cut E 𝓛 b (empty d) (full xs) dst src at) $ split ! $
-            use1 𝓛 (‵ (Room d dst)) (to_room E 𝓛 b d dst) $ move ! (1 ∷ []) $
-            use1 𝓛 (‵ (Items src)) (to_items E 𝓛 b k xs src long) $ fjoin ! $ done !;
-        back = qed 𝓛 (‵ (fsep (Items dst) (Room d (k * s + dst))) ∷ ‵
-            (around E 𝓛 b o slots to n) ∷ []) ∵ fsplit ! $ use1 𝓛 (‵ (Row dst (full xs)))
-            (of_items E 𝓛 b k xs dst) $ move ! (1 ∷ []) $
-            use1 𝓛 (‵ (Row (k * s + dst) (empty d))) (of_room E 𝓛 b d (k * s + dst)) $
-            move ! (1 ∷ 0 ∷ []) $
-            use2 𝓛 (‵ (Row dst new)) (glue E 𝓛 b (full xs) (empty d) dst (k * s + dst) beyond) $
-            use2 𝓛 (‵ (Row o (laid to new slots))) (run_in E 𝓛 b o slots to n le new long_new) $
-            rewrite ! 0 (λ (l : S). ‵ (Row o l)) result refl $ done !;
-      }
+      let is : run to n slots ≡ empty d ++ full xs = run-split slots to d k
+      ∙ (λ m. gap m ++ (ap (λ (i : ℕ). run i k slots) (sym apart) ∙ items) m) in
+      let at : src ≡ length (empty {T = el_x E} d) * s + dst = further to d from s o (omega arith)
+      ∙ ap (λ (m : ℕ). m * s + dst) (sym (empty-long d)) in
+      moves_by to n (empty d ++ full xs) (full xs ++ empty d) _ _ ftrue le is
+      (omega (arith, length-append (full xs) (empty d), full-long, empty-long d))
+      (ap (λ (l : S). moved from to k (pre ++ l)) (append_assoc (empty d) (full xs) post)
+      ∙ (moved_left from to k d pre (full xs) post front apart (sym full-long)
+      ∙ sym (ap (λ (l : S). pre ++ l) (append_assoc (full xs) (empty d) post))))
+      (qed 𝓛 (‵ (Row dst (empty d ++ full xs)) ∷ []) ∵
+      use1 𝓛 (‵ (Row dst (empty d)) ⊛ ‵ (Row src (full xs)))
+      (cut E 𝓛 b (empty d) (full xs) dst src at) $ split ! $
+      use1 𝓛 (‵ (Room d dst)) (to_room E 𝓛 b d dst) $ move ! (1 ∷ []) $
+      use1 𝓛 (‵ (Items src)) (to_items E 𝓛 b k xs src long) $ fjoin ! $ nothing ! $
+      move ! (1 ∷ 0 ∷ []) $ done !)
+      (qed 𝓛 (‵ (fsep (Items dst) (Room d (k * s + dst))) ∷ ‵ ftrue ∷ []) ∵ keep ! (0 ∷ []) $
+      fsplit ! $ use1 𝓛 (‵ (Row dst (full xs))) (of_items E 𝓛 b k xs dst) $ move ! (1 ∷ []) $
+      use1 𝓛 (‵ (Row (k * s + dst) (empty d))) (of_room E 𝓛 b d (k * s + dst)) $
+      move ! (1 ∷ 0 ∷ []) $
+      by ! (glue E 𝓛 b (full xs) (empty d) dst (k * s + dst)
+      (ap (λ (m : ℕ). m * s + dst) (sym full-long))))
 
   -- Suppose that the slots `from..from + k` hold items, and that the `d` slots directly after them
   -- are empty. Then the memory of the items and of the `d` empty slots can be separated from the
@@ -124,46 +132,29 @@ module _ (E : El) {M : Type 1} {𝓤 : Ura M} (𝓛 : Logic 𝓤) (b o : ℕ) (s
   slides_up d apart within gap =
       let n : ℕ = k + d in
       let le : from + n ≤ length slots = omega arith in
-      let turned : to ≡ d + from = omega arith in
       let pre : S = take from slots in
       let post : S = drop (from + n) slots in
-      let old : S = full xs ++ empty d in
-      let new : S = empty d ++ full xs in
-      let is : run from n slots ≡ old = run-split slots from k d ∙ (λ m. items m ++ gap m) in
-      let beyond : k * s + src ≡ length (full xs) * s + src =
-      ap (λ (m : ℕ). m * s + src) (sym full-long) in
-      let at : dst ≡ length (empty {T = el_x E} d) * s + src = further from d to s o turned
-      ∙ ap (λ (m : ℕ). m * s + src) (sym (empty-long d)) in
-      let long_new : length new ≡ n =
-      omega (arith, length-append (empty d) (full xs), full-long, empty-long d) in
       let front : from ≡ length pre = omega (arith, length-take from slots) in
-      let whole : slots ≡ pre ++ (full xs ++ (empty d ++ post)) =
-      parted-run slots from n
-      ∙ (ap (λ (l : S). pre ++ (l ++ post)) is
-      ∙ ap (λ (l : S). pre ++ l) (append_assoc (full xs) (empty d) post)) in
-      let result : laid from new slots ≡ moved from to k slots =
-      laid-over slots new from n long_new
-      ∙ (ap (λ (l : S). pre ++ l) (append_assoc (empty d) (full xs) post)
-      ∙ (sym (moved_right from to k d pre (full xs) post front apart (sym full-long))
-      ∙ ap (λ (l : S). moved from to k l) (sym whole))) in
-      record {
-        Rest = around E 𝓛 b o slots from n;
-        out = qed 𝓛 (‵ (Row o slots) ∷ []) ∵ use1 𝓛
-            (‵ (Row src old) ⊛ ‵ (around E 𝓛 b o slots from n))
-            (run_out E 𝓛 b o slots from n le old is) $ split ! $
-            use1 𝓛 (‵ (Row src (full xs)) ⊛ ‵ (Row (k * s + src) (empty d)))
-            (cut E 𝓛 b (full xs) (empty d) src (k * s + src) beyond) $ split ! $
-            use1 𝓛 (‵ (Items src)) (to_items E 𝓛 b k xs src long) $ move ! (1 ∷ []) $
-            use1 𝓛 (‵ (Room d (k * s + src))) (to_room E 𝓛 b d (k * s + src)) $
-            move ! (1 ∷ 0 ∷ []) $ fjoin ! $ done !;
-        back = qed 𝓛 (‵ (fsep (Items dst) (Room d src)) ∷ ‵ (around E 𝓛 b o slots from n) ∷ [])
-            ∵ fsplit ! $ use1 𝓛 (‵ (Row dst (full xs))) (of_items E 𝓛 b k xs dst) $
-            move ! (1 ∷ []) $
-            use1 𝓛 (‵ (Row src (empty d))) (of_room E 𝓛 b d src) $
-            use2 𝓛 (‵ (Row src new)) (glue E 𝓛 b (empty d) (full xs) src dst at) $
-            use2 𝓛 (‵ (Row o (laid from new slots))) (run_in E 𝓛 b o slots from n le new long_new) $
-            rewrite ! 0 (λ (l : S). ‵ (Row o l)) result refl $ done !;
-      }
+      let is : run from n slots ≡ full xs ++ empty d = run-split slots from k d
+      ∙ (λ m. items m ++ gap m) in
+      let at : dst ≡ length (empty {T = el_x E} d) * s + src = further from d to s o (omega arith)
+      ∙ ap (λ (m : ℕ). m * s + src) (sym (empty-long d)) in
+      moves_by from n (full xs ++ empty d) (empty d ++ full xs) _ _ ftrue le is
+      (omega (arith, length-append (empty d) (full xs), full-long, empty-long d))
+      (ap (λ (l : S). moved from to k (pre ++ l)) (append_assoc (full xs) (empty d) post)
+      ∙ (moved_right from to k d pre (full xs) post front apart (sym full-long)
+      ∙ sym (ap (λ (l : S). pre ++ l) (append_assoc (empty d) (full xs) post))))
+      (qed 𝓛 (‵ (Row src (full xs ++ empty d)) ∷ []) ∵
+      use1 𝓛 (‵ (Row src (full xs)) ⊛ ‵ (Row (k * s + src) (empty d)))
+      (cut E 𝓛 b (full xs) (empty d) src (k * s + src)
+      (ap (λ (m : ℕ). m * s + src) (sym full-long))) $ split ! $
+      use1 𝓛 (‵ (Items src)) (to_items E 𝓛 b k xs src long) $ move ! (1 ∷ []) $
+      use1 𝓛 (‵ (Room d (k * s + src))) (to_room E 𝓛 b d (k * s + src)) $ move ! (1 ∷ 0 ∷ []) $
+      fjoin ! $ nothing ! $ move ! (1 ∷ 0 ∷ []) $ done !)
+      (qed 𝓛 (‵ (fsep (Items dst) (Room d src)) ∷ ‵ ftrue ∷ []) ∵ keep ! (0 ∷ []) $ fsplit ! $
+      use1 𝓛 (‵ (Row dst (full xs))) (of_items E 𝓛 b k xs dst) $ move ! (1 ∷ []) $
+      use1 𝓛 (‵ (Row src (empty d))) (of_room E 𝓛 b d src) $
+      by ! (glue E 𝓛 b (empty d) (full xs) src dst at))
 
   -- Splits the memory of the slots `ys ++ (mid ++ zs)` into the memory of `ys`, the memory of `zs`
   -- and the memory of `mid`. The list `ys` consists of `k` slots. The memory of `ys` begins at the
@@ -207,6 +198,10 @@ module _ (E : El) {M : Type 1} {𝓤 : Ura M} (𝓛 : Logic 𝓤) (b o : ℕ) (s
       let same : length mid * s ≡ m * s = ap (λ (n : ℕ). n * s) count in
       omega arith
 
+  flat : (ys mid zs post : S) → (ys ++ (mid ++ zs)) ++ post ≡ ys ++ (mid ++ (zs ++ post))
+  flat ys mid zs post = append_assoc ys (mid ++ zs) post
+      ∙ ap (λ (l : S). ys ++ l) (append_assoc mid zs post)
+
   -- Items in the slots `from..from + k` can be moved up, past `m` slots, into the empty slots
   -- `to..to + k`. Their old and new slots can be separated before the move, and rejoined after it.
   goes_over : (m : ℕ) → to ≡ from + k + m → to + k ≤ length slots
@@ -217,54 +212,36 @@ module _ (E : El) {M : Type 1} {𝓤 : Ura M} (𝓛 : Logic 𝓤) (b o : ℕ) (s
       let mid : S = run (from + k) m slots in
       let pre : S = take from slots in
       let post : S = drop (from + n) slots in
-      let old : S = full xs ++ (mid ++ empty k) in
-      let new : S = empty k ++ (mid ++ full xs) in
       let count : length mid ≡ m = length-run slots (from + k) m (omega arith) in
-      let is : run from n slots ≡ old =
+      let is : run from n slots ≡ full xs ++ (mid ++ empty k) =
       run-split slots from k (m + k)
       ∙ (λ i. items i ++ (run-split slots (from + k) m k
       ∙ ap (λ (l : S). mid ++ l) (ap (λ (j : ℕ). run j k slots) (sym apart) ∙ gap)) i) in
       let at : dst ≡ length mid * s + (k * s + src) = around3 from to m apart mid count in
-      let long_new : length new ≡ n =
-      omega (
+      let front : from ≡ length pre = omega (arith, length-take from slots) in
+      let target : to ≡ from + k + length mid = omega arith in
+      moves_by from n (full xs ++ (mid ++ empty k)) (empty k ++ (mid ++ full xs)) Was Is
+      (Row (k * s + src) mid) le is
+      (omega (
         arith,
         length-append (empty k) (mid ++ full xs),
         length-append mid (full xs),
         full-long,
         empty-long k,
         count,
-      ) in
-      let front : from ≡ length pre = omega (arith, length-take from slots) in
-      let target : to ≡ from + k + length mid = omega arith in
-      let flat : (ys zs : S) → (ys ++ (mid ++ zs)) ++ post ≡ ys ++ (mid ++ (zs ++ post)) =
-      λ ys zs. append_assoc ys (mid ++ zs) post
-      ∙ ap (λ (l : S). ys ++ l) (append_assoc mid zs post) in
-      let whole : slots ≡ pre ++ (full xs ++ (mid ++ (empty k ++ post))) = parted-run slots from n
-      ∙ (ap (λ (l : S). pre ++ (l ++ post)) is
-      ∙ ap (λ (l : S). pre ++ l) (flat (full xs) (empty k))) in
-      let result : laid from new slots ≡ moved from to k slots =
-      laid-over slots new from n long_new ∙ (ap (λ (l : S). pre ++ l) (flat (empty k) (full xs))
-      ∙ (sym (moved_over from to k pre (full xs) mid post front target (sym full-long))
-      ∙ ap (λ (l : S). moved from to k l) (sym whole))) in
-      let Middle : Fml = Row (k * s + src) mid in
-      record {
-        Rest = fsep Middle (around E 𝓛 b o slots from n);
-        out = qed 𝓛 (‵ (Row o slots) ∷ []) ∵ use1 𝓛
-            (‵ (Row src old) ⊛ ‵ (around E 𝓛 b o slots from n))
-            (run_out E 𝓛 b o slots from n le old is) $ split ! $
-            use1 𝓛 (‵ (Row src (full xs)) ⊛ ‵ (Row dst (empty k)) ⊛ ‵ Middle)
-            (cut3 (full xs) mid (empty k) src dst full-long at) $ split3 ! $
-            use1 𝓛 (‵ (Items src)) (to_items E 𝓛 b k xs src long) $ move ! (1 ∷ []) $
-            use1 𝓛 (‵ (Room k dst)) (to_room E 𝓛 b k dst) $ move ! (1 ∷ 0 ∷ []) $ fjoin ! $
-            move ! (1 ∷ 2 ∷ []) $ fjoin ! $ move ! (1 ∷ 0 ∷ []) $ done !;
-        back = qed 𝓛 (‵ Is ∷ ‵ (fsep Middle (around E 𝓛 b o slots from n)) ∷ []) ∵ fsplit ! $
-            move ! (2 ∷ []) $ fsplit ! $ move ! (2 ∷ []) $
-            use1 𝓛 (‵ (Row dst (full xs))) (of_items E 𝓛 b k xs dst) $ move ! (3 ∷ []) $
-            use1 𝓛 (‵ (Row src (empty k))) (of_room E 𝓛 b k src) $ move ! (0 ∷ 1 ∷ 2 ∷ []) $
-            use3 𝓛 (‵ (Row src new)) (glue3 (empty k) mid (full xs) src dst (empty-long k) at) $
-            use2 𝓛 (‵ (Row o (laid from new slots))) (run_in E 𝓛 b o slots from n le new long_new) $
-            rewrite ! 0 (λ (l : S). ‵ (Row o l)) result refl $ done !;
-      }
+      ))
+      (ap (λ (l : S). moved from to k (pre ++ l)) (flat (full xs) mid (empty k) post)
+      ∙ (moved_over from to k pre (full xs) mid post front target (sym full-long)
+      ∙ sym (ap (λ (l : S). pre ++ l) (flat (empty k) mid (full xs) post))))
+      (qed 𝓛 (‵ (Row src (full xs ++ (mid ++ empty k))) ∷ []) ∵
+      use1 𝓛 (‵ (Row src (full xs)) ⊛ ‵ (Row dst (empty k)) ⊛ ‵ (Row (k * s + src) mid))
+      (cut3 (full xs) mid (empty k) src dst full-long at) $ split3 ! $
+      use1 𝓛 (‵ (Items src)) (to_items E 𝓛 b k xs src long) $ move ! (1 ∷ []) $
+      use1 𝓛 (‵ (Room k dst)) (to_room E 𝓛 b k dst) $ move ! (1 ∷ 0 ∷ []) $ fjoin ! $ done !)
+      (qed 𝓛 (‵ Is ∷ ‵ (Row (k * s + src) mid) ∷ []) ∵ fsplit ! $
+      use1 𝓛 (‵ (Row dst (full xs))) (of_items E 𝓛 b k xs dst) $ move ! (1 ∷ []) $
+      use1 𝓛 (‵ (Row src (empty k))) (of_room E 𝓛 b k src) $
+      by ! (glue3 (empty k) mid (full xs) src dst (empty-long k) at))
 
   -- Items in the slots `from..from + k` can be moved down, past `m` slots, into the empty slots
   -- `to..to + k`. Their old and new slots can be separated before the move, and rejoined after it.
@@ -276,54 +253,36 @@ module _ (E : El) {M : Type 1} {𝓤 : Ura M} (𝓛 : Logic 𝓤) (b o : ℕ) (s
       let mid : S = run (to + k) m slots in
       let pre : S = take to slots in
       let post : S = drop (to + n) slots in
-      let old : S = empty k ++ (mid ++ full xs) in
-      let new : S = full xs ++ (mid ++ empty k) in
       let count : length mid ≡ m = length-run slots (to + k) m (omega arith) in
-      let is : run to n slots ≡ old =
+      let is : run to n slots ≡ empty k ++ (mid ++ full xs) =
       run-split slots to k (m + k)
       ∙ (λ i. gap i ++ (run-split slots (to + k) m k
       ∙ ap (λ (l : S). mid ++ l) (ap (λ (j : ℕ). run j k slots) (sym apart) ∙ items)) i) in
       let at : src ≡ length mid * s + (k * s + dst) = around3 to from m apart mid count in
-      let long_new : length new ≡ n =
-      omega (
+      let front : to ≡ length pre = omega (arith, length-take to slots) in
+      let source : from ≡ to + k + length mid = omega arith in
+      moves_by to n (empty k ++ (mid ++ full xs)) (full xs ++ (mid ++ empty k)) Was Is
+      (Row (k * s + dst) mid) le is
+      (omega (
         arith,
         length-append (full xs) (mid ++ empty k),
         length-append mid (empty k),
         full-long,
         empty-long k,
         count,
-      ) in
-      let front : to ≡ length pre = omega (arith, length-take to slots) in
-      let source : from ≡ to + k + length mid = omega arith in
-      let flat : (ys zs : S) → (ys ++ (mid ++ zs)) ++ post ≡ ys ++ (mid ++ (zs ++ post)) =
-      λ ys zs. append_assoc ys (mid ++ zs) post
-      ∙ ap (λ (l : S). ys ++ l) (append_assoc mid zs post) in
-      let whole : slots ≡ pre ++ (empty k ++ (mid ++ (full xs ++ post))) = parted-run slots to n
-      ∙ (ap (λ (l : S). pre ++ (l ++ post)) is
-      ∙ ap (λ (l : S). pre ++ l) (flat (empty k) (full xs))) in
-      let result : laid to new slots ≡ moved from to k slots =
-      laid-over slots new to n long_new ∙ (ap (λ (l : S). pre ++ l) (flat (full xs) (empty k))
-      ∙ (sym (moved_back from to k pre (full xs) mid post front source (sym full-long))
-      ∙ ap (λ (l : S). moved from to k l) (sym whole))) in
-      let Middle : Fml = Row (k * s + dst) mid in
-      record {
-        Rest = fsep Middle (around E 𝓛 b o slots to n);
-        out = qed 𝓛 (‵ (Row o slots) ∷ []) ∵ use1 𝓛
-            (‵ (Row dst old) ⊛ ‵ (around E 𝓛 b o slots to n))
-            (run_out E 𝓛 b o slots to n le old is) $ split ! $
-            use1 𝓛 (‵ (Row dst (empty k)) ⊛ ‵ (Row src (full xs)) ⊛ ‵ Middle)
-            (cut3 (empty k) mid (full xs) dst src (empty-long k) at) $ split3 ! $
-            use1 𝓛 (‵ (Room k dst)) (to_room E 𝓛 b k dst) $ move ! (1 ∷ []) $
-            use1 𝓛 (‵ (Items src)) (to_items E 𝓛 b k xs src long) $ fjoin ! $
-            move ! (1 ∷ 2 ∷ []) $ fjoin ! $ move ! (1 ∷ 0 ∷ []) $ done !;
-        back = qed 𝓛 (‵ Is ∷ ‵ (fsep Middle (around E 𝓛 b o slots to n)) ∷ []) ∵ fsplit ! $
-            move ! (2 ∷ []) $ fsplit ! $ move ! (3 ∷ []) $
-            use1 𝓛 (‵ (Row src (empty k))) (of_room E 𝓛 b k src) $ move ! (3 ∷ []) $
-            use1 𝓛 (‵ (Row dst (full xs))) (of_items E 𝓛 b k xs dst) $ move ! (0 ∷ 1 ∷ 2 ∷ []) $
-            use3 𝓛 (‵ (Row dst new)) (glue3 (full xs) mid (empty k) dst src full-long at) $
-            use2 𝓛 (‵ (Row o (laid to new slots))) (run_in E 𝓛 b o slots to n le new long_new) $
-            rewrite ! 0 (λ (l : S). ‵ (Row o l)) result refl $ done !;
-      }
+      ))
+      (ap (λ (l : S). moved from to k (pre ++ l)) (flat (empty k) mid (full xs) post)
+      ∙ (moved_back from to k pre (full xs) mid post front source (sym full-long)
+      ∙ sym (ap (λ (l : S). pre ++ l) (flat (full xs) mid (empty k) post))))
+      (qed 𝓛 (‵ (Row dst (empty k ++ (mid ++ full xs))) ∷ []) ∵
+      use1 𝓛 (‵ (Row dst (empty k)) ⊛ ‵ (Row src (full xs)) ⊛ ‵ (Row (k * s + dst) mid))
+      (cut3 (empty k) mid (full xs) dst src (empty-long k) at) $ split3 ! $
+      use1 𝓛 (‵ (Room k dst)) (to_room E 𝓛 b k dst) $ move ! (1 ∷ []) $
+      use1 𝓛 (‵ (Items src)) (to_items E 𝓛 b k xs src long) $ fjoin ! $ done !)
+      (qed 𝓛 (‵ Is ∷ ‵ (Row (k * s + dst) mid) ∷ []) ∵ fsplit ! $ move ! (1 ∷ []) $
+      use1 𝓛 (‵ (Row src (empty k))) (of_room E 𝓛 b k src) $ move ! (1 ∷ []) $
+      use1 𝓛 (‵ (Row dst (full xs))) (of_items E 𝓛 b k xs dst) $
+      by ! (glue3 (full xs) mid (empty k) dst src full-long at))
 
   -- `Bare` states that each slot to which an item is moved is empty, or is one of the slots from
   -- which the items are moved.

@@ -20,7 +20,7 @@ use Rattle.std.specs.Mem.{type_size}
 use Rattle.std.specs.Align.{type_align}
 use Rattle.std.proofs.lemmas.Nat.{div-add-mod', le-div}
 use Rattle.std.proofs.lemmas.Bool.Decides.{nat_tests}
-use Rattle.thin_block.specs.Capacity.{IsAlign, items_offset, block_align, block_bytes, is_small, fits, Fits, first}
+use Rattle.thin_block.specs.Capacity.{items_offset, block_align, block_bytes, is_small, fits, Fits, first}
 use Rattle.thin_block.specs.Growth.{fitting, doubling}
 
 -- The next lemmas are about rounding a size up to a multiple of an alignment.
@@ -79,8 +79,12 @@ rounded_to w128 x = record {
   short = λ h. omega arith;
 }
 
+-- `IsAlign a` holds if `a` is 1, 2, 4, 8 or 16.
+abbrev pub IsAlign : ℕ → Type 0
+IsAlign a = (w : Width) × (a ≡ bytes w)
+
 -- The alignment of every type is 1, 2, 4, 8 or 16.
-pub align_known : (R : RattleType) → IsAlign (type_align R)
+align_known : (R : RattleType) → IsAlign (type_align R)
 align_known R = (align_w (layout R), align-bytes (layout R))
 
 -- `Rounded a x` collects bounds on the alignment and the size of a block whose items have the

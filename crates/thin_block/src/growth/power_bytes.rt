@@ -1,10 +1,10 @@
 //! Defines the growth rule `PowerBytes`. For items of at least one byte, this rule rounds the size
 //! of a block up to a power of two, and chooses the largest capacity for which a block fits into
 //! the rounded size.
-ghost use Rattle.std.specs.Prelude.{◌≡◌, ◌+◌, ◌*◌, ◌^◌, ◌<◌, ◌≤◌, IfNone, IfSome};
+ghost use Rattle.std.specs.Prelude.{◌≡◌, ◌<◌, IfSome};
 ghost use Rattle.std.specs.Mem.{type_size};
 ghost use Rattle.std.specs.Align.{type_align};
-ghost use Rattle.thin_block.specs.Growth.{FillsPower, least_power, power_bytes};
+ghost use Rattle.thin_block.specs.Growth.{FillsPower, power_bytes};
 
 use crate::growth::doubling::Doubling;
 use crate::growth::{Growth, fitting};
@@ -39,26 +39,13 @@ impl Growth for PowerBytes {
         if size == 0 {
             return Doubling::next_capacity::<T>(cap, want);
         }
-        match power_for(want.max(cap.saturating_mul(2)), size) {
-            Some(power) => fitting::<T>((power - HEADER) / size),
-            None => None,
+        let items = want.max(cap.saturating_mul(2));
+        let bytes = items.saturating_mul(size).saturating_add(HEADER);
+        if bytes > usize::MAX / 2 + 1 {
+            return None;
         }
+        fitting::<T>((bytes.next_power_of_two() - HEADER) / size)
     }
 
     ghost law = { power_bytes_law };
-}
-
-// Returns the least power of two that is at least the size in bytes of a header and `items` items
-// of `size` bytes each. Returns `None` if it exceeds `2 ^ 63`.
-fn power_for(items: usize, size: usize) -> Option<usize>
-    ensures none { IfNone result (2 ^ 63 < 16 + items * size) }
-    ensures value { IfSome result (λ power. power ≡ least_power (16 + items * size)) }
-    ensures small { IfSome result (λ power. 16 + items * size ≤ 2 ^ 63) }
-    ensures room { IfSome result (λ power. 16 ≤ power) }
-{
-    let bytes = items.saturating_mul(size).saturating_add(HEADER);
-    if bytes > usize::MAX / 2 + 1 {
-        return None;
-    }
-    Some(bytes.next_power_of_two())
 }

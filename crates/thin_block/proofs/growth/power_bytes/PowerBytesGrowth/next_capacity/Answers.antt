@@ -1,10 +1,10 @@
 -- This file proves that `next_capacity` returns the capacity that the rule `power_bytes` chooses,
 -- although the code caps sizes and capacities at `usize::MAX`.
-use Rattle.std.proofs.Common.{◌≡◌, ◌+◌, ◌*◌, ◌^◌, ◌<◌, ◌≤◌, ◌∙◌, ap, max, subst, sym}
+use Rattle.std.proofs.Common.{◌≡◌, ◌+◌, ◌*◌, ◌^◌, ◌<◌, ◌≤◌, ◌∙◌, ap, arith, max, subst, sym}
 use Rattle.std.specs.Mem.{type_size}
 use Rattle.std.specs.Align.{type_align}
 use Rattle.thin_block.specs.Growth.{least_power}
-use Rattle.thin_block.specs.PowerLaws.{powers_of_none}
+use Rattle.thin_block.specs.PowerLaws.{least_power_is, one_least_power, powers_of_none}
 use Rattle.thin_block.proofs.growth.PowersLemmas.{each_fills, power_is, power_past, takes_none}
 use Rattle.thin_block.proofs.sizes.SizesLemmas.{positive}
 use denote.Param.{param}
@@ -18,29 +18,37 @@ returns-then-size-eq0-clause-value g c =
     ∙ sym (powers_of_none (type_size (param 0 g.row.T)) (type_align (param 0 g.row.T))
     c.args.cap c.args.want none)
 
-pub returns-in-Some : goal.returns-in-Some
-returns-in-Some g c =
+pub returns-then-bytes-clause-value : goal.returns-then-bytes-clause-value
+returns-then-bytes-clause-value g c =
     let R = param 0 g.row.T in
-    let items = c.max.ensures ∙ ap (max c.args.want) c.saturating_mul.ensures in
+    let items = c.max-items.ensures ∙ ap (max c.args.want) c.saturating_mul.ensures in
     let size = c.item_size-size.result in
     let some : 0 < size = positive size c.if-size-eq0.false in
-    let small = subst (λ k. 16 + k * size ≤ 2 ^ 63) items c.in-Some.ensures.small in
-    let power = subst (λ k. c.in-Some.power ≡ least_power (16 + k * size))
-    items c.in-Some.ensures.value in
+    let sum : 2 ^ 63 < 16 + c.max-items.result * size =
+    omega (arith, c.saturating_mul-2.ensures, c.saturating_add-bytes.ensures, c.if-bytes.true) in
+    let large = subst (λ k. 2 ^ 63 < 16 + k * size) items sum in
+    power_past R c.args.cap c.args.want size c.item_size-size.ensures.value some c.requires large
+
+pub returns : goal.returns
+returns g c =
+    let R = param 0 g.row.T in
+    let items = c.max-items.ensures ∙ ap (max c.args.want) c.saturating_mul.ensures in
+    let size = c.item_size-size.result in
+    let some : 0 < size = positive size c.if-size-eq0.false in
+    let bytes = c.saturating_add-bytes.result in
+    let sum : bytes ≡ 16 + c.max-items.result * size =
+    omega (arith, c.saturating_mul-2.ensures, c.saturating_add-bytes.ensures, c.if-bytes.false) in
+    let whole = subst (λ k. bytes ≡ 16 + k * size) items sum in
+    let small = subst (λ n. n ≤ 2 ^ 63) whole (omega (arith, c.if-bytes.false)) in
+    let told = c.next_power_of_two.ensures in
+    let power = one_least_power bytes c.next_power_of_two.result (least_power bytes)
+    (told.power, told.lower_bound, told.upper_bound) (least_power_is bytes)
+    ∙ ap least_power whole in
     let value = c.fitting.ensures.value
     ∙ power_is R c.args.cap c.args.want size c.item_size-size.ensures.value some c.requires
-    small c.in-Some.power power in
+    small c.next_power_of_two.result power in
     record {
       value = value;
       fills = each_fills (type_size R) (type_align R) c.args.cap c.args.want
           c.fitting.result value;
     }
-
-pub returns-in-None-clause-value : goal.returns-in-None-clause-value
-returns-in-None-clause-value g c =
-    let R = param 0 g.row.T in
-    let items = c.max.ensures ∙ ap (max c.args.want) c.saturating_mul.ensures in
-    let size = c.item_size-size.result in
-    let some : 0 < size = positive size c.if-size-eq0.false in
-    let large = subst (λ k. 2 ^ 63 < 16 + k * size) items c.in-None.ensures.none in
-    power_past R c.args.cap c.args.want size c.item_size-size.ensures.value some c.requires large

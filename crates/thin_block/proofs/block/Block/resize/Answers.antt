@@ -1,11 +1,11 @@
--- This file proves that `remake` moves items only out of filled slots, and that all slots of the
--- old block are empty when `remake` frees it.
+-- This file proves that `resize` moves items only out of filled slots, and that all slots of the
+-- old block are empty when `resize` frees it.
 use Rattle.std.proofs.Common.{◌≡◌, ℕ, length, sym, ap, ◌∙◌, arith}
 use Rattle.std.specs.declared.option.Option.TheVariants.{None}
 use Rattle.std.proofs.lemmas.List.{length-replicate}
 use Rattle.thin_block.specs.Slots.{empty, emptied}
 use Rattle.thin_block.proofs.SlotsLemmas.{packed-filled, packed-emptied}
-use Rattle.thin_block.proofs.block.Block.remake.Goals as goal
+use Rattle.thin_block.proofs.block.Block.resize.Goals as goal
 
 -- The items fill the first slots of the old block.
 pub move_items_to-requires-clause-filled : goal.move_items_to-requires-clause-filled
@@ -14,9 +14,9 @@ move_items_to-requires-clause-filled g c =
     λ i p q. packed-filled c.args.self.now.slots c.args.self.now.len c.requires.packed i
     (omega arith)
 
--- When `release` frees the old block, all slots of the block are empty.
-pub release-requires-clause-empty : goal.release-requires-clause-empty
-release-requires-clause-empty g c =
+-- When `free_block` frees the old block, all slots of the block are empty.
+pub free_block-requires-clause-empty : goal.free_block-requires-clause-empty
+free_block-requires-clause-empty g c =
     let old = c.args.self.now.slots in
     let left : c.replace-old.result.slots ≡ empty (length old) =
     ap (λ b. b.slots) c.replace-old.ensures.value

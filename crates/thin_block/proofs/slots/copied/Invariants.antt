@@ -1,9 +1,9 @@
--- This file contains the loop invariant of `copied_singly`: after `i` iterations, the first `i`
+-- This file contains the loop invariant of `copied`: after `i` iterations, the first `i`
 -- places of `row` contain copies of the first `i` items.
 use Rattle.std.proofs.Common.{◌≡◌, take}
 use Rattle.core.specs.Mem.Slots.{SamePlaces, slots_filled, slots_items}
 use Rattle.core.specs.Mem.Slots.Ownership.{Filled}
-use Rattle.thin_block.proofs.slots.copied_singly.Given as goal
+use Rattle.thin_block.proofs.slots.copied.Given as goal
 
 abbrev pub invariant-loop-i : goal.invariant-loop-i
 invariant-loop-i g l = record {
