@@ -9,7 +9,7 @@ use Rattle.std.specs.Option.{option_to_list}
 use Rattle.std.specs.Prelude.{MatchBool, cond, filter, not}
 use Rattle.thin_block.specs.declared.growth.Growth.{Ghosts}
 use Rattle.thin_vec.specs.Edits.Dedup.{AskedLast, AskedPairs, IsDedupedBy}
-use Rattle.thin_vec.specs.Edits.ExtractIf.{ExtractSteps, extract_front, extract_lender, extract_rest, extract_tail}
+use Rattle.thin_vec.specs.Edits.ExtractIf.{ExtractSteps, extract_block, extract_lender, extract_rest}
 use Rattle.thin_vec.specs.ThinVec.{Thin}
 use Rattle.thin_vec.specs.declared.edits.extract_if.ExtractIf.{ExtractIf}
 use Rattle.thin_vec.specs.declared.edits.extract_if.Extracting.{Extracting}
@@ -138,9 +138,9 @@ module _ {T F A G : Type 0} {g : Ghosts G}
   pub record IsExtracting (start now : ExtractIf T F A G (Holder (Extracting T F A)) g h)
       (old held : List T) : Type 0 where
     pub gone : held ++ filter test (extract_rest now) ≡ old ++ filter test (extract_rest start)
-    pub stay : extract_front now ++ others test (extract_rest now)
-        ≡ extract_front start ++ others test (extract_rest start)
-    pub tail : extract_tail now ≡ extract_tail start
+    pub stay : (extract_block now).front ++ others test (extract_rest now)
+        ≡ (extract_block start).front ++ others test (extract_rest start)
+    pub tail : (extract_block now).tail ≡ (extract_block start).tail
     pub lender : extract_lender now ≡ extract_lender start
     pub count : length held + length (extract_rest now)
         ≤ length old + length (extract_rest start)
@@ -169,8 +169,8 @@ module _ {T F A G : Type 0} {g : Ghosts G}
               ∙ (ap (λ r. held ++ (option_to_list r ++ filter test (extract_rest new))) (sym is)
               ∙ (ap (λ l. held ++ l) (sym part.gone) ∙ was.gone)));
           stay = ap (λ l. l ++ others test (extract_rest new)) got.front
-              ∙ (append_assoc (extract_front now) got.kept (others test (extract_rest new))
-              ∙ (ap (λ l. extract_front now ++ l) (sym part.stay) ∙ was.stay));
+              ∙ (append_assoc ((extract_block now).front) got.kept (others test (extract_rest new))
+              ∙ (ap (λ l. (extract_block now).front ++ l) (sym part.stay) ∙ was.stay));
           tail = got.tail ∙ was.tail;
           lender = step.lender ∙ was.lender;
           count = omega (
@@ -189,14 +189,14 @@ module _ {T F A G : Type 0} {g : Ghosts G}
         {old held : List T} {item : Option T} → IsExtracting start now old held
         → ExtractSteps R now item new → item ≡ None
         → (held ≡ old ++ filter test (extract_rest start))
-        × (extract_front new ++ (extract_rest new ++ extract_tail new)
-        ≡ extract_front start ++ (others test (extract_rest start) ++ extract_tail start))
+        × ((extract_block new).front ++ (extract_rest new ++ (extract_block new).tail)
+        ≡ (extract_block start).front ++ (others test (extract_rest start) ++ (extract_block start).tail))
     extract_end {start} {now} {new} {old} {held} {item} was step none =
         let got = step.extracts in
         let part = parts test R says _ _ _ _ _ _ got.asked in
         let ended = part.ended none in
-        let front = extract_front new in
-        let tail = extract_tail start in (
+        let front = (extract_block new).front in
+        let tail = (extract_block start).tail in (
           sym (append-nil held)
               ∙ (sym (λ i. held ++ (option_to_list (none i) ++ filter test (ended i)))
               ∙ (ap (λ l. held ++ l) (sym part.gone) ∙ was.gone)),
@@ -204,7 +204,7 @@ module _ {T F A G : Type 0} {g : Ghosts G}
               ∙ (ap (λ l. l ++ tail) (sym (append-nil front)
               ∙ (ap (λ l. front ++ others test l) (sym ended)
               ∙ (ap (λ l. l ++ others test (extract_rest new)) got.front
-              ∙ (append_assoc (extract_front now) got.kept (others test (extract_rest new))
-              ∙ (ap (λ l. extract_front now ++ l) (sym part.stay) ∙ was.stay)))))
-              ∙ append_assoc (extract_front start) (others test (extract_rest start)) tail),
+              ∙ (append_assoc ((extract_block now).front) got.kept (others test (extract_rest new))
+              ∙ (ap (λ l. (extract_block now).front ++ l) (sym part.stay) ∙ was.stay)))))
+              ∙ append_assoc ((extract_block start).front) (others test (extract_rest start)) tail),
         )

@@ -1,10 +1,11 @@
 -- These lemmas state which items `next` and `next_back` yield on a `Drain`, and what these calls
 -- leave unchanged.
-use Rattle.std.proofs.Common.{[], ◌∷◌, ap, refl, subst, ◌∙◌, length}
+use Rattle.std.proofs.Common.{[], inl, inr, ◌∷◌, ◌++◌, ap, append_assoc, arith, refl, subst, sym, ◌∙◌, length}
+use Rattle.std.proofs.lemmas.List.{append-nil, length_push}
 use Rattle.std.proofs.iter.runs.Sources.{as_is, as_is_back, from_back, from_front}
 use Rattle.std.specs.Iterator.Runs.{YieldsInOrder, YieldsInReverse}
 use Rattle.thin_block.specs.declared.growth.Growth.{Ghosts}
-use Rattle.thin_vec.specs.Edits.Drain.{DrainKeeps, DrainKeepsAlong, DrainSteps, DrainStepsBack, drain_rest}
+use Rattle.thin_vec.specs.Edits.Drain.{DrainKeeps, DrainKeepsAlong, DrainLeaves, DrainSteps, DrainStepsBack, drain_rest}
 use Rattle.thin_vec.specs.Open.{Open}
 use Rattle.thin_vec.specs.declared.edits.drain.Drain.{Drain}
 use Rattle.thin_vec.specs.declared.edits.holder.Holder.{Holder}
@@ -26,13 +27,37 @@ module _ {T A G : Type 0} {g : Ghosts G} {h : HoldsGhosts (Holder (Open T A)) (O
         cost = q.cost ∙ p.cost;
       }
 
-  -- No sequence of calls to `next` on a `Drain` affects the list that remains after the `Drain` is
-  -- dropped.
+  -- Calls to `next` and `next_back` on a `Drain`, in any order, take items from the two ends of the
+  -- range, and do not affect the list that remains after the `Drain` is dropped.
   pub drain_keeps_along : (d : Drain T A G (Holder (Open T A)) g h) → DrainKeepsAlong d
-  drain_keeps_along d [] later e = subst (λ t. DrainKeeps d t) e
-      (record { lender = refl; kept = refl; capacity = refl; alloc = refl; cost = refl })
-  drain_keeps_along d (x ∷ xs) later e = drain_keeps_more d e.0 later e.1.keeps
-      (drain_keeps_along e.0 xs later e.2)
+  drain_keeps_along d [] later e = subst (λ t. DrainLeaves d [] t) e (record {
+    keeps = record { lender = refl; kept = refl; capacity = refl; alloc = refl; cost = refl };
+    before = [];
+    after = [];
+    rest = sym (append-nil (drain_rest d));
+    count = refl;
+  })
+  drain_keeps_along d (x ∷ xs) later (m, inl one, e) =
+      let h = drain_keeps_along m xs later e in
+      record {
+        keeps = drain_keeps_more d m later one.keeps h.keeps;
+        before = x ∷ h.before;
+        after = h.after;
+        rest = one.gave ∙ ap (λ l. x ∷ l) h.rest;
+        count = omega (arith, h.count);
+      }
+  drain_keeps_along d (x ∷ xs) later (m, inr one, e) =
+      let h = drain_keeps_along m xs later e in
+      record {
+        keeps = drain_keeps_more d m later one.keeps h.keeps;
+        before = h.before;
+        after = h.after ++ x ∷ [];
+        rest = one.gave
+            ∙ (ap (λ l. l ++ x ∷ []) h.rest
+            ∙ (append_assoc h.before (drain_rest later ++ h.after) (x ∷ [])
+            ∙ ap (λ l. h.before ++ l) (append_assoc (drain_rest later) h.after (x ∷ []))));
+        count = omega (arith, h.count, length_push h.after x);
+      }
 
   -- Repeated calls to `next` on a `Drain` yield the items that have not been yielded yet, in order.
   pub drains_in_order : YieldsInOrder (DrainSteps {T = T} {A = A} {G = G} {g = g} {h = h})

@@ -1,13 +1,19 @@
 -- These lemmas are about the item that `next` on an `ExtractIf` extracts: the first untested item
 -- for which the closure returns true.
-use Rattle.std.proofs.Common.{◌≡◌, ℕ, ◌+◌, ◌≤◌, Bool, true, false, List, [], ◌∷◌, ◌++◌, Option, None, Some, length, take, drop, refl, sym, ap, subst, ◌∙◌, arith, length-append}
-use Rattle.std.proofs.lemmas.List.{drop_at, length-take-le, take_at}
+use Rattle.std.proofs.Common.{◌≡◌, ℕ, ◌+◌, ◌≤◌, Bool, true, false, List, [], ◌∷◌, ◌++◌, Option, None, Some, length, take, drop, refl, sym, ap, subst, ◌∙◌, append_assoc, arith, length-append}
+use Rattle.std.proofs.lemmas.List.{append-nil, drop_at, length-take-le, take_at}
 use Rattle.std.specs.List.Retain.{ExtractsNext}
 use Rattle.std.specs.Option.{option_to_list}
 use Rattle.std.specs.Prelude.{◌==◌, MatchBool, if◌then◌else◌, not}
 use Rattle.thin_block.specs.Cost.{Cost, moving}
+use Rattle.thin_block.specs.declared.growth.Growth.{Ghosts}
+use Rattle.thin_vec.specs.Edits.ExtractIf.{ExtractKeepsAlong, ExtractLeaves, extract_block}
 use Rattle.thin_vec.specs.Edits.Retain.{Verdicts, Asked, stay}
 use Rattle.thin_vec.specs.OpenBlock.Sift.{AskedUpTo, Stops}
+use Rattle.thin_vec.specs.declared.edits.extract_if.ExtractIf.{ExtractIf}
+use Rattle.thin_vec.specs.declared.edits.extract_if.Extracting.{Extracting}
+use Rattle.thin_vec.specs.declared.edits.holder.Holder.{Holder}
+use Rattle.thin_vec.specs.declared.edits.holder.Holds.{Ghosts as HoldsGhosts}
 use Rattle.thin_vec.proofs.RetainLemmas.{cons-head, cons-not-nil, cons-tail}
 
 -- Negating a Boolean flag twice yields the same flag.
@@ -137,3 +143,36 @@ pub cost-of : {T : Type 0} (gap : ℕ) (cost : Cost) (k : ℕ) (xs : List T) →
     ≡ (if gap == 0 then cost else moving (length (take k xs)) cost)
 cost-of gap cost k xs room =
     ap (λ (n : ℕ). if gap == 0 then cost else moving n cost) (sym (length-take-le k xs room))
+
+module _ {T F A G : Type 0} {g : Ghosts G}
+    {h : HoldsGhosts (Holder (Extracting T F A)) (Extracting T F A)}
+    (R : F → T → Bool → F → T → Type 0) where
+  -- After any number of calls to `next` on an `ExtractIf`, each item of the range has been yielded,
+  -- kept or not been tested yet.
+  pub extract_keeps_along : (d : ExtractIf T F A G (Holder (Extracting T F A)) g h)
+      → ExtractKeepsAlong R d
+  extract_keeps_along d [] later e = subst (λ t. ExtractLeaves d [] t) e (record {
+    lender = refl;
+    alloc = refl;
+    capacity = refl;
+    tail = refl;
+    gone = omega arith;
+    kept = [];
+    front = sym (append-nil (extract_block d).front);
+    count = omega arith;
+  })
+  extract_keeps_along d (x ∷ xs) later (m, one, e) =
+      let on = extract_keeps_along m xs later e in
+      let s = one.extracts in
+      record {
+        lender = on.lender ∙ one.lender;
+        alloc = on.alloc ∙ one.alloc;
+        capacity = on.capacity ∙ s.capacity;
+        tail = on.tail ∙ s.tail;
+        gone = omega (arith, on.gone, s.gap);
+        kept = s.kept ++ on.kept;
+        front = on.front
+            ∙ (ap (λ l. l ++ on.kept) s.front
+            ∙ append_assoc (extract_block d).front s.kept on.kept);
+        count = omega (arith, on.count, s.count, length-append s.kept on.kept);
+      }

@@ -1,12 +1,12 @@
 -- These definitions are for the contracts of `Drain`. They name the parts of a `Drain`, and they
 -- say what its methods guarantee. (std: `vec::Drain`)
-use Rattle.std.specs.Prelude.{◌≡◌, ℕ, List, ◌++◌, Option}
+use Rattle.std.specs.Prelude.{◌≡◌, ◌⊎◌, ◌+◌, List, ◌++◌, Option, length}
 use Rattle.std.specs.Borrow.{GName}
 use Rattle.std.specs.Iterator.{Yields, YieldsFirst, YieldsLast}
 use Rattle.std.specs.Iterator.Runs.{YieldsInOrder, YieldsInReverse}
-use Rattle.thin_block.specs.Cost.{Cost}
 use Rattle.thin_block.specs.declared.growth.Growth.{Ghosts}
 use Rattle.thin_vec.specs.Open.{Open, cost_drained}
+use Rattle.thin_vec.specs.ThinVec.{Thin}
 use Rattle.thin_vec.specs.declared.edits.drain.Drain.{Drain}
 use Rattle.thin_vec.specs.declared.edits.holder.Holder.{Holder}
 use Rattle.thin_vec.specs.declared.edits.holder.Holds.{Ghosts as HoldsGhosts}
@@ -14,26 +14,20 @@ use Rattle.thin_vec.specs.declared.edits.holder.Holds.{Ghosts as HoldsGhosts}
 -- A `Drain` has a field that owns the block of the list until the `Drain` is dropped. In this
 -- module, the type of this field is `Holder`, as in every `Drain` that the method `drain` returns.
 module _ {T A G : Type 0} {g : Ghosts G} {h : HoldsGhosts (Holder (Open T A)) (Open T A)} where
+  -- `drain_block d` is the open block that the `Drain` `d` owns. Its three parts are the items
+  -- before the range, the items of the range not yet yielded, and the items after the range. When
+  -- `d` is dropped, the first and the last part remain in the list.
+  abbrev pub drain_block : Drain T A G (Holder (Open T A)) g h → Open T A
+  drain_block d = d.holder.value
+
   -- `drain_rest d` contains the items of the range that the `Drain` `d` has not yielded yet.
   abbrev pub drain_rest : Drain T A G (Holder (Open T A)) g h → List T
-  drain_rest d = d.holder.value.rest
+  drain_rest d = (drain_block d).rest
 
-  -- `drain_kept d` contains the items that the list will contain after the `Drain` `d` is dropped.
-  abbrev pub drain_kept : Drain T A G (Holder (Open T A)) g h → List T
-  drain_kept d = d.holder.value.front ++ d.holder.value.tail
-
-  -- `drain_capacity d` is the capacity that the list will have after the `Drain` `d` is dropped.
-  abbrev pub drain_capacity : Drain T A G (Holder (Open T A)) g h → ℕ
-  drain_capacity d = d.holder.value.capacity
-
-  -- `drain_alloc d` is the allocator of the list that the `Drain` `d` borrows.
-  abbrev pub drain_alloc : Drain T A G (Holder (Open T A)) g h → A
-  drain_alloc d = d.list.now.alloc
-
-  -- `drain_cost d` is the recorded cost (requests for memory, copied items and moves) that the list
-  -- will have after the `Drain` `d` is dropped.
-  abbrev pub drain_cost : Drain T A G (Holder (Open T A)) g h → Cost
-  drain_cost d = cost_drained d.holder.value
+  -- `drain_list d` is the list that the `Drain` `d` borrows, as it is until `d` is dropped. It
+  -- stays as it is if `d` is leaked.
+  abbrev pub drain_list : Drain T A G (Holder (Open T A)) g h → Thin T A
+  drain_list d = d.list.now
 
   -- `drain_lender d` identifies the list that the `Drain` borrows. It is the ghost name of the
   -- reference to this list, and exists only in contracts and proofs. References with equal ghost
@@ -45,10 +39,11 @@ module _ {T A G : Type 0} {g : Ghosts G} {h : HoldsGhosts (Holder (Open T A)) (O
   -- would result in the same list as dropping `new`.
   pub record DrainKeeps (old new : Drain T A G (Holder (Open T A)) g h) : Type 0 where
     pub lender : drain_lender new ≡ drain_lender old
-    pub kept : drain_kept new ≡ drain_kept old
-    pub capacity : drain_capacity new ≡ drain_capacity old
-    pub alloc : drain_alloc new ≡ drain_alloc old
-    pub cost : drain_cost new ≡ drain_cost old
+    pub kept : (drain_block new).front ++ (drain_block new).tail
+        ≡ (drain_block old).front ++ (drain_block old).tail
+    pub capacity : (drain_block new).capacity ≡ (drain_block old).capacity
+    pub alloc : (drain_list new).alloc ≡ (drain_list old).alloc
+    pub cost : cost_drained (drain_block new) ≡ cost_drained (drain_block old)
 
   -- `DrainSteps old item new` holds if a call to `next` returned `item` and changed the `Drain`
   -- from `old` to `new`.
@@ -64,11 +59,29 @@ module _ {T A G : Type 0} {g : Ghosts G} {h : HoldsGhosts (Holder (Open T A)) (O
     pub gave : YieldsLast drain_rest old item new
     pub keeps : DrainKeeps old new
 
-  -- `DrainKeepsAlong d` states that calls to `next` on the `Drain` `d`, however many there are, do
-  -- not change the list that will remain after `d` is dropped.
+  -- `DrainStepsEither old item new` holds if a call to `next` or to `next_back` returned `item` and
+  -- changed the `Drain` from `old` to `new`.
+  abbrev pub DrainStepsEither : Drain T A G (Holder (Open T A)) g h → Option T
+      → Drain T A G (Holder (Open T A)) g h → Type 0
+  DrainStepsEither old item new = DrainSteps old item new ⊎ DrainStepsBack old item new
+
+  -- `DrainLeaves first items later` states what calls to `next` and `next_back` leave, after they
+  -- yielded `items` and changed the `Drain` from `first` to `later`. The items of `before` were
+  -- yielded from the front, and those of `after` from the back.
+  pub record DrainLeaves (first : Drain T A G (Holder (Open T A)) g h) (items : List T)
+      (later : Drain T A G (Holder (Open T A)) g h) : Type 0 where
+    pub keeps : DrainKeeps first later
+    pub before : List T
+    pub after : List T
+    pub rest : drain_rest first ≡ before ++ (drain_rest later ++ after)
+    pub count : length items ≡ length before + length after
+
+  -- `DrainKeepsAlong d` states what calls to `next` and `next_back` on the `Drain` `d` leave, in
+  -- whatever order and however many there are: they do not change the list that will remain after
+  -- `d` is dropped, and take items from the two ends of `drain_rest d`.
   abbrev pub DrainKeepsAlong : Drain T A G (Holder (Open T A)) g h → Type 0
   DrainKeepsAlong first = (items : List T) (later : Drain T A G (Holder (Open T A)) g h)
-      → Yields DrainSteps first items later → DrainKeeps first later
+      → Yields DrainStepsEither first items later → DrainLeaves first items later
 
   -- `DrainsInOrder d` states that calls to `next` yield the remaining items of the range
   -- (`drain_rest`) in order. It states this for every `Drain` of the type of `d`. The value `d`

@@ -1,11 +1,13 @@
 -- These definitions are for the contracts of `ExtractIf`. They name the parts of an `ExtractIf`,
 -- and they say what a call to `next` changes. (std: `Vec::extract_if`)
-use Rattle.std.specs.Prelude.{◌≡◌, ◌+◌, ◌==◌, ◌++◌, Bool, List, Option, if◌then◌else◌, length, ℕ}
+use Rattle.std.specs.Prelude.{◌≡◌, ◌+◌, ◌==◌, ◌++◌, Bool, List, Option, if◌then◌else◌, length}
 use Rattle.std.specs.List.Retain.{ExtractsNext}
 use Rattle.std.specs.Option.{option_to_list}
+use Rattle.std.specs.Iterator.{Yields}
 use Rattle.std.specs.Borrow.{GName}
-use Rattle.thin_block.specs.Cost.{Cost, moving}
+use Rattle.thin_block.specs.Cost.{moving}
 use Rattle.thin_block.specs.declared.growth.Growth.{Ghosts}
+use Rattle.thin_vec.specs.Open.{Open}
 use Rattle.thin_vec.specs.declared.edits.extract_if.Extracting.{Extracting}
 use Rattle.thin_vec.specs.declared.edits.extract_if.ExtractIf.{ExtractIf}
 use Rattle.thin_vec.specs.declared.edits.holder.Holder.{Holder}
@@ -35,35 +37,20 @@ module _ {T F A : Type 0} (R : F → T → Bool → F → T → Type 0) where
 -- `extract_if` returns.
 module _ {T F A G : Type 0} {g : Ghosts G}
     {h : HoldsGhosts (Holder (Extracting T F A)) (Extracting T F A)} where
-  -- `extract_front e` contains the items before the range, followed by the tested items that were
-  -- kept, as the closure left them.
-  abbrev pub extract_front : ExtractIf T F A G (Holder (Extracting T F A)) g h → List T
-  extract_front e = e.holder.value.block.front
+  -- `extract_block e` is the open block that the `ExtractIf` `e` owns. Its front contains the items
+  -- before the range, followed by the tested items that were kept, as the closure left them. Its
+  -- gap has one slot for each item that `e` has yielded. Its tail contains the items after the
+  -- range.
+  abbrev pub extract_block : ExtractIf T F A G (Holder (Extracting T F A)) g h → Open T A
+  extract_block e = e.holder.value.block
 
   -- `extract_rest e` contains the items of the range that have not been tested yet.
   abbrev pub extract_rest : ExtractIf T F A G (Holder (Extracting T F A)) g h → List T
-  extract_rest e = e.holder.value.block.rest
-
-  -- `extract_tail e` contains the items after the range.
-  abbrev pub extract_tail : ExtractIf T F A G (Holder (Extracting T F A)) g h → List T
-  extract_tail e = e.holder.value.block.tail
-
-  -- `extract_gone e` is the number of items that the `ExtractIf` has yielded so far.
-  abbrev pub extract_gone : ExtractIf T F A G (Holder (Extracting T F A)) g h → ℕ
-  extract_gone e = e.holder.value.block.gap
+  extract_rest e = (extract_block e).rest
 
   -- `extract_callee e` is the closure that the `ExtractIf` owns, in its present state.
   abbrev pub extract_callee : ExtractIf T F A G (Holder (Extracting T F A)) g h → F
   extract_callee e = e.holder.value.picks.pick
-
-  -- `extract_cost e` is the recorded cost of the list so far (requests for memory, copied items and
-  -- moves).
-  abbrev pub extract_cost : ExtractIf T F A G (Holder (Extracting T F A)) g h → Cost
-  extract_cost e = e.holder.value.block.cost
-
-  -- `extract_capacity e` is the capacity that the list will have after the `ExtractIf` is dropped.
-  abbrev pub extract_capacity : ExtractIf T F A G (Holder (Extracting T F A)) g h → ℕ
-  extract_capacity e = e.holder.value.block.capacity
 
   -- `extract_alloc e` is the allocator of the list that the `ExtractIf` borrows.
   abbrev pub extract_alloc : ExtractIf T F A G (Holder (Extracting T F A)) g h → A
@@ -83,3 +70,26 @@ module _ {T F A G : Type 0} {g : Ghosts G}
     pub extracts : Extracts R old.holder.value item new.holder.value
     pub lender : extract_lender new ≡ extract_lender old
     pub alloc : extract_alloc new ≡ extract_alloc old
+
+  -- `ExtractLeaves first items later` states what calls to `next` leave, after they yielded `items`
+  -- and changed the `ExtractIf` from `first` to `later`. Each item of the range has been yielded,
+  -- or kept (at the end of the front), or not been tested yet.
+  pub record ExtractLeaves (first : ExtractIf T F A G (Holder (Extracting T F A)) g h)
+      (items : List T) (later : ExtractIf T F A G (Holder (Extracting T F A)) g h) : Type 0 where
+    pub lender : extract_lender later ≡ extract_lender first
+    pub alloc : extract_alloc later ≡ extract_alloc first
+    pub capacity : (extract_block later).capacity ≡ (extract_block first).capacity
+    pub tail : (extract_block later).tail ≡ (extract_block first).tail
+    pub gone : (extract_block later).gap ≡ (extract_block first).gap + length items
+    pub kept : List T
+    pub front : (extract_block later).front ≡ (extract_block first).front ++ kept
+    pub count : length kept + length items + length (extract_rest later)
+        ≡ length (extract_rest first)
+
+  -- `ExtractKeepsAlong R e` states what calls to `next` on the `ExtractIf` `e` leave, however many
+  -- there are. `R` describes the calls to the closure.
+  abbrev pub ExtractKeepsAlong : (F → T → Bool → F → T → Type 0)
+      → ExtractIf T F A G (Holder (Extracting T F A)) g h → Type 0
+  ExtractKeepsAlong R first =
+      (items : List T) (later : ExtractIf T F A G (Holder (Extracting T F A)) g h)
+      → Yields (ExtractSteps R) first items later → ExtractLeaves first items later

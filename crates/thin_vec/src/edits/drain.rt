@@ -1,10 +1,10 @@
 //! The method `drain`, which removes the items of a range from a list, and yields them one by one
 //! from either end.
-ghost use Rattle.std.specs.Prelude.{◌≡◌, ◌+◌, ◌-◌, ◌<◌, ◌≤◌, ◌==◌, ◌++◌, IfSome, Some, if◌then◌else◌, length, slice_range};
+ghost use Rattle.std.specs.Prelude.{◌≡◌, ◌+◌, ◌-◌, ◌<◌, ◌≤◌, ◌==◌, ◌++◌, [], IfSome, Some, if◌then◌else◌, length, slice_range};
 ghost use Rattle.std.specs.List.{remove_range};
 ghost use Rattle.std.specs.Iterator.{UpTo, item_count};
 ghost use Rattle.std.specs.Iterator.SizeHint.{IsWithinCount};
-ghost use Rattle.thin_block.specs.Cost.{moving};
+ghost use Rattle.thin_block.specs.Cost.{moving, no_cost};
 ghost use Rattle.thin_block.specs.Block.{IsFrom};
 ghost use Rattle.thin_vec.specs.Open.{cost_drained};
 
@@ -57,7 +57,7 @@ impl<'a, T: Drop, A: Allocator, G: Growth, H: Holds<Inner = OpenBlock<T, A>>> Dr
 }
 
 impl<T: Drop, A: Allocator, G: Growth> ThinVec<T, A, G> {
-    ghost use Rattle.thin_vec.specs.Edits.Drain.{DrainKeepsAlong, DrainsInOrder, DrainsInReverse, drain_alloc, drain_capacity, drain_cost, drain_kept, drain_lender, drain_rest};
+    ghost use Rattle.thin_vec.specs.Edits.Drain.{DrainKeepsAlong, DrainsInOrder, DrainsInReverse, drain_block, drain_lender, drain_list, drain_rest};
 
     /// Removes the items `start..end` from the list, and returns an iterator that yields them from
     /// either end. The range must be in bounds. Callers can check a range with the function
@@ -79,17 +79,24 @@ impl<T: Drop, A: Allocator, G: Growth> ThinVec<T, A, G> {
         ensures runs { DrainsInOrder result }
         ensures runs_back { DrainsInReverse result }
 
+        // Until the `Drain` is dropped, and for ever if it is leaked, the list is empty.
+        ensures list { drain_list result
+            ≡ record self.old { items = []; capacity = 0; cost = no_cost } }
+
         // After the `Drain` is dropped, the list has the following items, capacity, allocator and
         // recorded cost.
-        ensures kept { drain_kept result ≡ remove_range self.old.items start end }
-        ensures capacity { drain_capacity result ≡ self.old.capacity }
-        ensures alloc { drain_alloc result ≡ self.old.alloc }
-        ensures cost { drain_cost result ≡ (if start == end then self.old.cost else moving
+        ensures kept { (drain_block result).front ++ (drain_block result).tail
+            ≡ remove_range self.old.items start end }
+        ensures capacity { (drain_block result).capacity ≡ self.old.capacity }
+        ensures alloc { (drain_list result).alloc ≡ self.old.alloc }
+        ensures cost { cost_drained (drain_block result)
+            ≡ (if start == end then self.old.cost else moving
             (length self.old.items - end) self.old.cost) }
 
         // The `Drain` borrows this list: its reference to the list has the same ghost name as
-        // `self`. Calls to `next` do not change the value that the list will have after the `Drain`
-        // is dropped.
+        // `self`. Calls to `next` and `next_back`, in any order, take items from the two ends of
+        // the range. They do not change the value that the list will have after the `Drain` is
+        // dropped.
         ensures same_reference { drain_lender result ≡ self.entry.ghost_name }
         ensures stays { DrainKeepsAlong result }
     {

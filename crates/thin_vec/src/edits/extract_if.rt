@@ -96,6 +96,9 @@ impl<T, F: FnMut(&mut T) -> bool, A: Allocator> Extracting<T, F, A> {
     // true for one of them. Removes that item and returns it, or returns `None` if there is no such
     // item. The other tested items are kept, and are moved down if there are empty slots before
     // them.
+    //
+    // This is a function of its own because no proof is generated for a body that borrows two
+    // fields of a struct that holds a reference, such as an `ExtractIf`.
     fn next_picked(&mut self) -> Option<T>
         requires callable { F.IsAlwaysCallable self.old.picks.pick }
         ensures extracts { Extracts (CalledAtMut F.FnMut) self.old result self.new }
@@ -110,7 +113,7 @@ impl<T, F: FnMut(&mut T) -> bool, A: Allocator> Extracting<T, F, A> {
 }
 
 impl<T: Drop, A: Allocator, G: Growth> ThinVec<T, A, G> {
-    ghost use Rattle.thin_vec.specs.Edits.ExtractIf.{extract_alloc, extract_callee, extract_capacity, extract_cost, extract_front, extract_gone, extract_lender, extract_rest, extract_tail};
+    ghost use Rattle.thin_vec.specs.Edits.ExtractIf.{ExtractKeepsAlong, extract_alloc, extract_block, extract_callee, extract_lender, extract_rest};
 
     /// Returns an iterator that removes the items in the range `start..end` for which `pick`
     /// returns true. The iterator yields the removed items in order. The function `bounds` of this
@@ -138,19 +141,22 @@ impl<T: Drop, A: Allocator, G: Growth> ThinVec<T, A, G> {
         // The `ExtractIf` owns the items before the range (`front`), the items of the range
         // (`rest`), the items after the range (`tail`), and the closure (`callee`). No item has
         // been removed yet (`gone`).
-        ensures front { extract_front result ≡ take start self.old.items }
+        ensures front { (extract_block result).front ≡ take start self.old.items }
         ensures rest { extract_rest result ≡ slice_range self.old.items start end }
-        ensures tail { extract_tail result ≡ drop end self.old.items }
-        ensures gone { extract_gone result ≡ 0 }
+        ensures tail { (extract_block result).tail ≡ drop end self.old.items }
+        ensures gone { (extract_block result).gap ≡ 0 }
         ensures callee { extract_callee result ≡ pick }
 
         // The `ExtractIf` borrows this list: its reference to the list has the same ghost name as
         // `self`. The capacity, the allocator and the recorded cost of the `ExtractIf` are those
         // that the list had before the call.
         ensures same_reference { extract_lender result ≡ self.entry.ghost_name }
-        ensures capacity { extract_capacity result ≡ self.old.capacity }
+        ensures capacity { (extract_block result).capacity ≡ self.old.capacity }
         ensures alloc { extract_alloc result ≡ self.old.alloc }
-        ensures cost { extract_cost result ≡ self.old.cost }
+        ensures cost { (extract_block result).cost ≡ self.old.cost }
+
+        // What calls to `next` leave, however many there are.
+        ensures stays { ExtractKeepsAlong (CalledAtMut F.FnMut) result }
     {
         let block = self.open(start, end);
         let picks = Picks { pick };

@@ -2,7 +2,7 @@
 -- list.
 use Rattle.std.proofs.Common.{ℕ, ◌≡◌, ◌+◌, ◌-◌, ◌++◌, ◌∷◌, [], false, suc, take, slice_range, ap, arith, refl, rules, sym, ◌∙◌, append_assoc}
 use Rattle.std.proofs.lemmas.List.{append-nil}
-use Rattle.thin_vec.specs.Edits.ExtractIf.{extract_callee, extract_rest, extract_tail}
+use Rattle.thin_vec.specs.Edits.ExtractIf.{extract_block, extract_callee, extract_rest}
 use Rattle.thin_vec.specs.Edits.Retain.{left_at, stay}
 use Rattle.thin_runner.specs.commands.Filters.{extract_results}
 use Rattle.thin_runner.proofs.CallbackExtractLemmas.{extracting-ends, extracting-none, extracting-step, extracts-by, goes, handed-by, handed_out}
@@ -103,7 +103,8 @@ returns g c =
         (c.requires.start_le_end, c.requires.in_bounds),
         (
           all,
-          extracting-ends a.list.now _ a.start a.end results _ (extract_rest end) (extract_tail end)
+          extracting-ends a.list.now _ a.start a.end results _ (extract_rest end)
+              (extract_block end).tail
               at.extracting stays at.tail (record {
                 items = search rules;
                 cost = search rules;

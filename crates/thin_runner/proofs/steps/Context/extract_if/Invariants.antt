@@ -1,7 +1,7 @@
 -- `answers` contains the results so far, and has room for those of the remaining calls.
 use Rattle.std.proofs.Common.{◌≡◌, ◌++◌, ◌≤◌, ◌+◌, ◌-◌, drop, take, false, slice_range, vec_len}
 use Rattle.std.specs.Vec.{vec_capacity}
-use Rattle.thin_vec.specs.Edits.ExtractIf.{extract_alloc, extract_callee, extract_capacity, extract_cost, extract_front, extract_gone, extract_lender, extract_rest, extract_tail}
+use Rattle.thin_vec.specs.Edits.ExtractIf.{extract_alloc, extract_block, extract_callee, extract_lender, extract_rest}
 use Rattle.thin_vec.specs.Edits.Retain.{left_at}
 use Rattle.thin_runner.specs.commands.Filters.{extract_results}
 use Rattle.thin_runner.proofs.CallbackExtractLemmas.{IsExtracting, handed_out}
@@ -20,12 +20,12 @@ invariant-loop g l =
           ≡ handed_out l.fn.count (left_at false results);
       extracting : IsExtracting results (take l.fn.start l.fn.list.items) l.fn.list.cost (record {
         left = left;
-        front = extract_front l.extract;
-        out = extract_gone l.extract;
-        paid = extract_cost l.extract;
+        front = (extract_block l.extract).front;
+        out = (extract_block l.extract).gap;
+        paid = (extract_block l.extract).cost;
       });
-      tail : extract_tail l.extract ≡ drop l.fn.end l.fn.list.items;
+      tail : (extract_block l.extract).tail ≡ drop l.fn.end l.fn.list.items;
       lender : extract_lender l.extract ≡ extract_lender l.initial.extract;
-      capacity : extract_capacity l.extract ≡ l.fn.list.capacity;
+      capacity : (extract_block l.extract).capacity ≡ l.fn.list.capacity;
       alloc : extract_alloc l.extract ≡ l.fn.list.alloc;
     }

@@ -8,7 +8,7 @@ use Rattle.thin_vec.proofs.RetainLemmas.{none-left}
 use Rattle.thin_vec.proofs.edits.extract_if.Extracting.next_picked.Goals as goal
 
 -- If `advance` returns true, it has reached an item to be extracted. `next_picked` removes and
--- returns this item, so the clause `extracts` holds.
+-- returns this item.
 pub returns-then-advance-clause-extracts : goal.returns-then-advance-clause-extracts
 returns-then-advance-clause-extracts g c =
     let R = CalledAtMut g.F.FnMut in
@@ -34,7 +34,6 @@ returns-then-advance-clause-extracts g c =
     }
 
 -- If `advance` returns false, there is no item to be extracted, and `next_picked` returns `None`.
--- So the clause `extracts` holds.
 pub returns-else-advance-clause-extracts : goal.returns-else-advance-clause-extracts
 returns-else-advance-clause-extracts g c =
     let R = CalledAtMut g.F.FnMut in

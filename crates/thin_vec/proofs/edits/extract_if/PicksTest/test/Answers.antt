@@ -6,7 +6,7 @@ use Rattle.thin_vec.proofs.edits.ExtractIfLemmas.{not-not}
 use Rattle.thin_vec.proofs.edits.extract_if.PicksTest.test.Goals as goal
 
 -- The test and its specification each negate the result of the closure. The two negations cancel
--- out, so the clause `asked` holds.
+-- out.
 pub returns-clause-asked : goal.returns-clause-asked
 returns-clause-asked g c =
     let called : CalledAtMut g.F.FnMut c.args.self.now.pick c.args.item.now c.pick.result
