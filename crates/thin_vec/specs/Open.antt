@@ -59,11 +59,6 @@ module _ {T A : Type 0} where
   abbrev pub reach : Open T A → ℕ
   reach v = tail_start v + length v.tail
 
-  -- `rest_of v` is the list of the items in the middle run, which is the second of the three parts
-  -- of the open block `v`.
-  abbrev pub rest_of : Open T A → List T
-  rest_of v = v.rest
-
   -- `range_len v` is the number of slots between the first part (the front) and the last part (the
   -- tail) of the open block `v`.
   abbrev pub range_len : Open T A → ℕ

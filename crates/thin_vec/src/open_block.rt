@@ -5,7 +5,7 @@ ghost use Rattle.std.specs.Iterator.{YieldsFirst, YieldsLast};
 ghost use Rattle.thin_block.specs.Cost.{moving, no_cost};
 ghost use Rattle.thin_block.specs.Slots.{front};
 ghost use Rattle.thin_block.specs.Block.{IsFrom};
-ghost use Rattle.thin_vec.specs.Open.{cost_closed, items_of, range_len, reach, rest_of};
+ghost use Rattle.thin_vec.specs.Open.{Open, cost_closed, items_of, range_len, reach};
 ghost use Rattle.thin_vec.specs.ThinVec.{HasRoomFor};
 
 pub(crate) mod dedup;
@@ -53,7 +53,8 @@ use thin_block::{Block, Growth};
 ///
 /// An `OpenBlock` owns the block and all items in it. It does not implement `Drop`: `close` puts
 /// the block back into the list. Contracts describe an `OpenBlock` as a value of the type `Open`,
-/// which is defined in `specs/Open.antt`.
+/// which is defined in `specs/Open.antt`. Only the proofs of its methods deal with slots. So each
+/// step of an edit is a method, even a step that only one function takes.
 pub struct OpenBlock<T, A: Allocator> {
     // The block that was taken out of the list. The length that it stores is not used while the
     // block is open.
@@ -115,37 +116,6 @@ impl<T, A: Allocator, G: Growth> ThinVec<T, A, G> {
         }
     }
 
-    // Takes the block out of the list, and returns it as an open block with a gap of `count` empty
-    // slots. The gap begins at index `at`: the items from index `at` onward are moved up by `count`
-    // slots. The list must have room for `count` more items. After the call, the list has no items,
-    // and its capacity is 0.
-    pub(crate) fn open_wide(&mut self, at: usize, count: usize) -> OpenBlock<T, A>
-        requires in_bounds { at ≤ length self.old.items }
-        requires room { HasRoomFor self.old count }
-
-        // The open block.
-        ensures front { result.front ≡ take at self.old.items }
-        ensures gap { result.gap ≡ count }
-        ensures rest { result.rest ≡ [] }
-        ensures gap_after { result.gap_after ≡ 0 }
-        ensures tail { result.tail ≡ drop at self.old.items }
-        ensures other_capacity { result.capacity ≡ self.old.capacity }
-        ensures from { IsFrom result.alloc self.old.alloc }
-        ensures other_cost { result.cost ≡ (if count == 0 then self.old.cost else moving
-            (length self.old.items - at) self.old.cost) }
-
-        // The list.
-        ensures changes { self.new ≡ record self.old { items = []; capacity = 0; cost = no_cost } }
-    {
-        let mut block = self.open(at, at);
-        if count == 0 {
-            return block;
-        }
-        block.widen(count);
-        block.join();
-        block
-    }
-
     // Closes the gap of `block`, that is, moves the items after the gap down. Then puts the block
     // back into the list, which must be empty. Any block that the list had is freed.
     #[inline(always)]
@@ -162,6 +132,40 @@ impl<T, A: Allocator, G: Growth> ThinVec<T, A, G> {
     {
         let none = mem::replace(&mut self.block, block.into_closed());
         none.release(&self.alloc);
+    }
+}
+
+impl<T: Drop, A: Allocator, G: Growth> ThinVec<T, A, G> {
+    // Takes the block out of the list, drops the items `start..end`, and moves the items after them
+    // up by `count` slots. Returns the block with a gap of `end - start + count` empty slots at
+    // index `start`. The list must have room for `count` more items. After the call, the list has
+    // no items, and its capacity is 0.
+    pub(crate) fn open_wide(&mut self, start: usize, end: usize, count: usize) -> OpenBlock<T, A>
+        requires start_le_end { start ≤ end }
+        requires in_bounds { end ≤ length self.old.items }
+        requires room { HasRoomFor self.old count }
+
+        // The open block.
+        ensures front { result.front ≡ take start self.old.items }
+        ensures gap { result.gap ≡ end - start + count }
+        ensures rest { result.rest ≡ [] }
+        ensures gap_after { result.gap_after ≡ 0 }
+        ensures tail { result.tail ≡ drop end self.old.items }
+        ensures other_capacity { result.capacity ≡ self.old.capacity }
+        ensures from { IsFrom result.alloc self.old.alloc }
+        ensures other_cost { result.cost ≡ (if count == 0 then self.old.cost else moving
+            (length self.old.items - end) self.old.cost) }
+
+        // The list.
+        ensures changes { self.new ≡ record self.old { items = []; capacity = 0; cost = no_cost } }
+    {
+        let mut block = self.open(start, end);
+        block.drop_rest();
+        if count > 0 {
+            block.widen(count);
+            block.join();
+        }
+        block
     }
 }
 
@@ -287,7 +291,7 @@ impl<T, A: Allocator> OpenBlock<T, A> {
     // Removes the first of the remaining items of the range, and returns this item. Returns `None`
     // if no item remains.
     pub(crate) fn next(&mut self) -> Option<T>
-        ensures yields { YieldsFirst rest_of self.old result self.new }
+        ensures yields { YieldsFirst (λ (v : Open T A). v.rest) self.old result self.new }
         ensures range { range_len self.new ≡ range_len self.old }
         ensures changes { self.new ≡ record self.old {
           gap = self.new.gap;
@@ -303,7 +307,7 @@ impl<T, A: Allocator> OpenBlock<T, A> {
     // Removes the last of the remaining items of the range, and returns this item. Returns `None`
     // if no item remains.
     pub(crate) fn next_back(&mut self) -> Option<T>
-        ensures yields { YieldsLast rest_of self.old result self.new }
+        ensures yields { YieldsLast (λ (v : Open T A). v.rest) self.old result self.new }
         ensures range { range_len self.new ≡ range_len self.old }
         ensures changes { self.new ≡ record self.old {
           rest = self.new.rest;

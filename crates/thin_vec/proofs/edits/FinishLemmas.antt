@@ -119,20 +119,6 @@ module _ {S T A : Type 0} {steps : S → Option T → S → Type 0} {can : S →
     pub reached-long : length u.items ≡ end + length v.tail
     reached-long = omega (arith, ap length p.items, between-length v xs, p.ends)
 
-    -- If `IsReached`, which describes a state during `finish`, holds for the list `u`, then it also
-    -- holds for a list `w` with the same items.
-    pub reached-grown : (w : Thin T A) → w.items ≡ u.items
-        → IsReached steps can remaining v s w xs end t
-    reached-grown w same = record {
-      items = same ∙ p.items;
-      ends = p.ends;
-      gave = p.gave;
-      full = p.full;
-      can_next = p.can_next;
-      finite = p.finite;
-      nearer = p.nearer;
-    }
-
     -- If the two parts of a call to `finish` satisfy `HasTaken` with the bounds `m` and `n` on
     -- moves of old items, then the whole call satisfies it with each bound `k ≥ m + n`.
     pub reached-taken : (rule : Rule) (R : RattleType) → KeepsLaw rule → (a : A) (w : Thin T A)
@@ -193,13 +179,15 @@ module _ {S T A : Type 0} {steps : S → Option T → S → Type 0} {can : S →
         → (xs : List T) × Drains steps s xs × (w.items ≡ with_between v xs)
         → HasTaken rule R (left_of v a) w (2 * length v.tail) (remaining s)
         → IsExtended rule R (left_of v a) w.capacity (length w.items) (remaining s)
+        → (0 < length v.tail → w.cost.blocks ≤ v.cost.blocks + 2)
         → IsFinished steps can remaining rule R v a s w (Ok x)
-    finished-ok x items taken ruled = record {
+    finished-ok x items taken ruled blocks = record {
       succeeds = λ _. refl;
       succeeds_at_end = λ _ _. refl;
       items = items;
       taken = taken;
       ruled = ruled;
+      blocks = blocks;
       placed = tt;
       range = tt;
       at_end = tt;
@@ -220,20 +208,22 @@ module _ {S T A : Type 0} {steps : S → Option T → S → Type 0} {can : S →
         → OnErr r (w ≡ u)
         → HasTaken rule R (left_of v a) w (2 * length v.tail) (remaining s)
         → IsExtended rule R (left_of v a) w.capacity (length w.items) (remaining s)
+        → (0 < length v.tail → w.cost.blocks ≤ v.cost.blocks + 2)
         → IsFinished steps can remaining rule R v a s w r
-    finished-from {t} {u} {xs} {end} (Ok x) p some ends items placed cause err taken ruled =
+    finished-from {t} {u} {xs} {end} (Ok x) p some ends items placed cause err taken ruled blocks =
         finished-ok x (
           xs ++ items.0,
           drains-more steps s t xs items.0 p.gave items.1,
           items.2 ∙ between-more v u.items xs items.0 end p.items p.ends,
         )
-        taken ruled
-    finished-from {t} {u} {xs} (Err e) p some ends items placed cause err taken ruled = record {
+        taken ruled blocks
+    finished-from {t} {u} {xs} (Err e) p some ends items placed cause err taken ruled blocks = record {
       succeeds = λ few. ends (omega (arith, few, p.full, p.nearer));
       succeeds_at_end = λ none _. absurd (omega (arith, some, ap length none));
       items = tt;
       taken = taken;
       ruled = ruled;
+      blocks = blocks;
       placed = (
         xs,
         ap (λ z. z.items) err ∙ p.items,

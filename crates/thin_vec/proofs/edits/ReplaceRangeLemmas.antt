@@ -16,7 +16,7 @@ use Rattle.thin_vec.specs.Open.{Open, reach, row_of}
 use Rattle.thin_vec.specs.declared.open_block.OpenBlock.TheInside.{Inside}
 use Rattle.thin_vec.specs.Edits.ReplaceRange.{MovesAtMost, ReplacesByClones}
 use Rattle.thin_vec.proofs.list.InsertRemoveLemmas.{full-append}
-use Rattle.thin_vec.proofs.edits.SpliceLemmas.{moving-add, moving-zero}
+use Rattle.thin_vec.proofs.RetainLemmas.{moving-more, moving-none}
 use Rattle.thin_vec.proofs.OpenBlockLemmas.{Found, found, past_tail, reached}
 use Rattle.thin_vec.proofs.ListLemmas.{length-empty, length-full}
 
@@ -99,26 +99,16 @@ module _ {T A : Type 0} (h : Inside T A) (o : IsOpen h) (b : Block T A) (k : ℕ
   -- `brought` is the open block `h` after its last `k` tail items have been moved to the end of its
   -- front items.
   abbrev pub brought : Inside T A
-  brought = record {
-    block = b;
-    front_end = h.front_end + k;
-    rest_start = h.rest_start;
-    rest_end = h.rest_end;
-    tail_start = h.tail_start;
-    len = h.len - k;
-  }
+  brought = record h { block = b; front_end = h.front_end + k; len = h.len - k }
 
   -- `brought-seen` is how contracts see the open block `brought`. Compared with the view `v` of
   -- `h`, the last `k` tail items have been moved to the end of the front items. The allocator and
   -- the cost are those of the block `b`.
   abbrev pub brought-seen : Open T A
-  brought-seen = record {
+  brought-seen = record v {
     front = v.front ++ drop (length v.tail - k) v.tail;
     gap = v.gap - k;
-    rest = v.rest;
-    gap_after = v.gap_after;
     tail = take (length v.tail - k) v.tail;
-    capacity = v.capacity;
     alloc = b.alloc;
     cost = b.cost;
   }
@@ -246,7 +236,7 @@ pub at-most-more : {n m k : ℕ} {c d e : Cost} → MovesAtMost n c d → (few :
 at-most-more {n} {m} {k} {c} {d} {e} h few is = record {
   moves = h.moves + m;
   few = omega (arith, h.few, few);
-  cost = is ∙ (ap (λ q. moving m q) h.cost ∙ moving-add m h.moves c);
+  cost = is ∙ (ap (λ q. moving m q) h.cost ∙ moving-more m h.moves c);
 }
 
 -- If at most `n` moves turn the cost `c` into `d`, and `n ≤ m`, then at most `m` moves turn `c`
@@ -262,7 +252,7 @@ at-most-le {n} {m} {c} {d} h le = record {
 -- plus `n` moves. Then at most `n` moves turn `c` into `d`.
 pub at-most-if : (b : Bool) (n : ℕ) (c d : Cost) → d ≡ (if b then c else moving n c)
     → MovesAtMost n c d
-at-most-if true n c d is = record { moves = 0; few = omega arith; cost = is ∙ moving-zero c }
+at-most-if true n c d is = record { moves = 0; few = omega arith; cost = is ∙ sym (moving-none c) }
 at-most-if false n c d is = record { moves = n; few = omega arith; cost = is }
 
 -- The number `k + (if b then 0 else n)` is at most `k + n`.

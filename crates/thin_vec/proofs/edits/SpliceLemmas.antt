@@ -12,7 +12,7 @@ use Rattle.thin_vec.specs.Cheap.{IsCheap}
 use Rattle.thin_vec.specs.List.Extend.{IsExtendCause, CostsAdding, IsKeptOrRuled, FailsAtHint, PausedAfter}
 use Rattle.std.proofs.lemmas.Bool.Decides.{nat_tests}
 use Rattle.thin_block.specs.declared.errors.ThinVecError.TheVariants.{CapacityOverflow, OutOfMemory}
-use Rattle.thin_block.specs.Cost.{Cost, moving}
+use Rattle.thin_block.specs.Cost.{Cost, growing, moving}
 use Rattle.thin_block.specs.Growth.{KeepsLaw, Rule}
 use Rattle.std.proofs.lemmas.Bool.{cases_lt, false≢true}
 use Rattle.thin_vec.specs.Open.{Open, cost_closed, items_of}
@@ -21,18 +21,9 @@ use Rattle.thin_vec.specs.Edits.Finish.{HasTaken}
 use Rattle.thin_vec.specs.ThinVec.{HasRoomFor, Thin, capacity_for, cost_at}
 use Rattle.thin_vec.specs.declared.errors.ExtendRefused.{ExtendRefused}
 use Rattle.thin_vec.specs.declared.errors.SpliceRefused.{SpliceRefused}
-use Rattle.thin_vec.proofs.list.ExtendLemmas.{adding-join, filled-reserved, loose-join, loose-le, loose-ruled, yields-join, yields-more}
+use Rattle.thin_vec.proofs.list.ExtendLemmas.{adding-join, filled-reserved, loose-join, loose-le, loose-ruled, yields-join}
+use Rattle.thin_vec.proofs.RetainLemmas.{moving-more, moving-none}
 use Rattle.thin_vec.proofs.ThinVecLemmas.{cap-kept, cost_at-copied}
-
--- Adding `b` moves and then `a` moves to a cost is the same as adding `b + a` moves.
-pub moving-add : (a b : ℕ) (c : Cost) → moving a (moving b c) ≡ moving (b + a) c
-moving-add a b c = ap (λ m. let d : Cost = record c { moves = m } in d)
-    (let e : c.moves + b + a ≡ c.moves + (b + a) = omega arith in e)
-
--- Adding zero moves to a cost does not change it.
-pub moving-zero : (c : Cost) → c ≡ moving 0 c
-moving-zero c = ap (λ m. let d : Cost = record c { moves = m } in d)
-    (let e : c.moves ≡ c.moves + 0 = omega arith in e)
 
 -- Suppose that `n` items were put into the gap of the open block `v`, with one move each, and that
 -- the resulting open block `w` has no middle items. Then closing `w` takes at most one move for
@@ -61,7 +52,7 @@ closed-moves v w n paid none same count = go (eqb w.gap 0) refl
         omega (arith, ap length none, ap length same) in (
           length v.tail,
           ap (λ k. moving k w.cost) all
-              ∙ (ap (λ c. moving (length v.tail) c) filled ∙ moving-add (length v.tail) n v.cost),
+              ∙ (ap (λ c. moving (length v.tail) c) filled ∙ moving-more (length v.tail) n v.cost),
           omega arith,
           λ z. let t : eqb w.gap 0 ≡ true = grind (arith, nat_tests, z) in
               absurd (false-true (sym e ∙ t)),
@@ -84,30 +75,19 @@ run-moves count n k m c d e = go (eqb count 0) e
     go false e = (
       n + m,
       ap (λ q. moving (k + m) q) e
-          ∙ (moving-add (k + m) n c
+          ∙ (moving-more (k + m) n c
           ∙ ap (λ j. moving j c) (let f : n + (k + m) ≡ k + (n + m) = omega arith in f)),
       omega arith,
     )
 
+-- A reallocation counts as one granted request for memory. So the cost `d`, which is the cost `c`
+-- with or without one reallocation, counts at most one request more than `c`.
+pub blocks-if : (b : Bool) (n : ℕ) (c d : Cost) → d ≡ (if b then c else growing n c)
+    → d.blocks ≤ c.blocks + 1
+blocks-if true n c d is = omega (arith, ap (λ q. q.blocks) is)
+blocks-if false n c d is = omega (arith, ap (λ q. q.blocks) is)
+
 module _ {S X : Type 0} (steps : S → Option X → S → Type 0) where
-  -- If calls to `next` yield `xs`, and the calls after them yield `ys` and then return `o`, then
-  -- all these calls yield `xs ++ ys` and then return `o`.
-  pub yields-held : (s t u : S) (xs ys zs : List X) (o : Option X) → Yields steps s xs t
-      → zs ≡ xs ++ ys → YieldsThen steps t ys o u → YieldsThen steps s zs o u
-  yields-held s t u xs ys zs o before e now = (
-    now.0,
-    subst (λ l. Yields steps s l now.0) (sym e)
-        (yields-join steps s t now.0 xs ys before now.1),
-    now.2,
-  )
-
-  -- If calls to `next` yield the items `xs`, and one more call returns `Some x`, then these calls
-  -- together yield `xs ++ x ∷ []`.
-  pub yields-drawn : (s u : S) (xs : List X) (o : Option X) (x : X) → o ≡ Some x
-      → YieldsThen steps s xs o u → Yields steps s (xs ++ x ∷ []) u
-  yields-drawn s u xs o x is all =
-      yields-more steps s all.0 u xs x all.1 (subst (λ r. steps all.0 r u) is all.2)
-
   -- A call to `next` yields `x`, and further calls yield `xs`. The list `x ∷ xs` is `held`,
   -- followed by the item in `o`, if there is one.
   --
@@ -290,7 +270,7 @@ module _ (rule : Rule) (R : RattleType) where
 -- is 0, then the result is `c` in both cases.
 unmoved : (b : Bool) (c : Cost) (n : ℕ) → n ≡ 0 → (if b then c else moving n c) ≡ c
 unmoved true c n none = refl
-unmoved false c n none = ap (λ k. moving k c) none ∙ sym (moving-zero c)
+unmoved false c n none = ap (λ k. moving k c) none ∙ moving-none c
 
 module _ {T A : Type 0} where
   -- Suppose that the open block `v` has no middle items and no tail items. Then closing `v` moves
@@ -374,7 +354,7 @@ module _ (rule : Rule) (R : RattleType) {T A : Type 0} where
   -- item was added.
   pub taken-none : (v w : Thin T A) (n : ℕ) (left : Count) → w ≡ v → HasTaken rule R v w n left
   taken-none v w n left e =
-      taken-spare v w 0 0 n left (ap (λ z. z.cost) e ∙ moving-zero v.cost)
+      taken-spare v w 0 0 n left (ap (λ z. z.cost) e ∙ sym (moving-none v.cost))
       (ap (λ z. z.capacity) e) (omega (arith, ap (λ z. length z.items) e)) (omega arith)
       (ap (λ z. z.alloc) e)
 

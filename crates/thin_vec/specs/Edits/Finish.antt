@@ -49,6 +49,7 @@ module _ {S T A : Type 0} (steps : S → Option T → S → Type 0) (can : S →
     pub items : OnOk result ((xs : List T) × Drains steps s xs × (w.items ≡ with_between v xs))
     pub taken : HasTaken rule R (left_of v a) w (2 * length v.tail) (remaining s)
     pub ruled : IsExtended rule R (left_of v a) w.capacity (length w.items) (remaining s)
+    pub blocks : 0 < length v.tail → w.cost.blocks ≤ v.cost.blocks + 2
     pub placed : IfErr result (λ error. (xs : List T) × (w.items ≡ with_between v xs)
         × Stopped steps can remaining s xs error)
     pub range : OnErr result

@@ -9,7 +9,7 @@ use Rattle.thin_block.specs.declared.errors.ThinVecError.TheVariants.{CapacityOv
 use Rattle.thin_block.specs.Growth.{Rule}
 use Rattle.thin_block.specs.declared.growth.Growth.{Ghosts}
 use Rattle.thin_vec.specs.List.Extend.{FailsAtHint, PausedAfter}
-use Rattle.thin_vec.specs.Open.{Open, range_len, rest_of}
+use Rattle.thin_vec.specs.Open.{Open, range_len}
 use Rattle.thin_vec.specs.ThinVec.{HasRoomFor, Thin, capacity_for}
 use Rattle.thin_vec.specs.declared.errors.SpliceRefused.{SpliceRefused}
 use Rattle.thin_vec.specs.declared.edits.splice.Splice.{Splice}
@@ -90,7 +90,7 @@ module _ {I T A G H : Type 0} {g : Ghosts G} {h : HoldsGhosts H (Open T A)} wher
 
   -- `splice_rest s` contains the items of the range that the `Splice` `s` has not yielded yet.
   abbrev pub splice_rest : Splice I T A G H g h → List T
-  splice_rest s = rest_of (splice_block s)
+  splice_rest s = (splice_block s).rest
 
   -- `splice_iter s` is the iterator whose items will replace the range.
   abbrev pub splice_iter : Splice I T A G H g h → I

@@ -4,18 +4,17 @@
 //! - `fill_gap` fills the empty slots of the range.
 //! - `insert_hinted` reserves room for the lower bound of the size hint, and fills this room.
 //! - `insert_held` collects the remaining items in a vector, and moves them into the list.
-ghost use Rattle.std.specs.Prelude.{◌≡◌, ◌+◌, ◌-◌, ◌*◌, ◌<◌, ◌≤◌, [], ◌++◌, ◌∷◌, IfErr, IfOk, IsOk, IsSome, List, MatchOption, None, OnErr, OnOk, OnSome, Some, drop, false, length, take, ℕ};
+ghost use Rattle.std.specs.Prelude.{◌≡◌, ◌+◌, ◌-◌, ◌*◌, ◌<◌, ◌≤◌, [], ◌++◌, ◌∷◌, IfErr, IfOk, IsOk, IsSome, List, MatchOption, None, OnErr, OnOk, Some, drop, false, length, take, ℕ};
 ghost use Rattle.std.specs.Iterator.{Drains, IsFinite, Yields, YieldsThen, size};
 ghost use Rattle.std.specs.Iterator.SizeHint.{IsWithinCount};
 ghost use Rattle.std.specs.Option.{option_len, option_to_list};
-ghost use Rattle.thin_block.specs.Cost.{moving};
 ghost use Rattle.thin_vec.specs.List.Extend.{FailsAtHint, IsKeptOrRuled};
 ghost use Rattle.thin_block.specs.Block.{IsFrom};
 ghost use Rattle.thin_vec.specs.Open.{reach};
 ghost use Rattle.thin_vec.specs.Edits.Splice.{IsStopCause, Stopped};
 ghost use Rattle.thin_vec.specs.Edits.Finish.{HasTaken, IsClosedWith, IsFinished};
 ghost use Rattle.thin_vec.specs.Put.{IsFilledBy};
-ghost use Rattle.thin_vec.specs.ThinVec.{HasRoomFor, capacity_for};
+ghost use Rattle.thin_vec.specs.ThinVec.{capacity_for};
 
 use crate::errors::{ExtendRefused, Rejected, SpliceRefused};
 use crate::list::ThinVec;
@@ -45,7 +44,9 @@ impl<T, A: Allocator, G: Growth> ThinVec<T, A, G> {
         self.close(block);
         filled
     }
+}
 
+impl<T: Drop, A: Allocator, G: Growth> ThinVec<T, A, G> {
     // Makes a gap of empty slots before the item at index `at`, and moves items of `iter` into the
     // gap. The gap has `n` slots, where `n` is the lower bound of the size hint of `iter`. If the
     // call cannot reserve room for this gap, the list is unchanged, and the error holds `iter`.
@@ -83,17 +84,16 @@ impl<T, A: Allocator, G: Growth> ThinVec<T, A, G> {
         ensures taken_full { IfOk result (λ filled. filled.ended ≡ false
             → HasTaken G.rule T.row self.old self.new (length self.old.items - at)
             (I.remaining iter)) }
+        ensures blocks { self.new.cost.blocks ≤ self.old.cost.blocks + 1 }
     {
         let hint = iter.size_hint().0;
         if let Err(cause) = self.reserve(hint) {
             return Err(Rejected { value: iter, cause });
         }
-        let block = self.open_wide(at, hint);
+        let block = self.open_wide(at, at, hint);
         Ok(self.fill_gap(block, iter))
     }
-}
 
-impl<T: Drop, A: Allocator, G: Growth> ThinVec<T, A, G> {
     // Collects the items of `iter` in a vector that uses `alloc`, and then inserts the items into
     // the list, before the item at index `at`. If `iter` yields no item, nothing is allocated.
     #[inline(always)]
@@ -126,6 +126,7 @@ impl<T: Drop, A: Allocator, G: Growth> ThinVec<T, A, G> {
             (length self.new.items) }
         ensures taken { HasTaken G.rule T.row self.old self.new (length self.old.items - at)
             (I.remaining iter) }
+        ensures blocks { self.new.cost.blocks ≤ self.old.cost.blocks + 1 }
     {
         let mut rest = iter;
         let Some(first) = rest.next() else {
@@ -144,7 +145,8 @@ impl<T: Drop, A: Allocator, G: Growth> ThinVec<T, A, G> {
                 rest,
             });
         }
-        if let Err(cause) = self.reserve(held.len()) {
+        let count = held.len();
+        if let Err(cause) = self.reserve(count) {
             return Err(SpliceRefused {
                 cause,
                 held,
@@ -152,25 +154,10 @@ impl<T: Drop, A: Allocator, G: Growth> ThinVec<T, A, G> {
                 rest,
             });
         }
-        self.insert_vec(at, held);
-        Ok(())
-    }
-
-    // Inserts the items of the vector `held` before the item at index `at`. The list must have room
-    // for these items.
-    fn insert_vec(&mut self, at: usize, held: Vec<T, A>)
-        requires in_bounds { at ≤ length self.old.items }
-        requires room { HasRoomFor self.old (length held.items) }
-        ensures changes { self.new ≡ record self.old {
-          items = (take at self.old.items ++ held.items) ++ drop at self.old.items;
-          cost = self.new.cost;
-        } }
-        ensures cost { (m : ℕ) × (self.new.cost ≡ moving (length held.items + m) self.old.cost)
-            × (m ≤ length self.old.items - at) }
-    {
-        let mut block = self.open_wide(at, held.len());
+        let mut block = self.open_wide(at, at, count);
         block.fill_from_vec(held);
         self.close(block);
+        Ok(())
     }
 
     // Puts the items of `iter` in place of the removed range. Items that do not fit into the empty
@@ -190,8 +177,6 @@ impl<T: Drop, A: Allocator, G: Growth> ThinVec<T, A, G> {
         requires none { block.rest ≡ [] }
         requires gap_after { block.gap_after ≡ 0 }
         requires from { IsFrom block.alloc self.old.alloc }
-
-        // `next` may be called on `iter`, and `iter` yields a finite number of items.
         requires can_next { I.can_next iter }
         requires finite { IsFinite (I.remaining iter) }
 
@@ -241,14 +226,8 @@ impl<T: Drop, A: Allocator, G: Growth> ThinVec<T, A, G> {
         requires none { block.rest ≡ [] }
         requires gap_after { block.gap_after ≡ 0 }
         requires from { IsFrom block.alloc self.old.alloc }
-
-        // `next` may be called on `iter`, and `iter` yields a finite number of items.
         requires can_next { I.can_next iter }
         requires finite { IsFinite (I.remaining iter) }
-
-        // `IsFinished` states under which conditions the call succeeds, how the call changes the
-        // list, and what it returns on failure. All `ensures` clauses of `Splice::finish` follow
-        // from this clause.
         ensures { IsFinished I.next_gives I.can_next I.remaining G.rule T.row block self.old.alloc
             iter self.new result }
     {
@@ -313,14 +292,18 @@ fn draw<T, A: Allocator, I: Iterator<Item = T>>(first: T, iter: I, alloc: A) -> 
                 };
             }
         }
-        let Drawn {
-            held: filled,
-            in_hand,
-            rest: left,
-        } = draw_spare(held, rest);
-        held = filled;
-        rest = left;
-        let Some(item) = in_hand else {
+        // The vector has room for these items, so this loop makes no request for memory.
+        while held.len() < held.capacity() {
+            let Some(item) = rest.next() else {
+                return Drawn {
+                    held,
+                    in_hand: None,
+                    rest,
+                };
+            };
+            held.push_reserved(item);
+        }
+        let Some(item) = rest.next() else {
             return Drawn {
                 held,
                 in_hand: None,
@@ -328,40 +311,5 @@ fn draw<T, A: Allocator, I: Iterator<Item = T>>(first: T, iter: I, alloc: A) -> 
             };
         };
         next = item;
-    }
-}
-
-// Moves items of `iter` into the spare capacity of the vector `held`. When the vector is full,
-// takes one more item from `iter`, and returns it in `in_hand`. Stops earlier if `iter` returns
-// `None`.
-fn draw_spare<T, A: Allocator, I: Iterator<Item = T>>(held: Vec<T, A>, iter: I) -> Drawn<T, I, A>
-    requires can_next { I.can_next iter }
-    requires finite { IsFinite (I.remaining iter) }
-    ensures items { (xs : List T) × (result.held.items ≡ held.items ++ xs)
-        × YieldsThen I.next_gives iter xs result.in_hand result.rest }
-    ensures asked { OnSome result.in_hand
-        (I.can_next result.rest × IsFinite (I.remaining result.rest)) }
-    ensures fewer { length result.held.items ≤ length held.items + size (I.remaining iter) }
-    ensures nearer { OnSome result.in_hand
-        (length result.held.items + size (I.remaining result.rest) < length held.items + size
-        (I.remaining iter)) }
-{
-    let mut filled = held;
-    let mut rest = iter;
-    while filled.len() < filled.capacity() {
-        let Some(item) = rest.next() else {
-            return Drawn {
-                held: filled,
-                in_hand: None,
-                rest,
-            };
-        };
-        filled.push_reserved(item);
-    }
-    let in_hand = rest.next();
-    Drawn {
-        held: filled,
-        in_hand,
-        rest,
     }
 }

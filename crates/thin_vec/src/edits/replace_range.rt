@@ -85,20 +85,14 @@ impl<T: Clone, A: Allocator, G: Growth> ThinVec<T, A, G> {
         requires room { HasRoomFor self.old (length items.now) }
         requires within { IsWithin T.row self.old }
 
-        // If cloning cannot fail for any item of `items`, the call succeeds.
-        ensures succeeds { All T.is_infallible items.now → IsOk result }
-
         // On success.
         ensures items { OnOk result (ReplacesByClones T.is_clone self.old.items start end items.now
             self.new.items) }
         ensures cost { OnOk result (self.new.cost
             ≡ moving (moves_cloning self.old start end (length items.now)) self.old.cost) }
 
-        // Only the fields `items` and `cost` of the list may change.
-        ensures changes { self.new ≡ record self.old {
-          items = self.new.items;
-          cost = self.new.cost;
-        } }
+        // When it must succeed.
+        ensures succeeds { All T.is_infallible items.now → IsOk result }
 
         // On failure, the items are unchanged.
         ensures err_items { OnErr result (self.new.items ≡ self.old.items) }
@@ -107,6 +101,10 @@ impl<T: Clone, A: Allocator, G: Growth> ThinVec<T, A, G> {
         ensures cause { IfErr result (λ cause. cause ≡ ThinVecError.OutOfMemory) }
 
         // In every case.
+        ensures changes { self.new ≡ record self.old {
+          items = self.new.items;
+          cost = self.new.cost;
+        } }
         ensures within { IsWithin T.row self.new }
     {
         let (inside, beyond) = items.split_at(items.len().min(end - start));
@@ -127,20 +125,14 @@ impl<T: Clone, A: Allocator, G: Growth> ThinVec<T, A, G> {
         requires room { HasRoomFor self.old (length items.now) }
         requires within { IsWithin T.row self.old }
 
-        // If cloning cannot fail for any item of `items`, the call succeeds.
-        ensures succeeds { All T.is_infallible items.now → IsOk result }
-
         // On success.
         ensures items { OnOk result (ReplacesByClones T.is_clone self.old.items at at items.now
             self.new.items) }
         ensures cost { OnOk result (self.new.cost
             ≡ moving (moves_replacing self.old at at (length items.now)) self.old.cost) }
 
-        // Only the fields `items` and `cost` of the list may change.
-        ensures changes { self.new ≡ record self.old {
-          items = self.new.items;
-          cost = self.new.cost;
-        } }
+        // When it must succeed.
+        ensures succeeds { All T.is_infallible items.now → IsOk result }
 
         // On failure, the items are unchanged.
         ensures err_items { OnErr result (self.new.items ≡ self.old.items) }
@@ -149,9 +141,13 @@ impl<T: Clone, A: Allocator, G: Growth> ThinVec<T, A, G> {
         ensures cause { IfErr result (λ cause. cause ≡ ThinVecError.OutOfMemory) }
 
         // In every case.
+        ensures changes { self.new ≡ record self.old {
+          items = self.new.items;
+          cost = self.new.cost;
+        } }
         ensures within { IsWithin T.row self.new }
     {
-        let mut block = self.open_wide(at, items.len());
+        let mut block = self.open_wide(at, at, items.len());
         let placed = block.fill_from_clones(items);
         self.close(block);
         if placed < items.len() {

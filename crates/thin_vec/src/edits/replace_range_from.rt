@@ -1,16 +1,12 @@
 //! The methods `replace_range_from_copies` and `replace_range_from_list`. They replace the items of
 //! a range with copies of given items, or with the items of another list. If a call fails, no list
 //! is changed.
-ghost use Rattle.std.specs.Prelude.{◌≡◌, ◌+◌, ◌-◌, ◌==◌, ◌<◌, ◌≤◌, ◌++◌, [], IsOk, OnErr, OnOk, drop, if◌then◌else◌, length, take};
-ghost use Rattle.std.specs.List.{replace_range};
-ghost use Rattle.thin_block.specs.Cost.{moving, no_cost};
-ghost use Rattle.thin_block.specs.Block.{IsFrom};
+ghost use Rattle.std.specs.Prelude.{◌≡◌, ◌+◌, ◌-◌, ◌<◌, ◌≤◌, ◌++◌, [], IsOk, OnErr, OnOk, drop, length, take};
 ghost use Rattle.thin_vec.specs.Edits.ReplaceRange.{moves_replacing};
 ghost use Rattle.thin_vec.specs.ThinVec.{HasRoomFor, IsWithin};
 ghost use Rattle.thin_vec.specs.List.Capacity.{Costs, Keeps, Reserves};
 
 use crate::list::ThinVec;
-use crate::open_block::OpenBlock;
 use std::alloc::Allocator;
 use thin_block::{Growth, ThinVecError};
 
@@ -48,7 +44,7 @@ impl<T: Copy, A: Allocator, G: Growth> ThinVec<T, A, G> {
         ensures cost { OnOk result (Costs
             (moves_replacing self.old start end (length items.now)) self.old self.new) }
 
-        // When it must succeed.
+        // When it must succeed. `succeeds_shorter` follows from `succeeds`.
         ensures succeeds { HasRoomFor self.old (length items.now - (end - start)) → IsOk result }
         ensures succeeds_shorter { length items.now ≤ end - start → IsOk result }
 
@@ -60,29 +56,15 @@ impl<T: Copy, A: Allocator, G: Growth> ThinVec<T, A, G> {
             self.new result }
         ensures keeps { Keeps T.row self.old self.new }
     {
-        match self.reserve(items.len().saturating_sub(end - start)) {
+        let more = items.len().saturating_sub(end - start);
+        match self.reserve(more) {
             Ok(()) => (),
             Err(cause) => return Err(cause),
         }
-        self.replace_reserved_from_copies(start, end, items);
-        Ok(())
-    }
-
-    // Does the same as `replace_range_from_copies`, in a list that already has room for the copies.
-    fn replace_reserved_from_copies(&mut self, start: usize, end: usize, items: &[T])
-        requires start_le_end { start ≤ end }
-        requires in_bounds { end ≤ length self.old.items }
-        requires room { HasRoomFor self.old (length items.now - (end - start)) }
-        requires within { IsWithin T.row self.old }
-        ensures changes { self.new ≡ record self.old {
-          items = replace_range self.old.items start end items.now;
-          cost = moving (moves_replacing self.old start end (length items.now)) self.old.cost;
-        } }
-        ensures within { IsWithin T.row self.new }
-    {
-        let mut block = self.open_range(start, end, items.len());
+        let mut block = self.open_wide(start, end, more);
         block.fill_from_copies(items);
         self.close(block);
+        Ok(())
     }
 }
 
@@ -122,7 +104,7 @@ impl<T: Drop, A: Allocator, G: Growth> ThinVec<T, A, G> {
             (moves_replacing self.old start end (length other.old.items)) self.old self.new) }
         ensures other { OnOk result (other.new ≡ record other.old { items = [] }) }
 
-        // When it must succeed.
+        // When it must succeed. `succeeds_shorter` follows from `succeeds`.
         ensures succeeds { HasRoomFor self.old (length other.old.items - (end - start))
             → IsOk result }
         ensures succeeds_shorter { length other.old.items ≤ end - start → IsOk result }
@@ -137,68 +119,14 @@ impl<T: Drop, A: Allocator, G: Growth> ThinVec<T, A, G> {
         ensures keeps { Keeps T.row self.old self.new }
         ensures other_within { IsWithin T.row other.old × IsWithin T.row other.new }
     {
-        match self.reserve(other.len().saturating_sub(end - start)) {
+        let more = other.len().saturating_sub(end - start);
+        match self.reserve(more) {
             Ok(()) => (),
             Err(cause) => return Err(cause),
         }
-        self.replace_reserved_from_list(start, end, other);
-        Ok(())
-    }
-
-    // Does the same as `replace_range_from_list`, in a list that already has room for the items of
-    // `other`.
-    fn replace_reserved_from_list(&mut self, start: usize, end: usize, other: &mut ThinVec<T, A, G>)
-        requires start_le_end { start ≤ end }
-        requires in_bounds { end ≤ length self.old.items }
-        requires room { HasRoomFor self.old (length other.old.items - (end - start)) }
-        requires within { IsWithin T.row self.old }
-        requires other_within { IsWithin T.row other.old }
-
-        // The list.
-        ensures changes { self.new ≡ record self.old {
-          items = replace_range self.old.items start end other.old.items;
-          cost = moving (moves_replacing self.old start end (length other.old.items)) self.old.cost;
-        } }
-        ensures within { IsWithin T.row self.new }
-
-        // The other list.
-        ensures other_changes { other.new ≡ record other.old { items = [] } }
-        ensures other_within { IsWithin T.row other.new }
-    {
-        let mut block = self.open_range(start, end, other.len());
+        let mut block = self.open_wide(start, end, more);
         block.fill_from_list(other);
         self.close(block);
-    }
-
-    // Takes the block out of the list, drops the items `start..end`, and returns the block with a
-    // gap of at least `count` empty slots in their place. After the call, the list is empty and has
-    // no block.
-    fn open_range(&mut self, start: usize, end: usize, count: usize) -> OpenBlock<T, A>
-        requires start_le_end { start ≤ end }
-        requires in_bounds { end ≤ length self.old.items }
-        requires room { HasRoomFor self.old (count - (end - start)) }
-
-        // The open block.
-        ensures front { result.front ≡ take start self.old.items }
-        ensures gap { result.gap ≡ end - start + (count - (end - start)) }
-        ensures rest { result.rest ≡ [] }
-        ensures gap_after { result.gap_after ≡ 0 }
-        ensures tail { result.tail ≡ drop end self.old.items }
-        ensures other_capacity { result.capacity ≡ self.old.capacity }
-        ensures from { IsFrom result.alloc self.old.alloc }
-        ensures other_cost { result.cost ≡ (if count -
-            (end - start) == 0 then self.old.cost else moving
-            (length self.old.items - end) self.old.cost) }
-
-        // The list.
-        ensures changes { self.new ≡ record self.old { items = []; capacity = 0; cost = no_cost } }
-    {
-        let mut block = self.open(start, end);
-        block.drop_rest();
-        if count > end - start {
-            block.widen(count - (end - start));
-            block.join();
-        }
-        block
+        Ok(())
     }
 }

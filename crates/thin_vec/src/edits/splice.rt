@@ -1,6 +1,6 @@
 //! The method `splice`, which removes the items of a range from a list, and puts the items of an
 //! iterator in their place.
-ghost use Rattle.std.specs.Prelude.{◌≡◌, ◌+◌, ◌-◌, ◌*◌, ◌<◌, ◌≤◌, List, [], IfErr, IsOk, None, OnErr, OnOk, Some, drop, length, slice_range, take};
+ghost use Rattle.std.specs.Prelude.{◌≡◌, ◌+◌, ◌-◌, ◌*◌, ◌<◌, ◌≤◌, List, [], IfErr, IsOk, OnErr, OnOk, Some, drop, length, slice_range, take};
 ghost use Rattle.std.specs.Iterator.{Drains, IsFinite, size};
 ghost use Rattle.std.specs.Iterator.Runs.{WholeRun};
 ghost use Rattle.thin_vec.specs.List.Capacity.{Keeps};
@@ -13,7 +13,7 @@ use crate::list::ThinVec;
 use crate::open_block::OpenBlock;
 use std::alloc::{Allocator, Global};
 use std::iter::Iterator;
-use thin_block::{Doubling, Growth, ThinVecError};
+use thin_block::{Doubling, Growth};
 
 /// A `Splice` replaces the items of a range of a list with the items of an iterator. It yields the
 /// old items of the range from either end. Its method `finish` puts the items of the iterator in
@@ -192,7 +192,8 @@ impl<
         requires finite { IsFinite (I.remaining (splice_iter self)) }
 
         // On success, the list `self.exit.0.now` contains the items before the range, the items
-        // `xs` of the iterator, and the items after the range.
+        // `xs` of the iterator, and the items after the range. `runs` follows from `items`: it is
+        // the form that generated proofs use.
         ensures items { OnOk result ((xs : List T) × Drains I.next_gives (splice_iter self.entry) xs
             × (self.exit.0.now.items ≡ splice_replaced self.entry xs)) }
         ensures runs { OnOk result (WholeRun I.next_gives (splice_iter self.entry)
@@ -218,11 +219,17 @@ impl<
         ensures cause { IfErr result (λ error. IsStopCause G.rule T.row self.exit.0.now
             (splice_block self.entry).tail (I.remaining error.rest) error) }
 
-        // In every case.
+        // In every case. The capacity stays the same, or the growth rule chose it for items that
+        // the list now contains, or for a size hint of the iterator (`capacity`). The size hint
+        // cannot be named, because the contract of `size_hint` only bounds it. So the exact number
+        // of moves is not stated either: it depends on the step in which the iterator ended. If
+        // items follow the range, the list requests memory at most twice (`cost`).
         ensures capacity { GrowsFor G.rule T.row (splice_left self.entry) self.exit.0.now
             (I.remaining (splice_iter self.entry)) }
         ensures cost { CostsAdding (splice_left self.entry) self.exit.0.now
-            (2 * length (splice_block self.entry).tail) }
+            (2 * length (splice_block self.entry).tail)
+            × (0 < length (splice_block self.entry).tail
+            → self.exit.0.now.cost.blocks ≤ (splice_left self.entry).cost.blocks + 2) }
         ensures keeps { Keeps T.row (splice_left self.entry) self.exit.0.now }
     {
         let Splice { list, holder, iter } = self;

@@ -45,7 +45,7 @@ returns-in-Ok-finish g c =
         (
           search rules,
           replaces-of left (replaces (e.items.2 ∙ (λ i. (is.front i ++ all i) ++ is.tail i))
-              e.capacity e.cost e.keeps (left-is old start end block alloc is) count
+              e.capacity e.cost.0 e.keeps (left-is old start end block alloc is) count
               (ap (λ n. 2 * n) (tail-count old start end block alloc is))),
         ),
       );
@@ -94,7 +94,7 @@ returns-in-Err-finish g c =
                 ∙ stopped-items drawn placed refused e.placed.2;
             claim = stopped-claim drawn placed refused e.placed.2 ∙ claim;
             filled = replaces (e.placed.1 ∙ (λ i. (is.front i ++ placed) ++ is.tail i))
-                e.capacity e.cost e.keeps (left-is old start end block alloc is) count
+                e.capacity e.cost.0 e.keeps (left-is old start end block alloc is) count
                 (ap (λ n. 2 * n) (tail-count old start end block alloc is));
             no_room = λ places. false≢true (⊎_elim
                 (λ (few : may ≤ end - start). e.succeeds (inl (omega (arith, few, most, width))))

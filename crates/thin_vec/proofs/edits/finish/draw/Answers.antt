@@ -1,11 +1,9 @@
--- Each iteration of the loop pushes the item `next` to the vector `held`. Then `draw_spare` pushes
--- items of the iterator until `held` is full. If `draw_spare` also returns an item, this item is
--- `next` in the following iteration.
-use Rattle.std.proofs.Common.{[], ◌++◌, ◌∷◌, ◌∙◌, ap, arith, length, refl, subst}
-use Rattle.std.proofs.lemmas.List.{append-nil, length_push}
-use Rattle.std.specs.Iterator.{YieldsThen}
-use Rattle.thin_block.proofs.Outcomes.{at-some}
-use Rattle.thin_vec.proofs.edits.SpliceLemmas.{yields-drawn, yields-held}
+-- Each iteration of the outer loop pushes the item `next` to the vector `held`, which may allocate
+-- memory. Then the inner loop fills the spare capacity of `held` with items of the iterator. If the
+-- iterator has not ended then, it yields the item `next` of the following iteration.
+use Rattle.std.proofs.Common.{[], ◌++◌, ◌∷◌, ◌∙◌, ap, arith, length, refl}
+use Rattle.std.proofs.lemmas.List.{length_push}
+use Rattle.thin_vec.proofs.list.ExtendLemmas.{yields-more}
 use Rattle.thin_vec.proofs.edits.finish.draw.Goals as goal
 
 pub loop-refused-init : goal.loop-refused-init
@@ -16,58 +14,64 @@ loop-refused-init g c = record {
   fewer = omega (arith, ap length c.new-held.ensures.items);
 }
 
-pub loop-refused-preserved : goal.loop-refused-preserved
-loop-refused-preserved g c =
-    let steps = g.I.Iterator.next_gives in
-    let item = c.in-Some.item in
+pub loop-rest-init : goal.loop-rest-init
+loop-rest-init g c =
     let before = c.loop-refused.invariant.gave in
-    let now = c.draw_spare-filled.ensures.items in
-    let drawn = c.draw_spare-filled.result in
-    let gave = yields-held steps c.args.iter c.loop-refused.rest drawn.rest before.0 now.0
-    (before.0 ++ now.0) drawn.in_hand before.2 refl now.2 in
-    let rest = at-some c.in-Some.is c.draw_spare-filled.ensures.asked in
     record {
-      can = rest.0;
-      finite = rest.1;
-      gave = (
-        (before.0 ++ now.0) ++ item ∷ [],
-        ap (λ l. l ++ item ∷ [])
-            (now.1 ∙ ap (λ l. l ++ now.0) (c.in-Ok.ensures.items ∙ before.1)),
-        yields-drawn steps c.args.iter drawn.rest (before.0 ++ now.0) drawn.in_hand item
-            c.in-Some.is gave,
-      );
+      can = c.loop-refused.invariant.can;
+      finite = c.loop-refused.invariant.finite;
+      gave = (before.0, c.in-Ok.ensures.items ∙ before.1, before.2);
       fewer = omega (
         arith,
         c.loop-refused.invariant.fewer,
-        at-some c.in-Some.is c.draw_spare-filled.ensures.nearer,
         ap length c.in-Ok.ensures.items,
         length_push c.loop-refused.held.items c.loop-refused.next,
       );
+      nearer = omega arith;
     }
 
-pub returns-in_default-clause-gave : goal.returns-in_default-clause-gave
-returns-in_default-clause-gave g c =
-    let steps = g.I.Iterator.next_gives in
-    let before = c.loop-refused.invariant.gave in
-    let now = c.draw_spare-filled.ensures.items in
-    let drawn = c.draw_spare-filled.result in
-    let xs = before.0 ++ now.0 in (
-      xs,
-      append-nil drawn.held.items
-          ∙ (now.1 ∙ ap (λ l. l ++ now.0) (c.in-Ok.ensures.items ∙ before.1)),
-      subst (λ o. YieldsThen steps c.args.iter xs o drawn.rest) c.in_default.is
-          (yields-held steps c.args.iter c.loop-refused.rest drawn.rest before.0 now.0 xs
-          drawn.in_hand before.2 refl now.2),
-    )
+pub loop-rest-preserved : goal.loop-rest-preserved
+loop-rest-preserved g c =
+    let l = c.loop-rest in
+    let before = l.invariant.gave in
+    let one = c.in-Some.item ∷ [] in
+    let goes = c.in-Some.ensures.goes.on l.invariant.finite in
+    record {
+      can = goes.0;
+      finite = goes.1;
+      gave = (
+        before.0 ++ one,
+        c.push_reserved.ensures.items ∙ ap (λ l. l ++ one) before.1,
+        yields-more g.I.Iterator.next_gives c.args.iter l.rest c.next.new.self before.0
+            c.in-Some.item before.2 c.in-Some.ensures.steps,
+      );
+      fewer = omega (
+        arith,
+        l.invariant.fewer,
+        goes.2,
+        ap length c.push_reserved.ensures.items,
+        length_push l.held.items c.in-Some.item,
+      );
+      nearer = omega (arith, l.invariant.nearer, goes.2);
+    }
 
-pub returns-in_default-clause-fewer : goal.returns-in_default-clause-fewer
-returns-in_default-clause-fewer g c = omega (
-  arith,
-  c.loop-refused.invariant.fewer,
-  c.draw_spare-filled.ensures.fewer,
-  ap length c.in-Ok.ensures.items,
-  length_push c.loop-refused.held.items c.loop-refused.next,
-)
+pub loop-refused-preserved : goal.loop-refused-preserved
+loop-refused-preserved g c =
+    let l = c.loop-rest in
+    let before = l.invariant.gave in
+    let one = c.in-Some-next.item ∷ [] in
+    let goes = c.in-Some-next.ensures.goes.on l.invariant.finite in
+    record {
+      can = goes.0;
+      finite = goes.1;
+      gave = (
+        before.0 ++ one,
+        ap (λ l. l ++ one) before.1,
+        yields-more g.I.Iterator.next_gives c.args.iter l.rest c.next-in-loop-refused.new.self before.0
+            c.in-Some-next.item before.2 c.in-Some-next.ensures.steps,
+      );
+      fewer = omega (arith, l.invariant.fewer, goes.2);
+    }
 
 pub returns-in-Err-clause-gave : goal.returns-in-Err-clause-gave
 returns-in-Err-clause-gave g c =

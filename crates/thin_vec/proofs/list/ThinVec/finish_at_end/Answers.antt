@@ -61,7 +61,7 @@ returns-in-Ok g c =
       gave.2 ∙ (ap (λ z. z.items ++ gave.0) (left g at)
           ∙ after-items v gave.0 c.requires.no_tail),
     )
-    (taken g at) (ruled g at)
+    (taken g at) (ruled g at) (λ some. absurd (omega (arith, some, ap length c.requires.no_tail)))
 
 pub returns-in-Err : goal.returns-in-Err
 returns-in-Err g c =
@@ -90,6 +90,7 @@ returns-in-Err g c =
       items = tt;
       taken = taken g at;
       ruled = ruled g at;
+      blocks = λ some. absurd (omega (arith, some, ap length c.requires.no_tail));
       placed = (
         gave.0,
         gave.1 ∙ (ap (λ z. z.items ++ gave.0) is

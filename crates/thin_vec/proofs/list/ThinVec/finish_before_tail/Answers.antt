@@ -9,7 +9,7 @@ use Rattle.thin_vec.specs.Edits.Splice.{left_of}
 use Rattle.thin_vec.specs.Put.{Gives}
 use Rattle.thin_vec.proofs.list.ExtendLemmas.{ruled-after}
 use Rattle.thin_vec.proofs.edits.SpliceLemmas.{if-err, stop-at-hint, stopped-now}
-use Rattle.thin_vec.proofs.edits.FinishLemmas.{filled-drains, filled-reached, filled-taken, finished-from, finished-ok, reached-extended, reached-grown, reached-long, reached-more, reached-taken}
+use Rattle.thin_vec.proofs.edits.FinishLemmas.{IsReached, filled-drains, filled-reached, filled-taken, finished-from, finished-ok, reached-extended, reached-long, reached-more, reached-taken}
 use Rattle.thin_vec.specs.declared.errors.SpliceRefused.{SpliceRefused}
 use Rattle.thin_vec.proofs.list.ThinVec.finish_before_tail.Goals as goal
 
@@ -21,7 +21,7 @@ returns-then-ended g c =
     (p.0.items, filled-drains p c.if-ended.true, p.1.items)
     (filled-taken p g.G.Growth.rule (param 0 g.row.T) (2 * length v.tail)
     (g.I.Iterator.remaining c.args.iter) (omega (arith, p.1.cost.2)))
-    (inl (inl p.1.capacity))
+    (inl (inl p.1.capacity)) (λ _. omega (arith, ap (λ z. z.blocks) p.1.cost.1))
 
 pub returns-in-Err : goal.returns-in-Err
 returns-in-Err g c =
@@ -33,7 +33,9 @@ returns-in-Err g c =
     let p = c.fill_gap-rest.ensures.filled in
     let rejected = c.in-Err.rejected in
     let same = c.in-Err.ensures.err.0 in let rest = c.in-Err.ensures.err.1 in
-    let here = reached-grown (filled-reached p c.if-ended.false) w (ap (λ z. z.items) same) in
+    let here = subst
+    (λ z. IsReached steps can left v c.args.iter z p.0.items c.fill_gap-rest.result.end t) (sym same)
+    (filled-reached p c.if-ended.false) in
     let error : SpliceRefused _ _ _ =
     record {
       cause = rejected.cause;
@@ -55,6 +57,7 @@ returns-in-Err g c =
     (filled-taken p rule T (2 * length v.tail) (left c.args.iter)
     (omega (arith, p.1.cost.3 (p.0.full c.if-ended.false)))))
     (inl (inl (ap (λ z. z.capacity) same ∙ p.1.capacity)))
+    (λ _. omega (arith, ap (λ z. z.blocks) p.1.cost.1, ap (λ z. z.cost.blocks) same))
 
 pub returns-then-ended-2 : goal.returns-then-ended-2
 returns-then-ended-2 g c =
@@ -80,6 +83,7 @@ returns-then-ended-2 g c =
     c.insert_hinted.ensures.taken)
     (reached-extended first rule T a w.capacity (length w.items) p.1.capacity
     (inr c.in-Ok.ensures.capacity))
+    (λ _. omega (arith, ap (λ z. z.blocks) p.1.cost.1, c.insert_hinted.ensures.blocks))
 
 pub returns-else-ended-2 : goal.returns-else-ended-2
 returns-else-ended-2 g c =
@@ -110,3 +114,9 @@ returns-else-ended-2 g c =
     (ruled-after rule T law u.capacity y.capacity w.capacity (length w.items) _
     c.insert_held.ensures.ruled
     (λ same. (hint.0, hint.1, hint.2 ∙ ap Some (sym same)))))
+    (λ _. omega (
+      arith,
+      ap (λ z. z.blocks) p.1.cost.1,
+      c.insert_hinted.ensures.blocks,
+      c.insert_held.ensures.blocks,
+    ))

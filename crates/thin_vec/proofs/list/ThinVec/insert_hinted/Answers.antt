@@ -7,7 +7,7 @@ use denote.Param.{param}
 use Rattle.thin_block.proofs.Outcomes.{err-same}
 use Rattle.thin_vec.specs.Edits.Finish.{HasTaken}
 use Rattle.thin_vec.specs.ThinVec.{HasRoomFor, capacity_for}
-use Rattle.thin_vec.proofs.edits.SpliceLemmas.{taken-join, taken-none, taken-reserved}
+use Rattle.thin_vec.proofs.edits.SpliceLemmas.{blocks-if, run-moves, taken-join, taken-none, taken-reserved}
 use Rattle.thin_vec.proofs.edits.FinishLemmas.{IsWide, wide-taken}
 use Rattle.thin_vec.proofs.list.ThinVec.insert_hinted.Goals.{After-fill_gap}
 use Rattle.thin_vec.proofs.list.ThinVec.insert_hinted.Goals as goal
@@ -106,6 +106,21 @@ returns-clause-taken_full g c = λ full.
       filled.1.cost.3 (filled.0.full full),
       ap length c.reserve.ensures.items,
     ))
+
+pub returns-clause-blocks : goal.returns-clause-blocks
+returns-clause-blocks g c =
+    let p = c.fill_gap.ensures.filled in
+    let u = c.reserve.new.self in
+    let all = run-moves c.size_hint-hint.result.0 (length u.items - c.args.at) (length p.0.items)
+    p.1.cost.0 u.cost c.open_wide-block.result.cost c.open_wide-block.ensures.other_cost in
+    omega (
+      arith,
+      ap (λ q. q.blocks) (p.1.cost.1 ∙ all.1),
+      blocks-if _ _ c.args.self.now.cost u.cost c.in_default.ensures.cost,
+    )
+
+pub returns-in-Err-clause-blocks : goal.returns-in-Err-clause-blocks
+returns-in-Err-clause-blocks g c = omega (arith, ap (λ z. z.cost.blocks) c.in-Err.ensures.err)
 
 pub returns-in-Err-clause-succeeds : goal.returns-in-Err-clause-succeeds
 returns-in-Err-clause-succeeds g c = λ none.

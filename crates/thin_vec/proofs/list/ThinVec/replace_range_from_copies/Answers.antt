@@ -11,18 +11,19 @@ use Rattle.thin_vec.proofs.list.ThinVec.replace_range_from_copies.Goals as goal
 pub returns-clause-reserves : goal.returns-clause-reserves
 returns-clause-reserves g c =
     let v = c.args.self.now in let rule = g.G.Growth.rule in let T = copied 0 g.row.T in
-    let k = c.saturating_sub.result in
+    let k = c.saturating_sub-more.result in
     let more : length c.args.items.now - (c.args.end - c.args.start) ≡ k = omega arith in
     reserves-then _ v rule T k _ c.reserve.new.self _ (Ok tt) more
     (ap (λ n. capacity_for rule T v n) more
     ∙ ruled-at _ _ v.capacity (length v.items + k) refl refl rule)
-    (ap (λ z. z.capacity) c.replace_reserved_from_copies.ensures.changes) c.in-Ok.ensures.reserves
-    tt
+    (ap (λ z. z.capacity) c.close.ensures.changes
+    ∙ (ap (λ z. z.capacity) c.fill_from_copies.ensures ∙ c.open_wide-block.ensures.other_capacity))
+    c.in-Ok.ensures.reserves tt
 
 pub returns-in-Err-clause-reserves : goal.returns-in-Err-clause-reserves
 returns-in-Err-clause-reserves g c =
     let v = c.args.self.now in let rule = g.G.Growth.rule in let T = copied 0 g.row.T in
-    let k = c.saturating_sub.result in
+    let k = c.saturating_sub-more.result in
     let more : length c.args.items.now - (c.args.end - c.args.start) ≡ k = omega arith in
     reserves-failed _ v rule T k _ _ c.in-Err.cause more
     (ap (λ n. capacity_for rule T v n) more

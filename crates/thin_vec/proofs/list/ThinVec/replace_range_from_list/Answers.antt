@@ -1,6 +1,6 @@
 -- `replace_range_from_list` calls `reserve` with the number of items by which the list becomes
 -- longer, or 0 if it does not become longer. If `reserve` fails, its error is returned.
-use Rattle.std.proofs.Common.{◌≡◌, ◌-◌, Ok, ap, arith, length}
+use Rattle.std.proofs.Common.{◌≡◌, ◌-◌, ◌∙◌, Ok, ap, arith, length}
 use denote.Param.{param}
 use Rattle.thin_vec.specs.ThinVec.{capacity_for}
 use Rattle.thin_vec.proofs.list.ReservesLemmas.{reserves-failed, reserves-then}
@@ -9,16 +9,19 @@ use Rattle.thin_vec.proofs.list.ThinVec.replace_range_from_list.Goals as goal
 pub returns-clause-reserves : goal.returns-clause-reserves
 returns-clause-reserves g c =
     let v = c.args.self.now in let rule = g.G.Growth.rule in let T = param 0 g.row.T in
-    let k = c.saturating_sub.result in
+    let k = c.saturating_sub-more.result in
     let more : length c.args.other.now.items - (c.args.end - c.args.start) ≡ k = omega arith in
     reserves-then _ v rule T k _ c.reserve.new.self _ (Ok tt) more
     (ap (λ n. capacity_for rule T v n) more)
-    (ap (λ z. z.capacity) c.replace_reserved_from_list.ensures.changes) c.in-Ok.ensures.reserves tt
+    (ap (λ z. z.capacity) c.close.ensures.changes
+    ∙ (ap (λ z. z.capacity) c.fill_from_list.ensures.changes
+    ∙ c.open_wide-block.ensures.other_capacity))
+    c.in-Ok.ensures.reserves tt
 
 pub returns-in-Err-clause-reserves : goal.returns-in-Err-clause-reserves
 returns-in-Err-clause-reserves g c =
     let v = c.args.self.now in let rule = g.G.Growth.rule in let T = param 0 g.row.T in
-    let k = c.saturating_sub.result in
+    let k = c.saturating_sub-more.result in
     let more : length c.args.other.now.items - (c.args.end - c.args.start) ≡ k = omega arith in
     reserves-failed _ v rule T k _ _ c.in-Err.cause more (ap (λ n. capacity_for rule T v n) more)
     c.in-Err.ensures.reserves c.in-Err.ensures.err

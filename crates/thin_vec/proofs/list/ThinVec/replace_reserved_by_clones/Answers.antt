@@ -7,7 +7,8 @@ use Rattle.std.proofs.lemmas.List.Elements.{length_all_zip}
 use Rattle.std.specs.List.{AllZip}
 use Rattle.thin_block.specs.Cost.{moving}
 use Rattle.thin_vec.specs.Edits.ReplaceRange.{MovesAtMost}
-use Rattle.thin_vec.proofs.edits.SpliceLemmas.{any-err, moving-add}
+use Rattle.thin_vec.proofs.RetainLemmas.{moving-more}
+use Rattle.thin_vec.proofs.edits.SpliceLemmas.{any-err}
 use Rattle.thin_vec.proofs.edits.ReplaceRangeLemmas.{IsParted, all_zip-append, at-most-le, at-most-more, brought-in, cloning-moves, if-le, put-and-gone, replaced-length}
 use Rattle.thin_vec.proofs.list.ThinVec.replace_reserved_by_clones.Goals as goal
 
@@ -144,5 +145,5 @@ returns-clause-cost g c =
     ∙ (ap (λ q. moving (k1 + (if eqb k1 (c.args.end - c.args.start) then 0
     else w - k1 - c.args.end)) q)
     (c.in_default.ensures.cost ∙ (ap (λ q. moving k1 q)
-    c.in_ok-insert_clones_reserved.ensures.cost ∙ moving-add _ _ _))
-    ∙ (moving-add _ _ _ ∙ ap (λ m. moving m c.args.self.now.cost) sum))
+    c.in_ok-insert_clones_reserved.ensures.cost ∙ moving-more _ _ _))
+    ∙ (moving-more _ _ _ ∙ ap (λ m. moving m c.args.self.now.cost) sum))

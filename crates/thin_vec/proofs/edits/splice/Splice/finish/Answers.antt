@@ -51,7 +51,7 @@ returns g c =
         loose = f.taken.capacity;
         ruled = f.ruled;
       };
-      cost = f.taken.cost;
+      cost = (f.taken.cost, f.blocks);
       keeps = record {
         alloc = f.taken.alloc;
         never_less = le;
