@@ -1,4 +1,8 @@
 -- This file lists the modules of lemmas about `src/open_block/`. Rattle includes this file
 -- automatically, so `Lib.antt` does not mention it.
 pub mod DedupLemmas
+pub mod PairTestLemmas
 pub mod SiftLemmas
+pub mod SiftedLemmas
+pub mod StepLemmas
+pub mod TestLemmas

@@ -6,7 +6,6 @@ use Rattle.std.specs.Prelude.{IsSome, slice_range}
 use lib.ListN.{set}
 use Rattle.thin_block.proofs.BlockLemmas.{slots-are}
 use Rattle.thin_block.specs.Block.{Seen, seen}
-use Rattle.thin_block.specs.Cost.{Cost}
 use Rattle.thin_block.specs.Lends.{over, with_item}
 use Rattle.thin_block.specs.Slots.{empty, full, slot}
 use Rattle.thin_block.specs.declared.block.Block.{Block}
@@ -105,14 +104,7 @@ module _ {T A : Type 0} where
     pub post : List T
     pub place : length pre ≡ k
     pub was : (open_of h).rest ≡ pre ++ x ∷ y ∷ post
-    pub shown : Found (record {
-      block = b;
-      front_end = h.front_end;
-      rest_start = h.rest_start;
-      rest_end = h.rest_end;
-      tail_start = h.tail_start;
-      len = h.len;
-    }) (record (open_of h) { rest = pre ++ x' ∷ y' ∷ post })
+    pub shown : Found (record h { block = b }) (record (open_of h) { rest = pre ++ x' ∷ y' ∷ post })
 
   module _ (h : Inside T A) (o : IsOpen h) (b : Block T A)
       (kept : seen b ≡ record (seen h.block) { slots = b.slots }) where
@@ -178,14 +170,7 @@ module _ {T A : Type 0} where
   pub record WrittenLast (h : Inside T A) (b : Block T A) (x y : T) : Type 0 where
     pub pre : List T
     pub was : (open_of h).front ≡ pre ++ x ∷ []
-    pub shown : Found (record {
-      block = b;
-      front_end = h.front_end;
-      rest_start = h.rest_start;
-      rest_end = h.rest_end;
-      tail_start = h.tail_start;
-      len = h.len;
-    }) (record (open_of h) { front = pre ++ y ∷ [] })
+    pub shown : Found (record h { block = b }) (record (open_of h) { front = pre ++ y ∷ [] })
 
   -- If the last front item of the open block `h` has been overwritten with `y`, and nothing else
   -- has changed, then `WrittenLast` holds for the resulting block `b`.
@@ -217,14 +202,7 @@ module _ {T A : Type 0} where
       ∙ ap (λ (r : List (Option T)). full (pre ++ y ∷ [])
       ++ (empty v.gap ++ (full v.rest ++ r))) (same-past v w refl refl left)))) in
       let i : Inside T A =
-      record {
-        block = b;
-        front_end = h.front_end;
-        rest_start = h.rest_start;
-        rest_end = h.rest_end;
-        tail_start = h.tail_start;
-        len = h.len;
-      } in
+      record h { block = b } in
       let shows : Shows i w = record {
         row = after;
         front = count ∙ o.front;
@@ -240,64 +218,6 @@ module _ {T A : Type 0} where
         shown = found i w shows (ap (λ (z : Seen T A). z.alloc) now)
             (ap (λ (z : Seen T A). z.cost) now);
       }
-
-  -- If the item `x` is written into the first slot of the gap of the open block `h`, `x` becomes
-  -- the last front item of the resulting block `b`.
-  pub put-step : (h : Inside T A) (o : IsOpen h) (b : Block T A) (x : T) {c : Cost}
-      → 0 < (open_of h).gap
-      → seen b ≡ record (seen h.block)
-      { slots = set h.block.slots h.front_end (Some x); cost = c }
-      → Found (record {
-        block = b;
-        front_end = h.front_end + 1;
-        rest_start = h.rest_start;
-        rest_end = h.rest_end;
-        tail_start = h.tail_start;
-        len = h.len;
-      }) (record (open_of h) {
-        front = (open_of h).front ++ x ∷ [];
-        gap =
-            (open_of h).gap - 1;
-        cost = b.cost;
-      })
-  put-step h o b x gap now =
-      let v : Open T A = open_of h in
-      let g : ℕ = v.gap - 1 in
-      let wide : v.gap ≡ suc g = omega arith in
-      let z : List (Option T) = full v.rest ++ past_rest v in
-      let w : Open T A = record v { front = v.front ++ x ∷ []; gap = g; cost = b.cost } in
-      let longer : length w.front ≡ length v.front + 1 = length_push v.front x in
-      let left : v.capacity - reach v ≡ w.capacity - reach w = omega (arith, longer, wide) in
-      let after : b.slots ≡ row_of w =
-      ap (λ (z : Seen T A). z.slots) now
-      ∙ (ap (λ (r : List (Option T)). set r h.front_end (Some x))
-      (o.row ∙ ap (λ (n : ℕ). full v.front ++ (empty n ++ z)) wide)
-      ∙ (set_at (full v.front) None (empty g ++ z) (Some x) h.front_end
-      (length-full v.front ∙ o.front)
-      ∙ (sym (row-at [] v.front x [] (empty g ++ z))
-      ∙ ap (λ (r : List (Option T)). full w.front ++ (empty g ++ (full v.rest ++ r)))
-      (same-past v w refl refl left)))) in
-      let i : Inside T A =
-      record {
-        block = b;
-        front_end = h.front_end + 1;
-        rest_start = h.rest_start;
-        rest_end = h.rest_end;
-        tail_start = h.tail_start;
-        len = h.len;
-      } in
-      let shows : Shows i w =
-      record {
-        row = after;
-        front = omega (arith, longer, o.front);
-        gap = omega (arith, o.gap, wide);
-        rest = o.rest;
-        gap_after = o.gap_after;
-        tail =
-            o.tail;
-        room = o.room;
-      } in
-      found i w shows (ap (λ (z : Seen T A). z.alloc) now) refl
 
   -- If the open block `h` has front items, then the slot at index `front_end - 1` holds the last
   -- front item.

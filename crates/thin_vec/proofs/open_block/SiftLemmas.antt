@@ -14,7 +14,7 @@ use Rattle.thin_vec.specs.Open.{Open, reach, row_of}
 use Rattle.thin_vec.specs.declared.open_block.OpenBlock.TheInside.{Inside}
 use Rattle.thin_vec.proofs.list.InsertRemoveLemmas.{full-append}
 use Rattle.thin_block.proofs.Outcomes.{some-same}
-use Rattle.thin_vec.proofs.OpenBlockLemmas.{Found, at_rest, by_rest, empty-more, first-of, found, past_rest, to_rest}
+use Rattle.thin_vec.proofs.OpenBlockLemmas.{Found, at_rest, by_rest, found, past_rest, to_rest}
 use Rattle.thin_vec.proofs.ListLemmas.{length-full}
 
 -- A list with more than `k` items consists of its first `k` items, the item at index `k`, and the
@@ -57,14 +57,7 @@ module _ {T A : Type 0} where
     -- `written` is the open block `h` after its middle item at index `k` has been overwritten. The
     -- slots of `written` are those of the block `b`.
     abbrev pub written : Inside T A
-    written = record {
-      block = b;
-      front_end = h.front_end;
-      rest_start = h.rest_start;
-      rest_end = h.rest_end;
-      tail_start = h.tail_start;
-      len = h.len;
-    }
+    written = record h { block = b }
 
     -- If the middle items of the open block `written` are `ys`, then `written-seen ys` is how
     -- contracts see `written`. This value differs from `v` only in the middle items.
@@ -149,14 +142,7 @@ module _ {T A : Type 0} where
     -- `moved_run b` is the open block `h` after the first `k` middle items of `h` have become front
     -- items. The slots of `moved_run b` are the slots of the block `b`.
     abbrev pub moved_run : Block T A → Inside T A
-    moved_run b = record {
-      block = b;
-      front_end = h.front_end + k;
-      rest_start = h.rest_start + k;
-      rest_end = h.rest_end;
-      tail_start = h.tail_start;
-      len = h.len;
-    }
+    moved_run b = record h { block = b; front_end = h.front_end + k; rest_start = h.rest_start + k }
 
     -- `moved_run-seen b` is how contracts see the open block `moved_run b`. It differs from `u` in
     -- two ways: the first `k` middle items have become the last `k` front items, and the cost is
@@ -228,11 +214,11 @@ module _ {T A : Type 0} where
 
     -- If moving the first `k` middle items to the end of the front items results in the block `b`,
     -- then contracts see the open block `moved_run b` as `moved_run-seen b`.
-    pub move_run_down-step : (b : Block T A) {c : Cost}
+    pub move_down-step : (b : Block T A) {c : Cost}
         → seen b ≡ record (seen h.block)
         { slots = moved h.rest_start h.front_end k h.block.slots; cost = c }
         → Found (moved_run b) (moved_run-seen b)
-    move_run_down-step b now =
+    move_down-step b now =
         let few : length (full (take k u.rest)) ≡ k = length-full (take k u.rest)
         ∙ length-take-le k u.rest low in
         moved_run-shows b
@@ -240,46 +226,3 @@ module _ {T A : Type 0} where
         ∙ moved_left h.rest_start h.front_end k u.gap (full u.front) (full (take k u.rest))
         (full (drop k u.rest) ++ past_rest u) (sym (length-full u.front ∙ o.front))
         (sym o.gap) (sym few))) (ap (λ (z : Seen T A). z.alloc) now)
-
-  -- If the first middle item of the open block `h` is moved to the slot directly after the front
-  -- items, it becomes the last front item.
-  pub move_one_down-step : (h : Inside T A) (o : IsOpen h) (some : 1 ≤ length (open_of h).rest)
-      → 0 < (open_of h).gap → (b : Block T A) {x : T} {c : Cost}
-      → slot h.block.slots h.rest_start ≡ Some x
-      → seen b ≡ record (seen h.block)
-      { slots = set (set h.block.slots h.rest_start None) h.front_end (Some x); cost = c }
-      → Found (moved_run h o 1 some b) (moved_run-seen h o 1 some b)
-  move_one_down-step h o some gap b {x} is now =
-      let w : Open T A = open_of h in
-      let parts = first-of w.rest some in
-      let y : T = parts.0 in
-      let z : List (Option T) = full parts.1 ++ past_rest w in
-      let row : h.block.slots ≡ to_rest w ++ (Some y ∷ z) = by_rest h w o
-      ∙ ap (λ (r : List T). to_rest w ++ (full r ++ past_rest w)) parts.2 in
-      let same : y ≡ x = some-same
-      (sym (get_or_at (to_rest w) (Some y) z None h.rest_start (at_rest h w o))
-      ∙ (ap (λ (r : List (Option T)). slot r h.rest_start) (sym row) ∙ is)) in
-      let g : ℕ = w.gap - 1 in
-      let wide : w.gap ≡ suc g = omega arith in
-      let wide' : g + 1 ≡ w.gap = omega arith in
-      let opened : set h.block.slots h.rest_start None
-      ≡ full w.front ++ (None ∷ (empty g ++ (None ∷ z))) =
-      ap (λ (r : List (Option T)). set r h.rest_start None) row
-      ∙ (set_at (to_rest w) (Some y) z None h.rest_start (at_rest h w o)
-      ∙ (append_assoc (full w.front) (empty w.gap) (None ∷ z)
-      ∙ ap (λ (n : ℕ). full w.front ++ (empty n ++ (None ∷ z))) wide)) in
-      moved_run-shows h o 1 some b
-      (ap (λ (z : Seen T A). z.slots) now
-      ∙ (ap (λ (r : List (Option T)). set r h.front_end (Some x)) opened
-      ∙ (set_at (full w.front) None (empty g ++ (None ∷ z)) (Some x) h.front_end
-      (length-full w.front ∙ o.front)
-      ∙ (ap (λ (r : List (Option T)). full w.front ++ (Some x ∷ r))
-      (empty-more g z ∙ ap (λ (n : ℕ). empty n ++ z) wide')
-      ∙ (λ i. full w.front
-      ++ (full (take 1 (firsts same parts.2 i))
-      ++ (empty w.gap ++ (full (drop 1 (firsts same parts.2 i)) ++ past_rest w))))))))
-      (ap (λ (z : Seen T A). z.alloc) now)
-    where
-      -- If `y` is equal to `x`, and `xs` is equal to `y ∷ ys`, then `x ∷ ys` is equal to `xs`.
-      firsts : {x y : T} {ys xs : List T} → y ≡ x → xs ≡ y ∷ ys → x ∷ ys ≡ xs
-      firsts {x} {y} {ys} e f = ap (λ (a : T). a ∷ ys) (sym e) ∙ sym f

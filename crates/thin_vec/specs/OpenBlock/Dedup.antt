@@ -1,8 +1,7 @@
 -- These definitions describe how duplicates are removed from an open block, as in std's
 -- `Vec::dedup_by`. A test decides for each item whether the item duplicates the last kept item.
-use Rattle.std.specs.Prelude.{◌≡◌, ◌⊎◌, ℕ, suc, ◌<◌, List, [], ◌∷◌, ◌++◌, Bool, true, false, Option, Some, length, replicate, slice_set}
+use Rattle.std.specs.Prelude.{◌≡◌, ◌⊎◌, ℕ, suc, ◌<◌, List, [], ◌∷◌, ◌++◌, Bool, true, false, length, replicate}
 use Rattle.thin_block.specs.Cost.{moving}
-use Rattle.thin_block.specs.Slots.{slot}
 use Rattle.thin_vec.specs.Edits.Retain.{moved_down, trues}
 use Rattle.thin_vec.specs.Edits.Dedup.{AskedLast, AskedPairs}
 use Rattle.thin_vec.specs.Open.{Open}
@@ -51,20 +50,6 @@ module _ {S T : Type 0} (R : S → T → T → Bool → S → T → T → Type 0
     pub was : xs ≡ later ∷ after
     pub asked : R s later k b t later_left l
     pub now : ys ≡ later_left ∷ after
-
-  -- `AreAskedIn s i slots b t slots'` states that the item in slot `i + 1` of the row `slots` was
-  -- tested against the item in slot `i`. `b` is true if the item in slot `i + 1` is to be removed.
-  -- The test changed its state from `s` to `t`, and the row of slots from `slots` to `slots'`.
-  pub record AreAskedIn (s : S) (i : ℕ) (slots : List (Option T)) (b : Bool) (t : S)
-      (slots' : List (Option T)) : Type 0 where
-    pub kept : T
-    pub later : T
-    pub kept_left : T
-    pub later_left : T
-    pub first : slot slots i ≡ Some kept
-    pub second : slot slots (suc i) ≡ Some later
-    pub asked : R s later kept b t later_left kept_left
-    pub now : slots' ≡ slice_set (slice_set slots i (Some kept_left)) (suc i) (Some later_left)
 
   -- `PairsAskedUpTo m s xs t ys` describes a search for the first item of the list `xs` that is to
   -- be removed. The items were tested in order, from the second item onward, each against the item

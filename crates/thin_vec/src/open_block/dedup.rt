@@ -1,14 +1,11 @@
 //! Functions that the `dedup` methods call. They keep the first item, and test each other item
 //! against the last item that was kept before it.
-ghost use Rattle.std.specs.Prelude.{◌≡◌, ◌+◌, ◌-◌, ◌^◌, ◌<◌, ◌≤◌, ◌∷◌, ◌++◌, [], Bool, length};
-ghost use Rattle.thin_block.specs.Block.{seen};
+ghost use Rattle.std.specs.Prelude.{◌≡◌, ◌+◌, ◌-◌, ◌<◌, ◌∷◌, ◌++◌, [], Bool, length};
 ghost use Rattle.thin_block.specs.Cost.{moving};
-ghost use Rattle.thin_block.specs.Slots.{AreFilled};
-ghost use Rattle.thin_vec.specs.OpenBlock.Dedup.{AreAskedIn};
 
 use crate::open_block::OpenBlock;
 use std::alloc::Allocator;
-use thin_block::{Block, item_size};
+use thin_block::item_size;
 
 // If an item has at least this many bytes, the kept items that lie side by side are moved together.
 // Smaller items are moved one by one, which is faster for them.
@@ -48,8 +45,9 @@ impl<T, A: Allocator> OpenBlock<T, A> {
         ensures ready { J.ready test.new }
         ensures changes { self.new ≡ record self.old { rest = self.new.rest } }
     {
-        let kept = self.rest_start + (k - 1);
-        test_neighbours(&mut self.block, kept, test)
+        let at = self.rest_start + (k - 1);
+        let (kept, later) = self.block.slice_mut(at, at + 2).split_at_mut(1);
+        test.test(&mut later[0], &mut kept[0])
     }
 
     // Tests the item `later` against the last item that was kept. Returns whether `later` is to be
@@ -133,21 +131,9 @@ impl<T: Drop, A: Allocator> OpenBlock<T, A> {
         self.pass(kept);
         if self.rest_len() > 0 {
             drop(self.take_first());
-            self.dedup_past_gap(test);
-        }
-    }
-
-    // Continues `dedup_rest` after the first removal. There is a gap, because the slot of the
-    // removed item is empty.
-    fn dedup_past_gap<J: PairTest<T>>(&mut self, test: &mut J)
-        requires some { 0 < length self.old.front }
-        requires gap { 0 < self.old.gap }
-        requires ready { J.ready test.old }
-        ensures dedups { Dedups J.tests test.old self.old test.new self.new }
-        ensures rest { self.new.rest ≡ [] }
-    {
-        while self.rest_len() > 0 {
-            self.dedup_next(test);
+            while self.rest_len() > 0 {
+                self.dedup_next(test);
+            }
         }
     }
 
@@ -164,7 +150,7 @@ impl<T: Drop, A: Allocator> OpenBlock<T, A> {
         requires ready { J.ready test.old }
         ensures dedups { Dedups J.tests test.old self.old test.new self.new }
 
-        // `dedup_past_gap` calls this function in a loop. The proof of the loop needs this clause
+        // `dedup_rest` calls this function in a loop. The proof of the loop needs this clause
         // and the next two.
         ensures some { 0 < length self.new.front }
         ensures less { length self.new.rest < length self.old.rest }
@@ -191,23 +177,4 @@ impl<T: Drop, A: Allocator> OpenBlock<T, A> {
             drop(self.take_first());
         }
     }
-}
-
-// Tests the item in slot `i + 1` against the item in slot `i`. Returns whether the item in slot
-// `i + 1` is to be removed.
-fn test_neighbours<T, A: Allocator, J: PairTest<T>>(
-    block: &mut Block<T, A>,
-    i: usize,
-    test: &mut J,
-) -> bool
-    requires small { i + 2 < 2 ^ 64 }
-    requires in_bounds { i + 2 ≤ length block.old.slots }
-    requires filled { AreFilled block.old.slots i 2 }
-    requires ready { J.ready test.old }
-    ensures asked { AreAskedIn J.tests test.old i block.old.slots result test.new block.new.slots }
-    ensures ready { J.ready test.new }
-    ensures changes { seen block.new ≡ record (seen block.old) { slots = block.new.slots } }
-{
-    let (kept, later) = block.slice_mut(i, i + 2).split_at_mut(1);
-    test.test(&mut later[0], &mut kept[0])
 }

@@ -1,6 +1,6 @@
 //! Functions that `retain`, `retain_mut` and `extract_if` call. They test the items of a range, and
 //! move the kept items down to the front of the block.
-ghost use Rattle.std.specs.Prelude.{◌≡◌, ◌↔◌, ◌+◌, ◌<◌, ◌≤◌, ◌==◌, ◌++◌, [], Bool, IsTrue, drop, length, take};
+ghost use Rattle.std.specs.Prelude.{◌≡◌, ◌↔◌, ◌+◌, ◌<◌, ◌≤◌, ◌==◌, ◌++◌, Bool, IsTrue, drop, length, take};
 ghost use Rattle.thin_block.specs.Cost.{moving};
 
 use crate::open_block::OpenBlock;
@@ -69,14 +69,12 @@ impl<T, A: Allocator> OpenBlock<T, A> {
           cost = moving 1 self.old.cost;
         } }
     {
-        let value = self.block.take(self.rest_start);
-        self.block.put(self.front_end, value);
-        self.front_end += 1;
-        self.rest_start += 1;
+        let value = self.take_first();
+        self.append_to_front(value);
     }
 
     // Moves the first `k` remaining items down to the end of the kept items. Two or more items are
-    // moved together.
+    // moved together, by the method `close_gap` of the block.
     pub(crate) fn move_down(&mut self, k: usize)
         requires in_bounds { k ≤ length self.old.rest }
         requires gap { 0 < self.old.gap }
@@ -86,27 +84,13 @@ impl<T, A: Allocator> OpenBlock<T, A> {
           cost = moving k self.old.cost;
         } }
     {
+        if k == 0 {
+            return;
+        }
         if k == 1 {
             self.move_one_down();
             return;
         }
-        if k > 1 {
-            self.move_run_down(k);
-        }
-    }
-
-    // Moves the first `k` remaining items down to the end of the kept items. All `k` items are
-    // moved together, by the method `close_gap` of the block.
-    #[inline(always)]
-    fn move_run_down(&mut self, k: usize)
-        requires in_bounds { k ≤ length self.old.rest }
-        requires gap { 0 < self.old.gap }
-        ensures { self.new ≡ record self.old {
-          front = self.old.front ++ take k self.old.rest;
-          rest = drop k self.old.rest;
-          cost = moving k self.old.cost;
-        } }
-    {
         let block = mem::replace(&mut self.block, Block::none());
         let closed = block.close_gap(self.front_end, self.rest_start - self.front_end, k);
         let none = mem::replace(&mut self.block, closed);
@@ -196,20 +180,9 @@ impl<T: Drop, A: Allocator> OpenBlock<T, A> {
         self.pass(first);
         if self.rest_len() > 0 {
             drop(self.take_first());
-            self.sift_past_gap(test);
-        }
-    }
-
-    // Continues `sift` after the first removal. There is a gap, because the slot of the removed
-    // item is empty.
-    fn sift_past_gap<J: Test<T>>(&mut self, test: &mut J)
-        requires gap { 0 < self.old.gap }
-        requires ready { J.ready test.old }
-        ensures sifts { Sifts J.tests test.old self.old test.new self.new }
-        ensures rest { self.new.rest ≡ [] }
-    {
-        while self.rest_len() > 0 {
-            self.sift_next(test);
+            while self.rest_len() > 0 {
+                self.sift_next(test);
+            }
         }
     }
 

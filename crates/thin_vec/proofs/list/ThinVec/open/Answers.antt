@@ -5,7 +5,8 @@ use Rattle.std.specs.Prelude.{slice_range}
 use Rattle.thin_block.specs.Slots.{items_in}
 use Rattle.thin_vec.specs.ThinVec.{IsThin}
 use Rattle.thin_vec.proofs.ListLemmas.{thin_of-becomes}
-use Rattle.thin_vec.proofs.OpenBlockLemmas.{Found, open-step, opened, opened-seen}
+use Rattle.thin_vec.proofs.OpenBlockLemmas.{Found}
+use Rattle.thin_vec.proofs.open_block.StepLemmas.{open-step, opened, opened-seen}
 use Rattle.thin_vec.proofs.list.ThinVec.open.Goals as goal
 
 -- `replace` returns the old block of the list. So this block satisfies `IsThin`, the invariant of a

@@ -5,8 +5,7 @@ use Rattle.std.proofs.lemmas.Bool.{false≢true}
 use Rattle.thin_vec.proofs.RetainLemmas.{moving-before}
 use Rattle.thin_vec.proofs.open_block.OpenBlock.advance.Goals as goal
 
--- If there is no gap after the kept items, then no item is moved, and no move is counted. So the
--- clause `advances` holds.
+-- If there is no gap after the kept items, then no item is moved, and no move is counted.
 pub returns-clause-advances : goal.returns-clause-advances
 returns-clause-advances g c =
     let v = c.args.self.now in

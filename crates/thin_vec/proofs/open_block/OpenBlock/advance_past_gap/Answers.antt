@@ -1,7 +1,7 @@
 -- If the items are large, the tested items are moved together. Otherwise, each iteration of the
 -- loop tests and moves one item.
 use Rattle.std.proofs.Common.{rules}
-use Rattle.thin_vec.proofs.RetainLemmas.{keeps-goes, keeps-more, keeps-start}
+use Rattle.thin_vec.proofs.open_block.SiftedLemmas.{keeps-goes, keeps-more, keeps-start}
 use Rattle.thin_vec.proofs.open_block.OpenBlock.advance_past_gap.Goals as goal
 
 pub loop-self-init : goal.loop-self-init

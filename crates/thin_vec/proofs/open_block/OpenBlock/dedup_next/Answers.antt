@@ -3,20 +3,20 @@
 -- the second item is removed, a later item is removed, or no item is removed.
 use Rattle.std.proofs.Common.{◌≡◌, ◌∷◌, [], ap, false, refl, sym, ◌∙◌, arith, rules}
 use Rattle.std.proofs.lemmas.List.{append-nil, nil_from_length}
-use Rattle.thin_vec.proofs.edits.DedupLemmas.{run-count, run-ends, run-goes, dedups-goes, dedups-run, dedups-stays, dedups-two}
+use Rattle.thin_vec.proofs.edits.DedupLemmas.{dedups-goes, dedups-run, dedups-stays, dedups-two}
+use Rattle.thin_vec.proofs.open_block.PairTestLemmas.{run-count, run-ends, run-goes}
 use Rattle.std.proofs.lemmas.Grind.{common_steps}
 use Rattle.thin_vec.proofs.open_block.OpenBlock.dedup_next.Goals as goal
 
--- If the test decides to remove the next item, `dedup_next` drops this item. So the clause `dedups`
--- holds.
+-- If the test decides to remove the next item, `dedup_next` drops this item.
 pub returns-then-test_last-clause-dedups : goal.returns-then-test_last-clause-dedups
 returns-then-test_last-clause-dedups g c =
     dedups-goes g.J.PairTest.tests c.args.self.now c.test_last.new.self
     c.take_first-later.result c.test_last.new.later c.test_last.new.self.front
     (search rules) (search rules) (search rules) (search rules)
 
--- If the items are small, or if no item follows, `dedup_next` appends an item that the test keeps to
--- the kept items.
+-- If the items are small, or if no item follows, `dedup_next` appends an item that the test keeps
+-- to the kept items.
 pub returns-then-item_size-lt-LARGE-clause-dedups :
     goal.returns-then-item_size-lt-LARGE-clause-dedups
 returns-then-item_size-lt-LARGE-clause-dedups g c =
@@ -25,7 +25,7 @@ returns-then-item_size-lt-LARGE-clause-dedups g c =
     (search rules) (search rules) (search rules) (search rules)
 
 -- If the test keeps the next item and decides to remove the item after it, `dedup_next` appends the
--- first of these items to the kept items, and drops the second. So the clause `dedups` holds.
+-- first of these items to the kept items, and drops the second.
 pub returns-then-goes-clause-dedups : goal.returns-then-goes-clause-dedups
 returns-then-goes-clause-dedups g c =
     dedups-two g.J.PairTest.tests c.args.self.now c.take_first.new.self c.args.test.now
@@ -37,8 +37,7 @@ returns-then-goes-clause-dedups g c =
     c.if-goes.true c.take_first.result (search rules) (search rules) (search rules)
 
 -- If the test keeps the next two items and decides to remove a later item, `dedup_next` moves all
--- items before that item to the end of the kept items, and drops that item. So the clause `dedups`
--- holds.
+-- items before that item to the end of the kept items, and drops that item.
 pub returns-then-rest_len-gt0-clause-dedups : goal.returns-then-rest_len-gt0-clause-dedups
 returns-then-rest_len-gt0-clause-dedups g c =
     let R = g.J.PairTest.tests in
@@ -58,7 +57,7 @@ returns-then-rest_len-gt0-clause-dedups g c =
     (search rules) (search rules)
 
 -- If the test keeps all remaining items, `dedup_next` moves all of them to the end of the kept
--- items. So the clause `dedups` holds.
+-- items.
 pub returns-else-rest_len-gt0-clause-dedups : goal.returns-else-rest_len-gt0-clause-dedups
 returns-else-rest_len-gt0-clause-dedups g c =
     let R = g.J.PairTest.tests in

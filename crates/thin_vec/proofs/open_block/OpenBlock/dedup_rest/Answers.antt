@@ -1,22 +1,53 @@
 -- If no item is to be removed, all items become front items. Otherwise, the items before the first
--- item to be removed become front items, this item is dropped, and `dedup_past_gap` tests the items
--- after it.
-use Rattle.std.proofs.Common.{◌≡◌, [], sym, ap, ◌∙◌, arith, rules}
-use Rattle.thin_vec.proofs.edits.DedupLemmas.{deduped-ends, deduped-goes}
+-- item to be removed become front items, this item is dropped, and a loop tests the items after it.
+use Rattle.std.proofs.Common.{◌≡◌, ◌<◌, [], sym, ap, ◌∙◌, arith, length, length-append, rules, take}
+use Rattle.std.proofs.lemmas.Grind.{common_steps}
 use Rattle.std.proofs.lemmas.List.{nil_from_length}
+use Rattle.thin_vec.proofs.edits.DedupLemmas.{deduped-ends, deduped-goes, dedups-start, dedups-then}
+use Rattle.thin_vec.proofs.open_block.PairTestLemmas.{run-left}
 use Rattle.thin_vec.proofs.open_block.OpenBlock.dedup_rest.Goals as goal
 
-pub returns-then-rest_len-gt0 : goal.returns-then-rest_len-gt0
-returns-then-rest_len-gt0 g c =
+pub loop-self-init : goal.loop-self-init
+loop-self-init g c =
     let run = c.test_pairs-kept in
+    let asked = run.ensures.asked in
+    let some : 0 < length c.take_first.new.self.front =
+    omega (
+      arith,
+      ap (λ v. length v.front) c.take_first.ensures.changes,
+      ap (λ v. length v.front) c.pass.ensures,
+      length-append run.new.self.front (take run.result run.new.self.rest),
+      ap length (run-left g.J.PairTest.tests run.result _ _ _ _ asked),
+      asked.long,
+      asked.kept,
+    ) in
+    record {
+      dedups = dedups-start g.J.PairTest.tests run.new.test c.take_first.new.self some
+          (omega (arith, ap (λ v. v.gap) c.take_first.ensures.changes));
+      some = some;
+      ready = run.ensures.ready;
+    }
+
+pub loop-self-preserved : goal.loop-self-preserved
+loop-self-preserved g c = record {
+  dedups = dedups-then g.J.PairTest.tests c.loop-self.invariant.dedups
+      c.dedup_next.ensures.dedups;
+  some = c.dedup_next.ensures.some;
+  ready = c.dedup_next.ensures.ready;
+}
+
+pub returns-after-loop-self : goal.returns-after-loop-self
+returns-after-loop-self g c =
+    let run = c.test_pairs-kept in
+    let end : length c.loop-self.self.rest ≡ 0 = grind (arith, common_steps) in
     record {
       deduped = deduped-goes g.J.PairTest.tests c.args.self.now c.take_first.new.self run.result
           c.args.test.now run.new.test run.new.self.rest run.ensures.asked c.take_first.result
-          c.dedup_past_gap.new.test c.dedup_past_gap.new.self
+          c.loop-self.test c.loop-self.self
           (search rules)
           (sym (ap (λ v. v.rest) c.pass.ensures) ∙ c.take_first.ensures.rest)
-          c.dedup_past_gap.ensures.dedups
-          c.dedup_past_gap.ensures.rest;
+          c.loop-self.invariant.dedups
+          (nil_from_length c.loop-self.self.rest end);
     }
 
 pub returns-else-rest_len-gt0 : goal.returns-else-rest_len-gt0

@@ -1,10 +1,13 @@
 -- `put_clones` puts the clones into the gap directly after the front items. So the clones become
 -- front items, and each clone shortens the gap by one slot.
 use Rattle.std.proofs.Common.{◌≡◌, ◌+◌, ◌-◌, ◌++◌, ◌∙◌, ap, arith, length, sym}
+use Rattle.thin_block.proofs.BlockLemmas.{slots-are}
+use Rattle.thin_block.specs.Block.{seen}
 use Rattle.thin_block.specs.Cost.{moving}
-use Rattle.thin_vec.specs.OpenBlock.{open_of}
+use Rattle.thin_block.specs.Slots.{full, laid}
 use Rattle.thin_vec.proofs.list.ClonesLemmas.{length-copies}
-use Rattle.thin_vec.proofs.OpenBlockLemmas.{Found, fill-step}
+use Rattle.thin_vec.proofs.OpenBlockLemmas.{Found}
+use Rattle.thin_vec.proofs.open_block.StepLemmas.{fill-view}
 use Rattle.thin_vec.proofs.open_block.OpenBlock.fill_from_clones.Goals as goal
 
 count : (g : _) (c : goal.After-self-1 g)
@@ -13,58 +16,42 @@ count g c =
     length-copies c.put_clones-placed.ensures.slots c.put_clones-placed.ensures.in_bounds
 
 facts : (g : _) (c : goal.After-self-1 g)
-    → Found (record {
+    → let xs = c.put_clones-placed.ensures.slots.copies in
+    Found (record c.self.inside {
       block = c.put_clones-placed.new.block;
       front_end = c.self.inside.front_end + c.put_clones-placed.result;
-      rest_start = c.self.inside.rest_start;
-      rest_end = c.self.inside.rest_end;
-      tail_start = c.self.inside.tail_start;
-      len = c.self.inside.len;
     })
-    (record (open_of c.self.inside) {
-      front = (open_of c.self.inside).front ++ c.put_clones-placed.ensures.slots.copies;
-      gap = c.self.inside.rest_start - (c.self.inside.front_end + c.put_clones-placed.result);
-      alloc = c.put_clones-placed.new.block.alloc;
-      cost = c.put_clones-placed.new.block.cost;
+    (record c.args.self.now {
+      front = c.args.self.now.front ++ xs;
+      gap = c.args.self.now.gap - length xs;
+      cost = moving (length xs) c.args.self.now.cost;
     })
 facts g c =
-    fill-step c.self.inside c.self.invariant c.put_clones-placed.new.block
-    c.put_clones-placed.ensures.slots.copies
-    (c.self.inside.front_end + c.put_clones-placed.result)
-    (ap (λ n. c.self.inside.front_end + n) (sym (count g c)))
-    (omega (
-      arith,
-      c.requires.room,
-      c.put_clones-placed.ensures.in_bounds,
-      ap (λ v. v.gap) c.self.view_is,
-      c.self.invariant.gap,
-    ))
-    c.put_clones-placed.ensures.slots.slots
+    let h = c.self.inside in
+    let put = c.put_clones-placed.ensures in
+    let xs = put.slots.copies in
+    let many = count g c in
+    fill-view h c.self.invariant c.self.view_is c.put_clones-placed.new.block xs _
+    (ap (λ n. h.front_end + n) (sym many)) (omega (arith, c.requires.room, many, put.in_bounds))
+    (slots-are put.changes put.slots.slots ∙ (λ i. record (seen h.block) {
+      slots = laid h.front_end (full xs) h.block.slots;
+      cost = moving (sym many i) h.block.cost;
+    }))
 
 pub invariant_of-self : goal.invariant_of-self
 invariant_of-self g c = (facts g c).lies
 
 pub returns-clause-front : goal.returns-clause-front
 returns-clause-front g c =
-    let lays = c.put_clones-placed.ensures.slots in (
-      lays.copies,
-      lays.cloned,
-      ap (λ v. v.front) (facts g c).view ∙ ap (λ v. v.front ++ lays.copies) c.self.view_is,
-    )
+    let lays = c.put_clones-placed.ensures.slots in
+    (lays.copies, lays.cloned, ap (λ v. v.front) (facts g c).view)
 
 pub returns-clause-changes : goal.returns-clause-changes
 returns-clause-changes g c =
-    let old = c.args.self.now in
-    let seen = (facts g c).view in
-    let alloc : c.put_clones-placed.new.block.alloc ≡ old.alloc = search (arith, ◌∙◌) in
-    let spent : c.put_clones-placed.new.block.cost ≡ moving c.put_clones-placed.result old.cost =
-    search (arith, ◌∙◌) in
-    let left : c.self.inside.rest_start - (c.self.inside.front_end + c.put_clones-placed.result)
-    ≡ old.gap - c.put_clones-placed.result =
-    omega (arith, ap (λ v. v.gap) c.self.view_is) in
-    seen ∙ (λ i. record (c.self.view_is i) {
-      front = (sym seen i).front;
-      gap = left i;
-      alloc = alloc i;
-      cost = spent i;
+    let view = (facts g c).view in
+    let many = count g c in
+    view ∙ (λ i. record c.args.self.now {
+      front = (sym view i).front;
+      gap = c.args.self.now.gap - many i;
+      cost = moving (many i) c.args.self.now.cost;
     })

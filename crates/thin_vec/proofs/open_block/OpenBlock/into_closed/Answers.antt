@@ -4,7 +4,8 @@ use Rattle.std.proofs.Common.{◌≡◌, ◌+◌, ◌-◌, ap, arith, ◌∙◌}
 use Rattle.thin_block.specs.Slots.{front, moved}
 use Rattle.thin_vec.specs.OpenBlock.{open_of}
 use Rattle.thin_vec.specs.Open.{items_of}
-use Rattle.thin_vec.proofs.OpenBlockLemmas.{before-empty, after-filled, close-row, closed-row}
+use Rattle.thin_vec.proofs.OpenBlockLemmas.{before-empty}
+use Rattle.thin_vec.proofs.open_block.StepLemmas.{after-filled, close-row, closed-row}
 use Rattle.std.proofs.lemmas.Grind.{common_steps}
 use Rattle.thin_vec.proofs.open_block.OpenBlock.into_closed.Goals as goal
 

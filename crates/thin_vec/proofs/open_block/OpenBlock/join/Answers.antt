@@ -1,7 +1,8 @@
 -- There are no middle items, as `join` requires. So the gap before the middle items and the gap
 -- after them form one gap.
 use Rattle.std.proofs.Common.{◌+◌, ap, sym, ◌∙◌}
-use Rattle.thin_vec.proofs.OpenBlockLemmas.{Found, join-step, joined, joined-seen}
+use Rattle.thin_vec.proofs.OpenBlockLemmas.{Found}
+use Rattle.thin_vec.proofs.open_block.StepLemmas.{join-step, joined, joined-seen}
 use Rattle.thin_vec.proofs.open_block.OpenBlock.join.Goals as goal
 
 facts : (g : _) (c : goal.After-self-2-1 g)

@@ -2,7 +2,8 @@
 -- removed or not.
 use Rattle.std.proofs.Common.{◌∙◌, ap, arith, length, rules, sym}
 use Rattle.std.proofs.lemmas.Bool.{false≢true}
-use Rattle.thin_vec.proofs.RetainLemmas.{advanced-count, advanced-ends, advanced-goes, keeps-goes, keeps-more, keeps-sifts, keeps-start, none-left}
+use Rattle.thin_vec.proofs.RetainLemmas.{none-left}
+use Rattle.thin_vec.proofs.open_block.SiftedLemmas.{advanced-count, advanced-ends, advanced-goes, keeps-goes, keeps-more, keeps-sifts, keeps-start}
 use Rattle.thin_vec.proofs.open_block.OpenBlock.sift_next.Goals as goal
 
 -- The items are large, and `advance_past_gap` has found an item to be removed, which is dropped.

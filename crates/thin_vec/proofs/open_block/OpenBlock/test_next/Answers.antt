@@ -1,9 +1,8 @@
 -- The slot of the first middle item is not empty. After the test, this slot holds the item as the
 -- test left it, and nothing else has changed.
 use Rattle.thin_block.proofs.BlockLemmas.{slots-are}
-use Rattle.std.proofs.Common.{◌≡◌, ◌<◌, ◌+◌, refl, ap, sym, ◌∙◌, arith, length}
+use Rattle.std.proofs.Common.{◌≡◌, ◌<◌, ◌+◌, refl, ap, sym, ◌∙◌, arith, length, ◌++◌, ◌∷◌, Some}
 use Rattle.thin_vec.specs.OpenBlock.{open_of}
-use Rattle.std.proofs.Common.{◌++◌, ◌∷◌, Some}
 use lib.ListN.{set}
 use Rattle.thin_block.specs.Lends.{with_item}
 use Rattle.thin_block.specs.Slots.{slot}

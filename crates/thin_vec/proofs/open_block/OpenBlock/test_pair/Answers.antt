@@ -1,13 +1,17 @@
--- The slots of the middle items at the indices `k - 1` and `k` are not empty. The test may change
--- these two items, and changes nothing else.
-use Rattle.std.proofs.Common.{◌-◌, ap, sym, ◌∙◌, arith, length}
+-- The slots of the middle items at the indices `k - 1` and `k` are not empty. The slice of these
+-- two slots is split into two slices of one item each. The test may change these two items, and
+-- changes nothing else.
+use Rattle.std.proofs.Common.{◌+◌, ◌-◌, ◌++◌, ◌<◌, ◌≤◌, ap, sym, ◌∙◌, arith, length, refl, rules, suc}
+use Rattle.std.proofs.lemmas.Grind.{common_steps}
+use lib.ListN.{set}
+use Rattle.thin_block.specs.Lends.{with_items}
 use Rattle.thin_vec.specs.OpenBlock.{open_of}
 use Rattle.thin_vec.proofs.OpenBlockLemmas.{rest-filled}
-use Rattle.thin_vec.proofs.open_block.DedupLemmas.{WrittenTwo, write-two-step}
+use Rattle.thin_vec.proofs.open_block.DedupLemmas.{WrittenTwo, parts-of, write-two-step}
 use Rattle.thin_vec.proofs.open_block.OpenBlock.test_pair.Goals as goal
 
-pub test_neighbours-requires-clause-filled : goal.test_neighbours-requires-clause-filled
-test_neighbours-requires-clause-filled g c = λ j low high.
+pub slice_mut-requires-clause-filled : goal.slice_mut-requires-clause-filled
+slice_mut-requires-clause-filled g c = λ j low high.
     let o = c.self.invariant in
     rest-filled c.self.inside (open_of c.self.inside) o j (omega (arith, low))
     (omega (
@@ -19,18 +23,42 @@ test_neighbours-requires-clause-filled g c = λ j low high.
       ap (λ v. length v.rest) c.self.view_is,
     ))
 
+pub split_at_mut-kept-requires : goal.split_at_mut-kept-requires
+split_at_mut-kept-requires g c = grind (arith, common_steps)
+
+pub bounds-later-0 : goal.bounds-later-0
+bounds-later-0 g c = grind (arith, common_steps)
+
 -- The test may change the middle items at the indices `k - 1` and `k`, and changes nothing else.
-facts : (g : _) (c : goal.After-test_neighbours g) → WrittenTwo c.self.inside c.self.invariant
-    (c.args.k - 1) c.test_neighbours.new.block c.test_neighbours.ensures.asked.kept
-    c.test_neighbours.ensures.asked.later c.test_neighbours.ensures.asked.kept_left
-    c.test_neighbours.ensures.asked.later_left
+facts : (g : _) (c : goal.After-self-3-1 g) → WrittenTwo c.self.inside c.self.invariant
+    (c.args.k - 1)
+    (with_items c.self.inside.block (c.self.inside.rest_start + (c.args.k - 1))
+    (set c.split_at_mut-kept.result.0.now 0 c.test.new.kept
+    ++ set c.split_at_mut-kept.result.1.now 0 c.test.new.later)) c.index-kept-0.result
+    c.index-later-0.result c.test.new.kept c.test.new.later
 facts g c =
-    let a = c.test_neighbours.ensures.asked in
-    write-two-step c.self.inside c.self.invariant c.test_neighbours.new.block
-    c.test_neighbours.ensures.changes (c.args.k - 1) a.kept_left
-    a.later_left
-    (omega (arith, c.requires.in_bounds, c.requires.some, ap (λ v. length v.rest) c.self.view_is))
-    a.first a.second a.now
+    let h = c.self.inside in
+    let o = c.self.invariant in
+    let parts = c.split_at_mut-kept in
+    let at = h.rest_start + (c.args.k - 1) in
+    let low : suc (c.args.k - 1) < length (open_of h).rest =
+    omega (arith, c.requires.in_bounds, c.requires.some, ap (λ v. length v.rest) c.self.view_is) in
+    let within : at + 2 ≤ length h.block.slots =
+    omega (
+      arith,
+      o.rest,
+      o.gap_after,
+      o.tail,
+      o.room,
+      c.requires.in_bounds,
+      c.requires.some,
+      ap (λ v. length v.rest) c.self.view_is,
+    ) in
+    let two = parts-of h.block.slots at c.slice_mut.result.now parts.result.0.now
+    parts.result.1.now within c.slice_mut.ensures.value parts.ensures.value (search rules)
+    c.test.new.kept c.test.new.later c.index-kept-0.is c.index-later-0.is in
+    write-two-step h o _ refl (c.args.k - 1) c.test.new.kept c.test.new.later low two.0.first
+    two.0.second two.1
 
 pub invariant_of-self : goal.invariant_of-self
 invariant_of-self g c = (facts g c).shown.lies
@@ -38,17 +66,16 @@ invariant_of-self g c = (facts g c).shown.lies
 pub returns-clause-asked : goal.returns-clause-asked
 returns-clause-asked g c =
     let f = facts g c in
-    let a = c.test_neighbours.ensures.asked in
     record {
       before = f.pre;
-      kept = a.kept;
-      later = a.later;
-      kept_left = a.kept_left;
-      later_left = a.later_left;
+      kept = c.index-kept-0.result;
+      later = c.index-later-0.result;
+      kept_left = c.test.new.kept;
+      later_left = c.test.new.later;
       after = f.post;
       place = omega (arith, f.place, c.requires.some);
       was = sym (ap (λ v. v.rest) c.self.view_is) ∙ f.was;
-      asked = a.asked;
+      asked = search rules;
       now = ap (λ v. v.rest) f.shown.view;
     }
 

@@ -2,7 +2,7 @@
 -- far, and nothing except middle items has changed. Each iteration reduces the number of untested
 -- items.
 use Rattle.std.proofs.Common.{◌≡◌, ◌-◌, length}
-use Rattle.thin_vec.proofs.edits.DedupLemmas.{PairStays}
+use Rattle.thin_vec.proofs.open_block.PairTestLemmas.{PairStays}
 use Rattle.thin_vec.proofs.open_block.OpenBlock.test_pairs.Given as goal
 
 abbrev pub invariant-loop-kept : goal.invariant-loop-kept

@@ -8,7 +8,8 @@ use Rattle.thin_block.specs.Slots.{moved, slot}
 use Rattle.thin_vec.specs.OpenBlock.{Shows, open_of}
 use Rattle.thin_vec.specs.Open.{Open, reach}
 use Rattle.thin_vec.specs.declared.open_block.OpenBlock.TheInside.{Inside}
-use Rattle.thin_vec.proofs.OpenBlockLemmas.{Found, reached, spare-empty, tail-filled, widen-step, widened, widened-seen}
+use Rattle.thin_vec.proofs.OpenBlockLemmas.{Found, reached, tail-filled}
+use Rattle.thin_vec.proofs.open_block.StepLemmas.{spare-empty, widen-step, widened, widened-seen}
 use Rattle.thin_vec.proofs.open_block.OpenBlock.widen.Goals as goal
 
 -- `v` is how contracts see the open block `h`. If `v` has at least `k` empty slots after its tail

@@ -3,11 +3,11 @@
 -- items. Each iteration reduces the number of untested items.
 use Rattle.std.proofs.Common.{length}
 use Rattle.thin_vec.specs.OpenBlock.Sift.{Sifts}
-use Rattle.thin_vec.proofs.open_block.OpenBlock.sift_past_gap.Given as goal
+use Rattle.thin_vec.proofs.open_block.OpenBlock.sift.Given as goal
 
 abbrev pub invariant-loop-self : goal.invariant-loop-self
 invariant-loop-self g l = record {
-  sifts : Sifts g.J.Test.tests l.fn.test l.fn.self l.test l.self;
+  sifts : Sifts g.J.Test.tests l.initial.test l.initial.self l.test l.self;
   ready : g.J.Test.ready l.test;
 }
 

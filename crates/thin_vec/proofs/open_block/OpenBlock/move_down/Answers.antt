@@ -7,8 +7,8 @@ use Rattle.thin_block.specs.Cost.{moving}
 use Rattle.thin_block.specs.Slots.{moved, slot}
 use Rattle.thin_vec.specs.OpenBlock.{open_of}
 use Rattle.thin_vec.proofs.OpenBlockLemmas.{Found, before-empty, rest-filled}
-use Rattle.thin_vec.proofs.open_block.SiftLemmas.{moved_run, moved_run-seen, move_run_down-step}
-use Rattle.thin_vec.proofs.open_block.OpenBlock.move_run_down.Goals as goal
+use Rattle.thin_vec.proofs.open_block.SiftLemmas.{moved_run, moved_run-seen, move_down-step}
+use Rattle.thin_vec.proofs.open_block.OpenBlock.move_down.Goals as goal
 
 pub close_gap-closed-requires-clause-empty : goal.close_gap-closed-requires-clause-empty
 close_gap-closed-requires-clause-empty g c = λ j low high.
@@ -40,7 +40,7 @@ facts g c =
     let low : c.args.k ≤ length (open_of h).rest =
     omega (arith, c.requires.in_bounds, ap (λ v. length v.rest) c.self.view_is) in
     let same : h.front_end + (h.rest_start - h.front_end) ≡ h.rest_start = omega (arith, o.gap) in
-    move_run_down-step h o c.args.k low c.replace-none.new.dest
+    move_down-step h o c.args.k low c.replace-none.new.dest
     (ap seen c.replace-none.ensures.after
     ∙ (c.close_gap-closed.ensures.changes
     ∙ (λ i. let v = seen (c.replace-block.ensures.value i) in record v {

@@ -1,0 +1,304 @@
+-- These lemmas state which items of a list are kept when a closure compares each item with the last
+-- item kept before it. `R` describes the calls to the closure.
+use Rattle.std.proofs.Common.{◌≡◌, ℕ, zero, suc, ◌+◌, ◌<◌, Bool, true, false, List, [], ◌∷◌, ◌++◌, length, take, drop, refl, sym, ap, subst, ◌∙◌, arith, inl, inr, append_assoc}
+use Rattle.std.proofs.lemmas.List.{drop_at, length_push, replicate-append-replicate, take_at}
+use Rattle.std.specs.Prelude.{MatchBool, replicate}
+use Rattle.thin_vec.specs.Edits.Retain.{moved_down, trues}
+use Rattle.thin_vec.specs.Edits.Dedup.{AskedLast}
+use Rattle.thin_vec.specs.OpenBlock.Dedup.{IsPairAskedAt, PairsAskedUpTo}
+use Rattle.thin_vec.proofs.RetainLemmas.{cons-head, cons-not-nil, cons-tail, single}
+
+-- `OnPairs S T` is the type of the relations that describe a test of two items of type `T` by a
+-- closure with states of type `S`.
+abbrev pub OnPairs : Type 0 → Type 0 → Type 1
+OnPairs S T = S → T → T → Bool → S → T → T → Type 0
+
+-- If `a ++ x ∷ []` and `b ++ y ∷ []` are equal, then the last items `x` and `y` are equal, and so
+-- are the lists `a` and `b`.
+pub last-same : {X : Type 0} (a b : List X) (x y : X) → a ++ x ∷ [] ≡ b ++ y ∷ [] → (a ≡ b) × (x ≡ y)
+last-same [] [] x y e = (refl, cons-head e)
+last-same [] (z ∷ b) x y e = let n = ap length e in absurd (omega (arith, n, length_push b y))
+last-same (z ∷ a) [] x y e = let n = ap length e in absurd (omega (arith, n, length_push a x))
+last-same (z ∷ a) (q ∷ b) x y e =
+    let p = last-same a b x y (cons-tail e) in
+    ((λ i. cons-head e i ∷ p.0 i), p.1)
+
+-- `all-stay n` is a list of `n` flags that are all true. A true flag says that an item is kept.
+abbrev pub all-stay : ℕ → List Bool
+all-stay n = replicate n true
+
+-- The number of true flags in `a ++ b` is the sum of the numbers of true flags in `a` and in `b`.
+pub trues-join : (a b : List Bool) → trues (a ++ b) ≡ trues a + trues b
+trues-join [] b = omega arith
+trues-join (true ∷ a) b = let e = trues-join a b in omega arith
+trues-join (false ∷ a) b = trues-join a b
+
+-- `replicate n true` is a list of `n` true flags, and `trues` returns the number of true flags in a
+-- list. So `trues (replicate n true)` is `n`.
+trues-all : (n : ℕ) → trues (replicate n true) ≡ n
+trues-all zero = refl
+trues-all (suc n) = ap suc (trues-all n)
+
+-- `moved_down` counts the kept items after the first removed item. So `n` true flags (kept items)
+-- at the start of the flags do not change this number.
+pub moved-all : (n : ℕ) (b : List Bool) → moved_down (replicate n true ++ b) ≡ moved_down b
+moved-all zero b = refl
+moved-all (suc n) b = moved-all n b
+
+-- `MatchBool b P Q` is `P` if `b` is true, and `Q` otherwise. If `P` implies `G` and `Q` implies
+-- `G`, then `MatchBool b P Q` implies `G`.
+by-answer : (b : Bool) (P Q G : Type 0) → (P → G) → (Q → G) → MatchBool b P Q → G
+by-answer true P Q G f g m = f m
+by-answer false P Q G f g m = g m
+
+-- `MatchBool b P Q` is `P` if `b` is true, and `Q` otherwise. If `P` implies `P'`, and `Q` implies
+-- `Q'`, then `MatchBool b P Q` implies `MatchBool b P' Q'`.
+pub map-answer : (b : Bool) {P Q P' Q' : Type 0} → (P → P') → (Q → Q') → MatchBool b P Q
+    → MatchBool b P' Q'
+map-answer true f g m = f m
+map-answer false f g m = g m
+
+-- If `pre ++ l ∷ []` equals `k ∷ zs`, and `zs` is not empty, then there is a list `p` such that
+-- `pre` is `k ∷ p` and `zs` is `p ++ l ∷ []`.
+after-first : {X : Type 0} (pre zs : List X) (k l : X) → pre ++ l ∷ [] ≡ k ∷ zs → 0 < length zs
+    → (p : List X) × (zs ≡ p ++ l ∷ []) × (pre ≡ k ∷ p)
+after-first [] zs k l e some = let n = ap length e in absurd (omega (arith, n, some))
+after-first (a ∷ p) zs k l e some = (p, sym (cons-tail e), ap (λ z. z ∷ p) (cons-head e))
+
+module _ {S T : Type 0} (R : OnPairs S T) where
+  -- If the items `xs` were tested after the kept item `k`, then the list `ys` of the kept items is
+  -- not empty, because `k` is kept.
+  pub last-some : (xs : List T) (s t : S) (k : T) (stays : List Bool) (ys : List T)
+      → AskedLast R s k xs stays ys t → 0 < length ys
+  last-some [] s t k stays ys h = omega (arith, ap length h.1)
+  last-some (x ∷ xs) s t k stays ys h =
+      by-answer h.0 _ _ (0 < length ys) (λ m. last-some xs h.3 t h.2 h.4 ys m)
+      (λ m. omega (arith, ap length m.2)) h.7
+
+  -- Suppose that the item `x` is tested against the kept item `k`, and that the test changes `k` to
+  -- `k'`. If `x` is removed, then `k'` is the only item that is kept.
+  pub last-goes : (s t : S) (k x x' k' : T) → R s x k true t x' k'
+      → AskedLast R s k (x ∷ []) (false ∷ []) (k' ∷ []) t
+  last-goes s t k x x' k' h = (true, x', k', t, [], h, refl, (refl, refl, refl))
+
+  -- If testing the item `x` against the kept item `k` keeps `x` and leaves the items as `k'` and
+  -- `x'`, then the list of the kept items is `k' ∷ x' ∷ []`.
+  pub last-stays : (s t : S) (k x x' k' : T) → R s x k false t x' k'
+      → AskedLast R s k (x ∷ []) (true ∷ []) (k' ∷ x' ∷ []) t
+  last-stays s t k x x' k' h = (false, x', k', t, [], h, refl, (x' ∷ [], (refl, refl, refl), refl))
+
+  -- In this module, the items `zs` were tested after the kept item `l`. The flags `g` say which of
+  -- the items `zs` were kept, and `ws` is the list of the kept items, including `l`. The tests
+  -- changed the state of the closure from `t` to `u`.
+  module _ (t u : S) (l : T) (g : List Bool) (ws zs : List T) (m : AskedLast R t l zs g ws u) where
+    -- Suppose that testing `xs` after the kept item `k` results in the kept items `pre ++ l ∷ []`,
+    -- and that testing `zs` after `l` results in the kept items `ws`, including `l`. Then testing
+    -- `xs ++ zs` after `k` results in `pre ++ ws`.
+    pub last-append : (xs : List T) (s : S) (k : T) (f : List Bool) (pre : List T)
+        → AskedLast R s k xs f (pre ++ l ∷ []) t → AskedLast R s k (xs ++ zs) (f ++ g) (pre ++ ws) u
+    last-append [] s k f pre h =
+        let e = last-same pre [] l k h.1 in
+        subst (λ (a : List Bool). AskedLast R s k zs (a ++ g) (pre ++ ws) u) (sym h.0)
+        (subst (λ (a : List T). AskedLast R s k zs g (a ++ ws) u) (sym e.0)
+        (subst (λ (a : T). AskedLast R s a zs g ws u) e.1
+        (subst (λ (a : S). AskedLast R a l zs g ws u) h.2 m)))
+    last-append (x ∷ xs) s k f pre h = (
+      h.0,
+      h.1,
+      h.2,
+      h.3,
+      h.4 ++ g,
+      h.5,
+      ap (λ (a : List Bool). a ++ g) h.6,
+      map-answer h.0
+          (λ p. last-append xs h.3 h.2 h.4 pre p)
+          (λ q.
+          let c = after-first pre q.0 h.2 l q.2 (last-some xs h.3 t h.1 h.4 q.0 q.1) in (
+            c.0 ++ ws,
+            last-append xs h.3 h.1 h.4 c.0
+                (subst (λ (a : List T). AskedLast R h.3 h.1 xs h.4 a t) c.1 q.1),
+            ap (λ (a : List T). a ++ ws) c.2,
+          ))
+          h.7,
+    )
+
+  -- The following definitions and lemmas are about adjacent items that are all kept.
+
+  -- `PairStays` holds if the first `m` items of the list `xs` were kept. The tests turned `xs` into
+  -- `ys`, and the state `s` of the closure into `t`.
+  pub record PairStays (m : ℕ) (s : S) (xs : List T) (t : S) (ys : List T) : Type 0 where
+    pub first : T
+    pub done : List T
+    pub after : List T
+    pub pre : List T
+    pub last : T
+    pub was : xs ≡ first ∷ (done ++ after)
+    pub asked : AskedLast R s first done (all-stay (length pre)) (pre ++ last ∷ []) t
+    pub kept : suc (length pre) ≡ m
+    pub now : ys ≡ pre ++ last ∷ after
+
+  -- Before any test, `PairStays` holds for the first item of a non-empty list, because this item is
+  -- kept without a test.
+  pub pair-start : (s : S) (xs : List T) → 0 < length xs → PairStays 1 s xs s xs
+  pair-start s [] some = absurd (omega arith)
+  pair-start s (x ∷ xs) some =
+      record {
+        first = x;
+        done = [];
+        after = xs;
+        pre = [];
+        last = x;
+        was = refl;
+        asked = (refl, refl, refl);
+        kept = refl;
+        now = refl;
+      }
+
+  module _ (m : ℕ) (s : S) (xs : List T) (t : S) (ys : List T) (h : PairStays m s xs t ys) where
+    -- `NextPair b u zs a` holds if the next test, `a`, compared the first untested item with the
+    -- last kept item. It returned `b`, and left the state `u` and the list `zs`.
+    pub record NextPair (b : Bool) (u : S) (zs : List T)
+        (a : IsPairAskedAt R m t ys b u zs) : Type 0 where
+      pub front : a.before ≡ h.pre
+      pub last : a.kept ≡ h.last
+      pub after : h.after ≡ a.later ∷ a.after
+
+    -- Suppose that the next test, `a`, compared the item at index `m` with the item before it. Then
+    -- `NextPair` holds: `a` compared the first untested item with the last kept item.
+    next-pair : (b : Bool) (u : S) (zs : List T) (a : IsPairAskedAt R m t ys b u zs)
+        → NextPair b u zs a
+    next-pair b u zs a =
+        let e : h.pre ++ h.last ∷ h.after ≡ a.before ++ a.kept ∷ a.later ∷ a.after = sym h.now
+        ∙ a.was in
+        let n : length a.before ≡ length h.pre = omega (arith, a.place, h.kept) in
+        let fronts : h.pre ≡ a.before =
+        sym (take_at h.pre (h.last ∷ h.after) (length h.pre) refl)
+        ∙ (ap (take (length h.pre)) e
+        ∙ take_at a.before (a.kept ∷ a.later ∷ a.after) (length h.pre) n) in
+        let rests : h.last ∷ h.after ≡ a.kept ∷ a.later ∷ a.after =
+        sym (drop_at h.pre (h.last ∷ h.after) (length h.pre) refl)
+        ∙ (ap (drop (length h.pre)) e
+        ∙ drop_at a.before (a.kept ∷ a.later ∷ a.after) (length h.pre) n) in
+        record { front = sym fronts; last = sym (cons-head rests); after = cons-tail rests }
+
+    -- The next test, `a`, called the closure with the first untested item `a.later` and the last
+    -- kept item `h.last`.
+    next-asked : (b : Bool) (u : S) (zs : List T) (a : IsPairAskedAt R m t ys b u zs)
+        → R t a.later h.last b u a.later_left a.kept_left
+    next-asked b u zs a = subst (λ (k : T). R t a.later k b u a.later_left a.kept_left)
+        (next-pair b u zs a).last a.asked
+
+    -- The list `xs` consists of its first item, the items tested before the next test `a`, the item
+    -- that `a` tested, and the untested items.
+    next-was : (b : Bool) (u : S) (zs : List T) (a : IsPairAskedAt R m t ys b u zs)
+        → xs ≡ h.first ∷ ((h.done ++ a.later ∷ []) ++ a.after)
+    next-was b u zs a = h.was ∙ ap (λ (l : List T). h.first ∷ l)
+        (ap (λ (l : List T). h.done ++ l) (next-pair b u zs a).after
+        ∙ sym (append_assoc h.done (a.later ∷ []) a.after))
+
+    -- After the test `a`, the list `zs` contains the two items that `a` compared, as `a` left them.
+    -- All other items are unchanged.
+    next-now : (b : Bool) (u : S) (zs : List T) (a : IsPairAskedAt R m t ys b u zs)
+        → zs ≡ (h.pre ++ a.kept_left ∷ []) ++ a.later_left ∷ a.after
+    next-now b u zs a =
+        a.now ∙ (ap (λ (l : List T). l ++ a.kept_left ∷ a.later_left ∷ a.after)
+        (next-pair b u zs a).front
+        ∙ sym (append_assoc h.pre (a.kept_left ∷ []) (a.later_left ∷ a.after)))
+
+    -- `PairStays` states that the first items of a list were kept. If it holds for the first `m`
+    -- items, and the item at index `m` was then tested and kept, then it also holds for the first
+    -- `m + 1` items.
+    pub pair-more : (u : S) (zs : List T) → IsPairAskedAt R m t ys false u zs
+        → PairStays (m + 1) s xs u zs
+    pair-more u zs a =
+        let pre : List T = h.pre ++ a.kept_left ∷ [] in
+        let longer : length h.pre + 1 ≡ length pre = sym (length_push h.pre a.kept_left) in
+        let flags : all-stay (length h.pre) ++ true ∷ [] ≡ all-stay (length pre) =
+        replicate-append-replicate (length h.pre) 1 true ∙ ap (λ (n : ℕ). all-stay n) longer in
+        let asked = last-append t u h.last (true ∷ []) (a.kept_left ∷ a.later_left ∷ [])
+        (a.later ∷ [])
+        (last-stays t u h.last a.later a.later_left a.kept_left (next-asked false u zs a))
+        h.done s h.first (all-stay (length h.pre)) h.pre h.asked in
+        record {
+          first = h.first;
+          done = h.done ++ a.later ∷ [];
+          after = a.after;
+          pre = pre;
+          last = a.later_left;
+          was = next-was false u zs a;
+          asked = subst (λ (l : List T). AskedLast R s h.first (h.done ++ a.later ∷ [])
+              (all-stay (length pre)) l u)
+              (sym (append_assoc h.pre (a.kept_left ∷ []) (a.later_left ∷ [])))
+              (subst (λ (f : List Bool). AskedLast R s h.first (h.done ++ a.later ∷ []) f
+              (h.pre ++ a.kept_left ∷ a.later_left ∷ []) u) flags asked);
+          kept = omega (arith, longer, h.kept);
+          now = next-now false u zs a;
+        }
+
+    -- If the first `m` items were kept, and the test of the item at index `m` removes this item,
+    -- then `PairsAskedUpTo` holds: the tests stopped at index `m`.
+    pub pair-goes : (u : S) (zs : List T) → IsPairAskedAt R m t ys true u zs
+        → PairsAskedUpTo R m s xs u zs
+    pair-goes u zs a =
+        record {
+          first = h.first;
+          done = h.done ++ a.later ∷ [];
+          after = a.after;
+          more = length h.pre;
+          stays = all-stay (length h.pre) ++ false ∷ [];
+          left = h.pre ++ a.kept_left ∷ [];
+          over = a.later_left ∷ [];
+          was = next-was true u zs a;
+          asked = last-append t u h.last (false ∷ []) (a.kept_left ∷ []) (a.later ∷ [])
+              (last-goes t u h.last a.later a.later_left a.kept_left (next-asked true u zs a))
+              h.done s h.first (all-stay (length h.pre)) h.pre h.asked;
+          kept = h.kept;
+          long = omega (arith, length_push h.pre a.kept_left, h.kept);
+          now = next-now true u zs a;
+          stops = inl (refl, refl);
+        }
+
+  -- The following lemmas are about tests that stop at the first item to be removed. They describe
+  -- the kept items before this item.
+
+  module _ (m : ℕ) (s : S) (xs : List T) (t : S) (ys : List T)
+      (r : PairsAskedUpTo R m s xs t ys) where
+    -- The first `m` items of the list `ys` are the kept items, as the tests left them.
+    pub run-left : take m ys ≡ r.left
+    run-left = ap (take m) r.now ∙ take_at r.left (r.over ++ r.after) m r.long
+
+    -- From index `m` onward, the list `ys` consists of `r.over` (the item to be removed, if any)
+    -- and the untested items `r.after`.
+    pub run-over : drop m ys ≡ r.over ++ r.after
+    run-over = ap (drop m) r.now ∙ drop_at r.left (r.over ++ r.after) m r.long
+
+    -- If the `m` kept items at the start of `ys` are followed by `value` and then by `rest`, then
+    -- `value` is to be removed, and the items `rest` have not been tested.
+    pub run-goes : (value : T) (rest : List T) → drop m ys ≡ value ∷ rest → (r.after ≡ rest)
+        × (r.stays ≡ all-stay r.more ++ false ∷ [])
+    run-goes value rest k =
+        elim r.stops [
+          | inl p ↦ let v = single r.over p.0 in
+              (cons-tail (ap (λ (l : List T). l ++ r.after) (sym v.1) ∙ (sym run-over ∙ k)), p.1)
+          | inr q ↦ absurd (cons-not-nil (sym k ∙ (run-over ∙ (λ i. q.0 i ++ q.1.0 i))))
+        ]
+
+    -- If no item follows the `m` kept items, then no untested item remains, and all items were
+    -- kept.
+    pub run-ends : drop m ys ≡ [] → (r.after ≡ []) × (r.stays ≡ all-stay r.more)
+    run-ends k =
+        elim r.stops [
+          | inl p ↦ let v = single r.over p.0 in
+              absurd (cons-not-nil
+              (ap (λ (l : List T). l ++ r.after) (sym v.1) ∙ (sym run-over ∙ k)))
+          | inr q ↦ (q.1.0, q.1.1)
+        ]
+
+    -- Suppose that `r.stays` consists of the flags `all-stay r.more`, followed by flags `f` that
+    -- are all false. Then the number `m` of kept items is 1 plus the number of true flags in
+    -- `r.stays`. (A true flag means that a tested item is kept. The first item is kept without a
+    -- test.)
+    pub run-count : (f : List Bool) → trues f ≡ 0 → r.stays ≡ all-stay r.more ++ f
+        → suc (trues r.stays) ≡ m
+    run-count f none e =
+        omega (arith, ap trues e, trues-join (all-stay r.more) f, trues-all r.more, none, r.kept)

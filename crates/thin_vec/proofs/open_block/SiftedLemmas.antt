@@ -1,0 +1,346 @@
+-- These lemmas state what an open block (the block of a list during an edit) contains after a
+-- closure tested some of its middle items, and the items were kept or removed.
+use Rattle.std.proofs.Common.{◌≡◌, ℕ, ◌+◌, ◌<◌, ◌≤◌, Bool, true, false, List, [], ◌∷◌, ◌++◌, length, take, drop, refl, sym, ap, subst, ◌∙◌, arith, length-append, append_assoc}
+use Rattle.std.proofs.Math.Seq.{take-add}
+use Rattle.std.proofs.lemmas.List.{append-nil, drop-drop, drop_at, length-drop, length-take-le, nil_from_length, take-append-drop, take_at}
+use Rattle.thin_block.specs.Cost.{moving}
+use Rattle.thin_vec.specs.Edits.Retain.{Verdicts, Asked, flags_of, left_at, moved_down, stay, trues}
+use Rattle.thin_vec.specs.Open.{Open}
+use Rattle.thin_vec.specs.OpenBlock.Sift.{Advances, IsAskedAt, IsSifted, AskedUpTo, Sifts}
+use Rattle.thin_vec.proofs.RetainLemmas.{left_at-append, left_at-stay, moved_down-stay, moving-after, moving-more, moving-none, trues-append, trues-stay}
+use Rattle.thin_vec.proofs.open_block.TestLemmas.{Part, Stays, asked-append, part-ends, part-goes, runs-count, stays-goes, stays-more, stays-start}
+
+module _ {S T : Type 0} (R : S → T → Bool → S → T → Type 0) where
+  -- The following definitions and lemmas are about open blocks. An open block is the block of a
+  -- list during an edit.
+
+  module _ {A : Type 0} (v w : Open T A) where
+    -- Suppose that some or all middle items of the open block `v` were tested, and that each tested
+    -- item was moved to the front items or removed. If the result `w` has a gap before its middle
+    -- items, then `Sifts` (the effect of tests and removals) relates `v` to `w`.
+    pub sifts-of : (m : ℕ) (s t : S) (kept : List T) → Part R m s v.rest t kept w.rest
+        → 0 < w.gap → w ≡ record v {
+          front = v.front ++ kept;
+          gap = w.gap;
+          rest = w.rest;
+          cost = moving m v.cost;
+        } → Sifts R s v t w
+    sifts-of m s t kept p gap now =
+        record {
+          done = p.done;
+          verdicts = p.verdicts;
+          rest = p.was;
+          asked = p.asked;
+          gap = gap;
+          now = now ∙ (λ i. record v {
+            front = v.front ++ sym p.left i;
+            gap = w.gap;
+            rest = w.rest;
+            cost = moving (sym p.count i) v.cost;
+          });
+        }
+
+  -- In this module, the open block `v` has a gap of empty slots before its middle items. These
+  -- items were tested in order until a test found an item to be removed, or no item remained. The
+  -- tests turned `v` into the open block `w`, and changed the state of the closure from `s` to `t`.
+  module _ {A : Type 0} (s t : S) (v w : Open T A) (gap : 0 < v.gap)
+      (h : Advances R s v t w) where
+    -- `kept` is the list of the tested items that are kept, as the closure left them.
+    abbrev kept : List T
+    kept = take h.count h.left
+
+    -- The cost has increased by one move for each kept item.
+    moved : w.cost ≡ moving h.count v.cost
+    moved = ap (λ u. u.cost) h.now ∙ moving-after v.gap h.count v.cost gap
+
+    -- If tests turned the open block `v` into `w`, and removing the item `value` turned `w` into
+    -- `z`, then `Sifts` (the effect of tests and removals) relates `v` to `z`.
+    pub advanced-goes : (value : T) (z : Open T A) → w.rest ≡ value ∷ z.rest
+        → z ≡ record w { rest = z.rest; gap = w.gap + 1 } → Sifts R s v t z
+    advanced-goes value z rest same =
+        sifts-of v z h.count s t kept
+        (part-goes R h.count s v.rest t h.left h.run value z.rest
+        (sym (ap (λ u. u.rest) h.now) ∙ rest))
+        (omega (arith, ap (λ u. u.gap) same))
+        (same ∙ (λ i. record (h.now i)
+        { gap = sym (ap (λ u. u.gap) same) i; rest = z.rest; cost = moved i }))
+
+    -- If tests turned the open block `v` into `w`, and `w` has no middle items, then `Sifts` (the
+    -- effect of tests and removals) relates `v` to `w`.
+    pub advanced-ends : w.rest ≡ [] → Sifts R s v t w
+    advanced-ends none =
+        sifts-of v w h.count s t kept
+        (subst (λ (l : List T). Part R h.count s v.rest t kept l) (sym none)
+        (part-ends R h.count s v.rest t h.left h.run (sym (ap (λ u. u.rest) h.now) ∙ none)))
+        (omega (arith, ap (λ u. u.gap) h.now, gap))
+        (λ i. record (h.now i) { gap = w.gap; rest = w.rest; cost = moved i })
+
+    -- The tests do not increase the number of middle items.
+    pub advanced-count : length w.rest ≤ length v.rest
+    advanced-count = omega (
+      arith,
+      ap (λ u. length u.rest) h.now,
+      length-drop h.count h.left,
+      runs-count R h.count s v.rest t h.left h.run,
+    )
+
+  -- Let `IsAskedAt` hold for the first item of `drop n ys`. Then it holds for the item at index `n`
+  -- of `ys`.
+  asked-later : (n : ℕ) (t : S) (ys : List T) (b : Bool) (u : S) (zs : List T) → n ≤ length ys
+      → IsAskedAt R 0 t (drop n ys) b u zs → IsAskedAt R n t ys b u (take n ys ++ zs)
+  asked-later n t ys b u zs low a =
+      let none = nil_from_length a.before a.place in
+      record {
+        before = take n ys;
+        item = a.item;
+        left = a.left;
+        after = a.after;
+        place = length-take-le n ys low;
+        was = sym (take-append-drop n ys) ∙ ap (λ (l : List T). take n ys ++ l)
+            (a.was ∙ ap (λ (l : List T). l ++ a.item ∷ a.after) none);
+        asked = a.asked;
+        now = ap (λ (l : List T). take n ys ++ l)
+            (a.now ∙ ap (λ (l : List T). l ++ a.left ∷ a.after) none);
+      }
+
+  -- `Keeps s v t w` states that the first `count` middle items of the open block `v` were tested
+  -- and kept, and that each of them was moved to the end of the front items. This changed the block
+  -- from `v` to `w`, and the state of the test from `s` to `t`. The list `left` contains all middle
+  -- items of `v`, as the tests left them.
+  pub record Keeps {A : Type 0} (s : S) (v : Open T A) (t : S) (w : Open T A) : Type 0 where
+    pub count : ℕ
+    pub left : List T
+    pub run : Stays R count s v.rest t left
+    pub now : w ≡ record v {
+      front = v.front ++ take count left;
+      rest = drop count left;
+      cost = moving count v.cost;
+    }
+
+  -- Before the first test, `Keeps` holds for no items.
+  pub keeps-start : {A : Type 0} (s : S) (v : Open T A) → Keeps s v s v
+  keeps-start s v =
+      record {
+        count = 0;
+        left = v.rest;
+        run = stays-start R s v.rest;
+        now = λ i. record v
+            { front = sym (append-nil v.front) i; cost = sym (moving-none v.cost) i };
+      }
+
+  module _ {A : Type 0} (s : S) (v : Open T A) (t : S) (w : Open T A) (h : Keeps s v t w) where
+    -- The number of kept items is at most the number of all middle items of `v`.
+    room : h.count ≤ length h.left
+    room = omega
+        (arith, ap length h.run.now, length-append h.run.left h.run.more, h.run.reached)
+
+    -- In this module, the first middle item of `w` was tested. The test returned `b`, and changed
+    -- the middle items to `zs`, the state of the test to `u`, and the block to `z`.
+    module _ (b : Bool) (u : S) (zs : List T) (a : IsAskedAt R 0 t w.rest b u zs) (z : Open T A)
+        (changes : z ≡ record w { rest = zs }) where
+      -- `all` contains all middle items of `v`, as the tests left them.
+      abbrev all : List T
+      all = take h.count h.left ++ zs
+
+      -- The test was a test of the item at index `count` of the middle items of `v`.
+      asked-all : IsAskedAt R h.count t h.left b u all
+      asked-all = asked-later h.count t h.left b u zs room
+          (subst (λ (l : List T). IsAskedAt R 0 t l b u zs) (ap (λ x. x.rest) h.now) a)
+
+      -- The test did not change the items that were kept before it.
+      before-is : take h.count all ≡ take h.count h.left
+      before-is = take_at (take h.count h.left) zs h.count (length-take-le h.count h.left room)
+
+      -- From index `count` onward, the items are `zs`.
+      after-is : drop h.count all ≡ zs
+      after-is = drop_at (take h.count h.left) zs h.count (length-take-le h.count h.left room)
+
+      -- If the test keeps the item, and the item is moved to the end of the front items, then
+      -- `Keeps` holds for one more item.
+      pub keeps-more : b ≡ true → (y : Open T A) → y ≡ record z {
+        front = z.front ++ take 1 z.rest;
+        rest = drop 1 z.rest;
+        cost = moving 1 z.cost;
+      } → Keeps s v u y
+      keeps-more stays y moved =
+          let n = h.count in
+          record {
+            count = n + 1;
+            left = all;
+            run = stays-more R n s v.rest t h.left h.run u all
+                (subst (λ (c : Bool). IsAskedAt R n t h.left c u all) stays asked-all);
+            now = moved
+                ∙ ((λ i. let x = changes i in record x {
+                  front = x.front ++ take 1 x.rest;
+                  rest = drop 1 x.rest;
+                  cost = moving 1 x.cost;
+                })
+                ∙ ((λ i. let x = h.now i in record x {
+                  front = x.front ++ take 1 zs;
+                  rest = drop 1 zs;
+                  cost = moving 1 x.cost;
+                })
+                ∙ (λ i. record v {
+                  front = (append_assoc v.front (take n h.left) (take 1 zs)
+                      ∙ ap (λ (l : List T). v.front ++ l)
+                      ((λ j. sym before-is j ++ take 1 (sym after-is j))
+                      ∙ sym (take-add n 1 all))) i;
+                  rest = (ap (drop 1) (sym after-is) ∙ drop-drop 1 n all) i;
+                  cost = moving-more 1 n v.cost i;
+                })));
+          }
+
+      -- If the test does not keep the item, then the search for the next item to be removed ends at
+      -- this item.
+      pub keeps-goes : b ≡ false → 0 < v.gap → Advances R s v u z
+      keeps-goes goes gap =
+          let n = h.count in
+          record {
+            count = n;
+            left = all;
+            run = stays-goes R n s v.rest t h.left h.run u all
+                (subst (λ (c : Bool). IsAskedAt R n t h.left c u all) goes asked-all);
+            now = changes
+                ∙ ((λ i. record (h.now i) { rest = zs })
+                ∙ (λ i. record v {
+                  front = v.front ++ sym before-is i;
+                  rest = sym after-is i;
+                  cost = sym (moving-after v.gap n v.cost gap) i;
+                }));
+          }
+
+    -- `Sifts`, the effect of tests and removals, holds for tests that keep all tested items.
+    pub keeps-sifts : 0 < v.gap → Sifts R s v t w
+    keeps-sifts gap =
+        let n = h.count in
+        let r = h.run in
+        sifts-of v w n s t (take n h.left)
+        (record {
+          done = r.run;
+          verdicts = stay r.left;
+          was = r.was ∙ ap (λ (l : List T). r.run ++ l)
+              (sym (ap (λ x. x.rest) h.now
+              ∙ (ap (drop n) r.now ∙ drop_at r.left r.more n r.reached)));
+          asked = r.asked;
+          left = left_at-stay r.left ∙ sym (ap (take n) r.now ∙ take_at r.left r.more n r.reached);
+          count = trues-stay r.left ∙ r.reached;
+        })
+        (omega (arith, gap, ap (λ x. x.gap) h.now))
+        (h.now ∙ (λ i. record v {
+          front = v.front ++ take n h.left;
+          gap = sym (ap (λ x. x.gap) h.now) i;
+          rest = sym (ap (λ x. x.rest) h.now) i;
+          cost = moving n v.cost;
+        }))
+
+  -- `Sifts` (the effect of tests and removals) relates the open block `v` to itself before the
+  -- first test, if `v` has a gap before its middle items.
+  pub sifts-start : {A : Type 0} (s : S) (v : Open T A) → 0 < v.gap → Sifts R s v s v
+  sifts-start s v gap =
+      record {
+        done = [];
+        verdicts = [];
+        rest = refl;
+        asked = (refl, refl);
+        gap = gap;
+        now = λ i. record v
+            { front = sym (append-nil v.front) i; cost = sym (moving-none v.cost) i };
+      }
+
+  -- `Sifts`, the effect of tests and removals, is transitive: if it relates the open block `v` to
+  -- `w`, and `w` to `z`, then it relates `v` to `z`.
+  pub sifts-then : {A : Type 0} {s t u : S} {v w z : Open T A} → Sifts R s v t w
+      → Sifts R t w u z → Sifts R s v u z
+  sifts-then {s = s} {t} {u} {v} {w} {z} h k =
+      record {
+        done = h.done ++ k.done;
+        verdicts = h.verdicts ++ k.verdicts;
+        rest = h.rest ∙ (ap (λ (l : List T). h.done ++ l) k.rest
+            ∙ sym (append_assoc h.done k.done z.rest));
+        asked = asked-append R t u k.done k.verdicts k.asked h.done s h.verdicts h.asked;
+        gap = k.gap;
+        now = k.now ∙ ((λ i. let u = h.now i in record u {
+          front = u.front ++ left_at true k.verdicts;
+          gap = z.gap;
+          rest = z.rest;
+          cost = moving (trues (flags_of k.verdicts)) u.cost;
+        })
+            ∙ (λ i. record v {
+              front = (append_assoc v.front (left_at true h.verdicts) (left_at true k.verdicts)
+                  ∙ ap (λ (l : List T). v.front ++ l)
+                  (sym (left_at-append h.verdicts k.verdicts))) i;
+              gap = z.gap;
+              rest = z.rest;
+              cost = (moving-more (trues (flags_of k.verdicts)) (trues (flags_of h.verdicts)) v.cost
+                  ∙ ap (λ (n : ℕ). moving n v.cost) (sym (trues-append h.verdicts k.verdicts))) i;
+            }));
+      }
+
+  module _ {A : Type 0} (v w : Open T A) (m : ℕ) (s t : S) (ys : List T)
+      (run : AskedUpTo R m s v.rest t ys) where
+    -- `Passed` states that the open block `w` is `v` after the first `m` tested items were kept
+    -- without being moved. These items are added to the front items. Apart from this, `w` may
+    -- differ from `v` only in its gap and its middle items.
+    abbrev Passed : Type 0
+    Passed = w ≡ record v
+        { front = v.front ++ take m ys; gap = w.gap; rest = w.rest }
+
+    -- Let `value` be the first item to be removed. If the open block `v` becomes `z` when `value`
+    -- is removed and all later middle items are tested, then `IsSifted` relates `v` to `z`.
+    -- `IsSifted` describes the effect of all these tests together.
+    pub sifted-goes : (value : T) (u : S) (z : Open T A) → Passed → drop m ys ≡ value ∷ w.rest
+        → Sifts R t w u z → z.rest ≡ [] → IsSifted R s v u z
+    unfolding part-goes
+    sifted-goes value u z p k h none =
+        let part = part-goes R m s v.rest t ys run value w.rest k in
+        let stays : List T = run.left in
+        let verdicts : Verdicts T = part.verdicts ++ h.verdicts in
+        let up : moved_down (flags_of verdicts) ≡ trues (flags_of h.verdicts) =
+        ap (λ (a : Verdicts T). moved_down (flags_of a))
+        (append_assoc (stay stays) ((false, value) ∷ []) h.verdicts)
+        ∙ moved_down-stay stays ((false, value) ∷ h.verdicts) in
+        let all : h.done ≡ w.rest =
+        sym (h.rest ∙ (ap (λ (l : List T). h.done ++ l) none ∙ append-nil h.done)) in
+        record {
+          verdicts = verdicts;
+          asked = subst (λ (l : List T). Asked R s l verdicts u)
+              (ap (λ (l : List T). part.done ++ l) all ∙ sym part.was)
+              (asked-append R t u h.done h.verdicts h.asked part.done s part.verdicts part.asked);
+          now = h.now ∙ ((λ i. let u = p i in record u {
+            front = u.front ++ left_at true h.verdicts;
+            gap = z.gap;
+            rest = none i;
+            cost = moving (sym up i) u.cost;
+          })
+              ∙ (λ i. record v {
+                front = (ap (λ (l : List T). (v.front ++ l) ++ left_at true h.verdicts)
+                    (sym part.left)
+                    ∙ (append_assoc v.front (left_at true part.verdicts) (left_at true h.verdicts)
+                    ∙ ap (λ (l : List T). v.front ++ l)
+                    (sym (left_at-append part.verdicts h.verdicts)))) i;
+                gap = z.gap;
+                rest = [];
+                cost = moving (moved_down (flags_of verdicts)) v.cost;
+              }));
+        }
+
+    -- If the tests found no item to be removed, then `IsSifted` (the effect of all tests) relates
+    -- the open block `v` before them to the open block `w` after them.
+    pub sifted-ends : Passed → drop m ys ≡ [] → w.rest ≡ [] → IsSifted R s v t w
+    unfolding part-ends
+    sifted-ends p k none =
+        let part = part-ends R m s v.rest t ys run k in
+        let up : moved_down (flags_of part.verdicts) ≡ 0 =
+        ap (λ (a : Verdicts T). moved_down (flags_of a)) (sym (append-nil part.verdicts))
+        ∙ moved_down-stay run.left [] in
+        record {
+          verdicts = part.verdicts;
+          asked = subst (λ (l : List T). Asked R s l part.verdicts t)
+              (sym (append-nil part.done) ∙ sym part.was) part.asked;
+          now = p ∙ (λ i. record v {
+            front = v.front ++ sym part.left i;
+            gap = w.gap;
+            rest = none i;
+            cost = (sym (moving-none v.cost) ∙ ap (λ (n : ℕ). moving n v.cost) (sym up)) i;
+          });
+        }

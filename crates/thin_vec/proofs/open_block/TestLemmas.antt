@@ -1,0 +1,228 @@
+-- These lemmas state which items of a list are kept when a closure tests them one after the other.
+-- `R` describes the calls to the closure, and `s`, `t` and `u` are its states.
+use Rattle.std.proofs.Common.{◌≡◌, ℕ, suc, ◌+◌, Bool, true, false, List, [], ◌∷◌, ◌++◌, length, take, drop, refl, sym, ap, subst, ◌∙◌, arith, length-append, append_assoc}
+use Rattle.std.proofs.lemmas.List.{append-nil, drop_at, map_push, take_at}
+use Rattle.thin_vec.specs.Edits.Retain.{Verdicts, Asked, flags_of, left_at, stay, trues}
+use Rattle.thin_vec.specs.OpenBlock.Sift.{IsAskedAt, AskedUpTo, Stops}
+use Rattle.thin_vec.proofs.RetainLemmas.{cons-head, cons-not-nil, cons-tail, left_at-append, left_at-stay, trues-append, trues-stay}
+
+module _ {S T : Type 0} (R : S → T → Bool → S → T → Type 0) where
+  -- In this module, the items `ys` were tested with the results `b`. The tests changed the state of
+  -- the closure from `t` to `u`.
+  module _ (t u : S) (ys : List T) (b : Verdicts T) (k : Asked R t ys b u) where
+    -- If testing `xs` takes the closure from the state `s` to `t` with the verdicts `a`, and
+    -- testing `ys` takes it from `t` to `u` with the verdicts `b`, then testing `xs ++ ys` takes it
+    -- from `s` to `u` with the verdicts `a ++ b`.
+    pub asked-append : (xs : List T) (s : S) (a : Verdicts T) → Asked R s xs a t
+        → Asked R s (xs ++ ys) (a ++ b) u
+    asked-append [] s a h = subst (λ (c : Verdicts T). Asked R s ys (c ++ b) u) (sym h.0)
+        (subst (λ (q : S). Asked R q ys b u) h.1 k)
+    asked-append (x ∷ xs) s a h = (
+      h.0,
+      h.1,
+      h.2,
+      h.3 ++ b,
+      h.4,
+      asked-append xs h.2 h.3 h.5,
+      ap (λ (c : Verdicts T). c ++ b) h.6,
+    )
+
+  -- If testing the item `x` returned `b` and changed `x` to `y`, then `Asked` holds for the list
+  -- `x ∷ []`: all its items were tested.
+  pub asked-one : (s t : S) (x y : T) (b : Bool) → R s x b t y → Asked R s (x ∷ []) ((b, y) ∷ []) t
+  asked-one s t x y b h = (b, y, t, [], h, (refl, refl), refl)
+
+  -- The following definitions and lemmas are about adjacent items that a closure tests and keeps.
+
+  -- `Stays` holds if the first `m` items of the list `xs` were tested and kept. The tests turned
+  -- `xs` into `ys`, and the closure's state `s` into `t`.
+  pub record Stays (m : ℕ) (s : S) (xs : List T) (t : S) (ys : List T) : Type 0 where
+    pub run : List T
+    pub left : List T
+    pub more : List T
+    pub reached : length left ≡ m
+    pub was : xs ≡ run ++ more
+    pub asked : Asked R s run (stay left) t
+    pub now : ys ≡ left ++ more
+
+  -- `Stays` states that the first items were tested and kept. Before the first test, it holds for
+  -- no items: the state `s` and the list `xs` have not changed.
+  pub stays-start : (s : S) (xs : List T) → Stays 0 s xs s xs
+  stays-start s xs =
+      record {
+        run = [];
+        left = [];
+        more = xs;
+        reached = refl;
+        was = refl;
+        asked = (refl, refl);
+        now = refl;
+      }
+
+  module _ (m : ℕ) (s : S) (xs : List T) (t : S) (ys : List T) (h : Stays m s xs t ys) where
+    -- If `a` is the test of the item at index `m`, then `h.left` contains the items before it, and
+    -- `h.more` is this item, followed by `a.after`.
+    next-parts : (b : Bool) (u : S) (zs : List T) (a : IsAskedAt R m t ys b u zs)
+        → (a.before ≡ h.left) × (h.more ≡ a.item ∷ a.after)
+    next-parts b u zs a =
+        let e : h.left ++ h.more ≡ a.before ++ a.item ∷ a.after = sym h.now ∙ a.was in (
+          sym (take_at a.before (a.item ∷ a.after) m a.place)
+              ∙ (ap (take m) (sym e) ∙ take_at h.left h.more m h.reached),
+          sym (drop_at h.left h.more m h.reached)
+              ∙ (ap (drop m) e ∙ drop_at a.before (a.item ∷ a.after) m a.place),
+        )
+
+    -- The test `a` of the item at index `m` changes no other item of the list.
+    next-now : (b : Bool) (u : S) (zs : List T) (a : IsAskedAt R m t ys b u zs)
+        → zs ≡ h.left ++ a.left ∷ a.after
+    next-now b u zs a = a.now ∙ ap (λ (l : List T). l ++ a.left ∷ a.after) (next-parts b u zs a).0
+
+    -- If `Stays` holds for the first `m` items, and the test of the item at index `m` keeps it,
+    -- then `Stays` holds for the first `m + 1` items.
+    pub stays-more : (u : S) (zs : List T) → IsAskedAt R m t ys true u zs
+        → Stays (m + 1) s xs u zs
+    stays-more u zs a =
+        let joined : stay h.left ++ (true, a.left) ∷ [] ≡ stay (h.left ++ a.left ∷ []) =
+        sym (map_push (λ (x : T). (true, x)) h.left a.left) in
+        record {
+          run = h.run ++ a.item ∷ [];
+          left = h.left ++ a.left ∷ [];
+          more = a.after;
+          reached = omega (arith, h.reached, length-append h.left (a.left ∷ []));
+          was = h.was ∙ (ap (λ (l : List T). h.run ++ l) (next-parts true u zs a).1
+              ∙ sym (append_assoc h.run (a.item ∷ []) a.after));
+          asked = subst (λ (c : Verdicts T). Asked R s (h.run ++ a.item ∷ []) c u) joined
+              (asked-append t u (a.item ∷ []) ((true, a.left) ∷ [])
+              (asked-one t u a.item a.left true a.asked) h.run s (stay h.left) h.asked);
+          now = next-now true u zs a ∙ sym (append_assoc h.left (a.left ∷ []) a.after);
+        }
+
+    -- If the closure keeps the first `m` items and removes the item at index `m`, then the tests
+    -- stop at index `m`, as `AskedUpTo` states.
+    pub stays-goes : (u : S) (zs : List T) → IsAskedAt R m t ys false u zs
+        → AskedUpTo R m s xs u zs
+    stays-goes u zs a =
+        record {
+          run = h.run;
+          left = h.left;
+          after = a.item ∷ a.after;
+          end = a.left ∷ a.after;
+          between = t;
+          reached = h.reached;
+          was = h.was ∙ ap (λ (l : List T). h.run ++ l) (next-parts false u zs a).1;
+          asked = h.asked;
+          stops = (a.left, a.asked, refl);
+          now = next-now false u zs a;
+        }
+
+  -- Suppose that a closure has tested and kept all items of `xs`. Then `ys`, the list of these
+  -- items as the tests left them, has the same length as `xs`.
+  stay-count : (xs : List T) (s t : S) (ys : List T) → Asked R s xs (stay ys) t
+      → length xs ≡ length ys
+  stay-count [] s t [] h = refl
+  stay-count [] s t (y ∷ ys) h = absurd (cons-not-nil h.0)
+  stay-count (x ∷ xs) s t [] h = absurd (cons-not-nil (sym h.6))
+  stay-count (x ∷ xs) s t (y ∷ ys) h =
+      ap suc (stay-count xs h.2 t ys
+      (subst (λ (a : Verdicts T). Asked R h.2 xs a t) (sym (cons-tail h.6)) h.5))
+
+  -- The test that ends a sequence of tests does not change the number of items: the list `b` of the
+  -- items after the kept items is as long as the resulting list `e`.
+  stop-count : (u : S) (b : List T) (t : S) (e : List T) → Stops R u b t e → length e ≡ length b
+  stop-count u [] t e h = ap length h.0
+  stop-count u (x ∷ b) t e h = ap length h.2
+
+  -- If a closure tested the items of `xs` up to the first item to be removed, then the resulting
+  -- list `ys` has the same length as `xs`.
+  pub runs-count : (m : ℕ) (s : S) (xs : List T) (t : S) (ys : List T) → AskedUpTo R m s xs t ys
+      → length ys ≡ length xs
+  runs-count m s xs t ys r =
+      omega (
+        arith,
+        ap length r.was,
+        ap length r.now,
+        length-append r.run r.after,
+        length-append r.left r.end,
+        stay-count r.run s r.between r.left r.asked,
+        stop-count r.between r.after t r.end r.stops,
+      )
+
+  -- The following definition and lemmas are about tests that stop at the first item to be removed.
+  -- They state which items were kept before this item.
+
+  -- `Part m s xs t kept rest` states that all items of the list `xs` were tested, except the items
+  -- `rest` at its end. `kept` is the list of the `m` kept items, as the closure left them. The
+  -- tests changed the state of the closure from `s` to `t`.
+  pub record Part (m : ℕ) (s : S) (xs : List T) (t : S) (kept rest : List T) : Type 0 where
+    pub done : List T
+    pub verdicts : Verdicts T
+    pub was : xs ≡ done ++ rest
+    pub asked : Asked R s done verdicts t
+    pub left : left_at true verdicts ≡ kept
+    pub count : trues (flags_of verdicts) ≡ m
+
+  module _ (m : ℕ) (s : S) (xs : List T) (t : S) (ys : List T) (r : AskedUpTo R m s xs t ys) where
+    -- The first `m` items of the list `ys` are the kept items, as the closure left them.
+    pub run-kept : take m ys ≡ r.left
+    run-kept = ap (take m) r.now ∙ take_at r.left r.end m r.reached
+
+    -- From index `m` onward, the list `ys` consists of the items `r.end`: the item to be removed,
+    -- if there is one, and the untested items.
+    pub run-end : drop m ys ≡ r.end
+    run-end = ap (drop m) r.now ∙ drop_at r.left r.end m r.reached
+
+    -- If the last test turned the list `b` into `v ∷ rest`, then `b` was `x ∷ rest` for some item
+    -- `x`, and the test returned false for `x` and left it as `v`.
+    pub stop-goes : (u : S) (b e : List T) (v : T) (rest : List T) → Stops R u b t e → e ≡ v ∷ rest
+        → (x : T) × (b ≡ x ∷ rest) × R u x false t v
+    stop-goes u [] e v rest h k = absurd (cons-not-nil (sym k ∙ h.0))
+    stop-goes u (x ∷ b) e v rest h k =
+        let same : h.0 ∷ b ≡ v ∷ rest = sym h.2 ∙ k in (
+          x,
+          ap (λ (l : List T). x ∷ l) (cons-tail same),
+          subst (λ (y : T). R u x false t y) (cons-head same) h.1,
+        )
+
+    -- If the `m` kept items at the start of `ys` are followed by `v` and then by `rest`, then `v`
+    -- is to be removed, and the items `rest` have not been tested.
+    unfoldable pub part-goes : (v : T) (rest : List T) → drop m ys ≡ v ∷ rest → Part m s xs t (take m ys) rest
+    part-goes v rest k =
+        let g = stop-goes r.between r.after r.end v rest r.stops (sym run-end ∙ k) in
+        record {
+          done = r.run ++ g.0 ∷ [];
+          verdicts = stay r.left ++ (false, v) ∷ [];
+          was = r.was ∙ (ap (λ (l : List T). r.run ++ l) g.1
+              ∙ sym (append_assoc r.run (g.0 ∷ []) rest));
+          asked = asked-append r.between t (g.0 ∷ []) ((false, v) ∷ [])
+              (asked-one r.between t g.0 v false g.2) r.run s (stay r.left) r.asked;
+          left = left_at-append (stay r.left) ((false, v) ∷ [])
+              ∙ (append-nil (left_at true (stay r.left)) ∙ (left_at-stay r.left ∙ sym run-kept));
+          count = let none : trues (flags_of (let one : Verdicts T = (false, v) ∷ [] in one)) ≡ 0 =
+              refl in omega (
+                arith,
+                trues-append (stay r.left) ((false, v) ∷ []),
+                trues-stay r.left,
+                r.reached,
+                none,
+              );
+        }
+
+    -- `Stops R u b t e` describes the end of a sequence of tests, which left the items `b` after
+    -- the kept items as `e`. If `e` is empty, then `b` is also empty, and the state of the closure
+    -- did not change: `t` is `u`.
+    pub stop-ends : (u : S) (b e : List T) → Stops R u b t e → e ≡ [] → (b ≡ []) × (t ≡ u)
+    stop-ends u [] e h k = (refl, h.1)
+    stop-ends u (x ∷ b) e h k = absurd (cons-not-nil (sym h.2 ∙ k))
+
+    -- If no item follows the kept items, then all items were tested and kept.
+    unfoldable pub part-ends : drop m ys ≡ [] → Part m s xs t (take m ys) []
+    part-ends k =
+        let g = stop-ends r.between r.after r.end r.stops (sym run-end ∙ k) in
+        record {
+          done = r.run;
+          verdicts = stay r.left;
+          was = r.was ∙ ap (λ (l : List T). r.run ++ l) g.0;
+          asked = subst (λ (q : S). Asked R s r.run (stay r.left) q) (sym g.1) r.asked;
+          left = left_at-stay r.left ∙ sym run-kept;
+          count = trues-stay r.left ∙ r.reached;
+        }
