@@ -56,7 +56,7 @@ pub fn room_for_eight<A: Allocator>(alloc: A) -> Result<ThinVec<u64, A>, ThinVec
 ///
 /// Fails only if the allocator fails. On failure, the list is unchanged. The lemma `few_more` shows
 /// that the capacity of such a short list cannot overflow.
-#[tactic(auto, using(thin_vec::proofs::FewLemmas::few_more))]
+#[tactic(auto, using(thin_vec::proofs::CallerLemmas::few_more))]
 pub fn reserve_eight<A: Allocator>(list: &mut ThinVec<u64, A>) -> Result<(), ThinVecError>
     requires few { length list.old.items < 1000 }
     ensures room { OnOk result (HasRoomFor list.new 8) }

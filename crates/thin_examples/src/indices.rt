@@ -63,7 +63,7 @@ pub fn set_to_zero<A: Allocator, G: Growth>(list: &mut ThinVec<u32, A, G>)
 ///
 /// Fails if there is no room for `value`. On failure, the items of the list are unchanged, and the
 /// error contains `value`.
-#[tactic(auto, using(thin_vec::proofs::UndoLemmas::undone))]
+#[tactic(auto, using(thin_vec::proofs::CallerLemmas::undone))]
 pub fn insert_and_remove<T: Drop, A: Allocator, G: Growth>(
     list: &mut ThinVec<T, A, G>,
     index: usize,

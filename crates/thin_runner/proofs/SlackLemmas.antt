@@ -6,7 +6,7 @@ use Rattle.std.proofs.lemmas.List.{length_push}
 use Rattle.std.proofs.lemmas.List.Elements.{All-head, All-tail}
 use Rattle.thin_vec.specs.Growth.{KeepsLaw, Rule, doubling, ruled_capacity}
 use Rattle.thin_vec.specs.ThinVec.{Thin}
-use Rattle.thin_vec.proofs.FewLemmas.{doubling-most}
+use Rattle.thin_vec.proofs.CallerLemmas.{doubling-most}
 use Rattle.thin_vec.proofs.ThinVecLemmas.{cap-kept}
 use Rattle.thin_runner.specs.Env.{Env}
 use Rattle.thin_runner.specs.Steps.{Steps}

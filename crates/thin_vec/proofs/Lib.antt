@@ -2,11 +2,7 @@
 -- `pub`.
 mod ListLemmas
 pub mod ThinVecLemmas
-pub mod UndoLemmas
-pub mod FewLemmas
-pub mod SliceLemmas
-pub mod TakenLemmas
-pub mod CollectLemmas
+pub mod CallerLemmas
 pub mod EditLemmas
 mod LendsLemmas
 mod PutLemmas

@@ -16,6 +16,11 @@ pub length-empty : (T : Type 0) (k : ℕ) → length (empty {T = T} k) ≡ k
 length-empty T k = length-replicate {A = Option T} k None
 
 module _ {T : Type 0} where
+  -- If the slots `s` are equal to some number of empty slots, then this number is the length of `s`.
+  pub empty-alone : (s : List (Option T)) (n : ℕ) → s ≡ empty n → s ≡ empty (length s)
+  empty-alone s n e =
+      e ∙ ap (λ (k : ℕ). empty k) (sym (ap (λ (r : List (Option T)). length r) e ∙ length-empty T n))
+
   -- A list of empty slots contains no items.
   pub items-empty : (k : ℕ) → items_in {T = T} (replicate k None) ≡ []
   items-empty zero = refl

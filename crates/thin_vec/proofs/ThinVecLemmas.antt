@@ -99,6 +99,15 @@ module _ {T A : Type 0} (v : Thin T A) (c : ℕ) where
       go true = refl
       go false = refl
 
+  -- A change of the capacity takes at most one request for memory.
+  pub cost_at-blocks : (cost_at v c).blocks ≤ v.cost.blocks + 1
+  cost_at-blocks = go (eqb c v.capacity)
+    where
+      go : (b : Bool) → (if b then v.cost else growing (length v.items) v.cost).blocks
+          ≤ v.cost.blocks + 1
+      go true = omega arith
+      go false = omega arith
+
 -- These rewrite rules compute the cost of growing a list. They are for proofs that can compare the
 -- capacities before and after the growth.
 pub ruleset costs = (cost_at-same, cost_at-more)

@@ -18,7 +18,7 @@ pub use edits::{Drain, ExtractIf, Splice};
 pub use edits::{Extracting, Holder, Holds, Picks};
 pub use errors::{CollectRefused, ExtendRefused, Rejected, SpliceRefused};
 pub use list::ThinVec;
-pub use macros::{place, repeated};
+pub use macros::repeated;
 #[doc(hidden)]
 pub use open_block::OpenBlock;
 pub use ranges::bounds;

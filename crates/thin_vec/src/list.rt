@@ -1,5 +1,9 @@
 //! This file declares the type `ThinVec`, says how contracts describe a list, and contains the most
 //! common methods. The other methods are in the folders `list`, `convert` and `edits`.
+//!
+//! In contracts, `OnOk result P` states that `P` holds if `result` is `Ok`, and `IfOk result P`
+//! states that `P` holds for the value in `Ok`. `OnErr` and `IfErr` do the same for `Err`. `T.row`
+//! describes the type `T`; it determines the size and the alignment of an item.
 ghost use Rattle.std.specs.Prelude.{◌≡◌, ◌↔◌, ◌+◌, ◌-◌, ◌<◌, ◌==◌, [], ◌∷◌, ◌++◌, IfErr, IsOk, IsSome, IsTrue, None, OnErr, OnOk, Some, length, slice_index_or, take};
 ghost use Rattle.std.specs.Option.{option_to_list};
 ghost use Rattle.thin_block.specs.Block.{IsFrom};
@@ -20,7 +24,6 @@ mod resize;
 mod shrink;
 
 use crate::errors::Rejected;
-use crate::put::drop_items;
 use std::alloc::{Allocator, Global};
 use std::marker::{Model, PhantomData};
 use thin_block::{Block, Doubling, Growth, ThinVecError};
@@ -146,11 +149,8 @@ impl<T, A: Allocator, G: Growth> ThinVec<T, A, G> {
     ///
     /// # Errors
     ///
-    /// Fails only if the list has to grow. On failure, the list is unchanged, and `value` is
-    /// returned in the error.
-    ///
-    /// - `CapacityOverflow`: the new capacity would be too large.
-    /// - `OutOfMemory`: the allocator failed.
+    /// Fails if and only if `reserve(1)` would fail, for the same cause. On failure, the list is
+    /// unchanged, and `value` is returned in the error.
     pub fn push(&mut self, value: T) -> Result<(), Rejected<T>>
         // On success.
         ensures items { OnOk result (self.new.items ≡ self.old.items ++ value ∷ []) }
@@ -163,8 +163,7 @@ impl<T, A: Allocator, G: Growth> ThinVec<T, A, G> {
         ensures err { OnErr result (self.new ≡ self.old) }
         ensures value_returned { IfErr result (λ error. error.value ≡ value) }
 
-        // The call changes the capacity exactly as `reserve(1)` would, and it fails if and only if
-        // `reserve(1)` would fail.
+        // In every case, the capacity changes as `reserve(1)` would change it.
         ensures reserves { Reserves G.rule T.row 1 self.old self.new (causes result) }
         ensures keeps { Keeps T.row self.old self.new }
     {
@@ -285,12 +284,15 @@ impl<T: Drop, A: Allocator, G: Growth> Drop for ThinVec<T, A, G> {
     }
 }
 
-// Drops the items in the block of a list, and then frees the block.
+// Drops the items in the block of a list, and then frees the block. The loop is not part of `drop`,
+// which is inlined, so that it is compiled only once for each type of list.
 fn drop_block<T: Drop, A: Allocator>(mut block: Block<T, A>, alloc: A)
     requires packed { IsPacked block.slots block.len }
     requires from { IsFrom block.alloc alloc }
 {
     let len = block.len();
-    drop_items(&mut block, len);
+    for i in 0..len {
+        drop(block.take(i));
+    }
     block.release(&alloc);
 }

@@ -1,11 +1,11 @@
-//! The macro `thin_vec!`, which makes a list of its arguments, and the functions that the macro
+//! The macro `thin_vec!`, which makes a list of its arguments, and the function that its third form
 //! calls.
-ghost use Rattle.std.specs.Prelude.{◌≡◌, [], ◌∷◌, ◌++◌, IfOk, IsOk, Some, replicate};
+ghost use Rattle.std.specs.Prelude.{◌≡◌, [], IfOk, IsOk, Some, replicate};
 ghost use Rattle.thin_block.specs.Cost.{moving};
 ghost use Rattle.thin_block.specs.Growth.{doubling, ruled_capacity};
 ghost use Rattle.thin_vec.specs.List.Clones.{CloneEquals, IsResized};
-ghost use Rattle.thin_vec.specs.ThinVec.{HasRoomFor, cost_new};
-ghost use Rattle.thin_vec.specs.List.Capacity.{Keeps, TellsOverflow, IsMade};
+ghost use Rattle.thin_vec.specs.ThinVec.{cost_new};
+ghost use Rattle.thin_vec.specs.List.Capacity.{TellsOverflow, IsMade};
 
 use crate::list::ThinVec;
 use std::alloc::Allocator;
@@ -50,7 +50,7 @@ macro_rules! thin_vec {
     ($alloc:expr => $($item:expr),+ $(,)?) => {
         match $crate::ThinVec::with_capacity($alloc, $crate::count_items!($($item),+)) {
             Ok(mut list) => {
-                $($crate::place(&mut list, $item);)+
+                $($crate::ThinVec::push_reserved(&mut list, $item);)+
                 Ok::<_, $crate::ThinVecError>(list)
             }
             Err(cause) => Err(cause),
@@ -75,19 +75,6 @@ macro_rules! count_items {
     ($item:expr, $($rest:expr),+) => {
         1 + $crate::count_items!($($rest),+)
     };
-}
-
-/// Appends `value` to `list`, which must have room for one more item. After the call, `list` owns
-/// `value`. `thin_vec!` calls this function once for each item.
-#[doc(hidden)]
-pub fn place<T, A: Allocator>(list: &mut ThinVec<T, A>, value: T)
-    requires room { HasRoomFor list.old 1 }
-    ensures items { list.new.items ≡ list.old.items ++ value ∷ [] }
-    ensures cost { list.new.cost ≡ moving 1 list.old.cost }
-    ensures capacity { list.new.capacity ≡ list.old.capacity }
-    ensures keeps { Keeps T.row list.old list.new }
-{
-    list.push_reserved(value);
 }
 
 /// Makes the list for `thin_vec![alloc => value; count]`: clones of `value`, and then `value`

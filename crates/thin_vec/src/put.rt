@@ -1,11 +1,10 @@
-//! Loops that put items into the empty slots of a block, and a loop that drops all items of a
-//! block.
+//! Loops that put items into the empty slots of a block.
 ghost use Rattle.std.specs.Iterator.{IsFinite};
 ghost use Rattle.std.specs.List.{FoldsTo};
 ghost use Rattle.std.specs.Prelude.{◌≡◌, ℕ, ◌+◌, ◌-◌, ◌<◌, ◌≤◌, List, HoldsAt, length, replicate};
 ghost use Rattle.thin_block.specs.Block.{seen};
 ghost use Rattle.thin_block.specs.Cost.{moving};
-ghost use Rattle.thin_block.specs.Slots.{AreEmpty, IsPacked, empty, full, laid, slot};
+ghost use Rattle.thin_block.specs.Slots.{AreEmpty, full, laid, slot};
 ghost use Rattle.thin_vec.specs.List.Clones.{LaysClones};
 ghost use Rattle.thin_vec.specs.Put.{IsFilledBy};
 
@@ -23,17 +22,6 @@ pub(crate) struct Filled<I> {
     pub(crate) end: usize,
     /// Whether the iterator returned `None` before the slots were full.
     pub(crate) ended: bool,
-}
-
-// Drops all items of `block`. The items are in the first `len` slots.
-pub(crate) fn drop_items<T: Drop, A: Allocator>(block: &mut Block<T, A>, len: usize)
-    requires packed { IsPacked block.old.slots len }
-    ensures changes { seen block.new
-        ≡ record (seen block.old) { slots = empty (length block.old.slots) } }
-{
-    for i in 0..len {
-        drop(block.take(i));
-    }
 }
 
 // Moves the items of the vector `items` into the empty slots from index `start` onward, in the same

@@ -1,36 +1,15 @@
--- These lemmas say which capacities a growth rule may choose, and what the block of a list contains
--- after a change of the capacity.
-use Rattle.std.proofs.Common.{◌≡◌, ℕ, ◌^◌, ◌<◌, ◌≤◌, Err, Ok, Result, Some, None, arith, refl, subst, sym, ◌-◌, List, [], ◌++◌, length, take, Option, ap, ◌∙◌}
-use Rattle.std.specs.Align.{type_align}
-use Rattle.std.specs.Borrow.{RattleType}
-use Rattle.std.specs.Mem.{type_size}
-use Rattle.std.specs.Prelude.{IfSome, OnErr, OnOk, Option}
+-- These lemmas say what the block of a list contains after a change of the capacity.
+use Rattle.std.proofs.Common.{◌≡◌, ℕ, ◌<◌, ◌≤◌, Err, Ok, Result, Some, None, arith, refl, subst, sym, ◌-◌, List, [], ◌++◌, length, take, Option, ap, ◌∙◌}
+use Rattle.std.specs.Prelude.{OnErr, OnOk}
 use Rattle.thin_block.proofs.Outcomes.{some-same}
 use Rattle.thin_block.specs.Block.{seen}
 use Rattle.thin_block.specs.Cost.{Cost, growing}
-use Rattle.thin_block.specs.Growth.{Grows, KeepsLaw, Rule}
 use Rattle.std.proofs.Math.Seq.{take-append_seam}
 use lib.ListN.{replicate}
 use Rattle.thin_block.specs.Slots.{empty, items_in, front}
 use Rattle.thin_block.specs.declared.block.Block.{Block}
 use Rattle.thin_vec.specs.ThinVec.{IsThin}
 use Rattle.thin_vec.proofs.ListLemmas.{Settled, settled, length-front, thin-room, front-grow}
-
-module _ (rule : Rule) (law : KeepsLaw rule) (R : RattleType) where
-  -- Suppose that a block of capacity `c` has to grow to hold `w` items. If the growth rule chooses
-  -- a capacity, this capacity satisfies `Grows`: it is at least `w` and at least twice `c`, and can
-  -- be allocated.
-  pub grows-rule : (w : ℕ) {c c' w' : ℕ} {o : Option ℕ}
-      → o ≡ rule (type_size R) (type_align R) c w → c ≡ c' → w ≡ w' → c < w → w < 2 ^ 64
-      → IfSome o (λ n. Grows R c' w' n)
-  grows-rule w {o = None} e p q l h = tt
-  grows-rule w {c} {o = Some n} e p q l h =
-      let g = law (type_size R) (type_align R) c w n l h (sym e) in
-      record {
-        enough = omega (arith, g.enough, q);
-        doubled = omega (arith, g.doubled, p);
-        fits = g.fits;
-      }
 
 module _ {T : Type 0} where
   -- `empty c` is a row of `c` empty slots. It is equal to `front [] c`, the slots of an empty list

@@ -21,7 +21,7 @@ use Rattle.thin_block.proofs.CapacityLemmas.{ruled-grows}
 use Rattle.thin_block.proofs.SlotsLemmas.{laid-one}
 use Rattle.std.specs.Prelude.{◌⊎◌}
 use Rattle.thin_vec.specs.List.Extend.{IsCollected, CostsAdding, IsKeptOrRuled, IsLoose, PausedAfter}
-use Rattle.thin_vec.specs.ThinVec.{Thin, capacity_for, cost_at}
+use Rattle.thin_vec.specs.ThinVec.{IsNew, Thin, capacity_for, cost_at, exact_for}
 use Rattle.thin_vec.specs.declared.errors.ExtendRefused.{ExtendRefused}
 use Rattle.thin_vec.proofs.RetainLemmas.{moving-more, moving-none}
 use Rattle.thin_vec.proofs.ListLemmas.{length-full}
@@ -213,6 +213,15 @@ module _ (rule : Rule) (R : RattleType) (law : KeepsLaw rule) where
         | inl more ↦ inr (length v.items + k, d, more, e, omega arith)
         | inr spare ↦ inl (cap-kept rule R law v k d spare e)
       ]
+
+-- A new list has no items and the capacity 0. So reserving room for exactly `h` more items needs the
+-- same capacity as making a new list with room for `h` items.
+pub exact-new : {T A : Type 0} (R : RattleType) (v : Thin T A) (a : A) (h : ℕ) → IsNew v a
+    → exact_for R v h ≡ exact_capacity R 0 h
+exact-new R v a h new =
+    let all : length v.items + h ≡ h = omega (arith, ap length new.items) in
+    ap (λ (n : ℕ). exact_capacity R n (length v.items + h)) new.capacity
+    ∙ ap (λ (n : ℕ). exact_capacity R 0 n) all
 
 module _ {T A : Type 0} where
   -- Suppose that appending `k` items to the list `v` takes `k` moves and at most one reallocation,

@@ -1,6 +1,5 @@
 -- These lemmas are for calls that insert or remove items. They say what the block of a list
 -- contains during such a call and after it.
-use Rattle.thin_vec.proofs.list.CapacityLemmas.{front-none}
 use Rattle.std.proofs.Common.{◌≡◌, ◌≢◌, ℕ, zero, suc, ◌+◌, ◌-◌, ◌<◌, ◌≤◌, List, [], ◌∷◌, ◌++◌, length, take, drop, Option, Some, None, refl, sym, ap, ◌∙◌, subst, arith, get_or, length-append, append_assoc}
 use Rattle.std.proofs.Math.Seq.{drop-length, take-append_seam}
 use Rattle.std.proofs.lemmas.List.{set_comm, set-append_left, length-replicate, length-take-le, length_push, take-append-drop, replicate-append-replicate, set_at, get_or_at, map-append, length-take, length-drop}
@@ -280,14 +279,6 @@ module _ {T : Type 0} where
       ∙ ap (λ (l : List T). front l c) (sym cut))))
 
 module _ {T A : Type 0} where
-  -- If all slots of the block `b` are emptied, and the stored length becomes 0, the new block `b'`
-  -- is the block of an empty list with the same capacity.
-  pub settle-emptied : {b : Block T A} {a : A} → IsThin b a → (b' : Block T A)
-      {s : List (Option T)} {m : Cost} → IsWritten b b' s 0 m → s ≡ empty (length b.slots)
-      → Settled b' a [] (length b.slots)
-  settle-emptied {b} t b' w e =
-      settle-front t b' [] (length b.slots) w (e ∙ front-none (length b.slots)) refl (omega arith)
-
   module _ {b : Block T A} {a : A} (t : IsThin b a) (b' : Block T A) (i last : ℕ) where
     -- If the last item `m` is moved into slot `i` in place of the item there, then `b'` is the
     -- block of the list after `swap_remove` at index `i`. (`swap_remove` uses `v` only for an empty

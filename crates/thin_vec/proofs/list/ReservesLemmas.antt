@@ -1,16 +1,21 @@
 -- These lemmas prove that calls satisfy `Keeps`, `Reserves` and `TellsOverflow`. These three
 -- definitions say how a call may change the capacity of a list, and which error the call returns.
-use Rattle.std.proofs.Common.{◌≡◌, ℕ, ◌+◌, Err, Ok, Option, Result, Some, ap, arith, inl, inr, length, sym, ◌∙◌}
+use Rattle.std.proofs.Common.{◌≡◌, ℕ, ◌+◌, Err, List, Ok, Option, Result, Some, ap, arith, inl, inr, length, sym, ◌∙◌}
 use Rattle.std.specs.Borrow.{RattleType}
 use Rattle.std.specs.Prelude.{IfErr}
 use Rattle.thin_block.specs.declared.errors.ThinVecError.{ThinVecError}
 use Rattle.thin_block.specs.declared.errors.ThinVecError.TheVariants.{CapacityOverflow, OutOfMemory}
+use Rattle.thin_block.specs.Capacity.{Fits}
+use Rattle.thin_block.specs.Cost.{Cost}
 use Rattle.thin_block.specs.Growth.{Rule, exact_capacity}
+use Rattle.thin_block.specs.declared.block.Block.{Block}
 use Rattle.thin_block.proofs.CapacityLemmas.{ruled-same}
 use Rattle.thin_block.proofs.Outcomes.{err-same, none-some, ok-err}
 use Rattle.thin_vec.specs.Cheap.{IsCheap}
 use Rattle.thin_vec.specs.List.Capacity.{Keeps, Reserves, TellsOverflow, TellsOverflowOf}
-use Rattle.thin_vec.specs.ThinVec.{HasRoomFor, IsWithin, Thin, capacity_for}
+use Rattle.thin_vec.specs.ThinVec.{HasRoomFor, IsThin, IsWithin, Thin, capacity_for, thin_of}
+use Rattle.thin_vec.proofs.ListLemmas.{Settled}
+use Rattle.thin_vec.proofs.ThinVecLemmas.{within-kept}
 
 -- `TellsOverflow named r` states that the result `r` is the error `CapacityOverflow` if and only if
 -- `named` is `None`. This lemma proves it if `r` is `Ok x` and `named` is `Some n`.
@@ -77,6 +82,21 @@ module _ {T A : Type 0} (R : RattleType) (v : Thin T A) where
     cheap = cheap-kept w capacity cost;
     within = within;
   }
+
+  -- Suppose that a call changed the block `b` of the list `v` to the block `b'` of a list with the
+  -- items `xs` and the same capacity, and that it only added moves to the recorded cost. Then
+  -- `Keeps` holds for the list before and after the call.
+  pub keeps-settled : {b b' : Block T A} {a : A} {xs : List T} {k : Cost} → IsThin b a
+      → thin_of b a ≡ v → Fits R (length b.slots) → Settled b' a xs (length b.slots)
+      → b'.cost ≡ k → (k.blocks ≡ b.cost.blocks) × (k.grown ≡ b.cost.grown)
+      → Keeps R v (thin_of b' a)
+  keeps-settled {b} {b'} {a} {xs} thin is fits after cost (blocks, grown) =
+      keeps-kept (thin_of b' a) (ap (λ (z : Thin T A). z.alloc) is)
+      (after.cap ∙ ap (λ (z : Thin T A). z.capacity) is) (
+        ap (λ (c : Cost). c.blocks) cost ∙ (blocks ∙ ap (λ (z : Thin T A). z.cost.blocks) is),
+        ap (λ (c : Cost). c.grown) cost ∙ (grown ∙ ap (λ (z : Thin T A). z.cost.grown) is),
+      )
+      (within-kept R b a b' v xs thin is fits after)
 
   module _ (rule : Rule) where
     -- `Reserves` states how a call that needs room for `k` more items may change the capacity, and

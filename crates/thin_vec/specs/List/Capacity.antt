@@ -45,7 +45,8 @@ module _ {T A : Type 0} where
   -- the result `r`.
   pub record Reserves (rule : Rule) (R : RattleType) (k : ℕ) (v w : Thin T A)
       {X : Type 0} (r : Result X ThinVecError) : Type 0 where
-    -- If `v` has room for `k` more items, the capacity does not change.
+    -- If `v` has room for `k` more items, the capacity does not change. This follows from the fields
+    -- `ok` and `err`.
     pub had_room : HasRoomFor v k → w.capacity ≡ v.capacity
     -- On success, the new capacity is `capacity_for rule R v k`: the old capacity if there was
     -- enough room, and otherwise the capacity that the growth rule chooses.
@@ -58,8 +59,8 @@ module _ {T A : Type 0} where
     pub overflow : IsErrOf r CapacityOverflow ↔ (capacity_for rule R v k ≡ None)
 
   -- `Keeps R v w` describes a call that changed the list `v` of items of the type `R` to `w`. The
-  -- allocator did not change, the capacity did not shrink, and the bound `IsCheap` on the cost was
-  -- preserved.
+  -- allocator did not change, the capacity did not shrink (which follows from `Reserves`, where both
+  -- hold), and the bound `IsCheap` on the cost was preserved.
   pub record Keeps (R : RattleType) (v w : Thin T A) : Type 0 where
     pub alloc : w.alloc ≡ v.alloc
     pub never_less : v.capacity ≤ w.capacity

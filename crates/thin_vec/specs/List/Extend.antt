@@ -1,8 +1,9 @@
 -- The definitions in this file describe calls that add the items of an iterator to a list, such as
 -- std's `Vec::extend`. In this file, `v` is the list before the call, `w` is the list after the
 -- call, and `R` is the type of the items. The number `left` is an upper bound on the number of
--- items that the iterator may still yield.
-use Rattle.std.specs.Prelude.{◌≡◌, ◌↔◌, ◌⊎◌, ℕ, ◌+◌, ◌<◌, ◌≤◌, IsSome, List, ◌++◌, Option, length}
+-- items that the iterator may still yield. `IsWithinCount h left` is std's: `h` is at most `left`,
+-- if `left` is finite.
+use Rattle.std.specs.Prelude.{◌≡◌, ◌↔◌, ◌⊎◌, ℕ, ◌+◌, ◌-◌, ◌<◌, ◌≤◌, IsSome, List, ◌++◌, Option, length}
 use Rattle.std.specs.Iterator.{Count, IsFinite, Yields, size}
 use Rattle.std.specs.Iterator.SizeHint.{IsWithinCount}
 use Rattle.std.specs.declared.option.Option.TheVariants.{None, Some}
@@ -34,7 +35,8 @@ IsLoose rule R c d =
     (d ≡ c) ⊎ ((w : ℕ) × (n : ℕ) × (c < w) × (ruled_capacity rule R c w ≡ Some n) × (n ≤ d))
 
 -- `IsRuled rule R d n` holds if the growth rule `rule` may choose the capacity `d` for a list that
--- needs room for at most `n` items of the type `R`.
+-- needs room for at most `n` items of the type `R`. The number `e` is the capacity before the last
+-- growth. (`IsLoose` compares the new capacity with the one before the call.)
 abbrev pub IsRuled : Rule → RattleType → ℕ → ℕ → Type 0
 IsRuled rule R d n = (e w : ℕ) × (e < w) × (w ≤ n) × (ruled_capacity rule R e w ≡ Some d)
 
@@ -59,12 +61,20 @@ abbrev pub IsCollected : Rule → RattleType → ℕ → ℕ → Count → Type 
 IsCollected rule R d n left =
     IsRuled rule R d n ⊎ ((h : ℕ) × IsWithinCount h left × (exact_capacity R 0 h ≡ Some d))
 
+-- `RequestsAtMost b n left` bounds the number `b` of requests for memory of a call that appended `n`
+-- items of an iterator: there was at most one request for the first `h` items, and at most one for
+-- each item after them. Here, `h` is a possible lower bound in the size hint of the iterator, which
+-- could yield at most `left` items.
+abbrev pub RequestsAtMost : ℕ → ℕ → Count → Type 0
+RequestsAtMost b n left = (h : ℕ) × IsWithinCount h left × (b ≤ 1 + (n - h))
+
 module _ {T A : Type 0} where
   -- `GrowsFor rule R v w left` restricts the capacity of the list `w`, which is the list `v` after
   -- items of an iterator were added. The growth rule is `rule`, the item type is `R`, and the
   -- iterator could yield at most `left` items.
   pub record GrowsFor (rule : Rule) (R : RattleType) (v w : Thin T A) (left : Count) : Type 0 where
-    -- If `v` has room for all items that the iterator may yield, the capacity does not change.
+    -- If `v` has room for all items that the iterator may yield, the capacity does not change. In
+    -- particular, nothing is allocated if the iterator cannot yield any item.
     pub had_room : HasRoomFor v (size left) → w.capacity ≡ v.capacity
     -- The capacity does not change, or the new capacity is at least a capacity that the growth rule
     -- chooses when a block of the old capacity grows.
@@ -96,18 +106,27 @@ module _ {T A : Type 0} where
     -- which the capacity grew.
     pub copied : w.cost.grown + v.capacity ≤ v.cost.grown + w.capacity
 
+  -- `CostsExtending v w left` bounds the recorded cost of a call that appended the items of an
+  -- iterator, and changed the list from `v` to `w`. The iterator could yield at most `left` items.
+  pub record CostsExtending (v w : Thin T A) (left : Count) : Type 0 where
+    pub adding : CostsAdding v w 0
+    pub requests : RequestsAtMost (w.cost.blocks - v.cost.blocks)
+        (length w.items - length v.items) left
+
   -- `IsCollectedList rule R a w left` describes a new list `w` that was made from the items of an
   -- iterator. The allocator is `a`, the growth rule is `rule`, and the item type is `R`. The
   -- iterator could yield at most `left` items.
   pub record IsCollectedList (rule : Rule) (R : RattleType) (a : A) (w : Thin T A) (left : Count)
       : Type 0 where
-    -- If the iterator cannot yield any items, the list has the capacity 0 after the call.
+    -- If the iterator cannot yield any items, the list has the capacity 0 after the call, so nothing
+    -- was allocated.
     pub none : size left ≡ 0 → w.capacity ≡ 0
     -- The capacity of `w` is either one that the growth rule may choose for at most
     -- `length w.items` items, or a possible lower bound in the size hint of the iterator.
     pub ruled : IsCollected rule R w.capacity (length w.items) left
     -- Each item was moved exactly once.
     pub moves : w.cost.moves ≡ length w.items
+    pub requests : RequestsAtMost w.cost.blocks (length w.items) left
     -- `w` is a valid new list with the allocator `a`. Its cost is bounded in terms of its capacity,
     -- and its length is at most its capacity.
     pub made : IsMade R a w
@@ -130,7 +149,8 @@ module _ {T A : Type 0} where
 
   -- `FailsAtHint rule R w left cause` states that a call failed with `cause` because the list `w`
   -- has no room for `h` more items of the type `R`. Here, `h` is a possible lower bound in the size
-  -- hint of an iterator with at most `left` items. The growth rule is `rule`.
+  -- hint of an iterator with at most `left` items. The growth rule is `rule`. The contract cannot say
+  -- which `h` it was: std's contract of `size_hint` bounds the result, but gives it no name.
   abbrev pub FailsAtHint : Rule → RattleType → Thin T A → Count → ThinVecError → Type 0
   FailsAtHint rule R w left cause =
       (h : ℕ) × IsWithinCount h left × ¬ (HasRoomFor w h)

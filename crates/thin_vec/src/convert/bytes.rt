@@ -21,10 +21,7 @@ impl<A: Allocator> ThinVec<u8, A> {
     ///
     /// # Errors
     ///
-    /// On failure, no list is made, and `alloc` is dropped.
-    ///
-    /// - `CapacityOverflow`: the capacity would be too large.
-    /// - `OutOfMemory`: the allocator failed.
+    /// Fails in the same cases as `with_capacity`. On failure, `alloc` is dropped.
     pub fn from_str(alloc: A, text: &str) -> Result<ThinVec<u8, A>, ThinVecError>
         // On success.
         ensures items { IfOk result (λ list. list.items ≡ text.now) }
@@ -81,14 +78,7 @@ impl<A: Allocator, G: Growth> Write for ThinVec<u8, A, G> {
         Ok(buf.len())
     }
 
-    /// Appends all bytes of `buf`. If there is not enough spare capacity, the list first grows to
-    /// the capacity that the growth rule chooses.
-    ///
-    /// # Errors
-    ///
-    /// Fails only if the list has to grow, and either the new capacity would be too large or the
-    /// allocator fails. In both cases, the kind of the error is `OutOfMemory`, because std has no
-    /// `ErrorKind` for a capacity overflow. On failure, the list is unchanged.
+    /// Appends all bytes of `buf`, as `write` does, and fails in the same cases.
     fn write_all(&mut self, buf: &[u8]) -> io::Result<()>
         // On success.
         ensures items { OnOk result (self.new.items ≡ self.old.items ++ buf.now) }

@@ -26,10 +26,8 @@ impl<T, A: Allocator> ThinVec<T, A> {
     ///
     /// # Errors
     ///
-    /// On failure, the error holds the array, so the caller owns it again. `alloc` is dropped.
-    ///
-    /// - `CapacityOverflow`: a capacity of `N` would be too large.
-    /// - `OutOfMemory`: the allocator failed.
+    /// Fails in the same cases as `with_capacity`. On failure, the error holds the array, so the
+    /// caller owns it again, and `alloc` is dropped.
     pub fn from_array<const N: usize>(
         alloc: A,
         items: [T; N],
@@ -67,10 +65,8 @@ impl<T, A: Allocator> ThinVec<T, A> {
     ///
     /// # Errors
     ///
-    /// On failure, the error holds the vector, so the caller owns it again. `alloc` is dropped.
-    ///
-    /// - `CapacityOverflow`: the capacity would be too large.
-    /// - `OutOfMemory`: the allocator failed.
+    /// Fails in the same cases as `with_capacity`. On failure, the error holds the vector, so the
+    /// caller owns it again, and `alloc` is dropped.
     pub fn from_vec<B: Allocator>(
         alloc: A,
         items: Vec<T, B>,
@@ -107,11 +103,8 @@ impl<T, A: Allocator> ThinVec<T, A> {
     ///
     /// # Errors
     ///
-    /// On failure, the error holds the boxed slice, so the caller owns it again. `alloc` is
-    /// dropped.
-    ///
-    /// - `CapacityOverflow`: the capacity would be too large.
-    /// - `OutOfMemory`: the allocator failed.
+    /// Fails in the same cases as `with_capacity`. On failure, the error holds the boxed slice, so
+    /// the caller owns it again, and `alloc` is dropped.
     pub fn from_boxed_slice<B: Allocator>(
         alloc: A,
         items: BoxedSlice<T, B>,
@@ -171,10 +164,7 @@ impl<T: Copy, A: Allocator> ThinVec<T, A> {
     ///
     /// # Errors
     ///
-    /// On failure, no list is made, and `alloc` is dropped.
-    ///
-    /// - `CapacityOverflow`: the capacity would be too large.
-    /// - `OutOfMemory`: the allocator failed.
+    /// Fails in the same cases as `with_capacity`. On failure, `alloc` is dropped.
     pub fn from_copies(alloc: A, items: &[T]) -> Result<ThinVec<T, A>, ThinVecError>
         // On success.
         ensures items { IfOk result (λ list. list.items ≡ items.now) }
@@ -205,10 +195,8 @@ impl<T: Clone, A: Allocator> ThinVec<T, A> {
     ///
     /// # Errors
     ///
-    /// On failure, `alloc` and all clones are dropped.
-    ///
-    /// - `CapacityOverflow`: the capacity would be too large.
-    /// - `OutOfMemory`: the allocator failed, or an item could not be cloned.
+    /// Fails in the same cases as `with_capacity`, and with `OutOfMemory` if an item cannot be
+    /// cloned. On failure, `alloc` and all clones are dropped.
     #[tactic(auto, using(thin_block::proofs::CapacityLemmas::exact))]
     pub fn from_slice(alloc: A, items: &[T]) -> Result<ThinVec<T, A>, ThinVecError>
         // On success.
@@ -233,7 +221,8 @@ impl<T: Clone, A: Allocator> ThinVec<T, A> {
     }
 }
 
-// Returns the number of items in the array `items`. The contract states that this number is `N`.
+// Returns the number of items in the array `items`. The contract states that this number is `N`, and
+// `from_array` needs this fact after the array was moved.
 fn count<T, const N: usize>(items: &[T; N]) -> usize
     ensures value { result ≡ N }
     ensures length { result ≡ length items.now }

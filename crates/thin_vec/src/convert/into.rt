@@ -1,5 +1,5 @@
 //! Conversions of a list into a vector, a boxed slice or an array.
-ghost use Rattle.std.specs.Prelude.{◌≡◌, ◌↔◌, ◌≤◌, [], IfErr, IfOk, IsOk, length, vec_capacity, vec_len};
+ghost use Rattle.std.specs.Prelude.{◌≡◌, ◌↔◌, IfErr, IfOk, IsOk, length, vec_capacity, vec_len};
 ghost use Rattle.std.specs.Box.{boxed_slice_items, boxed_slice_len};
 ghost use Rattle.thin_vec.specs.ThinVec.{IsWithin};
 
@@ -32,30 +32,21 @@ impl<T, A: Allocator, G: Growth> ThinVec<T, A, G> {
         ensures value_returned { IfErr result (λ refused. refused.value ≡ self) }
         ensures err_within { IfErr result (λ refused. IsWithin T.row refused.value) }
     {
-        match Vec::with_capacity(alloc, self.len()) {
-            Ok(vec) => Ok(self.moved_to(vec)),
-            Err(_refused) => Err(Rejected {
-                value: self,
-                cause: ThinVecError::OutOfMemory,
-            }),
-        }
-    }
-
-    // Moves the items of the list into the vector `vec`, in order, and returns `vec`. The vector
-    // must be empty, and must have room for the items. The allocation of the list is freed.
-    fn moved_to(self, mut vec: Vec<T, A>) -> Vec<T, A>
-        requires empty { vec.items ≡ [] }
-        requires room { length self.items ≤ vec_capacity vec }
-        ensures items { result.items ≡ self.items }
-        ensures len { vec_len result ≡ length self.items }
-        ensures capacity { vec_capacity result ≡ vec_capacity vec }
-    {
+        let mut vec = match Vec::with_capacity(alloc, self.len()) {
+            Ok(vec) => vec,
+            Err(_refused) => {
+                return Err(Rejected {
+                    value: self,
+                    cause: ThinVecError::OutOfMemory,
+                });
+            }
+        };
         let mut rest = self.into_iter();
         while let Some(item) = rest.next() {
             vec.push_reserved(item);
         }
         rest.release();
-        vec
+        Ok(vec)
     }
 
     /// Moves the items of the list, in order, into a new boxed slice that uses the allocator
@@ -95,7 +86,7 @@ impl<T, A: Allocator, G: Growth> ThinVec<T, A, G> {
     ///
     /// Fails if the number of items is not `N`. The error is the unchanged list, so the caller owns
     /// it again.
-    pub fn into_array<const N: usize>(mut self) -> Result<[T; N], ThinVec<T, A, G>>
+    pub fn into_array<const N: usize>(self) -> Result<[T; N], ThinVec<T, A, G>>
         // On success.
         ensures items { IfOk result (λ items. items ≡ self.items) }
 
@@ -109,22 +100,9 @@ impl<T, A: Allocator, G: Growth> ThinVec<T, A, G> {
         if self.len() != N {
             return Err(self);
         }
-        let items = self.take_all();
-        self.release();
+        let (mut block, alloc) = self.into_parts();
+        let items = block.take_array(0);
+        block.release(&alloc);
         Ok(items)
-    }
-
-    // Moves all items of the list into an array, and returns the array. The list must have exactly
-    // `N` items. After the call, the list is empty, and keeps its allocation.
-    fn take_all<const N: usize>(&mut self) -> [T; N]
-        requires all { length self.old.items ≡ N }
-        ensures value { result ≡ self.old.items }
-        ensures items { self.new.items ≡ [] }
-    {
-        // This call is needed only for the proof: the contract of `len` limits the number of items.
-        let _len = self.len();
-        let items = self.block.take_array(0);
-        self.block.set_len(0);
-        items
     }
 }

@@ -1,9 +1,9 @@
 //! The methods that reserve room in a list. Only the function `grow_to` grows a list, and only the
-//! function `capacity_for` calls the growth rule.
-ghost use Rattle.std.specs.Prelude.{◌≡◌, ◌+◌, ◌<◌, ◌≤◌, [], IfErr, IfOk, IfSome, IsErrOf, IsFalse, IsOk, IsTrue, None, OnErr, OnOk, Some, length};
+//! function `grow_for` calls the growth rule.
+ghost use Rattle.std.specs.Prelude.{◌≡◌, ◌+◌, ◌<◌, ◌≤◌, [], IfErr, IfOk, IsOk, OnErr, OnOk, Some, length};
 ghost use Rattle.thin_block.specs.Capacity.{Fits};
 ghost use Rattle.thin_block.specs.Cost.{growing};
-ghost use Rattle.thin_block.specs.Growth.{Grows, exact_capacity};
+ghost use Rattle.thin_block.specs.Growth.{Grows};
 ghost use Rattle.thin_vec.specs.List.Capacity.{Keeps, Reserves, TellsOverflow, TellsOverflowOf, IsMade};
 
 use crate::list::ThinVec;
@@ -12,8 +12,7 @@ use std::marker::PhantomData;
 use thin_block::{Block, Growth, ThinVecError, fits};
 
 impl<T, A: Allocator, G: Growth> ThinVec<T, A, G> {
-    ghost use Rattle.thin_vec.specs.Cheap.{IsCheap};
-    ghost use Rattle.thin_vec.specs.ThinVec.{HasRoomFor, IsCause, IsWithin, capacity_for, cost_at, cost_new, exact_for};
+    ghost use Rattle.thin_vec.specs.ThinVec.{HasRoomFor, IsWithin, capacity_for, cost_at, cost_new, exact_for};
 
     /// Reserves room for at least `additional` more items. If there is not enough room, the list
     /// grows to the capacity that the growth rule chooses, which is at least twice the old
@@ -97,43 +96,9 @@ impl<T, A: Allocator, G: Growth> ThinVec<T, A, G> {
         }
     }
 
-    // Reserves room for exactly `capacity` items in a list without a block. Unlike `reserve_exact`,
-    // this function does not test whether there is already room.
-    #[tactic(auto, using(thin_block::proofs::CapacityLemmas::exact))]
-    pub(crate) fn reserve_first(&mut self, capacity: usize) -> Result<(), ThinVecError>
-        requires none { self.old.capacity ≡ 0 }
-        requires within { IsWithin T.row self.old }
-
-        // The call succeeds if `capacity` is 0, and fails with `CapacityOverflow` if `capacity` is
-        // too large. Every other failure has the cause `OutOfMemory`.
-        ensures succeeds_empty { capacity ≡ 0 → IsOk result }
-        ensures overflow { exact_capacity T.row 0 capacity ≡ None
-            → IsErrOf result ThinVecError.CapacityOverflow }
-        ensures cause { IfErr result (IsCause (exact_capacity T.row 0 capacity)) }
-
-        // On success, only the fields `capacity` and `cost` change. On failure, nothing changes.
-        ensures changes { self.new ≡ record self.old {
-          capacity = self.new.capacity;
-          cost = self.new.cost;
-        } }
-        ensures capacity { OnOk result
-            (exact_capacity T.row 0 capacity ≡ Some self.new.capacity) }
-        ensures had_room { capacity ≡ 0 → self.new.capacity ≡ self.old.capacity }
-        ensures cost { OnOk result (self.new.cost ≡ cost_at self.old self.new.capacity) }
-        ensures err { OnErr result (self.new ≡ self.old) }
-        ensures within { IsWithin T.row self.new }
-    {
-        if capacity == 0 {
-            return Ok(());
-        }
-        if !fits::<T>(capacity) {
-            return Err(ThinVecError::CapacityOverflow);
-        }
-        self.grow_to(capacity)
-    }
-
     // Reserves room for at least `additional` more items, with the same contract as `reserve`. If
-    // `additional` is a constant, the compiled code checks for room with a single comparison.
+    // `additional` is a constant, this test for room compiles to one instruction less than the test
+    // of `reserve`, because the sum is the new length. Otherwise, it compiles to more instructions.
     #[tactic(auto, using(thin_block::proofs::CapacityLemmas::ruled))]
     pub(crate) fn reserve_run(&mut self, additional: usize) -> Result<(), ThinVecError>
         // On success.
@@ -151,30 +116,18 @@ impl<T, A: Allocator, G: Growth> ThinVec<T, A, G> {
         ensures reserves { Reserves G.rule T.row additional self.old self.new result }
         ensures keeps { Keeps T.row self.old self.new }
     {
-        if !self.has_room_for(additional) {
+        let len = self.len();
+        let cap = self.capacity();
+        if additional > isize::MAX as usize || len + additional > cap {
             return self.grow_for(additional);
         }
         Ok(())
     }
 
-    // Returns whether there is room for `additional` more items. Returns false if `additional`
-    // exceeds `isize::MAX`, so `length + additional` cannot overflow.
-    fn has_room_for(&self, additional: usize) -> bool
-        ensures within { IsWithin T.row self.now }
-        ensures room { IsTrue result → HasRoomFor self.now additional }
-        ensures more { IsFalse result → self.now.capacity < length self.now.items + additional }
-    {
-        let len = self.len();
-        let cap = self.capacity();
-        if additional > isize::MAX as usize {
-            return false;
-        }
-        len + additional <= cap
-    }
-
     // Grows the list to make room for `additional` more items. The list must have too little room
     // for them. Most calls to `reserve` do not need this function.
     #[cold]
+    #[tactic(auto, using(thin_block::proofs::CapacityLemmas::ruled))]
     fn grow_for(&mut self, additional: usize) -> Result<(), ThinVecError>
         requires more { self.old.capacity < length self.old.items + additional }
 
@@ -195,25 +148,12 @@ impl<T, A: Allocator, G: Growth> ThinVec<T, A, G> {
         ensures err { OnErr result (self.new ≡ self.old) }
         ensures within { IsWithin T.row self.old × IsWithin T.row self.new }
     {
-        match self.capacity_for(additional) {
+        let Some(want) = self.len().checked_add(additional) else {
+            return Err(ThinVecError::CapacityOverflow);
+        };
+        match G::next_capacity::<T>(self.capacity(), want) {
             Some(next) => self.grow_to(next),
             None => Err(ThinVecError::CapacityOverflow),
-        }
-    }
-
-    // Returns the capacity that the growth rule chooses for `additional` more items, or `None` if
-    // there is no such capacity. The list must not have room for these items yet.
-    #[tactic(auto, using(thin_block::proofs::CapacityLemmas::ruled))]
-    fn capacity_for(&self, additional: usize) -> Option<usize>
-        requires more { self.now.capacity < length self.now.items + additional }
-        ensures value { result ≡ capacity_for G.rule T.row self.now additional }
-        ensures grown { IfSome result
-            (λ next. Grows T.row self.now.capacity (length self.now.items + additional) next) }
-        ensures within { IsWithin T.row self.now }
-    {
-        match self.len().checked_add(additional) {
-            Some(want) => G::next_capacity::<T>(self.capacity(), want),
-            None => None,
         }
     }
 
@@ -254,19 +194,17 @@ impl<T, A: Allocator, G: Growth> ThinVec<T, A, G> {
     ) -> Result<ThinVec<T, A, G>, ThinVecError>
         requires fits { Fits T.row capacity }
 
+        // On success.
+        ensures items { IfOk result (λ list. list.items ≡ []) }
+        ensures capacity { IfOk result (λ list. list.capacity ≡ capacity) }
+        ensures cost { IfOk result (λ list. list.cost ≡ cost_new capacity) }
+        ensures made { IfOk result (IsMade T.row alloc) }
+
         // When it must succeed.
         ensures succeeds { capacity ≡ 0 → IsOk result }
 
         // On failure.
         ensures cause { IfErr result (λ cause. cause ≡ ThinVecError.OutOfMemory) }
-
-        // On success.
-        ensures items { IfOk result (λ list. list.items ≡ []) }
-        ensures capacity { IfOk result (λ list. list.capacity ≡ capacity) }
-        ensures alloc { IfOk result (λ list. list.alloc ≡ alloc) }
-        ensures cost { IfOk result (λ list. list.cost ≡ cost_new capacity) }
-        ensures cheap { IfOk result (λ list. IsCheap list) }
-        ensures within { IfOk result (λ list. IsWithin T.row list) }
     {
         if capacity == 0 {
             return Ok(ThinVec::ruled(alloc));
@@ -281,8 +219,7 @@ impl<T, A: Allocator, G: Growth> ThinVec<T, A, G> {
 }
 
 impl<T, A: Allocator> ThinVec<T, A> {
-    ghost use Rattle.thin_vec.specs.ThinVec.{IsCause, IsWithin, cost_new};
-    ghost use Rattle.thin_vec.specs.Cheap.{IsCheap};
+    ghost use Rattle.thin_vec.specs.ThinVec.{cost_new};
 
     /// Makes an empty list with room for exactly `capacity` items. If `capacity` is 0, the call
     /// allocates nothing.

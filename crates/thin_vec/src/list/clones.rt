@@ -1,5 +1,8 @@
 //! The methods that clone items. Room for all clones is reserved before the first clone is made. So
 //! there is no need to test for room before each clone.
+//!
+//! The clause `items_if_clones_equal` follows from `items`, and `err` follows from `err_cost`. With
+//! them, a caller needs no lemma about clones.
 ghost use Rattle.std.specs.Prelude.{◌≡◌, ◌⊎◌, ◌+◌, ◌<◌, ◌≤◌, [], ◌++◌, ◌-◌, All, HoldsAt, IfErr, IfOk, IsOk, OnErr, OnOk, length, slice_range, take};
 ghost use Rattle.std.specs.List.{AllZip, AppendsClones};
 ghost use Rattle.thin_block.specs.Capacity.{Fits};
@@ -13,7 +16,6 @@ use std::alloc::{AllocError, Allocator};
 use thin_block::{Growth, ThinVecError};
 
 impl<T: Clone, A: Allocator, G: Growth> ThinVec<T, A, G> {
-    ghost use Rattle.thin_vec.specs.Cheap.{IsCheap};
     ghost use Rattle.thin_vec.specs.ThinVec.{HasRoomFor, IsWithin, cost_new};
 
     /// Appends a clone of each item of `items`, in order. If there is not enough spare capacity,
@@ -22,12 +24,11 @@ impl<T: Clone, A: Allocator, G: Growth> ThinVec<T, A, G> {
     ///
     /// # Errors
     ///
-    /// - `CapacityOverflow`: there is not enough spare capacity, and the new capacity would be too
-    ///   large. The list is unchanged.
-    /// - `OutOfMemory`: there is not enough spare capacity, and the allocator failed. The list is
-    ///   unchanged.
-    /// - `OutOfMemory`: an item could not be cloned. The clones that were already made are dropped,
-    ///   so the list keeps only its old items. If the list has grown, it keeps the new capacity.
+    /// Fails if `reserve(items.len())` would fail, for the same cause. The list is then unchanged.
+    ///
+    /// Also fails with `OutOfMemory` if an item cannot be cloned. The clones that were already made
+    /// are dropped, so the list keeps only its old items. If the list has grown, it keeps the new
+    /// capacity.
     pub fn extend_from_slice(&mut self, items: &[T]) -> Result<(), ThinVecError>
         // On success.
         ensures items { OnOk result
@@ -46,9 +47,7 @@ impl<T: Clone, A: Allocator, G: Growth> ThinVec<T, A, G> {
         ensures err_cost { OnErr result ((self.new ≡ self.old)
             ⊎ CostsUpToClone T.is_infallible items.now self.old self.new) }
 
-        // In every case, the call changes the capacity exactly as `reserve(items.len())` would. It
-        // fails with `CapacityOverflow` if and only if `reserve(items.len())` would fail with
-        // `CapacityOverflow`.
+        // In every case, the capacity changes as `reserve(items.len())` would change it.
         ensures reserves { Reserves G.rule T.row (length items.now) self.old self.new result }
         ensures keeps { Keeps T.row self.old self.new }
     {
@@ -94,24 +93,20 @@ impl<T: Clone, A: Allocator, G: Growth> ThinVec<T, A, G> {
     ) -> Result<ThinVec<T, A, G>, ThinVecError>
         requires fits { Fits T.row (length items.now) }
 
+        // On success.
+        ensures items { IfOk result (λ list. AllZip T.is_clone items.now list.items) }
+        ensures items_if_clones_equal { IfOk result (λ list. ClonesEqual T.is_clone
+            → list.items ≡ items.now) }
+        ensures capacity { IfOk result (λ list. list.capacity ≡ length items.now) }
+        ensures cost { IfOk result (λ list. list.cost ≡ moving (length items.now)
+            (cost_new (length items.now))) }
+        ensures made { IfOk result (IsMade T.row alloc) }
+
         // When it must succeed.
         ensures succeeds_empty { length items.now ≡ 0 → IsOk result }
 
         // On failure.
         ensures cause { IfErr result (λ cause. cause ≡ ThinVecError.OutOfMemory) }
-
-        // On success.
-        ensures items { IfOk result (λ list. AllZip T.is_clone items.now list.items) }
-        ensures items_if_clones_equal { IfOk result
-            (λ list. ClonesEqual T.is_clone → list.items ≡ items.now) }
-        ensures new { IfOk result (λ list. list ≡ record {
-          items = list.items;
-          capacity = length items.now;
-          alloc = alloc;
-          cost = moving (length items.now) (cost_new (length items.now));
-        }) }
-        ensures cheap { IfOk result (λ list. IsCheap list) }
-        ensures within { IfOk result (λ list. IsWithin T.row list) }
     {
         let mut list = ThinVec::with_fitting_capacity(alloc, items.len())?;
         list.extend_from_slice_reserved(items)?;
@@ -187,12 +182,7 @@ impl<T: Clone, A: Allocator, G: Growth> ThinVec<T, A, G> {
     ///
     /// # Errors
     ///
-    /// - `CapacityOverflow`: there is not enough spare capacity, and the new capacity would be too
-    ///   large. The list is unchanged.
-    /// - `OutOfMemory`: there is not enough spare capacity, and the allocator failed. The list is
-    ///   unchanged.
-    /// - `OutOfMemory`: an item could not be cloned. The clones that were already made are dropped,
-    ///   so the list keeps only its old items. If the list has grown, it keeps the new capacity.
+    /// Fails in the same cases as `extend_from_slice`, with the same effect on the list.
     pub fn extend_from_within(&mut self, start: usize, end: usize) -> Result<(), ThinVecError>
         requires start_le_end { start ≤ end }
         requires in_bounds { end ≤ length self.old.items }
@@ -217,9 +207,7 @@ impl<T: Clone, A: Allocator, G: Growth> ThinVec<T, A, G> {
             ⊎ CostsUpToClone T.is_infallible (slice_range self.old.items start end)
             self.old self.new) }
 
-        // In every case, the call changes the capacity exactly as `reserve(end - start)` would. It
-        // fails with `CapacityOverflow` if and only if `reserve(end - start)` would fail with
-        // `CapacityOverflow`.
+        // In every case, the capacity changes as `reserve(end - start)` would change it.
         ensures reserves { Reserves G.rule T.row (end - start) self.old self.new result }
         ensures keeps { Keeps T.row self.old self.new }
     {
@@ -268,7 +256,8 @@ impl<T: Clone, A: Allocator, G: Growth> ThinVec<T, A, G> {
     }
 
     // Appends clones of the items `start..end`, in order, until an item cannot be cloned. Returns
-    // the number of clones. The list must have room for all of them.
+    // the number of clones. The list must have room for all of them. The loop is not `put_clones`,
+    // because a slice of the list cannot be borrowed while its block changes.
     fn push_clones_within(&mut self, start: usize, end: usize) -> usize
         requires start_le_end { start ≤ end }
         requires in_bounds { end ≤ length self.old.items }

@@ -19,10 +19,8 @@ impl<T: Copy, A: Allocator, G: Growth> ThinVec<T, A, G> {
     ///
     /// # Errors
     ///
-    /// Fails only if there is not enough spare capacity. On failure, the list is unchanged.
-    ///
-    /// - `CapacityOverflow`: the new capacity would be too large.
-    /// - `OutOfMemory`: the allocator failed.
+    /// Fails if and only if `reserve(items.len())` would fail, for the same cause. On failure, the
+    /// list is unchanged.
     pub fn extend_from_copies(&mut self, items: &[T]) -> Result<(), ThinVecError>
         // On success.
         ensures items { OnOk result (self.new.items ≡ self.old.items ++ items.now) }
@@ -34,8 +32,7 @@ impl<T: Copy, A: Allocator, G: Growth> ThinVec<T, A, G> {
         // On failure, the list is unchanged.
         ensures err { OnErr result (self.new ≡ self.old) }
 
-        // In every case, the call changes the capacity exactly as `reserve(items.len())` would, and
-        // it fails if and only if `reserve(items.len())` would fail.
+        // In every case, the capacity changes as `reserve(items.len())` would change it.
         ensures reserves { Reserves G.rule T.row (length items.now) self.old self.new result }
         ensures keeps { Keeps T.row self.old self.new }
     {

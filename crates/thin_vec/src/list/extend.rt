@@ -1,4 +1,8 @@
 //! The methods `extend` and `from_iter`, which move the items of an iterator into a list.
+//!
+//! `Drains I.next_gives iter xs` states that `iter` yields the items `xs` and then `None`. The clause
+//! `runs` follows from `items`, and `runs_err` from `placed`: they state the same about a *run* of the
+//! iterator, as std's lemmas about adaptors such as `map` expect it.
 ghost use Rattle.std.specs.Prelude.{◌≡◌, ◌+◌, ◌-◌, ◌<◌, ◌≤◌, List, ◌++◌, IfErr, IfOk, IsOk, IsSome, MatchOption, None, OnErr, OnOk, OnSome, length};
 ghost use Rattle.std.specs.Iterator.Runs.{SomeRun, WholeRun};
 ghost use Rattle.std.specs.Iterator.{Drains, IsFinite, YieldsThen, size};
@@ -7,7 +11,7 @@ ghost use Rattle.thin_block.specs.Cost.{moving};
 ghost use Rattle.thin_block.specs.Growth.{doubling};
 ghost use Rattle.thin_vec.specs.Cheap.{IsCheap};
 ghost use Rattle.thin_vec.specs.List.Capacity.{Keeps};
-ghost use Rattle.thin_vec.specs.List.Extend.{Extends, GrowsFor, IsCollectCause, IsCollectedList, IsExtendCause, CostsAdding, IsKeptOrRuled, IsLoose, IsMadeOf, PausedAfter};
+ghost use Rattle.thin_vec.specs.List.Extend.{Extends, GrowsFor, IsCollectCause, IsCollectedList, IsExtendCause, CostsAdding, CostsExtending, IsKeptOrRuled, IsLoose, IsMadeOf, PausedAfter};
 ghost use Rattle.thin_vec.specs.Put.{IsFilledBy};
 ghost use Rattle.thin_vec.specs.ThinVec.{HasRoomFor, IsNew, IsWithin};
 
@@ -68,7 +72,7 @@ impl<T, A: Allocator, G: Growth> ThinVec<T, A, G> {
 
         // In every case.
         ensures capacity { GrowsFor G.rule T.row self.old self.new (I.remaining iter) }
-        ensures cost { CostsAdding self.old self.new 0 }
+        ensures cost { CostsExtending self.old self.new (I.remaining iter) }
         ensures keeps { Keeps T.row self.old self.new }
     {
         match self.reserve(iter.size_hint().0) {
@@ -114,6 +118,8 @@ impl<T, A: Allocator, G: Growth> ThinVec<T, A, G> {
         ensures ruled { IsKeptOrRuled G.rule T.row self.old.capacity self.new.capacity
             (length self.new.items) }
         ensures cost { CostsAdding self.old self.new 0 }
+        ensures requests { self.new.cost.blocks
+            ≤ self.old.cost.blocks + (length self.new.items - self.old.capacity) }
         ensures keeps { Keeps T.row self.old self.new }
     {
         let mut rest = iter;
@@ -256,7 +262,7 @@ impl<T, A: Allocator> ThinVec<T, A> {
             (λ error. IsCollectCause doubling T.row (I.remaining error.rest) error) }
     {
         let mut list = ThinVec::new(alloc);
-        match list.reserve_first(iter.size_hint().0) {
+        match list.reserve_exact(iter.size_hint().0) {
             Ok(()) => (),
             Err(cause) => {
                 return Err(CollectRefused {
@@ -291,6 +297,10 @@ impl<T: Drop, A: Allocator, G: Growth> Extend<T> for ThinVec<T, A, G> {
 
     // Appends the items of `iter`. On failure, the appended items stay in the list. The iterator is
     // dropped, and so is an item that was taken from it but not appended.
+    //
+    // std's contract names the lists and the appended items, but not the bound of the iterator. So
+    // only the contract of the inherent method says that nothing is allocated for no item, how often
+    // the list grows, and which capacities are possible.
     fn extend<U: IntoIterator<Item = T>>(&mut self, iter: U) -> Result<(), AllocError> {
         match ThinVec::extend(self, iter.into_iter()) {
             Ok(()) => Ok(()),
@@ -306,6 +316,10 @@ impl<T: Drop, A: Allocator> FromIterator<T> for ThinVec<T, A> {
 
     // Makes a list of the items of `iter`, like the method `ThinVec::from_iter`. On failure, drops
     // the iterator and all items that were taken from it.
+    //
+    // std's contract names the items and the list, but neither the allocator nor the bound of the
+    // iterator. So only the contract of the inherent method says which allocator and which capacity
+    // the list has, and how often it grew.
     fn from_iter<U: IntoIterator<Item = T>>(
         alloc: A,
         iter: U,

@@ -22,11 +22,8 @@ impl<T, A: Allocator, G: Growth> ThinVec<T, A, G> {
     ///
     /// # Errors
     ///
-    /// Fails only if there is no spare capacity. On failure, the list is unchanged, and the error
-    /// holds `value`, which the caller owns again.
-    ///
-    /// - `CapacityOverflow`: the new capacity would be too large.
-    /// - `OutOfMemory`: the allocator failed.
+    /// Fails if and only if `reserve(1)` would fail, for the same cause. On failure, the list is
+    /// unchanged, and the error holds `value`, which the caller owns again.
     pub fn insert(&mut self, index: usize, value: T) -> Result<(), Rejected<T>>
         requires in_bounds { index ≤ length self.old.items }
 
@@ -41,8 +38,7 @@ impl<T, A: Allocator, G: Growth> ThinVec<T, A, G> {
         ensures err { OnErr result (self.new ≡ self.old) }
         ensures value_returned { IfErr result (λ error. error.value ≡ value) }
 
-        // In every case, the call changes the capacity exactly as `reserve(1)` would, and it fails
-        // if and only if `reserve(1)` would fail.
+        // In every case, the capacity changes as `reserve(1)` would change it.
         ensures reserves { Reserves G.rule T.row 1 self.old self.new (causes result) }
         ensures keeps { Keeps T.row self.old self.new }
     {
@@ -79,11 +75,8 @@ impl<T, A: Allocator, G: Growth> ThinVec<T, A, G> {
     ///
     /// # Errors
     ///
-    /// Fails only if there is no spare capacity. On failure, the list is unchanged, and the error
-    /// holds `value`, which the caller owns again.
-    ///
-    /// - `CapacityOverflow`: the new capacity would be too large.
-    /// - `OutOfMemory`: the allocator failed.
+    /// Fails if and only if `reserve(1)` would fail, for the same cause. On failure, the list is
+    /// unchanged, and the error holds `value`, which the caller owns again.
     pub fn push_mut(&mut self, value: T) -> Result<&mut T, Rejected<T>>
         // On success, the result borrows the appended item. When the borrow ends, the list contains
         // the final value of this item. On failure, the list is unchanged.
@@ -116,11 +109,8 @@ impl<T, A: Allocator, G: Growth> ThinVec<T, A, G> {
     ///
     /// # Errors
     ///
-    /// Fails only if there is no spare capacity. On failure, the list is unchanged, and the error
-    /// holds `value`, which the caller owns again.
-    ///
-    /// - `CapacityOverflow`: the new capacity would be too large.
-    /// - `OutOfMemory`: the allocator failed.
+    /// Fails if and only if `reserve(1)` would fail, for the same cause. On failure, the list is
+    /// unchanged, and the error holds `value`, which the caller owns again.
     pub fn insert_mut(&mut self, index: usize, value: T) -> Result<&mut T, Rejected<T>>
         requires in_bounds { index ≤ length self.old.items }
 

@@ -1,4 +1,7 @@
 //! The methods `resize` and `resize_with`, which change the length of a list.
+//!
+//! The clause `items_if_clones_equal` follows from `items`, and `err` follows from `err_cost`. With
+//! them, a caller needs no lemma about clones.
 ghost use Rattle.std.specs.Prelude.{◌≡◌, ◌⊎◌, ◌+◌, ◌-◌, ◌<◌, ◌≤◌, ◌++◌, IfErr, IsOk, OnErr, OnOk, length, replicate, take};
 ghost use Rattle.std.specs.List.{AppendsResults};
 ghost use Rattle.thin_block.specs.Cost.{moving};
@@ -21,14 +24,8 @@ impl<T: Clone, A: Allocator, G: Growth> ThinVec<T, A, G> {
     ///
     /// # Errors
     ///
-    /// Fails only if the list has to become longer. On failure, `value` is dropped.
-    ///
-    /// - `CapacityOverflow`: there is not enough spare capacity, and the new capacity would be too
-    ///   large. The list is unchanged.
-    /// - `OutOfMemory`: there is not enough spare capacity, and the allocator failed. The list is
-    ///   unchanged.
-    /// - `OutOfMemory`: `value` could not be cloned. The clones that were already made are dropped,
-    ///   so the list keeps only its old items. If the list has grown, it keeps the new capacity.
+    /// Fails only if the list has to become longer, and in the same cases as `extend_from_slice`,
+    /// with the same effect on the list. On failure, `value` is dropped.
     pub fn resize(&mut self, len: usize, value: T) -> Result<(), ThinVecError>
         // On success.
         ensures items { OnOk result (IsResized T.is_clone self.old.items len value self.new.items) }
@@ -49,8 +46,7 @@ impl<T: Clone, A: Allocator, G: Growth> ThinVec<T, A, G> {
         ensures err_cost { OnErr result ((self.new ≡ self.old) ⊎ CostsUpToClone T.is_infallible
             (replicate (len - length self.old.items - 1) value) self.old self.new) }
 
-        // Let `n` be the number of items to add. The call changes the capacity exactly as
-        // `reserve(n)` would. It fails with `CapacityOverflow` if and only if `reserve(n)` would.
+        // In every case, the capacity changes as reserving room for the new items would change it.
         ensures reserves { Reserves G.rule T.row (len - length self.old.items) self.old self.new
             result }
         ensures keeps { Keeps T.row self.old self.new }
@@ -139,11 +135,8 @@ impl<T: Drop, A: Allocator, G: Growth> ThinVec<T, A, G> {
     ///
     /// # Errors
     ///
-    /// Fails only if `len` exceeds the capacity. On failure, the list is unchanged, and `make` is
-    /// dropped without being called.
-    ///
-    /// - `CapacityOverflow`: the new capacity would be too large.
-    /// - `OutOfMemory`: the allocator failed.
+    /// Fails if and only if reserving room for the new items would fail, for the same cause. On
+    /// failure, the list is unchanged, and `make` is dropped without being called.
     pub fn resize_with<F: FnMut() -> T>(&mut self, len: usize, make: F) -> Result<(), ThinVecError>
         requires callable { F.IsAlwaysCallable make }
 
@@ -159,8 +152,7 @@ impl<T: Drop, A: Allocator, G: Growth> ThinVec<T, A, G> {
         // On failure, the list is unchanged.
         ensures err { OnErr result (self.new ≡ self.old) }
 
-        // Let `n` be the number of items to add. The call changes the capacity exactly as
-        // `reserve(n)` would. It fails if and only if `reserve(n)` would fail.
+        // In every case, the capacity changes as reserving room for the new items would change it.
         ensures reserves { Reserves G.rule T.row (len - length self.old.items) self.old self.new
             result }
         ensures keeps { Keeps T.row self.old self.new }

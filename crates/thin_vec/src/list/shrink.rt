@@ -1,6 +1,5 @@
 //! The methods `shrink_to` and `shrink_to_fit`, which reduce the capacity of a list.
-ghost use Rattle.std.specs.Prelude.{◌≡◌, ◌<◌, ◌≤◌, [], IfErr, IsOk, OnErr, OnOk, length, max, min};
-ghost use Rattle.thin_block.specs.Cost.{growing, no_cost};
+ghost use Rattle.std.specs.Prelude.{◌≡◌, ◌≤◌, IfErr, IsOk, OnErr, OnOk, length, max, min};
 
 use crate::list::ThinVec;
 use std::alloc::Allocator;
@@ -48,10 +47,12 @@ impl<T, A: Allocator, G: Growth> ThinVec<T, A, G> {
             return Ok(());
         }
         if wanted == 0 {
-            self.give_block_back();
+            let block = mem::replace(&mut self.block, Block::none());
+            block.release(&self.alloc);
             return Ok(());
         }
-        self.shrink_block(wanted)
+        self.block.shrink(&self.alloc, wanted)?;
+        Ok(())
     }
 
     /// Shrinks the capacity to the length. If the list is full, nothing changes.
@@ -82,46 +83,5 @@ impl<T, A: Allocator, G: Growth> ThinVec<T, A, G> {
         ensures within { IsWithin T.row self.old × IsWithin T.row self.new }
     {
         self.shrink_to(0)
-    }
-
-    // Shrinks the capacity to `cap`, which must not be 0. `cap` must be at least the length, and
-    // less than the old capacity.
-    fn shrink_block(&mut self, cap: usize) -> Result<(), ThinVecError>
-        requires some { 0 < cap }
-        requires room { length self.old.items ≤ cap }
-        requires smaller { cap < self.old.capacity }
-        requires within { IsWithin T.row self.old }
-
-        // Whether or not the call succeeds, only the fields `capacity` and `cost` of the list may
-        // change.
-        ensures changes { self.new ≡ record self.old {
-          capacity = self.new.capacity;
-          cost = self.new.cost;
-        } }
-
-        // On success.
-        ensures capacity { OnOk result (self.new.capacity ≡ cap) }
-        ensures cost { OnOk result (self.new.cost ≡ growing (length self.old.items) self.old.cost) }
-
-        // On failure, the list is unchanged.
-        ensures err { OnErr result (self.new ≡ self.old) }
-        ensures cause { IfErr result (λ cause. cause ≡ ThinVecError.OutOfMemory) }
-
-        // In every case.
-        ensures within { IsWithin T.row self.new }
-    {
-        self.block.shrink(&self.alloc, cap)?;
-        Ok(())
-    }
-
-    // Frees the allocation of the list. The list must be empty. Afterwards, its capacity is 0, and
-    // so are all counters of its field `cost`, which exists only in contracts.
-    fn give_block_back(&mut self)
-        requires empty { self.old.items ≡ [] }
-        ensures changes { self.new ≡ record self.old { items = []; capacity = 0; cost = no_cost } }
-        ensures within { IsWithin T.row self.new }
-    {
-        let block = mem::replace(&mut self.block, Block::none());
-        block.release(&self.alloc);
     }
 }

@@ -1,7 +1,7 @@
 -- `room_for_eight` cannot fail with `CapacityOverflow`, because the allocation for eight numbers
 -- does not exceed the maximum size of an allocation.
 use Rattle.std.proofs.Common.{arith}
-use Rattle.thin_vec.proofs.FewLemmas.{few_items}
+use Rattle.thin_vec.proofs.CallerLemmas.{few_items}
 use Rattle.thin_examples.proofs.growing.room_for_eight.Goals as goal
 
 pub returns-clause-cause : goal.returns-clause-cause

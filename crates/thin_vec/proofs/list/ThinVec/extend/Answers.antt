@@ -7,7 +7,7 @@ use Rattle.std.specs.Iterator.Runs.{SomeRun, WholeRun}
 use Rattle.std.specs.Option.{option_to_list}
 use Rattle.std.specs.Prelude.{IfErr, OnOk}
 use denote.Param.{param}
-use Rattle.thin_vec.proofs.ThinVecLemmas.{cost_at-copied}
+use Rattle.thin_vec.proofs.ThinVecLemmas.{cost_at-blocks, cost_at-copied}
 use Rattle.std.proofs.lemmas.Bool.{false≢true}
 use Rattle.thin_block.proofs.Outcomes.{err-same}
 use Rattle.thin_vec.specs.ThinVec.{HasRoomFor, capacity_for}
@@ -42,14 +42,30 @@ pub returns-in-Ok-clause-cost : goal.returns-in-Ok-clause-cost
 returns-in-Ok-clause-cost g c =
     let rule = g.G.Growth.rule in let T = param 0 g.row.T in let law = g.met.G.Growth.law in
     let v = c.args.self.now in let u = c.reserve.new.self in let w = c.extend_unhinted.new.self in
-    adding-join 0 0 0 (omega arith) (filled-reserved v u c.in-Ok.ensures.cost c.reserve.ensures.items
-    (cost_at-copied rule T law v c.size_hint.result.0 u.capacity c.reserve.ensures.keeps.within.0.room
-    c.in-Ok.ensures.reserves.ok))
-    c.extend_unhinted.ensures.cost
-    (loose-le rule T law v.capacity u.capacity
-    (loose-ruled rule T law v c.size_hint.result.0 u.capacity c.in-Ok.ensures.reserves.ok))
-    (loose-le rule T law u.capacity w.capacity c.extend_unhinted.ensures.loose)
-    (omega (arith, ap length c.reserve.ensures.items))
+    let e = c.extend_unhinted.ensures in let hint = c.size_hint.result.0 in
+    record {
+      adding = adding-join 0 0 0 (omega arith)
+          (filled-reserved v u c.in-Ok.ensures.cost c.reserve.ensures.items
+          (cost_at-copied rule T law v hint u.capacity c.reserve.ensures.keeps.within.0.room
+          c.in-Ok.ensures.reserves.ok))
+          e.cost
+          (loose-le rule T law v.capacity u.capacity
+          (loose-ruled rule T law v hint u.capacity c.in-Ok.ensures.reserves.ok))
+          (loose-le rule T law u.capacity w.capacity e.loose)
+          (omega (arith, ap length c.reserve.ensures.items));
+      requests = (
+        hint,
+        c.size_hint.ensures.lower,
+        omega (
+          arith,
+          e.requests,
+          ap (λ k. k.blocks) c.in-Ok.ensures.cost,
+          cost_at-blocks v u.capacity,
+          c.in-Ok.ensures.room,
+          ap length c.reserve.ensures.items,
+        ),
+      );
+    }
 
 pub returns-in-Err-clause-capacity : goal.returns-in-Err-clause-capacity
 returns-in-Err-clause-capacity g c =
@@ -112,7 +128,14 @@ returns-in-Err-clause-runs_err g c =
     ([], c.reserve.ensures.items ∙ sym (append-nil c.args.self.now.items), refl)
 
 pub returns-in-Err-clause-cost : goal.returns-in-Err-clause-cost
-returns-in-Err-clause-cost g c = search (arith, ◌∙◌)
+returns-in-Err-clause-cost g c = record {
+  adding = search (arith, ◌∙◌);
+  requests = (
+    c.size_hint.result.0,
+    c.size_hint.ensures.lower,
+    omega (arith, ap (λ v. v.cost.blocks) c.in-Err.ensures.err),
+  );
+}
 
 pub returns-in-Ok-clause-cause : goal.returns-in-Ok-clause-cause
 returns-in-Ok-clause-cause g c = search (arith, ◌∙◌)

@@ -1,14 +1,13 @@
 -- `copy_in` writes the copies into the slots directly after the last item, so they are appended to
 -- the list. The capacity does not change.
 use Rattle.std.proofs.lemmas.Grind.{common_steps}
-use Rattle.std.proofs.Common.{◌++◌, ◌∙◌, ap, arith, length, refl, ◌≡◌}
+use Rattle.std.proofs.Common.{◌++◌, ◌∙◌, ap, arith, length, refl}
 use Rattle.thin_block.proofs.BlockLemmas.{then-len}
 use Rattle.thin_block.specs.Slots.{items_in}
 use Rattle.thin_vec.proofs.list.AppendSplitLemmas.{settle-more}
 use Rattle.thin_vec.proofs.ListLemmas.{Settled}
-use Rattle.thin_vec.proofs.ThinVecLemmas.{within-kept, within-of}
-use Rattle.thin_vec.proofs.list.ReservesLemmas.{keeps-kept}
-use Rattle.thin_vec.specs.ThinVec.{thin_of}
+use Rattle.thin_vec.proofs.ThinVecLemmas.{within-of}
+use Rattle.thin_vec.proofs.list.ReservesLemmas.{keeps-settled}
 use Rattle.thin_vec.proofs.list.ThinVec.extend_from_copies_reserved.Goals as goal
 
 facts : (g : _) (c : goal.After-store_len g) → Settled c.store_len.new.self c.self.inside.alloc
@@ -39,13 +38,9 @@ returns-then-is_empty-clause-items g c = grind (arith, common_steps)
 
 pub returns-clause-keeps : goal.returns-clause-keeps
 returns-clause-keeps g c =
-    let v = c.args.self.now in let w = thin_of c.store_len.new.self c.self.inside.alloc in
-    let alloc : w.alloc ≡ v.alloc = search (arith, ◌∙◌) in
-    let capacity : w.capacity ≡ v.capacity = grind (arith, common_steps) in
-    let blocks : w.cost.blocks ≡ v.cost.blocks = grind (arith, common_steps) in
-    let grown : w.cost.grown ≡ v.cost.grown = grind (arith, common_steps) in
-    keeps-kept _ v w alloc capacity (blocks, grown)
-    (within-kept _ _ _ _ _ _ c.self.invariant c.self.view_is c.len-len.ensures.slots_fit (facts g c))
+    keeps-settled _ _ c.self.invariant c.self.view_is c.len-len.ensures.slots_fit (facts g c)
+    (ap (λ v. v.cost) c.store_len.ensures.changes
+    ∙ ap (λ v. v.cost) c.copy_in.ensures.changes) (refl, refl)
 
 pub returns-then-is_empty-clause-keeps : goal.returns-then-is_empty-clause-keeps
 returns-then-is_empty-clause-keeps g c =

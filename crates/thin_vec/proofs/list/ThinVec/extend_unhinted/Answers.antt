@@ -7,7 +7,7 @@ use denote.Param.{param}
 use Rattle.thin_vec.specs.List.Extend.{IsLoose}
 use Rattle.thin_vec.specs.ThinVec.{capacity_for}
 use Rattle.thin_vec.proofs.list.ExtendLemmas.{ruled-more, filled-at, adding-join, filled-spare, loose-join, loose-le, loose-ruled, yields-join, yields-more}
-use Rattle.thin_vec.proofs.ThinVecLemmas.{cost_at-copied}
+use Rattle.thin_vec.proofs.ThinVecLemmas.{cost_at-blocks, cost_at-copied}
 use Rattle.thin_block.proofs.Outcomes.{at-some, err-same, none-some}
 use Rattle.thin_vec.proofs.list.ThinVec.extend_unhinted.Goals as goal
 
@@ -100,6 +100,7 @@ loop-item-preserved g c =
     pushed.reserves.ok) in
     let high = loose-le rule T law w.capacity z.capacity grown in
     let low = loose-le rule T law v.capacity u.capacity held.loose in
+    let full = at-some c.in-Some.is c.extend_reserved-left.ensures.full in
     record {
       can = rest.0;
       finite = rest.1;
@@ -132,14 +133,25 @@ loop-item-preserved g c =
           (adding-join 0 0 0 (omega arith) spare push (omega (arith, kept)) high
           (omega (arith, more)))
           low (omega (arith, high, kept)) (omega (arith, some));
-      ruled = let full = at-some c.in-Some.is c.extend_reserved-left.ensures.full in
-          inr (
-            w.capacity,
-            length w.items + 1,
-            omega (arith, full),
-            omega (arith, long),
-            pushed.reserves.ok,
-          );
+      requests = omega (
+        arith,
+        held.requests,
+        ap (λ y. y.cost.blocks) c.extend_reserved-left.ensures.changes,
+        ap (λ k. k.blocks) pushed.cost,
+        cost_at-blocks w z.capacity,
+        full,
+        kept,
+        low,
+        more,
+        long,
+      );
+      ruled = inr (
+        w.capacity,
+        length w.items + 1,
+        omega (arith, full),
+        omega (arith, long),
+        pushed.reserves.ok,
+      );
       alloc = pushed.keeps.alloc
           ∙ (ap (λ y. y.alloc) c.extend_reserved-left.ensures.changes ∙ held.alloc);
       cheap = λ first. pushed.keeps.cheap (c.extend_reserved-left.ensures.cheap (held.cheap first));
@@ -176,6 +188,30 @@ returns-in-Err-clause-cost g c =
     let kept = ap (λ z. z.capacity) c.extend_reserved-left.ensures.changes in
     rw c.in-Err.ensures.err
     (adding-join 0 0 0 (omega arith) held.cost spare low (omega (arith, kept)) (omega (arith, some)))
+
+pub returns-in_default-clause-requests : goal.returns-in_default-clause-requests
+returns-in_default-clause-requests g c =
+    let now = c.extend_reserved-left.ensures.items in
+    omega (
+      arith,
+      c.loop-item.invariant.requests,
+      ap (λ y. y.cost.blocks) c.extend_reserved-left.ensures.changes,
+      ap length now.1,
+      length-append c.loop-item.self.items now.0,
+    )
+
+pub returns-in-Err-clause-requests : goal.returns-in-Err-clause-requests
+returns-in-Err-clause-requests g c =
+    let now = c.extend_reserved-left.ensures.items in
+    omega (
+      arith,
+      c.loop-item.invariant.requests,
+      ap (λ y. y.cost.blocks) c.in-Err.ensures.err,
+      ap (λ y. length y.items) c.in-Err.ensures.err,
+      ap (λ y. y.cost.blocks) c.extend_reserved-left.ensures.changes,
+      ap length now.1,
+      length-append c.loop-item.self.items now.0,
+    )
 
 pub returns-in-Err-clause-loose : goal.returns-in-Err-clause-loose
 returns-in-Err-clause-loose g c =

@@ -1,7 +1,7 @@
 -- Before each iteration of the loop, the list contains its old items, followed by all items that
 -- the iterator has yielded so far. Either the capacity has not changed, or the growth rule has
 -- chosen the present capacity.
-use Rattle.std.proofs.Common.{◌≡◌, ◌+◌, ◌≤◌, List, ◌++◌, length}
+use Rattle.std.proofs.Common.{◌≡◌, ◌+◌, ◌-◌, ◌≤◌, List, ◌++◌, length}
 use Rattle.std.specs.Iterator.{IsFinite, Yields, size}
 use denote.Param.{param}
 use Rattle.thin_vec.specs.Cheap.{IsCheap}
@@ -21,6 +21,8 @@ invariant-loop-item g l = record {
   had_room : length l.fn.self.items + size (g.I.Iterator.remaining l.fn.iter) ≤ l.fn.self.capacity
       → l.self.capacity ≡ l.fn.self.capacity;
   cost : CostsAdding l.fn.self l.self 0;
+  requests : l.self.cost.blocks
+      ≤ l.fn.self.cost.blocks + (length l.self.items - l.fn.self.capacity);
   ruled : IsKeptOrRuled g.G.Growth.rule (param 0 g.row.T) l.fn.self.capacity
       l.self.capacity (length l.self.items);
   alloc : l.self.alloc ≡ l.fn.self.alloc;

@@ -34,7 +34,7 @@ taken g c =
     let now : HasTaken g.G.Growth.rule (param 0 g.row.T) c.close.new.self w n more = record {
       capacity = c.extend.ensures.capacity.loose;
       had_room = c.extend.ensures.capacity.had_room;
-      cost = adding-more c.close.new.self w n c.extend.ensures.cost;
+      cost = adding-more c.close.new.self w n c.extend.ensures.cost.adding;
       alloc = c.extend.ensures.keeps.alloc;
       cheap = c.extend.ensures.keeps.cheap;
     } in

@@ -1,18 +1,15 @@
 -- `move_run` moves the items from `index` onward up by one slot, and `put_and_store` writes `value`
 -- into the empty slot at `index`.
-use Rattle.std.proofs.Common.{Some, ◌+◌, ◌-◌, ap, ◌∙◌, length, arith, refl, ◌≡◌}
+use Rattle.std.proofs.Common.{Some, ◌+◌, ◌-◌, ap, ◌∙◌, length, arith, refl}
 use lib.ListN.{set}
 use Rattle.std.specs.Prelude.{insert}
 use Rattle.thin_vec.proofs.ListLemmas.{Settled, thin-filled}
 use Rattle.thin_block.specs.Block.{Seen}
 use Rattle.thin_block.specs.Cost.{moving}
 use Rattle.thin_block.specs.Slots.{items_in, slot}
-use Rattle.thin_vec.proofs.ThinVecLemmas.{within-kept}
 use Rattle.thin_vec.proofs.list.ThinVec.insert_reserved.Goals.{After-put_and_store}
 use Rattle.thin_vec.proofs.list.InsertRemoveLemmas.{settle-insert, thin-gap}
-use Rattle.thin_vec.proofs.list.ReservesLemmas.{keeps-kept}
-use Rattle.thin_vec.specs.ThinVec.{thin_of}
-use Rattle.std.proofs.lemmas.Grind.{common_steps}
+use Rattle.thin_vec.proofs.list.ReservesLemmas.{keeps-settled}
 use Rattle.thin_vec.proofs.list.ThinVec.insert_reserved.Goals as goal
 
 pub move_run-requires-clause-filled : goal.move_run-requires-clause-filled
@@ -71,10 +68,6 @@ returns-clause-items g c = (facts g c).items
 
 pub returns-clause-keeps : goal.returns-clause-keeps
 returns-clause-keeps g c =
-    let v = c.args.self.now in let w = thin_of c.put_and_store.new.self c.self.inside.alloc in
-    let alloc : w.alloc ≡ v.alloc = search (arith, ◌∙◌) in
-    let capacity : w.capacity ≡ v.capacity = grind (arith, common_steps) in
-    let blocks : w.cost.blocks ≡ v.cost.blocks = grind (arith, common_steps) in
-    let grown : w.cost.grown ≡ v.cost.grown = grind (arith, common_steps) in
-    keeps-kept _ v w alloc capacity (blocks, grown)
-    (within-kept _ _ _ _ _ _ c.self.invariant c.self.view_is c.len-len.ensures.slots_fit (facts g c))
+    keeps-settled _ _ c.self.invariant c.self.view_is c.len-len.ensures.slots_fit (facts g c)
+    (ap (λ v. v.cost) c.put_and_store.ensures.changes
+    ∙ ap (λ v. moving 1 v.cost) c.move_run.ensures.changes) (refl, refl)

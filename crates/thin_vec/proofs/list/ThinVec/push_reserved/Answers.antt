@@ -1,12 +1,9 @@
 -- `put_and_store` writes `value` into the slot directly after the last item. So `value` is appended
 -- to the list, and the capacity does not change.
-use Rattle.std.proofs.Common.{◌++◌, ◌∷◌, [], ap, ◌∙◌, length, arith, ◌≡◌}
+use Rattle.std.proofs.Common.{◌++◌, ◌∷◌, [], ap, ◌∙◌, length, arith, refl}
 use Rattle.thin_vec.proofs.ListLemmas.{Settled, settle-push}
 use Rattle.thin_block.specs.Slots.{items_in}
-use Rattle.thin_vec.proofs.ThinVecLemmas.{within-kept}
-use Rattle.thin_vec.proofs.list.ReservesLemmas.{keeps-kept}
-use Rattle.thin_vec.specs.ThinVec.{thin_of}
-use Rattle.std.proofs.lemmas.Grind.{common_steps}
+use Rattle.thin_vec.proofs.list.ReservesLemmas.{keeps-settled}
 use Rattle.std.proofs.lemmas.List.{length_push}
 use Rattle.thin_vec.proofs.list.ThinVec.push_reserved.Goals as goal
 
@@ -37,10 +34,5 @@ returns-clause-len g c = ap length (returns-clause-items g c) ∙ length_push _ 
 
 pub returns-clause-keeps : goal.returns-clause-keeps
 returns-clause-keeps g c =
-    let v = c.args.self.now in let w = thin_of c.put_and_store.new.self c.self.inside.alloc in
-    let alloc : w.alloc ≡ v.alloc = search (arith, ◌∙◌) in
-    let capacity : w.capacity ≡ v.capacity = grind (arith, common_steps) in
-    let blocks : w.cost.blocks ≡ v.cost.blocks = grind (arith, common_steps) in
-    let grown : w.cost.grown ≡ v.cost.grown = grind (arith, common_steps) in
-    keeps-kept _ v w alloc capacity (blocks, grown)
-    (within-kept _ _ _ _ _ _ c.self.invariant c.self.view_is c.len-len.ensures.slots_fit (facts g c))
+    keeps-settled _ _ c.self.invariant c.self.view_is c.len-len.ensures.slots_fit (facts g c)
+    (ap (λ v. v.cost) c.put_and_store.ensures.changes) (refl, refl)

@@ -1,18 +1,15 @@
 -- `remove` takes the item at `index` out of its slot, and moves all later items down by one slot.
 -- The capacity does not change.
-use Rattle.std.proofs.Common.{◌+◌, ◌-◌, ap, ◌∙◌, length, arith, refl, ◌≡◌}
+use Rattle.std.proofs.Common.{◌+◌, ◌-◌, ap, ◌∙◌, length, arith, refl}
 use Rattle.std.specs.Prelude.{remove}
 use Rattle.thin_vec.proofs.ListLemmas.{Settled, thin-filled, thin-get, kept-filled}
 use Rattle.thin_block.proofs.BlockLemmas.{then-len}
 use Rattle.thin_block.specs.Block.{Seen}
 use Rattle.thin_block.specs.Cost.{moving}
 use Rattle.thin_block.specs.Slots.{items_in, moved}
-use Rattle.thin_vec.proofs.ThinVecLemmas.{within-kept}
 use Rattle.thin_vec.proofs.list.ThinVec.remove.Goals.{After-store_len}
 use Rattle.thin_vec.proofs.list.InsertRemoveLemmas.{settle-remove}
-use Rattle.thin_vec.proofs.list.ReservesLemmas.{keeps-kept}
-use Rattle.thin_vec.specs.ThinVec.{thin_of}
-use Rattle.std.proofs.lemmas.Grind.{common_steps}
+use Rattle.thin_vec.proofs.list.ReservesLemmas.{keeps-settled}
 use Rattle.thin_vec.proofs.list.ThinVec.remove.Goals as goal
 
 pub take-value-requires : goal.take-value-requires
@@ -58,10 +55,7 @@ returns-clause-items g c = (facts g c).items ∙ ap (λ v. remove v.items c.args
 
 pub returns-clause-keeps : goal.returns-clause-keeps
 returns-clause-keeps g c =
-    let v = c.args.self.now in let w = thin_of c.store_len.new.self c.self.inside.alloc in
-    let alloc : w.alloc ≡ v.alloc = search (arith, ◌∙◌) in
-    let capacity : w.capacity ≡ v.capacity = grind (arith, common_steps) in
-    let blocks : w.cost.blocks ≡ v.cost.blocks = grind (arith, common_steps) in
-    let grown : w.cost.grown ≡ v.cost.grown = grind (arith, common_steps) in
-    keeps-kept _ v w alloc capacity (blocks, grown)
-    (within-kept _ _ _ _ _ _ c.self.invariant c.self.view_is c.len-len.ensures.slots_fit (facts g c))
+    keeps-settled _ _ c.self.invariant c.self.view_is c.len-len.ensures.slots_fit (facts g c)
+    (ap (λ v. v.cost) c.store_len.ensures.changes
+    ∙ (ap (λ v. v.cost) c.move_down.ensures.changes
+    ∙ ap (λ v. moving (c.len-len.result - (c.args.index + 1)) v.cost) c.take-value.ensures.changes)) (refl, refl)

@@ -1,15 +1,12 @@
 -- `take_replacing` takes the item at `index` out of its slot. Unless this is the last item, the
 -- last item is moved into the slot, as the specification function `swap_remove` says.
-use Rattle.std.proofs.Common.{◌-◌, sym, ap, ◌∙◌, length, arith, ◌≡◌}
+use Rattle.std.proofs.Common.{◌-◌, sym, ap, ◌∙◌, length, arith, refl}
 use Rattle.std.specs.List.{slice_get, swap_remove}
 use Rattle.thin_block.proofs.BlockLemmas.{then-len}
 use Rattle.thin_block.specs.Slots.{items_in}
 use Rattle.thin_vec.proofs.list.InsertRemoveLemmas.{settle-replaced}
 use Rattle.thin_vec.proofs.ListLemmas.{Settled, thin-filled, thin-get}
-use Rattle.thin_vec.proofs.ThinVecLemmas.{within-kept}
-use Rattle.thin_vec.proofs.list.ReservesLemmas.{keeps-kept}
-use Rattle.thin_vec.specs.ThinVec.{thin_of}
-use Rattle.std.proofs.lemmas.Grind.{common_steps}
+use Rattle.thin_vec.proofs.list.ReservesLemmas.{keeps-settled}
 use Rattle.thin_vec.proofs.list.ThinVec.swap_remove.Goals as goal
 
 pub take_replacing-value-requires : goal.take_replacing-value-requires
@@ -72,10 +69,6 @@ returns-clause-cost g c = search (arith, ◌∙◌)
 
 pub returns-clause-keeps : goal.returns-clause-keeps
 returns-clause-keeps g c =
-    let v = c.args.self.now in let w = thin_of c.store_len.new.self c.self.inside.alloc in
-    let alloc : w.alloc ≡ v.alloc = search (arith, ◌∙◌) in
-    let capacity : w.capacity ≡ v.capacity = grind (arith, common_steps) in
-    let blocks : w.cost.blocks ≡ v.cost.blocks = grind (arith, common_steps) in
-    let grown : w.cost.grown ≡ v.cost.grown = grind (arith, common_steps) in
-    keeps-kept _ v w alloc capacity (blocks, grown)
-    (within-kept _ _ _ _ _ _ c.self.invariant c.self.view_is c.len-last.ensures.slots_fit (facts g c))
+    keeps-settled _ _ c.self.invariant c.self.view_is c.len-last.ensures.slots_fit (facts g c)
+    (ap (λ v. v.cost) c.store_len.ensures.changes
+    ∙ ap (λ v. v.cost) c.take_replacing-value.ensures.changes) (refl, refl)

@@ -1,6 +1,7 @@
 -- A newly allocated block holds no items, so the list with this block is empty. Its capacity is the
 -- argument `capacity`.
-use Rattle.std.proofs.Common.{[]}
+use Rattle.std.proofs.Common.{[], arith, refl}
+use Rattle.std.proofs.lemmas.Grind.{common_steps}
 use Rattle.thin_vec.proofs.ListLemmas.{Settled}
 use Rattle.thin_vec.proofs.ThinVecLemmas.{within-settled}
 use Rattle.thin_vec.proofs.list.ThinVec.with_fitting_capacity.Goals.{In_ok-block}
@@ -17,5 +18,9 @@ invariant_of-result g c = (facts g c).thin
 pub returns-clause-items : goal.returns-clause-items
 returns-clause-items g c = (facts g c).items
 
-pub returns-clause-within : goal.returns-clause-within
-returns-clause-within g c = within-settled _ _ _ _ _ c.requires.fits (facts g c)
+pub returns-clause-made : goal.returns-clause-made
+returns-clause-made g c = record {
+  alloc = refl;
+  cheap = grind (arith, common_steps);
+  within = within-settled _ _ _ _ _ c.requires.fits (facts g c);
+}

@@ -2,14 +2,15 @@
 -- calls `extend_unhinted`. Its contract follows from the contracts of these two steps.
 use Rattle.std.specs.Iterator.{Yields}
 use Rattle.std.specs.Option.{option_to_list}
-use Rattle.std.proofs.Common.{None, [], refl, Some, inl, inr, ◌++◌, ◌≡◌, ◌∙◌, ap, arith, length, subst, sym}
+use Rattle.std.proofs.Common.{Err, None, [], refl, Some, inl, inr, ◌++◌, ◌≡◌, ◌∙◌, ap, arith, length, subst, sym}
 use Rattle.std.proofs.lemmas.Bool.{cases_lt, false≢true}
 use denote.Param.{param}
 use Rattle.thin_block.proofs.Outcomes.{err-same}
 use Rattle.thin_block.specs.Growth.{doubling}
 use Rattle.thin_block.specs.GrowthLaws.{doubling_law}
 use Rattle.thin_block.proofs.CapacityLemmas.{exact-same}
-use Rattle.thin_vec.proofs.list.ExtendLemmas.{collected-after, hand-empty, match-some, run_given, run_of}
+use Rattle.thin_vec.proofs.ThinVecLemmas.{cost_at-blocks}
+use Rattle.thin_vec.proofs.list.ExtendLemmas.{collected-after, exact-new, hand-empty, match-some, run_given, run_of}
 use Rattle.thin_vec.specs.List.Extend.{IsCollectedList}
 use Rattle.thin_vec.proofs.list.extend.ThinVec+T+A.from_iter.Goals.{After-extend_unhinted}
 use Rattle.thin_vec.proofs.list.extend.ThinVec+T+A.from_iter.Goals as goal
@@ -20,22 +21,36 @@ collected : (g : _) (c : After-extend_unhinted g)
     → IsCollectedList doubling (param 0 g.row.T) c.args.alloc c.extend_unhinted.new.self
     (g.I.Iterator.remaining c.args.iter)
 collected g c =
-    let u = c.reserve_first.new.self in let w = c.extend_unhinted.new.self in
+    let u = c.reserve_exact.new.self in let w = c.extend_unhinted.new.self in
     let e = c.extend_unhinted.ensures in
-    let items = ap (λ v. length v.items) c.reserve_first.ensures.changes
+    let items = ap length c.reserve_exact.ensures.items
     ∙ ap length c.new-list.ensures.new.items in
     record {
       none = λ none.
           e.had_room (omega (arith, none, items))
-          ∙ (c.reserve_first.ensures.had_room (omega (
+          ∙ (c.reserve_exact.ensures.had_room (omega (
             arith,
             none,
             c.size_hint.ensures.lower c.requires.finite,
+            ap length c.new-list.ensures.new.items,
           ))
           ∙ c.new-list.ensures.new.capacity);
       ruled = collected-after doubling (param 0 g.row.T) doubling_law _ _ _
-          c.size_hint.ensures.lower c.in-Ok.ensures.capacity e.ruled;
+          c.size_hint.ensures.lower
+          (sym (exact-new _ _ _ _ c.new-list.ensures.new) ∙ c.in-Ok.ensures.capacity) e.ruled;
       moves = search (arith, ◌∙◌);
+      requests = (
+        c.size_hint.result.0,
+        c.size_hint.ensures.lower,
+        omega (
+          arith,
+          e.requests,
+          ap (λ k. k.blocks) c.in-Ok.ensures.cost,
+          cost_at-blocks c.new-list.result u.capacity,
+          c.in-Ok.ensures.room,
+          ap (λ k. k.blocks) c.new-list.ensures.new.cost,
+        ),
+      );
       made = record {
         alloc = search (arith, ◌∙◌);
         cheap = search (arith, ◌∙◌);
@@ -59,16 +74,26 @@ returns-in-Err-clause-err_list g c =
       none = λ _. none;
       ruled = inr (0, (λ _. omega arith), least ∙ ap Some (sym none));
       moves = search (arith, ◌∙◌);
+      requests = (
+        0,
+        (λ _. omega arith),
+        omega (
+          arith,
+          ap (λ v. v.cost.blocks) c.in-Err.ensures.err,
+          ap (λ k. k.blocks) c.new-list.ensures.new.cost,
+        ),
+      );
       made = record {
         alloc = search (arith, ◌∙◌);
         cheap = search (arith, ◌∙◌);
-        within = c.reserve_first.ensures.within;
+        within = c.reserve_exact.ensures.within.1;
       };
     }
 
 pub returns-in-Err-clause-cause : goal.returns-in-Err-clause-cause
 returns-in-Err-clause-cause g c =
-    let hint = c.size_hint.result.0 in
+    let hint = c.size_hint.result.0 in let new = c.new-list.ensures.new in
+    let named = exact-new (param 0 g.row.T) _ _ hint new in
     record {
       by_push = λ some. absurd (false≢true some);
       by_hint = λ _. (
@@ -77,9 +102,13 @@ returns-in-Err-clause-cause g c =
         elim (cases_lt 0 hint) [
           | inl some ↦ some
           | inr none ↦
-              absurd (false≢true (c.in-Err.ensures.succeeds_empty (omega (arith, none))))
+              absurd (false≢true
+              (c.in-Err.ensures.succeeds (omega (arith, none, ap length new.items))))
         ],
-        (λ over. c.in-Err.ensures.cause over, λ none. err-same (c.in-Err.ensures.overflow none)),
+        (
+          λ over. sym named ∙ c.in-Err.ensures.overflow.overflow.0 (ap Err over),
+          λ none. err-same (c.in-Err.ensures.overflow.overflow.1 (named ∙ none)),
+        ),
       );
     }
 
@@ -102,7 +131,7 @@ returns-in-Err-extend_unhinted-clause-placed g c =
     let placed = c.in-Err-extend_unhinted.ensures.placed in
     let paused = placed.2 in
     let items = placed.1 ∙ ap (λ old. old ++ placed.0)
-    (ap (λ v. v.items) c.reserve_first.ensures.changes ∙ c.new-list.ensures.new.items) in
+    (c.reserve_exact.ensures.items ∙ c.new-list.ensures.new.items) in
     let last = option_to_list c.in-Err-extend_unhinted.refused.in_hand in
     record {
       gave = subst (λ l. Yields g.I.Iterator.next_gives c.args.iter (l ++ last)
@@ -118,22 +147,22 @@ returns-in-Ok-extend_unhinted-clause-runs g c =
       filled.0,
       filled.1,
       filled.2 ∙ ap (λ old. old ++ filled.0)
-          (ap (λ v. v.items) c.reserve_first.ensures.changes ∙ c.new-list.ensures.new.items),
+          (c.reserve_exact.ensures.items ∙ c.new-list.ensures.new.items),
     )
 
 pub returns-in-Err-clause-runs_err : goal.returns-in-Err-clause-runs_err
 returns-in-Err-clause-runs_err g c =
-    let none = ap (λ v. v.items) c.reserve_first.ensures.changes
+    let none = c.reserve_exact.ensures.items
     ∙ c.new-list.ensures.new.items in
     run_given g.I.Iterator.next_gives c.args.iter [] None c.args.iter
-    (λ l. l ≡ c.reserve_first.new.self.items ++ []) refl
+    (λ l. l ≡ c.reserve_exact.new.self.items ++ []) refl
     (ap (λ l. l ++ []) (sym none))
 
 pub returns-in-Err-extend_unhinted-clause-runs_err : goal.returns-in-Err-extend_unhinted-clause-runs_err
 returns-in-Err-extend_unhinted-clause-runs_err g c =
     let placed = c.in-Err-extend_unhinted.ensures.placed in
     let items = placed.1 ∙ ap (λ old. old ++ placed.0)
-    (ap (λ v. v.items) c.reserve_first.ensures.changes ∙ c.new-list.ensures.new.items) in
+    (c.reserve_exact.ensures.items ∙ c.new-list.ensures.new.items) in
     let hand = c.in-Err-extend_unhinted.refused.in_hand in
     run_given g.I.Iterator.next_gives c.args.iter placed.0 hand
     c.in-Err-extend_unhinted.refused.rest

@@ -4,7 +4,7 @@ use Rattle.std.proofs.Common.{◌≡◌, length}
 use Rattle.thin_block.specs.Block.{seen}
 use Rattle.thin_block.specs.Slots.{items_in}
 use Rattle.thin_vec.proofs.list.InsertRemoveLemmas.{emptying}
-use Rattle.thin_vec.proofs.put.drop_items.Given as goal
+use Rattle.thin_vec.proofs.list.drop_block.Given as goal
 
 abbrev pub invariant-loop-i : goal.invariant-loop-i
 invariant-loop-i g l = seen l.block ≡ record (seen l.fn.block)

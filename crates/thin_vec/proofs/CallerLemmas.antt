@@ -1,10 +1,11 @@
--- These lemmas state how many items of a known type fit without a capacity overflow, and how large
--- a capacity the growth rule `Doubling` chooses.
-use Rattle.std.proofs.Common.{if◌then◌else◌, Bool, true, false, ◌≡◌, ℕ, zero, suc, ◌+◌, ◌-◌, ◌*◌, ◌^◌, ◌<◌, ◌≤◌, ap, arith, length, IfErr, Option, Result, Ok, Err, Some, None, inl, inr, refl, sym, ◌∙◌}
+-- These lemmas are for the proofs of other crates. They say which capacities are small enough, and
+-- which items a list contains after a write through a slice, an `insert` and a `remove`, or a
+-- `collect`.
+use Rattle.std.proofs.Common.{if◌then◌else◌, Bool, true, false, ◌≡◌, ℕ, zero, suc, ◌+◌, ◌-◌, ◌*◌, ◌^◌, ◌<◌, ◌≤◌, ap, arith, length, IfErr, Option, Result, Ok, Err, Some, None, inl, inr, refl, sym, ◌∙◌, List, ◌++◌, drop, take, [], ◌∷◌, IfOk}
 use Rattle.std.specs.Borrow.{RattleType}
 use Rattle.std.specs.Align.{type_align}
 use Rattle.std.specs.Mem.{type_size}
-use Rattle.std.specs.Prelude.{◌==◌, max, nat_lt}
+use Rattle.std.specs.Prelude.{◌==◌, max, nat_lt, insert, remove, slice_get, ⊤}
 use Rattle.std.proofs.lemmas.Bool.{cases_lt}
 use Rattle.thin_block.specs.declared.errors.ThinVecError.{ThinVecError}
 use Rattle.thin_block.specs.declared.errors.ThinVecError.TheVariants.{CapacityOverflow, OutOfMemory}
@@ -14,6 +15,13 @@ use Rattle.thin_block.proofs.CapacityLemmas.{exact-fits, exact-same, ruled-overf
 use Rattle.thin_block.proofs.Outcomes.{some-same}
 use Rattle.thin_vec.specs.List.Capacity.{Reserves, TellsOverflowOf}
 use Rattle.thin_vec.specs.ThinVec.{IsCause, Thin}
+use Rattle.std.proofs.Math.Seq.{take-append_seam}
+use Rattle.std.specs.List.{refill}
+use Rattle.thin_vec.specs.Lends.{with_items}
+use Rattle.std.specs.Iterator.{DrainsIf}
+use Rattle.std.proofs.lemmas.Iterator.{YieldsList}
+use Rattle.std.proofs.lemmas.Iterator.Adapters.{fact_from_collect}
+use Rattle.thin_vec.specs.List.Extend.{IsMadeOf}
 
 -- If `n` and the size of an item in bytes are less than `2 ^ 31`, then `exact_capacity` returns the
 -- capacity `n` for a new list of `n` items.
@@ -122,3 +130,54 @@ doubling-most R c w n more e = elim (cases_lt w (2 ^ 64)) [
       omega (arith, named, few))
   | inr high ↦ none_some n (sym (ruled-overflow doubling R c w more high) ∙ e)
 ]
+
+-- If the lists `ws` and `xs` have the same length, then writing `ws` over the items `xs` yields
+-- exactly `ws`.
+pub refill_all : {T : Type 0} (xs ws : List T) → length ws ≡ length xs
+    → refill (length xs) xs ws ≡ ws
+refill_all xs ws same =
+    ap (λ n. take n (ws ++ drop (length ws) xs)) (sym same) ∙ take-append_seam ws _
+
+-- If `ws` has the same length as the list `v`, then writing `ws` over the items of `v` yields a
+-- list with exactly the items `ws`.
+pub with_items_is : {T A : Type 0} (v : Thin T A) (ws : List T) → length ws ≡ length v.items
+    → (with_items v ws).items ≡ ws
+with_items_is v ws same = refill_all v.items ws same
+
+module _ {T : Type 0} where
+  -- Inserting the item `x` into the list `xs` at index `i`, and then removing the item at index
+  -- `i`, restores `xs`.
+  pub remove-insert : (xs : List T) (i : ℕ) (x : T) → i ≤ length xs → remove (insert xs i x) i ≡ xs
+  remove-insert [] zero x h = refl
+  remove-insert (y ∷ xs) zero x h = refl
+  remove-insert [] (suc i) x h = absurd (omega arith)
+  remove-insert (y ∷ xs) (suc i) x h = ap (λ l. y ∷ l) (remove-insert xs i x (omega arith))
+
+  -- After the item `x` is inserted at index `i`, the item at index `i` is `x`.
+  pub slice_get-insert : (xs : List T) (i : ℕ) (x : T) → i ≤ length xs
+      → slice_get (insert xs i x) i ≡ Some x
+  slice_get-insert [] zero x h = refl
+  slice_get-insert (y ∷ xs) zero x h = refl
+  slice_get-insert [] (suc i) x h = absurd (omega arith)
+  slice_get-insert (y ∷ xs) (suc i) x h = slice_get-insert xs i x (omega arith)
+
+-- These rewrite rules simplify `remove (insert xs i x) i` and `slice_get (insert xs i x) i`.
+pub ruleset undone = (remove-insert, slice_get-insert)
+
+module _ {T A E : Type 0} where
+  -- `IfOk r P` states that `P v` is true if the result `r` is `Ok v`. If `P v` implies `Q v` for
+  -- each list `v`, then `IfOk r P` implies `IfOk r Q`.
+  if_ok : {P Q : Thin T A → Type 0} (r : Result (Thin T A) E) → ((v : Thin T A) → P v → Q v)
+      → IfOk r P → IfOk r Q
+  if_ok (Ok v) implies p = implies v p
+  if_ok (Err e) implies p = p
+
+  -- If the iterator yields exactly the items `all`, and `collect` returns a `ThinVec`, then this
+  -- `ThinVec` contains exactly the items `all`. This lemma corresponds to std's
+  -- `items_from_collect`.
+  pub items_from_collect : {S : Type 0} {steps : S → Option T → S → Type 0} {s : S} {all : List T}
+      (R : RattleType) (r : Result (Thin T A) E)
+      → IfOk r (λ v. (xs : List T) × DrainsIf steps ⊤ s xs × IsMadeOf R xs v)
+      → YieldsList steps (λ x. x) s all → IfOk r (λ v. v.items ≡ all)
+  items_from_collect R r made yields =
+      if_ok r (λ v all_made. all_made.0) (fact_from_collect (IsMadeOf R) r made yields)

@@ -1,0 +1,43 @@
+-- If `shrink` succeeds, the items are in the first slots of a smaller block with `wanted` slots. So
+-- the list contains the same items as before.
+use Rattle.std.proofs.Common.{ap, ◌∙◌, arith, length}
+use denote.Param.{param}
+use Rattle.thin_block.proofs.CapacityLemmas.{fits-less}
+use Rattle.thin_block.specs.Slots.{items_in}
+use Rattle.thin_vec.proofs.ListLemmas.{Settled}
+use Rattle.thin_vec.proofs.ThinVecLemmas.{within-settled}
+use Rattle.thin_vec.proofs.list.CapacityLemmas.{settle-shrink}
+use Rattle.thin_vec.proofs.list.ThinVec.shrink_to.Goals as goal
+
+facts : (g : _) (c : goal.In_ok-shrink g) → Settled c.shrink.new.self c.self.inside.alloc
+    (items_in c.self.inside.block.slots) c.max-wanted.result
+facts g c =
+    settle-shrink c.self.invariant c.shrink.new.self c.max-wanted.result
+    (omega (
+      arith,
+      c.max-wanted.ensures,
+      c.len.ensures.value,
+      ap (λ v. length v.items) c.self.view_is,
+    ))
+    (omega (
+      arith,
+      c.if-wanted-capacity.false,
+      c.capacity.ensures.value,
+      ap (λ v. v.capacity) c.self.view_is,
+    ))
+    c.in_ok-shrink.ensures.ok
+
+pub invariant_of-self-2 : goal.invariant_of-self-2
+invariant_of-self-2 g c = (facts g c).thin
+
+pub returns-clause-items : goal.returns-clause-items
+returns-clause-items g c = (facts g c).items ∙ ap (λ v. v.items) c.self.view_is
+
+pub returns-clause-within : goal.returns-clause-within
+returns-clause-within g c =
+    let before = c.len.ensures.within in (
+      before,
+      within-settled _ _ _ _ _
+          (fits-less (param 0 g.row.T) _ _ before.fits
+          (omega (arith, c.if-wanted-capacity.false, c.capacity.ensures.value))) (facts g c),
+    )
