@@ -20,7 +20,7 @@ returns-in-Ok g c =
       allowed = (
         tt,
         replaces ((e.items.2 ∙ ap (λ l. old.items ++ l) items) ∙ sym (at-end old.items _))
-            e.capacity e.cost e.keeps (sym (without_range-end old)) count (omega arith),
+            e.capacity e.cost.adding e.keeps (sym (without_range-end old)) count (omega arith),
       );
     }
 
@@ -50,8 +50,8 @@ returns-in-Err g c =
                 ∙ (all ∙ (append_assoc e.placed.0 one (hinted_items rest)
                 ∙ sym (ap (λ h. e.placed.0 ++ (h ++ (one ++ hinted_items rest))) none)));
             claim = claim ∙ c.new.ensures.lower;
-            filled = replaces (e.placed.1 ∙ sym (at-end old.items e.placed.0)) e.capacity e.cost
-                e.keeps (sym (without_range-end old)) count (omega arith);
+            filled = replaces (e.placed.1 ∙ sym (at-end old.items e.placed.0)) e.capacity
+                e.cost.adding e.keeps (sym (without_range-end old)) count (omega arith);
             no_room = places-end old ⊥ may
                 (λ nothing. false≢true
                 (e.succeeds (omega (arith, nothing, most, e.keeps.within.0.room)))) full;
