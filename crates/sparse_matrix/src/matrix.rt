@@ -81,7 +81,7 @@ impl<A: Allocator + Copy> Matrix<A> {
     /// Fails if there is not enough memory for the product.
     pub fn product(&self, alloc: A, vector: &[u64]) -> Result<ThinVec<u64, A>, ThinVecError>
         requires size { length vector.now ≡ self.now.columns }
-        ensures length { IfOk result (λ product. length product.items ≡ length self.now.numbers) }
+        ensures len { IfOk result (λ product. length product.items ≡ length self.now.numbers) }
         ensures numbers { IfOk result (λ product. (i : ℕ) → i < length self.now.numbers
             → slice_index product.items i ≡ min (dot self.now.numbers i vector.now) (2 ^ 64 - 1)) }
     {

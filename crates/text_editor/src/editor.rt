@@ -151,7 +151,7 @@ fn step(
     from: &mut ThinVec<Change>,
     to: &mut ThinVec<Change>,
 ) -> Result<(), ThinVecError>
-    requires some { 0 < length from.old.items }
+    requires nonempty { 0 < length from.old.items }
     requires from_fit { AllFit from.old.items text.old.items }
     requires to_fit { AllFit to.old.items text.old.items }
 

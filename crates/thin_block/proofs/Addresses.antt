@@ -1,7 +1,7 @@
 -- These lemmas are steps of proofs about function bodies. They compute the addresses of slots, and
 -- separate one or two slots of a block from the other slots.
 use Rattle.std.proofs.Common.{◌≡◌, ℕ, zero, Some, None, ◌+◌, ◌*◌, ◌^◌, ◌<◌, ◌≤◌, List, [], ◌∷◌, length, true, refl, sym, ap, subst, arith, w64, T}
-use Rattle.thin_block.proofs.Walks.{get_or, Ura, full_share, Share, ftrue, fat, Body, seq, assign, place, copy, rv_opd, Val, vint, vptr, has_ty, Env, Calls, Loops, Logic, Item, Goal, Seq, Step, step, ‵, ◌⊛◌, some, given, pick, learn, runs, ◌$◌, use1, move, split, split3, rewrite, whole, sub, look_in, stop, fld, load, lit, bin, size_word, of_opd, assigns, through, is, get, lone, cell_at, block_ptr, Al, El, R, elτ, el_x, uncapped}
+use Rattle.thin_block.proofs.WalkPrelude.{get_or, Ura, full_share, Share, ftrue, fat, Body, seq, assign, place, copy, rv_opd, Val, vint, vptr, has_ty, Env, Calls, Loops, Logic, Item, Goal, Seq, Step, step, ‵, ◌⊛◌, some, given, pick, learn, runs, ◌$◌, use1, move, split, split3, rewrite, whole, sub, look_in, stop, fld, load, lit, bin, size_word, of_opd, assigns, through, is, get, lone, cell_at, block_ptr, Al, El, R, elτ, el_x, uncapped}
 use mir.Syntax.{int, op2, offset, mul, unsigned, size_of, deref, field}
 use prog.Wp.{spot_of}
 use types.Kit.{Post, nth, del}
@@ -9,7 +9,7 @@ use types.Run.{Opd, from}
 use types.ByLocal.{at, set, set_at, free_needs}
 use Rattle.core.proofs.mem.Param.{Good}
 use Rattle.core.proofs.slice.Rows.{el_out}
-use Rattle.thin_block.specs.Ownership.{fits_block, place as slot_place, places}
+use Rattle.thin_block.specs.Ownership.{fits_block, slot_owns as slot_place, slots_own}
 use Rattle.thin_block.proofs.HeaderMemory.{Br, block_val}
 use Rattle.thin_block.proofs.SlotMemory.{Slot, sz, reach, besides, slot_out, Two}
 
@@ -155,7 +155,7 @@ module _ (E : El) {M : Type 1} {𝓤 : Ura M} {𝓛 : Logic 𝓤} {K : Type 0} {
   pub takes_slot : K → {x : Slot E} (b o : ℕ) (xs : List (Slot E)) (i : ℕ) → i < length xs
       → get_or xs i None ≡ x
       → Step K 𝓛 (‵ (slot_place (R E) x b (i * sz E + o)) ∷ ‵ (besides E 𝓛 b o xs i) ∷ h ∷ Γ) G
-      (h ∷ ‵ (places (R E) xs b o) ∷ Γ) G
+      (h ∷ ‵ (slots_own (R E) xs b o) ∷ Γ) G
   takes_slot k b o xs i within e = step (λ rest.
       move k (1 ∷ []) $ use1 𝓛
       (‵ (slot_place (R E) (get_or xs i None) b (i * sz E + o)) ⊛ ‵ (besides E 𝓛 b o xs i))
@@ -180,7 +180,7 @@ module _ (E : El) {M : Type 1} {𝓤 : Ura M} {𝓛 : Logic 𝓤} {K : Type 0} {
       → get_or xs i None ≡ Some x
       → ((v : Val) → Good E v → Seq K 𝓛 (Bits E 𝓤 b (i * sz E + o) v ∷ Owned E 𝓤 x v
       ∷ ‵ (besides E 𝓛 b o xs i) ∷ h ∷ Γ) G)
-      → Seq K 𝓛 (h ∷ ‵ (places (R E) xs b o) ∷ Γ) G
+      → Seq K 𝓛 (h ∷ ‵ (slots_own (R E) xs b o) ∷ Γ) G
   takes_item k {x} b o xs i within e next =
       takes_slot E k b o xs i within e $
       use1 𝓛 (some (λ (v : Val). given (Good E v) (Bits E 𝓤 b (i * sz E + o) v ⊛ Owned E 𝓤 x v)))
@@ -192,7 +192,7 @@ module _ (E : El) {M : Type 1} {𝓤 : Ura M} {𝓛 : Logic 𝓤} {K : Type 0} {
       (p : Two E 𝓛 b o xs i j) → (get_or xs i None ≡ Some x) × (get_or xs j None ≡ Some y)
       → ((v w : Val) → Good E v → Good E w → Seq K 𝓛 (Bits E 𝓤 b (j * sz E + o) w ∷ Owned E 𝓤 y w
       ∷ Bits E 𝓤 b (i * sz E + o) v ∷ Owned E 𝓤 x v ∷ ‵ p.Rest ∷ h ∷ Γ) G)
-      → Seq K 𝓛 (h ∷ ‵ (places (R E) xs b o) ∷ Γ) G
+      → Seq K 𝓛 (h ∷ ‵ (slots_own (R E) xs b o) ∷ Γ) G
   takes_two k {x} {y} b o xs i j p e next =
       let here : ℕ = i * sz E + o in
       let there : ℕ = j * sz E + o in

@@ -1,4 +1,4 @@
--- These lemmas are about the functions that choose the new capacity of a block: `ruled_capacity`,
+-- These lemmas are about the functions that choose the new capacity of a block: `grown_capacity`,
 -- which uses a growth rule, and `exact_capacity`.
 use Rattle.std.proofs.Common.{if◌then◌else◌, Bool, true, false, IsTrue, ◌≡◌, ℕ, zero, suc, ◌*◌, ◌^◌, ◌<◌, ◌≤◌, ap, refl, subst, sym, ◌∙◌, arith}
 use Rattle.std.specs.declared.option.Option.TheVariants.{Some, None}
@@ -11,39 +11,39 @@ use Rattle.std.specs.Align.{type_align}
 use Rattle.std.specs.Prelude.{◌==◌, max}
 use Rattle.std.proofs.lemmas.Bool.Decides.{nat_tests}
 use Rattle.core.proofs.ptr.Rows.{times_below}
-use Rattle.thin_block.specs.Capacity.{fits, first, Fits}
-use Rattle.thin_block.specs.Growth.{Grows, Rule, KeepsLaw, doubling, exact_capacity, fitting, ruled_capacity}
+use Rattle.thin_block.specs.Capacity.{fits, min_non_zero_cap, Fits}
+use Rattle.thin_block.specs.Growth.{GrowsValidly, GrowthRule, IsLawful, doubling, exact_capacity, checked_capacity, grown_capacity}
 use Rattle.thin_block.proofs.sizes.SizesLemmas.{opened, closed, fits_none, fits_tells, fits_yes, rounded}
 
--- If the old capacity `c` suffices for `w` items, then `ruled_capacity` is `Some c`: the capacity
+-- If the old capacity `c` suffices for `w` items, then `grown_capacity` is `Some c`: the capacity
 -- does not change.
-pub ruled-same : (rule : Rule) (R : RattleType) (c w : ℕ) → w ≤ c
-    → ruled_capacity rule R c w ≡ Some c
-unfolding ruled_capacity
+pub ruled-same : (rule : GrowthRule) (R : RattleType) (c w : ℕ) → w ≤ c
+    → grown_capacity rule R c w ≡ Some c
+unfolding grown_capacity
 ruled-same rule R c w enough = rw (le-leb w c enough) refl
 
 -- If the required capacity `w` exceeds both the old capacity `c` and `usize::MAX`, then
--- `ruled_capacity` is `None`: there is no new capacity.
-pub ruled-overflow : (rule : Rule) (R : RattleType) (c w : ℕ) → c < w → 2 ^ 64 ≤ w
-    → ruled_capacity rule R c w ≡ None
-unfolding ruled_capacity
+-- `grown_capacity` is `None`: there is no new capacity.
+pub ruled-overflow : (rule : GrowthRule) (R : RattleType) (c w : ℕ) → c < w → 2 ^ 64 ≤ w
+    → grown_capacity rule R c w ≡ None
+unfolding grown_capacity
 ruled-overflow rule R c w more high = rw (lt-leb w c more) (rw (le-ltb w (2 ^ 64) high) refl)
 
 -- If the required capacity `w` exceeds the old capacity `c` and fits into a `usize`, then
--- `ruled_capacity` is the result of the growth rule `rule`.
-pub ruled-rule : (rule : Rule) (R : RattleType) (c w : ℕ) → c < w → w < 2 ^ 64
-    → ruled_capacity rule R c w ≡ rule (type_size R) (type_align R) c w
-unfolding ruled_capacity
+-- `grown_capacity` is the result of the growth rule `rule`.
+pub ruled-rule : (rule : GrowthRule) (R : RattleType) (c w : ℕ) → c < w → w < 2 ^ 64
+    → grown_capacity rule R c w ≡ rule (type_size R) (type_align R) c w
+unfolding grown_capacity
 ruled-rule rule R c w more word = rw (lt-leb w c more) (rw (lt-ltb w (2 ^ 64) word) refl)
 
 none_some : {A B : Type 0} (x : A) → None ≡ Some x → B
 none_some x e = cc
 
--- Suppose that `rule` satisfies the law of growth rules (`KeepsLaw`), and that `c < w`. If
--- `ruled_capacity rule R c w` is `Some n`, then `n` is at least `w` and at least `2 * c`, and a
+-- Suppose that `rule` satisfies the law of growth rules (`IsLawful`), and that `c < w`. If
+-- `grown_capacity rule R c w` is `Some n`, then `n` is at least `w` and at least `2 * c`, and a
 -- block of capacity `n` is small enough to be allocated.
-pub ruled-grows : (rule : Rule) (R : RattleType) (c w n : ℕ) → KeepsLaw rule → c < w
-    → ruled_capacity rule R c w ≡ Some n → Grows R c w n
+pub ruled-grows : (rule : GrowthRule) (R : RattleType) (c w n : ℕ) → IsLawful rule → c < w
+    → grown_capacity rule R c w ≡ Some n → GrowsValidly R c w n
 ruled-grows rule R c w n law more e = elim (dec_lt w (2 ^ 64)) [
   | yes word ↦ law (type_size R) (type_align R) c w n more word
       (sym (ruled-rule rule R c w more word) ∙ e)
@@ -100,13 +100,14 @@ small_fits R c few small =
 -- If the old capacity `c` is 0, the required capacity `w` is 1 to 4, and each item takes fewer than
 -- `2 ^ 31` bytes, then the rule `doubling` chooses the capacity 4.
 pub doubling_first : (R : RattleType) (c w : ℕ) → c ≡ 0 → 0 < w → w ≤ 4 → type_size R < 2 ^ 31
-    → ruled_capacity doubling R c w ≡ Some 4
-unfolding doubling fitting first
+    → grown_capacity doubling R c w ≡ Some 4
+unfolding doubling checked_capacity min_non_zero_cap
 doubling_first R c w none some few small =
     let s : ℕ = type_size R in
     let more : c < w = omega arith in
-    let four : max w (if c == 0 then first s else 2 * c) ≡ 4 = grind (arith, nat_tests) in
-    let fit : fits s (type_align R) (max w (if c == 0 then first s else 2 * c)) ≡ true =
+    let four : max w (if c == 0 then min_non_zero_cap s else 2 * c) ≡ 4 =
+    grind (arith, nat_tests) in
+    let fit : fits s (type_align R) (max w (if c == 0 then min_non_zero_cap s else 2 * c)) ≡ true =
     subst (Fits R) (sym four) (small_fits R 4 (omega arith) small) in
     ruled-rule doubling R c w more (omega arith) ∙ (rw fit (ap Some four))
 
@@ -114,12 +115,13 @@ doubling_first R c w none some few small =
 -- capacity `c` is too small for `w` items, but `2 * c` suffices, then the rule `doubling` chooses
 -- the capacity `2 * c`.
 pub doubling_next : (R : RattleType) (c w : ℕ) → 0 < c → c < w → w ≤ 2 * c → c < 2 ^ 30
-    → type_size R < 2 ^ 31 → ruled_capacity doubling R c w ≡ Some (2 * c)
-unfolding doubling fitting
+    → type_size R < 2 ^ 31 → grown_capacity doubling R c w ≡ Some (2 * c)
+unfolding doubling checked_capacity
 doubling_next R c w some more enough few small =
     let s : ℕ = type_size R in
-    let twice : max w (if c == 0 then first s else 2 * c) ≡ 2 * c = grind (arith, nat_tests) in
-    let fit : fits s (type_align R) (max w (if c == 0 then first s else 2 * c)) ≡ true =
+    let twice : max w (if c == 0 then min_non_zero_cap s else 2 * c) ≡ 2 * c =
+    grind (arith, nat_tests) in
+    let fit : fits s (type_align R) (max w (if c == 0 then min_non_zero_cap s else 2 * c)) ≡ true =
     subst (Fits R) (sym twice) (small_fits R (2 * c) (omega arith) small) in
     ruled-rule doubling R c w more (omega arith) ∙ (rw fit (ap Some twice))
 
@@ -132,18 +134,18 @@ exact-same R c w enough = rw (le-leb w c enough) refl
 -- If the required capacity `w` exceeds the old capacity `c`, and a block of capacity `w` is small
 -- enough to be allocated, then `exact_capacity` is `Some w`.
 pub exact-fits : (R : RattleType) (c w : ℕ) → c < w → Fits R w → exact_capacity R c w ≡ Some w
-unfolding exact_capacity fitting
+unfolding exact_capacity checked_capacity
 exact-fits R c w more fit = rw (lt-leb w c more, fit) refl
 
 no_answer : (b : Bool) (n : ℕ) → (IsTrue b → ⊥) → (if b then Some n else None) ≡ None
 no_answer true n never = absurd (never refl)
 no_answer false n never = refl
 
--- If a block of capacity `n` is too large to be allocated, then `fitting` returns `None` for the
--- capacity `n`.
+-- If a block of capacity `n` is too large to be allocated, then `checked_capacity` returns `None`
+-- for the capacity `n`.
 pub fitting_none : (R : RattleType) (n : ℕ) → (Fits R n → ⊥)
-    → fitting (type_size R) (type_align R) n ≡ None
-unfolding fitting
+    → checked_capacity (type_size R) (type_align R) n ≡ None
+unfolding checked_capacity
 fitting_none R n never = no_answer (fits (type_size R) (type_align R) n) n never
 
 -- If the required capacity `w` exceeds the old capacity `c`, and a block of capacity `w` is too
@@ -172,13 +174,13 @@ module _ (R S : RattleType) (c w : ℕ) (size : type_size R ≡ type_size S)
   -- If the item types `R` and `S` have the same size and the same alignment, then `exact_capacity`
   -- returns the same result for both types.
   pub exact-at : exact_capacity R c w ≡ exact_capacity S c w
-  unfolding exact_capacity fitting
+  unfolding exact_capacity checked_capacity
   exact-at = rw (size, align) refl
 
-  -- If the item types `R` and `S` have the same size and the same alignment, then `ruled_capacity`
+  -- If the item types `R` and `S` have the same size and the same alignment, then `grown_capacity`
   -- returns the same result for both types.
-  pub ruled-at : (rule : Rule) → ruled_capacity rule R c w ≡ ruled_capacity rule S c w
-  unfolding ruled_capacity
+  pub ruled-at : (rule : GrowthRule) → grown_capacity rule R c w ≡ grown_capacity rule S c w
+  unfolding grown_capacity
   ruled-at rule = rw (size, align) refl
 
 pub ruleset ruled = (ruled-same, ruled-overflow, ruled-rule)

@@ -1,7 +1,7 @@
 -- These lemmas split the memory of a block into its header and its slots, and put these parts back
 -- together.
 use Rattle.std.proofs.Common.{◌≡◌, Bool, true, ℕ, Some, None, ◌+◌, ◌*◌, ◌<◌, List, [], ◌∷◌, ◌++◌, length, refl, sym, ap, subst, ◌∙◌, arith, w64, Option}
-use Rattle.thin_block.proofs.Walks.{Ura, Ty, Width, Args, w8, w16, w32, w128, a_type, dcons, dnil, ty_int, ty_array, size, align, align_w, align-bytes, size-raw, lone, cell_at, mem, Val, vstruct, vcons, vnil, bytes, ent, emp, sep, wand, id⊢, never, apply∗, Lft, GName, Share, Fml, ftrue, fsep, froom, flft, fbor, Logic, sem, ‵, ◌⊛◌, ◌$◌, ◌∵◌, !, qed, by, move, keep, drop, use0, use1, use2, split, split3, join, fsplit, fsplit3, fjoin, rewrite, keeps, assume, feq_i, feq_l, Item, Goal, Step, step, Seq, done, RattleType, param, bounded, Ptr, RawPtr, block_ptr, ptr_val, Struct, usize, shows, nothing, peeks, full_share, El, R, Al, type_size, type_align}
+use Rattle.thin_block.proofs.WalkPrelude.{Ura, Ty, Width, Args, w8, w16, w32, w128, a_type, dcons, dnil, ty_int, ty_array, size, align, align_w, align-bytes, size-raw, lone, cell_at, mem, Val, vstruct, vcons, vnil, bytes, ent, emp, sep, wand, id⊢, never, apply∗, Lft, GName, Share, Fml, ftrue, fsep, froom, flft, fbor, Logic, sem, ‵, ◌⊛◌, ◌$◌, ◌∵◌, !, qed, by, move, keep, drop, use0, use1, use2, split, split3, join, fsplit, fsplit3, fjoin, rewrite, keeps, assume, feq_i, feq_l, Item, Goal, Step, step, Seq, done, RattleType, param, bounded, Ptr, RawPtr, block_ptr, ptr_val, Struct, usize, shows, nothing, peeks, full_share, El, R, Al, type_size, type_align}
 use mir.Syntax.{Tys, tcons, tnil}
 use mir.Raw.{raw}
 use prog.Memory.{up}
@@ -19,7 +19,7 @@ use denote.Struct.Lending.{lent_at}
 use denote.Steps.{opens, closes}
 use borrow.Author.Tests.{clash}
 use Rattle.std.specs.Option.{is_some}
-use Rattle.thin_block.specs.Ownership.{any, fits_block, places, parts, whole, frame, block_owns}
+use Rattle.thin_block.specs.Ownership.{is_nonempty, fits_block, slots_own, unjoined_room, block_type, header_owns, block_owns}
 use Rattle.thin_block.specs.Capacity.{block_align, block_bytes}
 use Rattle.thin_block.proofs.sizes.SizesLemmas.{fits_none}
 use Rattle.thin_block.specs.contracts.block.Block as block
@@ -90,12 +90,12 @@ module _ (R : RattleType) (c : ℕ) where
 
   -- A whole block with `c` slots for items of the type `R` has the alignment that `block_align`
   -- computes.
-  pub whole_align : align (whole R c) ≡ block_align (type_align R)
+  pub whole_align : align (block_type R c) ≡ block_align (type_align R)
   whole_align = ap (λ (a : ℕ). max 8 (max 8 (max a 1))) (align-raw τ) ∙ (aligned τ).0
 
   -- A whole block with `c` slots for items of the type `R` has the size that `block_bytes`
   -- computes.
-  pub whole_size : size (whole R c) ≡ block_bytes (type_size R) (type_align R) c
+  pub whole_size : size (block_type R c) ≡ block_bytes (type_size R) (type_align R) c
   whole_size =
       let ends : up (align items) 16 + size items ≡ max 16 (align τ) + c * size τ =
       (λ i. (sixteen items ∙ sym (aligned τ).1) i + c * size-raw τ i) in
@@ -107,11 +107,11 @@ module _ {M : Type 1} {𝓤 : Ura M} (𝓛 : Logic 𝓤) (R : RattleType) where
   -- Splits the memory of a whole block into memory for the capacity, memory for the length, and
   -- memory for the slots. The result also contains the right to put these three parts back
   -- together.
-  pub carve : (c b o : ℕ) → ent 𝓤 (H.room (whole R c) b o)
+  pub carve : (c b o : ℕ) → ent 𝓤 (H.room (block_type R c) b o)
       (sep 𝓤 (H.room (ty_int w64) b o)
       (sep 𝓤 (H.room (ty_int w64) b (o + 8))
       (sep 𝓤 (H.room (items R c) b (o + 16))
-      (sem 𝓛 (fwand (parts R c b o) (froom (whole R c) b o))))))
+      (sem 𝓛 (fwand (unjoined_room R c b o) (froom (block_type R c) b o))))))
   carve c b o =
       let word : Ty = ty_int w64 in
       let τs : Tys = tcons word (tcons word (tcons (items R c) tnil)) in
@@ -119,8 +119,8 @@ module _ {M : Type 1} {𝓤 : Ura M} (𝓛 : Logic 𝓤) (R : RattleType) where
       let first : o + 0 ≡ o = omega arith in
       let third : o + up (align (items R c)) 16 ≡ o + 16 =
       ap (λ (k : ℕ). o + k) (sixteen (items R c)) in
-      qed 𝓛 (‵ (froom (whole R c) b o) ∷ []) ∵
-      use1 𝓛 (given_raw rooms ⊛ given_raw (wand 𝓤 rooms (H.room (whole R c) b o)))
+      qed 𝓛 (‵ (froom (block_type R c) b o) ∷ []) ∵
+      use1 𝓛 (given_raw rooms ⊛ given_raw (wand 𝓤 rooms (H.room (block_type R c) b o)))
       (𝓛.laws.room_fields [] τs b o) $ split ! $
       use1 𝓛 (‵ (froom word b (o + 0)) ⊛ ‵ (froom word b (o + 8)) ⊛ ‵
       (froom (items R c) b (o + up (align (items R c)) 16)) ⊛ ‵ ftrue) (id⊢ 𝓤 rooms) $
@@ -128,11 +128,11 @@ module _ {M : Type 1} {𝓤 : Ura M} (𝓛 : Logic 𝓤) (R : RattleType) where
       rewrite ! 0 (λ (k : ℕ). ‵ (froom (items R c) b k)) third refl $
       rewrite ! 2 (λ (k : ℕ). ‵ (froom word b k)) first refl $
       move ! (2 ∷ 3 ∷ 0 ∷ 4 ∷ []) $ keeps ! $ keeps ! $ keeps ! $
-      assume {P = H.room (whole R c) b o} ! (‵ (parts R c b o)) $ fsplit3 ! $
+      assume {P = H.room (block_type R c) b o} ! (‵ (unjoined_room R c b o)) $ fsplit3 ! $
       rewrite ! 0 (λ (k : ℕ). ‵ (froom word b k)) (sym first) refl $
       rewrite ! 2 (λ (k : ℕ). ‵ (froom (items R c) b k)) (sym third) refl $
       move ! (2 ∷ 4 ∷ []) $ join ! $ move ! (2 ∷ 0 ∷ []) $ join ! $ move ! (1 ∷ 0 ∷ []) $ join ! $
-      by ! (apply∗ 𝓤 rooms (H.room (whole R c) b o))
+      by ! (apply∗ 𝓤 rooms (H.room (block_type R c) b o))
 
 -- `header t R n c a b o` states what a block with the length `n` and `c` slots for items of type
 -- `R` owns besides these slots. If the option `a` contains an allocator, the block owns its header
@@ -142,37 +142,39 @@ abbrev pub header : {D : Type 0} → (D → Ty → Ptr → Fml) → RattleType �
     → Option D → ℕ → ℕ → Fml
 header t R n c None b o = fsep (lent_at usize (block_ptr b o) 0 [])
     (lent_at usize (block_ptr b (o + 8)) 0 [])
-header t R n c (Some a) b o = frame (t a) R n c b o
+header t R n c (Some a) b o = header_owns (t a) R n c b o
 
 -- Suppose that the option `a` contains an allocator if and only if the list `xs` of slots is not
 -- empty. If `xs` has at least one slot, then `a` is `Some h` for some allocator `h`.
-pub alloc_there : {D X : Type 0} (a : Option D) (xs : List X) → is_some a ≡ any xs → 0 < length xs
+pub alloc_there : {D X : Type 0} (a : Option D) (xs : List X) → is_some a ≡ is_nonempty xs
+    → 0 < length xs
     → (h : D) × (a ≡ Some h)
 alloc_there (Some h) xs is some = (h, refl)
 alloc_there None [] is some = absurd (omega arith)
 alloc_there None (x ∷ xs) is some = absurd (clash is)
 
--- If the list `xs` is not empty, then `any xs` is `true`.
-pub any_some : {X : Type 0} (xs : List X) → 0 < length xs → true ≡ any xs
+-- If the list `xs` is not empty, then `is_nonempty xs` is `true`.
+pub any_some : {X : Type 0} (xs : List X) → 0 < length xs → true ≡ is_nonempty xs
 any_some [] some = absurd (omega arith)
 any_some (x ∷ xs) some = refl
 
 module _ {D : Type 0} (t : D → Ty → Ptr → Fml) (R : RattleType) {M : Type 1}
     {𝓤 : Ura M} (𝓛 : Logic 𝓤) where
-  header_out : (n : ℕ) (xs : List (Option R.Denot)) (a : Option D) (b o : ℕ) → is_some a ≡ any xs
+  header_out : (n : ℕ) (xs : List (Option R.Denot)) (a : Option D) (b o : ℕ)
+      → is_some a ≡ is_nonempty xs
       → ent 𝓤 (sem 𝓛 (block_owns t R (block_ptr b o) n xs a))
-      (sep 𝓤 (sem 𝓛 (header t R n (length xs) a b o)) (sem 𝓛 (places R xs b (o + 16))))
+      (sep 𝓤 (sem 𝓛 (header t R n (length xs) a b o)) (sem 𝓛 (slots_own R xs b (o + 16))))
   header_out n xs (Some a) b o is = id⊢ 𝓤 _
   header_out n [] None b o is = qed 𝓛 (‵ (block_owns t R (block_ptr b o) n [] None) ∷ [])
       ∵ nothing ! $ move ! (1 ∷ 0 ∷ []) $ done !
   header_out n (x ∷ xs) None b o is = absurd (clash is)
 
   header_in : (n : ℕ) (xs : List (Option R.Denot)) (a : Option D) (b o : ℕ)
-      → ent 𝓤 (sep 𝓤 (sem 𝓛 (header t R n (length xs) a b o)) (sem 𝓛 (places R xs b (o + 16))))
+      → ent 𝓤 (sep 𝓤 (sem 𝓛 (header t R n (length xs) a b o)) (sem 𝓛 (slots_own R xs b (o + 16))))
       (sem 𝓛 (block_owns t R (block_ptr b o) n xs a))
   header_in n xs (Some a) b o = id⊢ 𝓤 _
   header_in n xs None b o =
-      qed 𝓛 (‵ (header t R n (length xs) None b o) ∷ ‵ (places R xs b (o + 16)) ∷ [])
+      qed 𝓛 (‵ (header t R n (length xs) None b o) ∷ ‵ (slots_own R xs b (o + 16)) ∷ [])
       ∵ keep ! (0 ∷ []) $ done !
 
 module _ {D : Type 0} (t : D → Ty → Ptr → Fml) (R : RattleType) {M : Type 1} {𝓤 : Ura M}
@@ -180,7 +182,7 @@ module _ {D : Type 0} (t : D → Ty → Ptr → Fml) (R : RattleType) {M : Type 
   -- Derives from the header of a block that the block is small enough to be allocated, and passes
   -- this fact to the rest of the proof.
   pub header_fits : K → (n : ℕ) (xs : List (Option R.Denot)) (a : Option D)
-      (b o : ℕ) → is_some a ≡ any xs
+      (b o : ℕ) → is_some a ≡ is_nonempty xs
       → (fits_block R (length xs) ≡ true → Seq K 𝓛 (‵ (header t R n (length xs) a b o) ∷ Γ) G)
       → Seq K 𝓛 (‵ (header t R n (length xs) a b o) ∷ Γ) G
   header_fits k n xs (Some a) b o is next =
@@ -213,7 +215,7 @@ module _ (E : El) (Y : Al) where
   -- `Slots x b o` is the memory of the slots of the block `x`. The header of this block begins at
   -- the offset `o` of the allocation `b`.
   abbrev pub Slots : Br.Denot → ℕ → ℕ → Fml
-  Slots x b o = places (R E) x.slots b (o + 16)
+  Slots x b o = slots_own (R E) x.slots b (o + 16)
 
 module _ (E : El) (Y : Al) {M : Type 1} {𝓤 : Ura M} {𝓛 : Logic 𝓤} {K : Type 0}
     {Γ : List (Item 𝓤)} {G : Goal 𝓤 𝓛.H} where

@@ -1,14 +1,14 @@
 -- These are the lemma files that are not about one source. Other crates may use only the files
 -- that are `pub`.
-mod Walks
+mod WalkPrelude
 mod HeaderMemory
 mod SlotMemory
-mod Methods
+mod MethodSignatures
 mod Addresses
-mod Turning
-mod Sharing
-mod Lending
+mod WordConversionLemmas
+mod SharedRefLemmas
+mod BorrowLemmas
 pub mod BlockLemmas
 pub mod CapacityLemmas
 pub mod SlotsLemmas
-pub mod Outcomes
+pub mod ResultLemmas

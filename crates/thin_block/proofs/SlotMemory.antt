@@ -1,7 +1,7 @@
 -- These lemmas separate the memory of some slots of a block from the memory of the other slots, and
 -- convert the memory of slots into arrays, slice elements or uninitialized memory.
 use Rattle.std.proofs.Common.{◌≡◌, true, ℕ, zero, suc, None, ◌+◌, ◌*◌, ◌^◌, ◌<◌, ◌≤◌, List, [], ◌∷◌, ◌++◌, length, refl, sym, ap, ◌∙◌, arith, take, Option}
-use Rattle.thin_block.proofs.Walks.{zero-mul, suc-mul, set, get_or, length-set, Ura, full_share, ty_array, bare, ent, sep, emp, via, id⊢, Fml, ftrue, fsep, froom, Logic, sem, ‵, ◌⊛◌, given, ◌$◌, ◌∵◌, !, qed, by, move, keep, use1, use2, use3, split, split3, learn, rewrite, keeps, fsplit, fjoin, done, Array, part_at, mem, cells, RattleType, nothing, type_size, El, R, el_x, elτ, times_below}
+use Rattle.thin_block.proofs.WalkPrelude.{zero-mul, suc-mul, set, get_or, length-set, Ura, full_share, ty_array, bare, ent, sep, emp, via, id⊢, Fml, ftrue, fsep, froom, Logic, sem, ‵, ◌⊛◌, given, ◌$◌, ◌∵◌, !, qed, by, move, keep, use1, use2, use3, split, split3, learn, rewrite, keeps, fsplit, fjoin, done, Array, part_at, mem, cells, RattleType, nothing, type_size, El, R, el_x, elτ, times_below}
 use lib.ListN.{drop, take-append-drop, length-take, length-drop}
 use mathlib.Core.Logic.{⊎_elim}
 use Rattle.core.proofs.str.Laws.{order}
@@ -9,8 +9,8 @@ use lib.Seq.{drop-cons, drop-drop, set_split, set_comm, get_or-take, take-set-lt
 use base.Logic.{guard, mono_r}
 use types.Kit.{drop as skip, check}
 use denote.Index.{row}
-use Rattle.thin_block.specs.Ownership.{fits_block, place, places}
-use Rattle.thin_block.specs.Slots.{full, empty, run, laid}
+use Rattle.thin_block.specs.Ownership.{fits_block, slot_owns, slots_own}
+use Rattle.thin_block.specs.Slots.{filled_slots, empty_slots, slot_range, write_slots}
 use Rattle.thin_block.proofs.sizes.SizesLemmas.{fits_tells}
 use Rattle.core.proofs.ptr.Rows as arrays
 
@@ -38,7 +38,7 @@ module _ (E : El) {M : Type 1} {𝓤 : Ura M} (𝓛 : Logic 𝓤) (b : ℕ) wher
   s = sz E
 
   abbrev Row : ℕ → List (Slot E) → Fml
-  Row o xs = places (R E) xs b o
+  Row o xs = slots_own (R E) xs b o
 
   -- Splits the memory of the slots `xs ++ ys`. The memory of `xs` begins at the offset `o`, and the
   -- memory of `ys` at the offset `at`.
@@ -78,7 +78,7 @@ module _ (E : El) {M : Type 1} {𝓤 : Ura M} (𝓛 : Logic 𝓤) (b : ℕ) wher
 
     pub slot_out : i < length xs
         → ent 𝓤 (sem 𝓛 (Row o xs))
-        (sep 𝓤 (sem 𝓛 (place (R E) (get_or xs i None) b (i * s + o))) (sem 𝓛 besides))
+        (sep 𝓤 (sem 𝓛 (slot_owns (R E) (get_or xs i None) b (i * s + o))) (sem 𝓛 besides))
     slot_out lt = qed 𝓛 (‵ (Row o xs) ∷ []) ∵
         rewrite ! 0 (λ (l : List (Slot E)). ‵ (Row o l))
         (sym (take-append-drop i xs) ∙ ap (λ l. take i xs ++ l) (drop-cons xs i None lt)) refl $
@@ -89,9 +89,9 @@ module _ (E : El) {M : Type 1} {𝓤 : Ura M} (𝓛 : Logic 𝓤) (b : ℕ) wher
         move ! (1 ∷ []) $ done !
 
     pub slot_in : i < length xs → (x : Slot E)
-        → ent 𝓤 (sep 𝓤 (sem 𝓛 (place (R E) x b (i * s + o))) (sem 𝓛 besides))
+        → ent 𝓤 (sep 𝓤 (sem 𝓛 (slot_owns (R E) x b (i * s + o))) (sem 𝓛 besides))
         (sem 𝓛 (Row o (set xs i x)))
-    slot_in lt x = qed 𝓛 (‵ (place (R E) x b (i * s + o)) ∷ ‵ besides ∷ []) ∵ move ! (1 ∷ []) $
+    slot_in lt x = qed 𝓛 (‵ (slot_owns (R E) x b (i * s + o)) ∷ ‵ besides ∷ []) ∵ move ! (1 ∷ []) $
         fsplit ! $ move ! (2 ∷ 1 ∷ []) $ fjoin ! $ move ! (1 ∷ 0 ∷ []) $
         use2 𝓛 (‵ (Row o (take i xs ++ x ∷ drop (suc i) xs)))
         (glue (take i xs) (x ∷ drop (suc i) xs) o (i * s + o) (before (omega arith))) $
@@ -102,27 +102,28 @@ module _ (E : El) {M : Type 1} {𝓤 : Ura M} (𝓛 : Logic 𝓤) (b : ℕ) wher
       abbrev pub around : Fml
       around = fsep (Row o (take i xs)) (Row (k * s + (i * s + o)) (drop (i + k) xs))
 
-      pub run_out : i + k ≤ length xs → (ys : List (Slot E)) → run i k xs ≡ ys
+      pub run_out : i + k ≤ length xs → (ys : List (Slot E)) → slot_range i k xs ≡ ys
           → ent 𝓤 (sem 𝓛 (Row o xs)) (sep 𝓤 (sem 𝓛 (Row (i * s + o) ys)) (sem 𝓛 around))
       run_out le ys is =
           let rest = drop (i + k) xs in
-          let long : k ≡ length (run i k xs) =
+          let long : k ≡ length (slot_range i k xs) =
           omega (arith, length-take k (drop i xs), length-drop i xs) in
-          let parted : xs ≡ take i xs ++ (run i k xs ++ rest) = sym (take-append-drop i xs)
+          let parted : xs ≡ take i xs ++ (slot_range i k xs ++ rest) = sym (take-append-drop i xs)
           ∙ ap (λ l. take i xs ++ l) (sym (take-append-drop k (drop i xs))
-          ∙ ap (λ l. run i k xs ++ l) (drop-drop k i xs)) in
+          ∙ ap (λ l. slot_range i k xs ++ l) (drop-drop k i xs)) in
           qed 𝓛 (‵ (Row o xs) ∷ []) ∵ rewrite ! 0 (λ (l : List (Slot E)). ‵ (Row o l)) parted refl $
-          use1 𝓛 (‵ (Row o (take i xs)) ⊛ ‵ (Row (i * s + o) (run i k xs ++ rest)))
-          (cut (take i xs) (run i k xs ++ rest) o (i * s + o) (before (omega arith))) $
+          use1 𝓛 (‵ (Row o (take i xs)) ⊛ ‵ (Row (i * s + o) (slot_range i k xs ++ rest)))
+          (cut (take i xs) (slot_range i k xs ++ rest) o (i * s + o) (before (omega arith))) $
           split ! $ move ! (1 ∷ []) $
-          use1 𝓛 (‵ (Row (i * s + o) (run i k xs)) ⊛ ‵ (Row (k * s + (i * s + o)) rest))
-          (cut (run i k xs) rest (i * s + o) (k * s + (i * s + o))
+          use1 𝓛 (‵ (Row (i * s + o) (slot_range i k xs)) ⊛ ‵ (Row (k * s + (i * s + o)) rest))
+          (cut (slot_range i k xs) rest (i * s + o) (k * s + (i * s + o))
           (ap (λ k. k * s + (i * s + o)) long)) $
           split ! $ rewrite ! 0 (λ (l : List (Slot E)). ‵ (Row (i * s + o) l)) is refl $
           move ! (2 ∷ 1 ∷ []) $ fjoin ! $ move ! (1 ∷ []) $ done !
 
       pub run_in : i + k ≤ length xs → (ys : List (Slot E)) → length ys ≡ k
-          → ent 𝓤 (sep 𝓤 (sem 𝓛 (Row (i * s + o) ys)) (sem 𝓛 around)) (sem 𝓛 (Row o (laid i ys xs)))
+          → ent 𝓤 (sep 𝓤 (sem 𝓛 (Row (i * s + o) ys)) (sem 𝓛 around))
+          (sem 𝓛 (Row o (write_slots i ys xs)))
       run_in le ys long =
           let rest = drop (i + k) xs in
           qed 𝓛 (‵ (Row (i * s + o) ys) ∷ ‵ around ∷ []) ∵ move ! (1 ∷ []) $
@@ -138,25 +139,26 @@ module _ (E : El) {M : Type 1} {𝓤 : Ura M} (𝓛 : Logic 𝓤) (b : ℕ) wher
   abbrev E' : arrays.El
   E' = record { row = E.row; laws = E.laws }
 
-  to_row : (xs : List (el_x E)) (o : ℕ) → ent 𝓤 (sem 𝓛 (Row o (full xs)))
+  to_row : (xs : List (el_x E)) (o : ℕ) → ent 𝓤 (sem 𝓛 (Row o (filled_slots xs)))
       (sem 𝓛 (row (R E) full_share xs b o))
   to_row [] o = id⊢ 𝓤 (emp 𝓤)
   to_row (x ∷ xs) o = mono_r 𝓤 (sem 𝓛 (part_at (R E) full_share x b o)) (to_row xs (o + s))
 
   of_row : (xs : List (el_x E)) (o : ℕ) → ent 𝓤 (sem 𝓛 (row (R E) full_share xs b o))
-      (sem 𝓛 (Row o (full xs)))
+      (sem 𝓛 (Row o (filled_slots xs)))
   of_row [] o = id⊢ 𝓤 (emp 𝓤)
   of_row (x ∷ xs) o = mono_r 𝓤 (sem 𝓛 (part_at (R E) full_share x b o)) (of_row xs (o + s))
 
   -- Slots that hold the items `xs` can be converted into an array of the items `xs`.
   pub to_items : (k : ℕ) (xs : List (el_x E)) (o : ℕ) → length xs ≡ k
-      → ent 𝓤 (sem 𝓛 (Row o (full xs))) (sem 𝓛 (part_at (Array (R E) k) full_share xs b o))
-  to_items k xs o long = qed 𝓛 (‵ (Row o (full xs)) ∷ []) ∵ use1 𝓛 (‵ (row (R E) full_share xs b o))
+      → ent 𝓤 (sem 𝓛 (Row o (filled_slots xs))) (sem 𝓛 (part_at (Array (R E) k) full_share xs b o))
+  to_items k xs o long = qed 𝓛 (‵ (Row o (filled_slots xs)) ∷ []) ∵
+      use1 𝓛 (‵ (row (R E) full_share xs b o))
       (to_row xs o) $ by ! (arrays.whole E' 𝓛 full_share k xs b o long)
 
   -- An array of the items `xs` can be converted into slots that hold `xs`.
   pub of_items : (k : ℕ) (xs : List (el_x E)) (o : ℕ)
-      → ent 𝓤 (sem 𝓛 (part_at (Array (R E) k) full_share xs b o)) (sem 𝓛 (Row o (full xs)))
+      → ent 𝓤 (sem 𝓛 (part_at (Array (R E) k) full_share xs b o)) (sem 𝓛 (Row o (filled_slots xs)))
   of_items k xs o = qed 𝓛 (‵ (part_at (Array (R E) k) full_share xs b o) ∷ []) ∵
       use1 𝓛 (given (length xs ≡ k) (‵ (row (R E) full_share xs b o)))
       (arrays.apart E' 𝓛 full_share k xs b o) $ learn ! (λ _. by ! (of_row xs o))
@@ -171,44 +173,46 @@ module _ (E : El) {M : Type 1} {𝓤 : Ura M} (𝓛 : Logic 𝓤) (b : ℕ) wher
       learn ! (λ long. check ! long $ by ! (arrays.whole E' 𝓛 full_share k xs b o long))
 
   -- Slots that hold the items `xs` can be converted into a slice with the elements `xs`.
-  pub to_cells : (xs : List (el_x E)) (o : ℕ) → ent 𝓤 (sem 𝓛 (Row o (full xs)))
+  pub to_cells : (xs : List (el_x E)) (o : ℕ) → ent 𝓤 (sem 𝓛 (Row o (filled_slots xs)))
       (sem 𝓛 (cells (mem (R E)) xs b o))
   to_cells [] o = id⊢ 𝓤 (emp 𝓤)
   to_cells (x ∷ xs) o = mono_r 𝓤 (sem 𝓛 (part_at (R E) full_share x b o)) (to_cells xs (o + s))
 
   -- A slice with the elements `xs` can be converted into slots that hold the items `xs`.
   pub of_cells : (xs : List (el_x E)) (o : ℕ) → ent 𝓤 (sem 𝓛 (cells (mem (R E)) xs b o))
-      (sem 𝓛 (Row o (full xs)))
+      (sem 𝓛 (Row o (filled_slots xs)))
   of_cells [] o = id⊢ 𝓤 (emp 𝓤)
   of_cells (x ∷ xs) o = mono_r 𝓤 (sem 𝓛 (part_at (R E) full_share x b o)) (of_cells xs (o + s))
 
   -- Uninitialized memory for an array of `k` items can be converted into `k` empty slots.
-  pub of_room : (k o : ℕ) → ent 𝓤 (H.room (ty_array (elτ E) k) b o) (sem 𝓛 (Row o (empty k)))
+  pub of_room : (k o : ℕ) → ent 𝓤 (H.room (ty_array (elτ E) k) b o) (sem 𝓛 (Row o (empty_slots k)))
   of_room zero o = qed 𝓛 (‵ (froom (ty_array (elτ E) 0) b o) ∷ []) ∵ keep ! [] $ done !
   of_room (suc k) o = qed 𝓛 (‵ (froom (ty_array (elτ E) (suc k)) b o) ∷ []) ∵
       use1 𝓛 (‵ (froom (elτ E) b o) ⊛ ‵ (froom (ty_array (elτ E) k) b (o + s)))
       (𝓛.laws.room_uncons (elτ E) k b o) $ split ! $
-      use1 𝓛 (‵ (place (R E) None b o)) (𝓛.laws.room-raw (elτ E) b o) $ keeps ! $
+      use1 𝓛 (‵ (slot_owns (R E) None b o)) (𝓛.laws.room-raw (elτ E) b o) $ keeps ! $
       by ! (of_room k (o + s))
 
   -- The memory of `k` empty slots can be converted into uninitialized memory for an array of `k`
   -- items.
-  pub to_room : (k o : ℕ) → ent 𝓤 (sem 𝓛 (Row o (empty k))) (H.room (ty_array (elτ E) k) b o)
+  pub to_room : (k o : ℕ) → ent 𝓤 (sem 𝓛 (Row o (empty_slots k))) (H.room (ty_array (elτ E) k) b o)
   to_room zero o = 𝓛.laws.room_nil (elτ E) b o
-  to_room (suc k) o = qed 𝓛 (‵ (Row o (empty (suc k))) ∷ []) ∵ fsplit ! $
+  to_room (suc k) o = qed 𝓛 (‵ (Row o (empty_slots (suc k))) ∷ []) ∵ fsplit ! $
       use1 𝓛 (‵ (froom (elτ E) b o)) (𝓛.laws.raw-room (elτ E) b o) $ move ! (1 ∷ []) $
       use1 𝓛 (‵ (froom (ty_array (elτ E) k) b (o + s))) (to_room k (o + s)) $ move ! (1 ∷ []) $
       by ! (𝓛.laws.room_cons (elτ E) k b o)
 
   -- Uninitialized memory for an array of `k` items can be converted into `k` empty slots, even if
   -- all field names are erased from the array type.
-  pub of_raw : (k o : ℕ) → ent 𝓤 (H.room (bare (ty_array (elτ E) k)) b o) (sem 𝓛 (Row o (empty k)))
+  pub of_raw : (k o : ℕ)
+      → ent 𝓤 (H.room (bare (ty_array (elτ E) k)) b o) (sem 𝓛 (Row o (empty_slots k)))
   of_raw k o = via 𝓤 (H.room (ty_array (elτ E) k) b o)
       (𝓛.laws.raw-room (ty_array (elτ E) k) b o) (of_room k o)
 
   -- The memory of `k` empty slots can be converted into uninitialized memory for an array of `k`
   -- items, even if all field names are erased from the array type.
-  pub to_raw : (k o : ℕ) → ent 𝓤 (sem 𝓛 (Row o (empty k))) (H.room (bare (ty_array (elτ E) k)) b o)
+  pub to_raw : (k o : ℕ)
+      → ent 𝓤 (sem 𝓛 (Row o (empty_slots k))) (H.room (bare (ty_array (elτ E) k)) b o)
   to_raw k o = via 𝓤 (H.room (ty_array (elτ E) k) b o) (to_room k o)
       (𝓛.laws.room-raw (ty_array (elτ E) k) b o)
 
@@ -222,29 +226,29 @@ module _ (E : El) {M : Type 1} {𝓤 : Ura M} (𝓛 : Logic 𝓤) (b : ℕ) wher
 
   ordered_out : (o : ℕ) (xs : List (Slot E)) (i j : ℕ) → i < j → j < length xs
       → ent 𝓤 (sem 𝓛 (Row o xs))
-      (sep 𝓤 (sem 𝓛 (place (R E) (get_or xs i None) b (i * s + o)))
-      (sep 𝓤 (sem 𝓛 (place (R E) (get_or xs j None) b (j * s + o))) (sem 𝓛 (Others o xs i j))))
+      (sep 𝓤 (sem 𝓛 (slot_owns (R E) (get_or xs i None) b (i * s + o)))
+      (sep 𝓤 (sem 𝓛 (slot_owns (R E) (get_or xs j None) b (j * s + o))) (sem 𝓛 (Others o xs i j))))
   ordered_out o xs i j first within =
       let front : List (Slot E) = take j xs in
       let low : i < length front = omega (arith, front_long xs j within) in
       qed 𝓛 (‵ (Row o xs) ∷ []) ∵
-      use1 𝓛 (‵ (place (R E) (get_or xs j None) b (j * s + o)) ⊛ ‵ (besides o xs j))
+      use1 𝓛 (‵ (slot_owns (R E) (get_or xs j None) b (j * s + o)) ⊛ ‵ (besides o xs j))
       (slot_out o xs j within) $ split ! $ move ! (1 ∷ []) $ fsplit ! $
-      use1 𝓛 (‵ (place (R E) (get_or front i None) b (i * s + o)) ⊛ ‵ (besides o front i))
+      use1 𝓛 (‵ (slot_owns (R E) (get_or front i None) b (i * s + o)) ⊛ ‵ (besides o front i))
       (slot_out o front i low) $ split ! $
-      rewrite ! 0 (λ (x : Slot E). ‵ (place (R E) x b (i * s + o)))
+      rewrite ! 0 (λ (x : Slot E). ‵ (slot_owns (R E) x b (i * s + o)))
       (get_or-take j xs i None first) refl $
       move ! (1 ∷ 2 ∷ []) $ fjoin ! $ move ! (1 ∷ 2 ∷ 0 ∷ []) $ done !
 
   ordered_in : (o : ℕ) (xs : List (Slot E)) (i j : ℕ) → i < j → j < length xs → (x y : Slot E)
-      → ent 𝓤 (sep 𝓤 (sem 𝓛 (place (R E) x b (i * s + o)))
-      (sep 𝓤 (sem 𝓛 (place (R E) y b (j * s + o))) (sem 𝓛 (Others o xs i j))))
+      → ent 𝓤 (sep 𝓤 (sem 𝓛 (slot_owns (R E) x b (i * s + o)))
+      (sep 𝓤 (sem 𝓛 (slot_owns (R E) y b (j * s + o))) (sem 𝓛 (Others o xs i j))))
       (sem 𝓛 (Row o (set (set xs i x) j y)))
   ordered_in o xs i j first within x y =
       let front : List (Slot E) = take j xs in
       let low : i < length front = omega (arith, front_long xs j within) in
       let low' : j < length (set xs i x) = omega (arith, length-set xs i x) in
-      qed 𝓛 (‵ (place (R E) x b (i * s + o)) ∷ ‵ (place (R E) y b (j * s + o)) ∷ ‵
+      qed 𝓛 (‵ (slot_owns (R E) x b (i * s + o)) ∷ ‵ (slot_owns (R E) y b (j * s + o)) ∷ ‵
       (Others o xs i j) ∷ []) ∵ move ! (2 ∷ []) $ fsplit ! $ move ! (2 ∷ 0 ∷ []) $
       use2 𝓛 (‵ (Row o (set front i x))) (slot_in o front i low x) $
       rewrite ! 0 (λ (l : List (Slot E)). ‵ (Row o l)) (sym (take-set-lt j xs i x first)) refl $
@@ -257,11 +261,11 @@ module _ (E : El) {M : Type 1} {𝓤 : Ura M} (𝓛 : Logic 𝓤) (b : ℕ) wher
   pub record Two (o : ℕ) (xs : List (Slot E)) (i j : ℕ) : Type 1 where
     pub Rest : Fml
     pub out : ent 𝓤 (sem 𝓛 (Row o xs))
-        (sep 𝓤 (sem 𝓛 (place (R E) (get_or xs i None) b (i * s + o)))
-        (sep 𝓤 (sem 𝓛 (place (R E) (get_or xs j None) b (j * s + o))) (sem 𝓛 Rest)))
+        (sep 𝓤 (sem 𝓛 (slot_owns (R E) (get_or xs i None) b (i * s + o)))
+        (sep 𝓤 (sem 𝓛 (slot_owns (R E) (get_or xs j None) b (j * s + o))) (sem 𝓛 Rest)))
     pub back : (x y : Slot E)
-        → ent 𝓤 (sep 𝓤 (sem 𝓛 (place (R E) x b (i * s + o)))
-        (sep 𝓤 (sem 𝓛 (place (R E) y b (j * s + o))) (sem 𝓛 Rest)))
+        → ent 𝓤 (sep 𝓤 (sem 𝓛 (slot_owns (R E) x b (i * s + o)))
+        (sep 𝓤 (sem 𝓛 (slot_owns (R E) y b (j * s + o))) (sem 𝓛 Rest)))
         (sem 𝓛 (Row o (set (set xs i x) j y)))
 
   in_order : (o : ℕ) (xs : List (Slot E)) (i j : ℕ) → i < j → j < length xs → Two o xs i j
@@ -274,7 +278,7 @@ module _ (E : El) {M : Type 1} {𝓤 : Ura M} (𝓛 : Logic 𝓤) (b : ℕ) wher
 
   turned : (o : ℕ) (xs : List (Slot E)) (i j : ℕ) → j < i → i < length xs → Two o xs i j
   turned o xs i j first within =
-      let P : Slot E → ℕ → Fml = λ x k. place (R E) x b (k * s + o) in
+      let P : Slot E → ℕ → Fml = λ x k. slot_owns (R E) x b (k * s + o) in
       let Rest : Fml = Others o xs j i in
       record {
         Rest = Rest;

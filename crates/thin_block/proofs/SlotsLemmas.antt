@@ -1,5 +1,6 @@
--- These lemmas are about lists of slots. `run` selects adjacent slots, `laid` replaces slots, and
--- `moved` moves items. `IsPacked s n` states that exactly the first `n` slots of `s` are filled.
+-- These lemmas are about lists of slots. `run` selects adjacent slots, `write_slots` replaces
+-- slots, and `moved` moves items. `IsPacked s n` states that exactly the first `n` slots of `s` are
+-- filled.
 use Rattle.std.proofs.Common.{◌⊎◌, ◌≡◌, ℕ, zero, suc, ◌+◌, ◌-◌, ◌<◌, ◌≤◌, List, [], ◌∷◌, ◌++◌, length, Some, None, refl, sym, ap, subst, ◌∙◌, arith, append_assoc}
 use Rattle.std.proofs.lemmas.List.{take-append-drop, drop-drop, set_at, get_or-append_right, get_or-drop, length-replicate, length-map, length-append, length-take, length-drop, take_at, drop_at, drop-replicate, replicate-append-replicate}
 use mathlib.Core.Logic.{inl, inr, ⊎_elim}
@@ -8,8 +9,8 @@ use lib.Seq.{set_split, drop-cons, take-add}
 use Rattle.core.proofs.str.Laws.{order}
 use borrow.Author.Tests.{clash}
 use Rattle.std.specs.Prelude.{Option, IsSome, take, drop, replicate}
-use Rattle.thin_block.specs.Lends.{over}
-use Rattle.thin_block.specs.Slots.{full, empty, slot, items_in, IsPacked, run, laid, emptied, moved}
+use Rattle.thin_block.specs.Lends.{overwrite_items}
+use Rattle.thin_block.specs.Slots.{filled_slots, empty_slots, slot, items_in, IsPacked, slot_range, write_slots, clear_slots, move_slots}
 
 -- Equality of indices is decidable: two indices are either equal or different.
 pub same_or_not : (i j : ℕ) → (i ≡ j) ⊎ (i ≡ j → ⊥)
@@ -30,10 +31,11 @@ module _ {T : Type 0} where
   filled-within (x ∷ s) zero is = omega arith
   filled-within (x ∷ s) (suc i) is = let low = filled-within s i is in omega arith
 
-  -- If the slots `i..i + k` of `s` are filled, then these slots (`run i k s`) are `full xs` for
-  -- some list `xs` of items.
+  -- If the slots `i..i + k` of `s` are filled, then these slots (`slot_range i k s`) are
+  -- `filled_slots xs` for some list `xs` of items.
   pub full-run : (s : List (Option T)) (i k : ℕ) → i + k ≤ length s
-      → ((j : ℕ) → i ≤ j → j < i + k → IsSome (slot s j)) → (xs : List T) × (run i k s ≡ full xs)
+      → ((j : ℕ) → i ≤ j → j < i + k → IsSome (slot s j))
+      → (xs : List T) × (slot_range i k s ≡ filled_slots xs)
   full-run [] zero zero le filled = ([], refl)
   full-run [] (suc i) k le filled = absurd (omega arith)
   full-run [] zero (suc k) le filled = absurd (omega arith)
@@ -46,10 +48,10 @@ module _ {T : Type 0} where
       (λ j p q. filled (suc j) (omega arith) (omega arith)) in
       (item.0 ∷ rest.0, λ n. item.1 n ∷ rest.1 n)
 
-  -- If the slots `i..i + k` of `s` are empty, then these slots (`run i k s`) are `empty k`, a list
-  -- of `k` empty slots.
+  -- If the slots `i..i + k` of `s` are empty, then these slots (`slot_range i k s`) are
+  -- `empty_slots k`, a list of `k` empty slots.
   pub empty-run : (s : List (Option T)) (i k : ℕ) → i + k ≤ length s
-      → ((j : ℕ) → i ≤ j → j < i + k → slot s j ≡ None) → run i k s ≡ empty k
+      → ((j : ℕ) → i ≤ j → j < i + k → slot s j ≡ None) → slot_range i k s ≡ empty_slots k
   empty-run [] zero zero le bare = refl
   empty-run [] (suc i) k le bare = absurd (omega arith)
   empty-run [] zero (suc k) le bare = absurd (omega arith)
@@ -60,15 +62,16 @@ module _ {T : Type 0} where
       λ n. bare zero (omega arith) (omega arith) n ∷ empty-run s zero k (omega arith)
       (λ j p q. bare (suc j) (omega arith) (omega arith)) n
 
-  -- If `i + k ≤ length s`, then `run i k s`, the list of the slots `i..i + k` of `s`, consists of
-  -- `k` slots.
-  pub length-run : (s : List (Option T)) (i k : ℕ) → i + k ≤ length s → length (run i k s) ≡ k
+  -- If `i + k ≤ length s`, then `slot_range i k s`, the list of the slots `i..i + k` of `s`,
+  -- consists of `k` slots.
+  pub length-run : (s : List (Option T)) (i k : ℕ) → i + k ≤ length s
+      → length (slot_range i k s) ≡ k
   length-run s i k le = omega (arith, length-take k (drop i s), length-drop i s)
 
-  -- `laid i ys s`, which is `s` with the slots `i..i + length ys` replaced with `ys`, is as long as
-  -- `s`.
+  -- `write_slots i ys s`, which is `s` with the slots `i..i + length ys` replaced with `ys`, is as
+  -- long as `s`.
   pub length-laid : (i : ℕ) (ys s : List (Option T)) → i + length ys ≤ length s
-      → length (laid i ys s) ≡ length s
+      → length (write_slots i ys s) ≡ length s
   length-laid i ys s le =
       omega (
         arith,
@@ -78,40 +81,43 @@ module _ {T : Type 0} where
         length-drop (i + length ys) s,
       )
 
-  -- If the slots `i..i + length ws` of `s` are filled, then `over s i ws` and `laid i (full ws) s`
-  -- are equal: they put the items `ws` into these slots.
+  -- If the slots `i..i + length ws` of `s` are filled, then `overwrite_items s i ws` and
+  -- `write_slots i (filled_slots ws) s` are equal: they put the items `ws` into these slots.
   pub over-laid : (s : List (Option T)) (i : ℕ) (ws : List T) → i + length ws ≤ length s
-      → ((j : ℕ) → i ≤ j → j < i + length ws → IsSome (slot s j)) → over s i ws ≡ laid i (full ws) s
+      → ((j : ℕ) → i ≤ j → j < i + length ws → IsSome (slot s j))
+      → overwrite_items s i ws ≡ write_slots i (filled_slots ws) s
   over-laid [] zero [] le held = refl
   over-laid [] (suc i) ws le held = absurd (omega arith)
   over-laid [] zero (w ∷ ws) le held = absurd (omega arith)
   over-laid (x ∷ s) (suc i) ws le held =
-      let more : suc (i + length (full ws)) ≡ suc i + length (full ws) = omega arith in
+      let more : suc (i + length (filled_slots ws)) ≡ suc i + length (filled_slots ws) =
+      omega arith in
       ap (λ (l : List (Option T)). x ∷ l)
       (over-laid s i ws (let le' : suc i + length ws ≤ suc (length s) = le in omega arith)
       (λ j low high. held (suc j) (omega arith) (omega arith)))
-      ∙ ap (λ (k : ℕ). x ∷ (take i s ++ (full ws ++ drop k (x ∷ s)))) more
+      ∙ ap (λ (k : ℕ). x ∷ (take i s ++ (filled_slots ws ++ drop k (x ∷ s)))) more
   over-laid (None ∷ s) zero [] le held = refl
   over-laid (None ∷ s) zero (w ∷ ws) le held = let wrong : IsSome (let none : Option T = None in
       none) = held zero (omega arith) (omega arith) in absurd (clash wrong)
   over-laid (Some x ∷ s) zero [] le held = refl
   over-laid (Some x ∷ s) zero (w ∷ ws) le held =
-      let more : suc (0 + length (full ws)) ≡ 0 + suc (length (full ws)) = omega arith in
+      let more : suc (0 + length (filled_slots ws)) ≡ 0 + suc (length (filled_slots ws)) =
+      omega arith in
       ap (λ (l : List (Option T)). Some w ∷ l)
       (over-laid s zero ws (let le' : 0 + suc (length ws) ≤ suc (length s) = le in omega arith)
       (λ j low high. held (suc j) (omega arith) (omega arith)))
-      ∙ ap (λ (k : ℕ). Some w ∷ (full ws ++ drop k (Some x ∷ s))) more
+      ∙ ap (λ (k : ℕ). Some w ∷ (filled_slots ws ++ drop k (Some x ∷ s))) more
 
-  -- Replacing no slots changes nothing: `laid i [] s` is `s`.
-  pub laid-none : (i : ℕ) (s : List (Option T)) → laid i [] s ≡ s
+  -- Replacing no slots changes nothing: `write_slots i [] s` is `s`.
+  pub laid-none : (i : ℕ) (s : List (Option T)) → write_slots i [] s ≡ s
   laid-none i s = ap (λ (k : ℕ). take i s ++ drop k s) (let e : i + 0 ≡ i = omega arith in
       e) ∙ take-append-drop i s
 
-  -- `laid i ys s` is the list `s` with the slots `i..i + length ys` replaced with `ys`. Let `k` be
-  -- the index directly after these slots. If `k < length s`, and slot `k` of `laid i ys s` is set
-  -- to `y`, then the result is `laid i (ys ++ y ∷ []) s`.
+  -- `write_slots i ys s` is the list `s` with the slots `i..i + length ys` replaced with `ys`. Let
+  -- `k` be the index directly after these slots. If `k < length s`, and slot `k` of
+  -- `write_slots i ys s` is set to `y`, then the result is `write_slots i (ys ++ y ∷ []) s`.
   pub laid-one : (i : ℕ) (ys s : List (Option T)) (k : ℕ) (y : Option T) → k ≡ i + length ys
-      → k < length s → set (laid i ys s) k y ≡ laid i (ys ++ y ∷ []) s
+      → k < length s → set (write_slots i ys s) k y ≡ write_slots i (ys ++ y ∷ []) s
   laid-one i ys s k y e within =
       let at : length (take i s ++ ys) ≡ k =
       omega (arith, length-append (take i s) ys, length-take i s) in
@@ -127,10 +133,10 @@ module _ {T : Type 0} where
       (sym (append_assoc ys (y ∷ []) (drop (suc k) s)))
       ∙ ap (λ (n : ℕ). take i s ++ ((ys ++ y ∷ []) ++ drop n s)) long))))
 
-  -- `laid i ys s` is the list `s` with the slots `i..i + length ys` replaced with `ys`. If
+  -- `write_slots i ys s` is the list `s` with the slots `i..i + length ys` replaced with `ys`. If
   -- `i ≤ length s`, then each slot of `s` whose index `k` is at least `i + length ys` is unchanged.
   pub slot-laid : (i : ℕ) (ys s : List (Option T)) (k : ℕ) → i ≤ length s → i + length ys ≤ k
-      → slot (laid i ys s) k ≡ slot s k
+      → slot (write_slots i ys s) k ≡ slot s k
   slot-laid i ys s k low past =
       let front : length (take i s) ≡ i = omega (arith, length-take i s) in
       get_or-append_right (take i s) (ys ++ drop (i + length ys) s) i k None front (omega arith)
@@ -141,29 +147,31 @@ module _ {T : Type 0} where
 
   -- A list `s` of slots consists of the slots before index `i`, the slots `i..i + k` and the slots
   -- from index `i + k` onward.
-  pub parted-run : (s : List (Option T)) (i k : ℕ) → s ≡ take i s ++ (run i k s ++ drop (i + k) s)
+  pub parted-run : (s : List (Option T)) (i k : ℕ)
+      → s ≡ take i s ++ (slot_range i k s ++ drop (i + k) s)
   parted-run s i k =
       sym (take-append-drop i s)
       ∙ ap (λ (l : List (Option T)). take i s ++ l) (sym (take-append-drop k (drop i s))
-      ∙ ap (λ (l : List (Option T)). run i k s ++ l) (drop-drop k i s))
+      ∙ ap (λ (l : List (Option T)). slot_range i k s ++ l) (drop-drop k i s))
 
   -- The `a + k` slots of `s` from index `i` onward are the `a` slots from `i` onward, followed by
   -- the `k` slots from `i + a` onward.
-  pub run-split : (s : List (Option T)) (i a k : ℕ) → run i (a + k) s ≡ run i a s ++ run (i + a) k s
+  pub run-split : (s : List (Option T)) (i a k : ℕ)
+      → slot_range i (a + k) s ≡ slot_range i a s ++ slot_range (i + a) k s
   run-split s i a k = take-add a k (drop i s)
-      ∙ ap (λ (l : List (Option T)). run i a s ++ take k l) (drop-drop a i s)
+      ∙ ap (λ (l : List (Option T)). slot_range i a s ++ take k l) (drop-drop a i s)
 
-  -- If only one slot is replaced, then `laid` is `set`.
+  -- If only one slot is replaced, then `write_slots` is `set`.
   pub laid_single : (s : List (Option T)) (i : ℕ) (x : T) → i < length s
-      → laid i (full (x ∷ [])) s ≡ set s i (Some x)
+      → write_slots i (filled_slots (x ∷ [])) s ≡ set s i (Some x)
   laid_single s i x within =
       ap (λ (k : ℕ). take i s ++ (Some x ∷ drop k s)) (let e : i + 1 ≡ suc i = omega arith in e)
       ∙ sym (set_split s i (Some x) within)
 
-  -- If `i ≡ length pre` and `length ys ≡ length old`, then `laid i ys` replaces `old` with `ys` in
-  -- the list `pre ++ (old ++ post)`.
+  -- If `i ≡ length pre` and `length ys ≡ length old`, then `write_slots i ys` replaces `old` with
+  -- `ys` in the list `pre ++ (old ++ post)`.
   pub laid-at : (i : ℕ) (pre ys old post : List (Option T)) → i ≡ length pre
-      → length ys ≡ length old → laid i ys (pre ++ (old ++ post)) ≡ pre ++ (ys ++ post)
+      → length ys ≡ length old → write_slots i ys (pre ++ (old ++ post)) ≡ pre ++ (ys ++ post)
   laid-at i pre ys old post e n =
       let Row : Type 0 = List (Option T) in
       let rest : drop (i + length ys) (pre ++ (old ++ post)) ≡ post =
@@ -174,144 +182,160 @@ module _ {T : Type 0} where
   -- If `i` is the length of `pre`, and `k` is the length of `ys`, then the `k` slots of
   -- `pre ++ (ys ++ post)` from index `i` onward are `ys`.
   pub run-at : (i k : ℕ) (pre ys post : List (Option T)) → i ≡ length pre → k ≡ length ys
-      → run i k (pre ++ (ys ++ post)) ≡ ys
+      → slot_range i k (pre ++ (ys ++ post)) ≡ ys
   run-at i k pre ys post e n = ap (λ (l : List (Option T)). take k l)
       (drop_at pre (ys ++ post) i (sym e)) ∙ take_at ys post k (sym n)
 
   module _ (from to k : ℕ) where
     -- If `ys` are the slots `from..from + k` of `s`, `bare` is `s` with these slots emptied, and
-    -- `result` is `bare` with `ys` written from index `to` onward, then `moved from to k s` is
+    -- `result` is `bare` with `ys` written from index `to` onward, then `move_slots from to k s` is
     -- `result`.
-    moved-by : (s ys bare result : List (Option T)) → run from k s ≡ ys → emptied from k s ≡ bare
-        → laid to ys bare ≡ result → moved from to k s ≡ result
-    unfolding moved
-    moved-by s ys bare result e f g = (λ n. laid to (e n) (f n)) ∙ g
+    moved-by : (s ys bare result : List (Option T)) → slot_range from k s ≡ ys
+        → clear_slots from k s ≡ bare
+        → write_slots to ys bare ≡ result → move_slots from to k s ≡ result
+    unfolding move_slots
+    moved-by s ys bare result e f g = (λ n. write_slots to (e n) (f n)) ∙ g
 
-  -- `moved from to k s`, which is `s` with `k` items moved from index `from` to index `to`, is as
-  -- long as `s`.
+  -- `move_slots from to k s`, which is `s` with `k` items moved from index `from` to index `to`, is
+  -- as long as `s`.
   pub length-moved : (from to k : ℕ) (s : List (Option T)) → from + k ≤ length s → to + k ≤ length s
-      → length (moved from to k s) ≡ length s
-  unfolding moved
+      → length (move_slots from to k s) ≡ length s
+  unfolding move_slots
   length-moved from to k s source target =
-      let count : length (empty {T = T} k) ≡ k =
+      let count : length (empty_slots {T = T} k) ≡ k =
       length-replicate k (let o : Option T = None in o) in
-      let left : length (emptied from k s) ≡ length s =
-      length-laid from (empty k) s (omega arith) in
-      length-laid to (run from k s) (emptied from k s)
+      let left : length (clear_slots from k s) ≡ length s =
+      length-laid from (empty_slots k) s (omega arith) in
+      length-laid to (slot_range from k s) (clear_slots from k s)
       (omega (arith, left, length-run s from k source)) ∙ left
 
-  -- Two adjacent groups of empty slots may change places: the list `empty a ++ (empty k ++ post)`
-  -- equals `empty k ++ (empty a ++ post)`.
+  -- Two adjacent groups of empty slots may change places: the list
+  -- `empty_slots a ++ (empty_slots k ++ post)` equals `empty_slots k ++ (empty_slots a ++ post)`.
   empty-turn : (a k : ℕ) (post : List (Option T))
-      → empty a ++ (empty k ++ post) ≡ empty k ++ (empty a ++ post)
+      → empty_slots a ++ (empty_slots k ++ post) ≡ empty_slots k ++ (empty_slots a ++ post)
   empty-turn a k post =
       let turned : a + k ≡ k + a = omega arith in
-      sym (append_assoc (empty a) (empty k) post)
+      sym (append_assoc (empty_slots a) (empty_slots k) post)
       ∙ (ap (λ (e : List (Option T)). e ++ post) (replicate-append-replicate a k None
       ∙ (ap (λ (m : ℕ). replicate m None) turned ∙ sym (replicate-append-replicate k a None)))
-      ∙ append_assoc (empty k) (empty a) post)
+      ∙ append_assoc (empty_slots k) (empty_slots a) post)
 
   module _ (from to k d : ℕ) where
     -- If the slots `ys` are moved down, past the `d` empty slots directly before them, then `ys`
     -- and the empty slots change places.
     pub moved_left : (pre ys post : List (Option T)) → to ≡ length pre → from ≡ to + d
         → k ≡ length ys
-        → moved from to k (pre ++ (empty d ++ (ys ++ post))) ≡ pre ++ (ys ++ (empty d ++ post))
+        → move_slots from to k (pre ++ (empty_slots d ++ (ys ++ post)))
+        ≡ pre ++ (ys ++ (empty_slots d ++ post))
     moved_left pre ys post t f n =
         let Row : Type 0 = List (Option T) in
-        let s : Row = pre ++ (empty d ++ (ys ++ post)) in
-        let e : s ≡ (pre ++ empty d) ++ (ys ++ post) =
-        sym (append_assoc pre (empty d) (ys ++ post)) in
-        let l : from ≡ length (pre ++ empty {T = T} d) =
+        let s : Row = pre ++ (empty_slots d ++ (ys ++ post)) in
+        let e : s ≡ (pre ++ empty_slots d) ++ (ys ++ post) =
+        sym (append_assoc pre (empty_slots d) (ys ++ post)) in
+        let l : from ≡ length (pre ++ empty_slots {T = T} d) =
         omega (
           arith,
-          length-append pre (empty d),
+          length-append pre (empty_slots d),
           length-replicate d (let o : Option T = None in o),
         ) in
-        let m : length (empty {T = T} k) ≡ length ys =
+        let m : length (empty_slots {T = T} k) ≡ length ys =
         length-replicate k (let o : Option T = None in o) ∙ n in
-        moved-by from to k s ys (pre ++ (empty k ++ (empty d ++ post))) _
-        (ap (λ (r : Row). run from k r) e ∙ run-at from k (pre ++ empty d) ys post l n)
-        (ap (λ (r : Row). emptied from k r) e ∙ (laid-at from (pre ++ empty d) (empty k) ys post l m
-        ∙ (append_assoc pre (empty d) (empty k ++ post) ∙ ap (λ (r : Row). pre ++ r)
+        moved-by from to k s ys (pre ++ (empty_slots k ++ (empty_slots d ++ post))) _
+        (ap (λ (r : Row). slot_range from k r) e ∙ run-at from k (pre ++ empty_slots d) ys post l n)
+        (ap (λ (r : Row). clear_slots from k r) e
+        ∙ (laid-at from (pre ++ empty_slots d) (empty_slots k) ys post l m
+        ∙ (append_assoc pre (empty_slots d) (empty_slots k ++ post) ∙ ap (λ (r : Row). pre ++ r)
         (empty-turn d k post))))
-        (laid-at to pre ys (empty k) (empty d ++ post) t (sym m))
+        (laid-at to pre ys (empty_slots k) (empty_slots d ++ post) t (sym m))
 
   module _ (from to k d : ℕ) where
     -- If the slots `ys` are moved up, past the `d` empty slots directly after them, then `ys` and
     -- the empty slots change places.
     pub moved_right : (pre ys post : List (Option T)) → from ≡ length pre → to ≡ from + d
         → k ≡ length ys
-        → moved from to k (pre ++ (ys ++ (empty d ++ post))) ≡ pre ++ (empty d ++ (ys ++ post))
+        → move_slots from to k (pre ++ (ys ++ (empty_slots d ++ post)))
+        ≡ pre ++ (empty_slots d ++ (ys ++ post))
     moved_right pre ys post f t n =
         let Row : Type 0 = List (Option T) in
-        let s : Row = pre ++ (ys ++ (empty d ++ post)) in
-        let l : to ≡ length (pre ++ empty {T = T} d) =
+        let s : Row = pre ++ (ys ++ (empty_slots d ++ post)) in
+        let l : to ≡ length (pre ++ empty_slots {T = T} d) =
         omega (
           arith,
-          length-append pre (empty d),
+          length-append pre (empty_slots d),
           length-replicate d (let o : Option T = None in o),
         ) in
-        let m : length (empty {T = T} k) ≡ length ys =
+        let m : length (empty_slots {T = T} k) ≡ length ys =
         length-replicate k (let o : Option T = None in o) ∙ n in
-        moved-by from to k s ys ((pre ++ empty d) ++ (empty k ++ post)) _
-        (run-at from k pre ys (empty d ++ post) f n)
-        (laid-at from pre (empty k) ys (empty d ++ post) f m
+        moved-by from to k s ys ((pre ++ empty_slots d) ++ (empty_slots k ++ post)) _
+        (run-at from k pre ys (empty_slots d ++ post) f n)
+        (laid-at from pre (empty_slots k) ys (empty_slots d ++ post) f m
         ∙ (ap (λ (r : Row). pre ++ r) (empty-turn k d post)
-        ∙ sym (append_assoc pre (empty d) (empty k ++ post))))
-        (laid-at to (pre ++ empty d) ys (empty k) post l (sym m)
-        ∙ append_assoc pre (empty d) (ys ++ post))
+        ∙ sym (append_assoc pre (empty_slots d) (empty_slots k ++ post))))
+        (laid-at to (pre ++ empty_slots d) ys (empty_slots k) post l (sym m)
+        ∙ append_assoc pre (empty_slots d) (ys ++ post))
 
   module _ (from to k : ℕ) where
     -- If the `k` slots `ys` are moved up, past the slots `mid`, into `k` empty slots, then `ys` and
     -- the empty slots change places. The slots `mid` do not change.
     pub moved_over : (pre ys mid post : List (Option T)) → from ≡ length pre
         → to ≡ from + k + length mid → k ≡ length ys
-        → moved from to k (pre ++ (ys ++ (mid ++ (empty k ++ post))))
-        ≡ pre ++ (empty k ++ (mid ++ (ys ++ post)))
+        → move_slots from to k (pre ++ (ys ++ (mid ++ (empty_slots k ++ post))))
+        ≡ pre ++ (empty_slots k ++ (mid ++ (ys ++ post)))
     moved_over pre ys mid post f t n =
         let Row : Type 0 = List (Option T) in
-        let front : Row = pre ++ (empty k ++ mid) in
-        let joined : (r : Row) → front ++ r ≡ pre ++ (empty k ++ (mid ++ r)) =
-        λ r. append_assoc pre (empty k ++ mid) r ∙ ap (λ (l : Row). pre ++ l)
-        (append_assoc (empty k) mid r) in
-        let m : length (empty {T = T} k) ≡ length ys =
+        let front : Row = pre ++ (empty_slots k ++ mid) in
+        let joined : (r : Row) → front ++ r ≡ pre ++ (empty_slots k ++ (mid ++ r)) =
+        λ r. append_assoc pre (empty_slots k ++ mid) r ∙ ap (λ (l : Row). pre ++ l)
+        (append_assoc (empty_slots k) mid r) in
+        let m : length (empty_slots {T = T} k) ≡ length ys =
         length-replicate k (let o : Option T = None in o) ∙ n in
         let l : to ≡ length front =
-        omega (arith, m, length-append pre (empty k ++ mid), length-append (empty k) mid) in
-        moved-by from to k _ ys (front ++ (empty k ++ post)) _
-        (run-at from k pre ys (mid ++ (empty k ++ post)) f n)
-        (laid-at from pre (empty k) ys (mid ++ (empty k ++ post)) f m
-        ∙ sym (joined (empty k ++ post)))
-        (laid-at to front ys (empty k) post l (sym m) ∙ joined (ys ++ post))
+        omega (
+          arith,
+          m,
+          length-append pre (empty_slots k ++ mid),
+          length-append (empty_slots k) mid,
+        ) in
+        moved-by from to k _ ys (front ++ (empty_slots k ++ post)) _
+        (run-at from k pre ys (mid ++ (empty_slots k ++ post)) f n)
+        (laid-at from pre (empty_slots k) ys (mid ++ (empty_slots k ++ post)) f m
+        ∙ sym (joined (empty_slots k ++ post)))
+        (laid-at to front ys (empty_slots k) post l (sym m) ∙ joined (ys ++ post))
 
   module _ (from to k : ℕ) where
     -- If the `k` slots `ys` are moved down, past the slots `mid`, into `k` empty slots, then `ys`
     -- and the empty slots change places. The slots `mid` do not change.
     pub moved_back : (pre ys mid post : List (Option T)) → to ≡ length pre
         → from ≡ to + k + length mid → k ≡ length ys
-        → moved from to k (pre ++ (empty k ++ (mid ++ (ys ++ post))))
-        ≡ pre ++ (ys ++ (mid ++ (empty k ++ post)))
+        → move_slots from to k (pre ++ (empty_slots k ++ (mid ++ (ys ++ post))))
+        ≡ pre ++ (ys ++ (mid ++ (empty_slots k ++ post)))
     moved_back pre ys mid post t f n =
         let Row : Type 0 = List (Option T) in
-        let front : Row = pre ++ (empty k ++ mid) in
-        let joined : (r : Row) → front ++ r ≡ pre ++ (empty k ++ (mid ++ r)) =
-        λ r. append_assoc pre (empty k ++ mid) r ∙ ap (λ (l : Row). pre ++ l)
-        (append_assoc (empty k) mid r) in
-        let m : length (empty {T = T} k) ≡ length ys =
+        let front : Row = pre ++ (empty_slots k ++ mid) in
+        let joined : (r : Row) → front ++ r ≡ pre ++ (empty_slots k ++ (mid ++ r)) =
+        λ r. append_assoc pre (empty_slots k ++ mid) r ∙ ap (λ (l : Row). pre ++ l)
+        (append_assoc (empty_slots k) mid r) in
+        let m : length (empty_slots {T = T} k) ≡ length ys =
         length-replicate k (let o : Option T = None in o) ∙ n in
         let l : from ≡ length front =
-        omega (arith, m, n, length-append pre (empty k ++ mid), length-append (empty k) mid) in
-        moved-by from to k _ ys (pre ++ (empty k ++ (mid ++ (empty k ++ post)))) _
-        (ap (λ (r : Row). run from k r) (sym (joined (ys ++ post)))
+        omega (
+          arith,
+          m,
+          n,
+          length-append pre (empty_slots k ++ mid),
+          length-append (empty_slots k) mid,
+        ) in
+        moved-by from to k _ ys (pre ++ (empty_slots k ++ (mid ++ (empty_slots k ++ post)))) _
+        (ap (λ (r : Row). slot_range from k r) (sym (joined (ys ++ post)))
         ∙ run-at from k front ys post l n)
-        (ap (λ (r : Row). emptied from k r) (sym (joined (ys ++ post)))
-        ∙ (laid-at from front (empty k) ys post l m ∙ joined (empty k ++ post)))
-        (laid-at to pre ys (empty k) (mid ++ (empty k ++ post)) t (sym m))
+        (ap (λ (r : Row). clear_slots from k r) (sym (joined (ys ++ post)))
+        ∙ (laid-at from front (empty_slots k) ys post l m ∙ joined (empty_slots k ++ post)))
+        (laid-at to pre ys (empty_slots k) (mid ++ (empty_slots k ++ post)) t (sym m))
 
-  -- If a list of slots begins with `full xs`, then each of its first `length xs` slots is filled.
+  -- If a list of slots begins with `filled_slots xs`, then each of its first `length xs` slots is
+  -- filled.
   full-filled : (xs : List T) (rest : List (Option T)) (i : ℕ) → i < length xs
-      → IsSome (slot (full xs ++ rest) i)
+      → IsSome (slot (filled_slots xs ++ rest) i)
   full-filled [] rest i low = absurd (omega arith)
   full-filled (x ∷ xs) rest zero low = refl
   full-filled (x ∷ xs) rest (suc i) low =
@@ -320,12 +344,12 @@ module _ {T : Type 0} where
   -- If `c ≡ a + b`, then the `c` empty slots after the items `xs` can be split into `a` empty slots
   -- and `b` empty slots.
   tail-split : (xs : List T) (a b c : ℕ) → c ≡ a + b
-      → full xs ++ empty c ≡ (full xs ++ empty a) ++ empty b
+      → filled_slots xs ++ empty_slots c ≡ (filled_slots xs ++ empty_slots a) ++ empty_slots b
   tail-split xs a b c e =
       let Row : Type 0 = List (Option T) in
-      ap (λ (k : ℕ). full xs ++ empty k) e
-      ∙ (ap (λ (l : Row). full xs ++ l) (sym (replicate-append-replicate a b None))
-      ∙ sym (append_assoc (full xs) (empty a) (empty b)))
+      ap (λ (k : ℕ). filled_slots xs ++ empty_slots k) e
+      ∙ (ap (λ (l : Row). filled_slots xs ++ l) (sym (replicate-append-replicate a b None))
+      ∙ sym (append_assoc (filled_slots xs) (empty_slots a) (empty_slots b)))
 
 -- In this module, exactly the first `n` slots of the list `s` are filled.
 module _ {T : Type 0} (s : List (Option T)) (n : ℕ) (packed : IsPacked s n) where
@@ -335,18 +359,20 @@ module _ {T : Type 0} (s : List (Option T)) (n : ℕ) (packed : IsPacked s n) wh
   abbrev Row : Type 0
   Row = List (Option T)
 
-  full-long : length (full xs) ≡ n
+  full-long : length (filled_slots xs) ≡ n
   full-long = length-map xs Some ∙ sym packed.len
 
-  parted : s ≡ full xs ++ empty (length s - n)
-  parted = packed.row ∙ ap (λ (k : ℕ). full xs ++ empty (length s - k)) (sym packed.len)
+  parted : s ≡ filled_slots xs ++ empty_slots (length s - n)
+  parted = packed.row
+      ∙ ap (λ (k : ℕ). filled_slots xs ++ empty_slots (length s - k)) (sym packed.len)
 
   -- If exactly the first `n` slots of `s` are filled, then `s` has at least `n` slots.
   pub packed-le : n ≤ length s
   packed-le =
-      let whole : length s ≡ length (full xs ++ empty {T = T} (length s - n)) = ap length parted in
+      let whole : length s ≡ length (filled_slots xs ++ empty_slots {T = T} (length s - n)) =
+      ap length parted in
       let long = full-long in
-      omega (arith, length-append (full xs) (empty {T = T} (length s - n)))
+      omega (arith, length-append (filled_slots xs) (empty_slots {T = T} (length s - n)))
 
   -- If exactly the first `n` slots of `s` are filled, then slot `i` of `s` is filled for each index
   -- `i` less than `n`.
@@ -354,62 +380,66 @@ module _ {T : Type 0} (s : List (Option T)) (n : ℕ) (packed : IsPacked s n) wh
   packed-filled i low =
       let len = packed.len in
       subst (λ (l : Row). IsSome (slot l i)) (sym packed.row)
-      (full-filled xs (empty (length s - length xs)) i (omega arith))
+      (full-filled xs (empty_slots (length s - length xs)) i (omega arith))
 
   -- If exactly the first `n` slots of `s` are filled, and they hold the items `xs`, then the list
-  -- of these slots, `run 0 n s`, is `full xs`.
-  pub packed-run : run 0 n s ≡ full xs
+  -- of these slots, `slot_range 0 n s`, is `filled_slots xs`.
+  pub packed-run : slot_range 0 n s ≡ filled_slots xs
   packed-run = ap (λ (l : Row). take n l) parted
-      ∙ take_at (full xs) (empty (length s - n)) n full-long
+      ∙ take_at (filled_slots xs) (empty_slots (length s - n)) n full-long
 
-  packed-rest : drop n s ≡ empty (length s - n)
+  packed-rest : drop n s ≡ empty_slots (length s - n)
   packed-rest = ap (λ (l : Row). drop n l) parted
-      ∙ drop_at (full xs) (empty (length s - n)) n full-long
+      ∙ drop_at (filled_slots xs) (empty_slots (length s - n)) n full-long
 
   -- Suppose that exactly the first `n` slots of `s` are filled. If these slots are emptied, then
   -- all slots of `s` are empty.
-  pub packed-emptied : emptied 0 n s ≡ empty (length s)
+  pub packed-emptied : clear_slots 0 n s ≡ empty_slots (length s)
   packed-emptied =
       let le = packed-le in
-      let long : 0 + length (empty {T = T} n) ≡ n =
+      let long : 0 + length (empty_slots {T = T} n) ≡ n =
       omega (arith, length-replicate n (let o : Option T = None in o)) in
-      ap (λ (k : ℕ). empty n ++ drop k s) long
-      ∙ (ap (λ (l : Row). empty n ++ l) packed-rest
+      ap (λ (k : ℕ). empty_slots n ++ drop k s) long
+      ∙ (ap (λ (l : Row). empty_slots n ++ l) packed-rest
       ∙ (replicate-append-replicate n (length s - n) None
-      ∙ ap (λ (k : ℕ). empty k) (let e : n + (length s - n) ≡ length s = omega arith in e)))
+      ∙ ap (λ (k : ℕ). empty_slots k) (let e : n + (length s - n) ≡ length s = omega arith in e)))
 
   -- If exactly the first `n` slots of `s` are filled, with the items `xs`, then moving them to the
-  -- start of `c` empty slots results in `full xs ++ empty (c - n)`.
-  pub packed-carried : (c : ℕ) → laid 0 (run 0 n s) (empty c) ≡ full xs ++ empty (c - n)
+  -- start of `c` empty slots results in `filled_slots xs ++ empty_slots (c - n)`.
+  pub packed-carried : (c : ℕ)
+      → write_slots 0 (slot_range 0 n s) (empty_slots c) ≡ filled_slots xs ++ empty_slots (c - n)
   packed-carried c =
-      let long : 0 + length (full xs) ≡ n = omega (arith, full-long) in
-      ap (λ (ys : Row). ys ++ drop (0 + length ys) (empty c)) packed-run
-      ∙ (ap (λ (k : ℕ). full xs ++ drop k (empty c)) long ∙ ap (λ (l : Row). full xs ++ l)
+      let long : 0 + length (filled_slots xs) ≡ n = omega (arith, full-long) in
+      ap (λ (ys : Row). ys ++ drop (0 + length ys) (empty_slots c)) packed-run
+      ∙ (ap (λ (k : ℕ). filled_slots xs ++ drop k (empty_slots c)) long
+      ∙ ap (λ (l : Row). filled_slots xs ++ l)
       (drop-replicate n c None))
 
   -- Suppose that the first `n` slots of `s` are filled, that its other slots are empty, and that
   -- `length s ≤ c`. If the `n` items are moved to the start of `c` empty slots, then the result is
   -- `s`, followed by `c - length s` empty slots.
   pub packed-grown : (c : ℕ) → length s ≤ c
-      → laid 0 (run 0 n s) (empty c) ≡ s ++ empty (c - length s)
+      → write_slots 0 (slot_range 0 n s) (empty_slots c) ≡ s ++ empty_slots (c - length s)
   packed-grown c more =
       let le = packed-le in
       packed-carried c ∙ (tail-split xs (length s - n) (c - length s) (c - n) (omega arith)
-      ∙ ap (λ (l : Row). l ++ empty (c - length s)) (sym parted))
+      ∙ ap (λ (l : Row). l ++ empty_slots (c - length s)) (sym parted))
 
   -- Suppose that exactly the first `n` slots of `s` are filled, and that `n ≤ c ≤ length s`. If
   -- their items are moved to the start of `c` empty slots, then these `c` slots equal the first `c`
   -- slots of `s`.
-  pub packed-shrunk : (c : ℕ) → n ≤ c → c ≤ length s → laid 0 (run 0 n s) (empty c) ≡ take c s
+  pub packed-shrunk : (c : ℕ) → n ≤ c → c ≤ length s
+      → write_slots 0 (slot_range 0 n s) (empty_slots c) ≡ take c s
   packed-shrunk c enough less =
-      let kept : Row = full xs ++ empty (c - n) in
-      let split : s ≡ kept ++ empty (length s - c) = parted ∙ tail-split xs (c - n) (length s - c)
+      let kept : Row = filled_slots xs ++ empty_slots (c - n) in
+      let split : s ≡ kept ++ empty_slots (length s - c) =
+      parted ∙ tail-split xs (c - n) (length s - c)
       (length s - n) (omega arith) in
       let long : length kept ≡ c = omega (
         arith,
         full-long,
-        length-append (full xs) (empty (c - n)),
+        length-append (filled_slots xs) (empty_slots (c - n)),
         length-replicate (c - n) (let o : Option T = None in o),
       ) in
       packed-carried c ∙ sym (ap (λ (l : Row). take c l) split
-      ∙ take_at kept (empty (length s - c)) c long)
+      ∙ take_at kept (empty_slots (length s - c)) c long)

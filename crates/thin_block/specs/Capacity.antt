@@ -22,24 +22,24 @@ block_align a = max 8 a
 abbrev pub block_bytes : ℕ → ℕ → ℕ → ℕ
 block_bytes s a c = next_multiple_of (items_offset a + c * s) (block_align a)
 
--- `is_small s a c` is true if the capacity `c` and the size of a block for `c` items of size `s`
+-- `fits_isize s a c` is true if the capacity `c` and the size of a block for `c` items of size `s`
 -- and alignment `a` are at most `isize::MAX`.
-abbrev pub is_small : ℕ → ℕ → ℕ → Bool
-is_small s a c = nat_lt c (2 ^ 63) && nat_lt (block_bytes s a c) (2 ^ 63)
+abbrev pub fits_isize : ℕ → ℕ → ℕ → Bool
+fits_isize s a c = nat_lt c (2 ^ 63) && nat_lt (block_bytes s a c) (2 ^ 63)
 
 -- `fits s a c` is true if a block for `c` items of size `s` and alignment `a` is small enough to be
 -- allocated. The prover unfolds this definition only on request.
 unfoldable pub fits : ℕ → ℕ → ℕ → Bool
-fits s a c = is_small s a c
+fits s a c = fits_isize s a c
 
 -- `Fits R c` holds if a block for `c` items of the type `R` is small enough to be allocated.
 abbrev pub Fits : RattleType → ℕ → Type 0
 Fits R c = IsTrue (fits (type_size R) (type_align R) c)
 
--- `first s` is the least capacity that the rule `Doubling` chooses for the first block of a list
--- with items of `s` bytes.
-unfoldable pub first : ℕ → ℕ
-first s = if nat_lt (2 ^ 61 - 1) s then 1 else 4
+-- `min_non_zero_cap s` is the least capacity that the rule `Doubling` chooses for the first block
+-- of a list with items of `s` bytes.
+unfoldable pub min_non_zero_cap : ℕ → ℕ
+min_non_zero_cap s = if nat_lt (2 ^ 61 - 1) s then 1 else 4
 
 -- `in_words s` says whether items of `s` bytes form words of 8 or 16 bytes. If `s` is 1, 2, 4, 8 or
 -- 16, then `in_words s` is `Some (m, k)`: a word consists of `m` items, and the header is as large

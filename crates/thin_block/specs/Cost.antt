@@ -28,18 +28,19 @@ cost_code =
 abbrev pub no_cost : Cost
 no_cost = record { blocks = 0; grown = 0; moves = 0 }
 
--- `requesting c` is the cost `c` with one more granted request for memory.
-abbrev pub requesting : Cost → Cost
-requesting c = record { blocks = c.blocks + 1; grown = c.grown; moves = c.moves }
+-- `add_request c` is the cost `c` with one more granted request for memory.
+abbrev pub add_request : Cost → Cost
+add_request c = record { blocks = c.blocks + 1; grown = c.grown; moves = c.moves }
 
--- `relocating k c` is the cost `c` with `k` more copied items.
-abbrev pub relocating : ℕ → Cost → Cost
-relocating k c = record { blocks = c.blocks; grown = c.grown + k; moves = c.moves }
+-- `add_copies k c` is the cost `c` with `k` more copied items.
+abbrev pub add_copies : ℕ → Cost → Cost
+add_copies k c = record { blocks = c.blocks; grown = c.grown + k; moves = c.moves }
 
--- `growing k c` is the cost `c` with one more granted request for memory and `k` more copied items.
-abbrev pub growing : ℕ → Cost → Cost
-growing k c = record { blocks = c.blocks + 1; grown = c.grown + k; moves = c.moves }
+-- `add_realloc k c` is the cost `c` with one more granted request for memory and `k` more copied
+-- items.
+abbrev pub add_realloc : ℕ → Cost → Cost
+add_realloc k c = record { blocks = c.blocks + 1; grown = c.grown + k; moves = c.moves }
 
--- `moving k c` is the cost `c` plus `k` moves of items.
-abbrev pub moving : ℕ → Cost → Cost
-moving k c = record { blocks = c.blocks; grown = c.grown; moves = c.moves + k }
+-- `add_moves k c` is the cost `c` plus `k` moves of items.
+abbrev pub add_moves : ℕ → Cost → Cost
+add_moves k c = record { blocks = c.blocks; grown = c.grown; moves = c.moves + k }

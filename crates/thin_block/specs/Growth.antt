@@ -6,77 +6,80 @@ use Rattle.std.specs.Mem.{type_size}
 use Rattle.std.specs.Align.{type_align}
 use denote.RattleType.{RattleType}
 use Rattle.std.specs.Int.{IsPowerOfTwo}
-use Rattle.thin_block.specs.Capacity.{fits, first, items_offset}
+use Rattle.thin_block.specs.Capacity.{fits, min_non_zero_cap, items_offset}
 
--- `Rule` is the type of growth rules. A rule maps the size of an item, its alignment, the old
+-- `GrowthRule` is the type of growth rules. A rule maps the size of an item, its alignment, the old
 -- capacity and the required capacity to the new capacity. It returns `None` if this capacity is too
 -- large.
-abbrev pub Rule : Type 0
-Rule = ℕ → ℕ → ℕ → ℕ → Option ℕ
+abbrev pub GrowthRule : Type 0
+GrowthRule = ℕ → ℕ → ℕ → ℕ → Option ℕ
 
--- `IsGrown s a c w n` holds if the new capacity `n` is at least the required capacity `w` and at
--- least twice the old capacity `c`, and a block for `n` items of size `s` and alignment `a` is
+-- `IsValidGrowth s a c w n` holds if the new capacity `n` is at least the required capacity `w` and
+-- at least twice the old capacity `c`, and a block for `n` items of size `s` and alignment `a` is
 -- small enough to be allocated.
-pub record IsGrown (s a c w n : ℕ) : Type 0 where
+pub record IsValidGrowth (s a c w n : ℕ) : Type 0 where
   pub enough : w ≤ n
   pub doubled : 2 * c ≤ n
   pub fits : IsTrue (fits s a n)
 
--- `Grows R c w n` holds if a block of capacity `c` may grow to the capacity `n` in order to hold
--- `w` items of the type `R`.
-abbrev pub Grows : RattleType → ℕ → ℕ → ℕ → Type 0
-Grows R c w n = IsGrown (type_size R) (type_align R) c w n
+-- `GrowsValidly R c w n` holds if a block of capacity `c` may grow to the capacity `n` in order to
+-- hold `w` items of the type `R`.
+abbrev pub GrowsValidly : RattleType → ℕ → ℕ → ℕ → Type 0
+GrowsValidly R c w n = IsValidGrowth (type_size R) (type_align R) c w n
 
--- `KeepsLaw rule` holds if each capacity that `rule` chooses is at least the required capacity, at
+-- `IsLawful rule` holds if each capacity that `rule` chooses is at least the required capacity, at
 -- least twice the old capacity, and small enough to be allocated.
-abbrev pub KeepsLaw : Rule → Type 0
-KeepsLaw rule = (s a c w n : ℕ) → c < w → w < 2 ^ 64 → rule s a c w ≡ Some n → IsGrown s a c w n
+abbrev pub IsLawful : GrowthRule → Type 0
+IsLawful rule = (s a c w n : ℕ) → c < w → w < 2 ^ 64 → rule s a c w ≡ Some n
+    → IsValidGrowth s a c w n
 
--- `fitting s a n` is `Some n` if a block for `n` items of size `s` and alignment `a` is small
--- enough to be allocated, and `None` otherwise.
-unfoldable pub fitting : ℕ → ℕ → ℕ → Option ℕ
-fitting s a n = if fits s a n then Some n else None
+-- `checked_capacity s a n` is `Some n` if a block for `n` items of size `s` and alignment `a` is
+-- small enough to be allocated, and `None` otherwise.
+unfoldable pub checked_capacity : ℕ → ℕ → ℕ → Option ℕ
+checked_capacity s a n = if fits s a n then Some n else None
 
 -- `doubling` is the growth rule `Doubling`. It chooses the greater of two numbers: the required
 -- capacity, and twice the old capacity. If the old capacity is 0, the second number is the result
 -- of `first_capacity` instead. `reserve` in the Rust crate thin-vec uses the same rule.
-unfoldable pub doubling : Rule
-doubling s a c w = fitting s a (max w (if c == 0 then first s else 2 * c))
+unfoldable pub doubling : GrowthRule
+doubling s a c w = checked_capacity s a (max w (if c == 0 then min_non_zero_cap s else 2 * c))
 
--- `doubled_to k n p` doubles `p` until the result is at least `n`, but at most `k` times.
-abbrev pub doubled_to : ℕ → ℕ → ℕ → ℕ
-doubled_to zero n p = p
-doubled_to (suc more) n p = if nat_le n p then p else doubled_to more n (2 * p)
+-- `double_to k n p` doubles `p` until the result is at least `n`, but at most `k` times.
+abbrev pub double_to : ℕ → ℕ → ℕ → ℕ
+double_to zero n p = p
+double_to (suc more) n p = if nat_le n p then p else double_to more n (2 * p)
 
 -- `least_power n` is the least power of two that is at least `n`. std's `usize::next_power_of_two`
 -- returns the same number if the number fits into a `usize`.
 unfoldable pub least_power : ℕ → ℕ
-least_power n = doubled_to n n 1
+least_power n = double_to n n 1
 
 -- `power_bytes` is the growth rule `PowerBytes`. It rounds the size of a block up to a power of
 -- two, and chooses the greatest capacity for which a block fits into the rounded size. For items of
 -- size 0, the rule is the same as `doubling`.
-unfoldable pub power_bytes : Rule
-power_bytes s a c w = if s == 0 then doubling s a c w else fitting s a
+unfoldable pub power_bytes : GrowthRule
+power_bytes s a c w = if s == 0 then doubling s a c w else checked_capacity s a
     ((least_power (items_offset a + max w (2 * c) * s) - items_offset a) / s)
 
--- `FillsPower s a c` holds if, for some power of two `p`, the header and `c` items fit into `p`
--- bytes, but the header and `c + 1` items do not. Items have the size `s` and the alignment `a`.
-pub record FillsPower (s a c : ℕ) : Type 0 where
+-- `FillsPowerOfTwo s a c` holds if, for some power of two `p`, the header and `c` items fit into
+-- `p` bytes, but the header and `c + 1` items do not. Items have the size `s` and the alignment
+-- `a`.
+pub record FillsPowerOfTwo (s a c : ℕ) : Type 0 where
   pub power : ℕ
   pub is_power : IsPowerOfTwo power
   pub holds : items_offset a + c * s ≤ power
   pub is_full : power < items_offset a + (c + 1) * s
 
--- `ruled_capacity rule R c w` is the capacity of a block for items of the type `R` after reserving
+-- `grown_capacity rule R c w` is the capacity of a block for items of the type `R` after reserving
 -- room for `w` items under the growth rule `rule`. The old capacity is `c`. If the new capacity
 -- would be too large, the result is `None`.
-unfoldable pub ruled_capacity : Rule → RattleType → ℕ → ℕ → Option ℕ
-ruled_capacity rule R c w = if nat_le w c then Some c else
+unfoldable pub grown_capacity : GrowthRule → RattleType → ℕ → ℕ → Option ℕ
+grown_capacity rule R c w = if nat_le w c then Some c else
     (if nat_lt w (2 ^ 64) then rule (type_size R) (type_align R) c w else None)
 
 -- `exact_capacity R c w` is the capacity of a block for items of the type `R` after reserving room
 -- for exactly `w` items. The old capacity is `c`. If the new block would be too large, the result
 -- is `None`.
 unfoldable pub exact_capacity : RattleType → ℕ → ℕ → Option ℕ
-exact_capacity R c w = if nat_le w c then Some c else fitting (type_size R) (type_align R) w
+exact_capacity R c w =
+    if nat_le w c then Some c else checked_capacity (type_size R) (type_align R) w

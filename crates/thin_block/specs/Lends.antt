@@ -6,22 +6,23 @@ use Rattle.core.specs.declared.alloc.Allocator.{Ghosts}
 use Rattle.core.specs.Borrow.{Lends, MutBor, Fml, RattleType, Array}
 use mathlib.Core.Path.{refl, sym, ap, subst, ◌∙◌}
 use lib.ListN.{length-set}
-use Rattle.thin_block.specs.Ownership.{any_same}
+use Rattle.thin_block.specs.Ownership.{is_nonempty_same}
 use Rattle.thin_block.specs.declared.block.Block.{Block}
 use Rattle.thin_block.specs.contracts.block.Block.{the_row}
 
 module _ {X : Type 0} where
-  -- `over s i ws` is the list of slots `s` after the items `ws` have overwritten the items from
-  -- slot `i` onward. Writing stops at the first empty slot.
-  abbrev pub over : List (Option X) → ℕ → List X → List (Option X)
-  over [] i ws = []
-  over (x ∷ s) (suc i) ws = x ∷ over s i ws
-  over (None ∷ s) zero ws = None ∷ s
-  over (Some x ∷ s) zero [] = Some x ∷ s
-  over (Some x ∷ s) zero (w ∷ ws) = Some w ∷ over s zero ws
+  -- `overwrite_items s i ws` is the list of slots `s` after the items `ws` have overwritten the
+  -- items from slot `i` onward. Writing stops at the first empty slot.
+  abbrev pub overwrite_items : List (Option X) → ℕ → List X → List (Option X)
+  overwrite_items [] i ws = []
+  overwrite_items (x ∷ s) (suc i) ws = x ∷ overwrite_items s i ws
+  overwrite_items (None ∷ s) zero ws = None ∷ s
+  overwrite_items (Some x ∷ s) zero [] = Some x ∷ s
+  overwrite_items (Some x ∷ s) zero (w ∷ ws) = Some w ∷ overwrite_items s zero ws
 
-  -- Overwriting items with `over` does not change the number of slots.
-  pub length-over : (s : List (Option X)) (i : ℕ) (ws : List X) → length (over s i ws) ≡ length s
+  -- Overwriting items with `overwrite_items` does not change the number of slots.
+  pub length-over : (s : List (Option X)) (i : ℕ) (ws : List X)
+      → length (overwrite_items s i ws) ≡ length s
   length-over [] i ws = refl
   length-over (x ∷ s) (suc i) ws = ap suc (length-over s i ws)
   length-over (None ∷ s) zero ws = refl
@@ -39,27 +40,27 @@ module _ {X Z : Type 0} where
         sound = (
           subst (λ (n : ℕ). b.len ≤ n) (sym same) b.sound.0,
           b.sound.1
-              ∙ sym (any_same b.slots s same),
+              ∙ sym (is_nonempty_same b.slots s same),
           subst (λ (n : ℕ). n < 2 ^ 63) (sym same) b.sound.2,
         );
       }
 
-  -- `with_item b i w` is the block `b` with the item `w` in slot `i`.
-  abbrev pub with_item : Block X Z → ℕ → X → Block X Z
-  with_item b i w = with_slots b (slice_set b.slots i (Some w)) (length-set b.slots i (Some w))
+  -- `set_slot b i w` is the block `b` with the item `w` in slot `i`.
+  abbrev pub set_slot : Block X Z → ℕ → X → Block X Z
+  set_slot b i w = with_slots b (slice_set b.slots i (Some w)) (length-set b.slots i (Some w))
 
-  -- `with_items b i ws` is the block `b` after the items of `ws` have overwritten the items from
+  -- `set_slots b i ws` is the block `b` after the items of `ws` have overwritten the items from
   -- slot `i` onward.
-  abbrev pub with_items : Block X Z → ℕ → List X → Block X Z
-  with_items b i ws = with_slots b (over b.slots i ws) (length-over b.slots i ws)
+  abbrev pub set_slots : Block X Z → ℕ → List X → Block X Z
+  set_slots b i ws = with_slots b (overwrite_items b.slots i ws) (length-over b.slots i ws)
 
 module _ (T A : RattleType) (g : Ghosts A.Denot) (b : MutBor (Block T.Denot A.Denot)) where
-  -- `LendsItem i r` holds if `r` is a `&mut` to the item in slot `i` of the block `b`. After the
+  -- `LendsSlot i r` holds if `r` is a `&mut` to the item in slot `i` of the block `b`. After the
   -- borrow, this slot will contain the final value of `r`.
-  abbrev pub LendsItem : ℕ → MutBor T.Denot → Fml
-  LendsItem i r = Lends (the_row T A g) T b r (with_item b.now i)
+  abbrev pub LendsSlot : ℕ → MutBor T.Denot → Fml
+  LendsSlot i r = Lends (the_row T A g) T b r (set_slot b.now i)
 
-  -- `LendsItems i r` holds if `r` is a `&mut` to adjacent items of the block `b`, starting at slot
+  -- `LendsSlots i r` holds if `r` is a `&mut` to adjacent items of the block `b`, starting at slot
   -- `i`, and if these slots contain the final items of `r` when the borrow ends.
-  abbrev pub LendsItems : ℕ → MutBor (List T.Denot) → Fml
-  LendsItems i r = Lends (the_row T A g) (Array T 0) b r (with_items b.now i)
+  abbrev pub LendsSlots : ℕ → MutBor (List T.Denot) → Fml
+  LendsSlots i r = Lends (the_row T A g) (Array T 0) b r (set_slots b.now i)

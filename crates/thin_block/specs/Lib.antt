@@ -1,5 +1,5 @@
 -- These modules contain the definitions that the contracts use, the proofs that the growth rules
--- keep their law (`KeepsLaw`), and the type former of `Block`. The type former says which values a
+-- keep their law (`IsLawful`), and the type former of `Block`. The type former says which values a
 -- block contains.
 pub mod Capacity
 pub mod Growth

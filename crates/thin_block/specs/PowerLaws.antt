@@ -12,7 +12,7 @@ use Rattle.std.proofs.lemmas.Grind.{pow_more}
 use Rattle.std.proofs.lemmas.Nat.{div-add-mod', le-div}
 use borrow.Author.Tests.{leb-true, leb-false}
 use Rattle.thin_block.specs.Capacity.{fits, items_offset}
-use Rattle.thin_block.specs.Growth.{FillsPower, IsGrown, KeepsLaw, doubled_to, doubling, fitting, least_power, power_bytes}
+use Rattle.thin_block.specs.Growth.{FillsPowerOfTwo, IsValidGrowth, IsLawful, double_to, doubling, checked_capacity, least_power, power_bytes}
 use Rattle.thin_block.specs.GrowthLaws.{doubling_law, fitting_is}
 
 -- The next lemmas are about the least power of two that is at least a given number.
@@ -31,15 +31,15 @@ one_step true n p next e power half later = (power, leb-true n p e, half)
 one_step false n p next e power half later = later (leb-false n p e)
 
 -- Suppose that `p` is a power of two with `p / 2 < max 1 n` and `n <= 2 ^ k * p`. Then
--- `doubled_to k n p` is the least power of two that is at least `n`.
+-- `double_to k n p` is the least power of two that is at least `n`.
 doubled_is : (k n p : ℕ) → IsPowerOfTwo p → p / 2 < max 1 n → n ≤ 2 ^ k * p
-    → IsNextPowerOfTwo n (doubled_to k n p)
+    → IsNextPowerOfTwo n (double_to k n p)
 doubled_is zero n p power half enough = (power, omega (arith, enough), half)
 doubled_is (suc k) n p power half enough =
     let next : 2 * p ≡ 2 ^ (power.0 + 1) = omega (arith, power.1, pow_more 2 power.0) in
     let twice : 2 ^ suc k * p ≡ 2 ^ k * (2 * p) = ap (λ (x : ℕ). x * p) (pow-suc 2 k)
     ∙ mul_assoc (2 ^ k) 2 p in
-    one_step (nat_le n p) n p (doubled_to k n (2 * p)) refl power half
+    one_step (nat_le n p) n p (double_to k n (2 * p)) refl power half
     (λ less. doubled_is k n (2 * p) (power.0 + 1, next) (omega (arith, less))
     (omega (arith, enough, twice)))
 
@@ -78,7 +78,7 @@ powers_of_none s a c w none = let test : (s == 0) ≡ true = grind (arith, nat_t
 -- `power_bytes` rounds the total size of the header and `max w (2 * c)` items up to a power of two,
 -- and chooses the greatest capacity for which a block fits into the rounded size. If this capacity
 -- is too large, the result is `None`.
-pub powers_of_some : (s a c w : ℕ) → 0 < s → power_bytes s a c w ≡ fitting s a
+pub powers_of_some : (s a c w : ℕ) → 0 < s → power_bytes s a c w ≡ checked_capacity s a
     ((least_power (items_offset a + max w (2 * c) * s) - items_offset a) / s)
 unfolding power_bytes
 powers_of_some s a c w some = let test : (s == 0) ≡ false = grind (arith, nat_tests) in rw test refl
@@ -106,7 +106,7 @@ module _ (s a c w n : ℕ) (some : 0 < s) (e : power_bytes s a c w ≡ Some n) w
 
   -- The capacity `n` that `power_bytes` chooses is at least `w` and at least `2 * c`, and a block
   -- of capacity `n` is small enough to be allocated.
-  pub powers_grow : IsGrown s a c w n
+  pub powers_grow : IsValidGrowth s a c w n
   powers_grow =
       let more : max w (2 * c) ≤ (power - items_offset a) / s =
       le-div (max w (2 * c)) (power - items_offset a) s some (omega (arith, room)) in
@@ -118,7 +118,7 @@ module _ (s a c w n : ℕ) (some : 0 < s) (e : power_bytes s a c w ≡ Some n) w
 
   -- For the capacity `n` that `power_bytes` chooses, there is a power of two `p` such that `p`
   -- bytes have room for the header and `n` items, but not for one more item.
-  pub powers_filled : FillsPower s a n
+  pub powers_filled : FillsPowerOfTwo s a n
   powers_filled =
       let parts = div-add-mod' (power - items_offset a) s in
       let rest = mod-lt (power - items_offset a) {m = s} some in
@@ -131,8 +131,8 @@ module _ (s a c w n : ℕ) (some : 0 < s) (e : power_bytes s a c w ≡ Some n) w
         is_full = omega (arith, room, parts, whole, rest, next);
       }
 
--- The rule `power_bytes` satisfies `KeepsLaw`, the law that every growth rule must satisfy.
-pub power_bytes_law : KeepsLaw power_bytes
+-- The rule `power_bytes` satisfies `IsLawful`, the law that every growth rule must satisfy.
+pub power_bytes_law : IsLawful power_bytes
 power_bytes_law s a c w n more word e = elim (eq-zero-or-pos s) [
   | inl none ↦ doubling_law s a c w n more word (sym (powers_of_none s a c w none) ∙ e)
   | inr some ↦ powers_grow s a c w n some e

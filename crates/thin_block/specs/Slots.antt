@@ -4,13 +4,13 @@ use Rattle.std.specs.Prelude.{◌≡◌, ℕ, ◌+◌, ◌-◌, ◌<◌, ◌≤�
 use Rattle.std.specs.declared.option.Option.TheVariants.{Some, None}
 
 module _ {T : Type 0} where
-  -- `full xs` is the row of filled slots that contain the items of `xs`, in order.
-  abbrev pub full : List T → List (Option T)
-  full xs = map Some xs
+  -- `filled_slots xs` is the row of filled slots that contain the items of `xs`, in order.
+  abbrev pub filled_slots : List T → List (Option T)
+  filled_slots xs = map Some xs
 
-  -- `empty k` is a row of `k` empty slots.
-  abbrev pub empty : ℕ → List (Option T)
-  empty k = replicate k None
+  -- `empty_slots k` is a row of `k` empty slots.
+  abbrev pub empty_slots : ℕ → List (Option T)
+  empty_slots k = replicate k None
 
   -- `slot s i` is the content of slot `i` of the row `s`. It is `None` if the slot is empty or does
   -- not exist.
@@ -31,31 +31,31 @@ module _ {T : Type 0} where
   items_in (None ∷ s) = items_in s
   items_in (Some x ∷ s) = x ∷ items_in s
 
-  -- `front xs c` is a row of `c` slots: the items of `xs`, followed by empty slots. It requires
-  -- `length xs ≤ c`.
-  abbrev pub front : List T → ℕ → List (Option T)
-  front xs c = full xs ++ empty (c - length xs)
+  -- `packed_slots xs c` is a row of `c` slots: the items of `xs`, followed by empty slots. It
+  -- requires `length xs ≤ c`.
+  abbrev pub packed_slots : List T → ℕ → List (Option T)
+  packed_slots xs c = filled_slots xs ++ empty_slots (c - length xs)
 
   -- `IsPacked s n` holds if the first `n` slots of the row `s` are filled, and all other slots are
   -- empty.
   pub record IsPacked (s : List (Option T)) (n : ℕ) : Type 0 where
-    pub row : s ≡ front (items_in s) (length s)
+    pub row : s ≡ packed_slots (items_in s) (length s)
     pub len : n ≡ length (items_in s)
 
-  -- `run i k s` is the list of the slots `i..i + k` of the row `s`.
-  abbrev pub run : ℕ → ℕ → List (Option T) → List (Option T)
-  run i k s = take k (drop i s)
+  -- `slot_range i k s` is the list of the slots `i..i + k` of the row `s`.
+  abbrev pub slot_range : ℕ → ℕ → List (Option T) → List (Option T)
+  slot_range i k s = take k (drop i s)
 
-  -- `laid i ys s` is the row `s` after the slots `i..i + length ys` have been replaced with the
-  -- slots `ys`.
-  abbrev pub laid : ℕ → List (Option T) → List (Option T) → List (Option T)
-  laid i ys s = take i s ++ (ys ++ drop (i + length ys) s)
+  -- `write_slots i ys s` is the row `s` after the slots `i..i + length ys` have been replaced with
+  -- the slots `ys`.
+  abbrev pub write_slots : ℕ → List (Option T) → List (Option T) → List (Option T)
+  write_slots i ys s = take i s ++ (ys ++ drop (i + length ys) s)
 
-  -- `emptied i k s` is the row `s` after the slots `i..i + k` have been emptied.
-  abbrev pub emptied : ℕ → ℕ → List (Option T) → List (Option T)
-  emptied i k s = laid i (empty k) s
+  -- `clear_slots i k s` is the row `s` after the slots `i..i + k` have been emptied.
+  abbrev pub clear_slots : ℕ → ℕ → List (Option T) → List (Option T)
+  clear_slots i k s = write_slots i (empty_slots k) s
 
-  -- `moved from to k s` is the row of slots `s` after the contents of the `k` slots from `from`
-  -- onward have been moved to the `k` slots from `to` onward.
-  unfoldable pub moved : ℕ → ℕ → ℕ → List (Option T) → List (Option T)
-  moved from to k s = laid to (run from k s) (emptied from k s)
+  -- `move_slots from to k s` is the row of slots `s` after the contents of the `k` slots from
+  -- `from` onward have been moved to the `k` slots from `to` onward.
+  unfoldable pub move_slots : ℕ → ℕ → ℕ → List (Option T) → List (Option T)
+  move_slots from to k s = write_slots to (slot_range from k s) (clear_slots from k s)

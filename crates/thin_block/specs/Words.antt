@@ -8,9 +8,9 @@ use denote.RattleType.{RattleType}
 use denote.Memory.{part_at}
 use denote.Param.{ArrayAt, value_of}
 use denote.RawPtr.{Ptr, block_ptr, null_ptr}
-use Rattle.thin_block.specs.Ownership.{bare, way, word_of, places}
-use Rattle.thin_block.specs.Slots.{full}
-use Rattle.thin_block.specs.contracts.words.Words.{the_row}
+use Rattle.thin_block.specs.Ownership.{erased_type, word_wand, word_of, slots_own}
+use Rattle.thin_block.specs.Slots.{filled_slots}
+use Rattle.thin_block.specs.contracts.words.Word.{the_row}
 
 module _ (T M : RattleType) where
   -- `word xs` is the word that holds the items `xs`.
@@ -20,7 +20,8 @@ module _ (T M : RattleType) where
   -- `run_at xs b o` contains the items `xs` of one word at the offset `o` of the allocation `b`,
   -- and the right to convert their memory into memory for the word.
   abbrev pub run_at : List T.Denot → ℕ → ℕ → Fml
-  run_at xs b o = fsep (part_at (ArrayAt T M) full_share xs b o) (way (bare T) (value_of M) b o)
+  run_at xs b o = fsep (part_at (ArrayAt T M) full_share xs b o)
+      (word_wand (erased_type T) (value_of M) b o)
 
   -- `runs_at xss b o` contains the items of adjacent words, and the rights to convert their memory
   -- into memory for words. Each list in `xss` contains the items of one word. The first word is at
@@ -28,7 +29,7 @@ module _ (T M : RattleType) where
   abbrev pub runs_at : List (List T.Denot) → ℕ → ℕ → Fml
   runs_at [] b o = ftrue
   runs_at (xs ∷ xss) b o = fsep (run_at xs b o)
-      (runs_at xss b (o + size (word_of (bare T) (value_of M))))
+      (runs_at xss b (o + size (word_of (erased_type T) (value_of M))))
 
   -- `runs_from xss p` contains the items of adjacent words from the pointer `p` onward, and the
   -- rights to convert their memory into memory for words. Each list in `xss` contains the items of
@@ -41,4 +42,4 @@ module _ (T M : RattleType) where
   -- Each word holds the items of one list in `xss`.
   abbrev pub words_from : List (List T.Denot) → Ptr → Fml
   words_from xss null_ptr = ffalse
-  words_from xss (block_ptr b o) = places (the_row T M) (full (map word xss)) b o
+  words_from xss (block_ptr b o) = slots_own (the_row T M) (filled_slots (map word xss)) b o

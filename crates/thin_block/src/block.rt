@@ -6,13 +6,13 @@ ghost use Rattle.std.specs.Coded.{coded_list, coded_option};
 ghost use Rattle.thin_block.specs.Capacity.{Fits};
 ghost use Rattle.thin_block.specs.Cost.{Cost, cost_code, no_cost};
 ghost use Rattle.std.specs.Option.{is_some};
-ghost use Rattle.thin_block.specs.Ownership.{block_owns, block_lent, any};
+ghost use Rattle.thin_block.specs.Ownership.{block_owns, block_shares, is_nonempty};
 
 use std::alloc::Allocator;
 use std::marker::{Model, PhantomData, Send, Sync};
 
 // All blocks without an allocation point to this header. No code ever writes to it.
-static NO_BLOCK: Header = Header {
+static EMPTY_HEADER: Header = Header {
     cap: 0,
     len: 0,
     aligned: [],
@@ -37,7 +37,7 @@ struct Header {
 /// stores neither the counters nor the allocator.
 pub struct Block<T, A: Allocator> {
     // A pointer to the capacity. In memory, the capacity is followed by the length, and then by the
-    // slots. If the block has no allocation, this is a pointer to `NO_BLOCK`.
+    // slots. If the block has no allocation, this is a pointer to `EMPTY_HEADER`.
     pub(crate) at: *mut usize,
     pub(crate) item: PhantomData<T>,
     pub(crate) handle: PhantomData<A>,
@@ -45,13 +45,14 @@ pub struct Block<T, A: Allocator> {
     pub ghost len: { ℕ },
     pub ghost alloc: { Option A } by { coded_option A.code },
     pub ghost cost: { Cost } by { cost_code },
-    ghost sound: { (len ≤ length slots) × (is_some alloc ≡ any slots) × (length slots < 2 ^ 63) },
+    ghost sound: { (len ≤ length slots) × (is_some alloc ≡ is_nonempty slots)
+        × (length slots < 2 ^ 63) },
 }
 
 impl<T, A: Allocator> Model for Block<T, A> {
     ghost also_owns = { λ b. block_owns A.dealloc_token T.row b.at b.len b.slots b.alloc };
 
-    ghost also_shares = { λ b _ κ. block_lent T.row b.at b.len b.slots b.alloc κ };
+    ghost also_shares = { λ b _ κ. block_shares T.row b.at b.len b.slots b.alloc κ };
 }
 
 // A block is `Send` if its items and its allocator are. It is the only owner of its allocation. All
@@ -63,12 +64,12 @@ unsafe impl<T: Send, A: Allocator + Send> Send for Block<T, A> {}
 unsafe impl<T: Sync, A: Allocator + Sync> Sync for Block<T, A> {}
 
 impl<T, A: Allocator> Block<T, A> {
-    ghost use Rattle.thin_block.specs.Block.{seen};
+    ghost use Rattle.thin_block.specs.Block.{block_view};
 
     /// Returns a block without an allocation. The block has no slots, its length is 0, and there is
     /// no memory to free.
     pub fn none() -> Block<T, A>
-        ensures new { seen result ≡ record {
+        ensures new { block_view result ≡ record {
           slots = [];
           len = 0;
           alloc = None;
@@ -76,7 +77,7 @@ impl<T, A: Allocator> Block<T, A> {
         } }
     {
         Block {
-            at: (&raw const NO_BLOCK) as *mut usize,
+            at: (&raw const EMPTY_HEADER) as *mut usize,
             item: PhantomData,
             handle: PhantomData,
         }
@@ -107,7 +108,7 @@ impl<T, A: Allocator> Block<T, A> {
     /// Sets the stored length to `len` items. The slots do not change.
     pub fn set_len(&mut self, len: usize)
         requires in_bounds { len ≤ length self.old.slots }
-        ensures changes { seen self.new ≡ record (seen self.old) { len = len } }
+        ensures changes { block_view self.new ≡ record (block_view self.old) { len = len } }
     {
         if self.cap() > 0 {
             self.store_len(len);
@@ -117,9 +118,9 @@ impl<T, A: Allocator> Block<T, A> {
     /// Sets the stored length to `len`. Unlike `set_len`, this function does not test whether the
     /// block has an allocation. The block must have one.
     pub fn store_len(&mut self, len: usize)
-        requires block { 0 < length self.old.slots }
+        requires nonempty { 0 < length self.old.slots }
         requires in_bounds { len ≤ length self.old.slots }
-        ensures changes { seen self.new ≡ record (seen self.old) { len = len } }
+        ensures changes { block_view self.new ≡ record (block_view self.old) { len = len } }
     {
         let at = self.at;
         unsafe { *at.add(1) = len }

@@ -3,7 +3,7 @@
 ghost use Rattle.std.specs.Prelude.{◌≡◌, ◌<◌, ℕ, Option};
 ghost use Rattle.std.specs.Mem.{type_size};
 ghost use Rattle.std.specs.Align.{type_align};
-ghost use Rattle.thin_block.specs.Growth.{KeepsLaw, fitting};
+ghost use Rattle.thin_block.specs.Growth.{IsLawful, checked_capacity};
 
 use crate::sizes::fits;
 
@@ -25,14 +25,14 @@ pub trait Growth {
 
     /// The law of growth rules: each new capacity is at least the required capacity, at least twice
     /// the old capacity, and small enough to be allocated.
-    ghost law: { KeepsLaw rule };
+    ghost law: { IsLawful rule };
 }
 
 // Returns `Some(next)` if a block of capacity `next` is small enough to be allocated, and `None`
 // otherwise. The growth rules limit their capacities with this function.
-#[tactic(auto, unfolding(crate::specs::Growth::fitting))]
-fn fitting<T>(next: usize) -> Option<usize>
-    ensures value { result ≡ fitting (type_size T.row) (type_align T.row) next }
+#[tactic(auto, unfolding(crate::specs::Growth::checked_capacity))]
+fn checked_capacity<T>(next: usize) -> Option<usize>
+    ensures value { result ≡ checked_capacity (type_size T.row) (type_align T.row) next }
 {
     if fits::<T>(next) { Some(next) } else { None }
 }

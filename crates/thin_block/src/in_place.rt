@@ -8,13 +8,13 @@ ghost use Rattle.std.specs.Mem.{type_size};
 ghost use Rattle.core.specs.Allocator.{FitsBlock, block_with_items, resized_if_ok};
 ghost use types.Logic.{sem};
 ghost use Rattle.thin_block.specs.Capacity.{Fits, in_words};
-ghost use Rattle.thin_block.specs.Cost.{growing};
-ghost use Rattle.thin_block.specs.Slots.{IsPacked, empty, laid, run};
+ghost use Rattle.thin_block.specs.Cost.{add_realloc};
+ghost use Rattle.thin_block.specs.Slots.{IsPacked, empty_slots, write_slots, slot_range};
 
 use crate::block::Block;
 use crate::errors::ThinVecError;
 use crate::sizes::HEADER_WORDS;
-use crate::words::{Words, make_words};
+use crate::words::{Word, make_words};
 use std::alloc::{AllocError, Allocator};
 use std::marker::PhantomData;
 use std::mem::replace;
@@ -25,7 +25,7 @@ pub(crate) const LONG: usize = 32;
 
 // Resizes an allocation from `held` to `wanted` values of the type `T`. Calls `alloc.grow` if
 // `wanted` is greater than `held`, and `alloc.shrink` otherwise.
-unsafe fn resized<T, A: Allocator>(
+unsafe fn grow_or_shrink<T, A: Allocator>(
     alloc: &A,
     start: *mut T,
     len: usize,
@@ -33,11 +33,11 @@ unsafe fn resized<T, A: Allocator>(
     wanted: usize,
 ) -> Result<*mut T, AllocError>
     ghost items: { List T }
-    requires sizes { (len ≤ held) × ((len ≤ wanted)
+    requires fits { (len ≤ held) × ((len ≤ wanted)
         × (FitsBlock T.row held × FitsBlock T.row wanted)) }
-    requires* block { sem 𝓛 (block_with_items (A.dealloc_token alloc.now) T.row start len held
+    requires* memory { sem 𝓛 (block_with_items (A.dealloc_token alloc.now) T.row start len held
         items) }
-    ensures* block { sem 𝓛 (resized_if_ok (A.dealloc_token alloc.now) T.row start len held wanted
+    ensures* memory { sem 𝓛 (resized_if_ok (A.dealloc_token alloc.now) T.row start len held wanted
         items result) }
 {
     if held < wanted {
@@ -47,28 +47,28 @@ unsafe fn resized<T, A: Allocator>(
 }
 
 impl<T, A: Allocator> Block<T, A> {
-    ghost use Rattle.thin_block.specs.Block.{IsFrom, Remade, seen};
+    ghost use Rattle.thin_block.specs.Block.{IsAllocatedBy, Reallocates, block_view};
 
     // Resizes the block of length `len` to `cap` slots, and may leave it at its address. `M` items
     // form a word, and the header is as large as `K` words. `len` must be a multiple of `M` and at
     // least `K * M`. If the allocator fails, the call fails, and the block is unchanged.
     #[cold]
-    pub(crate) fn remake_in_place<const M: usize, const K: usize>(
+    pub(crate) fn resize_in_place<const M: usize, const K: usize>(
         &mut self,
         alloc: &A,
         len: usize,
         cap: usize,
     ) -> Result<(), ThinVecError>
-        requires from { IsFrom self.old.alloc alloc.now }
+        requires same_allocator { IsAllocatedBy self.old.alloc alloc.now }
         requires in_words { in_words (type_size T.row) ≡ Some (M, K) }
-        requires some { (0 < M) × (K ≤ 2) }
+        requires nonzero { (0 < M) × (K ≤ 2) }
         requires fits { Fits T.row cap }
         requires packed { IsPacked self.old.slots self.old.len }
-        requires enough { self.old.len ≤ cap }
+        requires len_le_cap { self.old.len ≤ cap }
         requires len { len ≡ self.old.len }
-        requires whole { len / M * M ≡ len }
+        requires count { len / M * M ≡ len }
         requires room { K ≤ len / M }
-        ensures remade { Remade self.old self.new alloc.now cap result }
+        ensures reallocated { Reallocates self.old self.new alloc.now cap result }
     {
         let old = self.cap();
         let held = K + old.div_ceil(M);
@@ -86,7 +86,7 @@ impl<T, A: Allocator> Block<T, A> {
             Ok(larger) => (larger, Ok(())),
             Err(same) => (same, Err(ThinVecError::OutOfMemory)),
         };
-        replace(self, block).forget_none();
+        replace(self, block).forget_unallocated();
         grown
     }
 
@@ -108,12 +108,12 @@ impl<T, A: Allocator> Block<T, A> {
         held: usize,
         wanted: usize,
     ) -> Result<Block<T, A>, Block<T, A>>
-        requires from { self.alloc ≡ Some alloc.now }
+        requires same_allocator { self.alloc ≡ Some alloc.now }
         requires in_words { in_words (type_size T.row) ≡ Some (M, K) }
         requires packed { IsPacked self.slots self.len }
         requires len { len ≡ self.len }
-        requires old { old ≡ length self.slots }
-        requires enough { len ≤ cap }
+        requires capacity { old ≡ length self.slots }
+        requires len_le_cap { len ≤ cap }
         requires fits { Fits T.row cap }
         requires count { count * M ≡ len }
         requires held { held ≡ K + div_ceil old M }
@@ -121,10 +121,10 @@ impl<T, A: Allocator> Block<T, A> {
         requires room { K ≤ count }
 
         // On success.
-        ensures ok { IfOk result (λ block. seen block ≡ record (seen self) {
-          slots = laid 0 (run 0 self.len self.slots) (empty cap);
+        ensures ok { IfOk result (λ block. block_view block ≡ record (block_view self) {
+          slots = write_slots 0 (slot_range 0 self.len self.slots) (empty_slots cap);
           alloc = Some alloc.now;
-          cost = growing self.len self.cost;
+          cost = add_realloc self.len self.cost;
         }) }
 
         // On failure.
@@ -137,13 +137,13 @@ impl<T, A: Allocator> Block<T, A> {
         } = self;
         unsafe {
             make_words(at.add(HEADER_WORDS) as *mut [T; M], count);
-            let first = at as *mut [Words<T, M>; K];
-            let last = (at as *mut Words<T, M>).add(count) as *mut [Words<T, M>; K];
+            let first = at as *mut [Word<T, M>; K];
+            let last = (at as *mut Word<T, M>).add(count) as *mut [Word<T, M>; K];
             first.write(last.read());
-            match resized(alloc, at as *mut Words<T, M>, count, held, wanted) {
+            match grow_or_shrink(alloc, at as *mut Word<T, M>, count, held, wanted) {
                 Ok(start) => {
-                    let first = start as *mut [Words<T, M>; K];
-                    let last = start.add(count) as *mut [Words<T, M>; K];
+                    let first = start as *mut [Word<T, M>; K];
+                    let last = start.add(count) as *mut [Word<T, M>; K];
                     last.write(first.read());
                     let at = start as *mut usize;
                     *at = cap;

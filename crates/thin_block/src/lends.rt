@@ -2,14 +2,14 @@
 ghost use Rattle.std.specs.Prelude.{◌≡◌, ℕ, ◌<◌, ◌≤◌, IsSome, length, slice_range};
 ghost use Rattle.std.specs.declared.option.Option.TheVariants.{Some};
 ghost use types.Logic.{sem};
-ghost use Rattle.thin_block.specs.Slots.{full, slot};
+ghost use Rattle.thin_block.specs.Slots.{filled_slots, slot};
 
 use crate::block::Block;
 use crate::sizes::HEADER_WORDS;
 use std::alloc::Allocator;
 
 impl<T, A: Allocator> Block<T, A> {
-    ghost use Rattle.thin_block.specs.Lends.{LendsItem, LendsItems};
+    ghost use Rattle.thin_block.specs.Lends.{LendsSlot, LendsSlots};
 
     /// Returns the items in the slots `start..end` as a slice. The range may be empty, even if the
     /// block has no allocation.
@@ -17,7 +17,7 @@ impl<T, A: Allocator> Block<T, A> {
         requires start_le_end { start ≤ end }
         requires in_bounds { end ≤ length self.now.slots }
         requires filled { (i : ℕ) → start ≤ i → i < end → IsSome (slot self.now.slots i) }
-        ensures value { full result.now ≡ slice_range self.now.slots start end }
+        ensures value { filled_slots result.now ≡ slice_range self.now.slots start end }
     {
         let at = self.at;
         unsafe {
@@ -29,7 +29,7 @@ impl<T, A: Allocator> Block<T, A> {
     /// Returns a mutable reference to the item in slot `i`.
     pub fn slot_mut(&mut self, i: usize) -> &mut T
         requires filled { IsSome (slot self.old.slots i) }
-        ensures* writes_back { sem 𝓛 (LendsItem T.row A.row A.Allocator self.entry i result) }
+        ensures* writes_back { sem 𝓛 (LendsSlot T.row A.row A.Allocator self.entry i result) }
         ensures value { slot self.old.slots i ≡ Some result.now }
     {
         let at = self.at;
@@ -42,8 +42,8 @@ impl<T, A: Allocator> Block<T, A> {
         requires start_le_end { start ≤ end }
         requires in_bounds { end ≤ length self.old.slots }
         requires filled { (i : ℕ) → start ≤ i → i < end → IsSome (slot self.old.slots i) }
-        ensures* writes_back { sem 𝓛 (LendsItems T.row A.row A.Allocator self.entry start result) }
-        ensures value { full result.now ≡ slice_range self.old.slots start end }
+        ensures* writes_back { sem 𝓛 (LendsSlots T.row A.row A.Allocator self.entry start result) }
+        ensures value { filled_slots result.now ≡ slice_range self.old.slots start end }
     {
         let at = self.at;
         unsafe {

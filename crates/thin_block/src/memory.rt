@@ -4,8 +4,8 @@ ghost use Rattle.std.specs.declared.option.Option.TheVariants.{Some};
 ghost use Rattle.std.specs.Mem.{type_size};
 ghost use Rattle.std.specs.Align.{type_align};
 ghost use Rattle.thin_block.specs.Capacity.{Fits, block_align, block_bytes};
-ghost use Rattle.thin_block.specs.Cost.{growing, no_cost, requesting};
-ghost use Rattle.thin_block.specs.Slots.{IsPacked, empty, run, laid};
+ghost use Rattle.thin_block.specs.Cost.{add_realloc, no_cost, add_request};
+ghost use Rattle.thin_block.specs.Slots.{IsPacked, empty_slots, slot_range, write_slots};
 
 use crate::block::Block;
 use crate::errors::ThinVecError;
@@ -16,7 +16,7 @@ use std::marker::PhantomData;
 use std::mem::{ManuallyDrop, replace};
 
 impl<T, A: Allocator> Block<T, A> {
-    ghost use Rattle.thin_block.specs.Block.{IsFrom, Remade, seen};
+    ghost use Rattle.thin_block.specs.Block.{IsAllocatedBy, Reallocates, block_view};
 
     /// Allocates a block of `cap` empty slots with one request for memory. The stored length of the
     /// block is 0.
@@ -25,15 +25,15 @@ impl<T, A: Allocator> Block<T, A> {
     ///
     /// Fails with `OutOfMemory` if the allocator fails.
     pub fn allocate(alloc: &A, cap: usize) -> Result<Block<T, A>, ThinVecError>
-        requires some { 0 < cap }
+        requires nonzero { 0 < cap }
         requires fits { Fits T.row cap }
 
         // On success.
-        ensures ok { IfOk result (λ block. seen block ≡ record {
-          slots = empty cap;
+        ensures ok { IfOk result (λ block. block_view block ≡ record {
+          slots = empty_slots cap;
           len = 0;
           alloc = Some alloc.now;
-          cost = growing 0 no_cost;
+          cost = add_realloc 0 no_cost;
         }) }
 
         // On failure.
@@ -41,7 +41,7 @@ impl<T, A: Allocator> Block<T, A> {
     {
         let none = Block::none();
         let block = none.replacement(alloc, cap);
-        none.forget_none();
+        none.forget_unallocated();
         block
     }
 
@@ -49,13 +49,13 @@ impl<T, A: Allocator> Block<T, A> {
     // replace this block, so it has the cost of this block, plus the request. This block does not
     // change.
     fn replacement(&self, alloc: &A, cap: usize) -> Result<Block<T, A>, ThinVecError>
-        requires some { 0 < cap }
+        requires nonzero { 0 < cap }
         requires fits { Fits T.row cap }
-        ensures ok { IfOk result (λ block. seen block ≡ record {
-          slots = empty cap;
+        ensures ok { IfOk result (λ block. block_view block ≡ record {
+          slots = empty_slots cap;
           len = 0;
           alloc = Some alloc.now;
-          cost = requesting self.now.cost;
+          cost = add_request self.now.cost;
         }) }
         ensures cause { IfErr result (λ cause. cause ≡ ThinVecError.OutOfMemory) }
     {
@@ -74,16 +74,16 @@ impl<T, A: Allocator> Block<T, A> {
     /// Fails with `OutOfMemory` if the allocator fails. In this case, the block is unchanged.
     #[inline(always)]
     pub fn grow(&mut self, alloc: &A, cap: usize) -> Result<(), ThinVecError>
-        requires from { IsFrom self.old.alloc alloc.now }
-        requires larger { length self.old.slots < cap }
+        requires same_allocator { IsAllocatedBy self.old.alloc alloc.now }
+        requires cap_grows { length self.old.slots < cap }
         requires fits { Fits T.row cap }
         requires packed { IsPacked self.old.slots self.old.len }
 
         // On success.
-        ensures ok { OnOk result (seen self.new ≡ record (seen self.old) {
-          slots = self.old.slots ++ empty (cap - length self.old.slots);
+        ensures ok { OnOk result (block_view self.new ≡ record (block_view self.old) {
+          slots = self.old.slots ++ empty_slots (cap - length self.old.slots);
           alloc = Some alloc.now;
-          cost = growing self.old.len self.old.cost;
+          cost = add_realloc self.old.len self.old.cost;
         }) }
 
         // On failure.
@@ -92,7 +92,7 @@ impl<T, A: Allocator> Block<T, A> {
     {
         if self.cap() == 0 {
             let block = self.replacement(alloc, cap)?;
-            replace(self, block).forget_none();
+            replace(self, block).forget_unallocated();
             return Ok(());
         }
         self.resize(alloc, self.len(), cap)
@@ -105,17 +105,17 @@ impl<T, A: Allocator> Block<T, A> {
     ///
     /// Fails with `OutOfMemory` if the allocator fails. In this case, the block is unchanged.
     pub fn shrink(&mut self, alloc: &A, cap: usize) -> Result<(), ThinVecError>
-        requires from { IsFrom self.old.alloc alloc.now }
-        requires some { 0 < cap }
-        requires smaller { cap < length self.old.slots }
+        requires same_allocator { IsAllocatedBy self.old.alloc alloc.now }
+        requires nonzero { 0 < cap }
+        requires cap_shrinks { cap < length self.old.slots }
         requires packed { IsPacked self.old.slots self.old.len }
-        requires room { self.old.len ≤ cap }
+        requires len_le_cap { self.old.len ≤ cap }
 
         // On success.
-        ensures ok { OnOk result (seen self.new ≡ record (seen self.old) {
+        ensures ok { OnOk result (block_view self.new ≡ record (block_view self.old) {
           slots = take cap self.old.slots;
           alloc = Some alloc.now;
-          cost = growing self.old.len self.old.cost;
+          cost = add_realloc self.old.len self.old.cost;
         }) }
 
         // On failure.
@@ -132,21 +132,21 @@ impl<T, A: Allocator> Block<T, A> {
     // fails, the call fails, and the block is unchanged. The block must have an allocation.
     #[inline(always)]
     fn resize(&mut self, alloc: &A, len: usize, cap: usize) -> Result<(), ThinVecError>
-        requires from { IsFrom self.old.alloc alloc.now }
+        requires same_allocator { IsAllocatedBy self.old.alloc alloc.now }
         requires block { 0 < length self.old.slots }
-        requires some { 0 < cap }
+        requires nonzero { 0 < cap }
         requires fits { Fits T.row cap }
         requires packed { IsPacked self.old.slots self.old.len }
-        requires room { self.old.len ≤ cap }
+        requires len_le_cap { self.old.len ≤ cap }
         requires len { len ≡ self.old.len }
-        ensures remade { Remade self.old self.new alloc.now cap result }
+        ensures reallocated { Reallocates self.old self.new alloc.now cap result }
     {
         match item_size::<T>() {
-            1 if len >= LONG * 8 && len % 8 == 0 => self.remake_in_place::<8, 2>(alloc, len, cap),
-            2 if len >= LONG * 4 && len % 4 == 0 => self.remake_in_place::<4, 2>(alloc, len, cap),
-            4 if len >= LONG * 2 && len % 2 == 0 => self.remake_in_place::<2, 2>(alloc, len, cap),
-            8 if len >= LONG => self.remake_in_place::<1, 2>(alloc, len, cap),
-            16 if len >= LONG / 2 => self.remake_in_place::<1, 1>(alloc, len, cap),
+            1 if len >= LONG * 8 && len % 8 == 0 => self.resize_in_place::<8, 2>(alloc, len, cap),
+            2 if len >= LONG * 4 && len % 4 == 0 => self.resize_in_place::<4, 2>(alloc, len, cap),
+            4 if len >= LONG * 2 && len % 2 == 0 => self.resize_in_place::<2, 2>(alloc, len, cap),
+            8 if len >= LONG => self.resize_in_place::<1, 2>(alloc, len, cap),
+            16 if len >= LONG / 2 => self.resize_in_place::<1, 1>(alloc, len, cap),
             _ => {
                 let mut other = self.replacement(alloc, cap)?;
                 other.store_len(len);
@@ -161,12 +161,12 @@ impl<T, A: Allocator> Block<T, A> {
 
     /// Frees the allocation of the block, if there is one. Every slot must be empty.
     pub fn release(self, alloc: &A)
-        requires from { IsFrom self.alloc alloc.now }
-        requires empty { self.slots ≡ empty (length self.slots) }
+        requires same_allocator { IsAllocatedBy self.alloc alloc.now }
+        requires empty { self.slots ≡ empty_slots (length self.slots) }
     {
         let cap = self.cap();
         if cap == 0 {
-            self.forget_none();
+            self.forget_unallocated();
         } else {
             self.free_block(alloc, bytes_of_block::<T>(cap), align_of_block::<T>());
         }
@@ -174,8 +174,8 @@ impl<T, A: Allocator> Block<T, A> {
 
     /// Consumes a block without slots. Unlike `release`, this function does not test whether the
     /// block has an allocation.
-    pub fn forget_none(self)
-        requires none { self.slots ≡ [] }
+    pub fn forget_unallocated(self)
+        requires is_empty { self.slots ≡ [] }
     {
         let _none = unsafe { ManuallyDrop::new_unchecked(self) };
     }
@@ -190,15 +190,15 @@ impl<T, A: Allocator> Block<T, A> {
         align: usize,
         _old: &Block<T, A>,
     ) -> Result<Block<T, A>, AllocError>
-        requires some { 0 < cap }
+        requires nonzero { 0 < cap }
         requires fits { Fits T.row cap }
         requires bytes { bytes ≡ block_bytes (type_size T.row) (type_align T.row) cap }
         requires align { align ≡ block_align (type_align T.row) }
-        ensures ok { IfOk result (λ block. seen block ≡ record {
-          slots = empty cap;
+        ensures ok { IfOk result (λ block. block_view block ≡ record {
+          slots = empty_slots cap;
           len = 0;
           alloc = Some alloc.now;
-          cost = requesting _old.now.cost;
+          cost = add_request _old.now.cost;
         }) }
     {
         match alloc.allocate(bytes, align) {
@@ -221,8 +221,8 @@ impl<T, A: Allocator> Block<T, A> {
     // Frees the allocation of the block as `release` does. The block must have an allocation.
     // `bytes` is the size of the block in bytes, and `align` is its alignment.
     fn free_block(self, alloc: &A, bytes: usize, align: usize)
-        requires from { self.alloc ≡ Some alloc.now }
-        requires empty { self.slots ≡ empty (length self.slots) }
+        requires same_allocator { self.alloc ≡ Some alloc.now }
+        requires empty { self.slots ≡ empty_slots (length self.slots) }
         requires bytes { bytes ≡ block_bytes (type_size T.row) (type_align T.row)
             (length self.slots) }
         requires align { align ≡ block_align (type_align T.row) }

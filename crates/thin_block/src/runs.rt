@@ -4,35 +4,35 @@
 //! The last clause of a method, about the number of slots, follows from the clause before it.
 ghost use Rattle.std.specs.Prelude.{◌≡◌, ◌⊎◌, ℕ, ◌+◌, ◌-◌, ◌<◌, ◌≤◌, false, if◌then◌else◌, length, true};
 ghost use Rattle.std.specs.declared.option.Option.TheVariants.{None};
-ghost use Rattle.thin_block.specs.Cost.{moving, relocating};
-ghost use Rattle.thin_block.specs.Slots.{AreEmpty, AreFilled, slot, run, laid, emptied, moved};
+ghost use Rattle.thin_block.specs.Cost.{add_moves, add_copies};
+ghost use Rattle.thin_block.specs.Slots.{AreEmpty, AreFilled, slot, slot_range, write_slots, clear_slots, move_slots};
 
 use crate::block::Block;
-use crate::shifts::slide;
+use crate::shifts::copy_overlapping;
 use crate::sizes::HEADER_WORDS;
 use std::alloc::Allocator;
 
 impl<T, A: Allocator> Block<T, A> {
-    ghost use Rattle.thin_block.specs.Block.{seen};
+    ghost use Rattle.thin_block.specs.Block.{block_view};
 
     /// Moves the `k` items in the slots `from..from + k` to the slots `to..to + k`. These two
     /// ranges may overlap. All new slots outside `from..from + k` must be empty.
     pub fn move_run(&mut self, from: usize, to: usize, k: usize)
-        requires source { from + k ≤ length self.old.slots }
+        requires in_bounds { from + k ≤ length self.old.slots }
         requires target { to + k ≤ length self.old.slots }
         requires filled { AreFilled self.old.slots from k }
         requires empty { (i : ℕ) → to ≤ i → i < to + k → (i < from) ⊎ (from + k ≤ i)
             → slot self.old.slots i ≡ None }
-        ensures changes { seen self.new ≡ record (seen self.old) {
-          slots = moved from to k self.old.slots;
-          cost = moving k self.old.cost;
+        ensures changes { block_view self.new ≡ record (block_view self.old) {
+          slots = move_slots from to k self.old.slots;
+          cost = add_moves k self.old.cost;
         } }
-        ensures cap { length self.new.slots ≡ length self.old.slots }
+        ensures capacity { length self.new.slots ≡ length self.old.slots }
     {
         if from.abs_diff(to) < k {
-            self.slide_run(0, from, to, k, from < to);
+            self.move_within(0, from, to, k, from < to);
         } else {
-            self.move_apart(from, to, k);
+            self.move_disjoint(from, to, k);
         }
     }
 
@@ -44,13 +44,13 @@ impl<T, A: Allocator> Block<T, A> {
         requires in_bounds { to + gap + k ≤ length self.old.slots }
         requires empty { AreEmpty self.old.slots to gap }
         requires filled { AreFilled self.old.slots (to + gap) k }
-        ensures changes { seen self.new ≡ record (seen self.old) {
-          slots = moved (to + gap) to k self.old.slots;
-          cost = moving k self.old.cost;
+        ensures changes { block_view self.new ≡ record (block_view self.old) {
+          slots = move_slots (to + gap) to k self.old.slots;
+          cost = add_moves k self.old.cost;
         } }
-        ensures cap { length self.new.slots ≡ length self.old.slots }
+        ensures capacity { length self.new.slots ≡ length self.old.slots }
     {
-        self.slide_run(to, gap, 0, k, false);
+        self.move_within(to, gap, 0, k, false);
     }
 
     /// Moves the items in the slots `from..from + k` up by `gap` slots. The `gap` slots above the
@@ -60,13 +60,13 @@ impl<T, A: Allocator> Block<T, A> {
         requires in_bounds { from + gap + k ≤ length self.old.slots }
         requires empty { AreEmpty self.old.slots (from + k) gap }
         requires filled { AreFilled self.old.slots from k }
-        ensures changes { seen self.new ≡ record (seen self.old) {
-          slots = moved from (from + gap) k self.old.slots;
-          cost = moving k self.old.cost;
+        ensures changes { block_view self.new ≡ record (block_view self.old) {
+          slots = move_slots from (from + gap) k self.old.slots;
+          cost = add_moves k self.old.cost;
         } }
-        ensures cap { length self.new.slots ≡ length self.old.slots }
+        ensures capacity { length self.new.slots ≡ length self.old.slots }
     {
-        self.slide_run(from, 0, gap, k, true);
+        self.move_within(from, 0, gap, k, true);
     }
 
     /// Moves items down as `move_down` does, and returns the block. The block is passed by value to
@@ -76,11 +76,11 @@ impl<T, A: Allocator> Block<T, A> {
         requires in_bounds { to + gap + k ≤ length self.slots }
         requires empty { AreEmpty self.slots to gap }
         requires filled { AreFilled self.slots (to + gap) k }
-        ensures changes { seen result ≡ record (seen self) {
-          slots = moved (to + gap) to k self.slots;
-          cost = moving k self.cost;
+        ensures changes { block_view result ≡ record (block_view self) {
+          slots = move_slots (to + gap) to k self.slots;
+          cost = add_moves k self.cost;
         } }
-        ensures cap { length result.slots ≡ length self.slots }
+        ensures capacity { length result.slots ≡ length self.slots }
     {
         let mut block = self;
         // In each arm whose pattern is a number, LLVM knows the value of `gap`, and turns the call
@@ -113,11 +113,11 @@ impl<T, A: Allocator> Block<T, A> {
         requires in_bounds { to + gap + k ≤ length self.slots }
         requires empty { AreEmpty self.slots to gap }
         requires filled { AreFilled self.slots (to + gap) k }
-        ensures changes { seen result ≡ record (seen self) {
-          slots = moved (to + gap) to k self.slots;
-          cost = moving k self.cost;
+        ensures changes { block_view result ≡ record (block_view self) {
+          slots = move_slots (to + gap) to k self.slots;
+          cost = add_moves k self.cost;
         } }
-        ensures cap { length result.slots ≡ length self.slots }
+        ensures capacity { length result.slots ≡ length self.slots }
     {
         let mut block = self;
         match gap {
@@ -135,11 +135,11 @@ impl<T, A: Allocator> Block<T, A> {
         requires in_bounds { from + gap + k ≤ length self.slots }
         requires empty { AreEmpty self.slots (from + k) gap }
         requires filled { AreFilled self.slots from k }
-        ensures changes { seen result ≡ record (seen self) {
-          slots = moved from (from + gap) k self.slots;
-          cost = moving k self.cost;
+        ensures changes { block_view result ≡ record (block_view self) {
+          slots = move_slots from (from + gap) k self.slots;
+          cost = add_moves k self.cost;
         } }
-        ensures cap { length result.slots ≡ length self.slots }
+        ensures capacity { length result.slots ≡ length self.slots }
     {
         let mut block = self;
         // In each arm whose pattern is a number, LLVM knows the value of `gap`, and turns the call
@@ -171,39 +171,39 @@ impl<T, A: Allocator> Block<T, A> {
     //
     // If `from` and `to` are constants, LLVM sees that the distance of the move is constant.
     #[inline(always)]
-    fn slide_run(&mut self, low: usize, from: usize, to: usize, k: usize, up: bool)
-        requires source { low + from + k ≤ length self.old.slots }
+    fn move_within(&mut self, low: usize, from: usize, to: usize, k: usize, up: bool)
+        requires in_bounds { low + from + k ≤ length self.old.slots }
         requires target { low + to + k ≤ length self.old.slots }
         requires filled { AreFilled self.old.slots (low + from) k }
         requires above { up ≡ true → (low + from ≤ low + to)
             × AreEmpty self.old.slots (low + from + k) (low + to - (low + from)) }
         requires below { up ≡ false → (low + to ≤ low + from)
             × AreEmpty self.old.slots (low + to) (low + from - (low + to)) }
-        ensures changes { seen self.new ≡ record (seen self.old) {
-          slots = moved (low + from) (low + to) k self.old.slots;
-          cost = moving k self.old.cost;
+        ensures changes { block_view self.new ≡ record (block_view self.old) {
+          slots = move_slots (low + from) (low + to) k self.old.slots;
+          cost = add_moves k self.old.cost;
         } }
-        ensures cap { length self.new.slots ≡ length self.old.slots }
+        ensures capacity { length self.new.slots ≡ length self.old.slots }
     {
         let at = self.at;
         unsafe {
             let base = (at.add(HEADER_WORDS) as *mut T).add(low);
-            slide(base.add(from) as *const T, base.add(to), k, up)
+            copy_overlapping(base.add(from) as *const T, base.add(to), k, up)
         }
     }
 
     // Moves items as `move_run` does. The old slots and the new slots of the items must not
     // overlap.
-    fn move_apart(&mut self, from: usize, to: usize, k: usize)
-        requires source { from + k ≤ length self.old.slots }
+    fn move_disjoint(&mut self, from: usize, to: usize, k: usize)
+        requires in_bounds { from + k ≤ length self.old.slots }
         requires target { to + k ≤ length self.old.slots }
         requires filled { AreFilled self.old.slots from k }
         requires empty { (i : ℕ) → to ≤ i → i < to + k → (i < from) ⊎ (from + k ≤ i)
             → slot self.old.slots i ≡ None }
-        requires apart { (from + k ≤ to) ⊎ (to + k ≤ from) }
-        ensures changes { seen self.new ≡ record (seen self.old) {
-          slots = moved from to k self.old.slots;
-          cost = moving k self.old.cost;
+        requires disjoint { (from + k ≤ to) ⊎ (to + k ≤ from) }
+        ensures changes { block_view self.new ≡ record (block_view self.old) {
+          slots = move_slots from to k self.old.slots;
+          cost = add_moves k self.old.cost;
         } }
     {
         let at = self.at;
@@ -216,16 +216,16 @@ impl<T, A: Allocator> Block<T, A> {
     /// Moves the `k` items that start at slot `from` of this block to the slots `to..to + k` of the
     /// block `other`. These slots of `other` must be empty.
     pub fn move_run_to(&mut self, from: usize, other: &mut Block<T, A>, to: usize, k: usize)
-        requires source { from + k ≤ length self.old.slots }
+        requires in_bounds { from + k ≤ length self.old.slots }
         requires target { to + k ≤ length other.old.slots }
         requires filled { AreFilled self.old.slots from k }
         requires empty { AreEmpty other.old.slots to k }
-        ensures changes { seen self.new ≡ record (seen self.old) {
-          slots = emptied from k self.old.slots;
+        ensures changes { block_view self.new ≡ record (block_view self.old) {
+          slots = clear_slots from k self.old.slots;
         } }
-        ensures other_changes { seen other.new ≡ record (seen other.old) {
-          slots = laid to (run from k self.old.slots) other.old.slots;
-          cost = moving k other.old.cost;
+        ensures other_changes { block_view other.new ≡ record (block_view other.old) {
+          slots = write_slots to (slot_range from k self.old.slots) other.old.slots;
+          cost = add_moves k other.old.cost;
         } }
     {
         self.move_items_to(from, other, to, k, false);
@@ -243,16 +243,16 @@ impl<T, A: Allocator> Block<T, A> {
         k: usize,
         _relocates: bool,
     )
-        requires source { from + k ≤ length self.old.slots }
+        requires in_bounds { from + k ≤ length self.old.slots }
         requires target { to + k ≤ length other.old.slots }
         requires filled { AreFilled self.old.slots from k }
         requires empty { AreEmpty other.old.slots to k }
-        ensures changes { seen self.new ≡ record (seen self.old) {
-          slots = emptied from k self.old.slots;
+        ensures changes { block_view self.new ≡ record (block_view self.old) {
+          slots = clear_slots from k self.old.slots;
         } }
-        ensures other_changes { seen other.new ≡ record (seen other.old) {
-          slots = laid to (run from k self.old.slots) other.old.slots;
-          cost = if _relocates then relocating k other.old.cost else moving k other.old.cost;
+        ensures other_changes { block_view other.new ≡ record (block_view other.old) {
+          slots = write_slots to (slot_range from k self.old.slots) other.old.slots;
+          cost = if _relocates then add_copies k other.old.cost else add_moves k other.old.cost;
         } }
     {
         let from_at = self.at;

@@ -2,27 +2,27 @@
 ghost use Rattle.std.specs.Prelude.{◌≡◌, ◌+◌, ◌<◌, ◌≤◌, ◌==◌, if◌then◌else◌, IsSome, length, slice_set};
 ghost use Rattle.core.specs.Mem.Slots.{IsFull, SamePlaces, slots_items, slots_len};
 ghost use Rattle.std.specs.declared.option.Option.TheVariants.{None, Some};
-ghost use Rattle.thin_block.specs.Cost.{moving};
-ghost use Rattle.thin_block.specs.Slots.{AreEmpty, AreFilled, full, slot, run, laid, emptied};
+ghost use Rattle.thin_block.specs.Cost.{add_moves};
+ghost use Rattle.thin_block.specs.Slots.{AreEmpty, AreFilled, filled_slots, slot, slot_range, write_slots, clear_slots};
 
 use crate::block::Block;
 use crate::sizes::HEADER_WORDS;
 use core::slots::Slots;
 use std::alloc::Allocator;
 
-// The greatest number of items that the function `copied` copies one by one.
-const FEW: usize = 16;
+// The greatest number of items that the function `fill_from` copies one by one.
+const MAX_COPIED_ONE_BY_ONE: usize = 16;
 
 impl<T, A: Allocator> Block<T, A> {
-    ghost use Rattle.thin_block.specs.Block.{seen};
+    ghost use Rattle.thin_block.specs.Block.{block_view};
 
     /// Moves `value` into slot `i`, which must be empty.
     pub fn put(&mut self, i: usize, value: T)
         requires in_bounds { i < length self.old.slots }
         requires empty { slot self.old.slots i ≡ None }
-        ensures changes { seen self.new ≡ record (seen self.old) {
+        ensures changes { block_view self.new ≡ record (block_view self.old) {
           slots = slice_set self.old.slots i (Some value);
-          cost = moving 1 self.old.cost;
+          cost = add_moves 1 self.old.cost;
         } }
     {
         // The clause `fits` of `cap` shows that `[value]` takes fewer than `2 ^ 63` bytes, which a
@@ -32,14 +32,14 @@ impl<T, A: Allocator> Block<T, A> {
     }
 
     /// Moves `value` into the empty slot `i`, and sets the stored length to `len`.
-    pub fn put_and_store(&mut self, i: usize, value: T, len: usize)
+    pub fn put_and_set_len(&mut self, i: usize, value: T, len: usize)
         requires in_bounds { i < length self.old.slots }
         requires empty { slot self.old.slots i ≡ None }
-        requires len_in_bounds { len ≤ length self.old.slots }
-        ensures changes { seen self.new ≡ record (seen self.old) {
+        requires room { len ≤ length self.old.slots }
+        ensures changes { block_view self.new ≡ record (block_view self.old) {
           slots = slice_set self.old.slots i (Some value);
           len = len;
-          cost = moving 1 self.old.cost;
+          cost = add_moves 1 self.old.cost;
         } }
     {
         let at = self.at;
@@ -54,7 +54,7 @@ impl<T, A: Allocator> Block<T, A> {
     pub fn take(&mut self, i: usize) -> T
         requires filled { IsSome (slot self.old.slots i) }
         ensures value { slot self.old.slots i ≡ Some result }
-        ensures changes { seen self.new ≡ record (seen self.old) {
+        ensures changes { block_view self.new ≡ record (block_view self.old) {
           slots = slice_set self.old.slots i None;
         } }
     {
@@ -63,31 +63,31 @@ impl<T, A: Allocator> Block<T, A> {
     }
 
     /// Exchanges the items in the slots `i` and `j`. The indices `i` and `j` may be equal. A caller
-    /// that only needs the item of slot `j` in slot `i` calls `take_replacing`, which moves one item
+    /// that only needs the item of slot `j` in slot `i` calls `swap_take`, which moves one item
     /// and not two.
     pub fn swap(&mut self, i: usize, j: usize)
-        requires first { IsSome (slot self.old.slots i) }
-        requires second { IsSome (slot self.old.slots j) }
+        requires filled { IsSome (slot self.old.slots i) }
+        requires other_filled { IsSome (slot self.old.slots j) }
         // The cost counts each slot that is written: both, or one if `i` equals `j`.
-        ensures changes { seen self.new ≡ record (seen self.old) {
+        ensures changes { block_view self.new ≡ record (block_view self.old) {
           slots = slice_set
               (slice_set self.old.slots i (slot self.old.slots j)) j (slot self.old.slots i);
-          cost = moving (if i == j then 1 else 2) self.old.cost;
+          cost = add_moves (if i == j then 1 else 2) self.old.cost;
         } }
     {
-        let value = self.take_replacing(i, j);
+        let value = self.swap_take(i, j);
         self.put(j, value);
     }
 
     /// Removes the item from slot `i` and returns it. If `j != i`, then moves the item of slot `j`
     /// into slot `i`. Afterwards, slot `j` is empty.
-    pub fn take_replacing(&mut self, i: usize, j: usize) -> T
-        requires first { IsSome (slot self.old.slots i) }
-        requires second { IsSome (slot self.old.slots j) }
+    pub fn swap_take(&mut self, i: usize, j: usize) -> T
+        requires filled { IsSome (slot self.old.slots i) }
+        requires other_filled { IsSome (slot self.old.slots j) }
         ensures value { slot self.old.slots i ≡ Some result }
-        ensures changes { seen self.new ≡ record (seen self.old) {
+        ensures changes { block_view self.new ≡ record (block_view self.old) {
           slots = slice_set (slice_set self.old.slots i (slot self.old.slots j)) j None;
-          cost = moving (if i == j then 0 else 1) self.old.cost;
+          cost = add_moves (if i == j then 0 else 1) self.old.cost;
         } }
     {
         let at = self.at;
@@ -104,9 +104,9 @@ impl<T, A: Allocator> Block<T, A> {
     pub fn put_array<const N: usize>(&mut self, i: usize, values: [T; N])
         requires in_bounds { i + N ≤ length self.old.slots }
         requires empty { AreEmpty self.old.slots i N }
-        ensures changes { seen self.new ≡ record (seen self.old) {
-          slots = laid i (full values) self.old.slots;
-          cost = moving N self.old.cost;
+        ensures changes { block_view self.new ≡ record (block_view self.old) {
+          slots = write_slots i (filled_slots values) self.old.slots;
+          cost = add_moves N self.old.cost;
         } }
     {
         let at = self.at;
@@ -118,9 +118,9 @@ impl<T, A: Allocator> Block<T, A> {
     pub fn take_array<const N: usize>(&mut self, i: usize) -> [T; N]
         requires in_bounds { i + N ≤ length self.old.slots }
         requires filled { AreFilled self.old.slots i N }
-        ensures value { full result ≡ run i N self.old.slots }
-        ensures changes { seen self.new ≡ record (seen self.old) {
-          slots = emptied i N self.old.slots;
+        ensures value { filled_slots result ≡ slot_range i N self.old.slots }
+        ensures changes { block_view self.new ≡ record (block_view self.old) {
+          slots = clear_slots i N self.old.slots;
         } }
     {
         let at = self.at;
@@ -129,34 +129,34 @@ impl<T, A: Allocator> Block<T, A> {
 }
 
 impl<T: Copy, A: Allocator> Block<T, A> {
-    ghost use Rattle.thin_block.specs.Block.{seen};
+    ghost use Rattle.thin_block.specs.Block.{block_view};
 
     /// Copies `items` into adjacent slots, starting at slot `i`. These slots must be empty.
     pub fn copy_in(&mut self, i: usize, items: &[T])
         requires in_bounds { i + length items.now ≤ length self.old.slots }
         requires empty { AreEmpty self.old.slots i (length items.now) }
-        ensures changes { seen self.new ≡ record (seen self.old) {
-          slots = laid i (full items.now) self.old.slots;
-          cost = moving (length items.now) self.old.cost;
+        ensures changes { block_view self.new ≡ record (block_view self.old) {
+          slots = write_slots i (filled_slots items.now) self.old.slots;
+          cost = add_moves (length items.now) self.old.cost;
         } }
     {
         let at = self.at;
         unsafe {
             let room = Slots::from_raw_parts((at.add(HEADER_WORDS) as *mut T).add(i), items.len());
-            let _copied = copied(room, items).into_raw_parts();
+            let _copied = fill_from(room, items).into_raw_parts();
         }
     }
 }
 
-// Fills `row` with copies of `items`, and returns `row`. At most `FEW` items are copied one by one,
-// which is faster than a call to `Slots::copy_in`.
-fn copied<T: Copy>(mut row: Slots<T>, items: &[T]) -> Slots<T>
+// Fills `row` with copies of `items`, and returns `row`. At most `MAX_COPIED_ONE_BY_ONE` items are
+// copied one by one, which is faster than a call to `Slots::copy_in`.
+fn fill_from<T: Copy>(mut row: Slots<T>, items: &[T]) -> Slots<T>
     requires room { slots_len row ≡ length items.now }
-    ensures cap { SamePlaces row result }
+    ensures capacity { SamePlaces row result }
     ensures items { slots_items result ≡ items.now }
     ensures filled { IsFull result }
 {
-    if items.len() > FEW {
+    if items.len() > MAX_COPIED_ONE_BY_ONE {
         row.copy_in(0, items);
         return row;
     }

@@ -1,14 +1,14 @@
-//! Defines the type `Words`. A value of this type is one word: it consists of one or more items,
+//! Defines the type `Word`. A value of this type is one word: it consists of one or more items,
 //! and has the alignment of a block. If the items of a block form words, the allocator treats the
 //! block as an array of words.
 ghost use Rattle.std.specs.Prelude.{◌≡◌, ◌*◌, ◌^◌, ◌<◌, List, length};
 ghost use Rattle.std.specs.Mem.{type_size};
 ghost use types.Logic.{sem};
 ghost use Rattle.thin_block.specs.Words.{runs_from, words_from};
-ghost use Rattle.thin_block.specs.contracts.words.Words.{the_row};
+ghost use Rattle.thin_block.specs.contracts.words.Word.{the_row};
 
 // A word, which consists of `M` items and has the alignment of a block.
-pub(crate) struct Words<T, const M: usize> {
+pub(crate) struct Word<T, const M: usize> {
     pub(crate) items: [T; M],
     pub(crate) aligned: [u64; 0],
 }
@@ -18,20 +18,20 @@ pub(crate) struct Words<T, const M: usize> {
 pub(crate) unsafe fn make_words<T, const M: usize>(items: *mut [T; M], count: usize)
     ghost runs: { List (List T) }
     requires count { length runs ≡ count }
-    requires dense { type_size (the_row T.row M.row) ≡ M * type_size T.row }
-    requires size_fits { count * (M * type_size T.row) < 2 ^ 64 }
-    requires* runs { sem 𝓛 (runs_from T.row M.row runs items) }
-    ensures* words { sem 𝓛 (words_from T.row M.row runs items) }
+    requires no_padding { type_size (the_row T.row M.row) ≡ M * type_size T.row }
+    requires fits_usize { count * (M * type_size T.row) < 2 ^ 64 }
+    requires* memory { sem 𝓛 (runs_from T.row M.row runs items) }
+    ensures* memory { sem 𝓛 (words_from T.row M.row runs items) }
 {
     let mut i = 0;
     while i < count {
         unsafe {
             let run = items.add(i);
-            let word = Words {
+            let word = Word {
                 items: run.read(),
                 aligned: [],
             };
-            (run as *mut Words<T, M>).write(word);
+            (run as *mut Word<T, M>).write(word);
         }
         i += 1;
     }

@@ -6,7 +6,7 @@ use Rattle.std.specs.List.Retain.{DedupsFrom, DedupsAll}
 use Rattle.std.specs.Prelude.{MatchBool, cond}
 use Rattle.thin_vec.proofs.EditLemmas.{deduped_deduped}
 use Rattle.thin_vec.specs.Edits.Dedup.{IsDedupedBy}
-use Rattle.thin_vec.specs.ThinVec.{Thin}
+use Rattle.thin_vec.specs.ThinVec.{ListView}
 
 -- The relation `R` describes the calls of the closure. This module assumes that each call for a
 -- later item `x` and a kept item `k` replaces `x` with `f x`, does not change `k`, and returns
@@ -54,7 +54,7 @@ module _ {S T : Type 0} (R : S → T → T → Bool → S → T → T → Type 0
   -- `v` are `xs` with `f x` in place of `x`, and that `dedup_by` turns `v` into the list `w`. Then
   -- the items of `w` are `dedup same (map f xs)`, as if `f` had been applied to every item before
   -- the call. (If `xs` is empty, `x` does not matter.)
-  pub deduped_mapped : {A : Type 0} {s : S} {v w : Thin T A} (xs : List T) (x : T)
+  pub deduped_mapped : {A : Type 0} {s : S} {v w : ListView T A} (xs : List T) (x : T)
       → x ≡ slice_index_or xs 0 x → v.items ≡ slice_set xs 0 (f x) → IsDedupedBy R s v w
       → w.items ≡ dedup same (map f xs)
   deduped_mapped {s = s} {v} {w} [] x first is h =

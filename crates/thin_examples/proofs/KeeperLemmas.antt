@@ -1,8 +1,8 @@
 -- Lemmas about `retain_mut` with a closure that returns the decisions of a keeper. A keeper is a
 -- value that decides which items are kept.
 use Rattle.std.proofs.Common.{◌≡◌, Bool, true, List, [], ◌∷◌, sym, ap, ◌∙◌}
-use Rattle.thin_vec.specs.Edits.Retain.{Asked, IsRetained, left_at}
-use Rattle.thin_vec.specs.ThinVec.{Thin}
+use Rattle.thin_vec.specs.Edits.Retain.{TestsInTurn, IsRetained, items_where}
+use Rattle.thin_vec.specs.ThinVec.{ListView}
 use Rattle.thin_examples.specs.Keepers.{asked_by}
 
 module _ {F J T : Type 0} (R : F → T → Bool → F → T → Type 0) (state : F → J)
@@ -11,7 +11,7 @@ module _ {F J T : Type 0} (R : F → T → Bool → F → T → Type 0) (state :
     → keeps (state f) x ≡ (b, (y, state g))) where
   -- If the closure makes the same decisions as the keeper and writes the same values, then the
   -- closure's results `qs` for the items `xs` are the keeper's results.
-  answers-are : (f : F) (xs : List T) (qs : List (Bool × T)) (t : F) → Asked R f xs qs t
+  answers-are : (f : F) (xs : List T) (qs : List (Bool × T)) (t : F) → TestsInTurn R f xs qs t
       → qs ≡ asked_by keeps (state f) xs
   answers-are f [] qs t a = a.0
   answers-are f (x ∷ xs) qs t a =
@@ -23,7 +23,7 @@ module _ {F J T : Type 0} (R : F → T → Bool → F → T → Type 0) (state :
 
   -- If the closure and the keeper make the same decisions and write the same values, then the list
   -- after `retain_mut` contains exactly the items that the keeper keeps.
-  pub retained-by : {A : Type 0} (f : F) (v w : Thin T A) → IsRetained R f v w
-      → w.items ≡ left_at true (asked_by keeps (state f) v.items)
+  pub retained-by : {A : Type 0} (f : F) (v w : ListView T A) → IsRetained R f v w
+      → w.items ≡ items_where true (asked_by keeps (state f) v.items)
   retained-by f v w r = r.1.items
-      ∙ ap (left_at true) (answers-are f v.items r.1.verdicts r.0 r.1.asked)
+      ∙ ap (items_where true) (answers-are f v.items r.1.results r.0 r.1.asked)

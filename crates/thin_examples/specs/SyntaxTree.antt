@@ -2,7 +2,7 @@
 -- number of nodes in the subtree of the node.
 use Rattle.std.specs.Prelude.{ℕ, ◌+◌, sum}
 use Rattle.std.specs.declared.alloc.Global.{Global}
-use Rattle.thin_vec.specs.ThinVec.{Thin}
+use Rattle.thin_vec.specs.ThinVec.{ListView}
 use Rattle.thin_examples.specs.declared.syntax_tree.Node.{Node, out-Node}
 use Rattle.thin_examples.specs.declared.syntax_tree.Node.TheFolds.{fold-Node}
 use Rattle.thin_examples.specs.declared.syntax_tree.Node.TheOpen.{Node-F}
@@ -12,7 +12,7 @@ abbrev pub kind_of : Node → ℕ
 kind_of node = (out-Node node).kind
 
 -- `children_of node` is the list of the children of the node.
-abbrev pub children_of : Node → Thin Node Global
+abbrev pub children_of : Node → ListView Node Global
 children_of node = (out-Node node).children
 
 -- `count_step node` is 1 plus the sum of the children's node counts. In `node`, each child has been

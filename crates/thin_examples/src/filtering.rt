@@ -4,7 +4,7 @@ ghost use Rattle.std.specs.List.{dedup};
 ghost use Rattle.std.specs.List.Sorted.{IsSorted, IsStrictlyIncreasing};
 ghost use Rattle.std.specs.Ordering.{nat_cmp};
 ghost use Rattle.std.specs.Prelude.{◌≡◌, ◌%◌, ◌/◌, ◌==◌, Bool, filter, map, true};
-ghost use Rattle.thin_vec.specs.Edits.Retain.{left_at};
+ghost use Rattle.thin_vec.specs.Edits.Retain.{items_where};
 ghost use Rattle.thin_examples.specs.Keepers.{asked_by};
 
 use std::alloc::Allocator;
@@ -79,7 +79,7 @@ pub fn keep_by<T: Copy, A: Allocator, G: Growth, J: Keeper<T>>(
     list: &mut ThinVec<T, A, G>,
     keeper: &J,
 )
-    ensures items { list.new.items ≡ left_at true (asked_by J.keeps keeper.now list.old.items) }
+    ensures items { list.new.items ≡ items_where true (asked_by J.keeps keeper.now list.old.items) }
     ensures capacity { list.new.capacity ≡ list.old.capacity }
 {
     let mut state = *keeper;

@@ -1,6 +1,6 @@
 //! Example functions that make a list, add items to a list, or change an item.
 ghost use Rattle.std.specs.Prelude.{◌≡◌, ◌+◌, ◌/◌, ◌≤◌, ◌++◌, [], IfErr, IfOk, IfSome, IsErrOf, IsOk, IsSome, IsTrue, None, filter, length, map, nat_lt, OnErr, OnOk, ◌-◌, ◌<◌, replicate, slice_index, slice_set, take};
-ghost use Rattle.thin_vec.specs.ThinVec.{HasRoomFor, IsCause, capacity_for};
+ghost use Rattle.thin_vec.specs.ThinVec.{HasRoomFor, IsCauseOf, capacity_after_reserve};
 
 use std::alloc::{AllocError, Allocator};
 use thin_vec::{Growth, ThinVec, ThinVecError};
@@ -180,10 +180,10 @@ pub fn take_all<T, A: Allocator, G: Growth>(
 
     // On failure, both lists are unchanged. The error is `CapacityOverflow` if and only if the
     // growth rule of `list` allows no capacity for the items of both lists.
-    ensures overflow { capacity_for G.rule T.row list.old (length other.old.items) ≡ None
+    ensures overflow { capacity_after_reserve G.rule T.row list.old (length other.old.items) ≡ None
         → IsErrOf result ThinVecError.CapacityOverflow }
     ensures cause { IfErr result
-        (IsCause (capacity_for G.rule T.row list.old (length other.old.items))) }
+        (IsCauseOf (capacity_after_reserve G.rule T.row list.old (length other.old.items))) }
     ensures err { OnErr result (list.new ≡ list.old) }
     ensures other_err { OnErr result (other.new ≡ other.old) }
 {
@@ -193,7 +193,7 @@ pub fn take_all<T, A: Allocator, G: Growth>(
 /// Subtracts `less` from the first number of the list, and returns the value that this number had
 /// before the call.
 pub fn lower_first<A: Allocator, G: Growth>(list: &mut ThinVec<u32, A, G>, less: u32) -> u32
-    requires some { 0 < length list.old.items }
+    requires nonempty { 0 < length list.old.items }
     requires enough { less ≤ slice_index list.old.items 0 }
     ensures value { result ≡ slice_index list.old.items 0 }
     ensures items { list.new.items ≡ slice_set list.old.items 0

@@ -2,7 +2,7 @@
 //! item.
 ghost use Rattle.std.specs.List.{swap};
 ghost use Rattle.std.specs.Prelude.{◌≡◌, ◌+◌, ◌<◌, ◌≤◌, IfOk, length, replicate, slice_index};
-ghost use Rattle.thin_vec.specs.ThinVec.{IsWithin};
+ghost use Rattle.thin_vec.specs.ThinVec.{IsBounded};
 
 use std::alloc::Allocator;
 use thin_vec::{Growth, Rejected, ThinVec};
@@ -16,7 +16,7 @@ pub fn run_end<T, A: Allocator, G: Growth>(
     count: usize,
 ) -> usize
     requires in_bounds { start + count ≤ length list.now.items }
-    requires within { IsWithin T.row list.now }
+    requires bounds { IsBounded T.row list.now }
     ensures value { result ≡ start + count }
 {
     start + count

@@ -1,7 +1,7 @@
 //! An example function that reserves room for two items, and then pushes the two items with calls
 //! that cannot fail.
 ghost use Rattle.std.specs.Prelude.{◌≡◌, ◌++◌, [], ◌∷◌, IfErr, IsErrOf, IsOk, None, OnErr, OnOk};
-ghost use Rattle.thin_vec.specs.ThinVec.{HasRoomFor, IsCause, capacity_for};
+ghost use Rattle.thin_vec.specs.ThinVec.{HasRoomFor, IsCauseOf, capacity_after_reserve};
 
 use std::alloc::Allocator;
 use thin_vec::{Growth, ThinVec, ThinVecError};
@@ -19,9 +19,9 @@ pub fn push_both<T: Drop, A: Allocator, G: Growth>(
     second: T,
 ) -> Result<(), ThinVecError>
     ensures succeeds { HasRoomFor list.old 2 → IsOk result }
-    ensures overflow { capacity_for G.rule T.row list.old 2 ≡ None
+    ensures overflow { capacity_after_reserve G.rule T.row list.old 2 ≡ None
         → IsErrOf result ThinVecError.CapacityOverflow }
-    ensures cause { IfErr result (IsCause (capacity_for G.rule T.row list.old 2)) }
+    ensures cause { IfErr result (IsCauseOf (capacity_after_reserve G.rule T.row list.old 2)) }
     ensures items { OnOk result (list.new.items ≡ list.old.items ++ first ∷ second ∷ []) }
     ensures err { OnErr result (list.new ≡ list.old) }
 {

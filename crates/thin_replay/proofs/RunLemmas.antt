@@ -2,7 +2,7 @@
 -- `thin_runner` (`Headline`) holds for this command and reply.
 use Rattle.std.proofs.Common.{◌≡◌, List, [], ◌∷◌, ◌++◌, Option, Some, ap, arith, length, length-append, refl, subst, sym, ◌∙◌}
 use Rattle.std.specs.Option.{option_to_list}
-use Rattle.thin_vec.specs.ThinVec.{Thin}
+use Rattle.thin_vec.specs.ThinVec.{ListView}
 use Rattle.thin_runner.specs.Headline.{Headline}
 use Rattle.thin_runner.specs.Run.{Runs}
 use Rattle.thin_runner.specs.Env.{Env}
@@ -17,7 +17,7 @@ alone (y ∷ front) x one = absurd (omega (arith, length-append front (x ∷ [])
 
 -- In this module, a run with the single command `command` turns the list `old` into `new`. The
 -- lists `before` and `after` contain the replies before and after the run.
-module _ {T A G J : Type 0} (here : Env T A J) (old new : Thin T A)
+module _ {T A G J : Type 0} (here : Env T A J) (old new : ListView T A)
     (command : Command T A G) (commands : List (Command T A G)) (before after : List (Reply T A G))
     (one : commands ≡ command ∷ []) (none : before ≡ [])
     (headline : Headline here old commands before after new) where

@@ -6,18 +6,18 @@ use Rattle.std.specs.Align.{type_align}
 use Rattle.std.specs.Result.{IsErrAnd}
 use Rattle.thin_vec.specs.declared.ThinVecError.{ThinVecError}
 use Rattle.thin_vec.specs.declared.ThinVecError.TheVariants.{CapacityOverflow}
-use Rattle.thin_vec.specs.List.Capacity.{TellsOverflow, TellsOverflowOf}
-use Rattle.thin_vec.specs.Growth.{Rule, exact_capacity, ruled_capacity}
+use Rattle.thin_vec.specs.List.Capacity.{OverflowsIff, OverflowsIffTooLarge}
+use Rattle.thin_vec.specs.Growth.{GrowthRule, exact_capacity, grown_capacity}
 
 pub exact_of_same : (R S : RattleType) (c w : ℕ) → type_size R ≡ type_size S
     → type_align R ≡ type_align S → exact_capacity R c w ≡ exact_capacity S c w
 unfolding exact_capacity
 exact_of_same R S c w size align = rw (size, align) refl
 
-pub ruled_of_same : (rule : Rule) (R S : RattleType) (c d v w : ℕ) → type_size R ≡ type_size S
+pub ruled_of_same : (rule : GrowthRule) (R S : RattleType) (c d v w : ℕ) → type_size R ≡ type_size S
     → type_align R ≡ type_align S → c ≡ d → v ≡ w
-    → ruled_capacity rule R c v ≡ ruled_capacity rule S d w
-unfolding ruled_capacity
+    → grown_capacity rule R c v ≡ grown_capacity rule S d w
+unfolding grown_capacity
 ruled_of_same rule R S c d v w size align capacity want = rw (size, align, capacity, want) refl
 
 no_error : {X E P : Type 0} {x : X} {e : E} → IsErrOf (Ok x) e → P
@@ -28,8 +28,8 @@ same_cause same = cc
 
 pub error_tells : {X Y : Type 0} (R S : RattleType) (w : ℕ) (cause : ThinVecError)
     (result : Result Y ThinVecError) → type_size S ≡ type_size R → type_align S ≡ type_align R
-    → IsErrAnd result (λ e. e ≡ cause) → TellsOverflowOf {X = X} R w (Err cause)
-    → TellsOverflowOf S w result
+    → IsErrAnd result (λ e. e ≡ cause) → OverflowsIffTooLarge {X = X} R w (Err cause)
+    → OverflowsIffTooLarge S w result
 error_tells R S w cause (Ok y) size align passed told = absurd passed
 error_tells R S w cause (Err e) size align passed told = record {
   overflow = (
@@ -42,7 +42,7 @@ error_tells R S w cause (Err e) size align passed told = record {
 
 pub failure_tells : {X Y : Type 0} {a b : Option ℕ} {cause : ThinVecError} → a ≡ b
     → IsErrOf {T = X} (Err cause) CapacityOverflow ↔ (b ≡ None)
-    → TellsOverflow a (let r : Result Y ThinVecError = Err cause in r)
+    → OverflowsIff a (let r : Result Y ThinVecError = Err cause in r)
 failure_tells same told = record {
   overflow = (
     λ over. same ∙ told.0 (ap Err (same_cause over)),
@@ -52,7 +52,7 @@ failure_tells same told = record {
 
 pub made_tells : {X Y : Type 0} (R S : RattleType) (w : ℕ) (x : X) (y : Y)
     → type_size S ≡ type_size R → type_align S ≡ type_align R
-    → TellsOverflowOf R w (Ok x) → TellsOverflowOf S w (Ok y)
+    → OverflowsIffTooLarge R w (Ok x) → OverflowsIffTooLarge S w (Ok y)
 made_tells R S w x y size align told = record {
   overflow = (
     λ over. no_error over,

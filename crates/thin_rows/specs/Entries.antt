@@ -3,7 +3,7 @@
 use Rattle.std.specs.Prelude.{◌≡◌, ◌↔◌, ℕ, ◌<◌, ◌≤◌, List, T, length, slice_index_or}
 use Rattle.std.specs.Ordering.{nat_cmp}
 use Rattle.std.specs.FinMap.{from_sorted, is_sorted}
-use Rattle.thin_vec.specs.ThinVec.{Thin}
+use Rattle.thin_vec.specs.ThinVec.{ListView}
 use Rattle.thin_rows.specs.Table.{Columns}
 
 module _ {V : Type 0} where
@@ -28,10 +28,10 @@ module _ {V : Type 0} where
 module _ {V A : Type 0} where
   -- `IsRow list` holds if the columns of the entries are strictly increasing, and the list owns a
   -- block of memory if and only if it has an entry.
-  pub record IsRow (list : Thin (ℕ × V) A) : Type 0 where
+  pub record IsRow (list : ListView (ℕ × V) A) : Type 0 where
     pub sorted : IsSortedByColumn list.items
     pub block : (0 < list.capacity) ↔ (0 < length list.items)
 
   -- `columns_of list` is the finite map that the entries of the list represent.
-  abbrev pub columns_of : Thin (ℕ × V) A → Columns V
+  abbrev pub columns_of : ListView (ℕ × V) A → Columns V
   columns_of list = from_sorted list.items

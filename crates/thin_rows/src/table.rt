@@ -36,7 +36,7 @@ impl<V, A: Allocator> Model for Rows<V, A> {
 }
 
 impl<V, A: Allocator + Copy> Rows<V, A> {
-    ghost use Rattle.thin_vec.specs.List.Capacity.{TellsOverflowOf};
+    ghost use Rattle.thin_vec.specs.List.Capacity.{OverflowsIffTooLarge};
     ghost use Rattle.thin_rows.specs.RowType.{row_type};
 
     /// Returns a table with `rows` rows and no entries. Allocates one block, or none if `rows` is
@@ -54,7 +54,7 @@ impl<V, A: Allocator + Copy> Rows<V, A> {
         ensures succeeds { rows ≡ 0 → IsOk result }
 
         // On failure.
-        ensures overflow { TellsOverflowOf (row_type V.row A.row A.Allocator) rows result }
+        ensures overflow { OverflowsIffTooLarge (row_type V.row A.row A.Allocator) rows result }
     {
         let mut empty_rows = ThinVec::with_capacity(alloc, rows)?;
         for _ in 0..rows {
@@ -67,8 +67,8 @@ impl<V, A: Allocator + Copy> Rows<V, A> {
 impl<V, A: Allocator> Rows<V, A> {
     ghost use types.Logic.{sem};
     ghost use Rattle.std.specs.Option.{option_copied_mut};
-    ghost use Rattle.thin_vec.specs.Growth.{doubling, ruled_capacity};
-    ghost use Rattle.thin_vec.specs.List.Capacity.{TellsOverflow, causes};
+    ghost use Rattle.thin_vec.specs.Growth.{doubling, grown_capacity};
+    ghost use Rattle.thin_vec.specs.List.Capacity.{OverflowsIff, map_cause};
     ghost use Rattle.thin_rows.specs.EntryType.{entry_type};
     ghost use Rattle.thin_rows.specs.Lends.{LendsValue};
 
@@ -130,9 +130,9 @@ impl<V, A: Allocator> Rows<V, A> {
 
         // On failure, the table is unchanged. The error contains `value`, and its cause is
         // `CapacityOverflow` if and only if the new capacity of the row would be too large.
-        ensures overflow { OnErr result (TellsOverflow (ruled_capacity doubling (entry_type V.row)
+        ensures overflow { OnErr result (OverflowsIff (grown_capacity doubling (entry_type V.row)
             (columns.len (row_at self.old row)) (columns.len (row_at self.old row) + 1))
-            (causes result)) }
+            (map_cause result)) }
         ensures err { OnErr result (self.new ≡ self.old) }
         ensures value_returned { IfErr result (λ refused. refused.value ≡ value) }
     {

@@ -8,9 +8,9 @@ use Rattle.std.specs.Prelude.{◌⊎◌, All}
 use Rattle.std.specs.Option.{option_to_list}
 use Rattle.thin_vec.specs.Cost.{Cost}
 use Rattle.thin_vec.specs.Cheap.{IsCheap, IsCheapAt}
-use Rattle.thin_vec.specs.Growth.{KeepsLaw}
-use Rattle.thin_vec.specs.ThinVec.{Thin, IsNew, cost_at}
-use Rattle.thin_vec.proofs.ThinVecLemmas.{cost_at-kept, cost_at-grown}
+use Rattle.thin_vec.specs.Growth.{IsLawful}
+use Rattle.thin_vec.specs.ThinVec.{ListView, IsNew, cost_after_resize}
+use Rattle.thin_vec.proofs.ThinVecLemmas.{cost_after_resize-kept, cost_after_resize-grown}
 use Rattle.thin_runner.specs.Env.{Env}
 use Rattle.thin_runner.specs.Steps.{Steps}
 use Rattle.thin_runner.specs.Run.{IsPushOrPop, Runs, successful_pushes}
@@ -21,14 +21,14 @@ use Rattle.thin_runner.specs.declared.command.Reply.TheVariants.{Done, Item, Ret
 use Rattle.thin_runner.proofs.PaidLemmas.{step-paid}
 
 -- What holds of a list after pushes and pops, of which `m` pushes succeeded.
-pub record IsAmortised {T A : Type 0} (m : ℕ) (v : Thin T A) : Type 0 where
+pub record IsAmortised {T A : Type 0} (m : ℕ) (v : ListView T A) : Type 0 where
   pub cheap : IsCheap v
   pub room : length v.items ≤ v.capacity
   pub items : length v.items ≤ m
   pub copied : (v.cost.grown < 2 * m) ⊎ (v.cost.grown ≡ 0)
 
 module _ {T A : Type 0} where
-  new-cheap : (v : Thin T A) → IsNew v v.alloc → IsCheap v
+  new-cheap : (v : ListView T A) → IsNew v v.alloc → IsCheap v
   new-cheap v new =
       let blocks : v.cost.blocks ≡ 0 = ap (λ c. c.blocks) new.cost in
       let grown : v.cost.grown ≡ 0 = ap (λ c. c.grown) new.cost in
@@ -38,7 +38,7 @@ module _ {T A : Type 0} where
         blocks = λ some. absurd (omega (arith, new.capacity, some));
       }
 
-  pub new-amortised : (v : Thin T A) → IsNew v v.alloc → IsAmortised 0 v
+  pub new-amortised : (v : ListView T A) → IsNew v v.alloc → IsAmortised 0 v
   new-amortised v new = record {
     cheap = new-cheap v new;
     room = omega (arith, ap length new.items);
@@ -46,14 +46,14 @@ module _ {T A : Type 0} where
     copied = inr (ap (λ c. c.grown) new.cost);
   }
 
-  pub copied-run : (w : Thin T A) (m : ℕ) → IsAmortised (0 + m) w → 0 < m → w.cost.grown < 2 * m
+  pub copied-run : (w : ListView T A) (m : ℕ) → IsAmortised (0 + m) w → 0 < m → w.cost.grown < 2 * m
   copied-run w m a some = below a.copied
     where
       below : (w.cost.grown < 2 * (0 + m)) ⊎ (w.cost.grown ≡ 0) → w.cost.grown < 2 * m
       below (inl few) = omega (arith, few)
       below (inr none) = omega (arith, none, some)
 
-  same-amortised : (m : ℕ) (v w : Thin T A) → IsAmortised m v → w ≡ v → IsAmortised (m + 0) w
+  same-amortised : (m : ℕ) (v w : ListView T A) → IsAmortised m v → w ≡ v → IsAmortised (m + 0) w
   same-amortised m v w a same = let e : m + 0 ≡ m = omega arith in rw (same, e) a
 
 copied-growing : (c m : ℕ) (k : Cost) → IsCheapAt c k → c ≤ m → k.grown + c < 2 * (m + 1)
@@ -66,13 +66,14 @@ copied-kept : (m more : ℕ) {g g' : ℕ} → (g < 2 * m) ⊎ (g ≡ 0) → g' �
 copied-kept m more (inl few) same = inl (omega (arith, few, same))
 copied-kept m more (inr none) same = inr (same ∙ none)
 
-module _ {T A G J : Type 0} (here : Env T A J) (law : KeepsLaw here.rule) where
-  step-amortised : (m : ℕ) (v w : Thin T A) (command : Command T A G) (reply : Reply T A G)
+module _ {T A G J : Type 0} (here : Env T A J) (law : IsLawful here.rule) where
+  step-amortised : (m : ℕ) (v w : ListView T A) (command : Command T A G) (reply : Reply T A G)
       → IsPushOrPop command → IsAmortised m v → Steps here v command reply w
       → IsAmortised (m + successful_pushes (command ∷ []) (reply ∷ [])) w
   step-amortised m v w (Push x) Done only a s =
       let was : length v.items ≤ m = a.items in
-      let paid : w.cost.grown ≡ (cost_at v w.capacity).grown = ap (λ z. z.cost.grown) s.1.1 in
+      let paid : w.cost.grown ≡ (cost_after_resize v w.capacity).grown =
+      ap (λ z. z.cost.grown) s.1.1 in
       let next = s.1.0 in
       let step = step-paid {G = G} here law v w (Push x) Done tt a.room s in
       record {
@@ -81,14 +82,14 @@ module _ {T A G J : Type 0} (here : Env T A J) (law : KeepsLaw here.rule) where
         items = omega (arith, ap (λ z. length z.items) s.1.1, length_push v.items x, was);
         copied = elim (cases_lt v.capacity (length v.items + 1)) [
           | inl full ↦
-              let one = cost_at-grown here.rule here.R law v 1 w.capacity full next in
+              let one = cost_after_resize-grown here.rule here.R law v 1 w.capacity full next in
               let grown : w.cost.grown ≡ v.cost.grown + length v.items =
               paid ∙ ap (λ c. c.grown) one in
               let few = copied-growing v.capacity m v.cost a.cheap
               (omega (arith, full, was)) in
               inl (omega (arith, grown, few, a.room))
           | inr spare ↦
-              let none = cost_at-kept here.rule here.R law v 1 w.capacity spare next in
+              let none = cost_after_resize-kept here.rule here.R law v 1 w.capacity spare next in
               copied-kept m 1 a.copied (paid ∙ ap (λ c. c.grown) none)
         ];
       }
@@ -110,14 +111,14 @@ module _ {T A G J : Type 0} (here : Env T A J) (law : KeepsLaw here.rule) where
 
   successful_pushes-counted : (commands : List (Command T A G)) (replies : List (Reply T A G))
       → counted (λ c r. successful_pushes (c ∷ []) (r ∷ [])) commands replies
-          ≡ successful_pushes commands replies
+      ≡ successful_pushes commands replies
   successful_pushes-counted (Push x ∷ commands) (Done ∷ replies) =
       omega (arith, successful_pushes-counted commands replies)
   successful_pushes-counted (command ∷ commands) (reply ∷ replies) =
       omega (arith, successful_pushes-counted commands replies)
   successful_pushes-counted commands replies = refl
 
-  pub runs-amortised : (v w : Thin T A) (commands : List (Command T A G))
+  pub runs-amortised : (v w : ListView T A) (commands : List (Command T A G))
       (replies : List (Reply T A G)) → All IsPushOrPop commands → IsAmortised 0 v
       → Runs here v commands replies w → IsAmortised (0 + successful_pushes commands replies) w
   runs-amortised v w commands replies only a run =

@@ -5,10 +5,10 @@ use denote.Param.Members.{Mut}
 use Rattle.std.specs.Fn.{CalledAtMut, ComparesKeys}
 use Rattle.std.specs.List.{dedup, dedup_from}
 use Rattle.std.specs.Prelude.{MatchBool, if◌then◌else◌, not}
-use Rattle.thin_vec.specs.Cost.{moving}
-use Rattle.thin_vec.specs.Edits.Retain.{Verdicts, Asked, IsRetained, flags_of, left_at, moved_down}
-use Rattle.thin_vec.specs.Edits.Dedup.{AskedLast, AskedPairs, IsDedupedBy, unlike, unlike_from}
-use Rattle.thin_vec.specs.ThinVec.{Thin}
+use Rattle.thin_vec.specs.Cost.{add_moves}
+use Rattle.thin_vec.specs.Edits.Retain.{TestResults, TestsInTurn, IsRetained, flags_of, items_where, moves_of_retain}
+use Rattle.thin_vec.specs.Edits.Dedup.{TestsEachAgainstLast, TestsAllAgainstLast, IsDedupedBy, dedup_flags, dedup_flags_from}
+use Rattle.thin_vec.specs.ThinVec.{ListView}
 use Rattle.thin_runner.specs.commands.Filters.{test_each, test_against_last, test_pairs, same_key, filtered_list}
 
 module _ {S T J : Type 0} (R : S → T → Bool → S → T → Type 0) (judge_of : S → J)
@@ -21,26 +21,27 @@ module _ {S T J : Type 0} (R : S → T → Bool → S → T → Type 0) (judge_o
 
 module _ {S T J : Type 0} (R : S → T → Bool → S → T → Type 0) (judge_of : S → J)
     (ask : J → T → Bool × T × J) (told : AsksJudge R judge_of ask) where
-  pub test_each-by : (s t : S) (xs : List T) (verdicts : Verdicts T) → Asked R s xs verdicts t
-      → verdicts ≡ test_each ask (judge_of s) xs
-  test_each-by s t [] verdicts a = a.0
-  test_each-by s t (x ∷ xs) verdicts a =
+  pub test_each-by : (s t : S) (xs : List T) (results : TestResults T)
+      → TestsInTurn R s xs results t
+      → results ≡ test_each ask (judge_of s) xs
+  test_each-by s t [] results a = a.0
+  test_each-by s t (x ∷ xs) results a =
       a.6 ∙ (ap (λ l. (a.0, a.1) ∷ l) (test_each-by a.2 t xs a.3 a.5)
       ∙ ap (λ l. (l.0, l.1) ∷ test_each ask l.2 xs) (told s x a.0 a.2 a.1 a.4))
 
-  pub retained-by : {A : Type 0} (s : S) (v w : Thin T A) → IsRetained R s v w
+  pub retained-by : {A : Type 0} (s : S) (v w : ListView T A) → IsRetained R s v w
       → w.capacity ≡ v.capacity → w.alloc ≡ v.alloc
       → w ≡ filtered_list v (test_each ask (judge_of s) v.items)
   retained-by s v w r capacity alloc =
-      let same = test_each-by s r.0 v.items r.1.verdicts r.1.asked in
-      let items = r.1.items ∙ ap (λ a. left_at true a) same in
-      let cost = r.1.cost ∙ ap (λ a. moving (moved_down (flags_of a)) v.cost) same in
+      let same = test_each-by s r.0 v.items r.1.results r.1.asked in
+      let items = r.1.items ∙ ap (λ a. items_where true a) same in
+      let cost = r.1.cost ∙ ap (λ a. add_moves (moves_of_retain (flags_of a)) v.cost) same in
       λ i. record { items = items i; capacity = capacity i; alloc = alloc i; cost = cost i }
 
 module _ {T : Type 0} where
   -- `flags` says which later items are kept, and `ys` is the item of `b` followed by these.
-  abbrev pub Leaves : List Bool → List T → T × Verdicts T → Type 0
-  Leaves flags ys b = (flags ≡ flags_of b.1) × (ys ≡ b.0 ∷ left_at true b.1)
+  abbrev pub Leaves : List Bool → List T → T × TestResults T → Type 0
+  Leaves flags ys b = (flags ≡ flags_of b.1) × (ys ≡ b.0 ∷ items_where true b.1)
 
 -- `R` describes a closure that compares two items by asking the judge in its state.
 module _ {S T J : Type 0} (R : S → T → T → Bool → S → T → T → Type 0) (judge_of : S → J)
@@ -48,7 +49,8 @@ module _ {S T J : Type 0} (R : S → T → T → Bool → S → T → T → Type
     (told : (s : S) (x k : T) (b : Bool) (u : S) (x' k' : T) → R s x k b u x' k'
     → (b, x', k', judge_of u) ≡ same (judge_of s) x k) where
   pub test_against_last-by : (s t : S) (k : T) (xs : List T) (flags : List Bool) (ys : List T)
-      → AskedLast R s k xs flags ys t → Leaves flags ys (test_against_last same (judge_of s) k xs)
+      → TestsEachAgainstLast R s k xs flags ys t
+      → Leaves flags ys (test_against_last same (judge_of s) k xs)
   test_against_last-by s t k [] flags ys a = (a.0, a.1)
   test_against_last-by s t k (x ∷ xs) flags ys a =
       subst (λ p. let b = test_against_last same p.3 (if p.0 then p.2 else p.1) xs
@@ -56,10 +58,11 @@ module _ {S T J : Type 0} (R : S → T → T → Bool → S → T → T → Type
       (told s x k a.0 a.3 a.1 a.2 a.5)
       (by_test (λ l zs m. test_against_last-by a.3 t l xs a.4 zs m) a.0 a.7 a.6)
     where
-      by_test : ((l : T) (zs : List T) → AskedLast R a.3 l xs a.4 zs t
+      by_test : ((l : T) (zs : List T) → TestsEachAgainstLast R a.3 l xs a.4 zs t
           → Leaves a.4 zs (test_against_last same (judge_of a.3) l xs))
-          → (b : Bool) → MatchBool b (AskedLast R a.3 a.2 xs a.4 ys t)
-          ((zs : List T) × AskedLast R a.3 a.1 xs a.4 zs t × (ys ≡ a.2 ∷ zs)) → flags ≡ not b ∷ a.4
+          → (b : Bool) → MatchBool b (TestsEachAgainstLast R a.3 a.2 xs a.4 ys t)
+          ((zs : List T) × TestsEachAgainstLast R a.3 a.1 xs a.4 zs t × (ys ≡ a.2 ∷ zs))
+          → flags ≡ not b ∷ a.4
           → (let c = test_against_last same (judge_of a.3) (if b then a.2 else a.1) xs
           in Leaves flags ys (if b then (c.0, (false, a.1) ∷ c.1) else (a.2, (true, c.0) ∷ c.1)))
       by_test by true m e = let h = by a.2 ys m in (e ∙ ap (λ l. false ∷ l) h.0, h.1)
@@ -67,19 +70,19 @@ module _ {S T J : Type 0} (R : S → T → T → Bool → S → T → T → Type
           by a.1 m.0 m.1 in (e ∙ ap (λ l. true ∷ l) h.0, m.2 ∙ ap (λ l. a.2 ∷ l) h.1)
 
   pub test_pairs-by : (s t : S) (xs : List T) (flags : List Bool) (ys : List T)
-      → AskedPairs R s xs flags ys t
-      → (moved_down flags ≡ moved_down (flags_of (test_pairs same (judge_of s) xs)))
-      × (ys ≡ left_at true (test_pairs same (judge_of s) xs))
-  test_pairs-by s t [] flags ys a = (ap moved_down a.0, a.1)
+      → TestsAllAgainstLast R s xs flags ys t
+      → (moves_of_retain flags ≡ moves_of_retain (flags_of (test_pairs same (judge_of s) xs)))
+      × (ys ≡ items_where true (test_pairs same (judge_of s) xs))
+  test_pairs-by s t [] flags ys a = (ap moves_of_retain a.0, a.1)
   test_pairs-by s t (x ∷ xs) flags ys a = let h = test_against_last-by s t x xs flags ys a
-      in (ap moved_down h.0, h.1)
+      in (ap moves_of_retain h.0, h.1)
 
-  pub deduped-by : {A : Type 0} (s : S) (v w : Thin T A) → IsDedupedBy R s v w
+  pub deduped-by : {A : Type 0} (s : S) (v w : ListView T A) → IsDedupedBy R s v w
       → w.capacity ≡ v.capacity → w.alloc ≡ v.alloc
       → w ≡ filtered_list v (test_pairs same (judge_of s) v.items)
   deduped-by s v w r capacity alloc =
       let by = test_pairs-by s r.0 v.items r.1.stays w.items r.1.asked in
-      let cost = r.1.cost ∙ ap (λ m. moving m v.cost) by.0 in
+      let cost = r.1.cost ∙ ap (λ m. add_moves m v.cost) by.0 in
       λ i. record { items = by.1 i; capacity = capacity i; alloc = alloc i; cost = cost i }
 
 -- `g` describes a closure that maps an item to the key of the judge in its state.
@@ -87,7 +90,7 @@ module _ {F T A J : Type 0} (g : Mut F (MutBor T × Unit {0}) (ℕ × (MutBor T 
     (judge_of : F → J) (key : J → T → ℕ × T × J)
     (told : (f : F) (x : T) (k : ℕ) (f' : F) (x' : T) → CalledAtMut g f x k f' x'
     → (k, x', judge_of f') ≡ key (judge_of f) x) where
-  pub deduped-by-keys : (f : F) (v w : Thin T A)
+  pub deduped-by-keys : (f : F) (v w : ListView T A)
       → IsDedupedBy (ComparesKeys g (λ a b. a == b)) f v w → w.capacity ≡ v.capacity
       → w.alloc ≡ v.alloc → w ≡ filtered_list v (test_pairs (same_key key) (judge_of f) v.items)
   deduped-by-keys f v w d capacity alloc =
@@ -110,16 +113,16 @@ module _ {T J : Type 0} (look : J → T → Bool × J) where
 
 -- Commands such as `Retain` do not increase the number of items.
 module _ {T : Type 0} where
-  pub few-left : (verdicts : Verdicts T) → length (left_at true verdicts) ≤ length verdicts
+  pub few-left : (results : TestResults T) → length (items_where true results) ≤ length results
   few-left [] = omega arith
-  few-left ((true, x) ∷ verdicts) = omega (arith, few-left verdicts)
-  few-left ((false, x) ∷ verdicts) = omega (arith, few-left verdicts)
+  few-left ((true, x) ∷ results) = omega (arith, few-left results)
+  few-left ((false, x) ∷ results) = omega (arith, few-left results)
 
-  -- `next b x k a` adds the verdict on `x` to the pair `a`: `x` is removed if `b` holds.
-  abbrev next : Bool → T → T → T × Verdicts T → T × Verdicts T
+  -- `next b x k a` adds the result for `x` to the pair `a`: `x` is removed if `b` holds.
+  abbrev next : Bool → T → T → T × TestResults T → T × TestResults T
   next b x k a = if b then (a.0, (false, x) ∷ a.1) else (k, (true, a.0) ∷ a.1)
 
-  one-answer : (b : Bool) (x k : T) (a : T × Verdicts T)
+  one-answer : (b : Bool) (x k : T) (a : T × TestResults T)
       → length (next b x k a).1 ≡ suc (length a.1)
   one-answer true x k a = refl
   one-answer false x k a = refl
@@ -132,7 +135,7 @@ module _ {T J : Type 0} where
   test_each-length ask j (x ∷ xs) = ap suc (test_each-length ask (ask j x).2 xs)
 
   pub few-test_each : (ask : J → T → Bool × T × J) (j : J) (xs : List T)
-      → length (left_at true (test_each ask j xs)) ≤ length xs
+      → length (items_where true (test_each ask j xs)) ≤ length xs
   few-test_each ask j xs = omega (arith, few-left (test_each ask j xs), test_each-length ask j xs)
 
   last-length : (same : J → T → T → Bool × T × T × J) (j : J) (k : T) (xs : List T)
@@ -149,7 +152,7 @@ module _ {T J : Type 0} where
   pairs-length same j (x ∷ xs) = ap suc (last-length same j x xs)
 
   pub few-pairs : (same : J → T → T → Bool × T × T × J) (j : J) (xs : List T)
-      → length (left_at true (test_pairs same j xs)) ≤ length xs
+      → length (items_where true (test_pairs same j xs)) ≤ length xs
   few-pairs same j xs = omega (arith, few-left (test_pairs same j xs), pairs-length same j xs)
 
 -- `dedup` with the equality test `E` keeps the same items as `dedup_by` with a judge that asks `E`.
@@ -158,33 +161,33 @@ module _ {T J : Type 0} (E : T → T → Bool) (j : J) where
   abbrev pub tells : J → T → T → Bool × T × T × J
   tells j later kept = (E later kept, later, kept, j)
 
-  dedup-last : (k : T) (xs : List T) → Leaves (unlike_from E k xs) (dedup_from E k xs)
+  dedup-last : (k : T) (xs : List T) → Leaves (dedup_flags_from E k xs) (dedup_from E k xs)
       (test_against_last tells j k xs)
   dedup-last k [] = (refl, refl)
   dedup-last k (x ∷ xs) = told (λ l. dedup-last l xs) (E x k)
     where
       told : ((l : T)
-          → Leaves (unlike_from E l xs) (dedup_from E l xs) (test_against_last tells j l xs))
+          → Leaves (dedup_flags_from E l xs) (dedup_from E l xs) (test_against_last tells j l xs))
           → (b : Bool)
           → (let a = test_against_last tells j (if b then k else x) xs in
-          Leaves (if b then false ∷ unlike_from E k xs else true ∷ unlike_from E x xs)
+          Leaves (if b then false ∷ dedup_flags_from E k xs else true ∷ dedup_flags_from E x xs)
           (if b then dedup_from E k xs else k ∷ dedup_from E x xs)
           (if b then (a.0, (false, x) ∷ a.1) else (k, (true, a.0) ∷ a.1)))
       told by true = let h = by k in (ap (λ l. false ∷ l) h.0, h.1)
       told by false = let h = by x in (ap (λ l. true ∷ l) h.0, ap (λ l. k ∷ l) h.1)
 
   pub dedup-pairs : (xs : List T)
-      → (moved_down (unlike E xs) ≡ moved_down (flags_of (test_pairs tells j xs)))
-      × (dedup E xs ≡ left_at true (test_pairs tells j xs))
+      → (moves_of_retain (dedup_flags E xs) ≡ moves_of_retain (flags_of (test_pairs tells j xs)))
+      × (dedup E xs ≡ items_where true (test_pairs tells j xs))
   dedup-pairs [] = (refl, refl)
-  dedup-pairs (x ∷ xs) = let h = dedup-last x xs in (ap moved_down h.0, h.1)
+  dedup-pairs (x ∷ xs) = let h = dedup-last x xs in (ap moves_of_retain h.0, h.1)
 
-  pub deduped-alike : {A : Type 0} (v w : Thin T A) → w.items ≡ dedup E v.items → w.cost
-      ≡ moving (moved_down (unlike E v.items)) v.cost
+  pub deduped-alike : {A : Type 0} (v w : ListView T A) → w.items ≡ dedup E v.items → w.cost
+      ≡ add_moves (moves_of_retain (dedup_flags E v.items)) v.cost
       → w.capacity ≡ v.capacity → w.alloc ≡ v.alloc
       → w ≡ filtered_list v (test_pairs tells j v.items)
   deduped-alike v w items cost capacity alloc =
       let by = dedup-pairs v.items in
       let left = items ∙ by.1 in
-      let paid = cost ∙ ap (λ m. moving m v.cost) by.0 in
+      let paid = cost ∙ ap (λ m. add_moves m v.cost) by.0 in
       λ i. record { items = left i; capacity = capacity i; alloc = alloc i; cost = paid i }

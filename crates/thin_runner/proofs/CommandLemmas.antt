@@ -2,10 +2,10 @@
 use Rattle.std.proofs.Common.{◌≡◌, ℕ, ◌<◌, ◌⊎◌, List, [], ◌∷◌, Some, refl, length, inl, inr, arith}
 use Rattle.std.specs.Borrow.{RattleType}
 use Rattle.std.specs.Prelude.{HoldsAt}
-use Rattle.thin_vec.specs.List.Clones.{CostsUpToClone}
-use Rattle.thin_vec.specs.Cost.{moving}
-use Rattle.thin_vec.specs.Growth.{Rule}
-use Rattle.thin_vec.specs.ThinVec.{Thin, capacity_for, cost_at}
+use Rattle.thin_vec.specs.List.Clones.{CostsFailedClone}
+use Rattle.thin_vec.specs.Cost.{add_moves}
+use Rattle.thin_vec.specs.Growth.{GrowthRule}
+use Rattle.thin_vec.specs.ThinVec.{ListView, capacity_after_reserve, cost_after_resize}
 use Rattle.thin_runner.specs.commands.Items.{set_capacity, set_items}
 
 pub some-items : {X : Type 0} (xs : List X) → (xs ≡ [] → ⊥) → 0 < length xs
@@ -13,8 +13,8 @@ some-items [] none = absurd (none refl)
 some-items (x ∷ xs) none = omega arith
 
 module _ {T A : Type 0} where
-  pub is-set : (v w : Thin T A) (xs : List T) (m : ℕ) → w.items ≡ xs
-      → w.cost ≡ moving m (cost_at v w.capacity) → w.alloc ≡ v.alloc
+  pub is-set : (v w : ListView T A) (xs : List T) (m : ℕ) → w.items ≡ xs
+      → w.cost ≡ add_moves m (cost_after_resize v w.capacity) → w.alloc ≡ v.alloc
       → w ≡ set_items (set_capacity v w.capacity) xs m
   is-set v w xs m items cost alloc = λ i. record {
     items = items i;
@@ -23,17 +23,17 @@ module _ {T A : Type 0} where
     cost = cost i;
   }
 
-  module _ (rule : Rule) where
+  module _ (rule : GrowthRule) where
     -- If a call that clones items fails, the list is unchanged, or it grew and some clones were
     -- made.
     pub refuses-clone : (R : RattleType) (k : ℕ) {infallible : T → Type 0} {sources : List T}
-        {v w : Thin T A} → w.items ≡ v.items → w.alloc ≡ v.alloc
-        → (w ≡ v) ⊎ (capacity_for rule R v k ≡ Some w.capacity)
-        → (w ≡ v) ⊎ CostsUpToClone infallible sources v w
+        {v w : ListView T A} → w.items ≡ v.items → w.alloc ≡ v.alloc
+        → (w ≡ v) ⊎ (capacity_after_reserve rule R v k ≡ Some w.capacity)
+        → (w ≡ v) ⊎ CostsFailedClone infallible sources v w
         → (w ≡ v) ⊎ ((at : ℕ) × (at < length sources)
         × HoldsAt (λ x. ¬ (infallible x)) sources at
-        × ((capacity_for rule R v k ≡ Some w.capacity)
-            × (w ≡ set_items (set_capacity v w.capacity) v.items at)))
+        × ((capacity_after_reserve rule R v k ≡ Some w.capacity)
+        × (w ≡ set_items (set_capacity v w.capacity) v.items at)))
     refuses-clone R k same alloc (inl e) _ = inl e
     refuses-clone R k same alloc (inr _) (inl e) = inl e
     refuses-clone R k {v = v} {w} same alloc (inr capacity) (inr r) =

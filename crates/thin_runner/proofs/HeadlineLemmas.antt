@@ -1,8 +1,8 @@
 -- The main theorem, from the lemmas of the other files.
 use Rattle.std.proofs.Common.{◌≡◌, List, [], ◌++◌, ap, sym, subst, ◌∙◌}
 use Rattle.std.proofs.lemmas.List.{append-nil}
-use Rattle.thin_vec.specs.Growth.{KeepsLaw}
-use Rattle.thin_vec.specs.ThinVec.{IsWithin, Thin}
+use Rattle.thin_vec.specs.Growth.{IsLawful}
+use Rattle.thin_vec.specs.ThinVec.{IsBounded, ListView}
 use Rattle.thin_runner.specs.Env.{Env}
 use Rattle.thin_runner.specs.Headline.{Headline}
 use Rattle.thin_runner.specs.Run.{Runs, successful_pushes}
@@ -15,10 +15,10 @@ use Rattle.thin_runner.proofs.PlainLemmas.{run-plain}
 use Rattle.thin_runner.proofs.RunLemmas.{HasRun}
 use Rattle.thin_runner.proofs.SlackLemmas.{runs-slack}
 
-module _ {T A G J : Type 0} (here : Env T A J) (law : KeepsLaw here.rule) where
-  module _ {old new : Thin T A} where
+module _ {T A G J : Type 0} (here : Env T A J) (law : IsLawful here.rule) where
+  module _ {old new : ListView T A} where
     pub headline : {commands left : List (Command T A G)} {before after : List (Reply T A G)}
-        → IsWithin here.R old → IsWithin here.R new → left ≡ []
+        → IsBounded here.R old → IsBounded here.R new → left ≡ []
         → HasRun here old commands left before after new
         → Headline here old commands before after new
     headline {commands} was within none h =

@@ -4,10 +4,10 @@ use Rattle.std.proofs.lemmas.List.{length-append, length-replicate}
 use Rattle.std.specs.Prelude.{◌*◌, ◌⊎◌, drop, take, HoldsAt, replicate, if◌then◌else◌}
 use Rattle.std.specs.Borrow.{RattleType}
 use Rattle.std.specs.Option.{option_to_list}
-use Rattle.thin_vec.specs.Cost.{growing, no_cost}
-use Rattle.thin_vec.specs.Growth.{Rule}
-use Rattle.thin_vec.specs.ThinVec.{Thin, cost_shrunk}
-use Rattle.thin_vec.proofs.ThinVecLemmas.{cost_at-moves}
+use Rattle.thin_vec.specs.Cost.{add_realloc, no_cost}
+use Rattle.thin_vec.specs.Growth.{GrowthRule}
+use Rattle.thin_vec.specs.ThinVec.{ListView, cost_shrunk}
+use Rattle.thin_vec.proofs.ThinVecLemmas.{cost_after_resize-moves}
 use Rattle.thin_runner.specs.Env.{Env}
 use Rattle.thin_runner.specs.Steps.{Steps}
 use Rattle.thin_runner.specs.commands.Items.{ReservesAndSets, set_capacity, set_items}
@@ -25,8 +25,8 @@ use Rattle.thin_runner.specs.declared.command.Reply.TheVariants.{Answers, Done, 
 few-repeats : {T : Type 0} (k : ℕ) (x : T) → length (replicate (k - 1) x) ≤ k
 few-repeats k x = omega (arith, length-replicate (k - 1) x)
 
-module _ {T A : Type 0} (v w : Thin T A) where
-  same-moves : (u : Thin T A) (k : ℕ) → w ≡ u → u.cost.moves ≡ v.cost.moves
+module _ {T A : Type 0} (v w : ListView T A) where
+  same-moves : (u : ListView T A) (k : ℕ) → w ≡ u → u.cost.moves ≡ v.cost.moves
       → w.cost.moves ≤ v.cost.moves + k
   same-moves u k e same = omega (arith, ap (λ z. z.cost.moves) e, same)
 
@@ -35,9 +35,9 @@ module _ {T A : Type 0} (v w : Thin T A) where
 
   grown-moves : (xs : List T) (m : ℕ) → w ≡ set_items (set_capacity v w.capacity) xs m
       → w.cost.moves ≤ v.cost.moves + m
-  grown-moves xs m e = omega (arith, ap (λ z. z.cost.moves) e, cost_at-moves v w.capacity)
+  grown-moves xs m e = omega (arith, ap (λ z. z.cost.moves) e, cost_after_resize-moves v w.capacity)
 
-  module _ (rule : Rule) (R : RattleType) (a b : ℕ) where
+  module _ (rule : GrowthRule) (R : RattleType) (a b : ℕ) where
     spliced-moves : (placed : List T) (most k : ℕ) → Replaces rule R v a b placed most w
         → length placed ≤ k → w.cost.moves ≤ v.cost.moves + (2 * (length v.items - b) + k)
     spliced-moves placed most k f few =
@@ -59,16 +59,16 @@ module _ {T A : Type 0} (v w : Thin T A) where
         spliced-moves s.placed (lower + length xs) (length xs) s.filled
         (omega (arith, ap length s.all, length-append s.placed others))
 
-shrunk-moves : {T A : Type 0} (v : Thin T A) → (cost_shrunk v).moves ≤ v.cost.moves
+shrunk-moves : {T A : Type 0} (v : ListView T A) → (cost_shrunk v).moves ≤ v.cost.moves
 shrunk-moves v = go (length v.items == v.capacity) (length v.items == 0)
   where
     go : (full none : Bool) → (if full then v.cost else
-        (if none then no_cost else growing (length v.items) v.cost)).moves ≤ v.cost.moves
+        (if none then no_cost else add_realloc (length v.items) v.cost)).moves ≤ v.cost.moves
     go true _ = omega arith
     go false true = omega arith
     go false false = omega arith
 
-module _ {T A J : Type 0} (here : Env T A J) (v w : Thin T A) where
+module _ {T A J : Type 0} (here : Env T A J) (v w : ListView T A) where
   refused-moves : (k : ℕ) (sources : List T) (cause : ThinVecError) → length sources ≤ k
       → RefusesClone here v k sources cause w → w.cost.moves ≤ v.cost.moves + k
   refused-moves k sources cause few r = stopped r.2
@@ -80,7 +80,7 @@ module _ {T A J : Type 0} (here : Env T A J) (v w : Thin T A) where
       stopped (inr s) = omega (arith, few, s.1, grown-moves v w v.items s.0 s.3.1)
 
 module _ {T A G J : Type 0} (here : Env T A J) where
-  pub step-moves : (v w : Thin T A) (command : Command T A G) (reply : Reply T A G)
+  pub step-moves : (v w : ListView T A) (command : Command T A G) (reply : Reply T A G)
       → Steps here v command reply w
       → w.cost.moves ≤ v.cost.moves + may_move here v.items command reply
   step-moves v w command (OutOfRange back) s = same-moves v w v 0 s.2 refl
@@ -94,9 +94,11 @@ module _ {T A G J : Type 0} (here : Env T A J) where
   step-moves v w (Set i x) (Item (Some y)) s = same-moves v w _ 0 s.1.1 refl
   step-moves v w (Truncate k) Done s = same-moves v w _ 0 s.1 refl
   step-moves v w Clear Done s = same-moves v w _ 0 s.1 refl
-  step-moves v w (Reserve k) Done s = same-moves v w _ 0 s.1.1 (cost_at-moves v w.capacity)
+  step-moves v w (Reserve k) Done s =
+      same-moves v w _ 0 s.1.1 (cost_after_resize-moves v w.capacity)
   step-moves v w (Reserve k) (Refused cause) s = same-moves v w v 0 s.1.2 refl
-  step-moves v w (ReserveExact k) Done s = same-moves v w _ 0 s.1.1 (cost_at-moves v w.capacity)
+  step-moves v w (ReserveExact k) Done s =
+      same-moves v w _ 0 s.1.1 (cost_after_resize-moves v w.capacity)
   step-moves v w (ReserveExact k) (Refused cause) s = same-moves v w v 0 s.1.2 refl
   step-moves v w ShrinkToFit Done s =
       omega (arith, ap (λ z. z.cost.moves) s.1, shrunk-moves v)
@@ -141,7 +143,7 @@ module _ {T A G J : Type 0} (here : Env T A J) where
   step-moves v w (Splice a b steps xs lower) (Refused cause) s = same-moves v w v 0 s.1.2 refl
   step-moves v w command reply s = absurd s.1
 
-  pub runs-moves : (v w : Thin T A) (commands : List (Command T A G))
+  pub runs-moves : (v w : ListView T A) (commands : List (Command T A G))
       (replies : List (Reply T A G)) (run : Runs here v commands replies w)
       → w.cost.moves ≤ v.cost.moves + run_may_move here v w commands replies run
   runs-moves v w [] [] run = omega (arith, ap (λ z. z.cost.moves) run)

@@ -14,9 +14,9 @@ use Rattle.std.specs.Prelude.{◌⊎◌, All, HoldsAt, drop, remove, slice_set, 
 use Rattle.std.specs.Option.{option_to_list}
 use Rattle.thin_vec.specs.Cost.{Cost}
 use Rattle.thin_vec.specs.Cheap.{IsCheap, IsCheapAt}
-use Rattle.thin_vec.specs.Growth.{KeepsLaw}
-use Rattle.thin_vec.specs.ThinVec.{Thin, capacity_for, cost_at}
-use Rattle.thin_vec.proofs.ThinVecLemmas.{cap-kept, cap-grown, cheap-regrown, cost_at-copied}
+use Rattle.thin_vec.specs.Growth.{IsLawful}
+use Rattle.thin_vec.specs.ThinVec.{ListView, capacity_after_reserve, cost_after_resize}
+use Rattle.thin_vec.proofs.ThinVecLemmas.{cap-kept, cap-grown, cheap-regrown, cost_after_resize-copied}
 use Rattle.thin_runner.specs.Env.{Env}
 use Rattle.thin_runner.specs.Steps.{Steps}
 use Rattle.thin_runner.specs.commands.Items.{ReservesAndSets}
@@ -42,27 +42,27 @@ cheap-same c k k' blocks grown h = record {
 }
 
 -- What holds of a call, or of a run, that turned the list `v` into `w`.
-pub record IsPaid {T A : Type 0} (v w : Thin T A) : Type 0 where
+pub record IsPaid {T A : Type 0} (v w : ListView T A) : Type 0 where
   pub cheap : IsCheap v → IsCheap w
   pub copied : w.cost.grown + v.capacity ≤ v.cost.grown + w.capacity
   pub room : length w.items ≤ w.capacity
 
 module _ {T A : Type 0} where
-  pub none-paid : (v : Thin T A) → length v.items ≤ v.capacity → IsPaid v v
+  pub none-paid : (v : ListView T A) → length v.items ≤ v.capacity → IsPaid v v
   none-paid v room = record { cheap = λ c. c; copied = omega arith; room = room }
 
-  pub join-paid : {v u w : Thin T A} → IsPaid v u → IsPaid u w → IsPaid v w
+  pub join-paid : {v u w : ListView T A} → IsPaid v u → IsPaid u w → IsPaid v w
   join-paid p q = record {
     cheap = λ c. q.cheap (p.cheap c);
     copied = omega (arith, p.copied, q.copied);
     room = q.room;
   }
 
-module _ {T A : Type 0} (v w : Thin T A) (room : length v.items ≤ v.capacity) where
+module _ {T A : Type 0} (v w : ListView T A) (room : length v.items ≤ v.capacity) where
   same-paid : w ≡ v → IsPaid v w
   same-paid e = subst (IsPaid v) (sym e) (none-paid v room)
 
-  kept-paid : (u : Thin T A) → w ≡ u → u.capacity ≡ v.capacity
+  kept-paid : (u : ListView T A) → w ≡ u → u.capacity ≡ v.capacity
       → u.cost.blocks ≡ v.cost.blocks → u.cost.grown ≡ v.cost.grown
       → length u.items ≤ length v.items → IsPaid v w
   kept-paid u e cap blocks copied few =
@@ -74,21 +74,27 @@ module _ {T A : Type 0} (v w : Thin T A) (room : length v.items ≤ v.capacity) 
         room = omega (arith, room, few, cap);
       })
 
-module _ {T A J : Type 0} (here : Env T A J) (law : KeepsLaw here.rule) (v w : Thin T A)
+module _ {T A J : Type 0} (here : Env T A J) (law : IsLawful here.rule) (v w : ListView T A)
     (room : length v.items ≤ v.capacity) where
   -- A call that reserves room for `n` more items and adds at most `n`.
-  ruled-paid : (u : Thin T A) (n : ℕ) → capacity_for here.rule here.R v n ≡ Some w.capacity
-      → w ≡ u → u.cost.blocks ≡ (cost_at v w.capacity).blocks
-      → u.cost.grown ≡ (cost_at v w.capacity).grown
+  ruled-paid : (u : ListView T A) (n : ℕ)
+      → capacity_after_reserve here.rule here.R v n ≡ Some w.capacity
+      → w ≡ u → u.cost.blocks ≡ (cost_after_resize v w.capacity).blocks
+      → u.cost.grown ≡ (cost_after_resize v w.capacity).grown
       → length u.items ≤ length v.items + n → IsPaid v w
   ruled-paid u n next e blocks copied few =
       let items : length w.items ≡ length u.items = ap (λ z. length z.items) e in
-      let paid : w.cost.grown ≡ (cost_at v w.capacity).grown = ap (λ z. z.cost.grown) e ∙ copied in
+      let paid : w.cost.grown ≡ (cost_after_resize v w.capacity).grown =
+      ap (λ z. z.cost.grown) e ∙ copied in
       record {
-        cheap = λ was. cheap-same w.capacity (cost_at v w.capacity) w.cost
+        cheap = λ was. cheap-same w.capacity (cost_after_resize v w.capacity) w.cost
             (ap (λ z. z.cost.blocks) e ∙ blocks) paid
             (cheap-regrown here.rule here.R law v n w.capacity was room next);
-        copied = omega (arith, paid, cost_at-copied here.rule here.R law v n w.capacity room next);
+        copied = omega (
+          arith,
+          paid,
+          cost_after_resize-copied here.rule here.R law v n w.capacity room next,
+        );
         room = elim (cases_lt v.capacity (length v.items + n)) [
           | inl full ↦
               let g = cap-grown here.rule here.R law v n w.capacity full next in
@@ -157,8 +163,8 @@ module _ {T : Type 0} where
       let count = zipped-more clones more a.0 a.2 in
       omega (arith, ap length a.1, length-append xs a.0, count)
 
-module _ {T A G J : Type 0} (here : Env T A J) (law : KeepsLaw here.rule) where
-  pub step-paid : (v w : Thin T A) (command : Command T A G) (reply : Reply T A G)
+module _ {T A G J : Type 0} (here : Env T A J) (law : IsLawful here.rule) where
+  pub step-paid : (v w : ListView T A) (command : Command T A G) (reply : Reply T A G)
       → KeepsCheap command → length v.items ≤ v.capacity → Steps here v command reply w
       → IsPaid v w
   step-paid v w command (OutOfRange back) keeps room s = same-paid v w room s.2
@@ -236,7 +242,8 @@ module _ {T A G J : Type 0} (here : Env T A J) (law : KeepsLaw here.rule) where
   step-paid v w (Splice i j steps xs lower) (Refused cause) keeps room s = same-paid v w room s.1.2
   step-paid v w command reply keeps room s = absurd s.1
 
-  pub runs-paid : (v w : Thin T A) (commands : List (Command T A G)) (replies : List (Reply T A G))
+  pub runs-paid : (v w : ListView T A) (commands : List (Command T A G))
+      (replies : List (Reply T A G))
       → All KeepsCheap commands → length v.items ≤ v.capacity → Runs here v commands replies w
       → IsPaid v w
   runs-paid v w commands replies only room run =

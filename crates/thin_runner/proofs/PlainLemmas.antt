@@ -9,9 +9,9 @@ use Rattle.std.specs.List.{AllByRecursion, AllZip, dedup, each_same, fold, repla
 use Rattle.std.specs.Option.{option_map_or, option_to_list}
 use Rattle.std.specs.Prelude.{replicate, slice_range}
 use Rattle.thin_vec.specs.List.Clones.{ClonesEqual, IsResized}
-use Rattle.thin_vec.specs.Edits.Retain.{Verdicts, left_at, stay}
-use Rattle.thin_vec.specs.ThinVec.{Thin}
-use Rattle.thin_vec.proofs.RetainLemmas.{left_at-append, left_at-stay}
+use Rattle.thin_vec.specs.Edits.Retain.{TestResults, items_where, all_kept}
+use Rattle.thin_vec.specs.ThinVec.{ListView}
+use Rattle.thin_vec.proofs.RetainLemmas.{items_where-append, items_where-stay}
 use Rattle.thin_runner.specs.Env.{Env}
 use Rattle.thin_runner.specs.Plain.{reference_step, in_range, items_after, plain_step, reply_to, says, observed, yields}
 use Rattle.thin_runner.specs.Replies.{IsGranted}
@@ -97,18 +97,20 @@ module _ {T : Type 0} where
         r.shorter less ∙ sym (ap (λ n. take k xs ++ replicate n x) none ∙ append-nil (take k xs))
   ]
 
-  left-keep_outside : (xs : List T) (a b : ℕ) (verdicts : Verdicts T)
-      → left_at true (keep_outside xs a b verdicts) ≡ replace_range xs a b (left_at true verdicts)
-  left-keep_outside xs a b verdicts =
+  left-keep_outside : (xs : List T) (a b : ℕ) (results : TestResults T)
+      → items_where true (keep_outside xs a b results) ≡ replace_range xs a b
+      (items_where true results)
+  left-keep_outside xs a b results =
       let before : List T = take a xs in
-      let kept : List T = left_at true verdicts in
+      let kept : List T = items_where true results in
       let after : List T = drop b xs in
-      left_at-append (stay before) (verdicts ++ stay after)
-      ∙ ((λ i. left_at-stay before i ++ left_at-append verdicts (stay after) i)
-      ∙ ((λ i. before ++ (kept ++ left_at-stay after i)) ∙ sym (append_assoc before kept after)))
+      items_where-append (all_kept before) (results ++ all_kept after)
+      ∙ ((λ i. items_where-stay before i ++ items_where-append results (all_kept after) i)
+      ∙ ((λ i. before ++ (kept ++ items_where-stay after i))
+      ∙ sym (append_assoc before kept after)))
 
 module _ {T A G J : Type 0} (here : Env T A J) (equal : ClonesEqual here.clones) where
-  does-reference_step : (v w : Thin T A) (command : Command T A G) (reply : Reply T A G)
+  does-reference_step : (v w : ListView T A) (command : Command T A G) (reply : Reply T A G)
       → IsGranted reply → Does here v command reply w
       → (observed reply, w.items) ≡ reference_step here v.items command
   does-reference_step v w (Push x) Done ok d = λ j. (says Done, (d.1 j).items)
@@ -161,14 +163,14 @@ module _ {T A G J : Type 0} (here : Env T A J) (equal : ClonesEqual here.clones)
       λ j. (yields (d.0 j), (d.1 j).items)
   does-reference_step v w (ExtractIf a b k) (Answers answers) ok d =
       let results = extract_results here.model.take here.judge k (slice_range v.items a b) in
-      let left : w.items ≡ replace_range v.items a b (left_at true results) =
+      let left : w.items ≡ replace_range v.items a b (items_where true results) =
       (λ j. (d.1 j).items) ∙ left-keep_outside v.items a b results in
       λ j. (yields (d.0 j), left j)
   does-reference_step v w (Splice a b steps xs lower) (Answers answers) ok d =
       λ j. (yields (d.0 j), d.1.items j)
   does-reference_step v w command reply ok d = absurd d
 
-  step-plain : (v w : Thin T A) (command : Command T A G) (reply : Reply T A G)
+  step-plain : (v w : ListView T A) (command : Command T A G) (reply : Reply T A G)
       → IsGranted reply → Steps here v command reply w
       → (observed reply, w.items) ≡ plain_step here v.items command
   step-plain v w command (OutOfRange back) ok s =
@@ -183,7 +185,8 @@ module _ {T A G J : Type 0} (here : Env T A J) (equal : ClonesEqual here.clones)
       ∙ sym (cond-true (in_range v.items command) (reference_step here v.items command)
       (says (OutOfRange command), v.items) inside)
 
-  pub run-plain : (v w : Thin T A) (commands : List (Command T A G)) (replies : List (Reply T A G))
+  pub run-plain : (v w : ListView T A) (commands : List (Command T A G))
+      (replies : List (Reply T A G))
       → All IsGranted replies → Runs here v commands replies w
       → (w.items ≡ fold (items_after here) v.items commands)
       × (map observed replies ≡ scan (items_after here) (reply_to here) v.items commands)

@@ -3,7 +3,7 @@ use Rattle.std.proofs.Common.{◌≡◌, ℕ, ◌+◌, List, [], ◌∷◌, ◌+
 use Rattle.std.proofs.lemmas.List.{append-nil}
 use Rattle.std.proofs.lemmas.List.Elements.{All-head, All-tail}
 use Rattle.std.specs.Prelude.{All}
-use Rattle.thin_vec.specs.ThinVec.{Thin}
+use Rattle.thin_vec.specs.ThinVec.{ListView}
 use Rattle.thin_runner.specs.Steps.{Steps}
 use Rattle.thin_runner.specs.Env.{Env}
 use Rattle.thin_runner.specs.Run.{Runs}
@@ -18,15 +18,15 @@ module _ {T A G : Type 0} (count : Command T A G → Reply T A G → ℕ) where
 
 module _ {T A G J : Type 0} (here : Env T A J) where
   -- A run of `commands` that need not have ended: those in `left` have not been carried out.
-  pub record HasRun (old : Thin T A) (commands left : List (Command T A G))
-      (before after : List (Reply T A G)) (new : Thin T A) : Type 0 where
+  pub record HasRun (old : ListView T A) (commands left : List (Command T A G))
+      (before after : List (Reply T A G)) (new : ListView T A) : Type 0 where
     pub done : List (Command T A G)
     pub replies : List (Reply T A G)
     pub split : commands ≡ done ++ left
     pub appended : after ≡ before ++ replies
     pub ran : Runs here old done replies new
 
-  pub HasRun-none : (old : Thin T A) (commands left : List (Command T A G))
+  pub HasRun-none : (old : ListView T A) (commands left : List (Command T A G))
       (before after : List (Reply T A G)) → left ≡ commands → after ≡ before
       → HasRun old commands left before after old
   HasRun-none old commands left before after all same = record {
@@ -37,7 +37,7 @@ module _ {T A G J : Type 0} (here : Env T A J) where
     ran = refl;
   }
 
-  pub runs-append : (old mid new : Thin T A) (commands more : List (Command T A G))
+  pub runs-append : (old mid new : ListView T A) (commands more : List (Command T A G))
       (replies further : List (Reply T A G)) → Runs here old commands replies mid
       → Runs here mid more further new → Runs here old (commands ++ more) (replies ++ further) new
   runs-append old mid new [] more [] further first second =
@@ -48,9 +48,9 @@ module _ {T A G J : Type 0} (here : Env T A J) where
   )
   runs-append old mid new commands more replies further first second = absurd first
 
-  module _ (mid new : Thin T A) (command : Command T A G) (reply : Reply T A G)
+  module _ (mid new : ListView T A) (command : Command T A G) (reply : Reply T A G)
       (stepped : Steps here mid command reply new) where
-    pub HasRun-push : {old : Thin T A} {commands left left' : List (Command T A G)}
+    pub HasRun-push : {old : ListView T A} {commands left left' : List (Command T A G)}
         {before after after' : List (Reply T A G)} → HasRun old commands left before after mid
         → left ≡ command ∷ left' → after' ≡ after ++ reply ∷ []
         → HasRun old commands left' before after' new
@@ -67,12 +67,12 @@ module _ {T A G J : Type 0} (here : Env T A J) where
         }
 
   -- Each command that satisfies `Only` keeps `Holds`, and adds its `count` to the number.
-  module _ (Holds : ℕ → Thin T A → Type 0) (Only : Command T A G → Type 0)
+  module _ (Holds : ℕ → ListView T A → Type 0) (Only : Command T A G → Type 0)
       (count : Command T A G → Reply T A G → ℕ)
-      (step : (n : ℕ) (v w : Thin T A) (command : Command T A G) (reply : Reply T A G)
+      (step : (n : ℕ) (v w : ListView T A) (command : Command T A G) (reply : Reply T A G)
       → Only command → Holds n v → Steps here v command reply w
       → Holds (n + count command reply) w) where
-    pub runs-keep : (n : ℕ) (v w : Thin T A) (commands : List (Command T A G))
+    pub runs-keep : (n : ℕ) (v w : ListView T A) (commands : List (Command T A G))
         (replies : List (Reply T A G)) → All Only commands → Holds n v
         → Runs here v commands replies w → Holds (n + counted count commands replies) w
     runs-keep n v w [] [] only h r =

@@ -4,8 +4,8 @@ use Rattle.std.proofs.Common.{◌≡◌, ℕ, ◌+◌, ◌*◌, ◌≤◌, max, 
 use Rattle.std.proofs.lemmas.Bool.{cases_lt}
 use Rattle.std.proofs.lemmas.List.{length_push}
 use Rattle.std.proofs.lemmas.List.Elements.{All-head, All-tail}
-use Rattle.thin_vec.specs.Growth.{KeepsLaw, Rule, doubling, ruled_capacity}
-use Rattle.thin_vec.specs.ThinVec.{Thin}
+use Rattle.thin_vec.specs.Growth.{IsLawful, GrowthRule, doubling, grown_capacity}
+use Rattle.thin_vec.specs.ThinVec.{ListView}
 use Rattle.thin_vec.proofs.CallerLemmas.{doubling-most}
 use Rattle.thin_vec.proofs.ThinVecLemmas.{cap-kept}
 use Rattle.thin_runner.specs.Env.{Env}
@@ -22,15 +22,15 @@ slack-join : (before mid after len long rest : ℕ) → mid ≤ max before (max 
     → after ≤ max before (max 4 (2 * max len rest))
 slack-join before mid after len long rest first later less = omega (arith, first, later, less)
 
-module _ {T A G J : Type 0} (here : Env T A J) (law : KeepsLaw here.rule)
+module _ {T A G J : Type 0} (here : Env T A J) (law : IsLawful here.rule)
     (doubles : here.rule ≡ doubling) where
-  step-slack : (v w : Thin T A) (command : Command T A G) (reply : Reply T A G)
+  step-slack : (v w : ListView T A) (command : Command T A G) (reply : Reply T A G)
       → IsPushOrPop command → Steps here v command reply w
       → w.capacity ≤ max v.capacity (max 4 (2 * length w.items))
   step-slack v w (Push x) Done only s =
       let want : ℕ = length v.items + 1 in
-      let next : ruled_capacity doubling here.R v.capacity want ≡ Some w.capacity =
-      subst (λ (r : Rule). ruled_capacity r here.R v.capacity want ≡ Some w.capacity) doubles
+      let next : grown_capacity doubling here.R v.capacity want ≡ Some w.capacity =
+      subst (λ (r : GrowthRule). grown_capacity r here.R v.capacity want ≡ Some w.capacity) doubles
       s.1.0 in
       let items : length w.items ≡ want = ap (λ z. length z.items) s.1.1 ∙ length_push v.items x in
       elim (cases_lt v.capacity want) [
@@ -49,12 +49,13 @@ module _ {T A G J : Type 0} (here : Env T A J) (law : KeepsLaw here.rule)
   step-slack v w Pop reply only s = absurd s.1
   step-slack v w command reply only s = absurd only
 
-  peak-first : (v w : Thin T A) (commands : List (Command T A G)) (replies : List (Reply T A G))
+  peak-first : (v w : ListView T A) (commands : List (Command T A G)) (replies : List (Reply T A G))
       (run : Runs here v commands replies w) → length v.items ≤ peak here v w commands replies run
   peak-first v w (c ∷ commands) (r ∷ replies) run = omega arith
   peak-first v w commands replies run = omega arith
 
-  pub runs-slack : (v w : Thin T A) (commands : List (Command T A G)) (replies : List (Reply T A G))
+  pub runs-slack : (v w : ListView T A) (commands : List (Command T A G))
+      (replies : List (Reply T A G))
       → All IsPushOrPop commands → (run : Runs here v commands replies w)
       → w.capacity ≤ max v.capacity (max 4 (2 * peak here v w commands replies run))
   runs-slack v w [] [] only run = omega (arith, ap (λ z. z.capacity) run)

@@ -8,13 +8,13 @@ use Rattle.std.specs.Borrow.{RattleType}
 use Rattle.std.specs.declared.iter.Iterator.{can_next-default}
 use Rattle.std.specs.Option.{option_to_list}
 use Rattle.std.specs.Prelude.{◌⊎◌, IsSome, MatchOption}
-use Rattle.thin_vec.specs.List.Extend.{CostsAdding, GrowsFor}
-use Rattle.thin_vec.specs.List.Capacity.{Keeps}
-use Rattle.thin_vec.specs.Edits.Splice.{Stopped, left_of}
+use Rattle.thin_vec.specs.List.Extend.{CostsInserting, ExtendsCapacity}
+use Rattle.thin_vec.specs.List.Capacity.{PreservesList}
+use Rattle.thin_vec.specs.Edits.Splice.{SpliceErrorAccountsFor, without_middle}
 use Rattle.thin_vec.specs.declared.SpliceRefused.{SpliceRefused}
-use Rattle.thin_vec.specs.Growth.{Rule}
-use Rattle.thin_vec.specs.Open.{Open}
-use Rattle.thin_vec.specs.ThinVec.{HasRoomFor, Thin}
+use Rattle.thin_vec.specs.Growth.{GrowthRule}
+use Rattle.thin_vec.specs.Open.{OpenView}
+use Rattle.thin_vec.specs.ThinVec.{HasRoomFor, ListView}
 use Rattle.thin_vec.specs.declared.ThinVecError.{ThinVecError}
 use Rattle.thin_runner.specs.Hinted.{HintedSteps, hinted_claim, hinted_count, hinted_items}
 use Rattle.thin_runner.specs.commands.Splices.{Replaces, StopsBetween, without_range}
@@ -42,7 +42,8 @@ module _ {T A : Type 0} (s : Hinted T A) (placed : List T)
     (error : SpliceRefused T (Hinted T A) A) where
   -- `finish` failed with `error`, after it had moved the items `placed` from `s` into the list.
   abbrev pub Broke : Type 0
-  Broke = Stopped (HintedSteps {T = T} {A = A}) (can_next-default (Hinted T A) T) hinted_count s
+  Broke = SpliceErrorAccountsFor (HintedSteps {T = T} {A = A})
+      (can_next-default (Hinted T A) T) hinted_count s
       placed error
 
   pub stopped-items : Broke → hinted_items s ≡ placed
@@ -73,18 +74,18 @@ module _ {T A : Type 0} (s : Hinted T A) (placed : List T)
   stopped-ended (inl gave) none some = absurd (omega (arith, ap length (gave.1 none), some))
   stopped-ended (inr ended) none some = ended.2.2.0.1
 
-module _ {T A : Type 0} (old : Thin T A) (a b : ℕ) where
+module _ {T A : Type 0} (old : ListView T A) (a b : ℕ) where
   -- `block` is the open block of a splice of the items `a..b` of `old`, and `alloc` is its
   -- allocator.
-  pub record IsOpened (block : Open T A) (alloc : A) : Type 0 where
+  pub record IsOpened (block : OpenView T A) (alloc : A) : Type 0 where
     pub front : block.front ≡ take a old.items
     pub tail : block.tail ≡ drop b old.items
     pub capacity : block.capacity ≡ old.capacity
     pub same : alloc ≡ old.alloc
     pub cost : block.cost ≡ old.cost
 
-  module _ (block : Open T A) (alloc : A) (is : IsOpened block alloc) where
-    pub left-is : left_of block alloc ≡ without_range old a b
+  module _ (block : OpenView T A) (alloc : A) (is : IsOpened block alloc) where
+    pub left-is : without_middle block alloc ≡ without_range old a b
     left-is = λ i. record {
       items = is.front i ++ is.tail i;
       capacity = is.capacity i;
@@ -102,42 +103,45 @@ module _ {T A : Type 0} (old : Thin T A) (a b : ℕ) where
     no-tail all = no-items block.tail (omega (arith, tail-count, all))
 
     pub room-left : (most size : ℕ) → size ≡ most → HasRoomFor (without_range old a b) most
-        → HasRoomFor (left_of block alloc) size
+        → HasRoomFor (without_middle block alloc) size
     room-left most size count room =
-        subst (λ (n : ℕ). HasRoomFor (left_of block alloc) n) (sym count)
-        (subst (λ (v : Thin T A). HasRoomFor v most) (sym left-is) room)
+        subst (λ (n : ℕ). HasRoomFor (without_middle block alloc) n) (sym count)
+        (subst (λ (v : ListView T A). HasRoomFor v most) (sym left-is) room)
 
-module _ {T A : Type 0} {rule : Rule} {R : RattleType} {old : Thin T A} {a b : ℕ} where
+module _ {T A : Type 0} {rule : GrowthRule} {R : RattleType} {old : ListView T A} {a b : ℕ} where
   -- The clauses of `extend` and `finish` speak of a list `v` that is `old` without the range
   -- `a..b`.
-  pub replaces : {new v : Thin T A} {placed : List T} {left : Count} {most extra : ℕ}
-      → new.items ≡ (take a old.items ++ placed) ++ drop b old.items → GrowsFor rule R v new left
-      → CostsAdding v new extra → Keeps R v new → v ≡ without_range old a b → left ≡ at_most most
+  pub replaces : {new v : ListView T A} {placed : List T} {left : Count} {most extra : ℕ}
+      → new.items ≡ (take a old.items ++ placed) ++ drop b old.items
+      → ExtendsCapacity rule R v new left
+      → CostsInserting v new extra → PreservesList R v new → v ≡ without_range old a b
+      → left ≡ at_most most
       → extra ≡ 2 * (length old.items - b) → Replaces rule R old a b placed most new
   replaces {new} {v} {placed} {left} {most} {extra} items grows cost keeps same count double =
       record {
         items = items;
-        capacity = subst (λ (u : Thin T A). GrowsFor rule R u new (at_most most)) same
-            (subst (λ (n : Count). GrowsFor rule R v new n) count grows);
-        cost = subst (λ (u : Thin T A). CostsAdding u new (2 * (length old.items - b))) same
-            (subst (λ (n : ℕ). CostsAdding v new n) double cost);
-        keeps = subst (λ (u : Thin T A). Keeps R u new) same keeps;
+        capacity = subst (λ (u : ListView T A). ExtendsCapacity rule R u new (at_most most)) same
+            (subst (λ (n : Count). ExtendsCapacity rule R v new n) count grows);
+        cost = subst (λ (u : ListView T A). CostsInserting u new (2 * (length old.items - b))) same
+            (subst (λ (n : ℕ). CostsInserting v new n) double cost);
+        keeps = subst (λ (u : ListView T A). PreservesList R u new) same keeps;
       }
 
-  pub replaces-of : {v w : Thin T A} {placed : List T} {most : ℕ} → v ≡ w
+  pub replaces-of : {v w : ListView T A} {placed : List T} {most : ℕ} → v ≡ w
       → Replaces rule R old a b placed most v → Replaces rule R old a b placed most w
   replaces-of {placed = placed} {most} same =
-      subst (λ (u : Thin T A). Replaces rule R old a b placed most u) same
+      subst (λ (u : ListView T A). Replaces rule R old a b placed most u) same
 
-  pub stops-of : {v w : Thin T A} {xs held : List T} {lower : ℕ} {cause : ThinVecError}
+  pub stops-of : {v w : ListView T A} {xs held : List T} {lower : ℕ} {cause : ThinVecError}
       {in_hand : Option T} {rest : Hinted T A} → v ≡ w
       → StopsBetween rule R old a b xs held lower cause in_hand rest v
       → StopsBetween rule R old a b xs held lower cause in_hand rest w
   stops-of {xs = xs} {held} {lower} {cause} {in_hand} {rest} same =
-      subst (λ (u : Thin T A). StopsBetween rule R old a b xs held lower cause in_hand rest u) same
+      subst (λ (u : ListView T A). StopsBetween rule R old a b xs held lower cause in_hand rest u)
+      same
 
 -- These lemmas are about the empty range at the end of a list.
-module _ {T A : Type 0} (old : Thin T A) where
+module _ {T A : Type 0} (old : ListView T A) where
   pub without_range-end : without_range old (length old.items) (length old.items) ≡ old
   without_range-end = λ i. record old { items = take-append-drop (length old.items) old.items i }
 
@@ -147,7 +151,7 @@ module _ {T A : Type 0} (old : Thin T A) where
       × HasRoomFor (without_range old (length old.items) (length old.items)) most) → P
   places-end P most none fits (inl few) = none (omega (arith, few))
   places-end P most none fits (inr room) =
-      fits (subst (λ (v : Thin T A). HasRoomFor v most) without_range-end room.1)
+      fits (subst (λ (v : ListView T A). HasRoomFor v most) without_range-end room.1)
 
 pub at-end : {T : Type 0} (xs ys : List T)
     → (take (length xs) xs ++ ys) ++ drop (length xs) xs ≡ xs ++ ys

@@ -2,7 +2,7 @@
 use Rattle.std.proofs.Common.{◌≡◌, ℕ, List, [], ◌∷◌}
 use Rattle.std.specs.List.{AllZip}
 use Rattle.thin_vec.specs.List.Clones.{ClonesEqual, IsResized}
-use Rattle.thin_vec.specs.ThinVec.{Thin}
+use Rattle.thin_vec.specs.ThinVec.{ListView}
 use Rattle.thin_runner.specs.Env.{Env}
 use Rattle.thin_runner.specs.Run.{Runs}
 use Rattle.thin_runner.specs.Steps.{Steps}
@@ -28,7 +28,7 @@ module _ {T : Type 0} (clones like : T → T → Type 0)
 
 module _ {T A G J : Type 0} (here : Env T A J) (like : T → T → Type 0)
     (weaker : (x y : T) → here.clones x y → like x y) where
-  pub step-weaker : (old new : Thin T A) (command : Command T A G) (reply : Reply T A G)
+  pub step-weaker : (old new : ListView T A) (command : Command T A G) (reply : Reply T A G)
       → Steps here old command reply new
       → Steps (record here { clones = like }) old command reply new
   step-weaker old new (Resize k v) Done s =
@@ -40,7 +40,7 @@ module _ {T A G J : Type 0} (here : Env T A J) (like : T → T → Type 0)
       (s.0, (zip-weaker here.clones like weaker old.items copy.items s.1.0, s.1.1, s.1.2))
   step-weaker old new command reply s = s
 
-  pub run-weaker : (old new : Thin T A) (commands : List (Command T A G))
+  pub run-weaker : (old new : ListView T A) (commands : List (Command T A G))
       (replies : List (Reply T A G)) → Runs here old commands replies new
       → Runs (record here { clones = like }) old commands replies new
   run-weaker old new [] [] run = run
@@ -50,7 +50,7 @@ module _ {T A G J : Type 0} (here : Env T A J) (like : T → T → Type 0)
   run-weaker old new commands replies run = absurd run
 
 module _ {T A G J : Type 0} (here : Env T A J) (equal : ClonesEqual here.clones) where
-  pub run-equal : (old new : Thin T A) (commands : List (Command T A G))
+  pub run-equal : (old new : ListView T A) (commands : List (Command T A G))
       (replies : List (Reply T A G)) → Runs here old commands replies new
       → Runs (record here { clones = λ x y. y ≡ x }) old commands replies new
   run-equal = run-weaker here (λ x y. y ≡ x) equal

@@ -2,7 +2,7 @@
 -- and the allocator.
 use Rattle.std.specs.Prelude.{Bool}
 use Rattle.std.specs.Borrow.{RattleType}
-use Rattle.thin_vec.specs.Growth.{Rule}
+use Rattle.thin_vec.specs.Growth.{GrowthRule}
 use Rattle.thin_runner.specs.Judge.{CallbackModel}
 
 -- The environment of a command, for items `T`, allocators `A` and judges `J`.
@@ -15,7 +15,7 @@ pub record Env (T A J : Type 0) : Type 1 where
   -- `model` contains the functions that describe the decisions of the judge. `rule` is the growth
   -- rule. `R` is the type of the items, with its size and alignment.
   pub model : CallbackModel T J
-  pub rule : Rule
+  pub rule : GrowthRule
   pub R : RattleType
   -- `alloc` is the allocator for the lists and vectors that commands make. `judge` is the judge
   -- that was passed to `run` or `step`. Each command that uses a judge starts with a copy of this
@@ -25,7 +25,7 @@ pub record Env (T A J : Type 0) : Type 1 where
 
 -- `env` makes an `Env` from the values of its fields.
 abbrev pub env : {T A J : Type 0} → (T → T → Type 0) → (T → Type 0) → (T → T → Bool)
-    → CallbackModel T J → Rule → RattleType → A → J → Env T A J
+    → CallbackModel T J → GrowthRule → RattleType → A → J → Env T A J
 env clones infallible eq model rule R alloc judge =
     record {
       clones = clones;

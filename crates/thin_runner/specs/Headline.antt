@@ -5,7 +5,7 @@ use Rattle.std.specs.Prelude.{◌≡◌, ◌+◌, ◌*◌, ◌<◌, ◌≤◌, L
 use Rattle.thin_vec.specs.Cheap.{IsCheap}
 use Rattle.thin_vec.specs.List.Clones.{ClonesEqual}
 use Rattle.thin_vec.specs.Growth.{doubling}
-use Rattle.thin_vec.specs.ThinVec.{IsNew, IsWithin, Thin}
+use Rattle.thin_vec.specs.ThinVec.{IsNew, IsBounded, ListView}
 use Rattle.thin_runner.specs.Env.{Env}
 use Rattle.thin_runner.specs.Plain.{items_after, reply_to, observed}
 use Rattle.thin_runner.specs.Replies.{IsGranted}
@@ -17,8 +17,8 @@ module _ {T A G J : Type 0} (here : Env T A J) where
   -- `Headline` states the main theorem about a run of `commands` that turned the list `old` into
   -- `new`. The list `after` contains the replies that were in the list `before`, followed by the
   -- replies of the run.
-  pub record Headline (old : Thin T A) (commands : List (Command T A G))
-      (before after : List (Reply T A G)) (new : Thin T A) : Type 0 where
+  pub record Headline (old : ListView T A) (commands : List (Command T A G))
+      (before after : List (Reply T A G)) (new : ListView T A) : Type 0 where
     -- The replies to the commands of the run, without the earlier replies in `before`.
     pub replies : List (Reply T A G)
     pub appended : after ≡ before ++ replies
@@ -33,7 +33,7 @@ module _ {T A G J : Type 0} (here : Env T A J) where
     pub allowed : Runs here old commands replies new
     -- The items of the list `new` fit into its capacity. An allocation with this capacity does not
     -- exceed the size limit for allocations.
-    pub within : IsWithin here.R new
+    pub within : IsBounded here.R new
     -- If no command is `ReserveExact` or `ShrinkToFit`, then a list that was cheap (`IsCheap`)
     -- before the run is also cheap after it. A list is cheap if growing it has cost little. Every
     -- new list is cheap.

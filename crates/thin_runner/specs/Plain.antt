@@ -3,7 +3,7 @@
 use Rattle.std.specs.Prelude.{◌-◌, Bool, true, false, ◌&&◌, List, [], ◌∷◌, ◌++◌, Option, None, drop, if◌then◌else◌, insert, length, nat_le, nat_lt, remove, replicate, slice_get, slice_range, slice_set, take}
 use Rattle.std.specs.List.{dedup, remove_range, replace_range, swap_remove}
 use Rattle.std.specs.Option.{option_map_or, unwrap_or}
-use Rattle.thin_vec.specs.Edits.Retain.{left_at}
+use Rattle.thin_vec.specs.Edits.Retain.{items_where}
 use Rattle.thin_runner.specs.Env.{Env}
 use Rattle.thin_runner.specs.commands.Filters.{filter_results, extract_results}
 use Rattle.thin_runner.specs.commands.Ranges.{ends_taken}
@@ -73,15 +73,15 @@ module _ {T A G J : Type 0} (here : Env T A J) where
       (yields (ends_taken (slice_range xs a b) steps.items), remove_range xs a b)
   reference_step xs (ExtractIf a b k) =
       let results = extract_results here.model.take here.judge k (slice_range xs a b) in (
-        yields (ends_taken (left_at false results) (replicate k Front)),
-        replace_range xs a b (left_at true results),
+        yields (ends_taken (items_where false results) (replicate k Front)),
+        replace_range xs a b (items_where true results),
       )
   reference_step xs (Splice a b steps ys lower) =
       (yields (ends_taken (slice_range xs a b) steps.items), replace_range xs a b ys.items)
   -- This case is about `Retain`, `RetainMut`, `DedupBy` and `DedupByKey`, which test the items and
   -- remove some of them.
   reference_step xs command =
-      (says Done, left_at true (unwrap_or (filter_results here xs command) []))
+      (says Done, items_where true (unwrap_or (filter_results here xs command) []))
 
   -- `plain_step xs command` is a pair: the reply to a command that runs on a list with the items
   -- `xs` and does not fail, and the items after this command. The reply is a value of the type

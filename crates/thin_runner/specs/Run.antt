@@ -2,9 +2,9 @@
 -- may get, and how many items they may move.
 use Rattle.std.specs.Prelude.{◌≡◌, ℕ, ◌+◌, ◌-◌, ◌*◌, ◌==◌, List, [], ◌∷◌, None, if◌then◌else◌, length, max, slice_range}
 use Rattle.std.specs.Option.{unwrap_or}
-use Rattle.thin_vec.specs.ThinVec.{Thin}
+use Rattle.thin_vec.specs.ThinVec.{ListView}
 use Rattle.thin_runner.specs.Env.{Env}
-use Rattle.thin_vec.specs.Edits.Retain.{flags_of, moved_down}
+use Rattle.thin_vec.specs.Edits.Retain.{flags_of, moves_of_retain}
 use Rattle.thin_runner.specs.Steps.{Steps}
 use Rattle.thin_runner.specs.commands.Filters.{filter_results, keep_outside, extract_results}
 use Rattle.thin_runner.specs.declared.command.Command.{Command}
@@ -36,10 +36,10 @@ module _ {T A G : Type 0} where
 module _ {T A G J : Type 0} (here : Env T A J) where
   -- `Runs old commands replies new` holds if the commands, carried out in order, may turn the list
   -- `old` into `new` and get these replies.
-  abbrev pub Runs : Thin T A → List (Command T A G) → List (Reply T A G) → Thin T A → Type 0
+  abbrev pub Runs : ListView T A → List (Command T A G) → List (Reply T A G) → ListView T A → Type 0
   Runs old [] [] new = new ≡ old
   Runs old (command ∷ commands) (reply ∷ replies) new =
-      (mid : Thin T A) × (Steps here old command reply mid × Runs mid commands replies new)
+      (mid : ListView T A) × (Steps here old command reply mid × Runs mid commands replies new)
   Runs old commands replies new = ⊥
 
   -- `may_move xs command reply` is an upper bound on the number of items that the command moves.
@@ -58,21 +58,22 @@ module _ {T A G J : Type 0} (here : Env T A J) where
   may_move xs (Drain a b steps) (Answers answers) = if a == b then 0 else length xs - b
   may_move xs (ExtractIf a b k) (Answers answers) =
       let results = extract_results here.model.take here.judge k (slice_range xs a b) in
-      moved_down (flags_of (keep_outside xs a b results))
+      moves_of_retain (flags_of (keep_outside xs a b results))
   may_move xs (Splice a b steps ys lower) (Refused cause) = 0
   may_move xs (Splice a b steps ys lower) reply = 2 * (length xs - b) + length ys.items
-  may_move xs command reply = moved_down (flags_of (unwrap_or (filter_results here xs command) []))
+  may_move xs command reply =
+      moves_of_retain (flags_of (unwrap_or (filter_results here xs command) []))
 
   -- `run_may_move` is the sum of the bounds `may_move` of all commands of a run. It is an upper
   -- bound on the number of items that the run moves.
-  abbrev pub run_may_move : (old new : Thin T A) (commands : List (Command T A G))
+  abbrev pub run_may_move : (old new : ListView T A) (commands : List (Command T A G))
       (replies : List (Reply T A G)) → Runs old commands replies new → ℕ
   run_may_move old new (command ∷ commands) (reply ∷ replies) run =
       may_move old.items command reply + run_may_move run.0 new commands replies run.1.1
   run_may_move old new commands replies run = 0
 
   -- `peak` is the greatest length of the list before, during and after a run.
-  abbrev pub peak : (old new : Thin T A) (commands : List (Command T A G))
+  abbrev pub peak : (old new : ListView T A) (commands : List (Command T A G))
       (replies : List (Reply T A G)) → Runs old commands replies new → ℕ
   peak old new (command ∷ commands) (reply ∷ replies) run =
       max (length old.items) (peak run.0 new commands replies run.1.1)

@@ -5,10 +5,10 @@ use Rattle.std.specs.Prelude.{◌≡◌, Bool, ◌+◌, ◌-◌, ◌==◌, ◌<�
 use Rattle.std.specs.List.{AllZip, AppendsClones, remove_range, swap_remove}
 use Rattle.std.specs.Option.{option_to_list}
 use Rattle.thin_vec.specs.List.Clones.{IsResized}
-use Rattle.thin_vec.specs.Edits.Retain.{left_at}
-use Rattle.thin_vec.specs.ThinVec.{Thin, capacity_for, cost_shrunk, exact_for}
+use Rattle.thin_vec.specs.Edits.Retain.{items_where}
+use Rattle.thin_vec.specs.ThinVec.{ListView, capacity_after_reserve, cost_shrunk, capacity_after_reserve_exact}
 use Rattle.thin_vec.specs.declared.ThinVecError.TheVariants.{OutOfMemory}
-use Rattle.thin_vec.specs.Growth.{Rule}
+use Rattle.thin_vec.specs.Growth.{GrowthRule}
 use Rattle.thin_runner.specs.Env.{Env, env}
 use Rattle.thin_runner.specs.Judge.{CallbackModel}
 use Rattle.thin_runner.specs.commands.Items.{ReservesAndSets, Refuses, set_capacity, set_items}
@@ -41,16 +41,16 @@ module _ {T A G : Type 0} where
 module _ {T A G J : Type 0} (here : Env T A J) where
   -- `Does old command reply new` holds if `command` may turn the list `old` into `new` and return
   -- `reply`. The definition assumes that the index or the range of the command is in bounds.
-  abbrev pub Does : Thin T A → Command T A G → Reply T A G → Thin T A → Type 0
+  abbrev pub Does : ListView T A → Command T A G → Reply T A G → ListView T A → Type 0
   Does old (Push v) Done new = ReservesAndSets here old 1 (old.items ++ v ∷ []) 1 new
   Does old (Push v) (Returned w cause) new =
-      (w ≡ v) × Refuses (capacity_for here.rule here.R old 1) old 1 cause new
+      (w ≡ v) × Refuses (capacity_after_reserve here.rule here.R old 1) old 1 cause new
   Does old Pop (Item o) new = (IsSome o ↔ (0 < length old.items))
       × (old.items ≡ new.items ++ option_to_list o) × (new ≡ record old { items = new.items })
   Does old (Insert i v) Done new =
       ReservesAndSets here old 1 (insert old.items i v) (length old.items - i + 1) new
   Does old (Insert i v) (Returned w cause) new =
-      (w ≡ v) × Refuses (capacity_for here.rule here.R old 1) old 1 cause new
+      (w ≡ v) × Refuses (capacity_after_reserve here.rule here.R old 1) old 1 cause new
   Does old (Remove i) (Item (Some x)) new = (slice_get old.items i ≡ Some x)
       × (new ≡ set_items old (remove old.items i) (length old.items - (i + 1)))
   Does old (SwapRemove i) (Item (Some x)) new =
@@ -60,13 +60,16 @@ module _ {T A G J : Type 0} (here : Env T A J) where
       (slice_get old.items i ≡ Some x) × (new ≡ record old { items = slice_set old.items i v })
   Does old (Truncate k) Done new = new ≡ record old { items = take k old.items }
   Does old Clear Done new = new ≡ record old { items = [] }
-  Does old (Reserve k) Done new = (capacity_for here.rule here.R old k ≡ Some new.capacity)
+  Does old (Reserve k) Done new =
+      (capacity_after_reserve here.rule here.R old k ≡ Some new.capacity)
       × (new ≡ set_capacity old new.capacity)
   Does old (Reserve k) (Refused cause) new =
-      Refuses (capacity_for here.rule here.R old k) old k cause new
-  Does old (ReserveExact k) Done new = (exact_for here.R old k ≡ Some new.capacity)
+      Refuses (capacity_after_reserve here.rule here.R old k) old k cause new
+  Does old (ReserveExact k) Done new =
+      (capacity_after_reserve_exact here.R old k ≡ Some new.capacity)
       × (new ≡ set_capacity old new.capacity)
-  Does old (ReserveExact k) (Refused cause) new = Refuses (exact_for here.R old k) old k cause new
+  Does old (ReserveExact k) (Refused cause) new =
+      Refuses (capacity_after_reserve_exact here.R old k) old k cause new
   Does old ShrinkToFit Done new =
       new ≡ record old { capacity = length old.items; cost = cost_shrunk old }
   Does old ShrinkToFit (Refused cause) new = (0 < length old.items)
@@ -92,7 +95,7 @@ module _ {T A G J : Type 0} (here : Env T A J) where
       (back ≡ record given { items = [] })
       × ReservesAndSets here old more (old.items ++ given.items) more new
   Does old (Append given) (Other back (Some cause)) new = let more = length given.items in
-      (back ≡ given) × Refuses (capacity_for here.rule here.R old more) old more cause new
+      (back ≡ given) × Refuses (capacity_after_reserve here.rule here.R old more) old more cause new
   Does old (SplitOff i) (Made out) new =
       (out ≡ made here.alloc (drop i old.items)) × (new ≡ record old { items = take i old.items })
   Does old (SplitOff i) (Refused cause) new =
@@ -110,7 +113,7 @@ module _ {T A G J : Type 0} (here : Env T A J) where
   -- The calls to `next` on the `ExtractIf` return the extracted items in order, and then `None`.
   Does old (ExtractIf a b k) (Answers answers) new =
       let results = extract_results here.model.take here.judge k (slice_range old.items a b) in
-      (answers.items ≡ ends_taken (left_at false results) (replicate k Front))
+      (answers.items ≡ ends_taken (items_where false results) (replicate k Front))
       × (new ≡ filtered_list old (keep_outside old.items a b results))
   Does old (ExtractIf a b k) (Refused cause) new = (0 < k) × (cause ≡ OutOfMemory) × (new ≡ old)
   Does old (Splice a b steps xs lower) (Answers answers) new =
@@ -125,20 +128,20 @@ module _ {T A G J : Type 0} (here : Env T A J) where
   -- leaves only the kept items in the list.
   Does old command Done new =
       MatchOption (filter_results here old.items command) ⊥
-          (λ verdicts. new ≡ filtered_list old verdicts)
+      (λ results. new ≡ filtered_list old results)
   Does old command reply new = ⊥
 
   -- `Steps old command reply new` holds if the command may turn the list `old` into `new` and get
   -- this reply. If the index or the range of the command is out of bounds, the reply is
   -- `OutOfRange` and contains the command, and the list does not change.
-  abbrev pub Steps : Thin T A → Command T A G → Reply T A G → Thin T A → Type 0
+  abbrev pub Steps : ListView T A → Command T A G → Reply T A G → ListView T A → Type 0
   Steps old command (OutOfRange back) new =
       (back ≡ command) × ¬ (IsInRange old.items command) × (new ≡ old)
   Steps old command reply new = IsInRange old.items command × Does old command reply new
 
 -- `Allows` is `Steps` with the fields of the environment as parameters.
 abbrev pub Allows : {T A G J : Type 0} → (T → T → Type 0) → (T → Type 0) → (T → T → Bool)
-    → CallbackModel T J → Rule → RattleType → A → J
-    → Thin T A → Command T A G → Reply T A G → Thin T A → Type 0
+    → CallbackModel T J → GrowthRule → RattleType → A → J
+    → ListView T A → Command T A G → Reply T A G → ListView T A → Type 0
 Allows clones infallible eq model rule R alloc judge =
     Steps (env clones infallible eq model rule R alloc judge)

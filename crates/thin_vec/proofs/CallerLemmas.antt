@@ -9,19 +9,19 @@ use Rattle.std.specs.Prelude.{◌==◌, max, nat_lt, insert, remove, slice_get, 
 use Rattle.std.proofs.lemmas.Bool.{cases_lt}
 use Rattle.thin_block.specs.declared.errors.ThinVecError.{ThinVecError}
 use Rattle.thin_block.specs.declared.errors.ThinVecError.TheVariants.{CapacityOverflow, OutOfMemory}
-use Rattle.thin_block.specs.Capacity.{first, fits}
-use Rattle.thin_block.specs.Growth.{doubling, exact_capacity, fitting, ruled_capacity}
+use Rattle.thin_block.specs.Capacity.{min_non_zero_cap, fits}
+use Rattle.thin_block.specs.Growth.{doubling, exact_capacity, checked_capacity, grown_capacity}
 use Rattle.thin_block.proofs.CapacityLemmas.{exact-fits, exact-same, ruled-overflow, ruled-rule, ruled-same, small_fits}
-use Rattle.thin_block.proofs.Outcomes.{some-same}
-use Rattle.thin_vec.specs.List.Capacity.{Reserves, TellsOverflowOf}
-use Rattle.thin_vec.specs.ThinVec.{IsCause, Thin}
+use Rattle.thin_block.proofs.ResultLemmas.{some-same}
+use Rattle.thin_vec.specs.List.Capacity.{Reserves, OverflowsIffTooLarge}
+use Rattle.thin_vec.specs.ThinVec.{IsCauseOf, ListView}
 use Rattle.std.proofs.Math.Seq.{take-append_seam}
 use Rattle.std.specs.List.{refill}
 use Rattle.thin_vec.specs.Lends.{with_items}
 use Rattle.std.specs.Iterator.{DrainsIf}
 use Rattle.std.proofs.lemmas.Iterator.{YieldsList}
 use Rattle.std.proofs.lemmas.Iterator.Adapters.{fact_from_collect}
-use Rattle.thin_vec.specs.List.Extend.{IsMadeOf}
+use Rattle.thin_vec.specs.List.Extend.{IsCollectedFrom}
 
 -- If `n` and the size of an item in bytes are less than `2 ^ 31`, then `exact_capacity` returns the
 -- capacity `n` for a new list of `n` items.
@@ -38,14 +38,14 @@ none_some x e = cc
 -- `named` is the capacity that a call needs, or `None` if this capacity is too large. If a call
 -- fails with the error `cause`, and `named` is `Some n`, then `cause` is `OutOfMemory`.
 cause-named : (named : Option ℕ) (n : ℕ) (cause : ThinVecError) → named ≡ Some n
-    → IsCause named cause → cause ≡ OutOfMemory
+    → IsCauseOf named cause → cause ≡ OutOfMemory
 cause-named named n OutOfMemory here told = refl
 cause-named named n CapacityOverflow here told = none_some n (sym (told refl) ∙ here)
 
 -- If `n` and the size of an item in bytes are less than `2 ^ 31`, then creating a list with room
 -- for `n` items can fail only with `OutOfMemory`.
 pub few_items : {X : Type 0} (R : RattleType) (n : ℕ) (result : Result X ThinVecError)
-    → n < 2 ^ 31 → type_size R < 2 ^ 31 → TellsOverflowOf R n result
+    → n < 2 ^ 31 → type_size R < 2 ^ 31 → OverflowsIffTooLarge R n result
     → IfErr result (λ cause. cause ≡ OutOfMemory)
 few_items R n (Ok made) few small told = tt
 few_items R n (Err cause) few small told =
@@ -58,24 +58,25 @@ either_few : (b : Bool) (m n : ℕ) → m < 2 ^ 31 → n < 2 ^ 31 → (if b then
 either_few true m n few less = few
 either_few false m n few less = less
 
--- `first s`, the least capacity that the growth rule `doubling` chooses for the first block of a
--- list with items of `s` bytes, is less than `2 ^ 31`.
-first_few : (s : ℕ) → first s < 2 ^ 31
-unfolding first
+-- `min_non_zero_cap s`, the least capacity that the growth rule `doubling` chooses for the first
+-- block of a list with items of `s` bytes, is less than `2 ^ 31`.
+first_few : (s : ℕ) → min_non_zero_cap s < 2 ^ 31
+unfolding min_non_zero_cap
 first_few s = either_few (nat_lt (2 ^ 61 - 1) s) 1 4 (omega arith) (omega arith)
 
 -- Suppose that a list of capacity `c` needs room for `w` items. If `w` is less than `2 ^ 30`, and
 -- the size of an item in bytes is less than `2 ^ 31`, then the growth rule `doubling` chooses a
 -- capacity.
 pub doubling-few : (R : RattleType) (c w : ℕ) → w < 2 ^ 30 → type_size R < 2 ^ 31
-    → (n : ℕ) × (ruled_capacity doubling R c w ≡ Some n)
-unfolding doubling fitting
+    → (n : ℕ) × (grown_capacity doubling R c w ≡ Some n)
+unfolding doubling checked_capacity
 doubling-few R c w few small = elim (cases_lt c w) [
   | inl more ↦ (let s : ℕ = type_size R in
-      let twice : ℕ = if c == 0 then first s else 2 * c in
+      let twice : ℕ = if c == 0 then min_non_zero_cap s else 2 * c in
       let less : twice < 2 ^ 31 =
-      either_few (c == 0) (first s) (2 * c) (first_few s) (omega arith) in
-      let fit : fits s (type_align R) (max w (if c == 0 then first s else 2 * c)) ≡ true =
+      either_few (c == 0) (min_non_zero_cap s) (2 * c) (first_few s) (omega arith) in
+      let fit : fits s (type_align R) (max w (if c == 0 then min_non_zero_cap s else 2 * c))
+      ≡ true =
       small_fits R (max w twice) (omega (arith, less)) small in
       (max w twice, ruled-rule doubling R c w more (omega arith) ∙ rw fit refl))
   | inr enough ↦ (c, ruled-same doubling R c w enough)
@@ -84,13 +85,13 @@ doubling-few R c w few small = elim (cases_lt c w) [
 -- Suppose that a call reserves room for `k` more items in the list `v` under the growth rule
 -- `doubling`. If `length v.items + k` is less than `2 ^ 30`, and the size of an item in bytes is
 -- less than `2 ^ 31`, then the call can fail only with `OutOfMemory`.
-pub few_more : {X T A : Type 0} (R : RattleType) (k : ℕ) (v w : Thin T A)
+pub few_more : {X T A : Type 0} (R : RattleType) (k : ℕ) (v w : ListView T A)
     (result : Result X ThinVecError) → length v.items + k < 2 ^ 30 → type_size R < 2 ^ 31
     → Reserves doubling R k v w result → IfErr result (λ cause. cause ≡ OutOfMemory)
 few_more R k v w (Ok made) few small told = tt
 few_more R k v w (Err cause) few small told =
     let named = doubling-few R v.capacity (length v.items + k) few small in
-    cause-named (ruled_capacity doubling R v.capacity (length v.items + k)) named.0 cause named.1
+    cause-named (grown_capacity doubling R v.capacity (length v.items + k)) named.0 cause named.1
     (λ over. told.overflow.0 (ap Err over))
 
 -- If the value `if b then Some m else None` is equal to `Some n`, then `m` is equal to `n`.
@@ -103,26 +104,27 @@ either_most : (b : Bool) → (if b then 1 else 4) ≤ 4
 either_most true = omega arith
 either_most false = omega arith
 
--- `first s` is the least capacity that the growth rule `doubling` chooses for the first block of a
--- list with items of `s` bytes. It is at most 4.
-first_most : (s : ℕ) → first s ≤ 4
-unfolding first
+-- `min_non_zero_cap s` is the least capacity that the growth rule `doubling` chooses for the first
+-- block of a list with items of `s` bytes. It is at most 4.
+first_most : (s : ℕ) → min_non_zero_cap s ≤ 4
+unfolding min_non_zero_cap
 first_most s = either_most (nat_lt (2 ^ 61 - 1) s)
 
--- If `c < w`, then `first s` (the least capacity that the growth rule `doubling` chooses for the
--- first block of a list with items of `s` bytes) and `2 * c` are at most `max 4 (2 * w)`.
-twice-most : (b : Bool) (s c w : ℕ) → c < w → (if b then first s else 2 * c) ≤ max 4 (2 * w)
+-- If `c < w`, then `min_non_zero_cap s` (the least capacity that the growth rule `doubling` chooses
+-- for the first block of a list with items of `s` bytes) and `2 * c` are at most `max 4 (2 * w)`.
+twice-most : (b : Bool) (s c w : ℕ) → c < w
+    → (if b then min_non_zero_cap s else 2 * c) ≤ max 4 (2 * w)
 twice-most true s c w more = omega (arith, first_most s)
 twice-most false s c w more = omega (arith, more)
 
 -- Suppose that a list of capacity `c` needs room for `w` items, and that `c < w`. If the growth
 -- rule `doubling` chooses the capacity `n` for this list, then `n ≤ max 4 (2 * w)`.
-pub doubling-most : (R : RattleType) (c w n : ℕ) → c < w → ruled_capacity doubling R c w ≡ Some n
+pub doubling-most : (R : RattleType) (c w n : ℕ) → c < w → grown_capacity doubling R c w ≡ Some n
     → n ≤ max 4 (2 * w)
-unfolding doubling fitting
+unfolding doubling checked_capacity
 doubling-most R c w n more e = elim (cases_lt w (2 ^ 64)) [
   | inl word ↦ (let s : ℕ = type_size R in
-      let twice : ℕ = if c == 0 then first s else 2 * c in
+      let twice : ℕ = if c == 0 then min_non_zero_cap s else 2 * c in
       let named : max w twice ≡ n =
       named-by (fits s (type_align R) (max w twice)) (max w twice) n
       (sym (ruled-rule doubling R c w more word) ∙ e) in
@@ -140,7 +142,7 @@ refill_all xs ws same =
 
 -- If `ws` has the same length as the list `v`, then writing `ws` over the items of `v` yields a
 -- list with exactly the items `ws`.
-pub with_items_is : {T A : Type 0} (v : Thin T A) (ws : List T) → length ws ≡ length v.items
+pub with_items_is : {T A : Type 0} (v : ListView T A) (ws : List T) → length ws ≡ length v.items
     → (with_items v ws).items ≡ ws
 with_items_is v ws same = refill_all v.items ws same
 
@@ -167,7 +169,8 @@ pub ruleset undone = (remove-insert, slice_get-insert)
 module _ {T A E : Type 0} where
   -- `IfOk r P` states that `P v` is true if the result `r` is `Ok v`. If `P v` implies `Q v` for
   -- each list `v`, then `IfOk r P` implies `IfOk r Q`.
-  if_ok : {P Q : Thin T A → Type 0} (r : Result (Thin T A) E) → ((v : Thin T A) → P v → Q v)
+  if_ok : {P Q : ListView T A → Type 0} (r : Result (ListView T A) E)
+      → ((v : ListView T A) → P v → Q v)
       → IfOk r P → IfOk r Q
   if_ok (Ok v) implies p = implies v p
   if_ok (Err e) implies p = p
@@ -176,8 +179,8 @@ module _ {T A E : Type 0} where
   -- `ThinVec` contains exactly the items `all`. This lemma corresponds to std's
   -- `items_from_collect`.
   pub items_from_collect : {S : Type 0} {steps : S → Option T → S → Type 0} {s : S} {all : List T}
-      (R : RattleType) (r : Result (Thin T A) E)
-      → IfOk r (λ v. (xs : List T) × DrainsIf steps ⊤ s xs × IsMadeOf R xs v)
+      (R : RattleType) (r : Result (ListView T A) E)
+      → IfOk r (λ v. (xs : List T) × DrainsIf steps ⊤ s xs × IsCollectedFrom R xs v)
       → YieldsList steps (λ x. x) s all → IfOk r (λ v. v.items ≡ all)
   items_from_collect R r made yields =
-      if_ok r (λ v all_made. all_made.0) (fact_from_collect (IsMadeOf R) r made yields)
+      if_ok r (λ v all_made. all_made.0) (fact_from_collect (IsCollectedFrom R) r made yields)

@@ -8,13 +8,13 @@ use Rattle.std.specs.List.Retain.{DedupsFrom, DedupsAll, ExtractsNext, IsDeduped
 use Rattle.std.specs.Option.{option_to_list}
 use Rattle.std.specs.Prelude.{MatchBool, cond, filter, not}
 use Rattle.thin_block.specs.declared.growth.Growth.{Ghosts}
-use Rattle.thin_vec.specs.Edits.Dedup.{AskedLast, AskedPairs, IsDedupedBy}
+use Rattle.thin_vec.specs.Edits.Dedup.{TestsEachAgainstLast, TestsAllAgainstLast, IsDedupedBy}
 use Rattle.thin_vec.specs.Edits.ExtractIf.{ExtractSteps, extract_block, extract_lender, extract_rest}
-use Rattle.thin_vec.specs.ThinVec.{Thin}
+use Rattle.thin_vec.specs.ThinVec.{ListView}
 use Rattle.thin_vec.specs.declared.edits.extract_if.ExtractIf.{ExtractIf}
-use Rattle.thin_vec.specs.declared.edits.extract_if.Extracting.{Extracting}
+use Rattle.thin_vec.specs.declared.edits.extract_if.ExtractState.{ExtractState}
 use Rattle.thin_vec.specs.declared.edits.holder.Holder.{Holder}
-use Rattle.thin_vec.specs.declared.edits.holder.Holds.{Ghosts as HoldsGhosts}
+use Rattle.thin_vec.specs.declared.edits.holder.IntoInner.{Ghosts as IntoInnerGhosts}
 
 -- The following lemmas are about `dedup_by` and `dedup_by_key`.
 
@@ -25,7 +25,7 @@ module _ {S T : Type 0} (R : S → T → T → Bool → S → T → T → Type 0
   -- If a closure compared each item of `xs` with the last item kept before it, beginning with `k`,
   -- then removing the duplicates from `k ∷ xs` leaves the kept items `ys`.
   dedups_from : (xs : List T) (s : S) (k : T) (stays : List Bool) (ys : List T) (t : S)
-      → AskedLast R s k xs stays ys t → DedupsFrom R s k xs ys
+      → TestsEachAgainstLast R s k xs stays ys t → DedupsFrom R s k xs ys
   dedups_from [] s k stays ys t h = h.1
   dedups_from (x ∷ xs) s k stays ys t h = (
     h.0,
@@ -34,8 +34,8 @@ module _ {S T : Type 0} (R : S → T → T → Bool → S → T → T → Type 0
     h.2,
     h.5,
     (elim h.0 as (λ b.
-        MatchBool b (AskedLast R h.3 h.2 xs h.4 ys t)
-        ((zs : List T) × AskedLast R h.3 h.1 xs h.4 zs t × (ys ≡ h.2 ∷ zs))
+        MatchBool b (TestsEachAgainstLast R h.3 h.2 xs h.4 ys t)
+        ((zs : List T) × TestsEachAgainstLast R h.3 h.1 xs h.4 zs t × (ys ≡ h.2 ∷ zs))
         → MatchBool b (DedupsFrom R h.3 h.2 xs ys)
         ((zs : List T) × DedupsFrom R h.3 h.1 xs zs × (ys ≡ h.2 ∷ zs))) [
           | true ↦ λ m. dedups_from xs h.3 h.2 h.4 ys t m
@@ -46,20 +46,20 @@ module _ {S T : Type 0} (R : S → T → T → Bool → S → T → T → Type 0
   -- If a closure compared each item of `xs`, except the first, with the last item kept before it,
   -- then removing the duplicates from `xs` leaves the kept items `ys`.
   dedups_all : (xs : List T) (s : S) (stays : List Bool) (ys : List T) (t : S)
-      → AskedPairs R s xs stays ys t → DedupsAll R s xs ys
+      → TestsAllAgainstLast R s xs stays ys t → DedupsAll R s xs ys
   dedups_all [] s stays ys t h = h.1
   dedups_all (x ∷ xs) s stays ys t h = dedups_from xs s x stays ys t h
 
   -- If `dedup_by` or `dedup_by_key` turned the list `v` into `w`, then removing the duplicates from
   -- `v.items` leaves `w.items`.
-  pub deduped_deduped : {A : Type 0} (s : S) (v w : Thin T A) → IsDedupedBy R s v w
+  pub deduped_deduped : {A : Type 0} (s : S) (v w : ListView T A) → IsDedupedBy R s v w
       → IsDeduped R s v.items w.items
   deduped_deduped s v w h =
       record { told = dedups_all v.items s h.1.stays w.items h.0 h.1.asked }
 
   -- If `dedup_by`, called with a closure that only computes `same x y`, turned the list `v` into
   -- the list `w`, then `w.items` is `dedup same v.items`.
-  pub deduped_dedup : {A : Type 0} (same : T → T → Bool) {s : S} {v w : Thin T A}
+  pub deduped_dedup : {A : Type 0} (same : T → T → Bool) {s : S} {v w : ListView T A}
       → ((x y : T) (b : Bool) (t : S) (x' y' : T) → R s x y b t x' y'
       → (b ≡ same x y) × (t ≡ s) × (x' ≡ x) × (y' ≡ y))
       → IsDedupedBy R s v w → w.items ≡ dedup same v.items
@@ -131,11 +131,11 @@ module _ {T : Type 0} (test : T → Bool) where
 -- This module is about loops over an `ExtractIf`, the iterator that the method `extract_if`
 -- returns. The predicate `test` says which items the `ExtractIf` extracts.
 module _ {T F A G : Type 0} {g : Ghosts G}
-    {h : HoldsGhosts (Holder (Extracting T F A)) (Extracting T F A)} (test : T → Bool) where
+    {h : IntoInnerGhosts (Holder (ExtractState T F A)) (ExtractState T F A)} (test : T → Bool) where
   -- `IsExtracting` is the invariant of a loop that appends each item yielded by an `ExtractIf` to a
   -- list. When the loop began, the `ExtractIf` was `start` and the list was `old`. Now the
   -- `ExtractIf` is `now` and the list is `held`.
-  pub record IsExtracting (start now : ExtractIf T F A G (Holder (Extracting T F A)) g h)
+  pub record IsExtracting (start now : ExtractIf T F A G (Holder (ExtractState T F A)) g h)
       (old held : List T) : Type 0 where
     pub gone : held ++ filter test (extract_rest now) ≡ old ++ filter test (extract_rest start)
     pub stay : (extract_block now).front ++ others test (extract_rest now)
@@ -147,7 +147,7 @@ module _ {T F A G : Type 0} {g : Ghosts G}
 
   -- `IsExtracting` is the invariant of a loop that appends each item yielded by an `ExtractIf` to a
   -- list. It holds at the start of the loop, before any item has been yielded.
-  pub extract_start : (e : ExtractIf T F A G (Holder (Extracting T F A)) g h) (old : List T)
+  pub extract_start : (e : ExtractIf T F A G (Holder (ExtractState T F A)) g h) (old : List T)
       → IsExtracting e e old old
   extract_start e old =
       record { gone = refl; stay = refl; tail = refl; lender = refl; count = omega arith }
@@ -157,7 +157,7 @@ module _ {T F A G : Type 0} {g : Ghosts G}
       → (b ≡ test x) × (y ≡ x)) where
     -- If the loop invariant `IsExtracting` holds and `next` yields the item `x`, then the invariant
     -- still holds after `x` is appended to the list.
-    pub extract_step : {start now new : ExtractIf T F A G (Holder (Extracting T F A)) g h}
+    pub extract_step : {start now new : ExtractIf T F A G (Holder (ExtractState T F A)) g h}
         {old held more : List T} {item : Option T} {x : T} → IsExtracting start now old held
         → ExtractSteps R now item new → item ≡ Some x → more ≡ held ++ x ∷ []
         → IsExtracting start new old more
@@ -185,7 +185,7 @@ module _ {T F A G : Type 0} {g : Ghosts G}
 
     -- If a loop over an `ExtractIf` has ended, then it has appended exactly the items of the range
     -- that pass `test`. After the `ExtractIf` is dropped, the `ThinVec` contains all other items.
-    pub extract_end : {start now new : ExtractIf T F A G (Holder (Extracting T F A)) g h}
+    pub extract_end : {start now new : ExtractIf T F A G (Holder (ExtractState T F A)) g h}
         {old held : List T} {item : Option T} → IsExtracting start now old held
         → ExtractSteps R now item new → item ≡ None
         → (held ≡ old ++ filter test (extract_rest start))

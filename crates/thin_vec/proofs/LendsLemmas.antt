@@ -4,71 +4,74 @@ use Rattle.std.proofs.Common.{◌≡◌, ℕ, zero, suc, ◌-◌, ◌<◌, List,
 use Rattle.std.proofs.Math.Seq.{take-length}
 use lib.ListN.{set, length-set}
 use Rattle.thin_block.specs.Cost.{Cost}
-use Rattle.thin_block.specs.Lends.{over, with_item as block_with_item, with_items as block_with_items}
-use Rattle.thin_block.specs.Slots.{empty, full, items_in}
+use Rattle.thin_block.specs.Lends.{overwrite_items, set_slot as block_with_item, set_slots as block_with_items}
+use Rattle.thin_block.specs.Slots.{empty_slots, filled_slots, items_in}
 use Rattle.thin_block.specs.declared.block.Block.{Block}
 use Rattle.std.specs.List.{length_refill, refill}
 use Rattle.thin_vec.specs.Lends.{with_item, with_items}
-use Rattle.thin_vec.specs.ThinVec.{IsThin, thin_of}
+use Rattle.thin_vec.specs.ThinVec.{IsListBlock, list_view}
 use Rattle.thin_vec.proofs.list.InsertRemoveLemmas.{full-set}
-use Rattle.thin_vec.proofs.ListLemmas.{IsWritten, Settled, settle-front, thin-room}
+use Rattle.thin_vec.proofs.ListLemmas.{IsWritten, RestoresInvariant, restores-front, thin-room}
 
 module _ {T : Type 0} where
-  -- The slots `full xs ++ empty k` hold the items `xs`, followed by `k` empty slots. Writing the
-  -- items `ws` over these slots, from slot 0 onward, replaces the first items of `xs`. The empty
-  -- slots stay empty, even if `ws` is longer than `xs`.
-  pub over-front : (xs : List T) (k : ℕ) (ws : List T) → over (full xs ++ empty k) 0 ws ≡ full
-      (refill (length xs) xs ws) ++ empty k
+  -- The slots `filled_slots xs ++ empty_slots k` hold the items `xs`, followed by `k` empty slots.
+  -- Writing the items `ws` over these slots, from slot 0 onward, replaces the first items of `xs`.
+  -- The empty slots stay empty, even if `ws` is longer than `xs`.
+  pub over-front : (xs : List T) (k : ℕ) (ws : List T)
+      → overwrite_items (filled_slots xs ++ empty_slots k) 0 ws ≡ filled_slots
+      (refill (length xs) xs ws) ++ empty_slots k
   over-front [] zero ws = refl
   over-front [] (suc k) ws = refl
-  over-front (x ∷ xs) k [] = ap (λ l. full l ++ empty k) (sym (take-length (x ∷ xs)))
+  over-front (x ∷ xs) k [] = ap (λ l. filled_slots l ++ empty_slots k) (sym (take-length (x ∷ xs)))
   over-front (x ∷ xs) k (w ∷ ws) = ap (λ l. Some w ∷ l) (over-front xs k ws)
 
 module _ {T A : Type 0} where
   -- Suppose that the items `ws` are written over the first items in the block `b` of a list. Then
   -- the new block `b'` is the block of a list with the same length and the same items, except that
   -- `ws` replaces the first items.
-  pub settle-over : {b : Block T A} {a : A} → IsThin b a → (b' : Block T A) (ws : List T)
-      {k : Cost} → IsWritten b b' (over b.slots 0 ws) b.len k
-      → Settled b' a (refill (length (items_in b.slots)) (items_in b.slots) ws) (length b.slots)
-  settle-over {b} {a} t b' ws w =
+  pub restores-over : {b : Block T A} {a : A} → IsListBlock b a → (b' : Block T A) (ws : List T)
+      {k : Cost} → IsWritten b b' (overwrite_items b.slots 0 ws) b.len k
+      → RestoresInvariant b' a (refill (length (items_in b.slots)) (items_in b.slots) ws)
+      (length b.slots)
+  restores-over {b} {a} t b' ws w =
       let xs = items_in b.slots in
       let same = sym (length_refill (length xs) xs ws refl) in
-      settle-front t b' (refill (length xs) xs ws) (length b.slots) w
-      (ap (λ r. over r 0 ws) t.packed.row
+      restores-front t b' (refill (length xs) xs ws) (length b.slots) w
+      (ap (λ r. overwrite_items r 0 ws) t.packed.row
       ∙ (over-front xs (length b.slots - length xs) ws
-      ∙ ap (λ n. full (refill (length xs) xs ws) ++ empty (length b.slots - n)) (sym same)))
+      ∙ ap (λ n. filled_slots (refill (length xs) xs ws) ++ empty_slots (length b.slots - n))
+      (sym same)))
       (t.packed.len ∙ sym same) (omega (arith, same, thin-room b a t))
 
   -- If the items `ws` are written over the first items in the block `b` of a list, then contracts
   -- see the same list as before, except that `ws` replaces the first items.
-  pub view-with_items : (b : Block T A) (a : A) (ws : List T) → IsThin b a
-      → thin_of (block_with_items b 0 ws) a ≡ with_items (thin_of b a) ws
+  pub view-with_items : (b : Block T A) (a : A) (ws : List T) → IsListBlock b a
+      → list_view (block_with_items b 0 ws) a ≡ with_items (list_view b a) ws
   view-with_items b a ws t =
-      let f = settle-over t (block_with_items b 0 ws) ws refl in
+      let f = restores-over t (block_with_items b 0 ws) ws refl in
       λ i. record { items = f.items i; capacity = f.cap i; alloc = a; cost = b.cost }
 
   -- Suppose that `v` is written into the slot of the item at index `i` in the block `b` of a list.
   -- Then the new block `b'` is the block of a list with the same items, except that `v` is the item
   -- at index `i`.
-  pub settle-set : {b : Block T A} {a : A} → IsThin b a → (b' : Block T A) (i : ℕ) (v : T)
+  pub restores-set : {b : Block T A} {a : A} → IsListBlock b a → (b' : Block T A) (i : ℕ) (v : T)
       {k : Cost} → i < length (items_in b.slots) → IsWritten b b' (set b.slots i (Some v)) b.len k
-      → Settled b' a (set (items_in b.slots) i v) (length b.slots)
-  settle-set {b} {a} t b' i v within w =
+      → RestoresInvariant b' a (set (items_in b.slots) i v) (length b.slots)
+  restores-set {b} {a} t b' i v within w =
       let xs = items_in b.slots in
       let same = length-set xs i v in
-      settle-front t b' (set xs i v) (length b.slots) w
+      restores-front t b' (set xs i v) (length b.slots) w
       (ap (λ r. set r i (Some v)) t.packed.row
-      ∙ (full-set xs (empty (length b.slots - length xs)) i v within
-      ∙ ap (λ n. full (set xs i v) ++ empty (length b.slots - n)) (sym same)))
+      ∙ (full-set xs (empty_slots (length b.slots - length xs)) i v within
+      ∙ ap (λ n. filled_slots (set xs i v) ++ empty_slots (length b.slots - n)) (sym same)))
       (t.packed.len ∙ sym same) (omega (arith, same, thin-room b a t))
 
   -- Suppose that `i` is less than the length of a list. If the item `w` is written into slot `i` of
   -- the block `b` of this list, then contracts see the same list as before, except that `w` is the
   -- item at index `i`.
-  pub view-with_item : (b : Block T A) (a : A) (i : ℕ) (w : T) → IsThin b a
-      → i < length (items_in b.slots) → thin_of (block_with_item b i w)
-      a ≡ with_item (thin_of b a) i w
+  pub view-with_item : (b : Block T A) (a : A) (i : ℕ) (w : T) → IsListBlock b a
+      → i < length (items_in b.slots) → list_view (block_with_item b i w)
+      a ≡ with_item (list_view b a) i w
   view-with_item b a i w t within =
-      let f = settle-set t (block_with_item b i w) i w within refl in
+      let f = restores-set t (block_with_item b i w) i w within refl in
       λ k. record { items = f.items k; capacity = f.cap k; alloc = a; cost = b.cost }

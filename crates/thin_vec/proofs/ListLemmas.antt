@@ -5,92 +5,98 @@ use Rattle.std.proofs.lemmas.List.{length-replicate, length-map, take-append-dro
 use Rattle.std.proofs.Math.Seq.{drop-length, take-append_seam}
 use Rattle.std.specs.Prelude.{IsSome, slice_get, slice_range}
 use lib.ListN.{set, replicate}
-use Rattle.thin_block.specs.Slots.{IsPacked, full, empty, slot, items_in, front}
-use Rattle.thin_block.specs.Block.{IsFrom, seen}
+use Rattle.thin_block.specs.Slots.{IsPacked, filled_slots, empty_slots, slot, items_in, packed_slots}
+use Rattle.thin_block.specs.Block.{IsAllocatedBy, block_view}
 use Rattle.thin_block.specs.declared.block.Block.{Block}
 use Rattle.thin_block.specs.Cost.{Cost}
-use Rattle.thin_vec.specs.ThinVec.{IsThin, Thin, thin_of}
+use Rattle.thin_vec.specs.ThinVec.{IsListBlock, ListView, list_view}
 
 -- A list of `k` empty slots has the length `k`.
-pub length-empty : (T : Type 0) (k : ℕ) → length (empty {T = T} k) ≡ k
+pub length-empty : (T : Type 0) (k : ℕ) → length (empty_slots {T = T} k) ≡ k
 length-empty T k = length-replicate {A = Option T} k None
 
 module _ {T : Type 0} where
   -- If the slots `s` are equal to some number of empty slots, then this number is the length of `s`.
-  pub empty-alone : (s : List (Option T)) (n : ℕ) → s ≡ empty n → s ≡ empty (length s)
+  pub empty-alone : (s : List (Option T)) (n : ℕ) → s ≡ empty_slots n → s ≡ empty_slots (length s)
   empty-alone s n e =
-      e ∙ ap (λ (k : ℕ). empty k) (sym (ap (λ (r : List (Option T)). length r) e ∙ length-empty T n))
+      e ∙ ap (λ (k : ℕ). empty_slots k)
+      (sym (ap (λ (r : List (Option T)). length r) e ∙ length-empty T n))
 
   -- A list of empty slots contains no items.
   pub items-empty : (k : ℕ) → items_in {T = T} (replicate k None) ≡ []
   items-empty zero = refl
   items-empty (suc k) = items-empty k
 
-  -- `full xs` is a list of slots that hold the items `xs`. The slots `full xs ++ s` contain the
-  -- items `xs`, followed by the items in the slots `s`.
-  pub items-full : (xs : List T) (s : List (Option T)) → items_in (full xs ++ s) ≡ xs ++ items_in s
+  -- `filled_slots xs` is a list of slots that hold the items `xs`. The slots `filled_slots xs ++ s`
+  -- contain the items `xs`, followed by the items in the slots `s`.
+  pub items-full : (xs : List T) (s : List (Option T))
+      → items_in (filled_slots xs ++ s) ≡ xs ++ items_in s
   items-full [] s = refl
   items-full (x ∷ xs) s = ap (λ (ys : List T). x ∷ ys) (items-full xs s)
 
-  -- The items in the slots `full xs` are exactly `xs`.
-  pub items-full-alone : (xs : List T) → items_in (full xs) ≡ xs
+  -- The items in the slots `filled_slots xs` are exactly `xs`.
+  pub items-full-alone : (xs : List T) → items_in (filled_slots xs) ≡ xs
   items-full-alone [] = refl
   items-full-alone (x ∷ xs) = ap (λ (ys : List T). x ∷ ys) (items-full-alone xs)
 
-  -- `front xs c` is a list of slots that hold the items `xs`, followed by empty slots up to the
-  -- capacity `c`. It contains exactly the items `xs`.
-  pub items-front : (xs : List T) (c : ℕ) → items_in (front xs c) ≡ xs
+  -- `packed_slots xs c` is a list of slots that hold the items `xs`, followed by empty slots up to
+  -- the capacity `c`. It contains exactly the items `xs`.
+  pub items-front : (xs : List T) (c : ℕ) → items_in (packed_slots xs c) ≡ xs
   items-front xs c = items-full xs (replicate (c - length xs) None)
       ∙ (ap (λ (ys : List T). xs ++ ys) (items-empty (c - length xs)) ∙ append-nil xs)
 
-  -- The list of slots `full xs` has the same length as the list of items `xs`.
-  pub length-full : (xs : List T) → length (full xs) ≡ length xs
+  -- The list of slots `filled_slots xs` has the same length as the list of items `xs`.
+  pub length-full : (xs : List T) → length (filled_slots xs) ≡ length xs
   length-full xs = length-map xs (λ (x : T). Some x)
 
-  -- `front xs c` is a list of slots: the slots of the items `xs`, followed by empty slots up to the
-  -- capacity `c`. If `xs` has at most `c` items, then `front xs c` has exactly `c` slots.
-  pub length-front : (xs : List T) (c : ℕ) → length xs ≤ c → length (front xs c) ≡ c
+  -- `packed_slots xs c` is a list of slots: the slots of the items `xs`, followed by empty slots up
+  -- to the capacity `c`. If `xs` has at most `c` items, then `packed_slots xs c` has exactly `c`
+  -- slots.
+  pub length-front : (xs : List T) (c : ℕ) → length xs ≤ c → length (packed_slots xs c) ≡ c
   length-front xs c h =
       let e : List (Option T) = replicate (c - length xs) None in
       omega (
         arith,
-        length-append (full xs) e,
+        length-append (filled_slots xs) e,
         length-full xs,
         length-replicate {A = Option T} (c - length xs) None,
       )
 
-  -- If the slots `full xs` and `full ys` are equal, then the lists `xs` and `ys` are equal.
-  pub full-same : (xs ys : List T) → full xs ≡ full ys → xs ≡ ys
+  -- If the slots `filled_slots xs` and `filled_slots ys` are equal, then the lists `xs` and `ys`
+  -- are equal.
+  pub full-same : (xs ys : List T) → filled_slots xs ≡ filled_slots ys → xs ≡ ys
   full-same xs ys e = sym (items-full-alone xs) ∙ (ap items_in e ∙ items-full-alone ys)
 
-  -- If `i < length xs`, then slot `i` of `full xs ++ s` holds the item at index `i` of `xs`,
-  -- whatever the default `d` is.
+  -- If `i < length xs`, then slot `i` of `filled_slots xs ++ s` holds the item at index `i` of
+  -- `xs`, whatever the default `d` is.
   pub slot-full : (xs : List T) (s : List (Option T)) (i : ℕ) (d : T) → i < length xs
-      → slot (full xs ++ s) i ≡ Some (get_or xs i d)
+      → slot (filled_slots xs ++ s) i ≡ Some (get_or xs i d)
   slot-full xs s i d h =
-      let n : i < length (full xs) = omega (arith, length-full xs) in
-      get_or_append_left (full xs) s None i n ∙ get_or-map (λ (x : T). Some x) xs i d None h
+      let n : i < length (filled_slots xs) = omega (arith, length-full xs) in
+      get_or_append_left (filled_slots xs) s None i n ∙ get_or-map (λ (x : T). Some x) xs i d None h
 
   -- Suppose that a list of `c` slots begins with the items `xs`, and that all other slots are
   -- empty. If there is at least one empty slot, then writing `v` into the first empty slot appends
   -- `v` to the items.
-  pub front-push : (xs : List T) (c : ℕ) (v : T) → length xs < c → set (front xs c) (length xs)
-      (Some v) ≡ front (xs ++ v ∷ []) c
+  pub front-push : (xs : List T) (c : ℕ) (v : T) → length xs < c
+      → set (packed_slots xs c) (length xs)
+      (Some v) ≡ packed_slots (xs ++ v ∷ []) c
   front-push xs c v h =
       let k : ℕ = c - length xs - 1 in
       let e : c - length xs ≡ suc k = omega arith in
       let m : k ≡ c - length (xs ++ v ∷ []) = omega (arith, length_push xs v) in
-      ap (λ (n : ℕ). set (full xs ++ replicate n None) (length xs) (Some v)) e
-      ∙ (set_at (full xs) None (replicate k None) (Some v) (length xs) (length-full xs)
-      ∙ (sym (append_assoc (full xs) (Some v ∷ []) (replicate k None))
+      ap (λ (n : ℕ). set (filled_slots xs ++ replicate n None) (length xs) (Some v)) e
+      ∙ (set_at (filled_slots xs) None (replicate k None) (Some v) (length xs) (length-full xs)
+      ∙ (sym (append_assoc (filled_slots xs) (Some v ∷ []) (replicate k None))
       ∙ (ap (λ (r : List (Option T)). r ++ replicate k None)
       (sym (map_push (λ (x : T). Some x) xs v))
-      ∙ ap (λ (n : ℕ). full (xs ++ v ∷ []) ++ replicate n None) m)))
+      ∙ ap (λ (n : ℕ). filled_slots (xs ++ v ∷ []) ++ replicate n None) m)))
 
-  -- If slot `i` of `full xs ++ s` is emptied, and `i < length xs`, then only this slot changes: the
-  -- other items of `xs` and the slots `s` stay in place.
+  -- If slot `i` of `filled_slots xs ++ s` is emptied, and `i < length xs`, then only this slot
+  -- changes: the other items of `xs` and the slots `s` stay in place.
   pub full-take : (xs : List T) (s : List (Option T)) (i : ℕ) (d : T) → i < length xs
-      → set (full xs ++ s) i None ≡ full (take i xs) ++ (None ∷ (full (drop (suc i) xs) ++ s))
+      → set (filled_slots xs ++ s) i None ≡ filled_slots
+      (take i xs) ++ (None ∷ (filled_slots (drop (suc i) xs) ++ s))
   full-take [] s i d h = absurd (omega arith)
   full-take (x ∷ xs) s zero d h = refl
   full-take (x ∷ xs) s (suc i) d h = let l : i < length xs = omega arith in
@@ -99,7 +105,7 @@ module _ {T : Type 0} where
   -- If a list of `c` slots holds the items `xs`, then `v`, and then only empty slots, emptying the
   -- slot of `v` leaves the items `xs`.
   pub front-pop : (xs : List T) (c : ℕ) (v : T) → length (xs ++ v ∷ []) ≤ c
-      → set (front (xs ++ v ∷ []) c) (length xs) None ≡ front xs c
+      → set (packed_slots (xs ++ v ∷ []) c) (length xs) None ≡ packed_slots xs c
   front-pop xs c v h =
       let n : length (xs ++ v ∷ []) ≡ length xs + 1 = length_push xs v in
       let k : ℕ = c - length (xs ++ v ∷ []) in
@@ -107,25 +113,26 @@ module _ {T : Type 0} where
       ap (λ (r : List (Option T)). set (r ++ replicate k None) (length xs) None)
       (map_push (λ (x : T). Some x) xs v)
       ∙ (ap (λ (r : List (Option T)). set r (length xs) None)
-      (append_assoc (full xs) (Some v ∷ []) (replicate k None))
-      ∙ (set_at (full xs) (Some v) (replicate k None) None (length xs) (length-full xs)
-      ∙ ap (λ (q : ℕ). full xs ++ replicate q None) m))
+      (append_assoc (filled_slots xs) (Some v ∷ []) (replicate k None))
+      ∙ (set_at (filled_slots xs) (Some v) (replicate k None) None (length xs) (length-full xs)
+      ∙ ap (λ (q : ℕ). filled_slots xs ++ replicate q None) m))
 
-  -- `front xs c` is the list of the slots of the items `xs`, followed by empty slots up to the
-  -- capacity `c`. If `length xs ≤ c` and `c ≤ d`, then appending `d - c` empty slots to
-  -- `front xs c` yields `front xs d`.
+  -- `packed_slots xs c` is the list of the slots of the items `xs`, followed by empty slots up to
+  -- the capacity `c`. If `length xs ≤ c` and `c ≤ d`, then appending `d - c` empty slots to
+  -- `packed_slots xs c` yields `packed_slots xs d`.
   pub front-grow : (xs : List T) (c d : ℕ) → length xs ≤ c → c ≤ d
-      → front xs c ++ replicate (d - c) None ≡ front xs d
+      → packed_slots xs c ++ replicate (d - c) None ≡ packed_slots xs d
   front-grow xs c d h l =
       let m : (c - length xs) + (d - c) ≡ d - length xs = omega arith in
-      append_assoc (full xs) (replicate (c - length xs) None) (replicate (d - c) None)
-      ∙ ap (λ (r : List (Option T)). full xs ++ r)
+      append_assoc (filled_slots xs) (replicate (c - length xs) None) (replicate (d - c) None)
+      ∙ ap (λ (r : List (Option T)). filled_slots xs ++ r)
       (replicate-append-replicate (c - length xs) (d - c) None
       ∙ ap (λ (q : ℕ). replicate q None) m)
 
-  -- If `i < length xs`, then slot `i` of `full xs ++ s` holds the item at index `i` of `xs`.
+  -- If `i < length xs`, then slot `i` of `filled_slots xs ++ s` holds the item at index `i` of
+  -- `xs`.
   pub slot-get : (xs : List T) (s : List (Option T)) (i : ℕ) → i < length xs
-      → slot (full xs ++ s) i ≡ slice_get xs i
+      → slot (filled_slots xs ++ s) i ≡ slice_get xs i
   slot-get [] s i h = absurd (omega arith)
   slot-get (x ∷ xs) s zero h = refl
   slot-get (x ∷ xs) s (suc i) h = slot-get xs s i (omega arith)
@@ -137,25 +144,25 @@ module _ {T : Type 0} where
   get-some (x ∷ xs) (suc i) h = get-some xs i (omega arith)
 
 module _ {T A : Type 0} where
-  -- `Settled b a xs c` holds if `b` is the block of a list with the items `xs`, the capacity `c`
-  -- and the allocator `a`.
-  pub record Settled (b : Block T A) (a : A) (xs : List T) (c : ℕ) : Type 0 where
-    pub thin : IsThin b a
+  -- `RestoresInvariant b a xs c` holds if `b` is the block of a list with the items `xs`, the
+  -- capacity `c` and the allocator `a`.
+  pub record RestoresInvariant (b : Block T A) (a : A) (xs : List T) (c : ℕ) : Type 0 where
+    pub thin : IsListBlock b a
     pub items : items_in b.slots ≡ xs
     pub cap : length b.slots ≡ c
 
   -- If the slots of the block `b` hold the items `xs`, followed by empty slots, and `b` stores the
   -- length of `xs`, then `b` is the block of a list with the items `xs`.
-  pub settled : (b : Block T A) (a : A) (xs : List T) (c : ℕ) → b.slots ≡ front xs c
-      → b.len ≡ length xs → length xs ≤ c → IsFrom b.alloc a → Settled b a xs c
+  pub settled : (b : Block T A) (a : A) (xs : List T) (c : ℕ) → b.slots ≡ packed_slots xs c
+      → b.len ≡ length xs → length xs ≤ c → IsAllocatedBy b.alloc a → RestoresInvariant b a xs c
   settled b a xs c e n h f =
       let i : items_in b.slots ≡ xs = ap items_in e ∙ items-front xs c in
       let l : length b.slots ≡ c = ap length e ∙ length-front xs c h in
       record {
         thin = record {
           packed = record {
-            row = e ∙ (ap (λ (ys : List T). front ys c) (sym i)
-                ∙ ap (λ (q : ℕ). front (items_in b.slots) q) (sym l));
+            row = e ∙ (ap (λ (ys : List T). packed_slots ys c) (sym i)
+                ∙ ap (λ (q : ℕ). packed_slots (items_in b.slots) q) (sym l));
             len = n ∙ ap length (sym i);
           };
           from = f;
@@ -166,10 +173,11 @@ module _ {T A : Type 0} where
 
   -- If a new block `b'` with the items `xs`, `c` slots and the cost `k` replaces the block of the
   -- list `v`, then contracts see a list with these values and the allocator of `v`.
-  pub thin_of-becomes : {w v : Thin T A} → w ≡ v → (b' : Block T A) {xs : List T} {c : ℕ} {k : Cost}
+  pub list_view-becomes : {w v : ListView T A} → w ≡ v
+      → (b' : Block T A) {xs : List T} {c : ℕ} {k : Cost}
       → length b'.slots ≡ c → items_in b'.slots ≡ xs → b'.cost ≡ k
-      → thin_of b' w.alloc ≡ record v { items = xs; capacity = c; cost = k }
-  thin_of-becomes is b' slots items cost = λ i. record {
+      → list_view b' w.alloc ≡ record v { items = xs; capacity = c; cost = k }
+  list_view-becomes is b' slots items cost = λ i. record {
     items = items i;
     capacity = slots i;
     alloc = (is i).alloc;
@@ -179,56 +187,58 @@ module _ {T A : Type 0} where
   -- If a new block `b'` with the items `xs`, the cost `k` and as many slots as the old block
   -- replaces the block of the list `v`, then contracts see a list with these items, this cost, and
   -- the capacity and the allocator of `v`.
-  pub thin_of-keeps : {w v : Thin T A} → w ≡ v → (b' : Block T A) {xs : List T} {k : Cost}
+  pub list_view-keeps : {w v : ListView T A} → w ≡ v → (b' : Block T A) {xs : List T} {k : Cost}
       → length b'.slots ≡ w.capacity → items_in b'.slots ≡ xs → b'.cost ≡ k
-      → thin_of b' w.alloc ≡ record v { items = xs; cost = k }
-  thin_of-keeps is b' slots items cost =
-      thin_of-becomes is b' (slots ∙ ap (λ (u : Thin T A). u.capacity) is) items cost
+      → list_view b' w.alloc ≡ record v { items = xs; cost = k }
+  list_view-keeps is b' slots items cost =
+      list_view-becomes is b' (slots ∙ ap (λ (u : ListView T A). u.capacity) is) items cost
 
   -- The block of a list does not contain more items than slots.
-  pub thin-room : (b : Block T A) (a : A) → IsThin b a → length (items_in b.slots) ≤ length b.slots
+  pub thin-room : (b : Block T A) (a : A) → IsListBlock b a
+      → length (items_in b.slots) ≤ length b.slots
   thin-room b a t =
       let xs : List T = items_in b.slots in
       let e : List (Option T) = replicate (length b.slots - length xs) None in
-      omega (arith, ap length t.packed.row, length-append (full xs) e, length-full xs)
+      omega (arith, ap length t.packed.row, length-append (filled_slots xs) e, length-full xs)
 
   -- If a list has `n` items, then the first `n` slots of its block are filled, and all other slots
   -- are empty.
-  pub thin-packed : (b : Block T A) (a : A) (n : ℕ) → IsThin b a
+  pub thin-packed : (b : Block T A) (a : A) (n : ℕ) → IsListBlock b a
       → length (items_in b.slots) ≡ n → IsPacked b.slots n
   thin-packed b a n t long = record { row = t.packed.row; len = sym long }
 
   -- If the memory of the block `b` came from the allocator `a`, and `b'` has the same allocator as
   -- `b`, then the memory of `b'` also came from `a`.
-  pub from-same : (b b' : Block T A) (a : A) → IsFrom b.alloc a → b'.alloc ≡ b.alloc
-      → IsFrom b'.alloc a
+  pub from-same : (b b' : Block T A) (a : A) → IsAllocatedBy b.alloc a → b'.alloc ≡ b.alloc
+      → IsAllocatedBy b'.alloc a
   from-same b b' a f e = λ x h. f x (sym e ∙ h)
 
   -- `IsWritten b b' s n k` holds if the block `b'` is the block `b` with the slots `s`, the stored
   -- length `n` and the cost `k`.
   abbrev pub IsWritten : Block T A → Block T A → List (Option T) → ℕ → Cost → Type 0
-  IsWritten b b' s n k = seen b' ≡ record (seen b) { slots = s; len = n; cost = k }
+  IsWritten b b' s n k = block_view b' ≡ record (block_view b) { slots = s; len = n; cost = k }
 
   -- If an operation on the block `b` of a list leaves the items `xs` in the first slots, leaves all
   -- other slots empty, and stores the length of `xs`, then the new block `b'` is the block of a
   -- list with the items `xs`.
-  pub settle-front : {b : Block T A} {a : A} → IsThin b a → (b' : Block T A) (xs : List T) (c : ℕ)
-      {s : List (Option T)} {n : ℕ} {k : Cost} → IsWritten b b' s n k → s ≡ front xs c
-      → n ≡ length xs → length xs ≤ c → Settled b' a xs c
-  settle-front {b} {a} t b' xs c w e n h = settled b' a xs c (ap (λ v. v.slots) w ∙ e)
+  pub restores-front : {b : Block T A} {a : A} → IsListBlock b a
+      → (b' : Block T A) (xs : List T) (c : ℕ)
+      {s : List (Option T)} {n : ℕ} {k : Cost} → IsWritten b b' s n k → s ≡ packed_slots xs c
+      → n ≡ length xs → length xs ≤ c → RestoresInvariant b' a xs c
+  restores-front {b} {a} t b' xs c w e n h = settled b' a xs c (ap (λ v. v.slots) w ∙ e)
       (ap (λ v. v.len) w ∙ n) h (from-same b b' a t.from (ap (λ v. v.alloc) w))
 
   -- If `v` is written into the slot after the last item, and the stored length is incremented, then
   -- the new block `b'` is the block of the list with `v` appended.
-  pub settle-push : {b : Block T A} {a : A} → IsThin b a → (b' : Block T A) (v : T) (i : ℕ)
+  pub restores-push : {b : Block T A} {a : A} → IsListBlock b a → (b' : Block T A) (v : T) (i : ℕ)
       {k : Cost} → i ≡ b.len → i < length b.slots
       → IsWritten b b' (set b.slots i (Some v)) (i + 1) k
-      → Settled b' a (items_in b.slots ++ v ∷ []) (length b.slots)
-  settle-push {b} t b' v i o h w =
+      → RestoresInvariant b' a (items_in b.slots ++ v ∷ []) (length b.slots)
+  restores-push {b} t b' v i o h w =
       let xs : List T = items_in b.slots in
       let c : ℕ = length b.slots in
       let l : length xs < c = omega (arith, t.packed.len) in
-      settle-front t b' (xs ++ v ∷ []) c w
+      restores-front t b' (xs ++ v ∷ []) c w
       (ap (λ (q : ℕ). set b.slots q (Some v)) (o ∙ t.packed.len)
       ∙ (ap (λ (r : List (Option T)). set r (length xs) (Some v)) t.packed.row
       ∙ front-push xs c v l))
@@ -236,7 +246,7 @@ module _ {T A : Type 0} where
 
   -- If slot `j` is the last filled slot in the block of a list and holds `v`, then the list
   -- consists of its first `j` items, followed by `v`.
-  pub last-item : (b : Block T A) (a : A) (v : T) (j : ℕ) → IsThin b a → j + 1 ≡ b.len
+  pub last-item : (b : Block T A) (a : A) (v : T) (j : ℕ) → IsListBlock b a → j + 1 ≡ b.len
       → slot b.slots j ≡ Some v → items_in b.slots ≡ take j (items_in b.slots) ++ v ∷ []
   last-item b a v j t o w =
       let xs : List T = items_in b.slots in
@@ -255,11 +265,11 @@ module _ {T A : Type 0} where
 
   -- If the slot of the last item is emptied, and the stored length is decremented, then the new
   -- block `b'` is the block of the list without its last item.
-  pub settle-pop : {b : Block T A} {a : A} → IsThin b a → (b' : Block T A) (v : T) (j : ℕ)
+  pub restores-pop : {b : Block T A} {a : A} → IsListBlock b a → (b' : Block T A) (v : T) (j : ℕ)
       {k : Cost} → j + 1 ≡ b.len → slot b.slots j ≡ Some v
       → IsWritten b b' (set b.slots j None) j k
-      → Settled b' a (take j (items_in b.slots)) (length b.slots)
-  settle-pop {b} {a} t b' v j o held w =
+      → RestoresInvariant b' a (take j (items_in b.slots)) (length b.slots)
+  restores-pop {b} {a} t b' v j o held w =
       let xs : List T = items_in b.slots in
       let c : ℕ = length b.slots in
       let ys : List T = take j xs in
@@ -267,46 +277,50 @@ module _ {T A : Type 0} where
       let m : length ys ≡ j = length-take-le j xs (omega arith) in
       let e : xs ≡ ys ++ v ∷ [] = last-item b a v j t o held in
       let k : length (ys ++ v ∷ []) ≤ c = omega (arith, thin-room b a t, ap length e) in
-      settle-front t b' ys c w
+      restores-front t b' ys c w
       (ap (λ (r : List (Option T)). set r j None)
-      (t.packed.row ∙ ap (λ (r : List T). front r c) e)
-      ∙ (ap (λ (q : ℕ). set (front (ys ++ v ∷ []) c) q None) (sym m) ∙ front-pop ys c v k))
+      (t.packed.row ∙ ap (λ (r : List T). packed_slots r c) e)
+      ∙ (ap (λ (q : ℕ). set (packed_slots (ys ++ v ∷ []) c) q None) (sym m) ∙ front-pop ys c v k))
       (sym m) (omega (arith, length_push ys v))
 
   -- If `i` is less than the length of a list, then slot `i` of the block of the list holds the item
   -- at index `i`.
-  thin-slot : (b : Block T A) (a : A) (i : ℕ) → IsThin b a → i < length (items_in b.slots)
+  thin-slot : (b : Block T A) (a : A) (i : ℕ) → IsListBlock b a → i < length (items_in b.slots)
       → slot b.slots i ≡ slice_get (items_in b.slots) i
   thin-slot b a i t h =
       ap (λ (r : List (Option T)). slot r i) t.packed.row ∙ slot-get (items_in b.slots)
       (replicate (length b.slots - length (items_in b.slots)) None) i h
 
   -- If `i` is less than the length of a list, then slot `i` of the block of the list is filled.
-  pub thin-filled : (b : Block T A) (a : A) (i : ℕ) → IsThin b a → i < length (items_in b.slots)
+  pub thin-filled : (b : Block T A) (a : A) (i : ℕ) → IsListBlock b a
+      → i < length (items_in b.slots)
       → IsSome (slot b.slots i)
   thin-filled b a i t h = rw (thin-slot b a i t h) (get-some (items_in b.slots) i h)
 
   -- If the block `b` of a list stores the length `n`, and its first `n` slots hold the items `xs`,
   -- then `xs` is the list of the items in `b`.
-  pub thin-run : (b : Block T A) (a : A) (xs : List T) (n : ℕ) → IsThin b a → n ≡ b.len
-      → full xs ≡ slice_range b.slots 0 n → xs ≡ items_in b.slots
+  pub thin-run : (b : Block T A) (a : A) (xs : List T) (n : ℕ) → IsListBlock b a → n ≡ b.len
+      → filled_slots xs ≡ slice_range b.slots 0 n → xs ≡ items_in b.slots
   thin-run b a xs n t len run =
       let ys : List T = items_in b.slots in
-      let all : n - 0 ≡ length (full ys) = omega (arith, len, t.packed.len, length-full ys) in
+      let all : n - 0 ≡ length (filled_slots ys) =
+      omega (arith, len, t.packed.len, length-full ys) in
       full-same xs ys (run ∙ (ap (λ (r : List (Option T)). take (n - 0) r) t.packed.row
-      ∙ (ap (λ (k : ℕ). take k (front ys (length b.slots))) all ∙ take-append_seam (full ys)
-      (empty (length b.slots - length ys)))))
+      ∙ (ap (λ (k : ℕ). take k (packed_slots ys (length b.slots))) all
+      ∙ take-append_seam (filled_slots ys)
+      (empty_slots (length b.slots - length ys)))))
 
   -- If `i` is less than the length of a list, and slot `i` of its block holds `v`, then the item at
   -- index `i` is `v`.
-  pub thin-get : (b : Block T A) (a : A) (i : ℕ) (v : T) → IsThin b a
+  pub thin-get : (b : Block T A) (a : A) (i : ℕ) (v : T) → IsListBlock b a
       → i < length (items_in b.slots) → slot b.slots i ≡ Some v
       → slice_get (items_in b.slots) i ≡ Some v
   thin-get b a i v t h e = sym (thin-slot b a i t h) ∙ e
 
   -- If slot `i` of the block of a list is emptied, then the slot of each item at an index `j > i`
   -- is still filled.
-  pub kept-filled : (b : Block T A) (a : A) (i j : ℕ) (s : List (Option T)) → IsThin b a → i < j
+  pub kept-filled : (b : Block T A) (a : A) (i j : ℕ) (s : List (Option T)) → IsListBlock b a
+      → i < j
       → j < length (items_in b.slots) → s ≡ set b.slots i None → IsSome (slot s j)
   kept-filled b a i j s t n h e = let ne : j ≢ i = omega arith in
       rw (ap (λ (r : List (Option T)). slot r j) e ∙ get_or-set_other b.slots i j None None ne)

@@ -5,12 +5,12 @@ use Rattle.std.proofs.Common.{◌≡◌, ℕ, suc, ◌+◌, ◌-◌, ◌<◌, �
 use Rattle.std.proofs.lemmas.List.{drop_at, get_or-append_right, get_or-replicate, get_or_append_left, get_or_at, length_push, map_push, replicate-append-replicate, set_at, take_at}
 use Rattle.std.specs.Prelude.{IsSome, slice_range}
 use lib.ListN.{set}
-use Rattle.thin_block.specs.Block.{Seen, seen}
-use Rattle.thin_block.specs.Slots.{empty, front, full, items_in, slot}
+use Rattle.thin_block.specs.Block.{BlockView, block_view}
+use Rattle.thin_block.specs.Slots.{empty_slots, packed_slots, filled_slots, items_in, slot}
 use Rattle.thin_block.specs.declared.block.Block.{Block}
-use Rattle.thin_block.proofs.Outcomes.{some-same}
-use Rattle.thin_vec.specs.OpenBlock.{IsOpen, Shows, open_of}
-use Rattle.thin_vec.specs.Open.{Open, reach, row_of}
+use Rattle.thin_block.proofs.ResultLemmas.{some-same}
+use Rattle.thin_vec.specs.OpenBlock.{IsOpen, IsOpenViewOf, open_view}
+use Rattle.thin_vec.specs.Open.{OpenView, tail_end, slots_of}
 use Rattle.thin_vec.specs.declared.open_block.OpenBlock.TheInside.{Inside}
 use Rattle.thin_vec.proofs.ListLemmas.{get-some, items-front, items-full-alone, length-empty, length-full, slot-get}
 
@@ -28,88 +28,93 @@ last-of (x ∷ z ∷ zs) h = let p = last-of (z ∷ zs) (omega arith) in
     (x ∷ p.0, p.1, ap (λ q. x ∷ q) p.2)
 
 module _ {T : Type 0} where
-  -- If `j` is the index of a slot in the part `full xs` of `pre ++ (full xs ++ post)`, then slot
-  -- `j` holds an item.
+  -- If `j` is the index of a slot in the part `filled_slots xs` of
+  -- `pre ++ (filled_slots xs ++ post)`, then slot `j` holds an item.
   pub slot-in-full : (pre : List (Option T)) (xs : List T) (post : List (Option T)) (j : ℕ)
-      → length pre ≤ j → j < length pre + length xs → IsSome (slot (pre ++ (full xs ++ post)) j)
+      → length pre ≤ j → j < length pre + length xs
+      → IsSome (slot (pre ++ (filled_slots xs ++ post)) j)
   slot-in-full pre xs post j low high =
-      rw (get_or-append_right pre (full xs ++ post) (length pre) j None refl low
+      rw (get_or-append_right pre (filled_slots xs ++ post) (length pre) j None refl low
       ∙ slot-get xs post (j - length pre) (omega arith))
       (get-some xs (j - length pre) (omega arith))
 
-  -- If `j` is the index of a slot in the part `empty k` of `pre ++ (empty k ++ post)`, then slot
-  -- `j` is empty.
+  -- If `j` is the index of a slot in the part `empty_slots k` of `pre ++ (empty_slots k ++ post)`,
+  -- then slot `j` is empty.
   pub slot-in-empty : (pre : List (Option T)) (k : ℕ) (post : List (Option T)) (j : ℕ) → length pre ≤ j
-      → j < length pre + k → slot (pre ++ (empty k ++ post)) j ≡ None
+      → j < length pre + k → slot (pre ++ (empty_slots k ++ post)) j ≡ None
   slot-in-empty pre k post j low high =
       let n : j - length pre < k = omega arith in
-      get_or-append_right pre (empty k ++ post) (length pre) j None refl low
-      ∙ (get_or_append_left (empty k) post None (j - length pre) (omega (arith, length-empty T k))
+      get_or-append_right pre (empty_slots k ++ post) (length pre) j None refl low
+      ∙ (get_or_append_left (empty_slots k) post None (j - length pre)
+      (omega (arith, length-empty T k))
       ∙ get_or-replicate k (j - length pre) None None n)
 
   -- `g` empty slots, followed by one more empty slot and the slots `z`, are `g + 1` empty slots,
   -- followed by `z`.
-  pub empty-more : (g : ℕ) (z : List (Option T)) → empty g ++ (None ∷ z) ≡ empty (g + 1) ++ z
-  empty-more g z = sym (append_assoc (empty g) (None ∷ []) z) ∙ ap (λ (e : List (Option T)). e ++ z)
+  pub empty-more : (g : ℕ) (z : List (Option T))
+      → empty_slots g ++ (None ∷ z) ≡ empty_slots (g + 1) ++ z
+  empty-more g z = sym (append_assoc (empty_slots g) (None ∷ []) z)
+      ∙ ap (λ (e : List (Option T)). e ++ z)
       (replicate-append-replicate g 1 None)
 
 module _ {T A : Type 0} where
   -- `Found h v` holds if `h` is a valid open block (the block of a list during an edit), and `v` is
   -- how contracts see `h`.
-  pub record Found (h : Inside T A) (v : Open T A) : Type 0 where
+  pub record Found (h : Inside T A) (v : OpenView T A) : Type 0 where
     pub lies : IsOpen h
-    pub view : open_of h ≡ v
+    pub view : open_view h ≡ v
 
   -- `to_rest v` is the list of the slots before the middle items of the open block `v`.
-  abbrev pub to_rest : Open T A → List (Option T)
-  to_rest v = full v.front ++ empty v.gap
+  abbrev pub to_rest : OpenView T A → List (Option T)
+  to_rest v = filled_slots v.front ++ empty_slots v.gap
 
   -- `to_after v` is the list of the slots of the open block `v` up to the end of its middle items.
-  abbrev pub to_after : Open T A → List (Option T)
-  to_after v = to_rest v ++ full v.rest
+  abbrev pub to_after : OpenView T A → List (Option T)
+  to_after v = to_rest v ++ filled_slots v.rest
 
   -- `to_tail v` is the list of all slots before the tail items of the open block `v`.
-  abbrev pub to_tail : Open T A → List (Option T)
-  to_tail v = to_after v ++ empty v.gap_after
+  abbrev pub to_tail : OpenView T A → List (Option T)
+  to_tail v = to_after v ++ empty_slots v.gap_after
 
   -- `past_tail v` is the list of the slots after the tail items of the open block `v`. All of these
   -- slots are empty.
-  abbrev pub past_tail : Open T A → List (Option T)
-  past_tail v = empty (v.capacity - reach v)
+  abbrev pub past_tail : OpenView T A → List (Option T)
+  past_tail v = empty_slots (v.capacity - tail_end v)
 
   -- `past_after v` is the list of the slots of the open block `v` from the first tail item onward.
-  abbrev pub past_after : Open T A → List (Option T)
-  past_after v = full v.tail ++ past_tail v
+  abbrev pub past_after : OpenView T A → List (Option T)
+  past_after v = filled_slots v.tail ++ past_tail v
 
   -- `past_rest v` is the list of the slots after the middle items of the open block `v`.
-  abbrev pub past_rest : Open T A → List (Option T)
-  past_rest v = empty v.gap_after ++ past_after v
+  abbrev pub past_rest : OpenView T A → List (Option T)
+  past_rest v = empty_slots v.gap_after ++ past_after v
 
-  module _ (h : Inside T A) (v : Open T A) (s : Shows h v) where
+  module _ (h : Inside T A) (v : OpenView T A) (s : IsOpenViewOf h v) where
     -- If `v` describes the layout of the open block `h`, then the slots of `h` are, in order: the
     -- slots before the middle items, the slots of the middle items, and the slots after them.
-    pub by_rest : h.block.slots ≡ to_rest v ++ (full v.rest ++ past_rest v)
+    pub by_rest : h.block.slots ≡ to_rest v ++ (filled_slots v.rest ++ past_rest v)
     by_rest = s.row ∙ sym
-        (append_assoc (full v.front) (empty v.gap) (full v.rest ++ past_rest v))
+        (append_assoc (filled_slots v.front) (empty_slots v.gap)
+        (filled_slots v.rest ++ past_rest v))
 
     -- Suppose that `v` describes the layout of the open block `h`. Then the slots of `h` are
     -- `to_after v` (the slots up to the end of the middle items), followed by `past_rest v` (the
     -- slots after the middle items).
     by_after : h.block.slots ≡ to_after v ++ past_rest v
-    by_after = by_rest ∙ sym (append_assoc (to_rest v) (full v.rest) (past_rest v))
+    by_after = by_rest ∙ sym (append_assoc (to_rest v) (filled_slots v.rest) (past_rest v))
 
     -- Suppose that `v` describes the layout of the open block `h`. Then the slots of `h` are
     -- `to_tail v` (the slots before the tail items), followed by `past_after v` (the slots from the
     -- first tail item onward).
     pub by_tail : h.block.slots ≡ to_tail v ++ past_after v
-    by_tail = by_after ∙ sym (append_assoc (to_after v) (empty v.gap_after) (past_after v))
+    by_tail = by_after ∙ sym (append_assoc (to_after v) (empty_slots v.gap_after) (past_after v))
 
     -- Suppose that `v` describes the layout of the open block `h`. Then `to_rest v`, the list of
     -- the slots before the middle items, has the length `h.rest_start`.
     pub at_rest : length (to_rest v) ≡ h.rest_start
     at_rest = omega (
       arith,
-      length-append (full v.front) (empty v.gap),
+      length-append (filled_slots v.front) (empty_slots v.gap),
       length-full v.front,
       length-empty T v.gap,
       s.front,
@@ -120,7 +125,7 @@ module _ {T A : Type 0} where
     at_after : length (to_after v) ≡ h.rest_end
     at_after = omega (
       arith,
-      length-append (to_rest v) (full v.rest),
+      length-append (to_rest v) (filled_slots v.rest),
       at_rest,
       length-full v.rest,
       s.rest,
@@ -131,15 +136,15 @@ module _ {T A : Type 0} where
     pub at_tail : length (to_tail v) ≡ h.tail_start
     at_tail = omega (
       arith,
-      length-append (to_after v) (empty v.gap_after),
+      length-append (to_after v) (empty_slots v.gap_after),
       at_after,
       length-empty T v.gap_after,
       s.gap_after,
     )
 
-    -- If `v` describes the layout of the open block `h`, then `h.len` is `reach v`, the index
+    -- If `v` describes the layout of the open block `h`, then `h.len` is `tail_end v`, the index
     -- directly after the slots of the tail items.
-    pub reached : reach v ≡ h.len
+    pub reached : tail_end v ≡ h.len
     reached = omega (arith, s.front, s.gap, s.rest, s.gap_after, s.tail)
 
     -- If `v` describes the layout of the open block `h`, then the number of slots of `h` is
@@ -151,9 +156,9 @@ module _ {T A : Type 0} where
           ap length by_tail,
           length-append (to_tail v) (past_after v),
           at_tail,
-          length-append (full v.tail) (past_tail v),
+          length-append (filled_slots v.tail) (past_tail v),
           length-full v.tail,
-          length-empty T (v.capacity - reach v),
+          length-empty T (v.capacity - tail_end v),
           reached,
           s.tail,
           s.room,
@@ -163,7 +168,8 @@ module _ {T A : Type 0} where
     shown-front : items_in (take h.front_end h.block.slots) ≡ v.front
     shown-front =
         ap items_in (ap (take h.front_end) s.row
-        ∙ take_at (full v.front) (empty v.gap ++ (full v.rest ++ past_rest v)) h.front_end
+        ∙ take_at (filled_slots v.front)
+        (empty_slots v.gap ++ (filled_slots v.rest ++ past_rest v)) h.front_end
         (length-full v.front ∙ s.front))
         ∙ items-full-alone v.front
 
@@ -171,25 +177,26 @@ module _ {T A : Type 0} where
     -- items.
     shown-rest : items_in (slice_range h.block.slots h.rest_start h.rest_end) ≡ v.rest
     shown-rest =
-        let count : length (full v.rest) ≡ h.rest_end - h.rest_start =
+        let count : length (filled_slots v.rest) ≡ h.rest_end - h.rest_start =
         omega (arith, length-full v.rest, s.rest) in
         ap items_in (ap (λ (r : List (Option T)). take (h.rest_end - h.rest_start)
         (drop h.rest_start r)) by_rest
         ∙ (ap (take (h.rest_end - h.rest_start))
-        (drop_at (to_rest v) (full v.rest ++ past_rest v) h.rest_start at_rest)
-        ∙ take_at (full v.rest) (past_rest v) (h.rest_end - h.rest_start) count))
+        (drop_at (to_rest v) (filled_slots v.rest ++ past_rest v) h.rest_start at_rest)
+        ∙ take_at (filled_slots v.rest) (past_rest v) (h.rest_end - h.rest_start) count))
         ∙ items-full-alone v.rest
 
     -- The items in the slots of the open block `h` from index `tail_start` onward are its tail
     -- items `v.tail`.
     shown-tail : items_in (drop h.tail_start h.block.slots) ≡ v.tail
     shown-tail =
-        let some : length v.tail + (v.capacity - reach v) - length v.tail ≡ v.capacity - reach v =
+        let some : length v.tail + (v.capacity - tail_end v) - length v.tail
+        ≡ v.capacity - tail_end v =
         omega arith in
         ap items_in (ap (drop h.tail_start) by_tail
         ∙ (drop_at (to_tail v) (past_after v) h.tail_start at_tail
-        ∙ ap (λ (k : ℕ). full v.tail ++ empty k) (sym some)))
-        ∙ items-front v.tail (length v.tail + (v.capacity - reach v))
+        ∙ ap (λ (k : ℕ). filled_slots v.tail ++ empty_slots k) (sym some)))
+        ∙ items-front v.tail (length v.tail + (v.capacity - tail_end v))
 
     -- If `v` describes the layout of the open block `h`, and has the same allocator and cost as
     -- `h`, then `h` is a valid open block, and `v` is how contracts see `h`.
@@ -197,7 +204,7 @@ module _ {T A : Type 0} where
     found alloc cost =
         let gap : h.rest_start - h.front_end ≡ v.gap = omega (arith, s.gap) in
         let gap_after : h.tail_start - h.rest_end ≡ v.gap_after = omega (arith, s.gap_after) in
-        let view : open_of h ≡ v =
+        let view : open_view h ≡ v =
         λ i. record {
           front = shown-front i;
           gap = gap i;
@@ -209,7 +216,7 @@ module _ {T A : Type 0} where
               alloc i;
           cost = cost i;
         } in
-        record { lies = subst (Shows h) (sym view) s; view = view }
+        record { lies = subst (IsOpenViewOf h) (sym view) s; view = view }
 
     -- Each slot in the range `rest_start..rest_end` of the open block `h` is filled: it holds one
     -- of the middle items.
@@ -231,62 +238,67 @@ module _ {T A : Type 0} where
     pub before-empty : (j : ℕ) → h.front_end ≤ j → j < h.rest_start → slot h.block.slots j ≡ None
     before-empty j low high =
         ap (λ (r : List (Option T)). slot r j) s.row
-        ∙ slot-in-empty (full v.front) v.gap (full v.rest ++ past_rest v) j
+        ∙ slot-in-empty (filled_slots v.front) v.gap (filled_slots v.rest ++ past_rest v) j
         (omega (arith, length-full v.front, s.front))
         (omega (arith, length-full v.front, s.front, s.gap))
 
   -- If the slots `rest_start..rest_end` of the open block `h` hold exactly the items `xs`, then
   -- `xs` is the list of the middle items of `h`.
-  pub rest-run : (h : Inside T A) (xs : List T) → full xs
+  pub rest-run : (h : Inside T A) (xs : List T) → filled_slots xs
       ≡ slice_range h.block.slots h.rest_start h.rest_end
-      → xs ≡ (open_of h).rest
+      → xs ≡ (open_view h).rest
   rest-run h xs e = sym (items-full-alone xs) ∙ ap items_in e
 
   -- Most steps of an edit, such as the removal of one item, have two definitions: the open block
   -- after the step, and how contracts see it. A lemma states that they agree.
 
   module _ (h : Inside T A) (o : IsOpen h) (b : Block T A)
-      (some : 0 < length (open_of h).rest) where
+      (some : 0 < length (open_view h).rest) where
     -- `v` is how contracts see the open block `h` before one of the middle items of `h` is removed.
-    abbrev v : Open T A
-    v = open_of h
+    abbrev v : OpenView T A
+    v = open_view h
 
     -- `first-left` is the open block `h` after its first middle item has been removed.
     abbrev pub first-left : Inside T A
     first-left = record h { block = b; rest_start = h.rest_start + 1 }
 
-    -- `first-seen ys` is how contracts see the open block `first-left` if `ys` is the list of the
+    -- `first-view ys` is how contracts see the open block `first-left` if `ys` is the list of the
     -- remaining middle items. The gap before these items is one slot longer than in `h`.
-    abbrev pub first-seen : List T → Open T A
-    first-seen ys = record v { gap = v.gap + 1; rest = ys }
+    abbrev pub first-view : List T → OpenView T A
+    first-view ys = record v { gap = v.gap + 1; rest = ys }
 
-    -- If the first middle item `x` of the open block `h` is removed, then `first-seen ys` is how
+    -- If the first middle item `x` of the open block `h` is removed, then `first-view ys` is how
     -- contracts see the resulting open block. The list `ys` contains the remaining middle items.
     pub first-step : (x : T) → slot h.block.slots h.rest_start ≡ Some x
-        → seen b ≡ record (seen h.block) { slots = set h.block.slots h.rest_start None }
-        → (ys : List T) × (v.rest ≡ x ∷ ys) × Found first-left (first-seen ys)
+        → block_view b ≡ record (block_view h.block) { slots = set h.block.slots h.rest_start None }
+        → (ys : List T) × (v.rest ≡ x ∷ ys) × Found first-left (first-view ys)
     first-step x is now =
         let parts = first-of v.rest some in
         let y : T = parts.0 in
         let ys : List T = parts.1 in
-        let row : h.block.slots ≡ to_rest v ++ (Some y ∷ (full ys ++ past_rest v)) =
-        by_rest h v o ∙ ap (λ (r : List T). to_rest v ++ (full r ++ past_rest v)) parts.2 in
+        let row : h.block.slots ≡ to_rest v ++ (Some y ∷ (filled_slots ys ++ past_rest v)) =
+        by_rest h v o ∙ ap (λ (r : List T). to_rest v ++ (filled_slots r ++ past_rest v)) parts.2 in
         let same : y ≡ x =
-        some-same (sym (get_or_at (to_rest v) (Some y) (full ys ++ past_rest v) None h.rest_start
+        some-same (sym (get_or_at (to_rest v) (Some y)
+        (filled_slots ys ++ past_rest v) None h.rest_start
         (at_rest h v o)) ∙ (ap (λ (r : List (Option T)). slot r h.rest_start) (sym row) ∙ is)) in
-        let reached' : v.capacity - reach v ≡ v.capacity - reach (first-seen ys) =
+        let reached' : v.capacity - tail_end v ≡ v.capacity - tail_end (first-view ys) =
         omega (arith, ap length parts.2) in
-        let after : b.slots ≡ row_of (first-seen ys) =
-        ap (λ (z : Seen T A). z.slots) now
+        let after : b.slots ≡ slots_of (first-view ys) =
+        ap (λ (z : BlockView T A). z.slots) now
         ∙ (ap (λ (r : List (Option T)). set r h.rest_start None) row
-        ∙ (set_at (to_rest v) (Some y) (full ys ++ past_rest v) None h.rest_start (at_rest h v o)
-        ∙ (append_assoc (full v.front) (empty v.gap) (None ∷ (full ys ++ past_rest v))
-        ∙ (ap (λ (r : List (Option T)). full v.front ++ r)
-        (empty-more v.gap (full ys ++ past_rest v))
-        ∙ ap (λ (k : ℕ). full v.front
-        ++ (empty (v.gap + 1) ++ (full ys ++ (empty v.gap_after ++ (full v.tail ++ empty k)))))
+        ∙ (set_at (to_rest v) (Some y) (filled_slots ys ++ past_rest v) None h.rest_start
+        (at_rest h v o)
+        ∙ (append_assoc (filled_slots v.front) (empty_slots v.gap)
+        (None ∷ (filled_slots ys ++ past_rest v))
+        ∙ (ap (λ (r : List (Option T)). filled_slots v.front ++ r)
+        (empty-more v.gap (filled_slots ys ++ past_rest v))
+        ∙ ap (λ (k : ℕ). filled_slots v.front
+        ++ (empty_slots (v.gap + 1)
+        ++ (filled_slots ys
+        ++ (empty_slots v.gap_after ++ (filled_slots v.tail ++ empty_slots k)))))
         reached')))) in
-        let shows : Shows first-left (first-seen ys) =
+        let shows : IsOpenViewOf first-left (first-view ys) =
         record {
           row = after;
           front = o.front;
@@ -299,64 +311,68 @@ module _ {T A : Type 0} where
         } in (
           ys,
           parts.2 ∙ ap (λ (z : T). z ∷ ys) same,
-          found first-left (first-seen ys) shows (ap (λ (z : Seen T A). z.alloc) now)
-              (ap (λ (z : Seen T A). z.cost) now),
+          found first-left (first-view ys) shows (ap (λ (z : BlockView T A). z.alloc) now)
+              (ap (λ (z : BlockView T A). z.cost) now),
         )
 
     -- `last-left` is the open block `h` after its last middle item has been removed.
     abbrev pub last-left : Inside T A
     last-left = record h { block = b; rest_end = h.rest_end - 1 }
 
-    -- `last-seen ys` is how contracts see the open block `last-left` if `ys` is the list of the
+    -- `last-view ys` is how contracts see the open block `last-left` if `ys` is the list of the
     -- remaining middle items. The gap after these items is one slot longer than in the open block
     -- `h`.
-    abbrev pub last-seen : List T → Open T A
-    last-seen ys = record v { rest = ys; gap_after = v.gap_after + 1 }
+    abbrev pub last-view : List T → OpenView T A
+    last-view ys = record v { rest = ys; gap_after = v.gap_after + 1 }
 
     -- If the last middle item `x` of the open block `h` was removed, then contracts see the new
-    -- open block as `last-seen ys`, where `ys` are the other middle items.
+    -- open block as `last-view ys`, where `ys` are the other middle items.
     pub last-step : (x : T) → slot h.block.slots (h.rest_end - 1) ≡ Some x
-        → seen b ≡ record (seen h.block) { slots = set h.block.slots (h.rest_end - 1) None }
-        → (ys : List T) × (v.rest ≡ ys ++ x ∷ []) × Found last-left (last-seen ys)
+        → block_view b ≡ record
+        (block_view h.block) { slots = set h.block.slots (h.rest_end - 1) None }
+        → (ys : List T) × (v.rest ≡ ys ++ x ∷ []) × Found last-left (last-view ys)
     last-step x is now =
         let parts = last-of v.rest some in
         let ys : List T = parts.0 in
         let y : T = parts.1 in
         let longer : length v.rest ≡ length ys + 1 = ap length parts.2 ∙ length_push ys y in
-        let pre : List (Option T) = to_rest v ++ full ys in
+        let pre : List (Option T) = to_rest v ++ filled_slots ys in
         let before : length pre ≡ h.rest_end - 1 =
         omega (
           arith,
-          length-append (to_rest v) (full ys),
+          length-append (to_rest v) (filled_slots ys),
           at_rest h v o,
           length-full ys,
           o.rest,
           longer,
         ) in
         let row : h.block.slots ≡ pre ++ (Some y ∷ past_rest v) =
-        by_rest h v o ∙ (ap (λ (r : List T). to_rest v ++ (full r ++ past_rest v)) parts.2
+        by_rest h v o ∙ (ap (λ (r : List T). to_rest v ++ (filled_slots r ++ past_rest v)) parts.2
         ∙ (ap (λ (r : List (Option T)). to_rest v ++ (r ++ past_rest v)) (map_push Some ys y)
         ∙ (ap (λ (r : List (Option T)). to_rest v ++ r)
-        (append_assoc (full ys) (Some y ∷ []) (past_rest v))
-        ∙ sym (append_assoc (to_rest v) (full ys) (Some y ∷ past_rest v))))) in
+        (append_assoc (filled_slots ys) (Some y ∷ []) (past_rest v))
+        ∙ sym (append_assoc (to_rest v) (filled_slots ys) (Some y ∷ past_rest v))))) in
         let same : y ≡ x =
         some-same (sym (get_or_at pre (Some y) (past_rest v) None (h.rest_end - 1) before)
         ∙ (ap (λ (r : List (Option T)). slot r (h.rest_end - 1)) (sym row) ∙ is)) in
-        let reached' : v.capacity - reach v ≡ v.capacity - reach (last-seen ys) =
+        let reached' : v.capacity - tail_end v ≡ v.capacity - tail_end (last-view ys) =
         omega (arith, longer) in
         let more : suc v.gap_after ≡ v.gap_after + 1 = omega arith in
-        let after : b.slots ≡ row_of (last-seen ys) =
-        ap (λ (z : Seen T A). z.slots) now
+        let after : b.slots ≡ slots_of (last-view ys) =
+        ap (λ (z : BlockView T A). z.slots) now
         ∙ (ap (λ (r : List (Option T)). set r (h.rest_end - 1) None) row
         ∙ (set_at pre (Some y) (past_rest v) None (h.rest_end - 1) before
-        ∙ (append_assoc (to_rest v) (full ys) (None ∷ past_rest v)
-        ∙ (append_assoc (full v.front) (empty v.gap) (full ys ++ (None ∷ past_rest v))
-        ∙ (ap (λ (k : ℕ). full v.front
-        ++ (empty v.gap ++ (full ys ++ (empty k ++ past_after v)))) more
-        ∙ ap (λ (k : ℕ). full v.front
-        ++ (empty v.gap ++ (full ys ++ (empty (v.gap_after + 1) ++ (full v.tail ++ empty k)))))
+        ∙ (append_assoc (to_rest v) (filled_slots ys) (None ∷ past_rest v)
+        ∙ (append_assoc (filled_slots v.front) (empty_slots v.gap)
+        (filled_slots ys ++ (None ∷ past_rest v))
+        ∙ (ap (λ (k : ℕ). filled_slots v.front
+        ++ (empty_slots v.gap ++ (filled_slots ys ++ (empty_slots k ++ past_after v)))) more
+        ∙ ap (λ (k : ℕ). filled_slots v.front
+        ++ (empty_slots v.gap
+        ++ (filled_slots ys
+        ++ (empty_slots (v.gap_after + 1) ++ (filled_slots v.tail ++ empty_slots k)))))
         reached'))))) in
-        let shows : Shows last-left (last-seen ys) =
+        let shows : IsOpenViewOf last-left (last-view ys) =
         record {
           row = after;
           front = o.front;
@@ -368,6 +384,6 @@ module _ {T A : Type 0} where
         } in (
           ys,
           parts.2 ∙ ap (λ (z : T). ys ++ z ∷ []) same,
-          found last-left (last-seen ys) shows (ap (λ (z : Seen T A). z.alloc) now)
-              (ap (λ (z : Seen T A). z.cost) now),
+          found last-left (last-view ys) shows (ap (λ (z : BlockView T A). z.alloc) now)
+              (ap (λ (z : BlockView T A). z.cost) now),
         )

@@ -3,7 +3,7 @@
 use Rattle.std.proofs.Common.{◌≡◌, ℕ, ◌+◌, ◌<◌, ◌≤◌, List, [], ◌∷◌, ◌++◌, length, take, drop, Option, Some, None, sym, ap, ◌∙◌, append_assoc, arith, get_or, length-append}
 use Rattle.std.proofs.lemmas.List.{append-nil, length-take-le, length_push, set_at, take_more}
 use lib.ListN.{set}
-use Rattle.thin_block.specs.Slots.{full, laid}
+use Rattle.thin_block.specs.Slots.{filled_slots, write_slots}
 use Rattle.thin_block.proofs.SlotsLemmas.{laid-none}
 use Rattle.std.proofs.Common.{Bool, true, false, refl}
 use Rattle.std.specs.Iterator.{Count}
@@ -20,8 +20,8 @@ module _ {S X : Type 0} {steps : S → Option X → S → Type 0} {can : S → T
     where
       go : (ended : Bool) → (ended ≡ false → length by.items ≡ room)
           → (ended ≡ true → length by.items < room) → length by.items ≤ room
-      go true full short = omega (arith, short refl)
-      go false full short = omega (arith, full refl)
+      go true filled_slots short = omega (arith, short refl)
+      go false filled_slots short = omega (arith, filled_slots refl)
 
   -- If `IsFilledBy`, which describes a loop that moves items into empty slots, holds for `m` slots,
   -- and `m` equals `n`, then it holds for `n` slots.
@@ -40,7 +40,7 @@ module _ {T : Type 0} where
   -- If `i` is the index of a slot in `s`, then writing `ys` from index `i + 1` onward, and then `y`
   -- at index `i`, is the same as writing `y ∷ ys` from index `i` onward.
   laid-before : (i k : ℕ) (y : Option T) (ys s : List (Option T)) → k ≡ i + 1 → i < length s
-      → set (laid k ys s) i y ≡ laid i (y ∷ ys) s
+      → set (write_slots k ys s) i y ≡ write_slots i (y ∷ ys) s
   laid-before i k y ys s next low =
       let rest : List (Option T) = drop (k + length ys) s in
       let more : take k s ≡ take i s ++ get_or s i None ∷ [] =
@@ -58,7 +58,7 @@ module _ {T : Type 0} where
   pub record IsMoving (xs left : List T) (start : ℕ) (r s : List (Option T)) : Type 0 where
     pub rest : List T
     pub parts : xs ≡ left ++ rest
-    pub row : s ≡ laid (start + length left) (full rest) r
+    pub row : s ≡ write_slots (start + length left) (filled_slots rest) r
 
   -- `IsMoving`, the invariant of a loop that moves the items `xs` into slots, holds before the
   -- first item is moved.
@@ -84,7 +84,7 @@ module _ {T : Type 0} where
         parts = m.parts ∙ append_assoc left (v ∷ []) m.rest;
         row =
             ap (λ (l : List (Option T)). set l i (Some v)) m.row
-            ∙ (laid-before i (start + length (left ++ v ∷ [])) (Some v) (full m.rest) r
+            ∙ (laid-before i (start + length (left ++ v ∷ [])) (Some v) (filled_slots m.rest) r
             (omega (arith, next, one)) (omega (arith, next, one, all, room))
-            ∙ ap (λ (n : ℕ). laid n (full (v ∷ m.rest)) r) next);
+            ∙ ap (λ (n : ℕ). write_slots n (filled_slots (v ∷ m.rest)) r) next);
       }

@@ -1,4 +1,4 @@
--- These lemmas are about lists of verdicts (a verdict says whether a test keeps an item), and about
+-- These lemmas are about lists of results (a result says whether a test keeps an item), and about
 -- the items that `retain` keeps. `R` describes the calls to the closure, and `s` and `t` are its
 -- states.
 use Rattle.std.proofs.Common.{◌≡◌, ℕ, zero, suc, ◌+◌, ◌<◌, ◌≤◌, Bool, true, false, List, [], ◌∷◌, ◌++◌, length, drop, refl, sym, ap, subst, ◌∙◌, arith}
@@ -7,33 +7,33 @@ use Rattle.std.specs.Prelude.{◌==◌, if◌then◌else◌}
 use Rattle.std.specs.List.{filter, items_where_true}
 use Rattle.std.specs.List.Retain.{IsFiltered, ReturnsInTurn}
 use Rattle.std.proofs.lemmas.Fn.{filter_same}
-use Rattle.thin_block.specs.Cost.{Cost, moving}
-use Rattle.thin_vec.specs.Edits.Retain.{Verdicts, Asked, IsRetained, IsRetainedTo, Looks, flags_of, left_at, moved_down, stay, trues}
-use Rattle.thin_vec.specs.ThinVec.{Thin}
+use Rattle.thin_block.specs.Cost.{Cost, add_moves}
+use Rattle.thin_vec.specs.Edits.Retain.{TestResults, TestsInTurn, IsRetained, IsRetainedTo, ReadsOnly, flags_of, items_where, moves_of_retain, all_kept, count_true}
+use Rattle.thin_vec.specs.ThinVec.{ListView}
 
 -- A cost counts moves of items, among other things. Adding `b` moves and then `a` moves to a cost
 -- is the same as adding `b + a` moves.
-pub moving-more : (a b : ℕ) (c : Cost) → moving a (moving b c) ≡ moving (b + a) c
+pub moving-more : (a b : ℕ) (c : Cost) → add_moves a (add_moves b c) ≡ add_moves (b + a) c
 moving-more a b c = let e : c.moves + b + a ≡ c.moves + (b + a) = omega arith in
     λ i. record { blocks = c.blocks; grown = c.grown; moves = e i }
 
 -- A cost counts moves of items, among other things. Adding zero moves to a cost does not change the
 -- cost.
-pub moving-none : (c : Cost) → moving 0 c ≡ c
+pub moving-none : (c : Cost) → add_moves 0 c ≡ c
 moving-none c = let e : c.moves + 0 ≡ c.moves = omega arith in
     λ i. record { blocks = c.blocks; grown = c.grown; moves = e i }
 
 -- If a gap of empty slots lies before `k` items, then moving these items across the gap costs `k`
 -- moves.
 pub moving-after : (gap k : ℕ) (c : Cost) → 0 < gap
-    → (if gap == 0 then c else moving k c) ≡ moving k c
+    → (if gap == 0 then c else add_moves k c) ≡ add_moves k c
 moving-after gap k c some =
-    ap (λ (b : Bool). if b then c else moving k c)
+    ap (λ (b : Bool). if b then c else add_moves k c)
     (ne_eqb gap 0 (λ (e : gap ≡ 0). omega (arith, e)))
 
 -- If there is no gap of empty slots, then no item has to be moved, and the cost does not change.
 pub moving-before : (gap k : ℕ) (c : Cost) → (0 < gap → ⊥)
-    → (if gap == 0 then c else moving k c) ≡ c
+    → (if gap == 0 then c else add_moves k c) ≡ c
 moving-before zero k c none = refl
 moving-before (suc gap) k c none = absurd (none (omega arith))
 
@@ -61,38 +61,40 @@ none-left [] none = refl
 none-left (x ∷ xs) none = absurd (none (omega arith))
 
 module _ {T : Type 0} where
-  -- The items that the verdicts `a ++ b` keep are the items that `a` keeps, followed by the items
-  -- that `b` keeps. (A verdict says whether an item is kept.)
-  pub left_at-append : (a b : Verdicts T) → left_at true (a ++ b) ≡ left_at true a ++ left_at true b
-  left_at-append [] b = refl
-  left_at-append ((true, x) ∷ a) b = ap (λ (l : List T). x ∷ l) (left_at-append a b)
-  left_at-append ((false, x) ∷ a) b = left_at-append a b
+  -- The items that the results `a ++ b` keep are the items that `a` keeps, followed by the items
+  -- that `b` keeps. (A result says whether an item is kept.)
+  pub items_where-append : (a b : TestResults T)
+      → items_where true (a ++ b) ≡ items_where true a ++ items_where true b
+  items_where-append [] b = refl
+  items_where-append ((true, x) ∷ a) b = ap (λ (l : List T). x ∷ l) (items_where-append a b)
+  items_where-append ((false, x) ∷ a) b = items_where-append a b
 
-  -- A verdict says whether an item is kept. The number of items that the verdicts `a ++ b` keep is
+  -- A result says whether an item is kept. The number of items that the results `a ++ b` keep is
   -- the number of items that `a` keeps, plus the number of items that `b` keeps.
-  pub trues-append : (a b : Verdicts T) → trues (flags_of (a ++ b)) ≡ trues
-      (flags_of a) + trues (flags_of b)
-  trues-append [] b = omega arith
-  trues-append ((true, x) ∷ a) b = let e = trues-append a b in omega arith
-  trues-append ((false, x) ∷ a) b = trues-append a b
+  pub count_true-append : (a b : TestResults T) → count_true (flags_of (a ++ b)) ≡ count_true
+      (flags_of a) + count_true (flags_of b)
+  count_true-append [] b = omega arith
+  count_true-append ((true, x) ∷ a) b = let e = count_true-append a b in omega arith
+  count_true-append ((false, x) ∷ a) b = count_true-append a b
 
   -- If the tests keep all items and leave them as `xs`, then the list of the kept items is `xs`.
-  pub left_at-stay : (xs : List T) → left_at true (stay xs) ≡ xs
-  left_at-stay [] = refl
-  left_at-stay (x ∷ xs) = ap (λ (l : List T). x ∷ l) (left_at-stay xs)
+  pub items_where-stay : (xs : List T) → items_where true (all_kept xs) ≡ xs
+  items_where-stay [] = refl
+  items_where-stay (x ∷ xs) = ap (λ (l : List T). x ∷ l) (items_where-stay xs)
 
-  -- `stay xs` is a list of verdicts that keep all items `xs`. So the number of items that these
-  -- verdicts keep is the length of `xs`.
-  pub trues-stay : (xs : List T) → trues (flags_of (stay xs)) ≡ length xs
-  trues-stay [] = refl
-  trues-stay (x ∷ xs) = ap suc (trues-stay xs)
+  -- `all_kept xs` is a list of results that keep all items `xs`. So the number of items that these
+  -- results keep is the length of `xs`.
+  pub count_true-stay : (xs : List T) → count_true (flags_of (all_kept xs)) ≡ length xs
+  count_true-stay [] = refl
+  count_true-stay (x ∷ xs) = ap suc (count_true-stay xs)
 
-  -- `moved_down` counts the kept items after the first removed item. The verdicts `stay xs` keep
-  -- all items `xs`. Putting them in front of the verdicts `a` does not change this number.
-  pub moved_down-stay : (xs : List T) (a : Verdicts T) → moved_down (flags_of (stay xs ++ a))
-      ≡ moved_down (flags_of a)
-  moved_down-stay [] a = refl
-  moved_down-stay (x ∷ xs) a = moved_down-stay xs a
+  -- `moves_of_retain` counts the kept items after the first removed item. The results `all_kept xs`
+  -- keep all items `xs`. Putting them in front of the results `a` does not change this number.
+  pub moves_of_retain-stay : (xs : List T) (a : TestResults T)
+      → moves_of_retain (flags_of (all_kept xs ++ a))
+      ≡ moves_of_retain (flags_of a)
+  moves_of_retain-stay [] a = refl
+  moves_of_retain-stay (x ∷ xs) a = moves_of_retain-stay xs a
 
 -- In this module, `J` is the type of a wrapper around a closure. A call to the wrapper returns what
 -- the closure returns. `inside` maps each state of the wrapper to the state of the closure inside
@@ -104,23 +106,23 @@ module _ {J S T : Type 0} (R : S → T → Bool → S → T → Type 0) (inside 
   abbrev through : J → T → Bool → J → T → Type 0
   through s x b t y = R (inside s) x b (inside t) y
 
-  -- If a wrapper of a closure returned the verdicts `a` for the items `xs`, then the closure itself
-  -- returned the same verdicts for them.
-  pub asked-through : (xs : List T) (s t : J) (a : Verdicts T) → Asked through s xs a t
-      → Asked R (inside s) xs a (inside t)
+  -- If a wrapper of a closure returned the results `a` for the items `xs`, then the closure itself
+  -- returned the same results for them.
+  pub asked-through : (xs : List T) (s t : J) (a : TestResults T) → TestsInTurn through s xs a t
+      → TestsInTurn R (inside s) xs a (inside t)
   asked-through [] s t a h = (h.0, ap inside h.1)
   asked-through (x ∷ xs) s t a h =
       (h.0, h.1, inside h.2, h.3, h.4, asked-through xs h.2 t h.3 h.5, h.6)
 
   -- If `retain` with a wrapper of a closure turns the list `v` into `w`, then `retain` with the
   -- closure itself also turns `v` into `w`.
-  pub retained-through : {A : Type 0} (s : J) (v w : Thin T A) (t : J)
+  pub retained-through : {A : Type 0} (s : J) (v w : ListView T A) (t : J)
       → IsRetainedTo through s v w t → IsRetained R (inside s) v w
   retained-through s v w t h = (
     inside t,
     record {
-      verdicts = h.verdicts;
-      asked = asked-through v.items s t h.verdicts h.asked;
+      results = h.results;
+      asked = asked-through v.items s t h.results h.asked;
       items = h.items;
       cost = h.cost;
     },
@@ -132,16 +134,17 @@ module _ {J S T : Type 0} (R : S → T → Bool → S → T → Type 0) (inside 
 module _ {S T : Type 0} (R : S → T → Bool → S → Type 0) where
   -- If a closure that cannot change the items tests the items `xs`, then it returns one flag for
   -- each of them, and the kept items are those whose flag is true.
-  told : (xs : List T) (s t : S) (a : Verdicts T) → Asked (Looks R) s xs a t
+  told : (xs : List T) (s t : S) (a : TestResults T) → TestsInTurn (ReadsOnly R) s xs a t
       → (length (flags_of a) ≡ length xs) × ReturnsInTurn R s (flags_of a) xs t
-      × (left_at true a ≡ items_where_true (flags_of a) xs)
+      × (items_where true a ≡ items_where_true (flags_of a) xs)
   told [] s t [] h = (refl, sym h.1, refl)
   told [] s t (q ∷ a) h = absurd (cons-not-nil h.0)
   told (x ∷ xs) s t [] h = absurd (cons-not-nil (sym h.6))
   told (x ∷ xs) s t ((b, y) ∷ a) h =
       let same : (b, y) ≡ (h.0, h.1) = cons-head h.6 in
       let rest = told xs h.2 t a
-      (subst (λ (c : Verdicts T). Asked (Looks R) h.2 xs c t) (sym (cons-tail h.6)) h.5) in
+      (subst (λ (c : TestResults T). TestsInTurn (ReadsOnly R) h.2 xs c t)
+      (sym (cons-tail h.6)) h.5) in
       let answer : R s x b h.2 = subst (λ (c : Bool). R s x c h.2)
       (sym (ap (λ (p : Bool × T). p.0) same)) h.4.0 in
       let left : y ≡ x = ap (λ (p : Bool × T). p.1) same ∙ h.4.1 in
@@ -150,51 +153,51 @@ module _ {S T : Type 0} (R : S → T → Bool → S → Type 0) where
       -- This is the induction step of the lemma `told`, from the list `xs` to the list `x ∷ xs`.
       -- Here, `b` is the flag for the item `x`, and `y` is this item after the test, which left it
       -- unchanged.
-      first : (b : Bool) (y x : T) (a : Verdicts T) (xs : List T) → y ≡ x
-          → left_at true a ≡ items_where_true (flags_of a) xs
-          → left_at true ((b, y) ∷ a) ≡ items_where_true (b ∷ flags_of a) (x ∷ xs)
+      first : (b : Bool) (y x : T) (a : TestResults T) (xs : List T) → y ≡ x
+          → items_where true a ≡ items_where_true (flags_of a) xs
+          → items_where true ((b, y) ∷ a) ≡ items_where_true (b ∷ flags_of a) (x ∷ xs)
       first true y x a xs e f = λ i. e i ∷ f i
       first false y x a xs e f = f
 
   -- If `retain`, called with a closure that only reads the items, turned the list `v` into `w`,
   -- then `w` contains the items of `v` for which the closure returned true.
-  pub retained_filtered : {A : Type 0} (s : S) (v w : Thin T A) → IsRetained (Looks R) s v w
+  pub retained_filtered : {A : Type 0} (s : S) (v w : ListView T A) → IsRetained (ReadsOnly R) s v w
       → IsFiltered R s v.items w.items
   retained_filtered s v w h =
       let r = h.1 in
-      let t = told v.items s h.0 r.verdicts r.asked in
-      (flags_of r.verdicts, h.0, t.0, t.1, r.items ∙ t.2)
+      let t = told v.items s h.0 r.results r.asked in
+      (flags_of r.results, h.0, t.0, t.1, r.items ∙ t.2)
 
   -- If the closure does not change its state and returns `test x` for each item `x`, then `retain`
   -- keeps exactly the items that pass `test`.
-  pub retained_filter : {A : Type 0} (test : T → Bool) {s : S} {v w : Thin T A}
+  pub retained_filter : {A : Type 0} (test : T → Bool) {s : S} {v w : ListView T A}
       → ((x : T) (b : Bool) (t : S) → R s x b t → (b ≡ test x) × (t ≡ s))
-      → IsRetained (Looks R) s v w → w.items ≡ filter test v.items
+      → IsRetained (ReadsOnly R) s v w → w.items ≡ filter test v.items
   retained_filter test {s} {v} {w} says h = filter_same R test s says v.items w.items
       (retained_filtered s v w h)
 
 module _ {S T : Type 0} (R : S → T → Bool → S → T → Type 0) where
   -- Suppose that a closure tested all items of the list `xs`. Then the number of kept items is at
   -- most the length of `xs`.
-  pub few-left : (xs : List T) (s t : S) (a : Verdicts T) → Asked R s xs a t
-      → length (left_at true a) ≤ length xs
+  pub few-left : (xs : List T) (s t : S) (a : TestResults T) → TestsInTurn R s xs a t
+      → length (items_where true a) ≤ length xs
   few-left [] s t a h =
-      subst (λ (b : Verdicts T). length (left_at true b) ≤ 0) (sym h.0) (omega arith)
+      subst (λ (b : TestResults T). length (items_where true b) ≤ 0) (sym h.0) (omega arith)
   few-left (x ∷ xs) s t a h =
       let rest = few-left xs h.2 t h.3 h.5 in
-      subst (λ (b : Verdicts T). length (left_at true b) ≤ suc (length xs)) (sym h.6)
+      subst (λ (b : TestResults T). length (items_where true b) ≤ suc (length xs)) (sym h.6)
       (one h.0 h.1 h.3 xs rest)
     where
       -- The test of one more item increases the number of kept items by at most 1.
-      one : (b : Bool) (y : T) (a : Verdicts T) (xs : List T)
-          → length (left_at true a) ≤ length xs
-          → length (left_at true ((b, y) ∷ a)) ≤ suc (length xs)
+      one : (b : Bool) (y : T) (a : TestResults T) (xs : List T)
+          → length (items_where true a) ≤ length xs
+          → length (items_where true ((b, y) ∷ a)) ≤ suc (length xs)
       one true y a xs few = omega (arith, few)
       one false y a xs few = omega (arith, few)
 
   -- `retain` does not increase the number of items.
-  pub few-retained : {A : Type 0} (s : S) (v w : Thin T A) → IsRetained R s v w
+  pub few-retained : {A : Type 0} (s : S) (v w : ListView T A) → IsRetained R s v w
       → length w.items ≤ length v.items
   few-retained s v w h =
-      let few = few-left v.items s h.0 h.1.verdicts h.1.asked in
+      let few = few-left v.items s h.0 h.1.results h.1.asked in
       omega (arith, few, ap length h.1.items)

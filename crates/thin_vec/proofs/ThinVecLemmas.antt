@@ -1,54 +1,56 @@
 -- These lemmas are about the capacity of a list, and about the cost of its growth: memory requests
 -- and copied items. They are also meant for other crates.
-use Rattle.thin_block.proofs.Outcomes.{some-same}
+use Rattle.thin_block.proofs.ResultLemmas.{some-same}
 use Rattle.std.proofs.Common.{if◌then◌else◌, Bool, ◌≡◌, ℕ, zero, suc, ◌+◌, ◌*◌, ◌^◌, ◌<◌, ◌≤◌, true, false, Some, ap, List, [], arith, eqb, inl, inr, length, refl, subst, sym, ◌∙◌}
 use Rattle.std.specs.Borrow.{RattleType}
 use Rattle.std.proofs.lemmas.Bool.{cases_lt}
 use Rattle.std.proofs.lemmas.Bool.Decides.{nat_tests}
 use Rattle.std.proofs.lemmas.Grind.{pow_more}
-use Rattle.thin_block.specs.Cost.{Cost, growing}
-use Rattle.thin_block.specs.Growth.{Rule, KeepsLaw}
+use Rattle.thin_block.specs.Cost.{Cost, add_realloc}
+use Rattle.thin_block.specs.Growth.{GrowthRule, IsLawful}
 use Rattle.thin_block.specs.Capacity.{Fits}
 use Rattle.thin_block.specs.declared.block.Block.{Block}
 use Rattle.thin_block.proofs.CapacityLemmas.{fits-none, fits-small, ruled-same, ruled-grows}
-use Rattle.thin_vec.proofs.ListLemmas.{Settled, thin-room}
+use Rattle.thin_vec.proofs.ListLemmas.{RestoresInvariant, thin-room}
 use Rattle.thin_vec.specs.Cheap.{IsCheap, IsCheapAt}
-use Rattle.thin_vec.specs.ThinVec.{IsThin, IsWithin, Thin, capacity_for, cost_at, thin_of}
+use Rattle.thin_vec.specs.ThinVec.{IsListBlock, IsBounded, ListView, capacity_after_reserve, cost_after_resize, list_view}
 
 module _ {T A : Type 0} (R : RattleType) (b : Block T A) (a : A) where
   -- If the block `b` of the list `v` is small enough to be allocated, then `v` satisfies
-  -- `IsWithin`: its length and its capacity are within their bounds.
-  pub within-of : (v : Thin T A) → IsThin b a → thin_of b a ≡ v
-      → Fits R (length b.slots) → IsWithin R v
+  -- `IsBounded`: its length and its capacity are within their bounds.
+  pub within-of : (v : ListView T A) → IsListBlock b a → list_view b a ≡ v
+      → Fits R (length b.slots) → IsBounded R v
   within-of v thin is fits =
-      let here : IsWithin R (thin_of b a) =
+      let here : IsBounded R (list_view b a) =
       record { room = thin-room b a thin; small = fits-small R (length b.slots) fits; fits = fits }
       in
-      subst (IsWithin R) is here
+      subst (IsBounded R) is here
 
   -- If an operation leaves a list with the items `xs` and the capacity `c`, and a block of capacity
-  -- `c` can be allocated, then the length and the capacity are within their bounds (`IsWithin`).
-  pub within-settled : (xs : List T) (c : ℕ) → Fits R c → Settled b a xs c
-      → IsWithin R (thin_of b a)
+  -- `c` can be allocated, then the length and the capacity are within their bounds (`IsBounded`).
+  pub within-settled : (xs : List T) (c : ℕ) → Fits R c → RestoresInvariant b a xs c
+      → IsBounded R (list_view b a)
   within-settled xs c fits after =
-      within-of (thin_of b a) after.thin refl (subst (Fits R) (sym after.cap) fits)
+      within-of (list_view b a) after.thin refl (subst (Fits R) (sym after.cap) fits)
 
-  -- `IsWithin` states that the length and the capacity of a list are within their bounds. If it
+  -- `IsBounded` states that the length and the capacity of a list are within their bounds. If it
   -- holds for the list `v`, then it still holds after an operation that changes the items to `xs`
   -- but does not change the capacity.
-  pub within-stays : (b' : Block T A) (v : Thin T A) (xs : List T) → IsWithin R v → thin_of b a ≡ v
-      → Settled b' a xs (length b.slots) → IsWithin R (thin_of b' a)
+  pub within-stays : (b' : Block T A) (v : ListView T A) (xs : List T) → IsBounded R v
+      → list_view b a ≡ v
+      → RestoresInvariant b' a xs (length b.slots) → IsBounded R (list_view b' a)
   within-stays b' v xs kept is after = record {
     room = thin-room b' a after.thin;
-    small = omega (arith, after.cap, ap (λ (w : Thin T A). w.capacity) is, kept.small);
-    fits = subst (Fits R) (sym (after.cap ∙ ap (λ (w : Thin T A). w.capacity) is)) kept.fits;
+    small = omega (arith, after.cap, ap (λ (w : ListView T A). w.capacity) is, kept.small);
+    fits = subst (Fits R) (sym (after.cap ∙ ap (λ (w : ListView T A). w.capacity) is)) kept.fits;
   }
 
-  -- If the block `b` of the list `v` is small enough to be allocated, then `IsWithin` (length and
+  -- If the block `b` of the list `v` is small enough to be allocated, then `IsBounded` (length and
   -- capacity are in bounds) holds before and after an operation that keeps the capacity.
-  pub within-kept : (b' : Block T A) (v : Thin T A) (xs : List T) → IsThin b a → thin_of b a ≡ v
-      → Fits R (length b.slots) → Settled b' a xs (length b.slots) → IsWithin R v
-      × IsWithin R (thin_of b' a)
+  pub within-kept : (b' : Block T A) (v : ListView T A) (xs : List T) → IsListBlock b a
+      → list_view b a ≡ v
+      → Fits R (length b.slots) → RestoresInvariant b' a xs (length b.slots) → IsBounded R v
+      × IsBounded R (list_view b' a)
   within-kept b' v xs thin is fits after = (
     within-of v thin is fits,
     record {
@@ -58,21 +60,21 @@ module _ {T A : Type 0} (R : RattleType) (b : Block T A) (a : A) where
     },
   )
 
-module _ {T A : Type 0} (R : RattleType) (w : Thin T A) where
+module _ {T A : Type 0} (R : RattleType) (w : ListView T A) where
   -- If a list `w` has no items and a capacity of 0, then its length and its capacity are within
-  -- their bounds (`IsWithin`).
-  pub within-none : w.items ≡ [] → w.capacity ≡ 0 → IsWithin R w
+  -- their bounds (`IsBounded`).
+  pub within-none : w.items ≡ [] → w.capacity ≡ 0 → IsBounded R w
   within-none none nothing = record {
     room = omega (arith, ap length none);
     small = omega arith;
     fits = subst (Fits R) (sym nothing) (fits-none R);
   }
 
-  -- `IsWithin` states that the length and the capacity of a list are within their bounds. If it
+  -- `IsBounded` states that the length and the capacity of a list are within their bounds. If it
   -- holds for the list `v`, then it also holds for each list `w` whose capacity is that of `v` and
   -- whose length is at most this capacity.
-  pub within-like : (v : Thin T A) → IsWithin R v → w.capacity ≡ v.capacity
-      → length w.items ≤ v.capacity → IsWithin R w
+  pub within-like : (v : ListView T A) → IsBounded R v → w.capacity ≡ v.capacity
+      → length w.items ≤ v.capacity → IsBounded R w
   within-like v kept same room =
       record {
         room = omega arith;
@@ -81,42 +83,45 @@ module _ {T A : Type 0} (R : RattleType) (w : Thin T A) where
       }
 
 -- In this module, the capacity of the list `v` changes to `c`.
-module _ {T A : Type 0} (v : Thin T A) (c : ℕ) where
+module _ {T A : Type 0} (v : ListView T A) (c : ℕ) where
   -- If the new capacity `c` is equal to the old capacity, then the cost does not change.
-  pub cost_at-same : c ≡ v.capacity → cost_at v c ≡ v.cost
-  cost_at-same e = let t : eqb c v.capacity ≡ true = grind (arith, nat_tests) in rw t refl
+  pub cost_after_resize-same : c ≡ v.capacity → cost_after_resize v c ≡ v.cost
+  cost_after_resize-same e = let t : eqb c v.capacity ≡ true = grind (arith, nat_tests) in rw t refl
 
   -- If the capacity grew to `c`, then the new cost is the old cost plus one request for memory and
   -- `length v.items` copied items.
-  pub cost_at-more : v.capacity < c → cost_at v c ≡ growing (length v.items) v.cost
-  cost_at-more e = let t : eqb c v.capacity ≡ false = grind (arith, nat_tests) in rw t refl
+  pub cost_after_resize-more : v.capacity < c
+      → cost_after_resize v c ≡ add_realloc (length v.items) v.cost
+  cost_after_resize-more e = let t : eqb c v.capacity ≡ false = grind (arith, nat_tests) in
+      rw t refl
 
   -- A change of the capacity does not change the number of moves in the recorded cost.
-  pub cost_at-moves : (cost_at v c).moves ≡ v.cost.moves
-  cost_at-moves = go (eqb c v.capacity)
+  pub cost_after_resize-moves : (cost_after_resize v c).moves ≡ v.cost.moves
+  cost_after_resize-moves = go (eqb c v.capacity)
     where
-      go : (b : Bool) → (if b then v.cost else growing (length v.items) v.cost).moves ≡ v.cost.moves
+      go : (b : Bool) → (if b then v.cost else add_realloc (length v.items) v.cost).moves
+          ≡ v.cost.moves
       go true = refl
       go false = refl
 
   -- A change of the capacity takes at most one request for memory.
-  pub cost_at-blocks : (cost_at v c).blocks ≤ v.cost.blocks + 1
-  cost_at-blocks = go (eqb c v.capacity)
+  pub cost_after_resize-blocks : (cost_after_resize v c).blocks ≤ v.cost.blocks + 1
+  cost_after_resize-blocks = go (eqb c v.capacity)
     where
-      go : (b : Bool) → (if b then v.cost else growing (length v.items) v.cost).blocks
+      go : (b : Bool) → (if b then v.cost else add_realloc (length v.items) v.cost).blocks
           ≤ v.cost.blocks + 1
       go true = omega arith
       go false = omega arith
 
 -- These rewrite rules compute the cost of growing a list. They are for proofs that can compare the
 -- capacities before and after the growth.
-pub ruleset costs = (cost_at-same, cost_at-more)
+pub ruleset costs = (cost_after_resize-same, cost_after_resize-more)
 
 -- `IsCheapAt c k` bounds the cost `k` of a list with the capacity `c`. Suppose that this bound
 -- holds, and that `n` items are copied into a larger block of capacity `c'`. If `n ≤ c` and
 -- `2 * c ≤ c'`, then the cost after copying satisfies the bound for the capacity `c'`.
 cheap-growing : {c : ℕ} {k : Cost} (n c' : ℕ) → IsCheapAt c k → n ≤ c → c < c' → 2 * c ≤ c'
-    → IsCheapAt c' (growing n k)
+    → IsCheapAt c' (add_realloc n k)
 cheap-growing {c = zero} {k} n c' h le larger doubled =
     let z = h.none refl in
     let two : 2 ^ (k.blocks + 1) ≡ 2 = ap (λ q. 2 ^ (q + 1)) z.0 in
@@ -136,56 +141,60 @@ cheap-growing {c = suc c} {k} n c' h le larger doubled =
           λ q. omega (arith, twice, half, doubled);
     }
 
-module _ {T A : Type 0} (rule : Rule) (R : RattleType) (law : KeepsLaw rule)
-    (v : Thin T A) (k c : ℕ) where
+module _ {T A : Type 0} (rule : GrowthRule) (R : RattleType) (law : IsLawful rule)
+    (v : ListView T A) (k c : ℕ) where
   -- If the list `v` has room for `k` more items, then reserving room for these items does not
   -- change the capacity of `v`.
-  pub cap-kept : length v.items + k ≤ v.capacity → capacity_for rule R v k ≡ Some c → c ≡ v.capacity
+  pub cap-kept : length v.items + k ≤ v.capacity → capacity_after_reserve rule R v k ≡ Some c
+      → c ≡ v.capacity
   cap-kept room e = some-same (sym e ∙ ruled-same rule R v.capacity (length v.items + k) room)
 
   -- If the list `v` has room for `k` more items, then reserving this room does not change the
   -- recorded cost of the list.
-  pub cost_at-kept : length v.items + k ≤ v.capacity
-      → capacity_for rule R v k ≡ Some c → cost_at v c ≡ v.cost
-  cost_at-kept room e = cost_at-same v c (cap-kept room e)
+  pub cost_after_resize-kept : length v.items + k ≤ v.capacity
+      → capacity_after_reserve rule R v k ≡ Some c → cost_after_resize v c ≡ v.cost
+  cost_after_resize-kept room e = cost_after_resize-same v c (cap-kept room e)
 
   -- If the list `v` has no room for `k` more items, then the capacity `c` that the growth rule
   -- chooses is at least `2 * v.capacity` and at least `length v.items + k`.
-  pub cap-grown : v.capacity < length v.items + k → capacity_for rule R v k ≡ Some c
+  pub cap-grown : v.capacity < length v.items + k → capacity_after_reserve rule R v k ≡ Some c
       → (length v.items + k ≤ c) × (2 * v.capacity ≤ c)
   cap-grown more e = let g = ruled-grows rule R v.capacity (length v.items + k) c law more e in
       (g.enough, g.doubled)
 
   -- If the list `v` grows because it has no room for `k` more items, then its cost increases by one
   -- request for memory and `length v.items` copied items.
-  pub cost_at-grown : v.capacity < length v.items + k → capacity_for rule R v k ≡ Some c
-      → cost_at v c ≡ growing (length v.items) v.cost
-  cost_at-grown more e =
+  pub cost_after_resize-grown : v.capacity < length v.items + k
+      → capacity_after_reserve rule R v k ≡ Some c
+      → cost_after_resize v c ≡ add_realloc (length v.items) v.cost
+  cost_after_resize-grown more e =
       let g = cap-grown more e in
-      cost_at-more v c (omega (arith, g.0))
+      cost_after_resize-more v c (omega (arith, g.0))
 
   -- If a list grows to the capacity that the growth rule chooses, then the number of copied items
   -- is at most the number of added slots.
-  pub cost_at-copied : length v.items ≤ v.capacity → capacity_for rule R v k ≡ Some c
-      → (cost_at v c).grown + v.capacity ≤ v.cost.grown + c
-  cost_at-copied room e =
+  pub cost_after_resize-copied : length v.items ≤ v.capacity
+      → capacity_after_reserve rule R v k ≡ Some c
+      → (cost_after_resize v c).grown + v.capacity ≤ v.cost.grown + c
+  cost_after_resize-copied room e =
       elim (cases_lt v.capacity (length v.items + k)) [
         | inl more ↦ let g = cap-grown more e in
-            let paid = ap (λ z. z.grown) (cost_at-grown more e) in
+            let paid = ap (λ z. z.grown) (cost_after_resize-grown more e) in
             omega (arith, paid, g.1, room)
         | inr spare ↦
-            let paid = ap (λ z. z.grown) (cost_at-kept spare e) in
+            let paid = ap (λ z. z.grown) (cost_after_resize-kept spare e) in
             omega (arith, paid, cap-kept spare e)
       ]
 
   -- `IsCheap` bounds the cost of a list. If it holds for `v`, then it still holds after `v` has
   -- grown to the capacity `c` that the growth rule chooses.
-  pub cheap-regrown : IsCheap v → length v.items ≤ v.capacity → capacity_for rule R v k ≡ Some c
-      → IsCheapAt c (cost_at v c)
+  pub cheap-regrown : IsCheap v → length v.items ≤ v.capacity
+      → capacity_after_reserve rule R v k ≡ Some c
+      → IsCheapAt c (cost_after_resize v c)
   cheap-regrown h room e =
       elim (cases_lt v.capacity (length v.items + k)) [
         | inl more ↦ let g = cap-grown more e in
-            rw (cost_at-grown more e)
+            rw (cost_after_resize-grown more e)
             (cheap-growing (length v.items) c h room (omega (arith, g.0)) g.1)
-        | inr spare ↦ rw (cost_at-kept spare e, cap-kept spare e) h
+        | inr spare ↦ rw (cost_after_resize-kept spare e, cap-kept spare e) h
       ]

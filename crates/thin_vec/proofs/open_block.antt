@@ -2,7 +2,7 @@
 -- automatically, so `Lib.antt` does not mention it.
 pub mod DedupLemmas
 pub mod PairTestLemmas
-pub mod SiftLemmas
+pub mod RetainRestLemmas
 pub mod SiftedLemmas
 pub mod StepLemmas
 pub mod TestLemmas

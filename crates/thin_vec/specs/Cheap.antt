@@ -3,7 +3,7 @@
 -- (std: `Vec::push`, "Time complexity")
 use Rattle.std.specs.Prelude.{◌≡◌, ℕ, ◌*◌, ◌^◌, ◌<◌, ◌≤◌}
 use Rattle.thin_block.specs.Cost.{Cost}
-use Rattle.thin_vec.specs.ThinVec.{Thin}
+use Rattle.thin_vec.specs.ThinVec.{ListView}
 
 -- `IsCheapAt cap cost` states a bound on `cost`, the recorded cost of a list with the capacity
 -- `cap`. If `cap` is 0, there was no request for memory, and no item was copied. Otherwise fewer
@@ -16,5 +16,5 @@ pub record IsCheapAt (cap : ℕ) (cost : Cost) : Type 0 where
 
 -- `IsCheap v` holds if the recorded cost of the list `v` is small for its capacity: few requests
 -- for memory, and few copied items.
-abbrev pub IsCheap : {T A : Type 0} → Thin T A → Type 0
+abbrev pub IsCheap : {T A : Type 0} → ListView T A → Type 0
 IsCheap v = IsCheapAt v.capacity v.cost

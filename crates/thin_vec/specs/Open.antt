@@ -2,12 +2,12 @@
 -- run and the tail, with empty slots between them. (`src/open_block.rt` contains a diagram.)
 use Rattle.std.specs.Prelude.{ℕ, ◌+◌, ◌-◌, ◌==◌, List, ◌++◌, Option, if◌then◌else◌, length, refl}
 use Rattle.std.specs.Coded.{Coded, code_by, coded×, coded_ℕ, coded_list, coded_option}
-use Rattle.thin_block.specs.Cost.{Cost, cost_code, moving}
-use Rattle.thin_block.specs.Slots.{empty, full}
+use Rattle.thin_block.specs.Cost.{Cost, cost_code, add_moves}
+use Rattle.thin_block.specs.Slots.{empty_slots, filled_slots}
 
--- A value of `Open T A` describes an open block: the block of a list during an edit such as
+-- A value of `OpenView T A` describes an open block: the block of a list during an edit such as
 -- `retain`. The item type is `T`, and the allocator type is `A`.
-pub record Open (T A : Type 0) : Type 0 where
+pub record OpenView (T A : Type 0) : Type 0 where
   -- The front items: the items before the edited range, and the items that have been kept or
   -- inserted so far.
   pub front : List T
@@ -28,9 +28,9 @@ pub record Open (T A : Type 0) : Type 0 where
   -- The recorded cost of the block so far (requests for memory, copied items and moves).
   pub cost : Cost
 
--- `open_code` encodes a value of the type `Open` as the tuple of its eight fields.
-abbrev pub open_code : {T A : Type 0} → Coded T → Coded A → Coded (Open T A)
-open_code {T} {A} t a =
+-- `open_view_code` encodes a value of the type `OpenView` as the tuple of its eight fields.
+abbrev pub open_view_code : {T A : Type 0} → Coded T → Coded A → Coded (OpenView T A)
+open_view_code {T} {A} t a =
     code_by (List T × (ℕ × (List T × (ℕ × (List T × (ℕ × (Option A × Cost)))))))
     (coded× (coded_list t)
     (coded× coded_ℕ (coded× (coded_list t)
@@ -52,35 +52,38 @@ open_code {T} {A} t a =
 module _ {T A : Type 0} where
   -- `tail_start v` is the index of the first slot of the tail, which is the last part of the open
   -- block `v`.
-  abbrev pub tail_start : Open T A → ℕ
+  abbrev pub tail_start : OpenView T A → ℕ
   tail_start v = length v.front + v.gap + length v.rest + v.gap_after
 
-  -- `reach v` is the index directly after the tail, which is the last part of the open block `v`.
-  abbrev pub reach : Open T A → ℕ
-  reach v = tail_start v + length v.tail
+  -- `tail_end v` is the index directly after the tail, which is the last part of the open block
+  -- `v`.
+  abbrev pub tail_end : OpenView T A → ℕ
+  tail_end v = tail_start v + length v.tail
 
   -- `range_len v` is the number of slots between the first part (the front) and the last part (the
   -- tail) of the open block `v`.
-  abbrev pub range_len : Open T A → ℕ
+  abbrev pub range_len : OpenView T A → ℕ
   range_len v = v.gap + length v.rest + v.gap_after
 
-  -- `row_of v` contains all slots of the open block `v`, in order: the filled slots of its three
+  -- `slots_of v` contains all slots of the open block `v`, in order: the filled slots of its three
   -- parts, and the empty slots after each part.
-  abbrev pub row_of : Open T A → List (Option T)
-  row_of v = full v.front
-      ++ (empty v.gap
-      ++ (full v.rest ++ (empty v.gap_after ++ (full v.tail ++ empty (v.capacity - reach v)))))
+  abbrev pub slots_of : OpenView T A → List (Option T)
+  slots_of v = filled_slots v.front
+      ++ (empty_slots v.gap
+      ++ (filled_slots v.rest
+      ++ (empty_slots v.gap_after
+      ++ (filled_slots v.tail ++ empty_slots (v.capacity - tail_end v)))))
 
   -- `items_of v` is the list of all items of the open block `v`, in order.
-  abbrev pub items_of : Open T A → List T
+  abbrev pub items_of : OpenView T A → List T
   items_of v = v.front ++ (v.rest ++ v.tail)
 
   -- `cost_closed v` is the recorded cost of the open block `v` after the gap between its front and
   -- its middle run has been closed.
-  abbrev pub cost_closed : Open T A → Cost
-  cost_closed v = if v.gap == 0 then v.cost else moving (length v.rest + length v.tail) v.cost
+  abbrev pub cost_closed : OpenView T A → Cost
+  cost_closed v = if v.gap == 0 then v.cost else add_moves (length v.rest + length v.tail) v.cost
 
   -- `cost_drained v` is the recorded cost of the open block `v` after its middle items have been
   -- removed, and its tail items have been moved down to follow the front directly.
-  abbrev pub cost_drained : Open T A → Cost
-  cost_drained v = if range_len v == 0 then v.cost else moving (length v.tail) v.cost
+  abbrev pub cost_drained : OpenView T A → Cost
+  cost_drained v = if range_len v == 0 then v.cost else add_moves (length v.tail) v.cost

@@ -1,16 +1,16 @@
 -- These definitions state which slots of an open block (the block of a list during an edit) contain
 -- items, and which are empty.
 pub mod Dedup
-pub mod Sift
+pub mod Retain
 use Rattle.std.specs.Prelude.{◌≡◌, ◌+◌, ◌-◌, ◌≤◌, drop, length, slice_range, take}
 use Rattle.thin_block.specs.Slots.{items_in}
-use Rattle.thin_vec.specs.Open.{Open, row_of}
+use Rattle.thin_vec.specs.Open.{OpenView, slots_of}
 use Rattle.thin_vec.specs.declared.open_block.OpenBlock.TheInside.{Inside}
 
 module _ {T A : Type 0} where
-  -- `open_of h` is how contracts see the open block `h`: as a value of the type `Open`.
-  abbrev pub open_of : Inside T A → Open T A
-  open_of h =
+  -- `open_view h` is how contracts see the open block `h`: as a value of the type `Open`.
+  abbrev pub open_view : Inside T A → OpenView T A
+  open_view h =
       record {
         front = items_in (take h.front_end h.block.slots);
         gap = h.rest_start - h.front_end;
@@ -22,10 +22,10 @@ module _ {T A : Type 0} where
         cost = h.block.cost;
       }
 
-  -- `Shows h v` holds if the value `v` describes the open block `h`. The slots of `h` hold the
-  -- items of the front, the middle run and the tail of `v`, and all other slots are empty.
-  pub record Shows (h : Inside T A) (v : Open T A) : Type 0 where
-    pub row : h.block.slots ≡ row_of v
+  -- `IsOpenViewOf h v` holds if the value `v` describes the open block `h`. The slots of `h` hold
+  -- the items of the front, the middle run and the tail of `v`, and all other slots are empty.
+  pub record IsOpenViewOf (h : Inside T A) (v : OpenView T A) : Type 0 where
+    pub row : h.block.slots ≡ slots_of v
     pub front : length v.front ≡ h.front_end
     pub gap : h.front_end + v.gap ≡ h.rest_start
     pub rest : h.rest_start + length v.rest ≡ h.rest_end
@@ -36,4 +36,4 @@ module _ {T A : Type 0} where
   -- `IsOpen h`, the invariant of the type `OpenBlock`, states that exactly the slots in the front,
   -- the middle run and the tail of the open block `h` contain items.
   abbrev pub IsOpen : Inside T A → Type 0
-  IsOpen h = Shows h (open_of h)
+  IsOpen h = IsOpenViewOf h (open_view h)

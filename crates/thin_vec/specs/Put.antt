@@ -5,12 +5,13 @@ use Rattle.std.specs.Iterator.{Count, IsFinite, Yields, YieldsThen, size}
 use Rattle.std.specs.declared.option.Option.TheVariants.{None}
 use Rattle.thin_vec.specs.declared.put.Filled.{Filled}
 
--- `Gives steps s xs ended t` states that the iterator `s` yielded the items `xs` and became `t`. If
--- `ended` is true, one more call to `next` returned `None`. `steps` describes a single call to
--- `next`.
-abbrev pub Gives : {S X : Type 0} → (S → Option X → S → Type 0) → S → List X → Bool → S → Type 0
-Gives steps s xs true t = YieldsThen steps s xs None t
-Gives steps s xs false t = Yields steps s xs t
+-- `YieldsThenMayEnd steps s xs ended t` states that the iterator `s` yielded the items `xs` and
+-- became `t`. If `ended` is true, one more call to `next` returned `None`. `steps` describes a
+-- single call to `next`.
+abbrev pub YieldsThenMayEnd : {S X : Type 0} → (S → Option X → S → Type 0) → S → List X → Bool → S
+    → Type 0
+YieldsThenMayEnd steps s xs true t = YieldsThen steps s xs None t
+YieldsThenMayEnd steps s xs false t = Yields steps s xs t
 
 -- `IsFilledBy steps can remaining room s f` describes a loop that moves items of the iterator `s`
 -- into `room` empty slots, until all are full or `next` returns `None`. The result `f` contains the
@@ -22,7 +23,7 @@ pub record IsFilledBy {S X : Type 0} (steps : S → Option X → S → Type 0) (
     (remaining : S → Count) (room : ℕ) (s : S) (f : Filled S) : Type 0 where
   -- The items that were put into the slots, in the order in which the iterator yielded them.
   pub items : List X
-  pub gave : Gives steps s items f.ended f.rest
+  pub gave : YieldsThenMayEnd steps s items f.ended f.rest
   -- If the iterator has not ended (`f.ended` is false), the items fill all `room` slots. The next
   -- field states that at least one slot is still empty if it has ended.
   pub full : f.ended ≡ false → length items ≡ room

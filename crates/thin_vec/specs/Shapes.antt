@@ -4,7 +4,7 @@ use Rattle.std.specs.declared.option.Option.TheVariants.{Some, None}
 use mathlib.Core.Path.{refl, ap, ◌∙◌}
 use native.Mathlib.Omega.{arith}
 use Rattle.std.specs.Option.{is_some}
-use Rattle.thin_block.specs.Slots.{empty, full, items_in}
+use Rattle.thin_block.specs.Slots.{empty_slots, filled_slots, items_in}
 
 -- `shape n m` describes a row of `n` filled slots, followed by `m` empty slots: `n` times `true`,
 -- and then `m` times `false`.
@@ -25,27 +25,29 @@ tail_of [] = []
 tail_of (b ∷ bs) = bs
 
 -- Applied to each of `m` empty slots, the function `is_some` returns false.
-none_shape : (X : Type 0) (m : ℕ) → map is_some (let none : List (Option X) = empty m in
+none_shape : (X : Type 0) (m : ℕ) → map is_some (let none : List (Option X) = empty_slots m in
     none) ≡ replicate m false
 none_shape X zero = refl
 none_shape X (suc m) = ap (λ l. false ∷ l) (none_shape X m)
 
--- The row of slots `full ys ++ empty m` consists of filled slots, which contain the items `ys`, and
--- `m` empty slots. The list `shape (length ys) m` says which slots of this row are filled.
+-- The row of slots `filled_slots ys ++ empty_slots m` consists of filled slots, which contain the
+-- items `ys`, and `m` empty slots. The list `shape (length ys) m` says which slots of this row are
+-- filled.
 front_shape : {X : Type 0} (ys : List X) (m : ℕ)
-    → map is_some (full ys ++ empty m) ≡ shape (length ys) m
+    → map is_some (filled_slots ys ++ empty_slots m) ≡ shape (length ys) m
 front_shape {X} [] m = none_shape X m
 front_shape (y ∷ ys) m = ap (λ l. true ∷ l) (front_shape ys m)
 
 -- If the row of slots `s` consists of `n` filled slots, followed by `m` empty slots, then
 -- `map is_some s` consists of `n` copies of `true`, followed by `m` copies of `false`.
-pub to_shape : {X : Type 0} (s : List (Option X)) (m : ℕ) → s ≡ full (items_in s) ++ empty m
+pub to_shape : {X : Type 0} (s : List (Option X)) (m : ℕ)
+    → s ≡ filled_slots (items_in s) ++ empty_slots m
     → map is_some s ≡ shape (length (items_in s)) m
 to_shape s m e = ap (map is_some) e ∙ front_shape (items_in s) m
 
 -- If `map is_some s` is `replicate m false`, then the row of slots `s` consists of `m` empty slots.
 all_none : {X : Type 0} (s : List (Option X)) (m : ℕ)
-    → map is_some s ≡ replicate m false → s ≡ empty m
+    → map is_some s ≡ replicate m false → s ≡ empty_slots m
 unfolding head_of
 all_none [] zero e = refl
 all_none [] (suc m) e = let n : 0 ≡ 2 = ap head_of e in absurd (omega (arith, n))
@@ -53,10 +55,10 @@ all_none (x ∷ s) zero e = let n = ap length e in absurd (omega (arith, n))
 all_none (Some x ∷ s) (suc m) e = let n : 1 ≡ 2 = ap head_of e in absurd (omega (arith, n))
 all_none (None ∷ s) (suc m) e = ap (λ l. None ∷ l) (all_none s m (ap tail_of e))
 
--- If the rows `None ∷ s` and `full ys ++ empty m` have the same length, and the same slots are
--- filled in both rows, then `ys` is empty, and the two rows are equal.
+-- If the rows `None ∷ s` and `filled_slots ys ++ empty_slots m` have the same length, and the same
+-- slots are filled in both rows, then `ys` is empty, and the two rows are equal.
 none_first : {X : Type 0} (s : List (Option X)) (ys : List X) (m : ℕ)
-    → false ∷ map is_some s ≡ shape (length ys) m → None ∷ s ≡ full ys ++ empty m
+    → false ∷ map is_some s ≡ shape (length ys) m → None ∷ s ≡ filled_slots ys ++ empty_slots m
 unfolding head_of
 none_first s [] m e = all_none (None ∷ s) m e
 none_first s (y ∷ ys) m e = let n : 2 ≡ 1 = ap head_of e in absurd (omega (arith, n))
@@ -64,7 +66,7 @@ none_first s (y ∷ ys) m e = let n : 2 ≡ 1 = ap head_of e in absurd (omega (a
 -- If `map is_some s` consists of `n` times `true`, followed by `m` times `false`, then the row `s`
 -- consists of `n` filled slots, followed by `m` empty slots.
 pub from_shape : {X : Type 0} (s : List (Option X)) (m : ℕ)
-    → map is_some s ≡ shape (length (items_in s)) m → s ≡ full (items_in s) ++ empty m
+    → map is_some s ≡ shape (length (items_in s)) m → s ≡ filled_slots (items_in s) ++ empty_slots m
 unfolding head_of
 from_shape [] zero e = refl
 from_shape [] (suc m) e = let n : 0 ≡ 2 = ap head_of e in absurd (omega (arith, n))

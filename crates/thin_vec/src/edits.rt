@@ -18,7 +18,7 @@ mod splice;
 pub use drain::Drain;
 pub use extract_if::ExtractIf;
 #[doc(hidden)]
-pub use extract_if::{Extracting, Picks};
+pub use extract_if::{ExtractBy, ExtractState};
 #[doc(hidden)]
-pub use holder::{Holder, Holds};
+pub use holder::{Holder, IntoInner};
 pub use splice::Splice;

@@ -15,7 +15,7 @@ mod ranges;
 pub use convert::IntoIter;
 pub use edits::{Drain, ExtractIf, Splice};
 #[doc(hidden)]
-pub use edits::{Extracting, Holder, Holds, Picks};
+pub use edits::{ExtractBy, ExtractState, Holder, IntoInner};
 pub use errors::{CollectRefused, ExtendRefused, Rejected, SpliceRefused};
 pub use list::ThinVec;
 pub use macros::repeated;

@@ -6,11 +6,11 @@
 //! describes the type `T`; it determines the size and the alignment of an item.
 ghost use Rattle.std.specs.Prelude.{◌≡◌, ◌↔◌, ◌+◌, ◌-◌, ◌<◌, ◌==◌, [], ◌∷◌, ◌++◌, IfErr, IsOk, IsSome, IsTrue, None, OnErr, OnOk, Some, length, slice_index_or, take};
 ghost use Rattle.std.specs.Option.{option_to_list};
-ghost use Rattle.thin_block.specs.Block.{IsFrom};
+ghost use Rattle.thin_block.specs.Block.{IsAllocatedBy};
 ghost use Rattle.thin_block.specs.Capacity.{Fits};
-ghost use Rattle.thin_block.specs.Cost.{moving};
-ghost use Rattle.thin_block.specs.Slots.{IsPacked, empty};
-ghost use Rattle.thin_vec.specs.List.Capacity.{Costs, Keeps, Reserves, causes};
+ghost use Rattle.thin_block.specs.Cost.{add_moves};
+ghost use Rattle.thin_block.specs.Slots.{IsPacked, empty_slots};
+ghost use Rattle.thin_vec.specs.List.Capacity.{CostsMoves, PreservesList, Reserves, map_cause};
 
 mod append_split;
 mod capacity;
@@ -44,25 +44,25 @@ pub struct ThinVec<T, A: Allocator = Global, G: Growth = Doubling> {
 }
 
 impl<T, A: Allocator, G: Growth> Model for ThinVec<T, A, G> {
-    ghost use Rattle.thin_vec.specs.ThinVec.{IsThin, Thin, thin_code, thin_of};
+    ghost use Rattle.thin_vec.specs.ThinVec.{IsListBlock, ListView, list_view_code, list_view};
 
-    ghost Value = { Thin T A };
+    ghost Value = { ListView T A };
 
-    ghost coded = { thin_code T.code A.code };
+    ghost coded = { list_view_code T.code A.code };
 
-    ghost view = { λ v. thin_of v.block v.alloc };
+    ghost view = { λ v. list_view v.block v.alloc };
 
-    ghost invariant = { λ v. IsThin v.block v.alloc };
+    ghost invariant = { λ v. IsListBlock v.block v.alloc };
 }
 
 impl<T, A: Allocator> ThinVec<T, A> {
-    ghost use Rattle.thin_vec.specs.ThinVec.{IsNew, IsWithin};
+    ghost use Rattle.thin_vec.specs.ThinVec.{IsNew, IsBounded};
 
     /// Returns an empty list of capacity 0, which owns the allocator `alloc`. The call allocates
     /// nothing. The growth rule of the list is `Doubling`.
     pub fn new(alloc: A) -> ThinVec<T, A>
         ensures new { IsNew result alloc }
-        ensures within { IsWithin T.row result }
+        ensures bounds { IsBounded T.row result }
     {
         ThinVec::ruled(alloc)
     }
@@ -71,7 +71,7 @@ impl<T, A: Allocator> ThinVec<T, A> {
     /// this method in place of the trait `Default`, whose method takes no allocator.
     pub fn default_in(alloc: A) -> ThinVec<T, A>
         ensures new { IsNew result alloc }
-        ensures within { IsWithin T.row result }
+        ensures bounds { IsBounded T.row result }
     {
         ThinVec::new(alloc)
     }
@@ -79,9 +79,9 @@ impl<T, A: Allocator> ThinVec<T, A> {
 
 impl<T, A: Allocator, G: Growth> ThinVec<T, A, G> {
     ghost use types.Logic.{sem};
-    ghost use Rattle.thin_block.specs.Slots.{front};
+    ghost use Rattle.thin_block.specs.Slots.{packed_slots};
     ghost use Rattle.thin_vec.specs.Lends.{LendsItems};
-    ghost use Rattle.thin_vec.specs.ThinVec.{HasRoomFor, IsNew, IsWithin};
+    ghost use Rattle.thin_vec.specs.ThinVec.{HasRoomFor, IsNew, IsBounded};
 
     /// Returns an empty list of capacity 0 with the growth rule `G`. The list owns the allocator
     /// `alloc`. The call allocates nothing.
@@ -89,7 +89,7 @@ impl<T, A: Allocator, G: Growth> ThinVec<T, A, G> {
     /// The Rust crate thin-vec has no such method, because it has a single growth rule.
     pub fn ruled(alloc: A) -> ThinVec<T, A, G>
         ensures new { IsNew result alloc }
-        ensures within { IsWithin T.row result }
+        ensures bounds { IsBounded T.row result }
     {
         ThinVec {
             block: Block::none(),
@@ -102,7 +102,7 @@ impl<T, A: Allocator, G: Growth> ThinVec<T, A, G> {
     pub fn len(&self) -> usize
         ensures value { result ≡ length self.now.items }
         ensures fits { Fits T.row result }
-        ensures within { IsWithin T.row self.now }
+        ensures bounds { IsBounded T.row self.now }
     {
         self.block.len()
     }
@@ -120,7 +120,7 @@ impl<T, A: Allocator, G: Growth> ThinVec<T, A, G> {
     pub fn is_empty(&self) -> bool
         ensures value { IsTrue result ↔ (self.now.items ≡ []) }
         ensures test { result ≡ (length self.now.items == 0) }
-        ensures within { IsWithin T.row self.now }
+        ensures bounds { IsBounded T.row self.now }
     {
         self.len() == 0
     }
@@ -128,7 +128,7 @@ impl<T, A: Allocator, G: Growth> ThinVec<T, A, G> {
     /// Returns the number of items that the list can hold without growing.
     pub fn capacity(&self) -> usize
         ensures value { result ≡ self.now.capacity }
-        ensures within { IsWithin T.row self.now }
+        ensures bounds { IsBounded T.row self.now }
     {
         self.block.cap()
     }
@@ -136,7 +136,7 @@ impl<T, A: Allocator, G: Growth> ThinVec<T, A, G> {
     /// Returns whether the list has a block, that is, whether its capacity is not 0.
     pub fn has_capacity(&self) -> bool
         ensures value { IsTrue result ↔ (0 < self.now.capacity) }
-        ensures within { IsWithin T.row self.now }
+        ensures bounds { IsBounded T.row self.now }
     {
         self.capacity() != 0
     }
@@ -154,7 +154,7 @@ impl<T, A: Allocator, G: Growth> ThinVec<T, A, G> {
     pub fn push(&mut self, value: T) -> Result<(), Rejected<T>>
         // On success.
         ensures items { OnOk result (self.new.items ≡ self.old.items ++ value ∷ []) }
-        ensures cost { OnOk result (Costs 1 self.old self.new) }
+        ensures cost { OnOk result (CostsMoves 1 self.old self.new) }
 
         // When it must succeed.
         ensures succeeds { HasRoomFor self.old 1 → IsOk result }
@@ -164,8 +164,8 @@ impl<T, A: Allocator, G: Growth> ThinVec<T, A, G> {
         ensures value_returned { IfErr result (λ error. error.value ≡ value) }
 
         // In every case, the capacity changes as `reserve(1)` would change it.
-        ensures reserves { Reserves G.rule T.row 1 self.old self.new (causes result) }
-        ensures keeps { Keeps T.row self.old self.new }
+        ensures capacity { Reserves G.rule T.row 1 self.old self.new (map_cause result) }
+        ensures preserved { PreservesList T.row self.old self.new }
     {
         if let Err(cause) = self.reserve(1) {
             return Err(Rejected { value, cause });
@@ -177,7 +177,7 @@ impl<T, A: Allocator, G: Growth> ThinVec<T, A, G> {
     /// Returns the items, in order, as a slice.
     pub fn as_slice(&self) -> &[T]
         ensures value { result.now ≡ self.now.items }
-        ensures within { IsWithin T.row self.now }
+        ensures bounds { IsBounded T.row self.now }
     {
         self.block.slice(0, self.block.len())
     }
@@ -189,7 +189,7 @@ impl<T, A: Allocator, G: Growth> ThinVec<T, A, G> {
             (LendsItems T.row A.row G.row A.Allocator G.Growth self.entry result) }
         ensures value { result.now ≡ self.old.items }
         ensures len { length result.now ≡ length self.old.items }
-        ensures within { IsWithin T.row self.old }
+        ensures bounds { IsBounded T.row self.old }
     {
         let len = self.block.len();
         self.block.slice_mut(0, len)
@@ -203,12 +203,12 @@ impl<T, A: Allocator, G: Growth> ThinVec<T, A, G> {
         requires room { HasRoomFor self.old 1 }
         ensures items { self.new.items ≡ self.old.items ++ value ∷ [] }
         ensures len { length self.new.items ≡ length self.old.items + 1 }
-        ensures cost { self.new.cost ≡ moving 1 self.old.cost }
+        ensures cost { self.new.cost ≡ add_moves 1 self.old.cost }
         ensures capacity { self.new.capacity ≡ self.old.capacity }
-        ensures keeps { Keeps T.row self.old self.new }
+        ensures preserved { PreservesList T.row self.old self.new }
     {
         let len = self.block.len();
-        self.block.put_and_store(len, value, len + 1);
+        self.block.put_and_set_len(len, value, len + 1);
     }
 
     /// Removes the last item and returns it, or returns `None` if the list is empty. The capacity
@@ -220,7 +220,7 @@ impl<T, A: Allocator, G: Growth> ThinVec<T, A, G> {
         ensures items { self.old.items ≡ self.new.items ++ option_to_list result }
         ensures rest { self.new.items ≡ take (length self.old.items - 1) self.old.items }
         ensures changes { self.new ≡ record self.old { items = self.new.items } }
-        ensures within { IsWithin T.row self.old × IsWithin T.row self.new }
+        ensures bounds { IsBounded T.row self.old × IsBounded T.row self.new }
     {
         if self.is_empty() {
             return None;
@@ -230,7 +230,7 @@ impl<T, A: Allocator, G: Growth> ThinVec<T, A, G> {
 
     // Removes the last item and returns it. The list must not be empty.
     pub(crate) fn pop_last(&mut self) -> T
-        requires some { 0 < length self.old.items }
+        requires nonempty { 0 < length self.old.items }
         ensures items { self.old.items ≡ self.new.items ++ result ∷ [] }
         ensures changes { self.new ≡ record self.old { items = self.new.items } }
     {
@@ -243,9 +243,9 @@ impl<T, A: Allocator, G: Growth> ThinVec<T, A, G> {
     // Splits the list into its block and its allocator, and returns both. The caller then owns the
     // block, the items in the block, and the allocator.
     pub(crate) fn into_parts(self) -> (Block<T, A>, A)
-        ensures slots { result.0.slots ≡ front self.items self.capacity }
+        ensures slots { result.0.slots ≡ packed_slots self.items self.capacity }
         ensures len { result.0.len ≡ length self.items }
-        ensures from { IsFrom result.0.alloc result.1 }
+        ensures same_allocator { IsAllocatedBy result.0.alloc result.1 }
         ensures cost { result.0.cost ≡ self.cost }
         ensures alloc { result.1 ≡ self.alloc }
     {
@@ -259,7 +259,7 @@ impl<T, A: Allocator, G: Growth> ThinVec<T, A, G> {
 
     // Consumes an empty list, and frees its block.
     pub(crate) fn release(self)
-        requires empty { self.items ≡ [] }
+        requires is_empty { self.items ≡ [] }
     {
         let ThinVec {
             block,
@@ -277,7 +277,7 @@ impl<T: Drop, A: Allocator, G: Growth> Drop for ThinVec<T, A, G> {
     fn drop(self) {
         let (block, alloc) = self.into_parts();
         if block.cap() == 0 {
-            block.forget_none();
+            block.forget_unallocated();
         } else {
             drop_block(block, alloc);
         }
@@ -288,7 +288,7 @@ impl<T: Drop, A: Allocator, G: Growth> Drop for ThinVec<T, A, G> {
 // which is inlined, so that it is compiled only once for each type of list.
 fn drop_block<T: Drop, A: Allocator>(mut block: Block<T, A>, alloc: A)
     requires packed { IsPacked block.slots block.len }
-    requires from { IsFrom block.alloc alloc }
+    requires same_allocator { IsAllocatedBy block.alloc alloc }
 {
     let len = block.len();
     for i in 0..len {

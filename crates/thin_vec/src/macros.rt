@@ -1,11 +1,11 @@
 //! The macro `thin_vec!`, which makes a list of its arguments, and the function that its third form
 //! calls.
 ghost use Rattle.std.specs.Prelude.{◌≡◌, [], IfOk, IsOk, Some, replicate};
-ghost use Rattle.thin_block.specs.Cost.{moving};
-ghost use Rattle.thin_block.specs.Growth.{doubling, ruled_capacity};
+ghost use Rattle.thin_block.specs.Cost.{add_moves};
+ghost use Rattle.thin_block.specs.Growth.{doubling, grown_capacity};
 ghost use Rattle.thin_vec.specs.List.Clones.{CloneEquals, IsResized};
-ghost use Rattle.thin_vec.specs.ThinVec.{cost_new};
-ghost use Rattle.thin_vec.specs.List.Capacity.{TellsOverflow, IsMade};
+ghost use Rattle.thin_vec.specs.ThinVec.{cost_of_new};
+ghost use Rattle.thin_vec.specs.List.Capacity.{OverflowsIff, IsFreshList};
 
 use crate::list::ThinVec;
 use std::alloc::Allocator;
@@ -97,15 +97,15 @@ pub fn repeated<T: Clone, A: Allocator>(
     ensures items_if_clones_equal { IfOk result (λ list. CloneEquals T.is_clone value
         → list.items ≡ replicate count value) }
     ensures capacity { IfOk result
-        (λ list. ruled_capacity doubling T.row 0 count ≡ Some list.capacity) }
-    ensures cost { IfOk result (λ list. list.cost ≡ moving count (cost_new list.capacity)) }
-    ensures made { IfOk result (IsMade T.row alloc) }
+        (λ list. grown_capacity doubling T.row 0 count ≡ Some list.capacity) }
+    ensures cost { IfOk result (λ list. list.cost ≡ add_moves count (cost_of_new list.capacity)) }
+    ensures new { IfOk result (IsFreshList T.row alloc) }
 
     // When it must succeed.
     ensures succeeds { count ≡ 0 → IsOk result }
 
     // On failure.
-    ensures overflow { TellsOverflow (ruled_capacity doubling T.row 0 count) result }
+    ensures overflow { OverflowsIff (grown_capacity doubling T.row 0 count) result }
 {
     let mut list = ThinVec::new(alloc);
     list.resize(count, value)?;

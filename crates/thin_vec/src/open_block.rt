@@ -2,15 +2,15 @@
 //! `retain` edits a range of the list.
 ghost use Rattle.std.specs.Prelude.{◌≡◌, ◌↔◌, ◌+◌, ◌-◌, ◌==◌, ◌<◌, ◌≤◌, ◌∷◌, ◌++◌, [], IsTrue, drop, if◌then◌else◌, length, slice_range, take};
 ghost use Rattle.std.specs.Iterator.{YieldsFirst, YieldsLast};
-ghost use Rattle.thin_block.specs.Cost.{moving, no_cost};
-ghost use Rattle.thin_block.specs.Slots.{front};
-ghost use Rattle.thin_block.specs.Block.{IsFrom};
-ghost use Rattle.thin_vec.specs.Open.{Open, cost_closed, items_of, range_len, reach};
+ghost use Rattle.thin_block.specs.Cost.{add_moves, no_cost};
+ghost use Rattle.thin_block.specs.Slots.{packed_slots};
+ghost use Rattle.thin_block.specs.Block.{IsAllocatedBy};
+ghost use Rattle.thin_vec.specs.Open.{OpenView, cost_closed, items_of, range_len, tail_end};
 ghost use Rattle.thin_vec.specs.ThinVec.{HasRoomFor};
 
 pub(crate) mod dedup;
 mod fill;
-pub(crate) mod sift;
+pub(crate) mod retain;
 
 use crate::list::ThinVec;
 use std::alloc::Allocator;
@@ -48,13 +48,13 @@ use thin_block::{Block, Growth};
 /// The items of the front are called front items. In the same way, the items of the middle run are
 /// called middle items, and the items of the tail are called tail items.
 ///
-/// A *test* decides whether an item is kept or removed, and may write to the item. The *verdict* on
+/// A *test* decides whether an item is kept or removed, and may write to the item. The *result* on
 /// an item is this decision, together with the item as the test left it.
 ///
 /// An `OpenBlock` owns the block and all items in it. It does not implement `Drop`: `close` puts
 /// the block back into the list. Contracts describe an `OpenBlock` as a value of the type `Open`,
-/// which is defined in `specs/Open.antt`. Only the proofs of its methods deal with slots. So each
-/// step of an edit is a method, even a step that only one function takes.
+/// which is defined in `specs/OpenView.antt`. Only the proofs of its methods deal with slots. So
+/// each step of an edit is a method, even a step that only one function takes.
 pub struct OpenBlock<T, A: Allocator> {
     // The block that was taken out of the list. The length that it stores is not used while the
     // block is open.
@@ -70,15 +70,15 @@ pub struct OpenBlock<T, A: Allocator> {
 }
 
 impl<T, A: Allocator> Model for OpenBlock<T, A> {
-    ghost use Rattle.thin_vec.specs.Open.{Open, open_code};
+    ghost use Rattle.thin_vec.specs.Open.{OpenView, open_view_code};
 
-    ghost Value = { Open T A };
+    ghost Value = { OpenView T A };
 
-    ghost coded = { open_code T.code A.code };
+    ghost coded = { open_view_code T.code A.code };
 
-    ghost use Rattle.thin_vec.specs.OpenBlock.{IsOpen, open_of};
+    ghost use Rattle.thin_vec.specs.OpenBlock.{IsOpen, open_view};
 
-    ghost view = { open_of };
+    ghost view = { open_view };
 
     ghost invariant = { IsOpen };
 }
@@ -97,9 +97,9 @@ impl<T, A: Allocator, G: Growth> ThinVec<T, A, G> {
         ensures tail { result.tail ≡ drop end self.old.items }
         ensures gap { result.gap ≡ 0 }
         ensures gap_after { result.gap_after ≡ 0 }
-        ensures other_capacity { result.capacity ≡ self.old.capacity }
-        ensures from { IsFrom result.alloc self.old.alloc }
-        ensures other_cost { result.cost ≡ self.old.cost }
+        ensures capacity { result.capacity ≡ self.old.capacity }
+        ensures same_allocator { IsAllocatedBy result.alloc self.old.alloc }
+        ensures cost { result.cost ≡ self.old.cost }
 
         // The list.
         ensures changes { self.new ≡ record self.old { items = []; capacity = 0; cost = no_cost } }
@@ -120,9 +120,9 @@ impl<T, A: Allocator, G: Growth> ThinVec<T, A, G> {
     // back into the list, which must be empty. Any block that the list had is freed.
     #[inline(always)]
     pub(crate) fn close(&mut self, block: OpenBlock<T, A>)
-        requires empty { self.old.items ≡ [] }
+        requires is_empty { self.old.items ≡ [] }
         requires gap_after { block.gap_after ≡ 0 }
-        requires from { IsFrom block.alloc self.old.alloc }
+        requires same_allocator { IsAllocatedBy block.alloc self.old.alloc }
         ensures changes { self.new ≡ record self.old {
           items = items_of block;
           capacity = block.capacity;
@@ -130,7 +130,7 @@ impl<T, A: Allocator, G: Growth> ThinVec<T, A, G> {
         } }
         ensures room { length self.new.items ≤ self.new.capacity }
     {
-        let none = mem::replace(&mut self.block, block.into_closed());
+        let none = mem::replace(&mut self.block, block.close_gap());
         none.release(&self.alloc);
     }
 }
@@ -140,7 +140,12 @@ impl<T: Drop, A: Allocator, G: Growth> ThinVec<T, A, G> {
     // up by `count` slots. Returns the block with a gap of `end - start + count` empty slots at
     // index `start`. The list must have room for `count` more items. After the call, the list has
     // no items, and its capacity is 0.
-    pub(crate) fn open_wide(&mut self, start: usize, end: usize, count: usize) -> OpenBlock<T, A>
+    pub(crate) fn open_with_gap(
+        &mut self,
+        start: usize,
+        end: usize,
+        count: usize,
+    ) -> OpenBlock<T, A>
         requires start_le_end { start ≤ end }
         requires in_bounds { end ≤ length self.old.items }
         requires room { HasRoomFor self.old count }
@@ -151,9 +156,9 @@ impl<T: Drop, A: Allocator, G: Growth> ThinVec<T, A, G> {
         ensures rest { result.rest ≡ [] }
         ensures gap_after { result.gap_after ≡ 0 }
         ensures tail { result.tail ≡ drop end self.old.items }
-        ensures other_capacity { result.capacity ≡ self.old.capacity }
-        ensures from { IsFrom result.alloc self.old.alloc }
-        ensures other_cost { result.cost ≡ (if count == 0 then self.old.cost else moving
+        ensures capacity { result.capacity ≡ self.old.capacity }
+        ensures same_allocator { IsAllocatedBy result.alloc self.old.alloc }
+        ensures cost { result.cost ≡ (if count == 0 then self.old.cost else add_moves
             (length self.old.items - end) self.old.cost) }
 
         // The list.
@@ -162,8 +167,8 @@ impl<T: Drop, A: Allocator, G: Growth> ThinVec<T, A, G> {
         let mut block = self.open(start, end);
         block.drop_rest();
         if count > 0 {
-            block.widen(count);
-            block.join();
+            block.shift_tail_up(count);
+            block.merge_gaps();
         }
         block
     }
@@ -181,7 +186,7 @@ impl<T, A: Allocator> OpenBlock<T, A> {
     // Removes the first of the remaining items of the range, and returns this item. Its slot
     // becomes a part of the gap before the remaining items.
     pub(crate) fn take_first(&mut self) -> T
-        requires some { 0 < length self.old.rest }
+        requires nonempty { 0 < length self.old.rest }
         ensures rest { self.old.rest ≡ result ∷ self.new.rest }
         ensures changes { self.new ≡ record self.old {
           rest = self.new.rest;
@@ -196,7 +201,7 @@ impl<T, A: Allocator> OpenBlock<T, A> {
     // Removes the last of the remaining items of the range, and returns this item. Its slot becomes
     // a part of the gap after the remaining items.
     pub(crate) fn take_last(&mut self) -> T
-        requires some { 0 < length self.old.rest }
+        requires nonempty { 0 < length self.old.rest }
         ensures rest { self.old.rest ≡ self.new.rest ++ result ∷ [] }
         ensures changes { self.new ≡ record self.old {
           rest = self.new.rest;
@@ -217,7 +222,7 @@ impl<T, A: Allocator> OpenBlock<T, A> {
     // Returns whether there is an item after the range, that is, in the tail.
     pub(crate) fn has_tail(&self) -> bool
         ensures value { IsTrue result ↔ (0 < length self.now.tail) }
-        ensures in_bounds { reach self.now ≤ self.now.capacity }
+        ensures in_bounds { tail_end self.now ≤ self.now.capacity }
     {
         self.tail_start < self.len
     }
@@ -231,8 +236,8 @@ impl<T, A: Allocator> OpenBlock<T, A> {
 
     // Joins the gaps before and after the middle run into one gap. The middle run must be empty: no
     // item of the range remains.
-    pub(crate) fn join(&mut self)
-        requires none { self.old.rest ≡ [] }
+    pub(crate) fn merge_gaps(&mut self)
+        requires no_rest { self.old.rest ≡ [] }
         ensures { self.new
             ≡ record self.old { gap = self.old.gap + self.old.gap_after; gap_after = 0 } }
     {
@@ -243,9 +248,9 @@ impl<T, A: Allocator> OpenBlock<T, A> {
     // Moves the items after the gap down to the start of the gap. Then stores the number of items
     // as the length of the block, and returns the block.
     #[inline(always)]
-    fn into_closed(self) -> Block<T, A>
+    fn close_gap(self) -> Block<T, A>
         requires gap_after { self.gap_after ≡ 0 }
-        ensures slots { result.slots ≡ front (items_of self) self.capacity }
+        ensures slots { result.slots ≡ packed_slots (items_of self) self.capacity }
         ensures len { result.len ≡ length (items_of self) }
         ensures in_bounds { length (items_of self) ≤ self.capacity }
         ensures alloc { result.alloc ≡ self.alloc }
@@ -271,19 +276,19 @@ impl<T, A: Allocator> OpenBlock<T, A> {
 
     // Moves the items after the range (the tail) up by `count` slots. There must be at least
     // `count` empty slots after the tail.
-    pub(crate) fn widen(&mut self, count: usize)
-        requires some { 0 < count }
-        requires room { reach self.old + count ≤ self.old.capacity }
+    pub(crate) fn shift_tail_up(&mut self, count: usize)
+        requires nonzero { 0 < count }
+        requires room { tail_end self.old + count ≤ self.old.capacity }
         ensures { self.new ≡ record self.old {
           gap_after = self.old.gap_after + count;
-          cost = moving (length self.old.tail) self.old.cost;
+          cost = add_moves (length self.old.tail) self.old.cost;
         } }
     {
         let from = self.tail_start;
         let block = mem::replace(&mut self.block, Block::none());
         let opened = block.open_gap(from, count, self.len - from);
         let none = mem::replace(&mut self.block, opened);
-        none.forget_none();
+        none.forget_unallocated();
         self.tail_start += count;
         self.len += count;
     }
@@ -291,7 +296,7 @@ impl<T, A: Allocator> OpenBlock<T, A> {
     // Removes the first of the remaining items of the range, and returns this item. Returns `None`
     // if no item remains.
     pub(crate) fn next(&mut self) -> Option<T>
-        ensures yields { YieldsFirst (λ (v : Open T A). v.rest) self.old result self.new }
+        ensures steps { YieldsFirst (λ (v : OpenView T A). v.rest) self.old result self.new }
         ensures range { range_len self.new ≡ range_len self.old }
         ensures changes { self.new ≡ record self.old {
           gap = self.new.gap;
@@ -307,7 +312,7 @@ impl<T, A: Allocator> OpenBlock<T, A> {
     // Removes the last of the remaining items of the range, and returns this item. Returns `None`
     // if no item remains.
     pub(crate) fn next_back(&mut self) -> Option<T>
-        ensures yields { YieldsLast (λ (v : Open T A). v.rest) self.old result self.new }
+        ensures steps { YieldsLast (λ (v : OpenView T A). v.rest) self.old result self.new }
         ensures range { range_len self.new ≡ range_len self.old }
         ensures changes { self.new ≡ record self.old {
           rest = self.new.rest;
@@ -334,6 +339,6 @@ impl<T: Drop, A: Allocator> OpenBlock<T, A> {
         while self.rest_len() > 0 {
             drop(self.take_first());
         }
-        self.join();
+        self.merge_gaps();
     }
 }

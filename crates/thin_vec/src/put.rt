@@ -2,10 +2,10 @@
 ghost use Rattle.std.specs.Iterator.{IsFinite};
 ghost use Rattle.std.specs.List.{FoldsTo};
 ghost use Rattle.std.specs.Prelude.{◌≡◌, ℕ, ◌+◌, ◌-◌, ◌<◌, ◌≤◌, List, HoldsAt, length, replicate};
-ghost use Rattle.thin_block.specs.Block.{seen};
-ghost use Rattle.thin_block.specs.Cost.{moving};
-ghost use Rattle.thin_block.specs.Slots.{AreEmpty, full, laid, slot};
-ghost use Rattle.thin_vec.specs.List.Clones.{LaysClones};
+ghost use Rattle.thin_block.specs.Block.{block_view};
+ghost use Rattle.thin_block.specs.Cost.{add_moves};
+ghost use Rattle.thin_block.specs.Slots.{AreEmpty, filled_slots, write_slots, slot};
+ghost use Rattle.thin_vec.specs.List.Clones.{WritesClones};
 ghost use Rattle.thin_vec.specs.Put.{IsFilledBy};
 
 use std::alloc::Allocator;
@@ -33,9 +33,9 @@ pub(crate) fn put_vec<T, A: Allocator, B: Allocator>(
 )
     requires in_bounds { start + length items.items ≤ length block.old.slots }
     requires empty { AreEmpty block.old.slots start (length items.items) }
-    ensures changes { seen block.new ≡ record (seen block.old) {
-      slots = laid start (full items.items) block.old.slots;
-      cost = moving (length items.items) block.old.cost;
+    ensures changes { block_view block.new ≡ record (block_view block.old) {
+      slots = write_slots start (filled_slots items.items) block.old.slots;
+      cost = add_moves (length items.items) block.old.cost;
     } }
 {
     while let Some(item) = items.pop() {
@@ -54,12 +54,12 @@ pub(crate) fn put_clones<T: Clone, A: Allocator>(
     requires in_bounds { start + length items.now ≤ length block.old.slots }
     requires empty { AreEmpty block.old.slots start (length items.now) }
     ensures in_bounds { result ≤ length items.now }
-    ensures slots { LaysClones T.is_clone items.now result start block.old.slots block.new.slots }
-    ensures changes { seen block.new ≡ record (seen block.old) {
+    ensures slots { WritesClones T.is_clone items.now result start block.old.slots block.new.slots }
+    ensures changes { block_view block.new ≡ record (block_view block.old) {
       slots = block.new.slots;
-      cost = moving result block.old.cost;
+      cost = add_moves result block.old.cost;
     } }
-    ensures refused { result < length items.now
+    ensures stopped_at { result < length items.now
         → HoldsAt (λ x. ¬ (T.is_infallible x)) items.now result }
 {
     for i in 0..items.len() {
@@ -82,13 +82,13 @@ pub(crate) fn put_repeated<T: Clone, A: Allocator>(
     requires in_bounds { start + count ≤ length block.old.slots }
     requires empty { AreEmpty block.old.slots start count }
     ensures in_bounds { result ≤ count }
-    ensures slots { LaysClones T.is_clone (replicate count value.now) result start block.old.slots
+    ensures slots { WritesClones T.is_clone (replicate count value.now) result start block.old.slots
         block.new.slots }
-    ensures changes { seen block.new ≡ record (seen block.old) {
+    ensures changes { block_view block.new ≡ record (block_view block.old) {
       slots = block.new.slots;
-      cost = moving result block.old.cost;
+      cost = add_moves result block.old.cost;
     } }
-    ensures refused { result < count → ¬ (T.is_infallible value.now) }
+    ensures stopped_at { result < count → ¬ (T.is_infallible value.now) }
 {
     for i in 0..count {
         match value.clone() {
@@ -111,10 +111,10 @@ pub(crate) fn put_results<T, A: Allocator, F: FnMut() -> T>(
     requires empty { AreEmpty block.old.slots start count }
     requires callable { F.IsAlwaysCallable make }
     ensures slots { (xs : List T) × (last : F) × (length xs ≡ count) × FoldsTo F.step make xs last
-        × (block.new.slots ≡ laid start (full xs) block.old.slots) }
-    ensures changes { seen block.new ≡ record (seen block.old) {
+        × (block.new.slots ≡ write_slots start (filled_slots xs) block.old.slots) }
+    ensures changes { block_view block.new ≡ record (block_view block.old) {
       slots = block.new.slots;
-      cost = moving count block.old.cost;
+      cost = add_moves count block.old.cost;
     } }
 {
     for i in 0..count {
@@ -135,13 +135,13 @@ pub(crate) fn put_iter<T, A: Allocator, I: Iterator<Item = T>>(
     requires empty { (k : ℕ) → start ≤ k → k < end → slot block.slots k ≡ None }
     requires can_next { I.can_next iter }
     requires finite { IsFinite (I.remaining iter) }
-    ensures filled { (by : IsFilledBy I.next_gives I.can_next I.remaining (end - start) iter
+    ensures filled_by { (by : IsFilledBy I.next_gives I.can_next I.remaining (end - start) iter
         result.1)
-        × (result.0.slots ≡ laid start (full by.items) block.slots)
+        × (result.0.slots ≡ write_slots start (filled_slots by.items) block.slots)
         × (result.1.end ≡ start + length by.items) }
-    ensures changes { seen result.0 ≡ record (seen block) {
+    ensures changes { block_view result.0 ≡ record (block_view block) {
       slots = result.0.slots;
-      cost = moving (result.1.end - start) block.cost;
+      cost = add_moves (result.1.end - start) block.cost;
     } }
 {
     let mut block = block;

@@ -1,14 +1,14 @@
 -- These lemmas say when a block may be sent to another thread (`block_send`), and when a block may
 -- be shared between threads (`block_sync`).
 use Rattle.std.proofs.Common.{ℕ, zero, suc, ◌+◌, List, [], ◌∷◌, length, Option, Some, None}
-use Rattle.thin_block.proofs.Walks.{div_ceil, type_size, Ty, size, RattleType, Ptr, block_ptr, null_ptr, usize}
+use Rattle.thin_block.proofs.WalkPrelude.{div_ceil, type_size, Ty, size, RattleType, Ptr, block_ptr, null_ptr, usize}
 use base.Shift.{Keyless}
 use denote.Struct.Struct.{exits_of}
 use denote.Struct.Owning.{shape, fields, to}
 use denote.Param.Send.{IsSend, IsSync, Common, AllSend, AllSync, Frees, owning_send, struct_send, struct_sync, sendable}
 use Rattle.core.specs.declared.alloc.Allocator.{Ghosts}
 use Rattle.std_alloc.proofs.SendSync.{quiet, lies, seen}
-use Rattle.thin_block.specs.Ownership.{bare, word_of, words_of, place, places, ways, way_back, block_owns, place_lent, places_lent, block_lent}
+use Rattle.thin_block.specs.Ownership.{erased_type, word_of, words_of, slot_owns, slots_own, word_wands, rejoin_wand, block_owns, slot_shares, slots_share, block_shares}
 use Rattle.thin_block.specs.contracts.block.Block as C
 
 -- Numbers may be sent to another thread.
@@ -19,44 +19,44 @@ number_send = search sendable
 number_sync : IsSync usize
 number_sync = search sendable
 
--- `ways τ m w b o` consists of `w` rights. Each of them allows the memory of `m` items of the type
--- `τ` to be converted into the memory of one word. These rights do not depend on the thread that
--- owns them.
-ways_Keyless : (τ : Ty) (m w b o : ℕ) → Keyless (ways τ m w b o)
+-- `word_wands τ m w b o` consists of `w` rights. Each of them allows the memory of `m` items of the
+-- type `τ` to be converted into the memory of one word. These rights do not depend on the thread
+-- that owns them.
+ways_Keyless : (τ : Ty) (m w b o : ℕ) → Keyless (word_wands τ m w b o)
 ways_Keyless τ m zero b o = tt
 ways_Keyless τ m (suc w) b o = ((tt, tt), ways_Keyless τ m w b (o + size (word_of τ m)))
 
 -- The right to convert the parts of a block back into its whole allocation does not depend on the
 -- thread that owns this right.
-way_back_Keyless : (w : Option (ℕ × ℕ)) (τ : Ty) (c b o : ℕ) → Keyless (way_back w τ c b o)
+way_back_Keyless : (w : Option (ℕ × ℕ)) (τ : Ty) (c b o : ℕ) → Keyless (rejoin_wand w τ c b o)
 way_back_Keyless None τ c b o = ((tt, (tt, tt)), tt)
 way_back_Keyless (Some w) τ c b o =
     (((tt, tt), tt), (ways_Keyless τ w.0 (div_ceil c w.0) b (o + 16), tt))
 
 module _ (R : RattleType) where
-  -- If items may be sent to another thread, then the resource `place R x b o`, which describes the
-  -- memory of one slot, is the same for every thread.
-  place_Keyless : IsSend R → (x : Option R.Denot) (b o : ℕ) → Keyless (place R x b o)
+  -- If items may be sent to another thread, then the resource `slot_owns R x b o`, which describes
+  -- the memory of one slot, is the same for every thread.
+  place_Keyless : IsSend R → (x : Option R.Denot) (b o : ℕ) → Keyless (slot_owns R x b o)
   place_Keyless s (Some x) b o = lies R s (block_ptr b o) x
   place_Keyless s None b o = tt
 
   -- If items may be sent to another thread, then the memory of several slots does not depend on the
   -- thread that owns this memory.
-  places_Keyless : IsSend R → (xs : List (Option R.Denot)) (b o : ℕ) → Keyless (places R xs b o)
+  places_Keyless : IsSend R → (xs : List (Option R.Denot)) (b o : ℕ) → Keyless (slots_own R xs b o)
   places_Keyless s [] b o = tt
   places_Keyless s (x ∷ xs) b o =
       (place_Keyless s x b o, places_Keyless s xs b (o + type_size R))
 
   -- If items may be shared between threads, then the resources behind a shared reference to a slot
   -- do not depend on the thread that uses the reference.
-  place_Common : IsSync R → (x : Option R.Denot) (p : Ptr) → Common (place_lent R x p)
+  place_Common : IsSync R → (x : Option R.Denot) (p : Ptr) → Common (slot_shares R x p)
   place_Common y (Some x) p κ = seen R y p x κ
   place_Common y None p κ = tt
 
   -- If items may be shared between threads, then the resources behind a shared reference to several
   -- slots do not depend on the thread that uses the reference.
   places_Common : IsSync R → (xs : List (Option R.Denot)) (b o : ℕ)
-      → Common (places_lent R xs b o)
+      → Common (slots_share R xs b o)
   places_Common y [] b o κ = tt
   places_Common y (x ∷ xs) b o κ =
       (place_Common y x (block_ptr b o) κ, places_Common y xs b (o + type_size R) κ)
@@ -81,7 +81,7 @@ module _ (R : RattleType) where
           (
             tt,
             (
-              way_back_Keyless (words_of R) (bare R) (length xs) b o,
+              way_back_Keyless (words_of R) (erased_type R) (length xs) b o,
               f.frees a _ (block_ptr b o),
             ),
           ),
@@ -93,7 +93,7 @@ module _ (R : RattleType) where
     -- If items may be shared between threads, then the resources behind a shared reference to a
     -- block do not depend on the thread that uses the reference.
     block_Common : IsSync R → (p : Ptr) (n : ℕ) (xs : List (Option R.Denot)) (a : Option Z.Denot)
-        → Common (block_lent R p n xs a)
+        → Common (block_shares R p n xs a)
     block_Common y null_ptr n xs a κ = tt
     block_Common y (block_ptr b o) n xs None κ = (
       seen usize number_sync (block_ptr b o) 0 κ,

@@ -3,12 +3,12 @@
 use Rattle.std.specs.Prelude.{◌*◌, ◌≤◌, refl}
 use Rattle.std.proofs.Common.{arith}
 use Rattle.thin_block.specs.Capacity.{fits}
-use Rattle.thin_block.specs.Growth.{KeepsLaw, fitting}
+use Rattle.thin_block.specs.Growth.{IsLawful, checked_capacity}
 
 -- The rule that always chooses the wanted capacity breaks the law of growth rules, which demands
 -- that the capacity at least doubles.
-pub want_alone_breaks : KeepsLaw (λ s a c w. fitting s a w) → ⊥
-unfolding fitting fits
+pub want_alone_breaks : IsLawful (λ s a c w. checked_capacity s a w) → ⊥
+unfolding checked_capacity fits
 want_alone_breaks law =
     let grown = law 0 1 4 5 5 (omega arith) (omega arith) refl in
     let twofold : 2 * 4 ≤ 5 = grown.doubled in

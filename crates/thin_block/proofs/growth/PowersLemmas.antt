@@ -11,7 +11,7 @@ use native.Mathlib.Nat.{mul-le-mul_left, mul-le-mul_right}
 use Rattle.std.proofs.lemmas.Nat.{le-div}
 use Rattle.std.proofs.lemmas.Bool.{cases_lt}
 use Rattle.thin_block.specs.Capacity.{Fits, items_offset}
-use Rattle.thin_block.specs.Growth.{FillsPower, fitting, least_power, power_bytes}
+use Rattle.thin_block.specs.Growth.{FillsPowerOfTwo, checked_capacity, least_power, power_bytes}
 use Rattle.thin_block.specs.PowerLaws.{least_power_is, powers_filled, powers_of_some}
 use Rattle.thin_block.proofs.CapacityLemmas.{fitting_none}
 use Rattle.thin_block.proofs.sizes.SizesLemmas.{fits_tells, opened, rounded}
@@ -36,7 +36,7 @@ takes_some s size is some = omega (arith, is, some, capped_le s)
 -- capacity `n`. Then there is a power of two `p` such that the header and `n` items fit into `p`
 -- bytes, but the header and `n + 1` items do not.
 pub each_fills : (s a c w : ℕ) (r : Option ℕ) → r ≡ power_bytes s a c w → 0 < s
-    → IfSome r (FillsPower s a)
+    → IfSome r (FillsPowerOfTwo s a)
 each_fills s a c w None e some = tt
 each_fills s a c w (Some n) e some = powers_filled s a c w n some (sym e)
 
@@ -73,7 +73,7 @@ module _ (R : RattleType) (c w size : ℕ) (is : size ≡ capped (type_size R))
         omega (arith, one, small)
 
     pub power_is : (power : ℕ) → power ≡ least_power (16 + items * size)
-        → fitting s a ((power - 16) / size) ≡ power_bytes s a c w
+        → checked_capacity s a ((power - 16) / size) ≡ power_bytes s a c w
     power_is power e =
         let offset : 16 ≡ items_offset a = sym (rounded R 0).offset in
         let bytes : 16 + items * size ≡ items_offset a + wanted * s =
@@ -81,7 +81,7 @@ module _ (R : RattleType) (c w size : ℕ) (is : size ≡ capped (type_size R))
         let next : (power - 16)
         / size ≡ (least_power (items_offset a + wanted * s) - items_offset a) / s =
         λ i. ((e ∙ ap least_power bytes) i - offset i) / sym size_is i in
-        ap (fitting s a) next ∙ sym (powers_of_some s a c w (omega (arith, size_is, some)))
+        ap (checked_capacity s a) next ∙ sym (powers_of_some s a c w (omega (arith, size_is, some)))
 
   -- If a header and `items` items take more than `2 ^ 63` bytes in total, then the result of
   -- `power_bytes` is `None`.

@@ -1,13 +1,13 @@
--- These lemmas verify a call of the function `resized`, which grows or shrinks a block. They state
--- what the caller owns before and after the call.
+-- These lemmas verify a call of the function `grow_or_shrink`, which grows or shrinks a block. They
+-- state what the caller owns before and after the call.
 use Rattle.std.proofs.Common.{ℕ, ◌≤◌, List, [], ◌∷◌, refl, w64, ◌^◌, ◌<◌}
-use Rattle.thin_block.proofs.Walks.{Ura, Val, vint, vptr, SProp, ent, sep, ex, emp, never, id⊢, fst∗, Lft, Share, Fml, ftrue, ffalse, fsep, flft, ◌⊑◌, Fun, fact, fact_i, Memory, Routine, Logic, sem, ‵, raw, ◌⊛◌, exists, later, pick, updating, await, ◌$◌, ◌∵◌, !, qed, move, keep, drop, use0, use1, use2, split, split3, join, fjoin, feq_i, flt_i, done, block_ptr, null_ptr, nothing, triple_of, array_of, block_with_items, Al, token, El, R, el_x}
+use Rattle.thin_block.proofs.WalkPrelude.{Ura, Val, vint, vptr, SProp, ent, sep, ex, emp, never, id⊢, fst∗, Lft, Share, Fml, ftrue, ffalse, fsep, flft, ◌⊑◌, Fun, fact, fact_i, Memory, Routine, Logic, sem, ‵, raw, ◌⊛◌, exists, later, pick, updating, await, ◌$◌, ◌∵◌, !, qed, move, keep, drop, use0, use1, use2, split, split3, join, fjoin, feq_i, flt_i, done, block_ptr, null_ptr, nothing, triple_of, array_of, block_with_items, Al, token, El, R, el_x}
 use types.Kit.{now as at_once}
 use denote.Triple.Statement.{Contract}
 use Rattle.core.specs.Allocator.{FitsBlock, resized_if_ok}
 use Rattle.core.proofs.alloc.Calls.{seen, Answer}
 use Rattle.core.proofs.alloc.Resizes.{Sizes, Flagged, by_flag}
-use Rattle.thin_block.specs.contracts.in_place.resized as F
+use Rattle.thin_block.specs.contracts.in_place.grow_or_shrink as F
 
 -- `Sized E len held wanted` holds if `len` items fit into memory blocks for `held` and for `wanted`
 -- items, and both memory blocks are small enough to be allocated.
@@ -19,14 +19,14 @@ module _ (E : El) (Y : Al) {M : Type 1} {𝓤 : Ura M} (𝓛 : Logic 𝓤) (at_m
     (run : Routine → Fun 𝓤) where
   open 𝓛 use {H, A}
 
-  -- `Resizing` is the contract of the function `resized`.
+  -- `Resizing` is the contract of the function `grow_or_shrink`.
   abbrev pub Resizing : Contract 𝓤
   Resizing = triple_of 𝓛 (F.signature E.row Y.row) (F.spec E.row Y.row Y.g Y.d Y.drops 𝓛 at_mem run)
 
   module _ (κ κT κA : Lft) (q qT qA : Share) (out : κ ⊑ κA) (p : ℕ × ℕ) (a : Y.row.Denot)
       (b o len held wanted : ℕ) (xs : List (el_x E)) where
-    -- `at_resizing` contains the ghost arguments of a call of `resized`: lifetimes, shares of
-    -- lifetime tokens, the arguments with their machine values, and the items `xs`.
+    -- `at_resizing` contains the ghost arguments of a call of `grow_or_shrink`: lifetimes, shares
+    -- of lifetime tokens, the arguments with their machine values, and the items `xs`.
     abbrev pub at_resizing : Resizing.Ghost
     at_resizing = (
       (
@@ -48,7 +48,7 @@ module _ (E : El) (Y : Al) {M : Type 1} {𝓤 : Ura M} (𝓛 : Logic 𝓤) (at_m
     abbrev Block : Fml
     Block = block_with_items (token Y a) (R E) (block_ptr b o) len held xs
 
-    -- `leaves r` states what the caller owns after the call to `resized` has returned `r`.
+    -- `leaves r` states what the caller owns after the call to `grow_or_shrink` has returned `r`.
     abbrev pub leaves : Answer.Denot → Fml
     leaves = resized_if_ok (token Y a) (R E) (block_ptr b o) len held wanted xs
 

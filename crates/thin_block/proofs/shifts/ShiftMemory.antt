@@ -2,12 +2,12 @@
 -- memory of the slots that the move affects from the memory of the other slots. After the move,
 -- they join the memory of all slots again.
 use Rattle.std.proofs.Common.{◌≡◌, ◌⊎◌, Bool, true, false, ℕ, Some, None, ◌+◌, ◌-◌, ◌*◌, ◌<◌, ◌≤◌, List, [], ◌∷◌, ◌++◌, length, refl, sym, ap, ◌∙◌, arith, append_assoc, Option, take}
-use Rattle.thin_block.proofs.Walks.{length-append, length-take, Ura, full_share, ent, sep, Fml, ftrue, fsep, froom, ty_array, Logic, sem, ‵, ◌⊛◌, ◌$◌, ◌∵◌, !, qed, by, move, keep, nothing, use1, use2, split, split3, rewrite, fsplit, fjoin, done, Array, part_at, block_ptr, El, R, el_x, elτ, add_times, memory_before_copy, memory_after_copy}
+use Rattle.thin_block.proofs.WalkPrelude.{length-append, length-take, Ura, full_share, ent, sep, Fml, ftrue, fsep, froom, ty_array, Logic, sem, ‵, ◌⊛◌, ◌$◌, ◌∵◌, !, qed, by, move, keep, nothing, use1, use2, split, split3, rewrite, fsplit, fjoin, done, Array, part_at, block_ptr, El, R, el_x, elτ, add_times, memory_before_copy, memory_after_copy}
 use Rattle.std.proofs.lemmas.List.{length-map, length-replicate}
 use mathlib.Core.Logic.{inl, inr, ⊎_elim}
 use Rattle.std.specs.Prelude.{drop}
-use Rattle.thin_block.specs.Ownership.{places}
-use Rattle.thin_block.specs.Slots.{AreEmpty, full, empty, slot, run, laid, moved}
+use Rattle.thin_block.specs.Ownership.{slots_own}
+use Rattle.thin_block.specs.Slots.{AreEmpty, filled_slots, empty_slots, slot, slot_range, write_slots, move_slots}
 use Rattle.thin_block.specs.Shifts.{IsShifted}
 use Rattle.thin_block.proofs.SlotsLemmas.{empty-run, parted-run, run-split, length-run, moved_left, moved_right, moved_over, moved_back}
 use Rattle.thin_block.proofs.SlotMemory.{Slot, sz, cut, glue, around, run_out, run_in, to_items, of_items, to_room, of_room}
@@ -18,14 +18,14 @@ pub further : (a d c s o : ℕ) → c ≡ d + a → c * s + o ≡ d * s + (a * s
 further a d c s o e = let sum = add_times d a s in
     let same : c * s ≡ (d + a) * s = ap (λ (k : ℕ). k * s) e in omega arith
 
--- If `new` has `n` slots, then `laid i new s` consists of the first `i` slots of `s`, then `new`,
--- and then the slots of `s` from index `i + n` onward.
+-- If `new` has `n` slots, then `write_slots i new s` consists of the first `i` slots of `s`, then
+-- `new`, and then the slots of `s` from index `i + n` onward.
 laid-over : {T : Type 0} (s new : List (Option T)) (i n : ℕ) → length new ≡ n
-    → laid i new s ≡ take i s ++ (new ++ drop (i + n) s)
+    → write_slots i new s ≡ take i s ++ (new ++ drop (i + n) s)
 laid-over s new i n long = ap (λ (k : ℕ). take i s ++ (new ++ drop (i + k) s)) long
 
 module _ (E : El) {M : Type 1} {𝓤 : Ura M} (𝓛 : Logic 𝓤) (b o : ℕ) (slots : List (Slot E))
-    (from to k : ℕ) (xs : List (el_x E)) (items : run from k slots ≡ full xs)
+    (from to k : ℕ) (xs : List (el_x E)) (items : slot_range from k slots ≡ filled_slots xs)
     (long : length xs ≡ k) where
   abbrev s : ℕ
   s = sz E
@@ -34,7 +34,7 @@ module _ (E : El) {M : Type 1} {𝓤 : Ura M} (𝓛 : Logic 𝓤) (b o : ℕ) (s
   S = List (Slot E)
 
   abbrev Row : ℕ → S → Fml
-  Row at ys = places (R E) ys b at
+  Row at ys = slots_own (R E) ys b at
 
   abbrev src : ℕ
   src = from * s + o
@@ -53,20 +53,20 @@ module _ (E : El) {M : Type 1} {𝓤 : Ura M} (𝓛 : Logic 𝓤) (b o : ℕ) (s
   pub record Moves (Was Is : Fml) : Type 1 where
     pub Rest : Fml
     pub out : ent 𝓤 (sem 𝓛 (Row o slots)) (sep 𝓤 (sem 𝓛 Was) (sem 𝓛 Rest))
-    pub back : ent 𝓤 (sep 𝓤 (sem 𝓛 Is) (sem 𝓛 Rest)) (sem 𝓛 (Row o (moved from to k slots)))
+    pub back : ent 𝓤 (sep 𝓤 (sem 𝓛 Is) (sem 𝓛 Rest)) (sem 𝓛 (Row o (move_slots from to k slots)))
 
-  full-long : length (full xs) ≡ k
+  full-long : length (filled_slots xs) ≡ k
   full-long = length-map xs Some ∙ long
 
-  empty-long : (n : ℕ) → length (empty {T = el_x E} n) ≡ n
+  empty-long : (n : ℕ) → length (empty_slots {T = el_x E} n) ≡ n
   empty-long n = length-replicate n None
 
   -- Suppose that the slots `i..i + n` are `old`, and that the move turns them into `new`. If the
   -- memory of `old` can be split into `Was` and `Kept`, and `Is` and `Kept` can be joined into the
   -- memory of `new`, then `Moves Was Is` holds.
   moves_by : (i n : ℕ) (old new : S) (Was Is Kept : Fml) → i + n ≤ length slots
-      → run i n slots ≡ old → length new ≡ n
-      → moved from to k (take i slots ++ (old ++ drop (i + n) slots))
+      → slot_range i n slots ≡ old → length new ≡ n
+      → move_slots from to k (take i slots ++ (old ++ drop (i + n) slots))
       ≡ take i slots ++ (new ++ drop (i + n) slots)
       → ent 𝓤 (sem 𝓛 (Row (i * s + o) old)) (sep 𝓤 (sem 𝓛 Was) (sem 𝓛 Kept))
       → ent 𝓤 (sep 𝓤 (sem 𝓛 Is) (sem 𝓛 Kept)) (sem 𝓛 (Row (i * s + o) new)) → Moves Was Is
@@ -74,8 +74,9 @@ module _ (E : El) {M : Type 1} {𝓤 : Ura M} (𝓛 : Logic 𝓤) (b o : ℕ) (s
       let Others : Fml = around E 𝓛 b o slots i n in
       let whole : slots ≡ take i slots ++ (old ++ drop (i + n) slots) = parted-run slots i n
       ∙ ap (λ (l : S). take i slots ++ (l ++ drop (i + n) slots)) is in
-      let result : laid i new slots ≡ moved from to k slots = laid-over slots new i n count
-      ∙ (sym goes ∙ ap (λ (l : S). moved from to k l) (sym whole)) in
+      let result : write_slots i new slots ≡ move_slots from to k slots =
+      laid-over slots new i n count
+      ∙ (sym goes ∙ ap (λ (l : S). move_slots from to k l) (sym whole)) in
       record {
         Rest = fsep Kept Others;
         out = qed 𝓛 (‵ (Row o slots) ∷ []) ∵ use1 𝓛 (‵ (Row (i * s + o) old) ⊛ ‵ Others)
@@ -83,7 +84,7 @@ module _ (E : El) {M : Type 1} {𝓤 : Ura M} (𝓛 : Logic 𝓤) (b o : ℕ) (s
             split ! $ move ! (1 ∷ 2 ∷ []) $ fjoin ! $ move ! (1 ∷ 0 ∷ []) $ done !;
         back = qed 𝓛 (‵ Is ∷ ‵ (fsep Kept Others) ∷ []) ∵ move ! (1 ∷ []) $ fsplit ! $
             move ! (2 ∷ 0 ∷ []) $ use2 𝓛 (‵ (Row (i * s + o) new)) joins $
-            use2 𝓛 (‵ (Row o (laid i new slots))) (run_in E 𝓛 b o slots i n le new count) $
+            use2 𝓛 (‵ (Row o (write_slots i new slots))) (run_in E 𝓛 b o slots i n le new count) $
             rewrite ! 0 (λ (l : S). ‵ (Row o l)) result refl $ done !;
       }
 
@@ -91,7 +92,8 @@ module _ (E : El) {M : Type 1} {𝓤 : Ura M} (𝓛 : Logic 𝓤) (b o : ℕ) (s
   -- are empty. Then the memory of the items and of the `d` empty slots can be separated from the
   -- memory of the other slots. After the items have been moved down by `d` slots, the memory of all
   -- slots can be put back together.
-  pub slides_down : (d : ℕ) → from ≡ to + d → from + k ≤ length slots → run to d slots ≡ empty d
+  pub slides_down : (d : ℕ) → from ≡ to + d → from + k ≤ length slots
+      → slot_range to d slots ≡ empty_slots d
       → Moves (memory_before_copy (R E) false d k (block_ptr b src) (block_ptr b dst) xs)
       (memory_after_copy (R E) false d k (block_ptr b src) (block_ptr b dst) xs)
   slides_down d apart within gap =
@@ -100,33 +102,38 @@ module _ (E : El) {M : Type 1} {𝓤 : Ura M} (𝓛 : Logic 𝓤) (b o : ℕ) (s
       let pre : S = take to slots in
       let post : S = drop (to + n) slots in
       let front : to ≡ length pre = omega (arith, length-take to slots) in
-      let is : run to n slots ≡ empty d ++ full xs = run-split slots to d k
-      ∙ (λ m. gap m ++ (ap (λ (i : ℕ). run i k slots) (sym apart) ∙ items) m) in
-      let at : src ≡ length (empty {T = el_x E} d) * s + dst = further to d from s o (omega arith)
+      let is : slot_range to n slots ≡ empty_slots d ++ filled_slots xs = run-split slots to d k
+      ∙ (λ m. gap m ++ (ap (λ (i : ℕ). slot_range i k slots) (sym apart) ∙ items) m) in
+      let at : src ≡ length (empty_slots {T = el_x E} d) * s + dst =
+      further to d from s o (omega arith)
       ∙ ap (λ (m : ℕ). m * s + dst) (sym (empty-long d)) in
-      moves_by to n (empty d ++ full xs) (full xs ++ empty d) _ _ ftrue le is
-      (omega (arith, length-append (full xs) (empty d), full-long, empty-long d))
-      (ap (λ (l : S). moved from to k (pre ++ l)) (append_assoc (empty d) (full xs) post)
-      ∙ (moved_left from to k d pre (full xs) post front apart (sym full-long)
-      ∙ sym (ap (λ (l : S). pre ++ l) (append_assoc (full xs) (empty d) post))))
-      (qed 𝓛 (‵ (Row dst (empty d ++ full xs)) ∷ []) ∵
-      use1 𝓛 (‵ (Row dst (empty d)) ⊛ ‵ (Row src (full xs)))
-      (cut E 𝓛 b (empty d) (full xs) dst src at) $ split ! $
+      moves_by to n (empty_slots d ++ filled_slots xs)
+      (filled_slots xs ++ empty_slots d) _ _ ftrue le is
+      (omega (arith, length-append (filled_slots xs) (empty_slots d), full-long, empty-long d))
+      (ap (λ (l : S). move_slots from to k (pre ++ l))
+      (append_assoc (empty_slots d) (filled_slots xs) post)
+      ∙ (moved_left from to k d pre (filled_slots xs) post front apart (sym full-long)
+      ∙ sym (ap (λ (l : S). pre ++ l) (append_assoc (filled_slots xs) (empty_slots d) post))))
+      (qed 𝓛 (‵ (Row dst (empty_slots d ++ filled_slots xs)) ∷ []) ∵
+      use1 𝓛 (‵ (Row dst (empty_slots d)) ⊛ ‵ (Row src (filled_slots xs)))
+      (cut E 𝓛 b (empty_slots d) (filled_slots xs) dst src at) $ split ! $
       use1 𝓛 (‵ (Room d dst)) (to_room E 𝓛 b d dst) $ move ! (1 ∷ []) $
       use1 𝓛 (‵ (Items src)) (to_items E 𝓛 b k xs src long) $ fjoin ! $ nothing ! $
       move ! (1 ∷ 0 ∷ []) $ done !)
       (qed 𝓛 (‵ (fsep (Items dst) (Room d (k * s + dst))) ∷ ‵ ftrue ∷ []) ∵ keep ! (0 ∷ []) $
-      fsplit ! $ use1 𝓛 (‵ (Row dst (full xs))) (of_items E 𝓛 b k xs dst) $ move ! (1 ∷ []) $
-      use1 𝓛 (‵ (Row (k * s + dst) (empty d))) (of_room E 𝓛 b d (k * s + dst)) $
+      fsplit ! $ use1 𝓛 (‵ (Row dst (filled_slots xs))) (of_items E 𝓛 b k xs dst) $
+      move ! (1 ∷ []) $
+      use1 𝓛 (‵ (Row (k * s + dst) (empty_slots d))) (of_room E 𝓛 b d (k * s + dst)) $
       move ! (1 ∷ 0 ∷ []) $
-      by ! (glue E 𝓛 b (full xs) (empty d) dst (k * s + dst)
+      by ! (glue E 𝓛 b (filled_slots xs) (empty_slots d) dst (k * s + dst)
       (ap (λ (m : ℕ). m * s + dst) (sym full-long))))
 
   -- Suppose that the slots `from..from + k` hold items, and that the `d` slots directly after them
   -- are empty. Then the memory of the items and of the `d` empty slots can be separated from the
   -- memory of the other slots. After the items have been moved up by `d` slots, the memory of all
   -- slots can be put back together.
-  pub slides_up : (d : ℕ) → to ≡ from + d → to + k ≤ length slots → run (from + k) d slots ≡ empty d
+  pub slides_up : (d : ℕ) → to ≡ from + d → to + k ≤ length slots
+      → slot_range (from + k) d slots ≡ empty_slots d
       → Moves (memory_before_copy (R E) true d k (block_ptr b src) (block_ptr b dst) xs)
       (memory_after_copy (R E) true d k (block_ptr b src) (block_ptr b dst) xs)
   slides_up d apart within gap =
@@ -135,26 +142,29 @@ module _ (E : El) {M : Type 1} {𝓤 : Ura M} (𝓛 : Logic 𝓤) (b o : ℕ) (s
       let pre : S = take from slots in
       let post : S = drop (from + n) slots in
       let front : from ≡ length pre = omega (arith, length-take from slots) in
-      let is : run from n slots ≡ full xs ++ empty d = run-split slots from k d
+      let is : slot_range from n slots ≡ filled_slots xs ++ empty_slots d = run-split slots from k d
       ∙ (λ m. items m ++ gap m) in
-      let at : dst ≡ length (empty {T = el_x E} d) * s + src = further from d to s o (omega arith)
+      let at : dst ≡ length (empty_slots {T = el_x E} d) * s + src =
+      further from d to s o (omega arith)
       ∙ ap (λ (m : ℕ). m * s + src) (sym (empty-long d)) in
-      moves_by from n (full xs ++ empty d) (empty d ++ full xs) _ _ ftrue le is
-      (omega (arith, length-append (empty d) (full xs), full-long, empty-long d))
-      (ap (λ (l : S). moved from to k (pre ++ l)) (append_assoc (full xs) (empty d) post)
-      ∙ (moved_right from to k d pre (full xs) post front apart (sym full-long)
-      ∙ sym (ap (λ (l : S). pre ++ l) (append_assoc (empty d) (full xs) post))))
-      (qed 𝓛 (‵ (Row src (full xs ++ empty d)) ∷ []) ∵
-      use1 𝓛 (‵ (Row src (full xs)) ⊛ ‵ (Row (k * s + src) (empty d)))
-      (cut E 𝓛 b (full xs) (empty d) src (k * s + src)
+      moves_by from n (filled_slots xs ++ empty_slots d)
+      (empty_slots d ++ filled_slots xs) _ _ ftrue le is
+      (omega (arith, length-append (empty_slots d) (filled_slots xs), full-long, empty-long d))
+      (ap (λ (l : S). move_slots from to k (pre ++ l))
+      (append_assoc (filled_slots xs) (empty_slots d) post)
+      ∙ (moved_right from to k d pre (filled_slots xs) post front apart (sym full-long)
+      ∙ sym (ap (λ (l : S). pre ++ l) (append_assoc (empty_slots d) (filled_slots xs) post))))
+      (qed 𝓛 (‵ (Row src (filled_slots xs ++ empty_slots d)) ∷ []) ∵
+      use1 𝓛 (‵ (Row src (filled_slots xs)) ⊛ ‵ (Row (k * s + src) (empty_slots d)))
+      (cut E 𝓛 b (filled_slots xs) (empty_slots d) src (k * s + src)
       (ap (λ (m : ℕ). m * s + src) (sym full-long))) $ split ! $
       use1 𝓛 (‵ (Items src)) (to_items E 𝓛 b k xs src long) $ move ! (1 ∷ []) $
       use1 𝓛 (‵ (Room d (k * s + src))) (to_room E 𝓛 b d (k * s + src)) $ move ! (1 ∷ 0 ∷ []) $
       fjoin ! $ nothing ! $ move ! (1 ∷ 0 ∷ []) $ done !)
       (qed 𝓛 (‵ (fsep (Items dst) (Room d src)) ∷ ‵ ftrue ∷ []) ∵ keep ! (0 ∷ []) $ fsplit ! $
-      use1 𝓛 (‵ (Row dst (full xs))) (of_items E 𝓛 b k xs dst) $ move ! (1 ∷ []) $
-      use1 𝓛 (‵ (Row src (empty d))) (of_room E 𝓛 b d src) $
-      by ! (glue E 𝓛 b (empty d) (full xs) src dst at))
+      use1 𝓛 (‵ (Row dst (filled_slots xs))) (of_items E 𝓛 b k xs dst) $ move ! (1 ∷ []) $
+      use1 𝓛 (‵ (Row src (empty_slots d))) (of_room E 𝓛 b d src) $
+      by ! (glue E 𝓛 b (empty_slots d) (filled_slots xs) src dst at))
 
   -- Splits the memory of the slots `ys ++ (mid ++ zs)` into the memory of `ys`, the memory of `zs`
   -- and the memory of `mid`. The list `ys` consists of `k` slots. The memory of `ys` begins at the
@@ -205,84 +215,90 @@ module _ (E : El) {M : Type 1} {𝓤 : Ura M} (𝓛 : Logic 𝓤) (b o : ℕ) (s
   -- Items in the slots `from..from + k` can be moved up, past `m` slots, into the empty slots
   -- `to..to + k`. Their old and new slots can be separated before the move, and rejoined after it.
   goes_over : (m : ℕ) → to ≡ from + k + m → to + k ≤ length slots
-      → run to k slots ≡ empty k → Moves Was Is
+      → slot_range to k slots ≡ empty_slots k → Moves Was Is
   goes_over m apart within gap =
       let n : ℕ = k + (m + k) in
       let le : from + n ≤ length slots = omega arith in
-      let mid : S = run (from + k) m slots in
+      let mid : S = slot_range (from + k) m slots in
       let pre : S = take from slots in
       let post : S = drop (from + n) slots in
       let count : length mid ≡ m = length-run slots (from + k) m (omega arith) in
-      let is : run from n slots ≡ full xs ++ (mid ++ empty k) =
+      let is : slot_range from n slots ≡ filled_slots xs ++ (mid ++ empty_slots k) =
       run-split slots from k (m + k)
       ∙ (λ i. items i ++ (run-split slots (from + k) m k
-      ∙ ap (λ (l : S). mid ++ l) (ap (λ (j : ℕ). run j k slots) (sym apart) ∙ gap)) i) in
+      ∙ ap (λ (l : S). mid ++ l) (ap (λ (j : ℕ). slot_range j k slots) (sym apart) ∙ gap)) i) in
       let at : dst ≡ length mid * s + (k * s + src) = around3 from to m apart mid count in
       let front : from ≡ length pre = omega (arith, length-take from slots) in
       let target : to ≡ from + k + length mid = omega arith in
-      moves_by from n (full xs ++ (mid ++ empty k)) (empty k ++ (mid ++ full xs)) Was Is
+      moves_by from n (filled_slots xs ++ (mid ++ empty_slots k))
+      (empty_slots k ++ (mid ++ filled_slots xs)) Was Is
       (Row (k * s + src) mid) le is
       (omega (
         arith,
-        length-append (empty k) (mid ++ full xs),
-        length-append mid (full xs),
+        length-append (empty_slots k) (mid ++ filled_slots xs),
+        length-append mid (filled_slots xs),
         full-long,
         empty-long k,
         count,
       ))
-      (ap (λ (l : S). moved from to k (pre ++ l)) (flat (full xs) mid (empty k) post)
-      ∙ (moved_over from to k pre (full xs) mid post front target (sym full-long)
-      ∙ sym (ap (λ (l : S). pre ++ l) (flat (empty k) mid (full xs) post))))
-      (qed 𝓛 (‵ (Row src (full xs ++ (mid ++ empty k))) ∷ []) ∵
-      use1 𝓛 (‵ (Row src (full xs)) ⊛ ‵ (Row dst (empty k)) ⊛ ‵ (Row (k * s + src) mid))
-      (cut3 (full xs) mid (empty k) src dst full-long at) $ split3 ! $
+      (ap (λ (l : S). move_slots from to k (pre ++ l))
+      (flat (filled_slots xs) mid (empty_slots k) post)
+      ∙ (moved_over from to k pre (filled_slots xs) mid post front target (sym full-long)
+      ∙ sym (ap (λ (l : S). pre ++ l) (flat (empty_slots k) mid (filled_slots xs) post))))
+      (qed 𝓛 (‵ (Row src (filled_slots xs ++ (mid ++ empty_slots k))) ∷ []) ∵
+      use1 𝓛 (‵ (Row src (filled_slots xs)) ⊛ ‵ (Row dst (empty_slots k)) ⊛
+      ‵ (Row (k * s + src) mid))
+      (cut3 (filled_slots xs) mid (empty_slots k) src dst full-long at) $ split3 ! $
       use1 𝓛 (‵ (Items src)) (to_items E 𝓛 b k xs src long) $ move ! (1 ∷ []) $
       use1 𝓛 (‵ (Room k dst)) (to_room E 𝓛 b k dst) $ move ! (1 ∷ 0 ∷ []) $ fjoin ! $ done !)
       (qed 𝓛 (‵ Is ∷ ‵ (Row (k * s + src) mid) ∷ []) ∵ fsplit ! $
-      use1 𝓛 (‵ (Row dst (full xs))) (of_items E 𝓛 b k xs dst) $ move ! (1 ∷ []) $
-      use1 𝓛 (‵ (Row src (empty k))) (of_room E 𝓛 b k src) $
-      by ! (glue3 (empty k) mid (full xs) src dst (empty-long k) at))
+      use1 𝓛 (‵ (Row dst (filled_slots xs))) (of_items E 𝓛 b k xs dst) $ move ! (1 ∷ []) $
+      use1 𝓛 (‵ (Row src (empty_slots k))) (of_room E 𝓛 b k src) $
+      by ! (glue3 (empty_slots k) mid (filled_slots xs) src dst (empty-long k) at))
 
   -- Items in the slots `from..from + k` can be moved down, past `m` slots, into the empty slots
   -- `to..to + k`. Their old and new slots can be separated before the move, and rejoined after it.
   goes_back : (m : ℕ) → from ≡ to + k + m → from + k ≤ length slots
-      → run to k slots ≡ empty k → Moves Was Is
+      → slot_range to k slots ≡ empty_slots k → Moves Was Is
   goes_back m apart within gap =
       let n : ℕ = k + (m + k) in
       let le : to + n ≤ length slots = omega arith in
-      let mid : S = run (to + k) m slots in
+      let mid : S = slot_range (to + k) m slots in
       let pre : S = take to slots in
       let post : S = drop (to + n) slots in
       let count : length mid ≡ m = length-run slots (to + k) m (omega arith) in
-      let is : run to n slots ≡ empty k ++ (mid ++ full xs) =
+      let is : slot_range to n slots ≡ empty_slots k ++ (mid ++ filled_slots xs) =
       run-split slots to k (m + k)
       ∙ (λ i. gap i ++ (run-split slots (to + k) m k
-      ∙ ap (λ (l : S). mid ++ l) (ap (λ (j : ℕ). run j k slots) (sym apart) ∙ items)) i) in
+      ∙ ap (λ (l : S). mid ++ l) (ap (λ (j : ℕ). slot_range j k slots) (sym apart) ∙ items)) i) in
       let at : src ≡ length mid * s + (k * s + dst) = around3 to from m apart mid count in
       let front : to ≡ length pre = omega (arith, length-take to slots) in
       let source : from ≡ to + k + length mid = omega arith in
-      moves_by to n (empty k ++ (mid ++ full xs)) (full xs ++ (mid ++ empty k)) Was Is
+      moves_by to n (empty_slots k ++ (mid ++ filled_slots xs))
+      (filled_slots xs ++ (mid ++ empty_slots k)) Was Is
       (Row (k * s + dst) mid) le is
       (omega (
         arith,
-        length-append (full xs) (mid ++ empty k),
-        length-append mid (empty k),
+        length-append (filled_slots xs) (mid ++ empty_slots k),
+        length-append mid (empty_slots k),
         full-long,
         empty-long k,
         count,
       ))
-      (ap (λ (l : S). moved from to k (pre ++ l)) (flat (empty k) mid (full xs) post)
-      ∙ (moved_back from to k pre (full xs) mid post front source (sym full-long)
-      ∙ sym (ap (λ (l : S). pre ++ l) (flat (full xs) mid (empty k) post))))
-      (qed 𝓛 (‵ (Row dst (empty k ++ (mid ++ full xs))) ∷ []) ∵
-      use1 𝓛 (‵ (Row dst (empty k)) ⊛ ‵ (Row src (full xs)) ⊛ ‵ (Row (k * s + dst) mid))
-      (cut3 (empty k) mid (full xs) dst src (empty-long k) at) $ split3 ! $
+      (ap (λ (l : S). move_slots from to k (pre ++ l))
+      (flat (empty_slots k) mid (filled_slots xs) post)
+      ∙ (moved_back from to k pre (filled_slots xs) mid post front source (sym full-long)
+      ∙ sym (ap (λ (l : S). pre ++ l) (flat (filled_slots xs) mid (empty_slots k) post))))
+      (qed 𝓛 (‵ (Row dst (empty_slots k ++ (mid ++ filled_slots xs))) ∷ []) ∵
+      use1 𝓛 (‵ (Row dst (empty_slots k)) ⊛ ‵ (Row src (filled_slots xs)) ⊛
+      ‵ (Row (k * s + dst) mid))
+      (cut3 (empty_slots k) mid (filled_slots xs) dst src (empty-long k) at) $ split3 ! $
       use1 𝓛 (‵ (Room k dst)) (to_room E 𝓛 b k dst) $ move ! (1 ∷ []) $
       use1 𝓛 (‵ (Items src)) (to_items E 𝓛 b k xs src long) $ fjoin ! $ done !)
       (qed 𝓛 (‵ Is ∷ ‵ (Row (k * s + dst) mid) ∷ []) ∵ fsplit ! $ move ! (1 ∷ []) $
-      use1 𝓛 (‵ (Row src (empty k))) (of_room E 𝓛 b k src) $ move ! (1 ∷ []) $
-      use1 𝓛 (‵ (Row dst (full xs))) (of_items E 𝓛 b k xs dst) $
-      by ! (glue3 (full xs) mid (empty k) dst src full-long at))
+      use1 𝓛 (‵ (Row src (empty_slots k))) (of_room E 𝓛 b k src) $ move ! (1 ∷ []) $
+      use1 𝓛 (‵ (Row dst (filled_slots xs))) (of_items E 𝓛 b k xs dst) $
+      by ! (glue3 (filled_slots xs) mid (empty_slots k) dst src full-long at))
 
   -- `Bare` states that each slot to which an item is moved is empty, or is one of the slots from
   -- which the items are moved.

@@ -20,8 +20,8 @@ use Rattle.std.specs.Mem.{type_size}
 use Rattle.std.specs.Align.{type_align}
 use Rattle.std.proofs.lemmas.Nat.{div-add-mod', le-div}
 use Rattle.std.proofs.lemmas.Bool.Decides.{nat_tests}
-use Rattle.thin_block.specs.Capacity.{items_offset, block_align, block_bytes, is_small, fits, Fits, first}
-use Rattle.thin_block.specs.Growth.{fitting, doubling}
+use Rattle.thin_block.specs.Capacity.{items_offset, block_align, block_bytes, fits_isize, fits, Fits, min_non_zero_cap}
+use Rattle.thin_block.specs.Growth.{checked_capacity, doubling}
 
 -- The next lemmas are about rounding a size up to a multiple of an alignment.
 
@@ -156,7 +156,7 @@ pub record Told (s a c : ℕ) : Type 0 where
 module _ (s a c : ℕ) (is : IsAlign a) where
   -- If `c < 2 ^ 63` and `Small s a c` holds, then a block for `c` items of size `s` and alignment
   -- `a` is small enough to be allocated.
-  pub small_yes : c < 2 ^ 63 → Small s a c → is_small s a c ≡ true
+  pub small_yes : c < 2 ^ 63 → Small s a c → fits_isize s a c ≡ true
   small_yes few room =
       let whole : block_bytes s a c < 2 ^ 63 = (rounded_at a (c * s) is).short room in
       both_true (ltb c (2 ^ 63)) (ltb (block_bytes s a c) (2 ^ 63)) (lt-ltb c (2 ^ 63) few)
@@ -164,7 +164,7 @@ module _ (s a c : ℕ) (is : IsAlign a) where
 
   -- If a block for `c` items of size `s` and alignment `a` is small enough to be allocated, then
   -- `Told s a c` holds: `c` and the block's size are less than `2 ^ 63`, and `Small s a c` holds.
-  pub small_tells : is_small s a c ≡ true → Told s a c
+  pub small_tells : fits_isize s a c ≡ true → Told s a c
   small_tells e =
       let few : c < 2 ^ 63 =
       ltb-true c (2 ^ 63) (tells_first (ltb c (2 ^ 63)) (ltb (block_bytes s a c) (2 ^ 63)) e) in
@@ -175,7 +175,7 @@ module _ (s a c : ℕ) (is : IsAlign a) where
 -- This module restates the lemmas `small_yes` and `small_tells` for an item type `R`.
 module _ (R : RattleType) (c : ℕ) where
   abbrev IsSmall : Type 0
-  IsSmall = is_small (type_size R) (type_align R) c ≡ true
+  IsSmall = fits_isize (type_size R) (type_align R) c ≡ true
 
   -- If `c < 2 ^ 63`, and `Small` holds for `c` items of type `R`, then a block for these items is
   -- small enough to be allocated.
@@ -229,7 +229,7 @@ module _ (R : RattleType) (c : ℕ) where
 
 -- For the capacity 0 and every item type `R`, `is_small` is true: an empty block is never too large
 -- to be allocated.
-pub fits_none : (R : RattleType) → is_small (type_size R) (type_align R) 0 ≡ true
+pub fits_none : (R : RattleType) → fits_isize (type_size R) (type_align R) 0 ≡ true
 fits_none R =
     let about = rounded R 0 in
     let nothing = zero-mul (type_size R) in
@@ -237,20 +237,20 @@ fits_none R =
 
 -- The next lemmas are about the capacity that a growth rule chooses for the first block of a list.
 
--- If the item size `s` exceeds `2 ^ 61 - 1`, then `first s`, the least capacity that the rule
--- `doubling` chooses for a first allocation, is 1.
-pub first_one : (s : ℕ) → 2 ^ 61 - 1 < capped s → 1 ≡ first s
-unfolding first
+-- If the item size `s` exceeds `2 ^ 61 - 1`, then `min_non_zero_cap s`, the least capacity that the
+-- rule `doubling` chooses for a first allocation, is 1.
+pub first_one : (s : ℕ) → 2 ^ 61 - 1 < capped s → 1 ≡ min_non_zero_cap s
+unfolding min_non_zero_cap
 first_one s large =
     let above : 2 ^ 61 - 1 < s =
     lt_of_not s (2 ^ 61 - 1) (λ h. let same = capped_is s (omega arith) in
     absurd (omega arith)) in
     rw (lt-ltb (2 ^ 61 - 1) s above) refl
 
--- If the item size `s` is at most `2 ^ 61 - 1`, then `first s`, the least capacity that the rule
--- `doubling` chooses for a first allocation, is 4.
-pub first_many : (s : ℕ) → capped s ≤ 2 ^ 61 - 1 → 4 ≡ first s
-unfolding first
+-- If the item size `s` is at most `2 ^ 61 - 1`, then `min_non_zero_cap s`, the least capacity that
+-- the rule `doubling` chooses for a first allocation, is 4.
+pub first_many : (s : ℕ) → capped s ≤ 2 ^ 61 - 1 → 4 ≡ min_non_zero_cap s
+unfolding min_non_zero_cap
 first_many s small =
     let low = capped_small s (omega arith) in
     let same = capped_is s (omega arith) in
@@ -271,11 +271,11 @@ fits_no s a c many = first_false (ltb c (2 ^ 63)) (ltb (block_bytes s a c) (2 ^ 
 -- capacity `c` and the required capacity `w`. The rule chooses this capacity unless a block of this
 -- capacity is too large to be allocated.
 abbrev pub tried : ℕ → ℕ → ℕ → ℕ
-tried s c w = max w (if c == 0 then first s else 2 * c)
+tried s c w = max w (if c == 0 then min_non_zero_cap s else 2 * c)
 
--- If the old capacity `c` is 0, and `d` is `first s`, then the capacity `tried s c w` that the rule
--- `doubling` computes is the greater of `w` and `d`.
-pub tried_first : (s c w d : ℕ) → c ≡ 0 → d ≡ first s → max w d ≡ tried s c w
+-- If the old capacity `c` is 0, and `d` is `min_non_zero_cap s`, then the capacity `tried s c w`
+-- that the rule `doubling` computes is the greater of `w` and `d`.
+pub tried_first : (s c w d : ℕ) → c ≡ 0 → d ≡ min_non_zero_cap s → max w d ≡ tried s c w
 tried_first s c w d none is = grind (arith, nat_tests)
 
 -- If the old capacity `c` is not 0, and `d` is `2 * c`, then the capacity `tried s c w` that the
@@ -283,19 +283,20 @@ tried_first s c w d none is = grind (arith, nat_tests)
 pub tried_twice : (s c w d : ℕ) → (c ≡ 0 → ⊥) → d ≡ 2 * c → max w d ≡ tried s c w
 tried_twice s c w d some is = grind (arith, nat_tests)
 
--- A block with a capacity of `2 ^ 63` or more is too large to be allocated, so `fitting` returns
--- `None` for such a capacity.
-pub fitting_past : (s a n : ℕ) → 2 ^ 63 ≤ n → fitting s a n ≡ None
-unfolding fitting
+-- A block with a capacity of `2 ^ 63` or more is too large to be allocated, so `checked_capacity`
+-- returns `None` for such a capacity.
+pub fitting_past : (s a n : ℕ) → 2 ^ 63 ≤ n → checked_capacity s a n ≡ None
+unfolding checked_capacity
 fitting_past s a n many = λ i. if fits_no s a n many i then Some n else None
 
 -- If `c < w`, then the code of `Doubling`, which caps `2 * c` at `usize::MAX`, chooses the same
 -- capacity as the function `doubling`, which does not cap it.
-pub doubling_is : (s a c w d : ℕ) → c < w → (c ≡ 0 → d ≡ first s)
-    → ((c ≡ 0 → ⊥) → d ≡ min (c * 2) (2 ^ 64 - 1)) → fitting s a (max w d) ≡ doubling s a c w
+pub doubling_is : (s a c w d : ℕ) → c < w → (c ≡ 0 → d ≡ min_non_zero_cap s)
+    → ((c ≡ 0 → ⊥) → d ≡ min (c * 2) (2 ^ 64 - 1))
+    → checked_capacity s a (max w d) ≡ doubling s a c w
 unfolding doubling
 doubling_is s a c w d more none some = elim (cases_lt c (2 ^ 63)) [
-  | inl few ↦ ap (fitting s a) (tries few)
+  | inl few ↦ ap (checked_capacity s a) (tries few)
   | inr many ↦ fitting_past s a (max w d) (omega arith)
       ∙ sym (fitting_past s a (tried s c w) (omega arith))
 ]

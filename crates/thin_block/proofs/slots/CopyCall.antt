@@ -1,7 +1,7 @@
--- These lemmas verify a call of the function `copied`, which copies the items of a slice into a
+-- These lemmas verify a call of the function `fill_from`, which copies the items of a slice into a
 -- value of type `Slots`.
 use Rattle.std.proofs.Common.{◌≡◌, refl, sym, ap, ◌∙◌, ℕ, List, [], ◌∷◌, length}
-use Rattle.thin_block.proofs.Walks.{Ura, named, Val, SProp, ent, sep, ex, emp, id⊢, Lft, Share, Fml, ftrue, fsep, flft, Memory, Routine, Logic, sem, ◌⊑◌, Fun, fact, fact_i, ‵, raw, ◌⊛◌, some, later, ◌$◌, ◌∵◌, !, qed, move, keep, drop, use0, use1, split, split3, join, pick, fjoin, rewrite, await, updating, done, block_ptr, only, heard, nothing, triple_of}
+use Rattle.thin_block.proofs.WalkPrelude.{Ura, named, Val, SProp, ent, sep, ex, emp, id⊢, Lft, Share, Fml, ftrue, fsep, flft, Memory, Routine, Logic, sem, ◌⊑◌, Fun, fact, fact_i, ‵, raw, ◌⊛◌, some, later, ◌$◌, ◌∵◌, !, qed, move, keep, drop, use0, use1, split, split3, join, pick, fjoin, rewrite, await, updating, done, block_ptr, only, heard, nothing, triple_of}
 use mir.Syntax.{Dict}
 use base.Logic.{guard}
 use types.Kit.{show, check, now}
@@ -14,13 +14,13 @@ use Rattle.core.specs.Mem.Slots.{slots_items, slots_ptr, slots_len, SamePlaces, 
 use Rattle.core.proofs.slots.Opens.{row_val, words_val}
 use Rattle.std_alloc.proofs.VecSteps.El.{El, el_x}
 use Rattle.std_alloc.proofs.vec.Spares.{Row, Row-seen}
-use Rattle.thin_block.specs.contracts.slots.copied as C
+use Rattle.thin_block.specs.contracts.slots.fill_from as C
 
 module _ (E : El) (g : Ghosts (el_x E)) (d : Dict) {M : Type 1} {𝓤 : Ura M} (𝓛 : Logic 𝓤)
     (at_mem : Memory → SProp 𝓤) (run : Routine → Fun 𝓤) where
   open 𝓛 use {H, A}
 
-  -- `Copied` is the contract of the function `copied`.
+  -- `Copied` is the contract of the function `fill_from`.
   abbrev pub Copied : Contract 𝓤
   Copied = triple_of 𝓛 (C.signature E.row) (C.spec E.row g d 𝓛 at_mem run)
 

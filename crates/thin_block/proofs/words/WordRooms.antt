@@ -1,12 +1,12 @@
 -- These lemmas convert uninitialized memory of headers, slots and blocks into memory of words, and
 -- back. Here, a word is a struct of `m` items, which takes 8 or 16 bytes.
 use Rattle.std.proofs.Common.{◌≡◌, ℕ, zero, suc, ◌+◌, ◌-◌, ◌*◌, ◌≤◌, [], ◌∷◌, refl, sym, ap, ◌∙◌, arith, zero-mul, suc-mul, w64}
-use Rattle.thin_block.proofs.Walks.{Ura, ent, sep, apply∗, Fml, ftrue, fsep, froom, Ty, ty_int, ty_array, size, align, Logic, sem, ‵, ◌⊛◌, ◌$◌, ◌∵◌, !, qed, by, move, keep, drop, use0, use1, use2, use3, split, split3, fsplit, fjoin, rewrite, keeps, assume, done, nothing}
+use Rattle.thin_block.proofs.WalkPrelude.{Ura, ent, sep, apply∗, Fml, ftrue, fsep, froom, Ty, ty_int, ty_array, size, align, Logic, sem, ‵, ◌⊛◌, ◌$◌, ◌∵◌, !, qed, by, move, keep, drop, use0, use1, use2, use3, split, split3, fsplit, fjoin, rewrite, keeps, assume, done, nothing}
 use native.Mathlib.Nat.{add_comm}
 use base.Fml.{fwand}
 use denote.Index.{place, place_is}
 use denote.RawPtr.Room.{past, room_cut, room_glue}
-use Rattle.thin_block.specs.Ownership.{word_of, way, ways, header_room, header_way, slots_way}
+use Rattle.thin_block.specs.Ownership.{word_of, word_wand, word_wands, header_room, header_wand, slots_wand}
 use Rattle.thin_block.proofs.words.WordsLemmas.{InWords}
 
 -- An array of `n` values of type `τ` that begins at the offset `o` ends at the offset `past τ n o`,
@@ -51,9 +51,9 @@ module _ {M : Type 1} {𝓤 : Ura M} (𝓛 : Logic 𝓤) (τ : Ty) (m k b : ℕ)
   one_more w = omega (arith, suc-mul w m)
 
   -- Splits memory for `w` words into two parts: memory for the items of these words, and the rights
-  -- (`ways`) to convert the first part back into memory for words.
+  -- (`word_wands`) to convert the first part back into memory for words.
   pub ways_out : (w o : ℕ) → ent 𝓤 (H.room (ty_array ω w) b o)
-      (sep 𝓤 (H.room (ty_array τ (w * m)) b o) (sem 𝓛 (ways τ m w b o)))
+      (sep 𝓤 (H.room (ty_array τ (w * m)) b o) (sem 𝓛 (word_wands τ m w b o)))
   ways_out zero o =
       qed 𝓛 (‵ (froom (ty_array ω 0) b o) ∷ []) ∵ drop ! $ nothing ! $
       use0 𝓛 (‵ (froom (ty_array τ 0) b o)) (𝓛.laws.room_nil τ b o) $
@@ -62,10 +62,10 @@ module _ {M : Type 1} {𝓤 : Ura M} (𝓛 : Logic 𝓤) (τ : Ty) (m k b : ℕ)
       qed 𝓛 (‵ (froom (ty_array ω (suc w)) b o) ∷ []) ∵
       use1 𝓛 (‵ (froom ω b o) ⊛ ‵ (froom (ty_array ω w) b (o + u)))
       (𝓛.laws.room_uncons ω w b o) $ split ! $
-      use1 𝓛 (‵ (froom run b o) ⊛ ‵ (way τ m b o))
+      use1 𝓛 (‵ (froom run b o) ⊛ ‵ (word_wand τ m b o))
       (𝓛.laws.room_as ω run b o (sym hd.size) hd.item) $
       split ! $ move ! (2 ∷ []) $
-      use1 𝓛 (‵ (froom (ty_array τ (w * m)) b (o + u)) ⊛ ‵ (ways τ m w b (o + u)))
+      use1 𝓛 (‵ (froom (ty_array τ (w * m)) b (o + u)) ⊛ ‵ (word_wands τ m w b (o + u)))
       (ways_out w (o + u)) $ split ! $
       -- The previous steps have split the memory for the words into memory for their items, and the
       -- rights to convert this memory back. The proof context now holds these entries, in this
@@ -78,13 +78,14 @@ module _ {M : Type 1} {𝓤 : Ura M} (𝓛 : Logic 𝓤) (τ : Ty) (m k b : ℕ)
       move ! (2 ∷ 1 ∷ 0 ∷ []) $ fjoin ! $ move ! (1 ∷ 0 ∷ []) $ done !
 
   -- Converts memory for the items of `w` words into memory for these words. The lemma uses up
-  -- `ways`, the rights to do this.
-  pub ways_in : (w o : ℕ) → ent 𝓤 (sep 𝓤 (H.room (ty_array τ (w * m)) b o) (sem 𝓛 (ways τ m w b o)))
+  -- `word_wands`, the rights to do this.
+  pub ways_in : (w o : ℕ)
+      → ent 𝓤 (sep 𝓤 (H.room (ty_array τ (w * m)) b o) (sem 𝓛 (word_wands τ m w b o)))
       (H.room (ty_array ω w) b o)
   ways_in zero o = qed 𝓛 (‵ (froom (ty_array τ (0 * m)) b o) ∷ ‵ ftrue ∷ []) ∵ keep ! [] $
       by ! (𝓛.laws.room_nil ω b o)
   ways_in (suc w) o =
-      qed 𝓛 (‵ (froom (ty_array τ (suc w * m)) b o) ∷ ‵ (ways τ m (suc w) b o) ∷ []) ∵
+      qed 𝓛 (‵ (froom (ty_array τ (suc w * m)) b o) ∷ ‵ (word_wands τ m (suc w) b o) ∷ []) ∵
       rewrite ! 0 (λ (n : ℕ). ‵ (froom (ty_array τ n) b o)) (sym (one_more w)) refl $
       use1 𝓛 (‵ (froom run b o) ⊛ ‵ (froom (ty_array τ (w * m)) b (past τ m o)))
       (room_cut 𝓛 τ m (w * m) b o) $ split ! $ move ! (2 ∷ []) $ fsplit ! $
@@ -107,9 +108,9 @@ module _ {M : Type 1} {𝓤 : Ura M} (𝓛 : Logic 𝓤) (τ : Ty) (m k b : ℕ)
   after_header o = past_is ω k o ∙ ap (λ (n : ℕ). o + n) header_bytes
 
   -- Splits memory for `k` words into memory for the capacity, memory for the length, and
-  -- `header_way`, the right to convert these two parts back.
+  -- `header_wand`, the right to convert these two parts back.
   pub header_out : (o : ℕ) → ent 𝓤 (H.room units b o)
-      (sep 𝓤 (H.room half b o) (sep 𝓤 (H.room half b (o + 8)) (sem 𝓛 (header_way τ m k b o))))
+      (sep 𝓤 (H.room half b o) (sep 𝓤 (H.room half b (o + 8)) (sem 𝓛 (header_wand τ m k b o))))
   header_out o =
       qed 𝓛 (‵ (froom units b o) ∷ []) ∵
       use1 𝓛 (‵ (froom two b o) ⊛ ‵ (fwand (froom two b o) (froom units b o)))
@@ -127,37 +128,38 @@ module _ {M : Type 1} {𝓤 : Ura M} (𝓛 : Logic 𝓤) (τ : Ty) (m k b : ℕ)
       by ! (apply∗ 𝓤 (H.room two b o) (H.room units b o))
 
   -- Converts memory for the capacity and the length into memory for `k` words. The lemma uses up
-  -- `header_way`, the right to do this.
+  -- `header_wand`, the right to do this.
   pub header_in : (o : ℕ) → ent 𝓤 (sep 𝓤 (H.room half b o) (sep 𝓤 (H.room half b (o + 8))
-      (sem 𝓛 (header_way τ m k b o)))) (H.room units b o)
+      (sem 𝓛 (header_wand τ m k b o)))) (H.room units b o)
   header_in o =
-      qed 𝓛 (‵ (froom half b o) ∷ ‵ (froom half b (o + 8)) ∷ ‵ (header_way τ m k b o) ∷ []) ∵
+      qed 𝓛 (‵ (froom half b o) ∷ ‵ (froom half b (o + 8)) ∷ ‵ (header_wand τ m k b o) ∷ []) ∵
       fjoin ! $ by ! (apply∗ 𝓤 (sem 𝓛 (header_room b o)) (H.room units b o))
 
   -- If `c` slots fit into `w` words, then memory for these words can be split into memory for the
-  -- slots and `slots_way`, the right to convert the memory for the slots back into memory for
+  -- slots and `slots_wand`, the right to convert the memory for the slots back into memory for
   -- words.
   slots_out : (w c o : ℕ) → c ≤ w * m → ent 𝓤 (H.room (ty_array ω w) b o)
-      (sep 𝓤 (H.room (ty_array τ c) b o) (sem 𝓛 (slots_way τ m w c b o)))
+      (sep 𝓤 (H.room (ty_array τ c) b o) (sem 𝓛 (slots_wand τ m w c b o)))
   slots_out w c o le =
       let pad : ℕ = w * m - c in
       let whole : w * m ≡ c + pad = omega arith in
       qed 𝓛 (‵ (froom (ty_array ω w) b o) ∷ []) ∵
-      use1 𝓛 (‵ (froom (ty_array τ (w * m)) b o) ⊛ ‵ (ways τ m w b o)) (ways_out w o) $ split ! $
+      use1 𝓛 (‵ (froom (ty_array τ (w * m)) b o) ⊛ ‵ (word_wands τ m w b o)) (ways_out w o) $
+      split ! $
       rewrite ! 0 (λ (n : ℕ). ‵ (froom (ty_array τ n) b o)) whole refl $
       use1 𝓛 (‵ (froom (ty_array τ c) b o) ⊛ ‵ (froom (ty_array τ pad) b (past τ c o)))
       (room_cut 𝓛 τ c pad b o) $ split ! $ move ! (1 ∷ []) $
       rewrite ! 0 (λ (n : ℕ). ‵ (froom (ty_array τ pad) b n)) (past_is τ c o) refl $
       move ! (2 ∷ 0 ∷ []) $ fjoin ! $ move ! (1 ∷ 0 ∷ []) $ done !
 
-  -- If `w` words have room for `c` slots, then the memory of the slots and `slots_way` (conversion
+  -- If `w` words have room for `c` slots, then the memory of the slots and `slots_wand` (conversion
   -- rights and unused memory) can be converted into memory for the words.
   slots_in : (w c o : ℕ) → c ≤ w * m → ent 𝓤 (sep 𝓤 (H.room (ty_array τ c) b o)
-      (sem 𝓛 (slots_way τ m w c b o))) (H.room (ty_array ω w) b o)
+      (sem 𝓛 (slots_wand τ m w c b o))) (H.room (ty_array ω w) b o)
   slots_in w c o le =
       let pad : ℕ = w * m - c in
       let whole : w * m ≡ c + pad = omega arith in
-      qed 𝓛 (‵ (froom (ty_array τ c) b o) ∷ ‵ (slots_way τ m w c b o) ∷ []) ∵
+      qed 𝓛 (‵ (froom (ty_array τ c) b o) ∷ ‵ (slots_wand τ m w c b o) ∷ []) ∵
       move ! (1 ∷ []) $ fsplit ! $ move ! (1 ∷ []) $
       rewrite ! 0 (λ (n : ℕ). ‵ (froom (ty_array τ pad) b n)) (sym (past_is τ c o)) refl $
       move ! (2 ∷ 0 ∷ []) $ use2 𝓛 (‵ (froom (ty_array τ (c + pad)) b o))
@@ -166,7 +168,7 @@ module _ {M : Type 1} {𝓤 : Ura M} (𝓛 : Logic 𝓤) (τ : Ty) (m k b : ℕ)
 
   module _ (w c o : ℕ) (le : c ≤ w * m) where
     abbrev Back : Fml
-    Back = fsep (header_way τ m k b o) (slots_way τ m w c b (o + 16))
+    Back = fsep (header_wand τ m k b o) (slots_wand τ m w c b (o + 16))
 
     -- Splits memory for a block of words into three pieces: memory for the capacity, for the
     -- length, and for the slots. Also yields `Back`, the right to convert these three pieces back
@@ -178,10 +180,10 @@ module _ {M : Type 1} {𝓤 : Ura M} (𝓛 : Logic 𝓤) (τ : Ty) (m k b : ℕ)
         qed 𝓛 (‵ (froom (ty_array ω (k + w)) b o) ∷ []) ∵
         use1 𝓛 (‵ (froom units b o) ⊛ ‵ (froom (ty_array ω w) b (past ω k o)))
         (room_cut 𝓛 ω k w b o) $ split ! $
-        use1 𝓛 (‵ (froom half b o) ⊛ ‵ (froom half b (o + 8)) ⊛ ‵ (header_way τ m k b o))
+        use1 𝓛 (‵ (froom half b o) ⊛ ‵ (froom half b (o + 8)) ⊛ ‵ (header_wand τ m k b o))
         (header_out o) $ split3 ! $ move ! (3 ∷ []) $
         rewrite ! 0 (λ (n : ℕ). ‵ (froom (ty_array ω w) b n)) (after_header o) refl $
-        use1 𝓛 (‵ (froom (ty_array τ c) b (o + 16)) ⊛ ‵ (slots_way τ m w c b (o + 16)))
+        use1 𝓛 (‵ (froom (ty_array τ c) b (o + 16)) ⊛ ‵ (slots_wand τ m w c b (o + 16)))
         (slots_out w c (o + 16) le) $ split ! $ move ! (4 ∷ 1 ∷ []) $ fjoin ! $
         move ! (2 ∷ 3 ∷ 1 ∷ 0 ∷ []) $ done !
 

@@ -1,7 +1,7 @@
 -- These lemmas convert the memory of items into memory of words, and back. Here, a word is a struct
 -- of `m` items, which takes 8 or 16 bytes.
 use Rattle.std.proofs.Common.{◌≡◌, ℕ, zero, suc, Some, ◌+◌, ◌-◌, ◌*◌, ◌≤◌, List, [], ◌∷◌, ◌++◌, length, map, take, drop as rest, refl, sym, ap, subst, ◌∙◌, arith, zero-mul, suc-mul, Option, w64}
-use Rattle.thin_block.proofs.Walks.{length-take, Ura, full_share, SProp, ent, sep, apply∗, Fml, ftrue, froom, Ty, Width, w8, w16, w32, w128, ty_int, ty_array, bare, bytes, size, align, align_w, align-bytes, size-raw, Logic, sem, ‵, raw, ◌⊛◌, ◌$◌, ◌∵◌, !, qed, by, move, keep, use0, use1, use2, use3, split, split3, join, fsplit, fjoin, rewrite, assume, done, Array, part_at, layout, param, number, ArrayAt, Laws, param_laws, array_at_laws, RattleType, nothing, Struct, El, R, el_x, add_times, type_size}
+use Rattle.thin_block.proofs.WalkPrelude.{length-take, Ura, full_share, SProp, ent, sep, apply∗, Fml, ftrue, froom, Ty, Width, w8, w16, w32, w128, ty_int, ty_array, bare, bytes, size, align, align_w, align-bytes, size-raw, Logic, sem, ‵, raw, ◌⊛◌, ◌$◌, ◌∵◌, !, qed, by, move, keep, use0, use1, use2, use3, split, split3, join, fsplit, fjoin, rewrite, assume, done, Array, part_at, layout, param, number, ArrayAt, Laws, param_laws, array_at_laws, RattleType, nothing, Struct, El, R, el_x, add_times, type_size}
 use Rattle.std.proofs.lemmas.List.{take-append-drop, length-drop, length-map, map-append}
 use native.Mathlib.Nat.{mul_assoc}
 use contract.Monad.{conj, conj_r}
@@ -15,14 +15,14 @@ use denote.Struct.Members.{Member, parts_at, rooms_for}
 use denote.Struct.Parts.{shape_of, PartsBack, RoomBack, Struct-parts_free}
 use denote.Struct.Recorded.{Recorded-part}
 use Rattle.core.specs.Simd.{first_chunks}
-use Rattle.thin_block.specs.Ownership.{places, word_of, way, ways, slots_way}
-use Rattle.thin_block.specs.Slots.{full, empty}
+use Rattle.thin_block.specs.Ownership.{slots_own, word_of, word_wand, word_wands, slots_wand}
+use Rattle.thin_block.specs.Slots.{filled_slots, empty_slots}
 use Rattle.thin_block.specs.Words.{word, runs_at}
-use Rattle.thin_block.specs.contracts.words.Words.{the_row, the_type}
+use Rattle.thin_block.specs.contracts.words.Word.{the_row, the_type}
 use Rattle.thin_block.proofs.words.WordRooms.{past_is, ways_in, ways_out}
 use Rattle.thin_block.proofs.SlotMemory.{cut, glue, to_items, of_items, to_raw, of_raw}
 use Rattle.thin_block.proofs.words.WordsLemmas.{InWords, nameless}
-use Rattle.thin_block.proofs.words.Words.TheLaws.{the_row_laws}
+use Rattle.thin_block.proofs.words.Word.TheLaws.{the_row_laws}
 
 -- `number_of_items m` is the const argument of the type `Words` for words of `m` items. This
 -- argument is the number of items in a word.
@@ -143,7 +143,7 @@ module _ {M : Type 1} {𝓤 : Ura M} (𝓛 : Logic 𝓤) (T : RattleType) (L : L
     -- Suppose that memory for all fields of a word can be converted into memory for the word. Then
     -- memory for the items alone can also be converted into memory for the word, because the array
     -- of items is the only field that takes any bytes.
-    way_out : ent 𝓤 (RoomBack 𝓤 H (the_type (R E) N).name fields b o) (sem 𝓛 (way τ' m b o))
+    way_out : ent 𝓤 (RoomBack 𝓤 H (the_type (R E) N).name fields b o) (sem 𝓛 (word_wand τ' m b o))
     way_out =
         qed 𝓛 (raw (RoomBack 𝓤 H (the_type (R E) N).name fields b o) ∷ []) ∵
         assume {P = H.room (word_of τ' m) b o} ! (‵ (froom (ty_array τ' m) b o)) $
@@ -154,10 +154,10 @@ module _ {M : Type 1} {𝓤 : Ura M} (𝓛 : Logic 𝓤) (T : RattleType) (L : L
         use2 𝓛 (‵ (froom (layout W.row) b o)) (apply∗ 𝓤 Rooms (H.room (layout W.row) b o)) $
         by ! (𝓛.laws.room-raw (layout W.row) b o)
 
-    -- Splits a word in memory into its items and a right (`way`). With this right, the memory of
-    -- the items can be converted back into memory for the word.
+    -- Splits a word in memory into its items and a right (`word_wand`). With this right, the memory
+    -- of the items can be converted back into memory for the word.
     pub word_out : (xs : List X) → ent 𝓤 (sem 𝓛 (part_at (R W) full_share (word (R E) N xs) b o))
-        (sep 𝓤 (sem 𝓛 (part_at (Array (R E) m) full_share xs b o)) (sem 𝓛 (way τ' m b o)))
+        (sep 𝓤 (sem 𝓛 (part_at (Array (R E) m) full_share xs b o)) (sem 𝓛 (word_wand τ' m b o)))
     word_out xs =
         let ν = (the_type (R E) N).name in
         let Back = RoomBack 𝓤 H ν fields b o in
@@ -171,7 +171,7 @@ module _ {M : Type 1} {𝓤 : Ura M} (𝓛 : Logic 𝓤) (T : RattleType) (L : L
         ) (xs, ([], tt)) b o) $ split ! $
         fsplit ! $ move ! (2 ∷ []) $
         use1 𝓛 (raw Back) (conj_r 𝓤 (PartsBack 𝓛 full_share ν fields b o) Back) $
-        use1 𝓛 (‵ (way τ' m b o)) way_out $ keep ! (1 ∷ 0 ∷ []) $
+        use1 𝓛 (‵ (word_wand τ' m b o)) way_out $ keep ! (1 ∷ 0 ∷ []) $
         rewrite ! 0 (λ (n : ℕ). ‵ (part_at (Array (R E) m) full_share xs b n)) at_start refl $
         done !
 
@@ -183,10 +183,11 @@ module _ {M : Type 1} {𝓤 : Ura M} (𝓛 : Logic 𝓤) (T : RattleType) (L : L
   abbrev words : ℕ → List X → List W.row.Denot
   words n xs = words_made T m n xs
 
-  -- The filled slots `full xs` are the slots of the first word, `full (take m xs)`, followed by the
-  -- slots of the other words, `full (rest m xs)`.
-  parted : (xs : List X) → full xs ≡ full (take m xs) ++ full (rest m xs)
-  parted xs = ap full (sym (take-append-drop m xs)) ∙ map-append Some (take m xs) (rest m xs)
+  -- The filled slots `filled_slots xs` are the slots of the first word, `filled_slots (take m xs)`,
+  -- followed by the slots of the other words, `filled_slots (rest m xs)`.
+  parted : (xs : List X) → filled_slots xs ≡ filled_slots (take m xs) ++ filled_slots (rest m xs)
+  parted xs = ap filled_slots (sym (take-append-drop m xs))
+      ∙ map-append Some (take m xs) (rest m xs)
 
   module _ (n : ℕ) (xs : List X) (o : ℕ) (long : length xs ≡ suc n * m) where
     first_long : length (take m xs) ≡ m
@@ -195,77 +196,88 @@ module _ {M : Type 1} {𝓤 : Ura M} (𝓛 : Logic 𝓤) (T : RattleType) (L : L
     rest_long : length (rest m xs) ≡ n * m
     rest_long = omega (arith, length-drop m xs, suc-mul n m)
 
-    next : o + u' ≡ length (full (take m xs)) * s + o
+    next : o + u' ≡ length (filled_slots (take m xs)) * s + o
     next =
-        let same : length (full (take m xs)) * s ≡ m * s =
+        let same : length (filled_slots (take m xs)) * s ≡ m * s =
         ap (λ (n : ℕ). n * s) (length-map (take m xs) Some ∙ first_long) in
         let e = wide in omega arith
 
   -- Groups the slots of the items `xs` into `n` words. Each group is paired with one of the `w`
   -- rights to convert the memory of the group into memory for a word. `j` rights are left over.
   to_runs : (n w j : ℕ) (xs : List X) (o at : ℕ) → length xs ≡ n * m → w ≡ j + n → at ≡ n * u' + o
-      → ent 𝓤 (sep 𝓤 (sem 𝓛 (places (R E) (full xs) b o)) (sem 𝓛 (ways τ' m w b o)))
-      (sep 𝓤 (sem 𝓛 (runs_at (R E) N (chunks n xs) b o)) (sem 𝓛 (ways τ' m j b at)))
+      → ent 𝓤 (sep 𝓤 (sem 𝓛 (slots_own (R E) (filled_slots xs) b o))
+      (sem 𝓛 (word_wands τ' m w b o)))
+      (sep 𝓤 (sem 𝓛 (runs_at (R E) N (chunks n xs) b o)) (sem 𝓛 (word_wands τ' m j b at)))
   to_runs zero w j [] o at long ew ea =
-      qed 𝓛 (‵ ftrue ∷ ‵ (ways τ' m w b o) ∷ []) ∵
-      rewrite ! 1 (λ (n : ℕ). ‵ (ways τ' m n b o)) {x = j} (omega (arith, ew)) refl $
-      rewrite ! 1 (λ (n : ℕ). ‵ (ways τ' m j b n)) {x = at} (omega (arith, ea, zero-mul u')) refl $
+      qed 𝓛 (‵ ftrue ∷ ‵ (word_wands τ' m w b o) ∷ []) ∵
+      rewrite ! 1 (λ (n : ℕ). ‵ (word_wands τ' m n b o)) {x = j} (omega (arith, ew)) refl $
+      rewrite ! 1 (λ (n : ℕ). ‵ (word_wands τ' m j b n)) {x = at}
+      (omega (arith, ea, zero-mul u')) refl $
       done !
   to_runs zero w j (x ∷ xs) o at long ew ea = absurd (omega (arith, long, zero-mul m))
   to_runs (suc n) w j xs o at long ew ea =
       let c : List X = take m xs in
       let far : ℕ = o + u' in
-      qed 𝓛 (‵ (places (R E) (full xs) b o) ∷ ‵ (ways τ' m w b o) ∷ []) ∵
-      rewrite ! 0 (λ (l : List (Option X)). ‵ (places (R E) l b o)) (parted xs) refl $
-      use1 𝓛 (‵ (places (R E) (full c) b o) ⊛ ‵ (places (R E) (full (rest m xs)) b far))
-      (cut E 𝓛 b (full c) (full (rest m xs)) o far (next n xs o long)) $ split ! $
+      qed 𝓛 (‵ (slots_own (R E) (filled_slots xs) b o) ∷ ‵ (word_wands τ' m w b o) ∷ []) ∵
+      rewrite ! 0 (λ (l : List (Option X)). ‵ (slots_own (R E) l b o)) (parted xs) refl $
+      use1 𝓛 (‵ (slots_own (R E) (filled_slots c) b o) ⊛
+      ‵ (slots_own (R E) (filled_slots (rest m xs)) b far))
+      (cut E 𝓛 b (filled_slots c) (filled_slots (rest m xs)) o far (next n xs o long)) $ split ! $
       use1 𝓛 (‵ (part_at (Array (R E) m) full_share c b o))
       (to_items E 𝓛 b m c o (first_long n xs o long)) $ move ! (2 ∷ []) $
-      rewrite ! 0 (λ (n : ℕ). ‵ (ways τ' m n b o)) {x = suc (j + n)} (omega (arith, ew)) refl $
+      rewrite ! 0 (λ (n : ℕ). ‵ (word_wands τ' m n b o)) {x = suc (j + n)}
+      (omega (arith, ew)) refl $
       fsplit ! $
-      -- The previous steps have split the slots and the rights (`ways`). The proof context now
-      -- holds these entries, in this order: the right (`way`) to convert memory for the items of
-      -- the first word into memory for this word; the rights (`ways`) for all later words; the
-      -- items of the first word; the slots with the items of the other words.
+      -- The previous steps have split the slots and the rights (`word_wands`). The proof context
+      -- now holds these entries, in this order: the right (`word_wand`) to convert memory for the
+      -- items of the first word into memory for this word; the rights (`word_wands`) for all later
+      -- words; the items of the first word; the slots with the items of the other words.
       move ! (2 ∷ 0 ∷ []) $ fjoin ! $ move ! (2 ∷ 1 ∷ []) $
-      use2 𝓛 (‵ (runs_at (R E) N (chunks n (rest m xs)) b far) ⊛ ‵ (ways τ' m j b at))
+      use2 𝓛 (‵ (runs_at (R E) N (chunks n (rest m xs)) b far) ⊛ ‵ (word_wands τ' m j b at))
       (to_runs n (j + n) j (rest m xs) far at (rest_long n xs o long) refl
       (omega (arith, ea, suc-mul n u'))) $ split ! $ move ! (2 ∷ 0 ∷ []) $ fjoin ! $ done !
 
   -- Converts `n` adjacent words into slots that hold the items `xs`, and into `n` rights to convert
-  -- these slots back. Together with the rights (`ways`) for the `j` words after them, these are the
-  -- rights for all `w` words.
+  -- these slots back. Together with the rights (`word_wands`) for the `j` words after them, these
+  -- are the rights for all `w` words.
   of_runs : (n w j : ℕ) (xs : List X) (o at : ℕ) → length xs ≡ n * m → w ≡ j + n → at ≡ n * u' + o
-      → ent 𝓤 (sep 𝓤 (sem 𝓛 (places (R W) (full (words n xs)) b o)) (sem 𝓛 (ways τ' m j b at)))
-      (sep 𝓤 (sem 𝓛 (places (R E) (full xs) b o)) (sem 𝓛 (ways τ' m w b o)))
+      → ent 𝓤 (sep 𝓤 (sem 𝓛 (slots_own (R W) (filled_slots (words n xs)) b o))
+      (sem 𝓛 (word_wands τ' m j b at)))
+      (sep 𝓤 (sem 𝓛 (slots_own (R E) (filled_slots xs) b o)) (sem 𝓛 (word_wands τ' m w b o)))
   of_runs zero w j [] o at long ew ea =
-      qed 𝓛 (‵ ftrue ∷ ‵ (ways τ' m j b at) ∷ []) ∵
-      rewrite ! 1 (λ (n : ℕ). ‵ (ways τ' m j b n)) {x = o} (omega (arith, ea, zero-mul u')) refl $
-      rewrite ! 1 (λ (n : ℕ). ‵ (ways τ' m n b o)) {x = w} (omega (arith, ew)) refl $ done !
+      qed 𝓛 (‵ ftrue ∷ ‵ (word_wands τ' m j b at) ∷ []) ∵
+      rewrite ! 1 (λ (n : ℕ). ‵ (word_wands τ' m j b n)) {x = o}
+      (omega (arith, ea, zero-mul u')) refl $
+      rewrite ! 1 (λ (n : ℕ). ‵ (word_wands τ' m n b o)) {x = w} (omega (arith, ew)) refl $ done !
   of_runs zero w j (x ∷ xs) o at long ew ea = absurd (omega (arith, long, zero-mul m))
   of_runs (suc n) w j xs o at long ew ea =
       let c : List X = take m xs in
       let far : ℕ = o + u' in
       let others : List W.row.Denot = words n (rest m xs) in
-      qed 𝓛 (‵ (places (R W) (full (words (suc n) xs)) b o) ∷ ‵ (ways τ' m j b at) ∷ []) ∵
+      qed 𝓛 (‵ (slots_own (R W) (filled_slots (words (suc n) xs)) b o) ∷ ‵ (word_wands τ' m j b at)
+      ∷ []) ∵
       fsplit ! $
-      use1 𝓛 (‵ (part_at (Array (R E) m) full_share c b o) ⊛ ‵ (way τ' m b o)) (word_out o c) $
-      split ! $ use1 𝓛 (‵ (places (R E) (full c) b o)) (of_items E 𝓛 b m c o) $
+      use1 𝓛 (‵ (part_at (Array (R E) m) full_share c b o) ⊛ ‵ (word_wand τ' m b o))
+      (word_out o c) $
+      split ! $ use1 𝓛 (‵ (slots_own (R E) (filled_slots c) b o)) (of_items E 𝓛 b m c o) $
       move ! (2 ∷ 3 ∷ []) $
-      rewrite ! 0 (λ (n : ℕ). ‵ (places (R W) (full others) b (o + n))) (sym named) refl $
-      use2 𝓛 (‵ (places (R E) (full (rest m xs)) b far) ⊛ ‵ (ways τ' m (j + n) b far))
+      rewrite ! 0 (λ (n : ℕ). ‵ (slots_own (R W) (filled_slots others) b (o + n)))
+      (sym named) refl $
+      use2 𝓛 (‵ (slots_own (R E) (filled_slots (rest m xs)) b far) ⊛
+      ‵ (word_wands τ' m (j + n) b far))
       (of_runs n (j + n) j (rest m xs) far at (rest_long n xs o long) refl
       (omega (arith, ea, suc-mul n u'))) $ split ! $
       -- The previous steps have converted the words of the items `xs` into slots. They have also
-      -- produced a right (`ways`) for each of these words, to convert its slots back. The proof
-      -- context now holds these entries, in this order: the slots of the words after the first; the
-      -- rights for these words, together with the `j` rights from before; the slots of the first
-      -- word; the right for the first word.
-      move ! (2 ∷ 0 ∷ []) $ use2 𝓛 (‵ (places (R E) (full c ++ full (rest m xs)) b o))
-      (glue E 𝓛 b (full c) (full (rest m xs)) o far (next n xs o long)) $
-      rewrite ! 0 (λ (l : List (Option X)). ‵ (places (R E) l b o)) (sym (parted xs)) refl $
+      -- produced a right (`word_wands`) for each of these words, to convert its slots back. The
+      -- proof context now holds these entries, in this order: the slots of the words after the
+      -- first; the rights for these words, together with the `j` rights from before; the slots of
+      -- the first word; the right for the first word.
+      move ! (2 ∷ 0 ∷ []) $
+      use2 𝓛 (‵ (slots_own (R E) (filled_slots c ++ filled_slots (rest m xs)) b o))
+      (glue E 𝓛 b (filled_slots c) (filled_slots (rest m xs)) o far (next n xs o long)) $
+      rewrite ! 0 (λ (l : List (Option X)). ‵ (slots_own (R E) l b o)) (sym (parted xs)) refl $
       move ! (2 ∷ 1 ∷ []) $ fjoin ! $
-      rewrite ! 0 (λ (n : ℕ). ‵ (ways τ' m n b o))
+      rewrite ! 0 (λ (n : ℕ). ‵ (word_wands τ' m n b o))
       (let more : suc (j + n) ≡ w = omega (arith, ew) in more) refl $ move ! (1 ∷ 0 ∷ []) $ done !
 
   -- The next lemmas are about the memory of empty slots.
@@ -276,13 +288,14 @@ module _ {M : Type 1} {𝓤 : Ura M} (𝓛 : Logic 𝓤) (T : RattleType) (L : L
     end_at : far ≡ past τ' j at
     end_at = end ∙ sym (past_is τ' j at)
 
-    -- Converts `j` empty slots, the rights (`ways`) to convert items into words, and the spare
-    -- memory after the last slot into `v` empty words.
-    spare_words : ent 𝓤 (sep 𝓤 (sem 𝓛 (places (R E) (empty j) b at))
-        (sep 𝓤 (sem 𝓛 (ways τ' m v b at)) (sem 𝓛 Spare)))
-        (sem 𝓛 (places (R W) (empty v) b at))
+    -- Converts `j` empty slots, the rights (`word_wands`) to convert items into words, and the
+    -- spare memory after the last slot into `v` empty words.
+    spare_words : ent 𝓤 (sep 𝓤 (sem 𝓛 (slots_own (R E) (empty_slots j) b at))
+        (sep 𝓤 (sem 𝓛 (word_wands τ' m v b at)) (sem 𝓛 Spare)))
+        (sem 𝓛 (slots_own (R W) (empty_slots v) b at))
     spare_words =
-        qed 𝓛 (‵ (places (R E) (empty j) b at) ∷ ‵ (ways τ' m v b at) ∷ ‵ Spare ∷ []) ∵
+        qed 𝓛 (‵ (slots_own (R E) (empty_slots j) b at) ∷ ‵ (word_wands τ' m v b at) ∷ ‵ Spare
+        ∷ []) ∵
         use1 𝓛 (‵ (froom (ty_array τ' j) b at)) (to_raw E 𝓛 b j at) $ move ! (2 ∷ []) $
         rewrite ! 0 (λ (n : ℕ). ‵ (froom (ty_array τ' pad) b n)) end_at refl $
         move ! (1 ∷ 0 ∷ []) $ use2 𝓛 (‵ (froom (ty_array τ' (j + pad)) b at))
@@ -293,18 +306,18 @@ module _ {M : Type 1} {𝓤 : Ura M} (𝓛 : Logic 𝓤) (T : RattleType) (L : L
 
     -- Converts `v` empty words into `j` empty slots, the rights to convert these slots back into
     -- words, and the unused memory after the last slot.
-    spare_slots : ent 𝓤 (sem 𝓛 (places (R W) (empty v) b at))
-        (sep 𝓤 (sem 𝓛 (places (R E) (empty j) b at))
-        (sep 𝓤 (sem 𝓛 (ways τ' m v b at)) (sem 𝓛 Spare)))
+    spare_slots : ent 𝓤 (sem 𝓛 (slots_own (R W) (empty_slots v) b at))
+        (sep 𝓤 (sem 𝓛 (slots_own (R E) (empty_slots j) b at))
+        (sep 𝓤 (sem 𝓛 (word_wands τ' m v b at)) (sem 𝓛 Spare)))
     spare_slots =
-        qed 𝓛 (‵ (places (R W) (empty v) b at) ∷ []) ∵
+        qed 𝓛 (‵ (slots_own (R W) (empty_slots v) b at) ∷ []) ∵
         use1 𝓛 (‵ (froom (ty_array (word_of τ' m) v) b at)) (to_raw W 𝓛 b v at) $
-        use1 𝓛 (‵ (froom (ty_array τ' (v * m)) b at) ⊛ ‵ (ways τ' m v b at))
+        use1 𝓛 (‵ (froom (ty_array τ' (v * m)) b at) ⊛ ‵ (word_wands τ' m v b at))
         (ways_out 𝓛 τ' m k b hd' v at) $ split ! $
         rewrite ! 0 (λ (n : ℕ). ‵ (froom (ty_array τ' n) b at)) (sym whole) refl $
         use1 𝓛 (‵ (froom (ty_array τ' j) b at) ⊛ ‵ (froom (ty_array τ' pad) b (past τ' j at)))
         (room_cut 𝓛 τ' j pad b at) $ split ! $
-        use1 𝓛 (‵ (places (R E) (empty j) b at)) (of_raw E 𝓛 b j at) $ move ! (1 ∷ []) $
+        use1 𝓛 (‵ (slots_own (R E) (empty_slots j) b at)) (of_raw E 𝓛 b j at) $ move ! (1 ∷ []) $
         rewrite ! 0 (λ (n : ℕ). ‵ (froom (ty_array τ' pad) b n)) (sym end_at) refl $
         move ! (1 ∷ 2 ∷ 0 ∷ []) $ done !
 
@@ -325,7 +338,7 @@ module _ {M : Type 1} {𝓤 : Ura M} (𝓛 : Logic 𝓤) (T : RattleType) (L : L
     same_bytes = ap (λ (x : ℕ). n * x) wide
         ∙ (sym (mul_assoc n m s) ∙ ap (λ (x : ℕ). x * s) (sym long))
 
-    last : after ≡ length (full xs) * s + o
+    last : after ≡ length (filled_slots xs) * s + o
     last =
         let same = ap (λ (x : ℕ). x * s) (length-map xs Some) in
         let e = same_bytes in let a = at_after in omega arith
@@ -344,53 +357,63 @@ module _ {M : Type 1} {𝓤 : Ura M} (𝓛 : Logic 𝓤) (T : RattleType) (L : L
         let e = same_bytes in let a = at_after in omega arith
 
     -- Groups the filled slots by word, and converts the empty slots into empty words. This step
-    -- uses `slots_way`, the right to convert slots into words.
-    pub words_in : ent 𝓤 (sep 𝓤 (sem 𝓛 (places (R E) (full xs ++ empty j) b o))
-        (sem 𝓛 (slots_way τ' m w c b o)))
-        (sep 𝓤 (sem 𝓛 (runs_at (R E) N (chunks n xs) b o)) (sem 𝓛 (places (R W) (empty v) b after)))
+    -- uses `slots_wand`, the right to convert slots into words.
+    pub words_in : ent 𝓤 (sep 𝓤 (sem 𝓛 (slots_own (R E) (filled_slots xs ++ empty_slots j) b o))
+        (sem 𝓛 (slots_wand τ' m w c b o)))
+        (sep 𝓤 (sem 𝓛 (runs_at (R E) N (chunks n xs) b o))
+        (sem 𝓛 (slots_own (R W) (empty_slots v) b after)))
     words_in =
-        qed 𝓛 (‵ (places (R E) (full xs ++ empty j) b o) ∷ ‵ (slots_way τ' m w c b o) ∷ []) ∵
-        use1 𝓛 (‵ (places (R E) (full xs) b o) ⊛ ‵ (places (R E) (empty j) b after))
-        (cut E 𝓛 b (full xs) (empty j) o after last) $ split ! $ move ! (2 ∷ []) $ fsplit ! $
+        qed 𝓛 (‵ (slots_own (R E) (filled_slots xs ++ empty_slots j) b o)
+        ∷ ‵ (slots_wand τ' m w c b o) ∷ []) ∵
+        use1 𝓛 (‵ (slots_own (R E) (filled_slots xs) b o) ⊛
+        ‵ (slots_own (R E) (empty_slots j) b after))
+        (cut E 𝓛 b (filled_slots xs) (empty_slots j) o after last) $ split ! $ move ! (2 ∷ []) $
+        fsplit ! $
         -- The previous steps have separated the filled slots from the empty slots. They have also
-        -- split `slots_way` into its two parts: the unused memory after the last slot, and the
-        -- rights (`ways`) to convert memory for items into memory for words. The proof context now
-        -- holds, in this order: the rights; the unused memory; the filled slots; the empty slots.
+        -- split `slots_wand` into its two parts: the unused memory after the last slot, and the
+        -- rights (`word_wands`) to convert memory for items into memory for words. The proof
+        -- context now holds, in this order: the rights; the unused memory; the filled slots; the
+        -- empty slots.
         move ! (2 ∷ 0 ∷ []) $
-        use2 𝓛 (‵ (runs_at (R E) N (chunks n xs) b o) ⊛ ‵ (ways τ' m v b after))
+        use2 𝓛 (‵ (runs_at (R E) N (chunks n xs) b o) ⊛ ‵ (word_wands τ' m v b after))
         (to_runs n w v xs o after long total at_after) $ split ! $ move ! (3 ∷ 1 ∷ 2 ∷ []) $
-        use3 𝓛 (‵ (places (R W) (empty v) b after))
+        use3 𝓛 (‵ (slots_own (R W) (empty_slots v) b after))
         (spare_words j v pad' after (o + c * size τ') whole end) $ move ! (1 ∷ 0 ∷ []) $ done !
 
-    last_word : after ≡ length (full (words n xs)) * type_size (R W) + o
+    last_word : after ≡ length (filled_slots (words n xs)) * type_size (R W) + o
     last_word = ap (λ (x : ℕ). x * type_size (R W) + o)
         (sym (length-map (words n xs) Some ∙ words_long T m n xs))
 
     -- Joins the memory of `n` filled words with the memory of the `v` empty words directly after
     -- them.
-    pub words_joined : ent 𝓤 (sep 𝓤 (sem 𝓛 (places (R W) (full (words n xs)) b o))
-        (sem 𝓛 (places (R W) (empty v) b after)))
-        (sem 𝓛 (places (R W) (full (words n xs) ++ empty v) b o))
-    words_joined = glue W 𝓛 b (full (words n xs)) (empty v) o after last_word
+    pub words_joined : ent 𝓤 (sep 𝓤 (sem 𝓛 (slots_own (R W) (filled_slots (words n xs)) b o))
+        (sem 𝓛 (slots_own (R W) (empty_slots v) b after)))
+        (sem 𝓛 (slots_own (R W) (filled_slots (words n xs) ++ empty_slots v) b o))
+    words_joined = glue W 𝓛 b (filled_slots (words n xs)) (empty_slots v) o after last_word
 
     -- Converts the words that hold items into filled slots, and the empty words into empty slots.
-    -- The result also contains the right (`slots_way`) to convert the slots back into words.
-    pub words_back : ent 𝓤 (sem 𝓛 (places (R W) (full (words n xs) ++ empty v) b o))
-        (sep 𝓤 (sem 𝓛 (places (R E) (full xs ++ empty j) b o)) (sem 𝓛 (slots_way τ' m w c b o)))
+    -- The result also contains the right (`slots_wand`) to convert the slots back into words.
+    pub words_back : ent 𝓤
+        (sem 𝓛 (slots_own (R W) (filled_slots (words n xs) ++ empty_slots v) b o))
+        (sep 𝓤 (sem 𝓛 (slots_own (R E) (filled_slots xs ++ empty_slots j) b o))
+        (sem 𝓛 (slots_wand τ' m w c b o)))
     words_back =
-        qed 𝓛 (‵ (places (R W) (full (words n xs) ++ empty v) b o) ∷ []) ∵
-        use1 𝓛 (‵ (places (R W) (full (words n xs)) b o) ⊛ ‵ (places (R W) (empty v) b after))
-        (cut W 𝓛 b (full (words n xs)) (empty v) o after last_word) $ split ! $ move ! (1 ∷ []) $
-        use1 𝓛 (‵ (places (R E) (empty j) b after) ⊛ ‵ (ways τ' m v b after) ⊛ ‵
+        qed 𝓛 (‵ (slots_own (R W) (filled_slots (words n xs) ++ empty_slots v) b o) ∷ []) ∵
+        use1 𝓛 (‵ (slots_own (R W) (filled_slots (words n xs)) b o) ⊛
+        ‵ (slots_own (R W) (empty_slots v) b after))
+        (cut W 𝓛 b (filled_slots (words n xs)) (empty_slots v) o after last_word) $ split ! $
+        move ! (1 ∷ []) $
+        use1 𝓛 (‵ (slots_own (R E) (empty_slots j) b after) ⊛ ‵ (word_wands τ' m v b after) ⊛ ‵
         (froom (ty_array τ' pad') b (o + c * size τ')))
         (spare_slots j v pad' after (o + c * size τ') whole end) $ split3 ! $
         -- The previous steps have converted the empty words into empty slots. The proof context now
-        -- holds these entries, in this order: the empty slots; the rights (`ways`) to convert these
-        -- slots back into words; the memory after the last slot, which belongs to no slot; the
-        -- words that hold items.
+        -- holds these entries, in this order: the empty slots; the rights (`word_wands`) to convert
+        -- these slots back into words; the memory after the last slot, which belongs to no slot;
+        -- the words that hold items.
         move ! (3 ∷ 1 ∷ []) $
-        use2 𝓛 (‵ (places (R E) (full xs) b o) ⊛ ‵ (ways τ' m w b o))
+        use2 𝓛 (‵ (slots_own (R E) (filled_slots xs) b o) ⊛ ‵ (word_wands τ' m w b o))
         (of_runs n w v xs o after long total at_after) $ split ! $ move ! (0 ∷ 2 ∷ []) $
-        use2 𝓛 (‵ (places (R E) (full xs ++ empty j) b o))
-        (glue E 𝓛 b (full xs) (empty j) o after last) $ move ! (1 ∷ 2 ∷ []) $ fjoin ! $
+        use2 𝓛 (‵ (slots_own (R E) (filled_slots xs ++ empty_slots j) b o))
+        (glue E 𝓛 b (filled_slots xs) (empty_slots j) o after last) $ move ! (1 ∷ 2 ∷ []) $
+        fjoin ! $
         move ! (1 ∷ 0 ∷ []) $ done !

@@ -1,10 +1,10 @@
 //! Defines the default growth rule `Doubling`, which doubles the capacity.
 ghost use Rattle.std.specs.Prelude.{◌≡◌};
 ghost use Rattle.std.specs.Mem.{type_size};
-ghost use Rattle.thin_block.specs.Capacity.{first};
-ghost use Rattle.thin_block.specs.Growth.{doubling, ruled_capacity};
+ghost use Rattle.thin_block.specs.Capacity.{min_non_zero_cap};
+ghost use Rattle.thin_block.specs.Growth.{doubling, grown_capacity};
 
-use crate::growth::{Growth, fitting};
+use crate::growth::{Growth, checked_capacity};
 use crate::sizes::item_size;
 
 /// A growth rule that chooses the required capacity or twice the old capacity, whichever is
@@ -24,7 +24,7 @@ impl Growth for Doubling {
         } else {
             cap.saturating_mul(2)
         };
-        fitting::<T>(want.max(doubled))
+        checked_capacity::<T>(want.max(doubled))
     }
 
     ghost law = { doubling_law };
@@ -33,7 +33,7 @@ impl Growth for Doubling {
 /// Returns the least capacity that `Doubling` chooses for the first block of a list: 1 if an item
 /// takes more than `usize::MAX / 8` bytes, and 4 otherwise.
 pub fn first_capacity<T>() -> usize
-    ensures value { result ≡ first (type_size T.row) }
+    ensures value { result ≡ min_non_zero_cap (type_size T.row) }
 {
     if item_size::<T>() > usize::MAX / 8 {
         1
@@ -46,7 +46,7 @@ pub fn first_capacity<T>() -> usize
 /// `want` items in total. Returns `cap` if `want <= cap`, and `None` if the new capacity would be
 /// too large.
 pub fn next_capacity<T>(cap: usize, want: usize) -> Option<usize>
-    ensures value { result ≡ ruled_capacity doubling T.row cap want }
+    ensures value { result ≡ grown_capacity doubling T.row cap want }
 {
     if want <= cap {
         return Some(cap);

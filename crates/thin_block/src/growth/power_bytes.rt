@@ -4,10 +4,10 @@
 ghost use Rattle.std.specs.Prelude.{◌≡◌, ◌<◌, IfSome};
 ghost use Rattle.std.specs.Mem.{type_size};
 ghost use Rattle.std.specs.Align.{type_align};
-ghost use Rattle.thin_block.specs.Growth.{FillsPower, power_bytes};
+ghost use Rattle.thin_block.specs.Growth.{FillsPowerOfTwo, power_bytes};
 
 use crate::growth::doubling::Doubling;
-use crate::growth::{Growth, fitting};
+use crate::growth::{Growth, checked_capacity};
 use crate::sizes::{HEADER, item_size};
 
 /// A growth rule that rounds the size of a block up to a power of two. It first computes the size
@@ -32,8 +32,8 @@ impl Growth for PowerBytes {
     fn next_capacity<T>(cap: usize, want: usize) -> Option<usize>
         requires { cap < want }
         ensures value { result ≡ power_bytes (type_size T.row) (type_align T.row) cap want }
-        ensures fills { 0 < type_size T.row
-            → IfSome result (FillsPower (type_size T.row) (type_align T.row)) }
+        ensures capacity { 0 < type_size T.row
+            → IfSome result (FillsPowerOfTwo (type_size T.row) (type_align T.row)) }
     {
         let size = item_size::<T>();
         if size == 0 {
@@ -44,7 +44,7 @@ impl Growth for PowerBytes {
         if bytes > usize::MAX / 2 + 1 {
             return None;
         }
-        fitting::<T>((bytes.next_power_of_two() - HEADER) / size)
+        checked_capacity::<T>((bytes.next_power_of_two() - HEADER) / size)
     }
 
     ghost law = { power_bytes_law };

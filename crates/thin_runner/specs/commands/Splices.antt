@@ -6,37 +6,37 @@ use Rattle.std.specs.Iterator.{at_most}
 use Rattle.std.specs.List.{remove_range}
 use Rattle.std.specs.Option.{option_to_list}
 use Rattle.std.specs.Vec.Iter.{into_iter_items}
-use Rattle.thin_vec.specs.List.Extend.{CostsAdding, FailsAtHint, GrowsFor}
-use Rattle.thin_vec.specs.List.Capacity.{Keeps}
-use Rattle.thin_vec.specs.Growth.{Rule}
-use Rattle.thin_vec.specs.ThinVec.{HasRoomFor, Thin, capacity_for}
+use Rattle.thin_vec.specs.List.Extend.{CostsInserting, FailsAtHint, ExtendsCapacity}
+use Rattle.thin_vec.specs.List.Capacity.{PreservesList}
+use Rattle.thin_vec.specs.Growth.{GrowthRule}
+use Rattle.thin_vec.specs.ThinVec.{HasRoomFor, ListView, capacity_after_reserve}
 use Rattle.thin_vec.specs.declared.ThinVecError.{ThinVecError}
 use Rattle.thin_vec.specs.declared.ThinVecError.TheVariants.{CapacityOverflow, OutOfMemory}
 use Rattle.thin_runner.specs.declared.hinted.Hinted.{Hinted}
 
-module _ {T A : Type 0} (old : Thin T A) (a b : ℕ) where
+module _ {T A : Type 0} (old : ListView T A) (a b : ℕ) where
   -- `without_range` is the list `old` without the items `a..b`, and otherwise unchanged.
-  abbrev pub without_range : Thin T A
+  abbrev pub without_range : ListView T A
   without_range = record old { items = remove_range old.items a b }
 
-module _ {T A : Type 0} (rule : Rule) (R : RattleType) (old : Thin T A) (a b : ℕ) where
+module _ {T A : Type 0} (rule : GrowthRule) (R : RattleType) (old : ListView T A) (a b : ℕ) where
   -- `Replaces placed most new` holds if a call may replace the items `a..b` of the list `old` with
   -- the items `placed`, so that the list becomes `new`. The items `placed` come from an iterator
   -- that could yield at most `most` items.
   --
   -- Each placed item counts as one move, and each item after the range as at most two.
-  pub record Replaces (placed : List T) (most : ℕ) (new : Thin T A) : Type 0 where
+  pub record Replaces (placed : List T) (most : ℕ) (new : ListView T A) : Type 0 where
     pub items : new.items ≡ (take a old.items ++ placed) ++ drop b old.items
-    pub capacity : GrowsFor rule R (without_range old a b) new (at_most most)
-    pub cost : CostsAdding (without_range old a b) new (2 * (length old.items - b))
-    pub keeps : Keeps R (without_range old a b) new
+    pub capacity : ExtendsCapacity rule R (without_range old a b) new (at_most most)
+    pub cost : CostsInserting (without_range old a b) new (2 * (length old.items - b))
+    pub keeps : PreservesList R (without_range old a b) new
 
   -- `StopsBetween` describes a splice, or a call to `extend`, that failed with `cause` and turned
   -- the list `old` into `new`. The iterator had the items `xs`, and its size hint had the lower
   -- bound `lower`. The call put the items `placed` into the list. All other items of the iterator
   -- are returned in `held`, `in_hand` and `rest`.
   pub record StopsBetween (xs held : List T) (lower : ℕ) (cause : ThinVecError)
-      (in_hand : Option T) (rest : Hinted T A) (new : Thin T A) : Type 0 where
+      (in_hand : Option T) (rest : Hinted T A) (new : ListView T A) : Type 0 where
     pub placed : List T
     pub all : xs ≡ placed ++ (held ++ (option_to_list in_hand ++ into_iter_items rest.items))
     pub claim : rest.lower ≡ lower
@@ -53,7 +53,7 @@ module _ {T A : Type 0} (rule : Rule) (R : RattleType) (old : Thin T A) (a b : �
     -- `CapacityOverflow` if and only if the growth rule chooses no capacity that has room for both
     -- the items of the list `new` and the items in `held`.
     pub by_held : 0 < length held → in_hand ≡ None
-        → (cause ≡ CapacityOverflow) ↔ (capacity_for rule R new (length held) ≡ None)
+        → (cause ≡ CapacityOverflow) ↔ (capacity_after_reserve rule R new (length held) ≡ None)
     -- If `in_hand` contains an item, and the list `old` has items after the range, then the cause
     -- is `OutOfMemory`. In this case, the call failed because there was not enough memory to put
     -- the item into the vector `held`.
@@ -62,7 +62,7 @@ module _ {T A : Type 0} (rule : Rule) (R : RattleType) (old : Thin T A) (a b : �
     -- the cause is `CapacityOverflow` if and only if the growth rule chooses no capacity for one
     -- more item.
     pub by_push : b ≡ length old.items → IsSome in_hand
-        → (cause ≡ CapacityOverflow) ↔ (capacity_for rule R new 1 ≡ None)
+        → (cause ≡ CapacityOverflow) ↔ (capacity_after_reserve rule R new 1 ≡ None)
     -- If `held` contains items and `in_hand` is `None`, then the iterator has ended: `rest` has no
     -- items left.
     pub ended : in_hand ≡ None → 0 < length held → into_iter_items rest.items ≡ []

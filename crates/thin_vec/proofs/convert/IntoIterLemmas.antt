@@ -8,68 +8,80 @@ use Rattle.std.proofs.lemmas.List.{append-nil, drop_at, nil_from_length, get_or-
 use Rattle.std.specs.Iterator.{YieldsFirst, YieldsLast}
 use Rattle.std.specs.Prelude.{IsSome, slice_range}
 use lib.ListN.{set}
-use Rattle.thin_block.specs.Block.{IsFrom, seen}
-use Rattle.thin_block.specs.Lends.{over, with_items as block_with_items}
-use Rattle.thin_block.specs.Slots.{empty, full, items_in, slot}
+use Rattle.thin_block.specs.Block.{IsAllocatedBy, block_view}
+use Rattle.thin_block.specs.Lends.{overwrite_items, set_slots as block_with_items}
+use Rattle.thin_block.specs.Slots.{empty_slots, filled_slots, items_in, slot}
 use Rattle.thin_block.specs.declared.block.Block.{Block}
-use Rattle.thin_vec.specs.Convert.IntoIter.{IsWalked, RestInOrder, RestInReverse, rest}
+use Rattle.thin_vec.specs.Convert.IntoIter.{IsIntoIterBlock, RestInOrder, RestInReverse, rest}
 use Rattle.std.specs.List.{length_refill, refill}
 use Rattle.thin_vec.specs.Lends.{with_items}
-use Rattle.thin_vec.specs.ThinVec.{thin_of}
+use Rattle.thin_vec.specs.ThinVec.{list_view}
 use Rattle.thin_vec.proofs.LendsLemmas.{over-front}
 use Rattle.thin_vec.proofs.ListLemmas.{from-same, full-same, get-some, items-empty, items-full, length-empty, length-full, slot-get}
 
 module _ {T : Type 0} where
   -- Adding empty slots before the slots `s` does not change which items the slots contain.
-  items-after : (k : ℕ) (s : List (Option T)) → items_in (empty k ++ s) ≡ items_in s
+  items-after : (k : ℕ) (s : List (Option T)) → items_in (empty_slots k ++ s) ≡ items_in s
   items-after zero s = refl
   items-after (suc k) s = items-after k s
 
   -- If `start` empty slots precede the items `x ∷ xs`, and the slot of `x` is emptied, then
   -- `start + 1` empty slots precede the items `xs`.
-  set-first : (start k : ℕ) (x : T) (xs : List T) → set (empty start ++ (full (x ∷ xs) ++ empty k))
-      start None ≡ empty (start + 1) ++ (full xs ++ empty k)
+  set-first : (start k : ℕ) (x : T) (xs : List T)
+      → set (empty_slots start ++ (filled_slots (x ∷ xs) ++ empty_slots k))
+      start None ≡ empty_slots (start + 1) ++ (filled_slots xs ++ empty_slots k)
   set-first start k x xs =
-      set_at (empty start) (Some x) (full xs ++ empty k) None start (length-empty T start)
-      ∙ (sym (append_assoc (empty start) (None ∷ []) (full xs ++ empty k))
-      ∙ ap (λ (s : List (Option T)). s ++ (full xs ++ empty k))
+      set_at (empty_slots start) (Some x) (filled_slots xs ++ empty_slots k) None start
+      (length-empty T start)
+      ∙ (sym (append_assoc (empty_slots start) (None ∷ []) (filled_slots xs ++ empty_slots k))
+      ∙ ap (λ (s : List (Option T)). s ++ (filled_slots xs ++ empty_slots k))
       (replicate-append-replicate start 1 None))
 
   -- Suppose that the slots are, in this order: `start` empty slots, the slots of the items `xs`,
   -- the slot of the item `x`, and `k` empty slots. Then this list of slots can be split directly
   -- before the slot of `x`.
-  row-last : (start k : ℕ) (xs : List T) (x : T) → empty start ++ (full (xs ++ x ∷ []) ++ empty k)
-      ≡ (empty start ++ full xs) ++ (Some x ∷ empty k)
+  row-last : (start k : ℕ) (xs : List T) (x : T)
+      → empty_slots start ++ (filled_slots (xs ++ x ∷ []) ++ empty_slots k)
+      ≡ (empty_slots start ++ filled_slots xs) ++ (Some x ∷ empty_slots k)
   row-last start k xs x =
-      ap (λ (s : List (Option T)). empty start ++ (s ++ empty k)) (map_push Some xs x)
-      ∙ (ap (λ (s : List (Option T)). empty start ++ s)
-      (append_assoc (full xs) (Some x ∷ []) (empty k))
-      ∙ sym (append_assoc (empty start) (full xs) (Some x ∷ empty k)))
+      ap (λ (s : List (Option T)). empty_slots start ++ (s ++ empty_slots k)) (map_push Some xs x)
+      ∙ (ap (λ (s : List (Option T)). empty_slots start ++ s)
+      (append_assoc (filled_slots xs) (Some x ∷ []) (empty_slots k))
+      ∙ sym (append_assoc (empty_slots start) (filled_slots xs) (Some x ∷ empty_slots k)))
 
-  -- The list of slots `empty start ++ full xs` consists of `start + length xs` slots.
-  before-last : (start : ℕ) (xs : List T) → length (empty start ++ full xs) ≡ start + length xs
+  -- The list of slots `empty_slots start ++ filled_slots xs` consists of `start + length xs` slots.
+  before-last : (start : ℕ) (xs : List T)
+      → length (empty_slots start ++ filled_slots xs) ≡ start + length xs
   before-last start xs =
-      omega (arith, length-append (empty start) (full xs), length-empty T start, length-full xs)
+      omega (
+        arith,
+        length-append (empty_slots start) (filled_slots xs),
+        length-empty T start,
+        length-full xs,
+      )
 
   -- Suppose that the slots are, in this order: `start` empty slots, the items `xs`, the item `x`,
   -- and `k` empty slots. Then slot `start + length xs` holds `x`.
   slot-last : (start k : ℕ) (xs : List T) (x : T)
-      → slot (empty start ++ (full (xs ++ x ∷ []) ++ empty k)) (start + length xs) ≡ Some x
+      → slot (empty_slots start ++ (filled_slots (xs ++ x ∷ []) ++ empty_slots k))
+      (start + length xs) ≡ Some x
   slot-last start k xs x = ap (λ (s : List (Option T)). slot s (start + length xs))
-      (row-last start k xs x) ∙ get_or_at (empty start ++ full xs) (Some x) (empty k) None
+      (row-last start k xs x)
+      ∙ get_or_at (empty_slots start ++ filled_slots xs) (Some x) (empty_slots k) None
       (start + length xs) (before-last start xs)
 
   -- If `k` empty slots follow the items `xs ++ x ∷ []`, and the slot of `x` is emptied, then
   -- `k + 1` empty slots follow the items `xs`.
   set-last : (start k : ℕ) (xs : List T) (x : T)
-      → set (empty start ++ (full (xs ++ x ∷ []) ++ empty k)) (start + length xs) None ≡ empty start
-      ++ (full xs ++ empty (k + 1))
+      → set (empty_slots start ++ (filled_slots (xs ++ x ∷ []) ++ empty_slots k))
+      (start + length xs) None ≡ empty_slots start
+      ++ (filled_slots xs ++ empty_slots (k + 1))
   set-last start k xs x =
       ap (λ (s : List (Option T)). set s (start + length xs) None) (row-last start k xs x)
-      ∙ (set_at (empty start ++ full xs) (Some x) (empty k) None
+      ∙ (set_at (empty_slots start ++ filled_slots xs) (Some x) (empty_slots k) None
       (start + length xs) (before-last start xs)
-      ∙ (append_assoc (empty start) (full xs) (None ∷ empty k)
-      ∙ ap (λ (n : ℕ). empty start ++ (full xs ++ empty n))
+      ∙ (append_assoc (empty_slots start) (filled_slots xs) (None ∷ empty_slots k)
+      ∙ ap (λ (n : ℕ). empty_slots start ++ (filled_slots xs ++ empty_slots n))
       (let e : suc k ≡ k + 1 = omega arith in e)))
 
   -- A list of `j + 1` items consists of its first `j` items and its last item.
@@ -85,7 +97,8 @@ module _ {T : Type 0} where
   -- index `start` onward, then the empty slots do not change, and `ws` is written over the items in
   -- `s`.
   over-after : (start : ℕ) (s : List (Option T)) (ws : List T)
-      → over (empty start ++ s) start ws ≡ empty start ++ over s 0 ws
+      → overwrite_items (empty_slots start ++ s) start ws
+      ≡ empty_slots start ++ overwrite_items s 0 ws
   over-after zero s ws = refl
   over-after (suc start) s ws = ap (λ (r : List (Option T)). None ∷ r) (over-after start s ws)
 
@@ -93,7 +106,7 @@ module _ {T A : Type 0} where
   -- `Walking b a xs start end c` holds if `b` is the block of an iterator with the items `xs` in
   -- the slots `start..end`, the capacity `c` and the allocator `a`.
   pub record Walking (b : Block T A) (a : A) (xs : List T) (start end c : ℕ) : Type 0 where
-    pub walked : IsWalked b a start end
+    pub walked : IsIntoIterBlock b a start end
     pub items : items_in b.slots ≡ xs
     pub cap : length b.slots ≡ c
 
@@ -102,28 +115,30 @@ module _ {T A : Type 0} where
   -- `Walking b a xs start end c` holds: `b` is the block of an iterator with the items `xs` in the
   -- slots `start..end`.
   walking : (b : Block T A) {a : A} (xs : List T) (start end : ℕ) {c : ℕ}
-      → b.slots ≡ empty start ++ (full xs ++ empty (c - end)) → start + length xs ≡ end → end ≤ c
-      → IsFrom b.alloc a → Walking b a xs start end c
+      → b.slots ≡ empty_slots start ++ (filled_slots xs ++ empty_slots (c - end))
+      → start + length xs ≡ end → end ≤ c
+      → IsAllocatedBy b.alloc a → Walking b a xs start end c
   walking b xs start end {c} e n h f =
-      let after : List (Option T) = empty (c - end) in
+      let after : List (Option T) = empty_slots (c - end) in
       let i : items_in b.slots ≡ xs =
-      ap items_in e ∙ (items-after start (full xs ++ after)
+      ap items_in e ∙ (items-after start (filled_slots xs ++ after)
       ∙ (items-full xs after
       ∙ (ap (λ (ys : List T). xs ++ ys) (items-empty (c - end)) ∙ append-nil xs))) in
       let l : length b.slots ≡ c =
       omega (
         arith,
         ap length e,
-        length-append (empty start) (full xs ++ after),
-        length-append (full xs) after,
+        length-append (empty_slots start) (filled_slots xs ++ after),
+        length-append (filled_slots xs) after,
         length-empty T start,
         length-full xs,
         length-empty T (c - end),
       ) in
       record {
         walked = record {
-          row = e ∙ (ap (λ (ys : List T). empty start ++ (full ys ++ after)) (sym i)
-              ∙ ap (λ (q : ℕ). empty start ++ (full (items_in b.slots) ++ empty (q - end)))
+          row = e ∙ (ap (λ (ys : List T). empty_slots start ++ (filled_slots ys ++ after)) (sym i)
+              ∙ ap (λ (q : ℕ). empty_slots start
+              ++ (filled_slots (items_in b.slots) ++ empty_slots (q - end)))
               (sym l));
           len = ap (λ (ys : List T). start + length ys) i ∙ n;
           from = f;
@@ -135,47 +150,50 @@ module _ {T A : Type 0} where
   -- In the block of an iterator, `end` is the index directly after the slots of the items that have
   -- not been yielded yet. This index is at most the number of slots.
   pub walked-room : (b : Block T A) (a : A) (start end : ℕ)
-      → IsWalked b a start end → end ≤ length b.slots
+      → IsIntoIterBlock b a start end → end ≤ length b.slots
   walked-room b a start end t =
       let xs : List T = items_in b.slots in
-      let after : List (Option T) = empty (length b.slots - end) in
+      let after : List (Option T) = empty_slots (length b.slots - end) in
       omega (
         arith,
         t.len,
         ap length t.row,
-        length-append (empty start) (full xs ++ after),
-        length-append (full xs) after,
+        length-append (empty_slots start) (filled_slots xs ++ after),
+        length-append (filled_slots xs) after,
         length-empty T start,
         length-full xs,
       )
 
   -- In the block of an iterator, each slot in the range `start..end` holds an item that has not
   -- been yielded yet.
-  pub walked-filled : (b : Block T A) (a : A) (start end i : ℕ) → IsWalked b a start end → start ≤ i
+  pub walked-filled : (b : Block T A) (a : A) (start end i : ℕ) → IsIntoIterBlock b a start end
+      → start ≤ i
       → i < end → IsSome (slot b.slots i)
   walked-filled b a start end i t low high =
       let xs : List T = items_in b.slots in
-      let after : List (Option T) = empty (length b.slots - end) in
+      let after : List (Option T) = empty_slots (length b.slots - end) in
       let within : i - start < length xs = omega (arith, t.len) in
       rw (ap (λ (s : List (Option T)). slot s i) t.row
-      ∙ (get_or-append_right (empty start) (full xs ++ after) start i None (length-empty T start)
+      ∙ (get_or-append_right (empty_slots start) (filled_slots xs ++ after) start i None
+      (length-empty T start)
       low ∙ slot-get xs after (i - start) within))
       (get-some xs (i - start) within)
 
   -- If the slots `start..end` of the block `b` of an iterator hold exactly the items `ys`, then
   -- `ys` is the list of the items that have not been yielded yet.
-  pub walked-run : (b : Block T A) (a : A) (start end : ℕ) (ys : List T) → IsWalked b a start end
-      → full ys ≡ slice_range b.slots start end → ys ≡ items_in b.slots
+  pub walked-run : (b : Block T A) (a : A) (start end : ℕ) (ys : List T)
+      → IsIntoIterBlock b a start end
+      → filled_slots ys ≡ slice_range b.slots start end → ys ≡ items_in b.slots
   walked-run b a start end ys t run =
       let xs : List T = items_in b.slots in
-      let after : List (Option T) = empty (length b.slots - end) in
-      let count : length (full xs) ≡ end - start = omega (arith, t.len, length-full xs) in
+      let after : List (Option T) = empty_slots (length b.slots - end) in
+      let count : length (filled_slots xs) ≡ end - start = omega (arith, t.len, length-full xs) in
       full-same ys xs (run ∙ (ap (λ (s : List (Option T)). slice_range s start end) t.row
       ∙ (ap (take (end - start))
-      (drop_at (empty start) (full xs ++ after) start (length-empty T start))
-      ∙ take_at (full xs) after (end - start) count)))
+      (drop_at (empty_slots start) (filled_slots xs ++ after) start (length-empty T start))
+      ∙ take_at (filled_slots xs) after (end - start) count)))
 
-  module _ (b b' : Block T A) (a : A) (start end : ℕ) (v : T) (t : IsWalked b a start end)
+  module _ (b b' : Block T A) (a : A) (start end : ℕ) (v : T) (t : IsIntoIterBlock b a start end)
       (some : start < end) where
     -- `xs` is the list of the items that have not been yielded yet.
     abbrev xs : List T
@@ -188,14 +206,15 @@ module _ {T A : Type 0} where
     -- If `start` empty slots precede the items `ys`, then slot `start` holds the first item of
     -- `ys`. Emptying this slot leaves `start + 1` empty slots before the other items.
     first-of : (ys : List T) (k : ℕ) → 0 < length ys
-        → slot (empty start ++ (full ys ++ empty k)) start ≡ Some v
+        → slot (empty_slots start ++ (filled_slots ys ++ empty_slots k)) start ≡ Some v
         → (ys ≡ v ∷ drop 1 ys)
-        × (set (empty start ++ (full ys ++ empty k)) start None ≡ empty (start + 1)
-        ++ (full (drop 1 ys) ++ empty k))
+        × (set (empty_slots start ++ (filled_slots ys ++ empty_slots k)) start None ≡ empty_slots
+        (start + 1)
+        ++ (filled_slots (drop 1 ys) ++ empty_slots k))
     first-of [] k h e = absurd (omega arith)
     first-of (y ∷ ys) k h e =
         let is : Some y ≡ Some v =
-        sym (get_or_at (empty start) (Some y) (full ys ++ empty k) None start
+        sym (get_or_at (empty_slots start) (Some y) (filled_slots ys ++ empty_slots k) None start
         (length-empty T start)) ∙ e in
         let same : y ≡ v = cc in
         (ap (λ (x : T). x ∷ ys) same, set-first start k y ys)
@@ -203,7 +222,8 @@ module _ {T A : Type 0} where
     -- If slot `start` of the block `b` holds `v`, then `v` is the first item of the iterator.
     -- Emptying this slot leaves `start + 1` empty slots before the other items.
     first : slot b.slots start ≡ Some v → (xs ≡ v ∷ drop 1 xs)
-        × (set b.slots start None ≡ empty (start + 1) ++ (full (drop 1 xs) ++ empty gap))
+        × (set b.slots start None ≡ empty_slots
+        (start + 1) ++ (filled_slots (drop 1 xs) ++ empty_slots gap))
     first e =
         let h = first-of xs gap (omega (arith, t.len))
         (ap (λ (s : List (Option T)). slot s start) (sym t.row) ∙ e) in
@@ -215,10 +235,10 @@ module _ {T A : Type 0} where
 
     -- If slot `start` of the block `b` held `v` and was emptied, then the new block `b'` is the
     -- block of the iterator without its first item.
-    pub settle-first : slot b.slots start ≡ Some v
-        → seen b' ≡ record (seen b) { slots = set b.slots start None }
+    pub restores-first : slot b.slots start ≡ Some v
+        → block_view b' ≡ record (block_view b) { slots = set b.slots start None }
         → Walking b' a (drop 1 xs) (start + 1) end (length b.slots)
-    settle-first e w =
+    restores-first e w =
         walking b' (drop 1 xs) (start + 1) end (ap (λ v. v.slots) w ∙ (first e).1)
         (omega (arith, t.len, ap length (first e).0)) (walked-room b a start end t)
         (from-same b b' a t.from (ap (λ v. v.alloc) w))
@@ -240,8 +260,10 @@ module _ {T A : Type 0} where
 
     -- The slots of the block `b` are `start` empty slots, the slots of the items `most`, the slot
     -- of the last item, and `gap` empty slots.
-    row : b.slots ≡ empty start ++ (full (most ++ get_or xs (end - 1 - start) v ∷ []) ++ empty gap)
-    row = t.row ∙ ap (λ (ys : List T). empty start ++ (full ys ++ empty gap)) whole
+    row : b.slots ≡ empty_slots start
+        ++ (filled_slots (most ++ get_or xs (end - 1 - start) v ∷ []) ++ empty_slots gap)
+    row = t.row ∙ ap (λ (ys : List T). empty_slots start ++ (filled_slots ys ++ empty_slots gap))
+        whole
 
     -- If slot `end - 1` of the block `b` holds `v`, then `v` is the last item that has not been
     -- yielded yet.
@@ -256,53 +278,56 @@ module _ {T A : Type 0} where
 
     -- If slot `end - 1` of the block `b` was emptied, then the new block `b'` is the block of the
     -- iterator without its last item.
-    pub settle-last : seen b' ≡ record (seen b) { slots = set b.slots (end - 1) None }
+    pub restores-last : block_view b' ≡ record (block_view b) { slots = set b.slots (end - 1) None }
         → Walking b' a most start (end - 1) (length b.slots)
-    settle-last w =
+    restores-last w =
         let more : gap + 1 ≡ length b.slots - (end - 1) =
         omega (arith, walked-room b a start end t) in
         walking b' most start (end - 1)
         (ap (λ v. v.slots) w ∙ ((λ i. set (row i) (sym place i) None)
         ∙ (set-last start gap most _
-        ∙ ap (λ (n : ℕ). empty start ++ (full most ++ empty n)) more)))
+        ∙ ap (λ (n : ℕ). empty_slots start ++ (filled_slots most ++ empty_slots n)) more)))
         place (omega (arith, walked-room b a start end t))
         (from-same b b' a t.from (ap (λ v. v.alloc) w))
 
   -- If the items `ws` were written into the block `b` of an iterator from slot `start` onward, then
   -- the new block `b'` is the block of an iterator, in which `ws` replaces the first items.
-  pub settle-written : (b b' : Block T A) (a : A) (start end : ℕ) (ws : List T)
-      → IsWalked b a start end → seen b' ≡ record (seen b) { slots = over b.slots start ws }
+  pub restores-written : (b b' : Block T A) (a : A) (start end : ℕ) (ws : List T)
+      → IsIntoIterBlock b a start end
+      → block_view b' ≡ record (block_view b) { slots = overwrite_items b.slots start ws }
       → Walking b' a (refill (length (items_in b.slots)) (items_in b.slots) ws)
       start end (length b.slots)
-  settle-written b b' a start end ws t w =
+  restores-written b b' a start end ws t w =
       let xs : List T = items_in b.slots in
       let gap : ℕ = length b.slots - end in
       walking b' (refill (length xs) xs ws) start end
-      (ap (λ v. v.slots) w ∙ (ap (λ (r : List (Option T)). over r start ws) t.row
-      ∙ (over-after start (full xs ++ empty gap) ws
-      ∙ ap (λ (r : List (Option T)). empty start ++ r) (over-front xs gap ws))))
+      (ap (λ v. v.slots) w ∙ (ap (λ (r : List (Option T)). overwrite_items r start ws) t.row
+      ∙ (over-after start (filled_slots xs ++ empty_slots gap) ws
+      ∙ ap (λ (r : List (Option T)). empty_slots start ++ r) (over-front xs gap ws))))
       (omega (arith, t.len, length_refill (length xs) xs ws refl)) (walked-room b a start end t)
       (from-same b b' a t.from (ap (λ v. v.alloc) w))
 
   -- If the items `ws` are written into the block `b` of an iterator from slot `start` onward, then
   -- contracts see the same iterator with its first items replaced by `ws`.
-  pub view-written : (b : Block T A) (a : A) (start end : ℕ) (ws : List T) → IsWalked b a start end
-      → thin_of (block_with_items b start ws) a ≡ with_items (thin_of b a) ws
+  pub view-written : (b : Block T A) (a : A) (start end : ℕ) (ws : List T)
+      → IsIntoIterBlock b a start end
+      → list_view (block_with_items b start ws) a ≡ with_items (list_view b a) ws
   view-written b a start end ws t =
-      let f = settle-written b (block_with_items b start ws) a start end ws t refl in
+      let f = restores-written b (block_with_items b start ws) a start end ws t refl in
       λ i. record { items = f.items i; capacity = f.cap i; alloc = a; cost = b.cost }
 
   -- If all items of an iterator have been yielded, then every slot of its block is empty.
-  pub walked-empty : (b : Block T A) (a : A) (start end : ℕ) → IsWalked b a start end
-      → length (items_in b.slots) ≡ 0 → b.slots ≡ empty (length b.slots)
+  pub walked-empty : (b : Block T A) (a : A) (start end : ℕ) → IsIntoIterBlock b a start end
+      → length (items_in b.slots) ≡ 0 → b.slots ≡ empty_slots (length b.slots)
   walked-empty b a start end t none =
       let same : start ≡ end = omega (arith, t.len) in
       let all : start + (length b.slots - end) ≡ length b.slots =
       omega (arith, walked-room b a start end t) in
-      t.row ∙ (ap (λ (ys : List T). empty start ++ (full ys ++ empty (length b.slots - end)))
+      t.row ∙ (ap (λ (ys : List T). empty_slots start
+      ++ (filled_slots ys ++ empty_slots (length b.slots - end)))
       (nil_from_length (items_in b.slots) none)
       ∙ (replicate-append-replicate start (length b.slots - end) None
-      ∙ ap (λ (n : ℕ). empty n) all))
+      ∙ ap (λ (n : ℕ). empty_slots n) all))
 
 -- In this module, `T` is the item type and `A` is the allocator type of an `IntoIter`.
 module _ (T A : Type 0) where

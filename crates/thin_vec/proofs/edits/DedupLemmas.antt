@@ -4,21 +4,21 @@ use Rattle.std.proofs.Common.{◌≡◌, ℕ, suc, ◌+◌, ◌<◌, ◌≤◌, 
 use Rattle.std.proofs.lemmas.List.{append-nil}
 use Rattle.std.specs.List.{dedup, dedup_from}
 use Rattle.std.specs.Prelude.{MatchBool, cond, if◌then◌else◌, not}
-use Rattle.thin_block.specs.Cost.{Cost, moving}
-use Rattle.thin_vec.specs.Edits.Retain.{moved_down, trues}
-use Rattle.thin_vec.specs.Edits.Dedup.{AskedLast, AskedPairs, Compares, IsDedupedBy, IsDedupedTo, unlike, unlike_from}
-use Rattle.thin_vec.specs.Open.{Open}
-use Rattle.thin_vec.specs.OpenBlock.Dedup.{IsLastAsked, IsNextAsked, IsDeduped, PairsAskedUpTo, Dedups}
-use Rattle.thin_vec.specs.ThinVec.{Thin}
+use Rattle.thin_block.specs.Cost.{Cost, add_moves}
+use Rattle.thin_vec.specs.Edits.Retain.{moves_of_retain, count_true}
+use Rattle.thin_vec.specs.Edits.Dedup.{TestsEachAgainstLast, TestsAllAgainstLast, Compares, IsDedupedBy, IsDedupedTo, dedup_flags, dedup_flags_from}
+use Rattle.thin_vec.specs.Open.{OpenView}
+use Rattle.thin_vec.specs.OpenBlock.Dedup.{TestsLast, TestsNext, DedupsRest, TestsPairsUpTo, DedupsSome}
+use Rattle.thin_vec.specs.ThinVec.{ListView}
 use Rattle.thin_vec.proofs.RetainLemmas.{cons-head, cons-tail, moving-more, moving-none}
 use Rattle.thin_vec.proofs.OpenBlockLemmas.{last-of}
-use Rattle.thin_vec.proofs.open_block.PairTestLemmas.{OnPairs, all-stay, last-append, last-goes, last-same, last-some, last-stays, map-answer, moved-all, run-ends, run-goes, run-left, trues-join}
+use Rattle.thin_vec.proofs.open_block.PairTestLemmas.{OnPairs, all-stay, last-append, last-goes, last-same, last-some, last-stays, map-answer, moved-all, run-ends, run-goes, run-left, count_true-join}
 
 module _ {S T : Type 0} (R : OnPairs S T) where
   -- The following definitions and lemmas are about open blocks. An open block is the block of a
   -- list during an edit.
 
-  module _ {A : Type 0} (v w : Open T A) where
+  module _ {A : Type 0} (v w : OpenView T A) where
     -- `Moved front cost` holds if `w` is the open block `v` with the front items `front` and the
     -- cost `cost`. Its first gap and its middle items may also differ from those of `v`.
     abbrev Moved : List T → Cost → Type 0
@@ -38,8 +38,8 @@ module _ {S T : Type 0} (R : OnPairs S T) where
       -- the result `w`.
       dedups-of : (before : List T) (first : T) (done : List T) (stays : List Bool) (kept : List T)
           → v.front ≡ before ++ first ∷ [] → v.rest ≡ done ++ w.rest
-          → AskedLast R s first done stays kept t → 0 < w.gap
-          → Moved (before ++ kept) (moving (trues stays) v.cost) → Dedups R s v t w
+          → TestsEachAgainstLast R s first done stays kept t → 0 < w.gap
+          → Moved (before ++ kept) (add_moves (count_true stays) v.cost) → DedupsSome R s v t w
       dedups-of before first done stays kept was rest asked gap now =
           record {
             before = before;
@@ -58,8 +58,8 @@ module _ {S T : Type 0} (R : OnPairs S T) where
     -- the first middle item `x` of the open block `v` was tested and removed, which turned `v` into
     -- `w`, then `Dedups` relates `v` to `w`.
     pub dedups-goes : {s t : S} (x y : T) (front : List T)
-        → IsLastAsked R s x v.front true t y front → v.rest ≡ x ∷ w.rest → 0 < w.gap
-        → Moved front v.cost → Dedups R s v t w
+        → TestsLast R s x v.front true t y front → v.rest ≡ x ∷ w.rest → 0 < w.gap
+        → Moved front v.cost → DedupsSome R s v t w
     dedups-goes {s} {t} x y front a rest gap now =
         dedups-of s t a.before a.kept (x ∷ []) (false ∷ []) (a.kept_left ∷ []) a.was rest
         (last-goes R s t a.kept x y a.kept_left a.asked) gap
@@ -68,8 +68,8 @@ module _ {S T : Type 0} (R : OnPairs S T) where
     -- If the first middle item `x` of the open block `v` was kept and moved to the front items,
     -- then `Dedups` (the effect of tests for duplicates) relates `v` to the new open block `w`.
     pub dedups-stays : {s t : S} (x y : T) (front : List T)
-        → IsLastAsked R s x v.front false t y front → v.rest ≡ x ∷ w.rest
-        → 0 < w.gap → Moved (front ++ y ∷ []) (moving 1 v.cost) → Dedups R s v t w
+        → TestsLast R s x v.front false t y front → v.rest ≡ x ∷ w.rest
+        → 0 < w.gap → Moved (front ++ y ∷ []) (add_moves 1 v.cost) → DedupsSome R s v t w
     dedups-stays {s} {t} x y front a rest gap now =
         dedups-of s t a.before a.kept (x ∷ []) (true ∷ []) (a.kept_left ∷ y ∷ []) a.was rest
         (last-stays R s t a.kept x y a.kept_left a.asked) gap
@@ -77,8 +77,8 @@ module _ {S T : Type 0} (R : OnPairs S T) where
         ∙ append_assoc a.before (a.kept_left ∷ []) (y ∷ [])) refl)
 
     module _ (s t u : S) (x y z : T) (front ys zs : List T)
-        (a : IsLastAsked R s x v.front false t y front) (b : Bool)
-        (n : IsNextAsked R t y ys b u z zs) (whole : v.rest ≡ x ∷ ys) where
+        (a : TestsLast R s x v.front false t y front) (b : Bool)
+        (n : TestsNext R t y ys b u z zs) (whole : v.rest ≡ x ∷ ys) where
       -- Suppose that the first middle item was kept and appended to the front items, and that the
       -- second middle item was tested afterwards. Then the last two front items are `a.kept_left`
       -- and `z`, where `z` is the appended item.
@@ -90,7 +90,7 @@ module _ {S T : Type 0} (R : OnPairs S T) where
       -- the second, `value`, was removed, then `Dedups` (the effect of these tests) relates `v` to
       -- the result `w`.
       pub dedups-two : b ≡ true → (value : T) → zs ≡ value ∷ w.rest → 0 < w.gap
-          → Moved (front ++ z ∷ []) (moving 1 v.cost) → Dedups R s v u w
+          → Moved (front ++ z ∷ []) (add_moves 1 v.cost) → DedupsSome R s v u w
       dedups-two e value rest gap now =
           let asked = last-append R t u y (false ∷ []) (z ∷ []) (n.later ∷ [])
           (last-goes R t u y n.later n.later_left z
@@ -105,10 +105,10 @@ module _ {S T : Type 0} (R : OnPairs S T) where
       -- If the first `m + 1` middle items of the open block `v` were kept and moved to the front
       -- items, and the next one, if any, was removed, then `Dedups` (the effect of these tests)
       -- relates `v` to the result `w`.
-      pub dedups-run : b ≡ false → (m : ℕ) (q : S) (ws : List T) (r : PairsAskedUpTo R m u zs q ws)
-          → r.after ≡ w.rest → suc (trues r.stays) ≡ m
-          → 0 < w.gap → Moved ((front ++ z ∷ []) ++ take m ws) (moving m (moving 1 v.cost))
-          → Dedups R s v q w
+      pub dedups-run : b ≡ false → (m : ℕ) (q : S) (ws : List T) (r : TestsPairsUpTo R m u zs q ws)
+          → r.after ≡ w.rest → suc (count_true r.stays) ≡ m
+          → 0 < w.gap → Moved ((front ++ z ∷ []) ++ take m ws) (add_moves m (add_moves 1 v.cost))
+          → DedupsSome R s v q w
       dedups-run e m q ws r rest count gap now =
           let pair = last-append R t u y (true ∷ []) (z ∷ n.later_left ∷ []) (n.later ∷ [])
           (last-stays R t u y n.later n.later_left z
@@ -117,8 +117,8 @@ module _ {S T : Type 0} (R : OnPairs S T) where
           (last-stays R s t a.kept x y a.kept_left a.asked) in
           let heads : n.later_left ∷ n.after ≡ r.first ∷ (r.done ++ r.after) = sym n.now
           ∙ r.was in
-          let from : AskedLast R u n.later_left r.done r.stays r.left q =
-          subst (λ (k : T). AskedLast R u k r.done r.stays r.left q)
+          let from : TestsEachAgainstLast R u n.later_left r.done r.stays r.left q =
+          subst (λ (k : T). TestsEachAgainstLast R u k r.done r.stays r.left q)
           (sym (cons-head heads)) r.asked in
           let asked = last-append R u q n.later_left r.stays r.left r.done from
           (x ∷ n.later ∷ []) s a.kept (true ∷ true ∷ []) (a.kept_left ∷ z ∷ []) pair in
@@ -126,17 +126,17 @@ module _ {S T : Type 0} (R : OnPairs S T) where
           whole ∙ ap (λ (l : List T). x ∷ l)
           (n.was ∙ ap (λ (l : List T). n.later ∷ l)
           (cons-tail heads ∙ ap (λ (l : List T). r.done ++ l) rest)) in
-          let paid : 1 + m ≡ suc (suc (trues r.stays)) = omega (arith, count) in
+          let paid : 1 + m ≡ suc (suc (count_true r.stays)) = omega (arith, count) in
           dedups-of s q a.before a.kept (x ∷ n.later ∷ r.done) (true ∷ true ∷ r.stays)
           (a.kept_left ∷ z ∷ r.left) a.was all asked gap
           (now ∙ moved ((λ i. two-front i ++ run-left R m u zs q ws r i)
           ∙ append_assoc a.before (a.kept_left ∷ z ∷ []) r.left)
-          (moving-more m 1 v.cost ∙ ap (λ (k : ℕ). moving k v.cost) paid))
+          (moving-more m 1 v.cost ∙ ap (λ (k : ℕ). add_moves k v.cost) paid))
 
   -- Before the first test, `Dedups` (the effect of tests for duplicates) relates the open block `v`
   -- to itself, if `v` has a front item and a gap before its middle items.
-  pub dedups-start : {A : Type 0} (s : S) (v : Open T A) → 0 < length v.front
-      → 0 < v.gap → Dedups R s v s v
+  pub dedups-start : {A : Type 0} (s : S) (v : OpenView T A) → 0 < length v.front
+      → 0 < v.gap → DedupsSome R s v s v
   dedups-start s v some gap =
       let p = last-of v.front some in
       record {
@@ -154,8 +154,8 @@ module _ {S T : Type 0} (R : OnPairs S T) where
 
   -- `Dedups`, the effect of tests for duplicates, is transitive: if it relates the open block `v`
   -- to `w`, and `w` to `z`, then it relates `v` to `z`.
-  pub dedups-then : {A : Type 0} {s t u : S} {v w z : Open T A} → Dedups R s v t w
-      → Dedups R t w u z → Dedups R s v u z
+  pub dedups-then : {A : Type 0} {s t u : S} {v w z : OpenView T A} → DedupsSome R s v t w
+      → DedupsSome R t w u z → DedupsSome R s v u z
   dedups-then {s = s} {t} {u} {v} {w} {z} h k =
       let p = last-of h.kept (last-some R h.done s t h.first h.stays h.kept h.asked) in
       let e : (h.before ++ p.0) ++ p.1 ∷ [] ≡ k.before ++ k.first ∷ [] =
@@ -173,24 +173,26 @@ module _ {S T : Type 0} (R : OnPairs S T) where
         rest = h.rest ∙ (ap (λ (l : List T). h.done ++ l) k.rest
             ∙ sym (append_assoc h.done k.done z.rest));
         asked = last-append R t u p.1 k.stays k.kept k.done
-            (subst (λ (l : T). AskedLast R t l k.done k.stays k.kept u) (sym ends.1) k.asked)
+            (subst (λ (l : T). TestsEachAgainstLast R t l k.done k.stays k.kept u)
+            (sym ends.1) k.asked)
             h.done s h.first h.stays p.0
-            (subst (λ (l : List T). AskedLast R s h.first h.done h.stays l t) p.2 h.asked);
+            (subst (λ (l : List T). TestsEachAgainstLast R s h.first h.done h.stays l t) p.2
+            h.asked);
         gap = k.gap;
         now = k.now ∙ ((λ i. let u = h.now i in record u {
           front = k.before ++ k.kept;
           gap = z.gap;
           rest = z.rest;
-          cost = moving (trues k.stays) u.cost;
+          cost = add_moves (count_true k.stays) u.cost;
         })
             ∙ moved v z (ap (λ (l : List T). l ++ k.kept) (sym ends.0)
             ∙ append_assoc h.before p.0 k.kept)
-            (moving-more (trues k.stays) (trues h.stays) v.cost
-            ∙ ap (λ (n : ℕ). moving n v.cost) (sym (trues-join h.stays k.stays))));
+            (moving-more (count_true k.stays) (count_true h.stays) v.cost
+            ∙ ap (λ (n : ℕ). add_moves n v.cost) (sym (count_true-join h.stays k.stays))));
       }
 
-  module _ {A : Type 0} (v w : Open T A) (m : ℕ) (s t : S) (ys : List T)
-      (r : PairsAskedUpTo R m s v.rest t ys) where
+  module _ {A : Type 0} (v w : OpenView T A) (m : ℕ) (s t : S) (ys : List T)
+      (r : TestsPairsUpTo R m s v.rest t ys) where
     -- `RunPassed` holds if the front items of the open block `w` are the `m` kept items, if its
     -- cost is that of the open block `v`, and if, apart from this, `w` differs from `v` at most in
     -- its first gap and its middle items.
@@ -200,8 +202,9 @@ module _ {S T : Type 0} (R : OnPairs S T) where
     -- If the first `m` middle items of the open block `v` were kept, and removing `value` and all
     -- later duplicates leads to `z`, then `IsDeduped` (the removal of all duplicates) relates `v`
     -- to `z`.
-    pub deduped-goes : (value : T) (u : S) (z : Open T A) → RunPassed → drop m ys ≡ value ∷ w.rest
-        → Dedups R t w u z → z.rest ≡ [] → IsDeduped R s v u z
+    pub deduped-goes : (value : T) (u : S) (z : OpenView T A) → RunPassed
+        → drop m ys ≡ value ∷ w.rest
+        → DedupsSome R t w u z → z.rest ≡ [] → DedupsRest R s v u z
     deduped-goes value u z p k h none =
         let g = run-goes R m s v.rest t ys r value w.rest k in
         let here : w.front ≡ r.left = ap (λ x. x.front) p
@@ -209,48 +212,51 @@ module _ {S T : Type 0} (R : OnPairs S T) where
         let flags : r.stays ++ h.stays ≡ all-stay r.more ++ false ∷ h.stays =
         ap (λ (f : List Bool). f ++ h.stays) g.1 ∙ append_assoc (all-stay r.more)
         (false ∷ []) h.stays in
-        let up : moved_down (r.stays ++ h.stays) ≡ trues h.stays = ap moved_down flags
+        let up : moves_of_retain (r.stays ++ h.stays) ≡ count_true h.stays =
+        ap moves_of_retain flags
         ∙ moved-all r.more (false ∷ h.stays) in
         let all : r.after ≡ h.done = g.0
         ∙ (h.rest ∙ (ap (λ (l : List T). h.done ++ l) none ∙ append-nil h.done)) in
-        let asked : AskedLast R s r.first (r.done ++ h.done) (r.stays ++ h.stays)
+        let asked : TestsEachAgainstLast R s r.first (r.done ++ h.done) (r.stays ++ h.stays)
         (h.before ++ h.kept) u =
         last-append R t u h.first h.stays h.kept h.done h.asked r.done s r.first r.stays h.before
-        (subst (λ (l : List T). AskedLast R s r.first r.done r.stays l t)
+        (subst (λ (l : List T). TestsEachAgainstLast R s r.first r.done r.stays l t)
         (sym here ∙ h.was) r.asked) in
         record {
           stays = r.stays ++ h.stays;
-          asked = subst (λ (l : List T). AskedPairs R s l (r.stays ++ h.stays) z.front u)
+          asked = subst (λ (l : List T). TestsAllAgainstLast R s l (r.stays ++ h.stays) z.front u)
               (ap (λ (l : List T). r.first ∷ (r.done ++ l)) (sym all) ∙ sym r.was)
-              (subst (λ (l : List T). AskedLast R s r.first (r.done ++ h.done) (r.stays ++ h.stays)
+              (subst (λ (l : List T). TestsEachAgainstLast R s r.first (r.done ++ h.done)
+              (r.stays ++ h.stays)
               l u) (sym (ap (λ x. x.front) h.now)) asked);
           now = h.now ∙ (λ i. let x = p i in record x {
             front = sym (ap (λ y. y.front) h.now) i;
             gap = z.gap;
             rest = none i;
-            cost = moving (sym up i) x.cost;
+            cost = add_moves (sym up i) x.cost;
           });
         }
 
     -- If the tests found no duplicate, then `IsDeduped` (the removal of all duplicates) relates the
     -- open block `v` before them to the open block `w` after them.
-    pub deduped-ends : RunPassed → drop m ys ≡ [] → w.rest ≡ [] → IsDeduped R s v t w
+    pub deduped-ends : RunPassed → drop m ys ≡ [] → w.rest ≡ [] → DedupsRest R s v t w
     deduped-ends p k none =
         let g = run-ends R m s v.rest t ys r k in
-        let up : moved_down r.stays ≡ 0 = ap moved_down (g.1 ∙ sym (append-nil (all-stay r.more)))
+        let up : moves_of_retain r.stays ≡ 0 =
+        ap moves_of_retain (g.1 ∙ sym (append-nil (all-stay r.more)))
         ∙ moved-all r.more [] in
         record {
           stays = r.stays;
-          asked = subst (λ (l : List T). AskedPairs R s l r.stays w.front t)
+          asked = subst (λ (l : List T). TestsAllAgainstLast R s l r.stays w.front t)
               (sym (append-nil (r.first ∷ r.done))
               ∙ (ap (λ (l : List T). r.first ∷ (r.done ++ l)) (sym g.0) ∙ sym r.was))
-              (subst (λ (l : List T). AskedLast R s r.first r.done r.stays l t)
+              (subst (λ (l : List T). TestsEachAgainstLast R s r.first r.done r.stays l t)
               (sym (ap (λ x. x.front) p ∙ run-left R m s v.rest t ys r)) r.asked);
           now = p ∙ (λ i. record v {
             front = sym (ap (λ x. x.front) p) i;
             gap = w.gap;
             rest = none i;
-            cost = (sym (moving-none v.cost) ∙ ap (λ (n : ℕ). moving n v.cost) (sym up)) i;
+            cost = (sym (moving-none v.cost) ∙ ap (λ (n : ℕ). add_moves n v.cost) (sym up)) i;
           });
         }
 
@@ -266,7 +272,8 @@ module _ {J S T : Type 0} (R : OnPairs S T) (inside : J → S) where
   -- If a wrapper of a closure tested the items `xs` after the kept item `k`, then the closure
   -- itself returned the same results for the same items.
   last-through : (xs : List T) (s t : J) (k : T) (f : List Bool) (ys : List T)
-      → AskedLast through s k xs f ys t → AskedLast R (inside s) k xs f ys (inside t)
+      → TestsEachAgainstLast through s k xs f ys t
+      → TestsEachAgainstLast R (inside s) k xs f ys (inside t)
   last-through [] s t k f ys h = (h.0, h.1, ap inside h.2)
   last-through (x ∷ xs) s t k f ys h = (
     h.0,
@@ -283,13 +290,15 @@ module _ {J S T : Type 0} (R : OnPairs S T) (inside : J → S) where
   -- If a wrapper of a closure tested the items `xs`, then the closure itself was called with the
   -- same items and returned the same results.
   pairs-through : (xs : List T) (s t : J) (f : List Bool) (ys : List T)
-      → AskedPairs through s xs f ys t → AskedPairs R (inside s) xs f ys (inside t)
+      → TestsAllAgainstLast through s xs f ys t
+      → TestsAllAgainstLast R (inside s) xs f ys (inside t)
   pairs-through [] s t f ys h = (h.0, h.1, ap inside h.2)
   pairs-through (x ∷ xs) s t f ys h = last-through xs s t x f ys h
 
   -- If `dedup_by` with a wrapper of a closure turns the list `v` into `w`, then `dedup_by` with the
   -- closure itself also turns `v` into `w`.
-  pub deduped-through : {A : Type 0} (s : J) (v w : Thin T A) (t : J) → IsDedupedTo through s v w t
+  pub deduped-through : {A : Type 0} (s : J) (v w : ListView T A) (t : J)
+      → IsDedupedTo through s v w t
       → IsDedupedBy R (inside s) v w
   deduped-through s v w t h = (
     inside t,
@@ -304,27 +313,30 @@ module _ {J S T : Type 0} (R : OnPairs S T) (inside : J → S) where
 -- In this module, the function `E` says whether an item is a duplicate of the last kept item.
 module _ {S T : Type 0} (E : T → T → Bool) where
   -- If the function `E` compared each item of `xs` with the last item kept before it, beginning
-  -- with `k`, then the flags `f` are `unlike_from E k xs`, and the kept items `ys` are
+  -- with `k`, then the flags `f` are `dedup_flags_from E k xs`, and the kept items `ys` are
   -- `dedup_from E k xs`.
   last-compares : (xs : List T) (s t : S) (k : T) (f : List Bool) (ys : List T)
-      → AskedLast (Compares E) s k xs f ys t → (f ≡ unlike_from E k xs) × (ys ≡ dedup_from E k xs)
+      → TestsEachAgainstLast (Compares E) s k xs f ys t
+      → (f ≡ dedup_flags_from E k xs) × (ys ≡ dedup_from E k xs)
   last-compares [] s t k f ys h = (h.0, h.1)
   last-compares (x ∷ xs) s t k f ys h =
       elim h.0 as (λ b. b ≡ E x k → f ≡ not b ∷ h.4
-      → MatchBool b (AskedLast (Compares E) h.3 h.2 xs h.4 ys t)
-      ((zs : List T) × AskedLast (Compares E) h.3 h.1 xs h.4 zs t × (ys ≡ h.2 ∷ zs))
-      → (f ≡ unlike_from E k (x ∷ xs)) × (ys ≡ dedup_from E k (x ∷ xs))) [
+      → MatchBool b (TestsEachAgainstLast (Compares E) h.3 h.2 xs h.4 ys t)
+      ((zs : List T) × TestsEachAgainstLast (Compares E) h.3 h.1 xs h.4 zs t × (ys ≡ h.2 ∷ zs))
+      → (f ≡ dedup_flags_from E k (x ∷ xs)) × (ys ≡ dedup_from E k (x ∷ xs))) [
         | true ↦ λ e st m. let r = last-compares xs h.3 t h.2 h.4 ys m in (
-          st ∙ (ap (λ (l : List Bool). false ∷ l) (r.0 ∙ ap (λ (l : T). unlike_from E l xs) h.5.2)
-              ∙ ap (λ (b : Bool). if b then false ∷ unlike_from E k xs else
-              true ∷ unlike_from E x xs) e),
+          st ∙ (ap (λ (l : List Bool). false ∷ l)
+              (r.0 ∙ ap (λ (l : T). dedup_flags_from E l xs) h.5.2)
+              ∙ ap (λ (b : Bool). if b then false ∷ dedup_flags_from E k xs else
+              true ∷ dedup_flags_from E x xs) e),
           r.1 ∙ (ap (λ (l : T). dedup_from E l xs) h.5.2
               ∙ ap (λ (b : Bool). cond b (dedup_from E k xs) (k ∷ dedup_from E x xs)) e),
         )
         | false ↦ λ e st m. let r = last-compares xs h.3 t h.1 h.4 m.0 m.1 in (
-          st ∙ (ap (λ (l : List Bool). true ∷ l) (r.0 ∙ ap (λ (l : T). unlike_from E l xs) h.5.1)
-              ∙ ap (λ (b : Bool). if b then false ∷ unlike_from E k xs else
-              true ∷ unlike_from E x xs) e),
+          st ∙ (ap (λ (l : List Bool). true ∷ l)
+              (r.0 ∙ ap (λ (l : T). dedup_flags_from E l xs) h.5.1)
+              ∙ ap (λ (b : Bool). if b then false ∷ dedup_flags_from E k xs else
+              true ∷ dedup_flags_from E x xs) e),
           m.2 ∙ ((λ i. h.5.2 i ∷ (r.1 ∙ ap (λ (l : T). dedup_from E l xs) h.5.1) i)
               ∙ ap (λ (b : Bool). cond b (dedup_from E k xs) (k ∷ dedup_from E x xs)) e),
         )
@@ -332,10 +344,10 @@ module _ {S T : Type 0} (E : T → T → Bool) where
       h.5.0 h.6 h.7
 
   -- Suppose that each item of `xs` after the first was compared by `E` with the last item kept
-  -- before it. Then the flags `f`, which say which of these items are kept, are `unlike E xs`. The
-  -- list `ys` of the kept items, including the first item, is `dedup E xs`.
+  -- before it. Then the flags `f`, which say which of these items are kept, are `dedup_flags E xs`.
+  -- The list `ys` of the kept items, including the first item, is `dedup E xs`.
   pub pairs-compare : (xs : List T) (s t : S) (f : List Bool) (ys : List T)
-      → AskedPairs (Compares E) s xs f ys t → (f ≡ unlike E xs) × (ys ≡ dedup E xs)
+      → TestsAllAgainstLast (Compares E) s xs f ys t → (f ≡ dedup_flags E xs) × (ys ≡ dedup E xs)
   pairs-compare [] s t f ys h = (h.0, h.1)
   pairs-compare (x ∷ xs) s t f ys h = last-compares xs s t x f ys h
 
@@ -343,26 +355,27 @@ module _ {S T : Type 0} (R : OnPairs S T) where
   -- If the items `xs` were tested after the kept item `k`, then at most `1 + length xs` items are
   -- kept, including `k`.
   few-last : (xs : List T) (s t : S) (k : T) (stays : List Bool) (ys : List T)
-      → AskedLast R s k xs stays ys t → length ys ≤ suc (length xs)
+      → TestsEachAgainstLast R s k xs stays ys t → length ys ≤ suc (length xs)
   few-last [] s t k stays ys h = omega (arith, ap length h.1)
   few-last (x ∷ xs) s t k stays ys h =
       one h.0 h.7 (λ l zs m. few-last xs h.3 t l h.4 zs m)
     where
       -- Testing one more item increases the number of kept items by at most 1.
-      one : (b : Bool) → MatchBool b (AskedLast R h.3 h.2 xs h.4 ys t)
-          ((zs : List T) × AskedLast R h.3 h.1 xs h.4 zs t × (ys ≡ h.2 ∷ zs))
-          → ((l : T) (zs : List T) → AskedLast R h.3 l xs h.4 zs t → length zs ≤ suc (length xs))
+      one : (b : Bool) → MatchBool b (TestsEachAgainstLast R h.3 h.2 xs h.4 ys t)
+          ((zs : List T) × TestsEachAgainstLast R h.3 h.1 xs h.4 zs t × (ys ≡ h.2 ∷ zs))
+          → ((l : T) (zs : List T) → TestsEachAgainstLast R h.3 l xs h.4 zs t
+          → length zs ≤ suc (length xs))
           → length ys ≤ suc (suc (length xs))
       one true m few = let f = few h.2 ys m in omega (arith, f)
       one false m few = let f = few h.1 m.0 m.1 in omega (arith, f, ap length m.2)
 
   -- The number of kept items is at most the length of the tested list `xs`.
   few-pairs : (xs : List T) (s t : S) (stays : List Bool) (ys : List T)
-      → AskedPairs R s xs stays ys t → length ys ≤ length xs
+      → TestsAllAgainstLast R s xs stays ys t → length ys ≤ length xs
   few-pairs [] s t stays ys h = omega (arith, ap length h.1)
   few-pairs (x ∷ xs) s t stays ys h = few-last xs s t x stays ys h
 
   -- `dedup_by` does not increase the number of items of the list.
-  pub few-deduped : {A : Type 0} (s : S) (v w : Thin T A) → IsDedupedBy R s v w
+  pub few-deduped : {A : Type 0} (s : S) (v w : ListView T A) → IsDedupedBy R s v w
       → length w.items ≤ length v.items
   few-deduped s v w h = few-pairs v.items s h.0 h.1.stays w.items h.1.asked

@@ -6,16 +6,17 @@ use Rattle.std.proofs.iter.runs.Sources.{as_is, as_is_back, from_back, from_fron
 use Rattle.std.specs.Iterator.Runs.{YieldsInOrder, YieldsInReverse}
 use Rattle.thin_block.specs.declared.growth.Growth.{Ghosts}
 use Rattle.thin_vec.specs.Edits.Drain.{DrainKeeps, DrainKeepsAlong, DrainLeaves, DrainSteps, DrainStepsBack, drain_rest}
-use Rattle.thin_vec.specs.Open.{Open}
+use Rattle.thin_vec.specs.Open.{OpenView}
 use Rattle.thin_vec.specs.declared.edits.drain.Drain.{Drain}
 use Rattle.thin_vec.specs.declared.edits.holder.Holder.{Holder}
-use Rattle.thin_vec.specs.declared.edits.holder.Holds.{Ghosts as HoldsGhosts}
+use Rattle.thin_vec.specs.declared.edits.holder.IntoInner.{Ghosts as IntoInnerGhosts}
 
-module _ {T A G : Type 0} {g : Ghosts G} {h : HoldsGhosts (Holder (Open T A)) (Open T A)} where
+module _ {T A G : Type 0} {g : Ghosts G}
+    {h : IntoInnerGhosts (Holder (OpenView T A)) (OpenView T A)} where
   -- `DrainKeeps a b` states that `a` and `b` borrow the same list, and that dropping `a` would
   -- result in the same list as dropping `b`. `DrainKeeps` is transitive: if it holds for `a` and
   -- `b`, and for `b` and `c`, then it holds for `a` and `c`.
-  drain_keeps_more : (a b c : Drain T A G (Holder (Open T A)) g h) → DrainKeeps a b
+  drain_keeps_more : (a b c : Drain T A G (Holder (OpenView T A)) g h) → DrainKeeps a b
       → DrainKeeps b c → DrainKeeps a c
   drain_keeps_more a b c p q =
       record {
@@ -29,7 +30,7 @@ module _ {T A G : Type 0} {g : Ghosts G} {h : HoldsGhosts (Holder (Open T A)) (O
 
   -- Calls to `next` and `next_back` on a `Drain`, in any order, take items from the two ends of the
   -- range, and do not affect the list that remains after the `Drain` is dropped.
-  pub drain_keeps_along : (d : Drain T A G (Holder (Open T A)) g h) → DrainKeepsAlong d
+  pub drain_keeps_along : (d : Drain T A G (Holder (OpenView T A)) g h) → DrainKeepsAlong d
   drain_keeps_along d [] later e = subst (λ t. DrainLeaves d [] t) e (record {
     keeps = record { lender = refl; kept = refl; capacity = refl; alloc = refl; cost = refl };
     before = [];

@@ -5,15 +5,15 @@ use Rattle.std.proofs.lemmas.List.{append-nil, drop_at, length-take-le, take_at}
 use Rattle.std.specs.List.Retain.{ExtractsNext}
 use Rattle.std.specs.Option.{option_to_list}
 use Rattle.std.specs.Prelude.{◌==◌, MatchBool, if◌then◌else◌, not}
-use Rattle.thin_block.specs.Cost.{Cost, moving}
+use Rattle.thin_block.specs.Cost.{Cost, add_moves}
 use Rattle.thin_block.specs.declared.growth.Growth.{Ghosts}
 use Rattle.thin_vec.specs.Edits.ExtractIf.{ExtractKeepsAlong, ExtractLeaves, extract_block}
-use Rattle.thin_vec.specs.Edits.Retain.{Verdicts, Asked, stay}
-use Rattle.thin_vec.specs.OpenBlock.Sift.{AskedUpTo, Stops}
+use Rattle.thin_vec.specs.Edits.Retain.{TestResults, TestsInTurn, all_kept}
+use Rattle.thin_vec.specs.OpenBlock.Retain.{TestsUpTo, IsRejectedFirst}
 use Rattle.thin_vec.specs.declared.edits.extract_if.ExtractIf.{ExtractIf}
-use Rattle.thin_vec.specs.declared.edits.extract_if.Extracting.{Extracting}
+use Rattle.thin_vec.specs.declared.edits.extract_if.ExtractState.{ExtractState}
 use Rattle.thin_vec.specs.declared.edits.holder.Holder.{Holder}
-use Rattle.thin_vec.specs.declared.edits.holder.Holds.{Ghosts as HoldsGhosts}
+use Rattle.thin_vec.specs.declared.edits.holder.IntoInner.{Ghosts as IntoInnerGhosts}
 use Rattle.thin_vec.proofs.RetainLemmas.{cons-head, cons-not-nil, cons-tail}
 
 -- Negating a Boolean flag twice yields the same flag.
@@ -62,7 +62,7 @@ module _ {F T : Type 0} (R : F → T → Bool → F → T → Type 0) where
         (e : ExtractsNext R (of between) after item t [] rest) where
       -- If no item of `run` is to be extracted, then a call to `next` that tests `run ++ after`
       -- extracts the first item of `after`, or no item if `after` is empty.
-      picked-after : (s : S) (run left : List T) → Asked J s run (stay left) between
+      picked-after : (s : S) (run left : List T) → TestsInTurn J s run (all_kept left) between
           → ExtractsNext R (of s) (run ++ after) item t left rest
       picked-after s [] [] a =
           subst (λ (q : S). ExtractsNext R (of q) after item t [] rest) a.1 e
@@ -75,19 +75,21 @@ module _ {F T : Type 0} (R : F → T → Bool → F → T → Type 0) where
           let called : R (of s) x false (of a.2) z =
           subst (λ (w : T). R (of s) x false (of a.2) w) (sym as_left)
           (subst (λ (b : Bool). R (of s) x (not b) (of a.2) a.1) (sym answer) a.4) in
-          let on : Asked J a.2 run (stay left) between =
-          subst (λ (q : Verdicts T). Asked J a.2 run q between) (sym (cons-tail a.6)) a.5 in
+          let on : TestsInTurn J a.2 run (all_kept left) between =
+          subst (λ (q : TestResults T). TestsInTurn J a.2 run q between)
+          (sym (cons-tail a.6)) a.5 in
           (false, of a.2, z, called, (left, picked-after a.2 run left on, refl))
 
     -- If the tests stopped because no item remained, then no item is extracted.
-    stops-at-end : (between t : S) (after ys : List T) → Stops J between after t ys → ys ≡ []
+    stops-at-end : (between t : S) (after ys : List T) → IsRejectedFirst J between after t ys
+        → ys ≡ []
         → ExtractsNext R (of between) after None (of t) [] ys
     stops-at-end between t [] ys a none = (refl, ap of a.1, refl, none)
     stops-at-end between t (x ∷ xs) ys a none = absurd (cons-not-nil (sym a.2 ∙ none))
 
     -- If the tests stopped at an item and left it as `v`, then `v` is the extracted item.
     stops-at-item : (between t : S) (after ys : List T) (v : T) (zs : List T)
-        → Stops J between after t ys → ys ≡ v ∷ zs → ExtractsNext R (of between)
+        → IsRejectedFirst J between after t ys → ys ≡ v ∷ zs → ExtractsNext R (of between)
         after (Some v) (of t) [] zs
     stops-at-item between t [] ys v zs a some = absurd (cons-not-nil (sym some ∙ a.0))
     stops-at-item between t (x ∷ xs) ys v zs a some =
@@ -95,7 +97,7 @@ module _ {F T : Type 0} (R : F → T → Bool → F → T → Type 0) where
         (true, of t, a.0, a.1, (ap Some (cons-head same), refl, refl, cons-tail same))
 
     module _ (m : ℕ) (s : S) (xs : List T) (t : S) (ys : List T)
-        (h : AskedUpTo J m s xs t ys) where
+        (h : TestsUpTo J m s xs t ys) where
       -- After the tests, the first `m` items of the list `ys` are `h.left`, the list of the kept
       -- items.
       left-is : take m ys ≡ h.left
@@ -139,17 +141,17 @@ module _ {F T : Type 0} (R : F → T → Bool → F → T → Type 0) where
 -- If `k ≤ length xs`, then moving `k` items and moving the items `take k xs` lead to the same cost.
 -- (If `gap` is 0, no item is moved.)
 pub cost-of : {T : Type 0} (gap : ℕ) (cost : Cost) (k : ℕ) (xs : List T) → k ≤ length xs
-    → (if gap == 0 then cost else moving k cost)
-    ≡ (if gap == 0 then cost else moving (length (take k xs)) cost)
+    → (if gap == 0 then cost else add_moves k cost)
+    ≡ (if gap == 0 then cost else add_moves (length (take k xs)) cost)
 cost-of gap cost k xs room =
-    ap (λ (n : ℕ). if gap == 0 then cost else moving n cost) (sym (length-take-le k xs room))
+    ap (λ (n : ℕ). if gap == 0 then cost else add_moves n cost) (sym (length-take-le k xs room))
 
 module _ {T F A G : Type 0} {g : Ghosts G}
-    {h : HoldsGhosts (Holder (Extracting T F A)) (Extracting T F A)}
+    {h : IntoInnerGhosts (Holder (ExtractState T F A)) (ExtractState T F A)}
     (R : F → T → Bool → F → T → Type 0) where
   -- After any number of calls to `next` on an `ExtractIf`, each item of the range has been yielded,
   -- kept or not been tested yet.
-  pub extract_keeps_along : (d : ExtractIf T F A G (Holder (Extracting T F A)) g h)
+  pub extract_keeps_along : (d : ExtractIf T F A G (Holder (ExtractState T F A)) g h)
       → ExtractKeepsAlong R d
   extract_keeps_along d [] later e = subst (λ t. ExtractLeaves d [] t) e (record {
     lender = refl;

@@ -7,15 +7,15 @@ use Rattle.std.specs.Prelude.{IfErr, IsOk, OnErr, OnOk}
 use Rattle.std.specs.declared.result.Result.{Result}
 use Rattle.std.specs.declared.result.Result.TheVariants.{Ok, Err}
 use Rattle.std.specs.Iterator.{Count, Drains, IsFinite, Yields, size}
-use Rattle.thin_block.specs.Cost.{moving}
-use Rattle.thin_block.specs.Growth.{KeepsLaw, Rule, ruled_capacity}
-use Rattle.thin_vec.specs.List.Extend.{IsExtended, IsKeptOrRuled}
-use Rattle.thin_vec.specs.Put.{Gives, IsFilledBy}
+use Rattle.thin_block.specs.Cost.{add_moves}
+use Rattle.thin_block.specs.Growth.{IsLawful, GrowthRule, grown_capacity}
+use Rattle.thin_vec.specs.List.Extend.{IsCapacityAfterExtend, IsKeptOrChosen}
+use Rattle.thin_vec.specs.Put.{YieldsThenMayEnd, IsFilledBy}
 use Rattle.thin_vec.specs.declared.put.Filled.{Filled}
-use Rattle.thin_vec.specs.Edits.Splice.{IsStopCause, Stopped, left_of, with_between}
-use Rattle.thin_vec.specs.Edits.Finish.{HasTaken, IsClosedWith, IsFinished}
-use Rattle.thin_vec.specs.Open.{Open}
-use Rattle.thin_vec.specs.ThinVec.{Thin}
+use Rattle.thin_vec.specs.Edits.Splice.{IsSpliceCause, SpliceErrorAccountsFor, without_middle, with_replacement}
+use Rattle.thin_vec.specs.Edits.Finish.{AddsFromIter, IsGapFilled, FinishesSplice}
+use Rattle.thin_vec.specs.Open.{OpenView}
+use Rattle.thin_vec.specs.ThinVec.{ListView}
 use Rattle.thin_vec.specs.declared.errors.SpliceRefused.{SpliceRefused}
 use Rattle.thin_vec.proofs.list.ExtendLemmas.{yields-join}
 use Rattle.thin_vec.proofs.edits.SpliceLemmas.{between-length, between-more, drains-more, run-moves, stopped-more, taken-join, taken-spare}
@@ -23,30 +23,30 @@ use Rattle.thin_vec.proofs.edits.SpliceLemmas.{between-length, between-more, dra
 module _ {T A : Type 0} where
   -- `IsWide` holds if the open block `b` results from opening a gap of `count` slots in the list
   -- `u` before index `at`. The items from index `at` onward are now tail items.
-  pub record IsWide (b : Open T A) (u : Thin T A) (at count : ℕ) : Type 0 where
+  pub record IsWide (b : OpenView T A) (u : ListView T A) (at count : ℕ) : Type 0 where
     pub in_bounds : at ≤ length u.items
     pub front : b.front ≡ take at u.items
     pub tail : b.tail ≡ drop at u.items
     pub capacity : b.capacity ≡ u.capacity
-    pub cost : b.cost ≡ (if eqb count 0 then u.cost else moving (length u.items - at) u.cost)
+    pub cost : b.cost ≡ (if eqb count 0 then u.cost else add_moves (length u.items - at) u.cost)
 
 module _ {S T A : Type 0} (steps : S → Option T → S → Type 0) (can : S → Type 0)
     (remaining : S → Count) where
   -- `FillsGap v a s w f` holds if items of the iterator `s` were put into the gap of the open block
   -- `v` until the gap was full or the iterator ended, and closing `v` then gave the list `w`, whose
   -- allocator is `a`. The value `f` contains the rest of the iterator.
-  abbrev pub FillsGap : Open T A → A → S → Thin T A → Filled S → Type 0
+  abbrev pub FillsGap : OpenView T A → A → S → ListView T A → Filled S → Type 0
   FillsGap v a s w f =
-      (by : IsFilledBy steps can remaining v.gap s f) × IsClosedWith v by.items a w
+      (by : IsFilledBy steps can remaining v.gap s f) × IsGapFilled v by.items a w
       × (f.end ≡ length v.front + length by.items)
 
   -- `IsReached` describes a state during `finish`, which began with the open block `v` and the
   -- iterator `s`. The iterator has yielded the items `xs`, and is now `t`. The list is now `u`: it
   -- contains `xs` between the front items and the tail items of `v`. The items `xs` are at least as
   -- many as the slots of the gap of `v`. `end` is the index directly after `xs`.
-  pub record IsReached (v : Open T A) (s : S) (u : Thin T A) (xs : List T) (end : ℕ)
+  pub record IsReached (v : OpenView T A) (s : S) (u : ListView T A) (xs : List T) (end : ℕ)
       (t : S) : Type 0 where
-    pub items : u.items ≡ with_between v xs
+    pub items : u.items ≡ with_replacement v xs
     pub ends : end ≡ length v.front + length xs
     pub gave : Yields steps s xs t
     pub full : v.gap ≤ length xs
@@ -56,7 +56,7 @@ module _ {S T A : Type 0} (steps : S → Option T → S → Type 0) (can : S →
 
 module _ {S T A : Type 0} {steps : S → Option T → S → Type 0} {can : S → Type 0}
     {remaining : S → Count} where
-  module _ {v : Open T A} {a : A} {s : S} {w : Thin T A} {f : Filled S}
+  module _ {v : OpenView T A} {a : A} {s : S} {w : ListView T A} {f : Filled S}
       (p : FillsGap steps can remaining v a s w f) where
     -- Let `w` be the list that results if items are put into the gap of the open block `v`, and `v`
     -- is then closed. The length of `w` is the number of front items, plus the number of tail
@@ -72,7 +72,7 @@ module _ {S T A : Type 0} {steps : S → Option T → S → Type 0} {can : S →
     filled-reached more = record {
       items = p.1.items;
       ends = p.2;
-      gave = subst (λ b. Gives steps s p.0.items b f.rest) more p.0.gave;
+      gave = subst (λ b. YieldsThenMayEnd steps s p.0.items b f.rest) more p.0.gave;
       full = omega (arith, p.0.full more);
       can_next = (p.0.asked more).0;
       finite = (p.0.asked more).1;
@@ -81,21 +81,22 @@ module _ {S T A : Type 0} {steps : S → Option T → S → Type 0} {can : S →
 
     -- If the iterator has ended, then it yielded exactly the inserted items, and no item remains.
     pub filled-drains : f.ended ≡ true → Drains steps s p.0.items
-    filled-drains done = (f.rest, subst (λ b. Gives steps s p.0.items b f.rest) done p.0.gave)
+    filled-drains done =
+        (f.rest, subst (λ b. YieldsThenMayEnd steps s p.0.items b f.rest) done p.0.gave)
 
-    module _ (rule : Rule) (R : RattleType) (n : ℕ) (left : Count) where
-      -- `HasTaken` describes how adding items changed a list, and bounds the moves of old items. If
-      -- items were put into the gap of the open block `v`, and closing `v` took at most `n` moves
-      -- of old items, then `HasTaken` holds with the bound `n`.
-      pub filled-taken : p.1.cost.0 ≤ n → HasTaken rule R (left_of v a) w n left
+    module _ (rule : GrowthRule) (R : RattleType) (n : ℕ) (left : Count) where
+      -- `AddsFromIter` describes how adding items changed a list, and bounds the moves of old
+      -- items. If items were put into the gap of the open block `v`, and closing `v` took at most
+      -- `n` moves of old items, then `AddsFromIter` holds with the bound `n`.
+      pub filled-taken : p.1.cost.0 ≤ n → AddsFromIter rule R (without_middle v a) w n left
       filled-taken few =
-          taken-spare rule R (left_of v a) w (length p.0.items) p.1.cost.0 n left p.1.cost.1
+          taken-spare rule R (without_middle v a) w (length p.0.items) p.1.cost.0 n left p.1.cost.1
           p.1.capacity (omega (arith, filled-long, length-append v.front v.tail)) few p.1.alloc
 
       -- Suppose that opening a gap in the list `u`, filling it and closing it took at most `n`
-      -- moves of old items. Then `HasTaken` relates `u` to the new list `w` with this bound.
-      pub wide-taken : (u : Thin T A) (at count : ℕ) → IsWide v u at count → a ≡ u.alloc
-          → p.1.cost.0 + (length u.items - at) ≤ n → HasTaken rule R u w n left
+      -- moves of old items. Then `AddsFromIter` relates `u` to the new list `w` with this bound.
+      pub wide-taken : (u : ListView T A) (at count : ℕ) → IsWide v u at count → a ≡ u.alloc
+          → p.1.cost.0 + (length u.items - at) ≤ n → AddsFromIter rule R u w n left
       wide-taken u at count wide from few =
           let all = run-moves count (length u.items - at) (length p.0.items) p.1.cost.0 u.cost
           v.cost wide.cost in
@@ -112,32 +113,34 @@ module _ {S T A : Type 0} {steps : S → Option T → S → Type 0} {can : S →
           ))
           (omega (arith, all.2, few)) (p.1.alloc ∙ from)
 
-  module _ {v : Open T A} {s t : S} {u : Thin T A} {xs : List T} {end : ℕ}
+  module _ {v : OpenView T A} {s t : S} {u : ListView T A} {xs : List T} {end : ℕ}
       (p : IsReached steps can remaining v s u xs end t) where
     -- `end` is the index directly after the inserted items. So the length of the list `u` is `end`
     -- plus the number of tail items.
     pub reached-long : length u.items ≡ end + length v.tail
     reached-long = omega (arith, ap length p.items, between-length v xs, p.ends)
 
-    -- If the two parts of a call to `finish` satisfy `HasTaken` with the bounds `m` and `n` on
+    -- If the two parts of a call to `finish` satisfy `AddsFromIter` with the bounds `m` and `n` on
     -- moves of old items, then the whole call satisfies it with each bound `k ≥ m + n`.
-    pub reached-taken : (rule : Rule) (R : RattleType) → KeepsLaw rule → (a : A) (w : Thin T A)
-        (m n k : ℕ) → m + n ≤ k → HasTaken rule R (left_of v a) u m (remaining s)
-        → HasTaken rule R u w n (remaining t) → HasTaken rule R (left_of v a) w k (remaining s)
+    pub reached-taken : (rule : GrowthRule) (R : RattleType) → IsLawful rule
+        → (a : A) (w : ListView T A)
+        (m n k : ℕ) → m + n ≤ k → AddsFromIter rule R (without_middle v a) u m (remaining s)
+        → AddsFromIter rule R u w n (remaining t)
+        → AddsFromIter rule R (without_middle v a) w k (remaining s)
     reached-taken rule R law a w m n k few before now =
         let long = between-length v xs in let left = length-append v.front v.tail in
-        taken-join rule R law (left_of v a) u w m n k (remaining s) (remaining t) few
+        taken-join rule R law (without_middle v a) u w m n k (remaining s) (remaining t) few
         (omega (arith, ap length p.items, long, left))
         (λ fit same. omega (arith, fit, same, ap length p.items, long, left, p.nearer))
         before now
 
-    -- If the first part of a call to `finish` kept the capacity, and `IsExtended` allows the
-    -- capacity `d` after the second part, then it also allows `d` after the whole call.
-    pub reached-extended : (rule : Rule) (R : RattleType) (a : A) (d n : ℕ)
-        → u.capacity ≡ v.capacity → IsExtended rule R u d n (remaining t)
-        → IsExtended rule R (left_of v a) d n (remaining s)
+    -- If the first part of a call to `finish` kept the capacity, and `IsCapacityAfterExtend` allows
+    -- the capacity `d` after the second part, then it also allows `d` after the whole call.
+    pub reached-extended : (rule : GrowthRule) (R : RattleType) (a : A) (d n : ℕ)
+        → u.capacity ≡ v.capacity → IsCapacityAfterExtend rule R u d n (remaining t)
+        → IsCapacityAfterExtend rule R (without_middle v a) d n (remaining s)
     reached-extended rule R a d n same (inl e) =
-        inl (subst (λ c. IsKeptOrRuled rule R c d n) same e)
+        inl (subst (λ c. IsKeptOrChosen rule R c d n) same e)
     reached-extended rule R a d n same (inr e) =
         let within : e.0 ≤ size (remaining t) = e.1 p.finite in
         let want : length v.front + length v.tail + (length xs + e.0) ≡ length u.items + e.0 =
@@ -145,14 +148,14 @@ module _ {S T A : Type 0} {steps : S → Option T → S → Type 0} {can : S →
         inr (
           length xs + e.0,
           (λ _. omega (arith, p.nearer, within)),
-          (λ i. ruled_capacity rule R (sym same i)
+          (λ i. grown_capacity rule R (sym same i)
               ((ap (λ n. n + (length xs + e.0)) (length-append v.front v.tail) ∙ want) i)) ∙ e.2,
         )
 
     -- `IsReached` describes an intermediate state of `finish`. Suppose that it holds for the list
     -- `u`, and that inserting more items at index `end` turns `u` into `w`. If the iterator has not
     -- ended yet, then `IsReached` also holds for `w`.
-    pub reached-more : {w : Thin T A} {room : ℕ} {f : Filled S}
+    pub reached-more : {w : ListView T A} {room : ℕ} {f : Filled S}
         (by : IsFilledBy steps can remaining room t f)
         → w.items ≡ (take end u.items ++ by.items) ++ drop end u.items
         → f.end ≡ end + length by.items → f.ended ≡ false
@@ -164,23 +167,25 @@ module _ {S T A : Type 0} {steps : S → Option T → S → Type 0} {can : S →
           items = items ∙ between-more v u.items xs ys end p.items p.ends;
           ends = omega (arith, ends, p.ends, long);
           gave = yields-join steps s t f.rest xs ys p.gave
-              (subst (λ b. Gives steps t ys b f.rest) more by.gave);
+              (subst (λ b. YieldsThenMayEnd steps t ys b f.rest) more by.gave);
           full = omega (arith, p.full, long);
           can_next = (by.asked more).0;
           finite = (by.asked more).1;
           nearer = omega (arith, p.nearer, by.nearer more, long);
         }
 
-  module _ {rule : Rule} {R : RattleType} (v : Open T A) (a : A) (s : S) (w : Thin T A) where
+  module _ {rule : GrowthRule} {R : RattleType} (v : OpenView T A) (a : A) (s : S)
+      (w : ListView T A) where
     -- If a call to `finish` inserted all items of the iterator, and the new list `w` satisfies
-    -- `HasTaken` (which describes the change of the list) and `IsExtended` (which restricts the
-    -- capacity), then `IsFinished` holds with the result `Ok`.
+    -- `AddsFromIter` (which describes the change of the list) and `IsCapacityAfterExtend` (which
+    -- restricts the capacity), then `FinishesSplice` holds with the result `Ok`.
     pub finished-ok : (x : Unit {0})
-        → (xs : List T) × Drains steps s xs × (w.items ≡ with_between v xs)
-        → HasTaken rule R (left_of v a) w (2 * length v.tail) (remaining s)
-        → IsExtended rule R (left_of v a) w.capacity (length w.items) (remaining s)
+        → (xs : List T) × Drains steps s xs × (w.items ≡ with_replacement v xs)
+        → AddsFromIter rule R (without_middle v a) w (2 * length v.tail) (remaining s)
+        → IsCapacityAfterExtend rule R (without_middle v a) w.capacity (length w.items)
+        (remaining s)
         → (0 < length v.tail → w.cost.blocks ≤ v.cost.blocks + 2)
-        → IsFinished steps can remaining rule R v a s w (Ok x)
+        → FinishesSplice steps can remaining rule R v a s w (Ok x)
     finished-ok x items taken ruled blocks = record {
       succeeds = λ _. refl;
       succeeds_at_end = λ _ _. refl;
@@ -195,21 +200,22 @@ module _ {S T A : Type 0} {steps : S → Option T → S → Type 0} {can : S →
     }
 
     -- If a call to `finish` inserted the items `xs` before the tail items, and the rest of the call
-    -- meets the conditions of `IsFinished`, then the whole call also meets them, with the same
+    -- meets the conditions of `FinishesSplice`, then the whole call also meets them, with the same
     -- result `r`.
-    pub finished-from : {t : S} {u : Thin T A} {xs : List T} {end : ℕ}
+    pub finished-from : {t : S} {u : ListView T A} {xs : List T} {end : ℕ}
         (r : Result (Unit {0}) (SpliceRefused T S A))
         → IsReached steps can remaining v s u xs end t → 0 < length v.tail
         → (size (remaining t) ≡ 0 → IsOk r)
         → OnOk r ((ys : List T) × Drains steps t ys
         × (w.items ≡ (take end u.items ++ ys) ++ drop end u.items))
-        → IfErr r (λ error. Stopped steps can remaining t [] error)
-        → IfErr r (λ error. IsStopCause rule R w v.tail (remaining error.rest) error)
+        → IfErr r (λ error. SpliceErrorAccountsFor steps can remaining t [] error)
+        → IfErr r (λ error. IsSpliceCause rule R w v.tail (remaining error.rest) error)
         → OnErr r (w ≡ u)
-        → HasTaken rule R (left_of v a) w (2 * length v.tail) (remaining s)
-        → IsExtended rule R (left_of v a) w.capacity (length w.items) (remaining s)
+        → AddsFromIter rule R (without_middle v a) w (2 * length v.tail) (remaining s)
+        → IsCapacityAfterExtend rule R (without_middle v a) w.capacity (length w.items)
+        (remaining s)
         → (0 < length v.tail → w.cost.blocks ≤ v.cost.blocks + 2)
-        → IsFinished steps can remaining rule R v a s w r
+        → FinishesSplice steps can remaining rule R v a s w r
     finished-from {t} {u} {xs} {end} (Ok x) p some ends items placed cause err taken ruled blocks =
         finished-ok x (
           xs ++ items.0,

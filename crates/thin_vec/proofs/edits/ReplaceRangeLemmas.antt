@@ -7,12 +7,12 @@ use Rattle.std.proofs.lemmas.Bool.{cases_lt}
 use Rattle.std.proofs.lemmas.Bool.Decides.{nat_tests}
 use Rattle.std.proofs.lemmas.List.Elements.{length_all_zip}
 use Rattle.std.specs.List.{AllZip, replace_range}
-use Rattle.thin_block.specs.Cost.{Cost, moving}
-use Rattle.thin_block.specs.Slots.{empty, full, moved}
+use Rattle.thin_block.specs.Cost.{Cost, add_moves}
+use Rattle.thin_block.specs.Slots.{empty_slots, filled_slots, move_slots}
 use Rattle.thin_block.specs.declared.block.Block.{Block}
 use Rattle.thin_block.proofs.SlotsLemmas.{moved_back}
-use Rattle.thin_vec.specs.OpenBlock.{IsOpen, open_of}
-use Rattle.thin_vec.specs.Open.{Open, reach, row_of}
+use Rattle.thin_vec.specs.OpenBlock.{IsOpen, open_view}
+use Rattle.thin_vec.specs.Open.{OpenView, tail_end, slots_of}
 use Rattle.thin_vec.specs.declared.open_block.OpenBlock.TheInside.{Inside}
 use Rattle.thin_vec.specs.Edits.ReplaceRange.{MovesAtMost, ReplacesByClones}
 use Rattle.thin_vec.proofs.list.InsertRemoveLemmas.{full-append}
@@ -91,21 +91,21 @@ module _ {T : Type 0} (xs : List T) (i j : ℕ) (order : i ≤ j) (within : j �
       ∙ ap (λ (l : List T). l ++ r) (append_assoc (take i xs) ys zs))
 
 module _ {T A : Type 0} (h : Inside T A) (o : IsOpen h) (b : Block T A) (k : ℕ)
-    (few : k ≤ length (open_of h).tail) (room : k ≤ (open_of h).gap) where
+    (few : k ≤ length (open_view h).tail) (room : k ≤ (open_view h).gap) where
   -- `v` is how contracts see the open block `h` before the last `k` tail items of `h` are moved.
-  abbrev v : Open T A
-  v = open_of h
+  abbrev v : OpenView T A
+  v = open_view h
 
   -- `brought` is the open block `h` after its last `k` tail items have been moved to the end of its
   -- front items.
   abbrev pub brought : Inside T A
   brought = record h { block = b; front_end = h.front_end + k; len = h.len - k }
 
-  -- `brought-seen` is how contracts see the open block `brought`. Compared with the view `v` of
+  -- `brought-view` is how contracts see the open block `brought`. Compared with the view `v` of
   -- `h`, the last `k` tail items have been moved to the end of the front items. The allocator and
   -- the cost are those of the block `b`.
-  abbrev pub brought-seen : Open T A
-  brought-seen = record v {
+  abbrev pub brought-view : OpenView T A
+  brought-view = record v {
     front = v.front ++ drop (length v.tail - k) v.tail;
     gap = v.gap - k;
     tail = take (length v.tail - k) v.tail;
@@ -114,9 +114,9 @@ module _ {T A : Type 0} (h : Inside T A) (o : IsOpen h) (b : Block T A) (k : ℕ
   }
 
   -- If the last `k` tail items were moved directly after the front items, then `brought` is a valid
-  -- open block, and contracts see it as `brought-seen`.
-  pub bring-step : b.slots ≡ moved (h.len - k) h.front_end k h.block.slots
-      → Found brought brought-seen
+  -- open block, and contracts see it as `brought-view`.
+  pub bring-step : b.slots ≡ move_slots (h.len - k) h.front_end k h.block.slots
+      → Found brought brought-view
   bring-step now =
       let m : ℕ = length v.tail - k in
       let zs : List T = take m v.tail in
@@ -127,39 +127,44 @@ module _ {T A : Type 0} (h : Inside T A) (o : IsOpen h) (b : Block T A) (k : ℕ
       let more : length (v.front ++ ys) ≡ h.front_end + k =
       omega (arith, length-append v.front ys, o.front, ly) in
       let mid : List (Option T) =
-      empty (v.gap - k) ++ (full v.rest ++ (empty v.gap_after ++ full zs)) in
-      let spread : (r : List (Option T)) → mid ++ r ≡ empty (v.gap - k)
-      ++ (full v.rest ++ (empty v.gap_after ++ (full zs ++ r))) =
-      λ r. append_assoc (empty (v.gap - k)) (full v.rest ++ (empty v.gap_after ++ full zs)) r
-      ∙ ap (λ (l : List (Option T)). empty (v.gap - k) ++ l)
-      (append_assoc (full v.rest) (empty v.gap_after ++ full zs) r
-      ∙ ap (λ (l : List (Option T)). full v.rest ++ l)
-      (append_assoc (empty v.gap_after) (full zs) r)) in
-      let tail : full v.tail ++ past ≡ full zs ++ (full ys ++ past) =
-      ap (λ (l : List T). full l ++ past) (sym (take-append-drop m v.tail))
+      empty_slots (v.gap - k)
+      ++ (filled_slots v.rest ++ (empty_slots v.gap_after ++ filled_slots zs)) in
+      let spread : (r : List (Option T)) → mid ++ r ≡ empty_slots (v.gap - k)
+      ++ (filled_slots v.rest ++ (empty_slots v.gap_after ++ (filled_slots zs ++ r))) =
+      λ r. append_assoc (empty_slots (v.gap - k))
+      (filled_slots v.rest ++ (empty_slots v.gap_after ++ filled_slots zs)) r
+      ∙ ap (λ (l : List (Option T)). empty_slots (v.gap - k) ++ l)
+      (append_assoc (filled_slots v.rest) (empty_slots v.gap_after ++ filled_slots zs) r
+      ∙ ap (λ (l : List (Option T)). filled_slots v.rest ++ l)
+      (append_assoc (empty_slots v.gap_after) (filled_slots zs) r)) in
+      let tail : filled_slots v.tail ++ past ≡ filled_slots zs ++ (filled_slots ys ++ past) =
+      ap (λ (l : List T). filled_slots l ++ past) (sym (take-append-drop m v.tail))
       ∙ (ap (λ (l : List (Option T)). l ++ past) (full-append zs ys)
-      ∙ append_assoc (full zs) (full ys) past) in
-      let apart : (r : List (Option T)) → empty v.gap ++ r ≡ empty k
-      ++ (empty (v.gap - k) ++ r) =
-      λ r. ap (λ (n : ℕ). empty n ++ r)
+      ∙ append_assoc (filled_slots zs) (filled_slots ys) past) in
+      let apart : (r : List (Option T)) → empty_slots v.gap ++ r ≡ empty_slots k
+      ++ (empty_slots (v.gap - k) ++ r) =
+      λ r. ap (λ (n : ℕ). empty_slots n ++ r)
       (let e : v.gap ≡ k + (v.gap - k) = omega (arith, room) in e)
       ∙ (ap (λ (l : List (Option T)). l ++ r)
       (sym (replicate-append-replicate k (v.gap - k) None))
-      ∙ append_assoc (empty k) (empty (v.gap - k)) r) in
-      let row : h.block.slots ≡ full v.front ++ (empty k ++ (mid ++ (full ys ++ past))) =
+      ∙ append_assoc (empty_slots k) (empty_slots (v.gap - k)) r) in
+      let row : h.block.slots
+      ≡ filled_slots v.front ++ (empty_slots k ++ (mid ++ (filled_slots ys ++ past))) =
       o.row
-      ∙ (ap (λ (l : List (Option T)). full v.front
-      ++ (empty v.gap ++ (full v.rest ++ (empty v.gap_after ++ l)))) tail
-      ∙ (ap (λ (l : List (Option T)). full v.front ++ l)
-      (apart (full v.rest ++ (empty v.gap_after ++ (full zs ++ (full ys ++ past)))))
-      ∙ ap (λ (l : List (Option T)). full v.front ++ (empty k ++ l))
-      (sym (spread (full ys ++ past))))) in
+      ∙ (ap (λ (l : List (Option T)). filled_slots v.front
+      ++ (empty_slots v.gap ++ (filled_slots v.rest ++ (empty_slots v.gap_after ++ l)))) tail
+      ∙ (ap (λ (l : List (Option T)). filled_slots v.front ++ l)
+      (apart (filled_slots v.rest
+      ++ (empty_slots v.gap_after ++ (filled_slots zs ++ (filled_slots ys ++ past)))))
+      ∙ ap (λ (l : List (Option T)). filled_slots v.front ++ (empty_slots k ++ l))
+      (sym (spread (filled_slots ys ++ past))))) in
       let from : h.len - k ≡ h.front_end + k + length mid =
       omega (
         arith,
-        length-append (empty {T = T} (v.gap - k)) (full v.rest ++ (empty v.gap_after ++ full zs)),
-        length-append (full v.rest) (empty v.gap_after ++ full zs),
-        length-append (empty {T = T} v.gap_after) (full zs),
+        length-append (empty_slots {T = T} (v.gap - k))
+            (filled_slots v.rest ++ (empty_slots v.gap_after ++ filled_slots zs)),
+        length-append (filled_slots v.rest) (empty_slots v.gap_after ++ filled_slots zs),
+        length-append (empty_slots {T = T} v.gap_after) (filled_slots zs),
         length-empty T (v.gap - k),
         length-empty T v.gap_after,
         length-full v.rest,
@@ -173,11 +178,12 @@ module _ {T A : Type 0} (h : Inside T A) (o : IsOpen h) (b : Block T A) (k : ℕ
         few,
         room,
       ) in
-      let after : b.slots ≡ full v.front ++ (full ys ++ (mid ++ (empty k ++ past))) =
-      now ∙ (ap (moved (h.len - k) h.front_end k) row
-      ∙ moved_back (h.len - k) h.front_end k (full v.front) (full ys) mid past
+      let after : b.slots
+      ≡ filled_slots v.front ++ (filled_slots ys ++ (mid ++ (empty_slots k ++ past))) =
+      now ∙ (ap (move_slots (h.len - k) h.front_end k) row
+      ∙ moved_back (h.len - k) h.front_end k (filled_slots v.front) (filled_slots ys) mid past
       (sym (length-full v.front ∙ o.front)) from (sym (length-full ys ∙ ly))) in
-      let left : k + (v.capacity - reach v) ≡ v.capacity - reach brought-seen =
+      let left : k + (v.capacity - tail_end v) ≡ v.capacity - tail_end brought-view =
       omega (
         arith,
         length-append v.front ys,
@@ -188,20 +194,26 @@ module _ {T A : Type 0} (h : Inside T A) (o : IsOpen h) (b : Block T A) (k : ℕ
         o.room,
         reached h v o,
       ) in
-      let lies : b.slots ≡ row_of brought-seen =
+      let lies : b.slots ≡ slots_of brought-view =
       after
-      ∙ (ap (λ (l : List (Option T)). full v.front ++ (full ys ++ l)) (spread (empty k ++ past))
-      ∙ (sym (append_assoc (full v.front) (full ys)
-      (empty (v.gap - k) ++ (full v.rest ++ (empty v.gap_after ++ (full zs ++ (empty k ++ past))))))
+      ∙ (ap (λ (l : List (Option T)). filled_slots v.front ++ (filled_slots ys ++ l))
+      (spread (empty_slots k ++ past))
+      ∙ (sym (append_assoc (filled_slots v.front) (filled_slots ys)
+      (empty_slots (v.gap - k)
+      ++ (filled_slots v.rest
+      ++ (empty_slots v.gap_after ++ (filled_slots zs ++ (empty_slots k ++ past))))))
       ∙ (ap (λ (l : List (Option T)). l
-      ++ (empty (v.gap - k)
-      ++ (full v.rest ++ (empty v.gap_after ++ (full zs ++ (empty k ++ past))))))
+      ++ (empty_slots (v.gap - k)
+      ++ (filled_slots v.rest
+      ++ (empty_slots v.gap_after ++ (filled_slots zs ++ (empty_slots k ++ past))))))
       (sym (full-append v.front ys))
-      ∙ ap (λ (l : List (Option T)). full (v.front ++ ys)
-      ++ (empty (v.gap - k) ++ (full v.rest ++ (empty v.gap_after ++ (full zs ++ l)))))
-      (replicate-append-replicate k (v.capacity - reach v) None ∙ ap (λ (n : ℕ). empty n) left))))
+      ∙ ap (λ (l : List (Option T)). filled_slots (v.front ++ ys)
+      ++ (empty_slots (v.gap - k)
+      ++ (filled_slots v.rest ++ (empty_slots v.gap_after ++ (filled_slots zs ++ l)))))
+      (replicate-append-replicate k (v.capacity - tail_end v) None
+      ∙ ap (λ (n : ℕ). empty_slots n) left))))
       in
-      found brought brought-seen
+      found brought brought-view
       (record {
         row = lies;
         front = more;
@@ -232,11 +244,11 @@ replaced-length clones xs i sources ys within is =
 -- Suppose that at most `n` moves turn the cost `c` into `d`, and that `m` more moves turn `d` into
 -- `e`. If `m ≤ k`, then at most `n + k` moves turn `c` into `e`.
 pub at-most-more : {n m k : ℕ} {c d e : Cost} → MovesAtMost n c d → (few : m ≤ k)
-    → e ≡ moving m d → MovesAtMost (n + k) c e
+    → e ≡ add_moves m d → MovesAtMost (n + k) c e
 at-most-more {n} {m} {k} {c} {d} {e} h few is = record {
   moves = h.moves + m;
   few = omega (arith, h.few, few);
-  cost = is ∙ (ap (λ q. moving m q) h.cost ∙ moving-more m h.moves c);
+  cost = is ∙ (ap (λ q. add_moves m q) h.cost ∙ moving-more m h.moves c);
 }
 
 -- If at most `n` moves turn the cost `c` into `d`, and `n ≤ m`, then at most `m` moves turn `c`
@@ -250,7 +262,7 @@ at-most-le {n} {m} {c} {d} h le = record {
 
 -- Suppose that the cost `d` is the cost `c` if the flag `b` is true, and otherwise the cost `c`
 -- plus `n` moves. Then at most `n` moves turn `c` into `d`.
-pub at-most-if : (b : Bool) (n : ℕ) (c d : Cost) → d ≡ (if b then c else moving n c)
+pub at-most-if : (b : Bool) (n : ℕ) (c d : Cost) → d ≡ (if b then c else add_moves n c)
     → MovesAtMost n c d
 at-most-if true n c d is = record { moves = 0; few = omega arith; cost = is ∙ sym (moving-none c) }
 at-most-if false n c d is = record { moves = n; few = omega arith; cost = is }

@@ -9,41 +9,42 @@ use Rattle.std.specs.declared.result.Result.{Result}
 use Rattle.std.specs.declared.result.Result.TheVariants.{Ok, Err}
 use Rattle.std.specs.Iterator.{Count, Drains, Yields, YieldsThen, size}
 use Rattle.thin_vec.specs.Cheap.{IsCheap}
-use Rattle.thin_vec.specs.List.Extend.{IsExtendCause, CostsAdding, IsKeptOrRuled, FailsAtHint, PausedAfter}
+use Rattle.thin_vec.specs.List.Extend.{IsExtendCause, CostsInserting, IsKeptOrChosen, FailsAtHint, YieldsAndCanContinue}
 use Rattle.std.proofs.lemmas.Bool.Decides.{nat_tests}
 use Rattle.thin_block.specs.declared.errors.ThinVecError.TheVariants.{CapacityOverflow, OutOfMemory}
-use Rattle.thin_block.specs.Cost.{Cost, growing, moving}
-use Rattle.thin_block.specs.Growth.{KeepsLaw, Rule}
+use Rattle.thin_block.specs.Cost.{Cost, add_realloc, add_moves}
+use Rattle.thin_block.specs.Growth.{IsLawful, GrowthRule}
 use Rattle.std.proofs.lemmas.Bool.{cases_lt, false≢true}
-use Rattle.thin_vec.specs.Open.{Open, cost_closed, items_of}
-use Rattle.thin_vec.specs.Edits.Splice.{IsStopCause, Stopped, left_of, with_between}
-use Rattle.thin_vec.specs.Edits.Finish.{HasTaken}
-use Rattle.thin_vec.specs.ThinVec.{HasRoomFor, Thin, capacity_for, cost_at}
+use Rattle.thin_vec.specs.Open.{OpenView, cost_closed, items_of}
+use Rattle.thin_vec.specs.Edits.Splice.{IsSpliceCause, SpliceErrorAccountsFor, without_middle, with_replacement}
+use Rattle.thin_vec.specs.Edits.Finish.{AddsFromIter}
+use Rattle.thin_vec.specs.ThinVec.{HasRoomFor, ListView, capacity_after_reserve, cost_after_resize}
 use Rattle.thin_vec.specs.declared.errors.ExtendRefused.{ExtendRefused}
 use Rattle.thin_vec.specs.declared.errors.SpliceRefused.{SpliceRefused}
 use Rattle.thin_vec.proofs.list.ExtendLemmas.{adding-join, filled-reserved, loose-join, loose-le, loose-ruled, yields-join}
 use Rattle.thin_vec.proofs.RetainLemmas.{moving-more, moving-none}
-use Rattle.thin_vec.proofs.ThinVecLemmas.{cap-kept, cost_at-copied}
+use Rattle.thin_vec.proofs.ThinVecLemmas.{cap-kept, cost_after_resize-copied}
 
 -- Suppose that `n` items were put into the gap of the open block `v`, with one move each, and that
 -- the resulting open block `w` has no middle items. Then closing `w` takes at most one move for
 -- each tail item, and no move at all if `w` has no gap.
-pub closed-moves : {T A : Type 0} (v w : Open T A) (n : ℕ) → w.cost ≡ moving (v.gap - w.gap)
+pub closed-moves : {T A : Type 0} (v w : OpenView T A) (n : ℕ) → w.cost ≡ add_moves (v.gap - w.gap)
     v.cost → w.rest ≡ [] → w.tail ≡ v.tail → n ≡ v.gap - w.gap
-    → (m : ℕ) × (cost_closed w ≡ moving (n + m) v.cost) × (m ≤ length v.tail)
+    → (m : ℕ) × (cost_closed w ≡ add_moves (n + m) v.cost) × (m ≤ length v.tail)
     × (w.gap ≡ 0 → m ≡ 0)
 closed-moves v w n paid none same count = go (eqb w.gap 0) refl
   where
     -- The cost of the open block `w` is the cost of `v` plus `n` moves.
-    filled : w.cost ≡ moving n v.cost
-    filled = paid ∙ ap (λ k. moving k v.cost) (sym count)
+    filled : w.cost ≡ add_moves n v.cost
+    filled = paid ∙ ap (λ k. add_moves k v.cost) (sym count)
 
     go : (b : Bool) → eqb w.gap 0 ≡ b → (m : ℕ)
-        × ((if b then w.cost else moving (length w.rest + length w.tail) w.cost) ≡ moving (n + m)
+        × ((if b then w.cost else add_moves (length w.rest + length w.tail) w.cost) ≡ add_moves
+        (n + m)
         v.cost) × (m ≤ length v.tail) × (w.gap ≡ 0 → m ≡ 0)
     go true e = (
       0,
-      filled ∙ ap (λ k. moving k v.cost) (let z : n ≡ n + 0 = omega arith in z),
+      filled ∙ ap (λ k. add_moves k v.cost) (let z : n ≡ n + 0 = omega arith in z),
       omega arith,
       λ _. refl,
     )
@@ -51,8 +52,9 @@ closed-moves v w n paid none same count = go (eqb w.gap 0) refl
         let all : length w.rest + length w.tail ≡ length v.tail =
         omega (arith, ap length none, ap length same) in (
           length v.tail,
-          ap (λ k. moving k w.cost) all
-              ∙ (ap (λ c. moving (length v.tail) c) filled ∙ moving-more (length v.tail) n v.cost),
+          ap (λ k. add_moves k w.cost) all
+              ∙ (ap (λ c. add_moves (length v.tail) c) filled
+              ∙ moving-more (length v.tail) n v.cost),
           omega arith,
           λ z. let t : eqb w.gap 0 ≡ true = grind (arith, nat_tests, z) in
               absurd (false-true (sym e ∙ t)),
@@ -65,24 +67,24 @@ closed-moves v w n paid none same count = go (eqb w.gap 0) refl
 -- Suppose that a step changes the cost from `c` to `d`. The step makes no move if `count` is 0, and
 -- `n` moves otherwise. If `k + m` more moves follow this step, then the total number of moves is
 -- `k + x`, for some number `x ≤ n + m`.
-pub run-moves : (count n k m : ℕ) (c d : Cost) → d ≡ (if eqb count 0 then c else moving n c)
-    → (x : ℕ) × (moving (k + m) d ≡ moving (k + x) c) × (x ≤ n + m)
+pub run-moves : (count n k m : ℕ) (c d : Cost) → d ≡ (if eqb count 0 then c else add_moves n c)
+    → (x : ℕ) × (add_moves (k + m) d ≡ add_moves (k + x) c) × (x ≤ n + m)
 run-moves count n k m c d e = go (eqb count 0) e
   where
-    go : (b : Bool) → d ≡ (if b then c else moving n c) → (x : ℕ)
-        × (moving (k + m) d ≡ moving (k + x) c) × (x ≤ n + m)
-    go true e = (m, ap (λ q. moving (k + m) q) e, omega arith)
+    go : (b : Bool) → d ≡ (if b then c else add_moves n c) → (x : ℕ)
+        × (add_moves (k + m) d ≡ add_moves (k + x) c) × (x ≤ n + m)
+    go true e = (m, ap (λ q. add_moves (k + m) q) e, omega arith)
     go false e = (
       n + m,
-      ap (λ q. moving (k + m) q) e
+      ap (λ q. add_moves (k + m) q) e
           ∙ (moving-more (k + m) n c
-          ∙ ap (λ j. moving j c) (let f : n + (k + m) ≡ k + (n + m) = omega arith in f)),
+          ∙ ap (λ j. add_moves j c) (let f : n + (k + m) ≡ k + (n + m) = omega arith in f)),
       omega arith,
     )
 
 -- A reallocation counts as one granted request for memory. So the cost `d`, which is the cost `c`
 -- with or without one reallocation, counts at most one request more than `c`.
-pub blocks-if : (b : Bool) (n : ℕ) (c d : Cost) → d ≡ (if b then c else growing n c)
+pub blocks-if : (b : Bool) (n : ℕ) (c d : Cost) → d ≡ (if b then c else add_realloc n c)
     → d.blocks ≤ c.blocks + 1
 blocks-if true n c d is = omega (arith, ap (λ q. q.blocks) is)
 blocks-if false n c d is = omega (arith, ap (λ q. q.blocks) is)
@@ -109,10 +111,10 @@ module _ {S X : Type 0} (steps : S → Option X → S → Type 0) where
 module _ {T A : Type 0} where
   -- Suppose that adding `k` items turned the list `v` into `w`, and that the capacity did not
   -- change. Suppose also that the cost increased by `k + m` moves: one move for each added item,
-  -- and `m` moves of old items. If `m ≤ n`, then `CostsAdding v w n` holds: the old items were
+  -- and `m` moves of old items. If `m ≤ n`, then `CostsInserting v w n` holds: the old items were
   -- moved at most `n` times in total.
-  pub adding-run : (v w : Thin T A) (k m n : ℕ) → w.cost ≡ moving (k + m) v.cost
-      → w.capacity ≡ v.capacity → length w.items ≡ length v.items + k → m ≤ n → CostsAdding v w n
+  pub adding-run : (v w : ListView T A) (k m n : ℕ) → w.cost ≡ add_moves (k + m) v.cost
+      → w.capacity ≡ v.capacity → length w.items ≡ length v.items + k → m ≤ n → CostsInserting v w n
   adding-run v w k m n e same long few = record {
     copied = omega (arith, ap (λ c. c.grown) e, same);
     least = omega (arith, ap (λ c. c.moves) e, long);
@@ -161,7 +163,8 @@ module _ {S X A : Type 0} (steps : S → Option X → S → Type 0) (can : S →
   -- and change the iterator from `s` to `t`, then `Stopped` for `t` and no inserted items implies
   -- `Stopped` for `s` and the inserted items `xs`.
   pub stopped-more : (s t : S) (xs : List X) (error : SpliceRefused X S A) → Yields steps s xs t
-      → Stopped steps can remaining t [] error → Stopped steps can remaining s xs error
+      → SpliceErrorAccountsFor steps can remaining t [] error
+      → SpliceErrorAccountsFor steps can remaining s xs error
   stopped-more s t xs error before (inl now) =
       let held = error.held.items in let last : List X = option_to_list error.in_hand in
       inl (
@@ -185,8 +188,8 @@ module _ {S X A : Type 0} (steps : S → Option X → S → Type 0) (can : S →
   -- in `error.in_hand`, if there is one. Suppose also that `next` may be called again after these
   -- calls. If `error.held` contains no items, then `Stopped` holds.
   pub stopped-now : (s : S) (xs : List X) (error : SpliceRefused X S A) → error.held.items ≡ []
-      → PausedAfter steps can remaining s (xs ++ option_to_list error.in_hand) error.rest
-      → Stopped steps can remaining s xs error
+      → YieldsAndCanContinue steps can remaining s (xs ++ option_to_list error.in_hand) error.rest
+      → SpliceErrorAccountsFor steps can remaining s xs error
   stopped-now s xs error none paused =
       inl (
         record {
@@ -201,13 +204,13 @@ module _ {S X A : Type 0} (steps : S → Option X → S → Type 0) (can : S →
 -- The lemmas in this module are about a call to `finish` that failed with `error`. `rule` is the
 -- growth rule, `R` is the type of the items, and `v` is the list after the call. `tail` contains
 -- the items after the replaced range. After the call, the iterator can yield at most `left` items.
-module _ {S T A : Type 0} (rule : Rule) (R : RattleType) (v : Thin T A) (tail : List T)
+module _ {S T A : Type 0} (rule : GrowthRule) (R : RattleType) (v : ListView T A) (tail : List T)
     (left : Count) (error : SpliceRefused T S A) where
-  -- `IsStopCause` states why `finish` failed with `error`. It holds if there are items after the
+  -- `IsSpliceCause` states why `finish` failed with `error`. It holds if there are items after the
   -- range (`tail`), `error` contains no items, and the list could not reserve room for the lower
   -- bound of the iterator's size hint (`FailsAtHint`).
   pub stop-at-hint : 0 < length tail → error.held.items ≡ [] → error.in_hand ≡ None
-      → FailsAtHint rule R v left error.cause → IsStopCause rule R v tail left error
+      → FailsAtHint rule R v left error.cause → IsSpliceCause rule R v tail left error
   stop-at-hint some none empty fails = record {
     by_hint = λ _ _. fails;
     by_held = λ more _. absurd (omega (arith, more, ap length none));
@@ -215,7 +218,7 @@ module _ {S T A : Type 0} (rule : Rule) (R : RattleType) (v : Thin T A) (tail : 
     by_push = λ no_tail. absurd (omega (arith, some, ap length no_tail));
   }
 
-  -- `IsStopCause` states why `finish` failed with `error`. It holds if there are items after the
+  -- `IsSpliceCause` states why `finish` failed with `error`. It holds if there are items after the
   -- range (`tail`), and one of these cases applies:
   --
   -- - `error.in_hand` is `None`, and `error.held` is not empty. The cause is `CapacityOverflow` if
@@ -223,9 +226,9 @@ module _ {S T A : Type 0} (rule : Rule) (R : RattleType) (v : Thin T A) (tail : 
   -- - `error.in_hand` is `Some`, and the cause is `OutOfMemory`.
   pub stop-at-held : 0 < length tail → (error.in_hand ≡ None → 0 < length error.held.items)
       → (error.in_hand ≡ None → (error.cause ≡ CapacityOverflow)
-      ↔ (capacity_for rule R v (length error.held.items) ≡ None))
+      ↔ (capacity_after_reserve rule R v (length error.held.items) ≡ None))
       → (IsSome error.in_hand → error.cause ≡ OutOfMemory)
-      → IsStopCause rule R v tail left error
+      → IsSpliceCause rule R v tail left error
   stop-at-held some more over memory = record {
     by_hint = λ none empty. absurd (omega (arith, more empty, ap length none));
     by_held = λ _ empty. over empty;
@@ -233,13 +236,13 @@ module _ {S T A : Type 0} (rule : Rule) (R : RattleType) (v : Thin T A) (tail : 
     by_push = λ no_tail. absurd (omega (arith, some, ap length no_tail));
   }
 
-  -- `IsExtendCause` states why `extend` failed, and `IsStopCause` states why `finish` failed.
+  -- `IsExtendCause` states why `extend` failed, and `IsSpliceCause` states why `finish` failed.
   -- Suppose that no item follows the range (`tail` is empty), that `error.held` is empty, and that
   -- `error` has the same `cause` and the same `in_hand` as the error `e` of `extend`. Then
-  -- `IsExtendCause` for `e` implies `IsStopCause` for `error`.
+  -- `IsExtendCause` for `e` implies `IsSpliceCause` for `error`.
   pub stop-at-end : (e : ExtendRefused T S) → tail ≡ [] → error.held.items ≡ []
       → error.cause ≡ e.cause → error.in_hand ≡ e.in_hand → IsExtendCause rule R v left e
-      → IsStopCause rule R v tail left error
+      → IsSpliceCause rule R v tail left error
   stop-at-end e no_tail none same hand by = record {
     by_hint = λ _ empty.
         subst (λ cause. FailsAtHint rule R v left cause) (sym same)
@@ -252,14 +255,14 @@ module _ {S T A : Type 0} (rule : Rule) (R : RattleType) (v : Thin T A) (tail : 
     );
   }
 
-module _ (rule : Rule) (R : RattleType) where
+module _ (rule : GrowthRule) (R : RattleType) where
   -- Suppose that `d` is the capacity of the list `v` after room for `k` more items was reserved.
-  -- Suppose also that `length v.items + k` is at most `n`. Then `IsKeptOrRuled` holds: `d` is the
+  -- Suppose also that `length v.items + k` is at most `n`. Then `IsKeptOrChosen` holds: `d` is the
   -- old capacity, or a capacity that the growth rule may choose when a list needs room for at most
   -- `n` items.
-  pub kept-or-ruled : KeepsLaw rule → {T A : Type 0} (v : Thin T A) (k d n : ℕ)
-      → capacity_for rule R v k ≡ Some d → length v.items + k ≤ n
-      → IsKeptOrRuled rule R v.capacity d n
+  pub kept-or-ruled : IsLawful rule → {T A : Type 0} (v : ListView T A) (k d n : ℕ)
+      → capacity_after_reserve rule R v k ≡ Some d → length v.items + k ≤ n
+      → IsKeptOrChosen rule R v.capacity d n
   kept-or-ruled law v k d n e less =
       elim (cases_lt v.capacity (length v.items + k)) [
         | inl more ↦ inr (v.capacity, length v.items + k, more, less, e)
@@ -268,17 +271,17 @@ module _ (rule : Rule) (R : RattleType) where
 
 -- If `b` is true, no moves are added to the cost `c`. If `b` is false, `n` moves are added. If `n`
 -- is 0, then the result is `c` in both cases.
-unmoved : (b : Bool) (c : Cost) (n : ℕ) → n ≡ 0 → (if b then c else moving n c) ≡ c
+unmoved : (b : Bool) (c : Cost) (n : ℕ) → n ≡ 0 → (if b then c else add_moves n c) ≡ c
 unmoved true c n none = refl
-unmoved false c n none = ap (λ k. moving k c) none ∙ moving-none c
+unmoved false c n none = ap (λ k. add_moves k c) none ∙ moving-none c
 
 module _ {T A : Type 0} where
   -- Suppose that the open block `v` has no middle items and no tail items. Then closing `v` moves
-  -- no item. The result is the list `left_of v u.alloc`, which contains the front items of `v` and
-  -- has the allocator of the list `u`.
-  pub closed-left : (v : Open T A) (u : Thin T A) → v.rest ≡ [] → v.tail ≡ []
+  -- no item. The result is the list `without_middle v u.alloc`, which contains the front items of
+  -- `v` and has the allocator of the list `u`.
+  pub closed-left : (v : OpenView T A) (u : ListView T A) → v.rest ≡ [] → v.tail ≡ []
       → record u { items = items_of v; capacity = v.capacity; cost = cost_closed v }
-      ≡ left_of v u.alloc
+      ≡ without_middle v u.alloc
   closed-left v u none no_tail =
       let free : cost_closed v ≡ v.cost =
       unmoved (eqb v.gap 0) v.cost (length v.rest + length v.tail)
@@ -290,12 +293,12 @@ module _ {T A : Type 0} where
         cost = free i;
       }
 
-  -- `with_between v xs` is the list of the front items of the open block `v`, followed by `xs` and
-  -- by the tail items of `v`. Inserting `ys` directly after `xs` results in
-  -- `with_between v (xs ++ ys)`.
-  pub between-more : (v : Open T A) (us xs ys : List T) (end : ℕ) → us ≡ with_between v xs
+  -- `with_replacement v xs` is the list of the front items of the open block `v`, followed by `xs`
+  -- and by the tail items of `v`. Inserting `ys` directly after `xs` results in
+  -- `with_replacement v (xs ++ ys)`.
+  pub between-more : (v : OpenView T A) (us xs ys : List T) (end : ℕ) → us ≡ with_replacement v xs
       → end ≡ length v.front + length xs
-      → (take end us ++ ys) ++ drop end us ≡ with_between v (xs ++ ys)
+      → (take end us ++ ys) ++ drop end us ≡ with_replacement v (xs ++ ys)
   between-more v us xs ys end e ends =
       let pre : List T = v.front ++ xs in
       let here : length pre ≡ end = omega (arith, length-append v.front xs, ends) in
@@ -303,17 +306,17 @@ module _ {T A : Type 0} where
       ∙ ((λ i. (take_at pre v.tail end here i ++ ys) ++ drop_at pre v.tail end here i)
       ∙ ap (λ l. l ++ v.tail) (append_assoc v.front xs ys))
 
-  -- `with_between v xs` consists of the front items of the open block `v`, the items `xs`, and the
-  -- tail items of `v`. Its length is the sum of the three lengths.
-  pub between-length : (v : Open T A) (xs : List T)
-      → length (with_between v xs) ≡ length v.front + length xs + length v.tail
+  -- `with_replacement v xs` consists of the front items of the open block `v`, the items `xs`, and
+  -- the tail items of `v`. Its length is the sum of the three lengths.
+  pub between-length : (v : OpenView T A) (xs : List T)
+      → length (with_replacement v xs) ≡ length v.front + length xs + length v.tail
   between-length v xs =
       omega (arith, length-append (v.front ++ xs) v.tail, length-append v.front xs)
 
-  -- If the open block `v` has no tail items, then `with_between v xs` consists of the front items
-  -- of `v`, followed by `xs`.
-  pub after-items : (v : Open T A) (xs : List T) → v.tail ≡ []
-      → (v.front ++ v.tail) ++ xs ≡ with_between v xs
+  -- If the open block `v` has no tail items, then `with_replacement v xs` consists of the front
+  -- items of `v`, followed by `xs`.
+  pub after-items : (v : OpenView T A) (xs : List T) → v.tail ≡ []
+      → (v.front ++ v.tail) ++ xs ≡ with_replacement v xs
   after-items v xs none =
       (λ i. (v.front ++ none i) ++ xs)
       ∙ (ap (λ l. l ++ xs) (append-nil v.front)
@@ -321,14 +324,15 @@ module _ {T A : Type 0} where
 
 -- In this module, `rule` is the growth rule, `R` is the item type in Rattle, `T` is the item type
 -- in contracts, and `A` is the allocator type.
-module _ (rule : Rule) (R : RattleType) {T A : Type 0} where
-  -- `HasTaken rule R v w n left` states that adding items from an iterator turned the list `v` into
-  -- `w`, that the old items were moved at most `n` times in total, and that the iterator could
+module _ (rule : GrowthRule) (R : RattleType) {T A : Type 0} where
+  -- `AddsFromIter rule R v w n left` states that adding items from an iterator turned the list `v`
+  -- into `w`, that the old items were moved at most `n` times in total, and that the iterator could
   -- yield at most `left` items. It holds if neither the capacity nor the allocator changed, and if
   -- adding `k` items took `k + m` moves, where `m ≤ n`.
-  pub taken-spare : (v w : Thin T A) (k m n : ℕ) (left : Count) → w.cost ≡ moving (k + m) v.cost
+  pub taken-spare : (v w : ListView T A) (k m n : ℕ) (left : Count)
+      → w.cost ≡ add_moves (k + m) v.cost
       → w.capacity ≡ v.capacity → length w.items ≡ length v.items + k → m ≤ n → w.alloc ≡ v.alloc
-      → HasTaken rule R v w n left
+      → AddsFromIter rule R v w n left
   taken-spare v w k m n left paid same long few from = record {
     capacity = inl same;
     had_room = λ _. same;
@@ -349,40 +353,44 @@ module _ (rule : Rule) (R : RattleType) {T A : Type 0} where
     };
   }
 
-  -- `HasTaken rule R v w n left` describes how adding items of an iterator changed the list `v` to
-  -- `w`. If `v` and `w` are equal, then `HasTaken` holds for every `n` and every `left`, because no
-  -- item was added.
-  pub taken-none : (v w : Thin T A) (n : ℕ) (left : Count) → w ≡ v → HasTaken rule R v w n left
+  -- `AddsFromIter rule R v w n left` describes how adding items of an iterator changed the list `v`
+  -- to `w`. If `v` and `w` are equal, then `AddsFromIter` holds for every `n` and every `left`,
+  -- because no item was added.
+  pub taken-none : (v w : ListView T A) (n : ℕ) (left : Count) → w ≡ v
+      → AddsFromIter rule R v w n left
   taken-none v w n left e =
       taken-spare v w 0 0 n left (ap (λ z. z.cost) e ∙ sym (moving-none v.cost))
       (ap (λ z. z.capacity) e) (omega (arith, ap (λ z. length z.items) e)) (omega arith)
       (ap (λ z. z.alloc) e)
 
-  module _ (law : KeepsLaw rule) where
-    -- `HasTaken rule R v w n left` describes how adding at most `left` items of an iterator changed
-    -- the list `v` to `w`, with at most `n` moves of old items. If reserving room for `h` more
-    -- items changes `v` to `w`, and `h ≤ size left`, then `HasTaken rule R v w 0 left` holds.
-    pub taken-reserved : (v w : Thin T A) (h : ℕ) (left : Count)
-        → capacity_for rule R v h ≡ Some w.capacity → w.items ≡ v.items → w.alloc ≡ v.alloc
-        → w.cost ≡ cost_at v w.capacity → (IsCheap v → IsCheap w) → h ≤ size left
-        → length v.items ≤ v.capacity → HasTaken rule R v w 0 left
+  module _ (law : IsLawful rule) where
+    -- `AddsFromIter rule R v w n left` describes how adding at most `left` items of an iterator
+    -- changed the list `v` to `w`, with at most `n` moves of old items. If reserving room for `h`
+    -- more items changes `v` to `w`, and `h ≤ size left`, then `AddsFromIter rule R v w 0 left`
+    -- holds.
+    pub taken-reserved : (v w : ListView T A) (h : ℕ) (left : Count)
+        → capacity_after_reserve rule R v h ≡ Some w.capacity → w.items ≡ v.items
+        → w.alloc ≡ v.alloc
+        → w.cost ≡ cost_after_resize v w.capacity → (IsCheap v → IsCheap w) → h ≤ size left
+        → length v.items ≤ v.capacity → AddsFromIter rule R v w 0 left
     taken-reserved v w h left named same from paid cheap allowed room = record {
       capacity = loose-ruled rule R law v h w.capacity named;
       had_room = λ fit. cap-kept rule R law v h w.capacity (omega (arith, fit, allowed)) named;
       cost = filled-reserved v w paid same
-          (cost_at-copied rule R law v h w.capacity room named);
+          (cost_after_resize-copied rule R law v h w.capacity room named);
       alloc = from;
       cheap = cheap;
     }
 
-    -- `HasTaken` describes how a list changed when items from an iterator were added to it, and
-    -- bounds the number of moves of old items. Suppose that `HasTaken` holds with the bound `m` for
-    -- a step from the list `v` to `u`, and with the bound `n` for a step from `u` to `w`. If
-    -- `m + n ≤ k`, then `HasTaken` holds with the bound `k` for both steps together.
-    pub taken-join : (v u w : Thin T A) (m n k : ℕ) (left more : Count) → m + n ≤ k
+    -- `AddsFromIter` describes how a list changed when items from an iterator were added to it, and
+    -- bounds the number of moves of old items. Suppose that `AddsFromIter` holds with the bound `m`
+    -- for a step from the list `v` to `u`, and with the bound `n` for a step from `u` to `w`. If
+    -- `m + n ≤ k`, then `AddsFromIter` holds with the bound `k` for both steps together.
+    pub taken-join : (v u w : ListView T A) (m n k : ℕ) (left more : Count) → m + n ≤ k
         → length v.items ≤ length u.items
         → (HasRoomFor v (size left) → u.capacity ≡ v.capacity → HasRoomFor u (size more))
-        → HasTaken rule R v u m left → HasTaken rule R u w n more → HasTaken rule R v w k left
+        → AddsFromIter rule R v u m left → AddsFromIter rule R u w n more
+        → AddsFromIter rule R v w k left
     taken-join v u w m n k left more few long room p q = record {
       capacity = loose-join rule R law v.capacity u.capacity w.capacity p.capacity q.capacity;
       had_room = λ fit. let same = p.had_room fit in q.had_room (room fit same) ∙ same;

@@ -7,15 +7,15 @@ use Rattle.std.specs.List.{AllByRecursion, AllZip}
 use Rattle.std.specs.Borrow.{RattleType}
 use Rattle.std.specs.Prelude.{All, HoldsAt, replicate, slice_range}
 use lib.ListN.{set}
-use Rattle.thin_block.specs.Growth.{Rule, ruled_capacity}
-use Rattle.thin_block.specs.Slots.{full, laid}
+use Rattle.thin_block.specs.Growth.{GrowthRule, grown_capacity}
+use Rattle.thin_block.specs.Slots.{filled_slots, write_slots}
 use Rattle.thin_block.proofs.SlotsLemmas.{laid-one}
-use Rattle.thin_vec.specs.List.Clones.{AppendsRepeats, CloneEquals, LaysClones}
-use Rattle.thin_vec.specs.ThinVec.{IsNew, Thin, capacity_for}
+use Rattle.thin_vec.specs.List.Clones.{AppendsRepeats, CloneEquals, WritesClones}
+use Rattle.thin_vec.specs.ThinVec.{IsNew, ListView, capacity_after_reserve}
 use Rattle.thin_vec.proofs.ListLemmas.{length-full}
 
 module _ {T : Type 0} {clones : T → T → Type 0} {sources : List T} {n i : ℕ}
-    {s s' : List (Option T)} (lays : LaysClones clones sources n i s s') where
+    {s s' : List (Option T)} (lays : WritesClones clones sources n i s s') where
   -- If the list `sources` has at least `n` items, and its first `n` items were cloned, then
   -- `copies`, the list of the clones, contains exactly `n` items.
   pub length-copies : n ≤ length sources → length lays.copies ≡ n
@@ -26,17 +26,17 @@ module _ {T : Type 0} {clones : T → T → Type 0} {sources : List T} {n i : �
   -- Writing a clone of the next item into slot `i + n` makes them hold `n + 1` clones.
   pub lays-more : (y : T) {x : T} {s'' : List (Option T)} → n < length sources
       → i + length sources ≤ length s → x ≡ get_or sources n x → clones x y
-      → s'' ≡ set s' (i + n) (Some y) → LaysClones clones sources (n + 1) i s s''
+      → s'' ≡ set s' (i + n) (Some y) → WritesClones clones sources (n + 1) i s s''
   lays-more y {x} more room is is_clone put =
       let ys = lays.copies in
-      let long : i + n ≡ i + length (full ys) =
+      let long : i + n ≡ i + length (filled_slots ys) =
       omega (arith, length-copies (omega arith), length-full ys) in
       record {
         copies = ys ++ y ∷ [];
         cloned = all_zip_more clones sources ys n x y more is lays.cloned is_clone;
         slots = put ∙ (ap (λ r. set r (i + n) (Some y)) lays.slots
-            ∙ (laid-one i (full ys) s (i + n) (Some y) long (omega arith)
-            ∙ ap (λ r. laid i r s) (sym (map_push Some ys y))));
+            ∙ (laid-one i (filled_slots ys) s (i + n) (Some y) long (omega arith)
+            ∙ ap (λ r. write_slots i r s) (sym (map_push Some ys y))));
       }
 
 -- If `ys` consists of clones of the first `n` items of `replicate m x`, then every item of `ys` is
@@ -78,13 +78,14 @@ module _ {T : Type 0} (clones : T → T → Type 0) where
       each (y ∷ ys) e = λ i. equal y e.0 i ∷ each ys e.1 i
 
 -- If room for `k` items is reserved in the new list `v`, its capacity becomes
--- `ruled_capacity rule R 0 k`: 0 if `k` is 0, and otherwise the capacity that the growth rule
+-- `grown_capacity rule R 0 k`: 0 if `k` is 0, and otherwise the capacity that the growth rule
 -- chooses.
-pub capacity-new : {T A : Type 0} (rule : Rule) (R : RattleType) (v : Thin T A) (a : A) (k : ℕ)
-    → IsNew v a → capacity_for rule R v (k - length v.items) ≡ ruled_capacity rule R 0 k
+pub capacity-new : {T A : Type 0} (rule : GrowthRule) (R : RattleType) (v : ListView T A) (a : A)
+    (k : ℕ)
+    → IsNew v a → capacity_after_reserve rule R v (k - length v.items) ≡ grown_capacity rule R 0 k
 capacity-new rule R v a k new =
-    ap (λ c. ruled_capacity rule R c (length v.items + (k - length v.items))) new.capacity
-    ∙ ap (λ n. ruled_capacity rule R 0 n)
+    ap (λ c. grown_capacity rule R c (length v.items + (k - length v.items))) new.capacity
+    ∙ ap (λ n. grown_capacity rule R 0 n)
     (let e : length v.items + (k - length v.items) ≡ k = omega (arith, ap length new.items) in
     e)
 

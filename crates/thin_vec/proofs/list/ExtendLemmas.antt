@@ -13,19 +13,19 @@ use Rattle.std.specs.Prelude.{OnErr, OnOk, IfErr, IsSome, MatchOption}
 use Rattle.std.proofs.lemmas.Bool.{false≢true}
 use Rattle.std.specs.Option.{option_to_list}
 use lib.ListN.{set}
-use Rattle.thin_block.specs.Block.{Seen}
-use Rattle.thin_block.specs.Cost.{moving}
-use Rattle.thin_block.specs.Growth.{Rule, KeepsLaw, exact_capacity}
-use Rattle.thin_block.specs.Slots.{full, laid}
+use Rattle.thin_block.specs.Block.{BlockView}
+use Rattle.thin_block.specs.Cost.{add_moves}
+use Rattle.thin_block.specs.Growth.{GrowthRule, IsLawful, exact_capacity}
+use Rattle.thin_block.specs.Slots.{filled_slots, write_slots}
 use Rattle.thin_block.proofs.CapacityLemmas.{ruled-grows}
 use Rattle.thin_block.proofs.SlotsLemmas.{laid-one}
 use Rattle.std.specs.Prelude.{◌⊎◌}
-use Rattle.thin_vec.specs.List.Extend.{IsCollected, CostsAdding, IsKeptOrRuled, IsLoose, PausedAfter}
-use Rattle.thin_vec.specs.ThinVec.{IsNew, Thin, capacity_for, cost_at, exact_for}
+use Rattle.thin_vec.specs.List.Extend.{IsCapacityAfterCollect, CostsInserting, IsKeptOrChosen, IsKeptOrGrown, YieldsAndCanContinue}
+use Rattle.thin_vec.specs.ThinVec.{IsNew, ListView, capacity_after_reserve, cost_after_resize, capacity_after_reserve_exact}
 use Rattle.thin_vec.specs.declared.errors.ExtendRefused.{ExtendRefused}
 use Rattle.thin_vec.proofs.RetainLemmas.{moving-more, moving-none}
 use Rattle.thin_vec.proofs.ListLemmas.{length-full}
-use Rattle.thin_vec.proofs.ThinVecLemmas.{cap-kept, cost_at-more, cost_at-moves, cost_at-same}
+use Rattle.thin_vec.proofs.ThinVecLemmas.{cap-kept, cost_after_resize-more, cost_after_resize-moves, cost_after_resize-same}
 
 module _ {S X : Type 0} (steps : S → Option X → S → Type 0) where
   -- If calls to `next` yielded the items `xs`, and one more call yielded `x`, then the whole
@@ -85,7 +85,7 @@ module _ {S X : Type 0} (steps : S → Option X → S → Type 0) (s : S) where
   pub run_given_err : {E : Type 0} (can : S → Type 0) (remaining : S → Count)
       (hand : E → Option X) (rest : E → S) (P : List X → Type 0) (r : Result (Unit {0}) E)
       → IfErr r (λ e. (xs : List X) × P xs
-      × PausedAfter steps can remaining s (xs ++ option_to_list (hand e)) (rest e))
+      × YieldsAndCanContinue steps can remaining s (xs ++ option_to_list (hand e)) (rest e))
       → IfErr r (λ e. SomeRun steps s
       (λ p. (xs : List X) × P xs × (p.items ≡ xs ++ option_to_list (hand e))))
   run_given_err can remaining hand rest P (Ok _) all = tt
@@ -120,94 +120,99 @@ module _ {T : Type 0} where
     -- Suppose that the items `xs` are written into adjacent slots, starting at index `i`, and that
     -- the item `x` is then written into slot `k`, directly after them. Then the slots `i` to `k`
     -- hold `xs ++ x ∷ []`, and all other slots are unchanged.
-    pub laid-more : (i k : ℕ) (xs : List T) (x : T) → s ≡ laid i (full xs) r → k ≡ i + length xs
-        → k < length r → s' ≡ set s k (Some x) → s' ≡ laid i (full (xs ++ x ∷ [])) r
+    pub laid-more : (i k : ℕ) (xs : List T) (x : T) → s ≡ write_slots i (filled_slots xs) r
+        → k ≡ i + length xs
+        → k < length r → s' ≡ set s k (Some x) → s' ≡ write_slots i (filled_slots (xs ++ x ∷ [])) r
     laid-more i k xs x e at within e' =
-        let long : k ≡ i + length (full xs) = omega (arith, at, length-full xs) in
+        let long : k ≡ i + length (filled_slots xs) = omega (arith, at, length-full xs) in
         e' ∙ (ap (λ (l : List (Option T)). set l k (Some x)) e
-        ∙ (laid-one i (full xs) r k (Some x) long within
-        ∙ ap (λ (l : List (Option T)). laid i l r)
+        ∙ (laid-one i (filled_slots xs) r k (Some x) long within
+        ∙ ap (λ (l : List (Option T)). write_slots i l r)
         (sym (map-append (λ (y : T). Some y) xs (x ∷ [])))))
 
 module _ {T A : Type 0} where
   -- If `n` is 0, adding `n` moves to the cost of a block changes nothing.
-  pub put-none : (v : Seen T A) (n : ℕ) → n ≡ 0 → v ≡ record v { cost = moving n v.cost }
+  pub put-none : (v : BlockView T A) (n : ℕ) → n ≡ 0 → v ≡ record v { cost = add_moves n v.cost }
   put-none v n none = λ i. record v
-      { cost = (sym (moving-none v.cost) ∙ ap (λ (k : ℕ). moving k v.cost) (sym none)) i }
+      { cost = (sym (moving-none v.cost) ∙ ap (λ (k : ℕ). add_moves k v.cost) (sym none)) i }
 
   -- Suppose that the block `v` is the block `u` with other slots and `n` more moves. If one more
   -- item is put into a slot of `v`, the resulting block `w` is `u` with other slots and `n + 1`
   -- more moves.
-  pub put-more : (u : Seen T A) {v w : Seen T A} {s : List (Option T)} (n k : ℕ) → k ≡ n + 1
-      → w ≡ record v { slots = s; cost = moving 1 v.cost }
-      → v ≡ record u { slots = v.slots; cost = moving n u.cost }
-      → w ≡ record u { slots = w.slots; cost = moving k u.cost }
+  pub put-more : (u : BlockView T A) {v w : BlockView T A} {s : List (Option T)} (n k : ℕ)
+      → k ≡ n + 1
+      → w ≡ record v { slots = s; cost = add_moves 1 v.cost }
+      → v ≡ record u { slots = v.slots; cost = add_moves n u.cost }
+      → w ≡ record u { slots = w.slots; cost = add_moves k u.cost }
   put-more u {w = w} n k one put was = λ i. record {
     slots = w.slots;
-    len = (ap (λ (z : Seen T A). z.len) put ∙ ap (λ (z : Seen T A). z.len) was) i;
-    alloc = (ap (λ (z : Seen T A). z.alloc) put ∙ ap (λ (z : Seen T A). z.alloc) was) i;
-    cost = (ap (λ (z : Seen T A). z.cost) put
-        ∙ (ap (λ (z : Seen T A). moving 1 z.cost) was
-        ∙ (moving-more 1 n u.cost ∙ ap (λ (m : ℕ). moving m u.cost) (sym one)))) i;
+    len = (ap (λ (z : BlockView T A). z.len) put ∙ ap (λ (z : BlockView T A). z.len) was) i;
+    alloc = (ap (λ (z : BlockView T A). z.alloc) put ∙ ap (λ (z : BlockView T A). z.alloc) was) i;
+    cost = (ap (λ (z : BlockView T A). z.cost) put
+        ∙ (ap (λ (z : BlockView T A). add_moves 1 z.cost) was
+        ∙ (moving-more 1 n u.cost ∙ ap (λ (m : ℕ). add_moves m u.cost) (sym one)))) i;
   }
 
 -- If appending the items `xs` to the list `v` results in `w`, with one move per item, then `w`
 -- differs from `v` only in its items and its cost.
-pub spare-kept : {T A : Type 0} (v w : Thin T A) (xs : List T)
-    → w ≡ record v { items = v.items ++ xs; cost = moving (length xs) v.cost }
+pub spare-kept : {T A : Type 0} (v w : ListView T A) (xs : List T)
+    → w ≡ record v { items = v.items ++ xs; cost = add_moves (length xs) v.cost }
     → w ≡ record v
-    { items = w.items; cost = moving (length w.items - length v.items) v.cost }
+    { items = w.items; cost = add_moves (length w.items - length v.items) v.cost }
 spare-kept v w xs is =
     let items = ap (λ z. z.items) is in
     let many : length xs ≡ length w.items - length v.items =
     omega (arith, ap length items, length-append v.items xs) in
-    is ∙ (λ i. record v { items = sym items i; cost = moving (many i) v.cost })
+    is ∙ (λ i. record v { items = sym items i; cost = add_moves (many i) v.cost })
 
 -- The following lemmas are about how the capacity of a list grows over several calls.
 
-module _ (rule : Rule) (R : RattleType) (law : KeepsLaw rule) where
-  -- `IsLoose rule R c d` states that a list may grow from the capacity `c` to the capacity `d`. It
-  -- implies `c ≤ d`.
-  pub loose-le : (c d : ℕ) → IsLoose rule R c d → c ≤ d
+module _ (rule : GrowthRule) (R : RattleType) (law : IsLawful rule) where
+  -- `IsKeptOrGrown rule R c d` states that a list may grow from the capacity `c` to the capacity
+  -- `d`. It implies `c ≤ d`.
+  pub loose-le : (c d : ℕ) → IsKeptOrGrown rule R c d → c ≤ d
   loose-le c d (inl e) = omega arith
   loose-le c d (inr p) = let g = ruled-grows rule R c p.0 p.1 law p.2 p.3 in
       omega (arith, g.doubled, p.4)
 
-  -- `IsLoose rule R c d` states that a list may grow from the capacity `c` to the capacity `d`.
-  -- This relation is transitive.
-  pub loose-join : (c d e : ℕ) → IsLoose rule R c d → IsLoose rule R d e → IsLoose rule R c e
-  loose-join c d e (inl p) q = subst (λ n. IsLoose rule R n e) p q
+  -- `IsKeptOrGrown rule R c d` states that a list may grow from the capacity `c` to the capacity
+  -- `d`. This relation is transitive.
+  pub loose-join : (c d e : ℕ) → IsKeptOrGrown rule R c d → IsKeptOrGrown rule R d e
+      → IsKeptOrGrown rule R c e
+  loose-join c d e (inl p) q = subst (λ n. IsKeptOrGrown rule R n e) p q
   loose-join c d e (inr p) q = inr (p.0, p.1, p.2, p.3, omega (arith, p.4, loose-le d e q))
 
-  -- `IsKeptOrRuled rule R c d n` states that `d` is the old capacity `c`, or a capacity that the
+  -- `IsKeptOrChosen rule R c d n` states that `d` is the old capacity `c`, or a capacity that the
   -- growth rule may choose for at most `n` items. If it holds for `n`, it holds for every `m ≥ n`.
-  pub ruled-more : (c n m : ℕ) {d d' : ℕ} → d' ≡ d → n ≤ m → IsKeptOrRuled rule R c d n
-      → IsKeptOrRuled rule R c d' m
+  pub ruled-more : (c n m : ℕ) {d d' : ℕ} → d' ≡ d → n ≤ m → IsKeptOrChosen rule R c d n
+      → IsKeptOrChosen rule R c d' m
   ruled-more c n m same more (inl e) = inl (same ∙ e)
   ruled-more c n m same more (inr p) =
       inr (p.0, p.1, p.2, omega (arith, p.3, more), p.4 ∙ ap Some (sym same))
 
-  -- Suppose that `IsKeptOrRuled rule R d e n` holds: the new capacity `e` is the old capacity `d`,
+  -- Suppose that `IsKeptOrChosen rule R d e n` holds: the new capacity `e` is the old capacity `d`,
   -- or a capacity that the growth rule may choose for at most `n` items. Suppose also that `P`
-  -- holds if `e` is equal to `d`. Then `P` holds, or `IsKeptOrRuled rule R c e n` holds for every
+  -- holds if `e` is equal to `d`. Then `P` holds, or `IsKeptOrChosen rule R c e n` holds for every
   -- `c`.
-  pub ruled-after : (c d e n : ℕ) (P : Type 0) → IsKeptOrRuled rule R d e n → (e ≡ d → P)
-      → IsKeptOrRuled rule R c e n ⊎ P
+  pub ruled-after : (c d e n : ℕ) (P : Type 0) → IsKeptOrChosen rule R d e n → (e ≡ d → P)
+      → IsKeptOrChosen rule R c e n ⊎ P
   ruled-after c d e n P (inl same) f = inr (f same)
   ruled-after c d e n P (inr p) f = inl (inr p)
 
-  -- `IsCollected rule R d n left` states that a list of `n` collected items may have the capacity
-  -- `d`. It holds if the list was made for `h` items, a possible lower bound of the size hint, and
-  -- then changed its capacity as `IsKeptOrRuled` allows.
+  -- `IsCapacityAfterCollect rule R d n left` states that a list of `n` collected items may have the
+  -- capacity `d`. It holds if the list was made for `h` items, a possible lower bound of the size
+  -- hint, and then changed its capacity as `IsKeptOrChosen` allows.
   pub collected-after : {c d : ℕ} (n h : ℕ) (left : Count) → IsWithinCount h left
-      → exact_capacity R 0 h ≡ Some c → IsKeptOrRuled rule R c d n → IsCollected rule R d n left
+      → exact_capacity R 0 h ≡ Some c → IsKeptOrChosen rule R c d n
+      → IsCapacityAfterCollect rule R d n left
   collected-after n h left hint e (inl same) = inr (h, hint, e ∙ ap Some (sym same))
   collected-after n h left hint e (inr p) = inl p
 
   -- If the list `v` has the capacity `d` after a call that reserves room for `k` more items, then
-  -- the growth rule allows the change from the old capacity to `d`, as `IsLoose` states.
-  pub loose-ruled : {T A : Type 0} (v : Thin T A) (k d : ℕ) → capacity_for rule R v k ≡ Some d
-      → IsLoose rule R v.capacity d
+  -- the growth rule allows the change from the old capacity to `d`, as `IsKeptOrGrown` states.
+  pub loose-ruled : {T A : Type 0} (v : ListView T A) (k d : ℕ)
+      → capacity_after_reserve rule R v k ≡ Some d
+      → IsKeptOrGrown rule R v.capacity d
   loose-ruled v k d e =
       elim (cases_lt v.capacity (length v.items + k)) [
         | inl more ↦ inr (length v.items + k, d, more, e, omega arith)
@@ -216,8 +221,8 @@ module _ (rule : Rule) (R : RattleType) (law : KeepsLaw rule) where
 
 -- A new list has no items and the capacity 0. So reserving room for exactly `h` more items needs the
 -- same capacity as making a new list with room for `h` items.
-pub exact-new : {T A : Type 0} (R : RattleType) (v : Thin T A) (a : A) (h : ℕ) → IsNew v a
-    → exact_for R v h ≡ exact_capacity R 0 h
+pub exact-new : {T A : Type 0} (R : RattleType) (v : ListView T A) (a : A) (h : ℕ) → IsNew v a
+    → capacity_after_reserve_exact R v h ≡ exact_capacity R 0 h
 exact-new R v a h new =
     let all : length v.items + h ≡ h = omega (arith, ap length new.items) in
     ap (λ (n : ℕ). exact_capacity R n (length v.items + h)) new.capacity
@@ -225,58 +230,63 @@ exact-new R v a h new =
 
 module _ {T A : Type 0} where
   -- Suppose that appending `k` items to the list `v` takes `k` moves and at most one reallocation,
-  -- which copies at most as many items as it adds slots. Then `CostsAdding v w 0` holds: no old
+  -- which copies at most as many items as it adds slots. Then `CostsInserting v w 0` holds: no old
   -- item was moved apart from the reallocation.
-  pub filled-at : (v w : Thin T A) (k : ℕ) → w.cost ≡ moving k (cost_at v w.capacity)
+  pub filled-at : (v w : ListView T A) (k : ℕ)
+      → w.cost ≡ add_moves k (cost_after_resize v w.capacity)
       → length w.items ≡ length v.items + k
-      → (cost_at v w.capacity).grown + v.capacity ≤ v.cost.grown + w.capacity → CostsAdding v w 0
+      → (cost_after_resize v w.capacity).grown + v.capacity ≤ v.cost.grown + w.capacity
+      → CostsInserting v w 0
   filled-at v w k e n few = record {
     copied = omega (arith, ap (λ c. c.grown) e, few);
-    least = omega (arith, ap (λ c. c.moves) e, cost_at-moves v w.capacity, n);
-    moves = omega (arith, ap (λ c. c.moves) e, cost_at-moves v w.capacity, n);
+    least = omega (arith, ap (λ c. c.moves) e, cost_after_resize-moves v w.capacity, n);
+    moves = omega (arith, ap (λ c. c.moves) e, cost_after_resize-moves v w.capacity, n);
     kept = λ same. (
-      ap (λ c. c.blocks) (e ∙ ap (λ c. moving k c) (cost_at-same v w.capacity same)),
-      ap (λ c. c.grown) (e ∙ ap (λ c. moving k c) (cost_at-same v w.capacity same)),
+      ap (λ c. c.blocks) (e ∙ ap (λ c. add_moves k c) (cost_after_resize-same v w.capacity same)),
+      ap (λ c. c.grown) (e ∙ ap (λ c. add_moves k c) (cost_after_resize-same v w.capacity same)),
     );
-    grown = λ more. let f = e ∙ ap (λ c. moving k c) (cost_at-more v w.capacity more) in
+    grown = λ more. let f =
+        e ∙ ap (λ c. add_moves k c) (cost_after_resize-more v w.capacity more) in
         (omega (arith, ap (λ c. c.blocks) f), omega (arith, ap (λ c. c.grown) f));
   }
 
   -- Suppose that reserving room in the list `v` keeps the items and takes at most one reallocation,
-  -- which copies at most as many items as it adds slots. Then `CostsAdding v w 0` holds: no old
+  -- which copies at most as many items as it adds slots. Then `CostsInserting v w 0` holds: no old
   -- item was moved apart from the reallocation.
-  pub filled-reserved : (v w : Thin T A) → w.cost ≡ cost_at v w.capacity
+  pub filled-reserved : (v w : ListView T A) → w.cost ≡ cost_after_resize v w.capacity
       → w.items ≡ v.items
-      → (cost_at v w.capacity).grown + v.capacity ≤ v.cost.grown + w.capacity → CostsAdding v w 0
+      → (cost_after_resize v w.capacity).grown + v.capacity ≤ v.cost.grown + w.capacity
+      → CostsInserting v w 0
   filled-reserved v w e n few =
       filled-at v w 0 (e
       ∙ (λ i. record {
-        blocks = (cost_at v w.capacity).blocks;
-        grown = (cost_at v w.capacity).grown;
+        blocks = (cost_after_resize v w.capacity).blocks;
+        grown = (cost_after_resize v w.capacity).grown;
         moves =
-            (let z : (cost_at v w.capacity).moves
-            ≡ (cost_at v w.capacity).moves + 0 = omega arith in
+            (let z : (cost_after_resize v w.capacity).moves
+            ≡ (cost_after_resize v w.capacity).moves + 0 = omega arith in
             z) i;
       })) (omega (arith, ap length n)) few
 
   -- If appending `k` items to the list `v` takes `k` moves and keeps the capacity, then
-  -- `CostsAdding v w 0` holds: no old item was moved.
-  pub filled-spare : (v w : Thin T A) (k : ℕ)
-      → w ≡ record v { items = w.items; cost = moving k v.cost }
-      → length w.items ≡ length v.items + k → CostsAdding v w 0
+  -- `CostsInserting v w 0` holds: no old item was moved.
+  pub filled-spare : (v w : ListView T A) (k : ℕ)
+      → w ≡ record v { items = w.items; cost = add_moves k v.cost }
+      → length w.items ≡ length v.items + k → CostsInserting v w 0
   filled-spare v w k e n =
       let same : w.capacity ≡ v.capacity = ap (λ u. u.capacity) e in
-      let kept : cost_at v w.capacity ≡ v.cost = cost_at-same v w.capacity same in
-      filled-at v w k (ap (λ u. u.cost) e ∙ ap (λ c. moving k c) (sym kept)) n
+      let kept : cost_after_resize v w.capacity ≡ v.cost =
+      cost_after_resize-same v w.capacity same in
+      filled-at v w k (ap (λ u. u.cost) e ∙ ap (λ c. add_moves k c) (sym kept)) n
       (omega (arith, ap (λ c. c.grown) kept, same))
 
-  -- `CostsAdding v w k` states that adding items to the list `v`, which became `w`, moved old items
-  -- at most `k` times in total. Suppose that `CostsAdding v u m` and `CostsAdding u w n` hold, that
-  -- neither step made the capacity smaller, and that `u` is not shorter than `v`. If `m + n ≤ k`,
-  -- then `CostsAdding v w k` holds.
-  pub adding-join : {v u w : Thin T A} (m n k : ℕ) → m + n ≤ k → CostsAdding v u m
-      → CostsAdding u w n → v.capacity ≤ u.capacity → u.capacity ≤ w.capacity
-      → length v.items ≤ length u.items → CostsAdding v w k
+  -- `CostsInserting v w k` states that adding items to the list `v`, which became `w`, moved old
+  -- items at most `k` times in total. Suppose that `CostsInserting v u m` and
+  -- `CostsInserting u w n` hold, that neither step made the capacity smaller, and that `u` is not
+  -- shorter than `v`. If `m + n ≤ k`, then `CostsInserting v w k` holds.
+  pub adding-join : {v u w : ListView T A} (m n k : ℕ) → m + n ≤ k → CostsInserting v u m
+      → CostsInserting u w n → v.capacity ≤ u.capacity → u.capacity ≤ w.capacity
+      → length v.items ≤ length u.items → CostsInserting v w k
   adding-join {v} {u} {w} m n k few p q low high long = record {
     copied = omega (arith, p.copied, q.copied);
     least = omega (arith, p.least, q.least);
@@ -296,9 +306,9 @@ module _ {T A : Type 0} where
     ];
   }
 
-  -- `CostsAdding v w n` states that adding items to the list `v` moved old items at most `n` times
-  -- in total. If it holds for 0, it holds for every `n`.
-  pub adding-more : (v w : Thin T A) (n : ℕ) → CostsAdding v w 0 → CostsAdding v w n
+  -- `CostsInserting v w n` states that adding items to the list `v` moved old items at most `n`
+  -- times in total. If it holds for 0, it holds for every `n`.
+  pub adding-more : (v w : ListView T A) (n : ℕ) → CostsInserting v w 0 → CostsInserting v w n
   adding-more v w n p = record {
     copied = p.copied;
     least = p.least;

@@ -8,10 +8,10 @@ use Rattle.std.specs.Prelude.{IsSome, insert, remove}
 use Rattle.std.specs.List.{swap_remove}
 use lib.ListN.{set, length-set, replicate}
 use Rattle.thin_block.specs.Cost.{Cost}
-use Rattle.thin_block.specs.Slots.{full, empty, slot, items_in, front, moved}
+use Rattle.thin_block.specs.Slots.{filled_slots, empty_slots, slot, items_in, packed_slots, move_slots}
 use Rattle.thin_block.specs.declared.block.Block.{Block}
-use Rattle.thin_vec.specs.ThinVec.{IsThin}
-use Rattle.thin_vec.proofs.ListLemmas.{IsWritten, Settled, settle-front, front-pop, last-item, length-full, settle-pop, thin-filled, thin-room, full-take}
+use Rattle.thin_vec.specs.ThinVec.{IsListBlock}
+use Rattle.thin_vec.proofs.ListLemmas.{IsWritten, RestoresInvariant, restores-front, front-pop, last-item, length-full, restores-pop, thin-filled, thin-room, full-take}
 use Rattle.thin_block.proofs.BlockLemmas.{slots-are}
 use Rattle.thin_block.proofs.SlotsLemmas.{same_or_not, the_item, moved_left, moved_right}
 use lib.Seq.{set-set, take-set-le}
@@ -20,24 +20,25 @@ use mathlib.Core.Logic.{⊎_elim}
 -- The following lemmas are about moving adjacent items by one slot.
 
 module _ {T : Type 0} where
-  -- The row of slots `front xs c` begins with the items `xs`. Removing the item in slot `i` and
-  -- moving all later items down by one slot turns the row into `front (remove xs i) c`.
+  -- The row of slots `packed_slots xs c` begins with the items `xs`. Removing the item in slot `i`
+  -- and moving all later items down by one slot turns the row into `packed_slots (remove xs i) c`.
   pub front-remove : (xs : List T) (c i : ℕ) {j k : ℕ} → i < length xs → length xs ≤ c → j ≡ i + 1
-      → k ≡ length xs - j → moved j i k (set (front xs c) i None) ≡ front (remove xs i) c
+      → k ≡ length xs - j
+      → move_slots j i k (set (packed_slots xs c) i None) ≡ packed_slots (remove xs i) c
   front-remove [] c i h l e n = absurd (omega arith)
   front-remove (x ∷ ws) c i {j} {k} h l e n =
       let xs : List T = x ∷ ws in
       let a : List T = take i xs in let b : List T = drop (suc i) xs in
       let r : List (Option T) = replicate (c - length xs) None in
-      let p : i ≡ length (full a) = omega (arith, length-full a, length-take i xs) in
-      let q : k ≡ length (full b) = omega (arith, length-full b, length-drop (suc i) xs) in
+      let p : i ≡ length (filled_slots a) = omega (arith, length-full a, length-take i xs) in
+      let q : k ≡ length (filled_slots b) = omega (arith, length-full b, length-drop (suc i) xs) in
       let m : 1 + (c - length xs) ≡ c - length (remove xs i) =
       omega (arith, length-remove xs i h) in
-      ap (λ (s : List (Option T)). moved j i k s) (full-take xs r i x h)
-      ∙ (moved_left j i k 1 (full a) (full b) r p e q
-      ∙ (sym (append_assoc (full a) (full b) (None ∷ r))
+      ap (λ (s : List (Option T)). move_slots j i k s) (full-take xs r i x h)
+      ∙ (moved_left j i k 1 (filled_slots a) (filled_slots b) r p e q
+      ∙ (sym (append_assoc (filled_slots a) (filled_slots b) (None ∷ r))
       ∙ (ap (λ (s : List (Option T)). s ++ (None ∷ r)) (sym (map-append (λ (y : T). Some y) a b))
-      ∙ ap (λ (s : List (Option T)). full (remove xs i) ++ s)
+      ∙ ap (λ (s : List (Option T)). filled_slots (remove xs i) ++ s)
       (replicate-append-replicate 1 (c - length xs) None
       ∙ ap (λ (z : ℕ). replicate z None) m))))
 
@@ -50,66 +51,66 @@ module _ {T : Type 0} where
     -- `after` is the row of slots that follow slot `i`: first the slots of the moved items, and
     -- then empty slots.
     after : List (Option T)
-    after = full (drop i xs) ++ replicate (c - length xs - 1) None
+    after = filled_slots (drop i xs) ++ replicate (c - length xs - 1) None
 
     -- Because `i` is at most the length of `xs`, the first `i` items of `xs` fill exactly `i`
     -- slots.
-    before : i ≡ length (full (take i xs))
+    before : i ≡ length (filled_slots (take i xs))
     before = omega (arith, length-full (take i xs), length-take i xs)
 
     -- After the items from index `i` onward have been moved up by one slot, slot `i` is empty. The
     -- first `i` items are in the slots before it, and the moved items are in the slots directly
     -- after it.
-    apart : moved i j k (front xs c) ≡ full (take i xs) ++ (None ∷ after)
+    apart : move_slots i j k (packed_slots xs c) ≡ filled_slots (take i xs) ++ (None ∷ after)
     unfolding after
     apart =
         let a : List T = take i xs in let b : List T = drop i xs in
         let o : ℕ = c - length xs - 1 in let r : List (Option T) = replicate o None in
-        let q : k ≡ length (full b) = omega (arith, length-full b, length-drop i xs) in
+        let q : k ≡ length (filled_slots b) = omega (arith, length-full b, length-drop i xs) in
         let w : c - length xs ≡ suc o = omega arith in
-        let s : front xs c ≡ full a ++ (full b ++ (None ∷ r)) =
-        ap (λ (ys : List T). full ys ++ replicate (c - length xs) None)
+        let s : packed_slots xs c ≡ filled_slots a ++ (filled_slots b ++ (None ∷ r)) =
+        ap (λ (ys : List T). filled_slots ys ++ replicate (c - length xs) None)
         (sym (take-append-drop i xs))
         ∙ (ap (λ (ys : List (Option T)). ys ++ replicate (c - length xs) None)
         (map-append (λ (y : T). Some y) a b)
-        ∙ (append_assoc (full a) (full b) (replicate (c - length xs) None)
-        ∙ ap (λ (z : ℕ). full a ++ (full b ++ replicate z None)) w)) in
-        ap (λ (ys : List (Option T)). moved i j k ys) s
-        ∙ moved_right i j k 1 (full a) (full b) r before e q
+        ∙ (append_assoc (filled_slots a) (filled_slots b) (replicate (c - length xs) None)
+        ∙ ap (λ (z : ℕ). filled_slots a ++ (filled_slots b ++ replicate z None)) w)) in
+        ap (λ (ys : List (Option T)). move_slots i j k ys) s
+        ∙ moved_right i j k 1 (filled_slots a) (filled_slots b) r before e q
 
     -- If the items of `xs` from index `i` onward are moved up by one slot, and `v` is then written
     -- into slot `i`, the first slots hold `insert xs i v`, and all other slots are empty.
     pub front-insert : (v : T)
-        → set (moved i j k (front xs c)) i (Some v) ≡ front (insert xs i v) c
+        → set (move_slots i j k (packed_slots xs c)) i (Some v) ≡ packed_slots (insert xs i v) c
     unfolding after
     front-insert v =
         let a : List T = take i xs in let b : List T = drop i xs in
         let o : ℕ = c - length xs - 1 in let r : List (Option T) = replicate o None in
         let m : o ≡ c - length (insert xs i v) = omega (arith, length-insert xs i v h) in
         ap (λ (ys : List (Option T)). set ys i (Some v)) apart
-        ∙ (set_at (full a) None (full b ++ r) (Some v) i (sym before)
-        ∙ (sym (append_assoc (full a) (full (v ∷ b)) r)
+        ∙ (set_at (filled_slots a) None (filled_slots b ++ r) (Some v) i (sym before)
+        ∙ (sym (append_assoc (filled_slots a) (filled_slots (v ∷ b)) r)
         ∙ (ap (λ (ys : List (Option T)). ys ++ r) (sym (map-append (λ (y : T). Some y) a (v ∷ b)))
-        ∙ ap (λ (z : ℕ). full (insert xs i v) ++ replicate z None) m)))
+        ∙ ap (λ (z : ℕ). filled_slots (insert xs i v) ++ replicate z None) m)))
 
     -- If the items from index `i` onward are moved up by one slot, then slot `i` is empty.
-    front-gap : slot (moved i j k (front xs c)) i ≡ None
+    front-gap : slot (move_slots i j k (packed_slots xs c)) i ≡ None
     front-gap =
         ap (λ (ys : List (Option T)). slot ys i) apart
-        ∙ get_or_at (full (take i xs)) None after None i (sym before)
+        ∙ get_or_at (filled_slots (take i xs)) None after None i (sym before)
 
-module _ {T A : Type 0} {b : Block T A} {a : A} (t : IsThin b a) where
+module _ {T A : Type 0} {b : Block T A} {a : A} (t : IsListBlock b a) where
   -- Suppose that `b` is the block of a list. If the item in slot `i` is removed, all later items
   -- are moved down by one slot, and the stored length is decremented, then the new block `b'` is
   -- the block of the list without the item at index `i`.
-  pub settle-remove : (b' : Block T A) (i : ℕ) {j k : ℕ} → i < length (items_in b.slots)
+  pub restores-remove : (b' : Block T A) (i : ℕ) {j k : ℕ} → i < length (items_in b.slots)
       → j ≡ i + 1 → k ≡ b.len - j → {l : ℕ} {m : Cost} → l ≡ b.len
-      → IsWritten b b' (moved j i k (set b.slots i None)) (l - 1) m
-      → Settled b' a (remove (items_in b.slots) i) (length b.slots)
-  settle-remove b' i {j} {k} h e n len w =
+      → IsWritten b b' (move_slots j i k (set b.slots i None)) (l - 1) m
+      → RestoresInvariant b' a (remove (items_in b.slots) i) (length b.slots)
+  restores-remove b' i {j} {k} h e n len w =
       let xs : List T = items_in b.slots in let c : ℕ = length b.slots in
-      settle-front t b' (remove xs i) c w
-      (ap (λ (r : List (Option T)). moved j i k (set r i None)) t.packed.row
+      restores-front t b' (remove xs i) c w
+      (ap (λ (r : List (Option T)). move_slots j i k (set r i None)) t.packed.row
       ∙ front-remove xs c i h (thin-room b a t) e (omega (arith, n, t.packed.len)))
       (omega (arith, len, t.packed.len, length-remove xs i h))
       (omega (arith, thin-room b a t, length-remove xs i h))
@@ -117,14 +118,14 @@ module _ {T A : Type 0} {b : Block T A} {a : A} (t : IsThin b a) where
   -- Suppose that `b` is the block of a list. If the items from index `i` onward are moved up by one
   -- slot, `v` is written into slot `i`, and the stored length is incremented, then the new block
   -- `b'` is the block of the list with `v` inserted at index `i`.
-  pub settle-insert : (b' : Block T A) (i : ℕ) (v : T) {j k : ℕ} → i ≤ length (items_in b.slots)
+  pub restores-insert : (b' : Block T A) (i : ℕ) (v : T) {j k : ℕ} → i ≤ length (items_in b.slots)
       → b.len < length b.slots → j ≡ i + 1 → k ≡ b.len - i → {l : ℕ} {m : Cost} → l ≡ b.len
-      → IsWritten b b' (set (moved i j k b.slots) i (Some v)) (l + 1) m
-      → Settled b' a (insert (items_in b.slots) i v) (length b.slots)
-  settle-insert b' i v {j} {k} h o e n len w =
+      → IsWritten b b' (set (move_slots i j k b.slots) i (Some v)) (l + 1) m
+      → RestoresInvariant b' a (insert (items_in b.slots) i v) (length b.slots)
+  restores-insert b' i v {j} {k} h o e n len w =
       let xs : List T = items_in b.slots in let c : ℕ = length b.slots in
-      settle-front t b' (insert xs i v) c w
-      (ap (λ (r : List (Option T)). set (moved i j k r) i (Some v)) t.packed.row
+      restores-front t b' (insert xs i v) c w
+      (ap (λ (r : List (Option T)). set (move_slots i j k r) i (Some v)) t.packed.row
       ∙ front-insert xs c i h (omega (arith, o, t.packed.len)) e (omega (arith, n, t.packed.len)) v)
       (omega (arith, len, t.packed.len, length-insert xs i v h))
       (omega (arith, o, t.packed.len, length-insert xs i v h))
@@ -132,9 +133,9 @@ module _ {T A : Type 0} {b : Block T A} {a : A} (t : IsThin b a) where
   -- If the block `b` has an empty slot after its last item, then moving each item whose index is at
   -- least `i` up by one slot makes slot `i` empty.
   pub thin-gap : (i : ℕ) {j k : ℕ} → i ≤ length (items_in b.slots) → b.len < length b.slots
-      → j ≡ i + 1 → k ≡ b.len - i → slot (moved i j k b.slots) i ≡ None
+      → j ≡ i + 1 → k ≡ b.len - i → slot (move_slots i j k b.slots) i ≡ None
   thin-gap i {j} {k} h o e n =
-      ap (λ (r : List (Option T)). slot (moved i j k r) i) t.packed.row
+      ap (λ (r : List (Option T)). slot (move_slots i j k r) i) t.packed.row
       ∙ front-gap (items_in b.slots) (length b.slots) i h (omega (arith, o, t.packed.len)) e
       (omega (arith, n, t.packed.len))
 
@@ -145,7 +146,8 @@ module _ {T : Type 0} where
   -- `k..i` are empty. All slots after the items are empty, too.
   abbrev pub emptying : List T → ℕ → ℕ → ℕ → List (Option T)
   emptying xs k i c =
-      full (take k xs) ++ (empty (i - k) ++ (full (drop i xs) ++ empty (c - length xs)))
+      filled_slots (take k xs)
+      ++ (empty_slots (i - k) ++ (filled_slots (drop i xs) ++ empty_slots (c - length xs)))
 
   -- If `i` is less than the length of `xs`, then `drop i xs` is `x ∷ drop (i + 1) xs` for some item
   -- `x`.
@@ -160,32 +162,33 @@ module _ {T : Type 0} where
             e),
       )
 
-  -- `full (xs ++ ys)` is `full xs ++ full ys`, where `full xs` is a row of slots that hold the
-  -- items `xs`.
-  pub full-append : (xs ys : List T) → full (xs ++ ys) ≡ full xs ++ full ys
+  -- `filled_slots (xs ++ ys)` is `filled_slots xs ++ filled_slots ys`, where `filled_slots xs` is a
+  -- row of slots that hold the items `xs`.
+  pub full-append : (xs ys : List T) → filled_slots (xs ++ ys) ≡ filled_slots xs ++ filled_slots ys
   full-append xs ys = map-append (λ (x : T). Some x) xs ys
 
-  -- `emptying xs k i c` is the row `front xs c` after the slots `k..i` have been emptied. If `i` is
-  -- `k`, no slot has been emptied.
-  pub emptying-none : (xs : List T) (k c : ℕ) → emptying xs k k c ≡ front xs c
+  -- `emptying xs k i c` is the row `packed_slots xs c` after the slots `k..i` have been emptied. If
+  -- `i` is `k`, no slot has been emptied.
+  pub emptying-none : (xs : List T) (k c : ℕ) → emptying xs k k c ≡ packed_slots xs c
   emptying-none xs k c =
-      let r : List (Option T) = empty (c - length xs) in
+      let r : List (Option T) = empty_slots (c - length xs) in
       let none : k - k ≡ 0 = omega arith in
-      ap (λ (m : ℕ). full (take k xs) ++ (empty m ++ (full (drop k xs) ++ r))) none
-      ∙ (sym (append_assoc (full (take k xs)) (full (drop k xs)) r)
+      ap (λ (m : ℕ). filled_slots (take k xs) ++ (empty_slots m ++ (filled_slots (drop k xs) ++ r)))
+      none
+      ∙ (sym (append_assoc (filled_slots (take k xs)) (filled_slots (drop k xs)) r)
       ∙ ap (λ (s : List (Option T)). s ++ r) (sym (full-append (take k xs) (drop k xs))
-      ∙ ap full (take-append-drop k xs)))
+      ∙ ap filled_slots (take-append-drop k xs)))
 
   module _ (xs : List T) (k i c : ℕ) (order : k ≤ i) (bound : i < length xs) where
     -- `pre` contains the slots before slot `i` of the row `emptying xs k i c`, in which the slots
     -- `k..i` are empty.
     pre : List (Option T)
-    pre = full (take k xs) ++ empty (i - k)
+    pre = filled_slots (take k xs) ++ empty_slots (i - k)
 
     -- `post` contains the slots after slot `i` of the row `emptying xs k i c`, in which the slots
     -- `k..i` are empty.
     post : List (Option T)
-    post = full (drop (i + 1) xs) ++ empty (c - length xs)
+    post = filled_slots (drop (i + 1) xs) ++ empty_slots (c - length xs)
 
     -- The list `pre`, which contains all slots before slot `i`, has length `i`.
     length-pre : length pre ≡ i
@@ -193,7 +196,7 @@ module _ {T : Type 0} where
     length-pre =
         omega (
           arith,
-          length-append (full (take k xs)) (empty (i - k)),
+          length-append (filled_slots (take k xs)) (empty_slots (i - k)),
           length-full (take k xs),
           length-take-le k xs (omega arith),
           length-replicate {A = Option T} (i - k) None,
@@ -205,10 +208,10 @@ module _ {T : Type 0} where
     unfolding pre post
     split =
         let r = item-at xs i bound in
-        ap (λ (s : List T). full (take k xs)
-        ++ (empty (i - k) ++ (full s ++ empty (c - length xs)))) r.1
-        ∙ sym (append_assoc (full (take k xs)) (empty (i - k))
-        (Some r.0 ∷ (full (drop (i + 1) xs) ++ empty (c - length xs))))
+        ap (λ (s : List T). filled_slots (take k xs)
+        ++ (empty_slots (i - k) ++ (filled_slots s ++ empty_slots (c - length xs)))) r.1
+        ∙ sym (append_assoc (filled_slots (take k xs)) (empty_slots (i - k))
+        (Some r.0 ∷ (filled_slots (drop (i + 1) xs) ++ empty_slots (c - length xs))))
 
     -- If `i` is less than the length of `xs`, slot `i` still holds an item after the slots `k..i`
     -- have been emptied.
@@ -224,28 +227,29 @@ module _ {T : Type 0} where
         let more : (i - k) + 1 ≡ i + 1 - k = omega arith in
         ap (λ (s : List (Option T)). set s i None) split
         ∙ (set_at pre (Some (item-at xs i bound).0) post None i length-pre
-        ∙ (append_assoc (full (take k xs)) (empty (i - k)) (None ∷ post)
-        ∙ ap (λ (s : List (Option T)). full (take k xs) ++ s)
-        (sym (append_assoc (empty (i - k)) (None ∷ []) post)
+        ∙ (append_assoc (filled_slots (take k xs)) (empty_slots (i - k)) (None ∷ post)
+        ∙ ap (λ (s : List (Option T)). filled_slots (take k xs) ++ s)
+        (sym (append_assoc (empty_slots (i - k)) (None ∷ []) post)
         ∙ ap (λ (s : List (Option T)). s ++ post)
-        (replicate-append-replicate (i - k) 1 None ∙ ap empty more))))
+        (replicate-append-replicate (i - k) 1 None ∙ ap empty_slots more))))
 
-  -- The row of slots `front xs c` begins with the items `xs`. If its slots from index `k` onward
-  -- are emptied, it becomes `front (take k xs) c`.
+  -- The row of slots `packed_slots xs c` begins with the items `xs`. If its slots from index `k`
+  -- onward are emptied, it becomes `packed_slots (take k xs) c`.
   pub emptying-all : (xs : List T) (k c : ℕ) → k ≤ length xs → length xs ≤ c
-      → emptying xs k (length xs) c ≡ front (take k xs) c
+      → emptying xs k (length xs) c ≡ packed_slots (take k xs) c
   emptying-all xs k c order room =
       let many : (length xs - k) + (c - length xs) ≡ c - length (take k xs) =
       omega (arith, length-take-le k xs order) in
-      ap (λ (s : List T). full (take k xs)
-      ++ (empty (length xs - k) ++ (full s ++ empty (c - length xs)))) (drop-length xs)
-      ∙ ap (λ (s : List (Option T)). full (take k xs) ++ s)
-      (replicate-append-replicate (length xs - k) (c - length xs) None ∙ ap empty many)
+      ap (λ (s : List T). filled_slots (take k xs)
+      ++ (empty_slots (length xs - k) ++ (filled_slots s ++ empty_slots (c - length xs))))
+      (drop-length xs)
+      ∙ ap (λ (s : List (Option T)). filled_slots (take k xs) ++ s)
+      (replicate-append-replicate (length xs - k) (c - length xs) None ∙ ap empty_slots many)
 
-  -- The row of slots `full xs ++ s` begins with the items `xs`. If `i` is less than the length of
-  -- `xs`, then writing `m` into slot `i` replaces the item of `xs` at index `i` with `m`.
+  -- The row of slots `filled_slots xs ++ s` begins with the items `xs`. If `i` is less than the
+  -- length of `xs`, then writing `m` into slot `i` replaces the item of `xs` at index `i` with `m`.
   pub full-set : (xs : List T) (s : List (Option T)) (i : ℕ) (m : T) → i < length xs
-      → set (full xs ++ s) i (Some m) ≡ full (set xs i m) ++ s
+      → set (filled_slots xs ++ s) i (Some m) ≡ filled_slots (set xs i m) ++ s
   full-set [] s i m h = absurd (omega arith)
   full-set (x ∷ xs) s zero m h = refl
   full-set (x ∷ xs) s (suc i) m h = ap (λ (r : List (Option T)). Some x ∷ r)
@@ -255,7 +259,8 @@ module _ {T : Type 0} where
   -- slot `i` leaves the items `swap_remove (ys ++ m ∷ []) i v`. (`swap_remove` uses `v` only for an
   -- empty list.)
   front-swap_remove : (ys : List T) (c i : ℕ) (v m : T) → i < length ys → length (ys ++ m ∷ []) ≤ c
-      → set (set (set (front (ys ++ m ∷ []) c) i None) (length ys) None) i (Some m) ≡ front
+      → set (set (set (packed_slots (ys ++ m ∷ []) c) i None) (length ys) None) i (Some m)
+      ≡ packed_slots
       (swap_remove (ys ++ m ∷ []) i v) c
   front-swap_remove ys c i v m h room =
       let xs : List T = ys ++ m ∷ [] in
@@ -271,22 +276,23 @@ module _ {T : Type 0} where
       ∙ (ap (take (length (set ys i m))) (set-append_left ys (m ∷ []) i m h)
       ∙ take-append_seam (set ys i m) (m ∷ []))) in
       ap (λ (s : List (Option T)). set s i (Some m))
-      (set_comm (front xs c) i (length ys) None None other
+      (set_comm (packed_slots xs c) i (length ys) None None other
       ∙ ap (λ (s : List (Option T)). set s i None) (front-pop ys c m room))
-      ∙ (set-set (front ys c) i None (Some m)
-      ∙ (full-set ys (empty (c - length ys)) i m h
-      ∙ (ap (λ (k : ℕ). full (set ys i m) ++ empty (c - k)) (sym (length-set ys i m))
-      ∙ ap (λ (l : List T). front l c) (sym cut))))
+      ∙ (set-set (packed_slots ys c) i None (Some m)
+      ∙ (full-set ys (empty_slots (c - length ys)) i m h
+      ∙ (ap (λ (k : ℕ). filled_slots (set ys i m) ++ empty_slots (c - k)) (sym (length-set ys i m))
+      ∙ ap (λ (l : List T). packed_slots l c) (sym cut))))
 
 module _ {T A : Type 0} where
-  module _ {b : Block T A} {a : A} (t : IsThin b a) (b' : Block T A) (i last : ℕ) where
+  module _ {b : Block T A} {a : A} (t : IsListBlock b a) (b' : Block T A) (i last : ℕ) where
     -- If the last item `m` is moved into slot `i` in place of the item there, then `b'` is the
     -- block of the list after `swap_remove` at index `i`. (`swap_remove` uses `v` only for an empty
     -- list.)
-    settle-swap_remove : (v : T) {m : T} → i < last → last + 1 ≡ b.len → slot b.slots last ≡ Some m
+    restores-swap_remove : (v : T) {m : T} → i < last → last + 1 ≡ b.len
+        → slot b.slots last ≡ Some m
         → {k : Cost} → IsWritten b b' (set (set (set b.slots i None) last None) i (Some m)) last k
-        → Settled b' a (swap_remove (items_in b.slots) i v) (length b.slots)
-    settle-swap_remove v {m} lt n held w =
+        → RestoresInvariant b' a (swap_remove (items_in b.slots) i v) (length b.slots)
+    restores-swap_remove v {m} lt n held w =
         let xs : List T = items_in b.slots in
         let c : ℕ = length b.slots in
         let at_end = last-item b a m last t n held in
@@ -294,18 +300,18 @@ module _ {T A : Type 0} where
         let long : length ys ≡ last = length-take-le last xs (omega arith) in
         let room : length (ys ++ m ∷ []) ≤ c = omega (arith, thin-room b a t, ap length at_end) in
         let slots : set (set (set b.slots i None) last None) i (Some m) ≡ set
-        (set (set (front (ys ++ m ∷ []) c) i None) (length ys) None) i (Some m) =
+        (set (set (packed_slots (ys ++ m ∷ []) c) i None) (length ys) None) i (Some m) =
         ap (λ (s : List (Option T)). set (set (set s i None) last None) i (Some m))
-        (t.packed.row ∙ ap (λ (l : List T). front l c) at_end)
-        ∙ ap (λ (k : ℕ). set (set (set (front (ys ++ m ∷ []) c) i None) k None) i (Some m))
+        (t.packed.row ∙ ap (λ (l : List T). packed_slots l c) at_end)
+        ∙ ap (λ (k : ℕ). set (set (set (packed_slots (ys ++ m ∷ []) c) i None) k None) i (Some m))
         (sym long) in
         let cut : length (swap_remove (ys ++ m ∷ []) i v) ≡ last =
         length-swap_remove ys i v m long (omega arith) in
-        let done : Settled b' a (swap_remove (ys ++ m ∷ []) i v) c =
-        settle-front t b' (swap_remove (ys ++ m ∷ []) i v) c w
+        let done : RestoresInvariant b' a (swap_remove (ys ++ m ∷ []) i v) c =
+        restores-front t b' (swap_remove (ys ++ m ∷ []) i v) c w
         (slots ∙ front-swap_remove ys c i v m (omega (arith, long)) room) (sym cut)
         (omega (arith, cut, room, length_push ys m, long)) in
-        subst (λ (l : List T). Settled b' a (swap_remove l i v) c) (sym at_end) done
+        subst (λ (l : List T). RestoresInvariant b' a (swap_remove l i v) c) (sym at_end) done
       where
         -- If the list `ys` has `k` items and `i < k`, then `swap_remove (ys ++ m ∷ []) i v` has `k`
         -- items. (`swap_remove` uses `v` only for an empty list.)
@@ -324,26 +330,26 @@ module _ {T A : Type 0} where
 
     -- If the last item of a block replaces the item `v` in slot `i`, then the new block `b'` is the
     -- block of the list after `swap_remove` at index `i`. Slot `i` may be the last filled slot.
-    pub settle-replaced : (v : T) → i ≤ last → last + 1 ≡ b.len → slot b.slots i ≡ Some v
+    pub restores-replaced : (v : T) → i ≤ last → last + 1 ≡ b.len → slot b.slots i ≡ Some v
         → {k : Cost} → IsWritten b b' (set (set b.slots i (slot b.slots last)) last None) last k
-        → Settled b' a (swap_remove (items_in b.slots) i v) (length b.slots)
-    settle-replaced v le n gave w =
+        → RestoresInvariant b' a (swap_remove (items_in b.slots) i v) (length b.slots)
+    restores-replaced v le n gave w =
         let xs : List T = items_in b.slots in
         let c : ℕ = length b.slots in
         let low : last < length xs = omega (arith, n, t.packed.len) in
         let short : length xs - 1 ≡ last = omega (arith, n, t.packed.len) in
         ⊎_elim (λ (same : i ≡ last).
-        let popped : Settled b' a (take last xs) c =
-        settle-pop t b' v last n (sym (ap (λ (k : ℕ). slot b.slots k) same) ∙ gave)
+        let popped : RestoresInvariant b' a (take last xs) c =
+        restores-pop t b' v last n (sym (ap (λ (k : ℕ). slot b.slots k) same) ∙ gave)
         (slots-are w (ap (λ (k : ℕ). set (set b.slots k (slot b.slots last)) last None) same
         ∙ set-set b.slots last (slot b.slots last) None)) in
         let is : take last xs ≡ swap_remove xs i v =
         sym (ap (λ (k : ℕ). take k (set xs i (get_or xs k v))) short
         ∙ take-set-le last xs i (get_or xs last v) (omega (arith, same))) in
-        subst (λ (ys : List T). Settled b' a ys c) is popped)
+        subst (λ (ys : List T). RestoresInvariant b' a ys c) is popped)
         (λ (apart : i ≡ last → ⊥).
         let m = the_item (slot b.slots last) (thin-filled b a last t low) in
-        settle-swap_remove v {m = m.0} (omega (arith, le, apart)) n m.1
+        restores-swap_remove v {m = m.0} (omega (arith, le, apart)) n m.1
         (slots-are w (ap (λ (o : Option T). set (set b.slots i o) last None) m.1
         ∙ (set_comm b.slots i last (Some m.0) None apart
         ∙ sym (ap (λ (r : List (Option T)). set r i (Some m.0))

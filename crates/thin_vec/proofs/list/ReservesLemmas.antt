@@ -1,4 +1,4 @@
--- These lemmas prove that calls satisfy `Keeps`, `Reserves` and `TellsOverflow`. These three
+-- These lemmas prove that calls satisfy `Keeps`, `Reserves` and `OverflowsIff`. These three
 -- definitions say how a call may change the capacity of a list, and which error the call returns.
 use Rattle.std.proofs.Common.{◌≡◌, ℕ, ◌+◌, Err, List, Ok, Option, Result, Some, ap, arith, inl, inr, length, sym, ◌∙◌}
 use Rattle.std.specs.Borrow.{RattleType}
@@ -7,31 +7,31 @@ use Rattle.thin_block.specs.declared.errors.ThinVecError.{ThinVecError}
 use Rattle.thin_block.specs.declared.errors.ThinVecError.TheVariants.{CapacityOverflow, OutOfMemory}
 use Rattle.thin_block.specs.Capacity.{Fits}
 use Rattle.thin_block.specs.Cost.{Cost}
-use Rattle.thin_block.specs.Growth.{Rule, exact_capacity}
+use Rattle.thin_block.specs.Growth.{GrowthRule, exact_capacity}
 use Rattle.thin_block.specs.declared.block.Block.{Block}
 use Rattle.thin_block.proofs.CapacityLemmas.{ruled-same}
-use Rattle.thin_block.proofs.Outcomes.{err-same, none-some, ok-err}
+use Rattle.thin_block.proofs.ResultLemmas.{err-same, none-some, ok-err}
 use Rattle.thin_vec.specs.Cheap.{IsCheap}
-use Rattle.thin_vec.specs.List.Capacity.{Keeps, Reserves, TellsOverflow, TellsOverflowOf}
-use Rattle.thin_vec.specs.ThinVec.{HasRoomFor, IsThin, IsWithin, Thin, capacity_for, thin_of}
-use Rattle.thin_vec.proofs.ListLemmas.{Settled}
+use Rattle.thin_vec.specs.List.Capacity.{PreservesList, Reserves, OverflowsIff, OverflowsIffTooLarge}
+use Rattle.thin_vec.specs.ThinVec.{HasRoomFor, IsListBlock, IsBounded, ListView, capacity_after_reserve, list_view}
+use Rattle.thin_vec.proofs.ListLemmas.{RestoresInvariant}
 use Rattle.thin_vec.proofs.ThinVecLemmas.{within-kept}
 
--- `TellsOverflow named r` states that the result `r` is the error `CapacityOverflow` if and only if
+-- `OverflowsIff named r` states that the result `r` is the error `CapacityOverflow` if and only if
 -- `named` is `None`. This lemma proves it if `r` is `Ok x` and `named` is `Some n`.
 pub tells-ok : {X : Type 0} (x : X) (named : Option ℕ) (n : ℕ) → named ≡ Some n
-    → TellsOverflow named (Ok x)
+    → OverflowsIff named (Ok x)
 tells-ok x named n is = record {
   overflow = (λ e. ok-err x CapacityOverflow e, λ none. absurd (none-some none is));
 }
 
--- `TellsOverflowOf R m r` states that `r` is `CapacityOverflow` if and only if the capacity for `m`
--- items of type `R` is too large. It carries over from `Ok x` to `Ok y`, if `n` items of type `S`
--- need the same capacity.
+-- `OverflowsIffTooLarge R m r` states that `r` is `CapacityOverflow` if and only if the capacity
+-- for `m` items of type `R` is too large. It carries over from `Ok x` to `Ok y`, if `n` items of
+-- type `S` need the same capacity.
 pub tells-made : {X : Type 0} {x y : X} (R S : RattleType) (m n : ℕ)
     → exact_capacity R 0 m ≡ exact_capacity S 0 n
-    → TellsOverflowOf R m (let r : Result X ThinVecError = Ok x in r)
-    → TellsOverflowOf S n (let r : Result X ThinVecError = Ok y in r)
+    → OverflowsIffTooLarge R m (let r : Result X ThinVecError = Ok x in r)
+    → OverflowsIffTooLarge S n (let r : Result X ThinVecError = Ok y in r)
 tells-made {x = x} {y} R S m n e told = record {
   overflow = (
     λ over. ok-err y CapacityOverflow over,
@@ -39,11 +39,12 @@ tells-made {x = x} {y} R S m n e told = record {
   );
 }
 
--- `TellsOverflowOf R m r` states that `r` is `CapacityOverflow` if and only if the capacity for `m`
--- items of type `R` is too large. It implies `TellsOverflowOf S n r` if `n` items of type `S` need
--- the same capacity.
+-- `OverflowsIffTooLarge R m r` states that `r` is `CapacityOverflow` if and only if the capacity
+-- for `m` items of type `R` is too large. It implies `OverflowsIffTooLarge S n r` if `n` items of
+-- type `S` need the same capacity.
 pub tells-same : {X : Type 0} {r : Result X ThinVecError} (R S : RattleType) (m n : ℕ)
-    → exact_capacity R 0 m ≡ exact_capacity S 0 n → TellsOverflowOf R m r → TellsOverflowOf S n r
+    → exact_capacity R 0 m ≡ exact_capacity S 0 n → OverflowsIffTooLarge R m r
+    → OverflowsIffTooLarge S n r
 tells-same R S m n e told = record {
   overflow = (λ over. sym e ∙ told.overflow.0 over, λ none. told.overflow.1 (e ∙ none));
 }
@@ -54,11 +55,11 @@ memory-no-overflow : {P : Type 0} (cause : ThinVecError) → cause ≡ OutOfMemo
     → cause ≡ CapacityOverflow → P
 memory-no-overflow cause is over = cc
 
-module _ {T A : Type 0} (R : RattleType) (v : Thin T A) where
+module _ {T A : Type 0} (R : RattleType) (v : ListView T A) where
   -- Suppose that the list `v` became `w`, and that the capacity, the number of requests for memory
   -- and the number of copied items did not change. If `v` satisfies `IsCheap`, which bounds the
   -- cost of growth, then `w` satisfies `IsCheap` too.
-  cheap-kept : (w : Thin T A) → w.capacity ≡ v.capacity
+  cheap-kept : (w : ListView T A) → w.capacity ≡ v.capacity
       → (w.cost.blocks ≡ v.cost.blocks) × (w.cost.grown ≡ v.cost.grown) → IsCheap v → IsCheap w
   cheap-kept w capacity (blocks, grown) cheap = record {
     none = λ none. let old = cheap.none (sym capacity ∙ none) in
@@ -70,12 +71,12 @@ module _ {T A : Type 0} (R : RattleType) (v : Thin T A) where
   }
 
   -- Suppose that the lists `v` and `w` have the same allocator, the same capacity, and the same
-  -- counts of requests for memory and of copied items. If both lists satisfy `IsWithin`, which
-  -- limits their length and capacity, then `Keeps R v w` holds. Every call that may grow a list
-  -- guarantees `Keeps`.
-  pub keeps-kept : (w : Thin T A) → w.alloc ≡ v.alloc → w.capacity ≡ v.capacity
+  -- counts of requests for memory and of copied items. If both lists satisfy `IsBounded`, which
+  -- limits their length and capacity, then `PreservesList R v w` holds. Every call that may grow a
+  -- list guarantees `Keeps`.
+  pub keeps-kept : (w : ListView T A) → w.alloc ≡ v.alloc → w.capacity ≡ v.capacity
       → (w.cost.blocks ≡ v.cost.blocks) × (w.cost.grown ≡ v.cost.grown)
-      → IsWithin R v × IsWithin R w → Keeps R v w
+      → IsBounded R v × IsBounded R w → PreservesList R v w
   keeps-kept w alloc capacity cost within = record {
     alloc = alloc;
     never_less = omega (arith, capacity);
@@ -86,23 +87,23 @@ module _ {T A : Type 0} (R : RattleType) (v : Thin T A) where
   -- Suppose that a call changed the block `b` of the list `v` to the block `b'` of a list with the
   -- items `xs` and the same capacity, and that it only added moves to the recorded cost. Then
   -- `Keeps` holds for the list before and after the call.
-  pub keeps-settled : {b b' : Block T A} {a : A} {xs : List T} {k : Cost} → IsThin b a
-      → thin_of b a ≡ v → Fits R (length b.slots) → Settled b' a xs (length b.slots)
+  pub keeps-settled : {b b' : Block T A} {a : A} {xs : List T} {k : Cost} → IsListBlock b a
+      → list_view b a ≡ v → Fits R (length b.slots) → RestoresInvariant b' a xs (length b.slots)
       → b'.cost ≡ k → (k.blocks ≡ b.cost.blocks) × (k.grown ≡ b.cost.grown)
-      → Keeps R v (thin_of b' a)
+      → PreservesList R v (list_view b' a)
   keeps-settled {b} {b'} {a} {xs} thin is fits after cost (blocks, grown) =
-      keeps-kept (thin_of b' a) (ap (λ (z : Thin T A). z.alloc) is)
-      (after.cap ∙ ap (λ (z : Thin T A). z.capacity) is) (
-        ap (λ (c : Cost). c.blocks) cost ∙ (blocks ∙ ap (λ (z : Thin T A). z.cost.blocks) is),
-        ap (λ (c : Cost). c.grown) cost ∙ (grown ∙ ap (λ (z : Thin T A). z.cost.grown) is),
+      keeps-kept (list_view b' a) (ap (λ (z : ListView T A). z.alloc) is)
+      (after.cap ∙ ap (λ (z : ListView T A). z.capacity) is) (
+        ap (λ (c : Cost). c.blocks) cost ∙ (blocks ∙ ap (λ (z : ListView T A). z.cost.blocks) is),
+        ap (λ (c : Cost). c.grown) cost ∙ (grown ∙ ap (λ (z : ListView T A). z.cost.grown) is),
       )
       (within-kept R b a b' v xs thin is fits after)
 
-  module _ (rule : Rule) where
+  module _ (rule : GrowthRule) where
     -- `Reserves` states how a call that needs room for `k` more items may change the capacity, and
     -- when the call fails. It holds if the list `v` already has room for `k` more items, the call
     -- returns `Ok`, and the capacity does not change.
-    pub reserves-room : {X : Type 0} {x : X} (k : ℕ) (w : Thin T A) → HasRoomFor v k
+    pub reserves-room : {X : Type 0} {x : X} (k : ℕ) (w : ListView T A) → HasRoomFor v k
         → w.capacity ≡ v.capacity → Reserves rule R k v w (Ok x)
     reserves-room {x = x} k w room capacity =
         let named = ruled-same rule R v.capacity (length v.items + k) room
@@ -117,9 +118,10 @@ module _ {T A : Type 0} (R : RattleType) (v : Thin T A) where
     -- `Reserves` states how a call that needs room for more items may change the capacity, and when
     -- it fails. A call of two steps satisfies it if the first step does, and if the second step
     -- keeps the capacity and fails only with `OutOfMemory`.
-    pub reserves-then : {X Y : Type 0} {x : X} (S : RattleType) (k l : ℕ) (u w : Thin T A)
+    pub reserves-then : {X Y : Type 0} {x : X} (S : RattleType) (k l : ℕ) (u w : ListView T A)
         (r : Result Y ThinVecError) → l ≡ k
-        → capacity_for rule S v l ≡ capacity_for rule R v k → w.capacity ≡ u.capacity
+        → capacity_after_reserve rule S v l ≡ capacity_after_reserve rule R v k
+        → w.capacity ≡ u.capacity
         → Reserves rule R k v u (Ok x) → IfErr r (λ cause. cause ≡ OutOfMemory)
         → Reserves rule S l v w r
     reserves-then S k l u w (Ok y) count same capacity h _ =
@@ -145,9 +147,9 @@ module _ {T A : Type 0} (R : RattleType) (v : Thin T A) where
     -- `Reserves` states how a call that needs room for more items may change the capacity, and when
     -- it fails. If it holds for a failed call for `k` items of type `R`, it holds for `k` items of
     -- type `S` that need the same capacity.
-    pub reserves-failed : {X Y : Type 0} (S : RattleType) (k l : ℕ) (w : Thin T A)
+    pub reserves-failed : {X Y : Type 0} (S : RattleType) (k l : ℕ) (w : ListView T A)
         (cause : ThinVecError) → l ≡ k
-        → capacity_for rule S v l ≡ capacity_for rule R v k
+        → capacity_after_reserve rule S v l ≡ capacity_after_reserve rule R v k
         → Reserves rule R k v w (let r : Result X ThinVecError = Err cause in r) → w ≡ v
         → Reserves rule S l v w (let r : Result Y ThinVecError = Err cause in r)
     reserves-failed S k l w cause count same h unchanged = record {

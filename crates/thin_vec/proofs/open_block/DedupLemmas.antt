@@ -5,25 +5,25 @@ use Rattle.std.proofs.lemmas.List.{drop_at, get_or_at, get_or-set_other, length-
 use Rattle.std.specs.Prelude.{IsSome, slice_range}
 use lib.ListN.{set}
 use Rattle.thin_block.proofs.BlockLemmas.{slots-are}
-use Rattle.thin_block.specs.Block.{Seen, seen}
-use Rattle.thin_block.specs.Lends.{over, with_item}
-use Rattle.thin_block.specs.Slots.{empty, full, slot}
+use Rattle.thin_block.specs.Block.{BlockView, block_view}
+use Rattle.thin_block.specs.Lends.{overwrite_items, set_slot}
+use Rattle.thin_block.specs.Slots.{empty_slots, filled_slots, slot}
 use Rattle.thin_block.specs.declared.block.Block.{Block}
-use Rattle.thin_vec.specs.OpenBlock.{IsOpen, Shows, open_of}
-use Rattle.thin_vec.specs.Open.{Open, reach, row_of}
+use Rattle.thin_vec.specs.OpenBlock.{IsOpen, IsOpenViewOf, open_view}
+use Rattle.thin_vec.specs.Open.{OpenView, tail_end, slots_of}
 use Rattle.thin_vec.specs.declared.open_block.OpenBlock.TheInside.{Inside}
 use Rattle.thin_vec.proofs.RetainLemmas.{cons-head, cons-not-nil, cons-tail, single}
-use Rattle.thin_block.proofs.Outcomes.{some-same}
+use Rattle.thin_block.proofs.ResultLemmas.{some-same}
 use Rattle.thin_vec.proofs.OpenBlockLemmas.{Found, found, last-of, past_rest, slot-in-full}
 use Rattle.thin_vec.proofs.ListLemmas.{length-full}
-use Rattle.thin_vec.proofs.open_block.SiftLemmas.{row-at, same-past, write-step, written}
+use Rattle.thin_vec.proofs.open_block.RetainRestLemmas.{row-at, same-past, write-step, written}
 
 module _ {T : Type 0} where
   -- The following lemmas are about two items in neighboring slots.
 
-  -- `over s 0 ws` is the row of slots `s` after the items `ws` have been written into its first
-  -- slots. So `over s 0 []` is `s`.
-  over-none : (s : List (Option T)) → over s 0 [] ≡ s
+  -- `overwrite_items s 0 ws` is the row of slots `s` after the items `ws` have been written into
+  -- its first slots. So `overwrite_items s 0 []` is `s`.
+  over-none : (s : List (Option T)) → overwrite_items s 0 [] ≡ s
   over-none [] = refl
   over-none (None ∷ s) = refl
   over-none (Some x ∷ s) = refl
@@ -34,7 +34,7 @@ module _ {T : Type 0} where
   pub record Neighbours (s : List (Option T)) (i : ℕ) (k x k' x' : T) : Type 0 where
     pub first : slot s i ≡ Some k
     pub second : slot s (suc i) ≡ Some x
-    pub now : over s i (k' ∷ x' ∷ []) ≡ set (set s i (Some k')) (suc i) (Some x')
+    pub now : overwrite_items s i (k' ∷ x' ∷ []) ≡ set (set s i (Some k')) (suc i) (Some x')
 
   -- If the slots `i` and `i + 1` hold the items `k` and `x`, then `Neighbours` holds for these
   -- items and any new items `k'` and `x'`.
@@ -48,7 +48,7 @@ module _ {T : Type 0} where
       record {
         first = sym one;
         second = sym two;
-        now = (λ i. over (sym one i ∷ sym two i ∷ s) 0 (k' ∷ x' ∷ []))
+        now = (λ i. overwrite_items (sym one i ∷ sym two i ∷ s) 0 (k' ∷ x' ∷ []))
             ∙ ap (λ (r : List (Option T)). Some k' ∷ Some x' ∷ r) (over-none s);
       }
   neighbours [] (suc i) k x k' x' e = absurd (cons-not-nil e)
@@ -59,16 +59,19 @@ module _ {T : Type 0} where
   -- In this module, the slice `all` contains the two items in the slots `i` and `i + 1`. It is
   -- split into the slices `a` and `b`, which contain one item each.
   module _ (s : List (Option T)) (i : ℕ) (all a b : List T) (within : i + 2 ≤ length s)
-      (lent : full all ≡ slice_range s i (i + 2)) (cut : all ≡ a ++ b) (one : length a ≡ 1) where
+      (lent : filled_slots all ≡ slice_range s i (i + 2)) (cut : all ≡ a ++ b)
+      (one : length a ≡ 1) where
     -- Suppose that the slice `a` consists of the item `k`, and the slice `b` of the item `x`. Then
     -- `Neighbours` holds, so the slots `i` and `i + 1` hold `k` and `x`. Moreover, writing `k'`
     -- into `a` and `x'` into `b` puts them into these two slots, and changes no other slot.
     pub parts-of : {k x : T} (k' x' : T) → k ≡ get_or a 0 k → x ≡ get_or b 0 x
         → Neighbours s i k x k' x'
-        × (over s i (set a 0 k' ++ set b 0 x') ≡ set (set s i (Some k')) (suc i) (Some x'))
+        × (overwrite_items s i (set a 0 k' ++ set b 0 x') ≡ set (set s i (Some k')) (suc i)
+        (Some x'))
     parts-of {k} {x} k' x' is isn =
         let n : i + 2 - i ≡ 2 = omega arith in
-        let lent' : full all ≡ take 2 (drop i s) = lent ∙ ap (λ (m : ℕ). take m (drop i s)) n in
+        let lent' : filled_slots all ≡ take 2 (drop i s) =
+        lent ∙ ap (λ (m : ℕ). take m (drop i s)) n in
         let few : length (take 2 (drop i s)) ≡ 2 = length-take-le 2 (drop i s)
         (omega (arith, length-drop i s)) in
         let two : length b ≡ 1 = omega (
@@ -86,8 +89,8 @@ module _ {T : Type 0} where
         let second : x ≡ q.0 = isn ∙ ap (λ (l : List T). get_or l 0 x) q.1 in
         let both : all ≡ p.0 ∷ q.0 ∷ [] = cut ∙ (λ j. p.1 j ++ q.1 j) in
         let h = neighbours s i k x k' x' ((λ j. Some (first j) ∷ Some (second j) ∷ [])
-        ∙ (sym (ap full both) ∙ lent')) in
-        (h, (λ j. over s i (set (p.1 j) 0 k' ++ set (q.1 j) 0 x')) ∙ h.now)
+        ∙ (sym (ap filled_slots both) ∙ lent')) in
+        (h, (λ j. overwrite_items s i (set (p.1 j) 0 k' ++ set (q.1 j) 0 x')) ∙ h.now)
 
 module _ {T A : Type 0} where
   -- The following lemmas are about open blocks. An open block is the block of a list during an
@@ -103,29 +106,31 @@ module _ {T A : Type 0} where
     pub pre : List T
     pub post : List T
     pub place : length pre ≡ k
-    pub was : (open_of h).rest ≡ pre ++ x ∷ y ∷ post
-    pub shown : Found (record h { block = b }) (record (open_of h) { rest = pre ++ x' ∷ y' ∷ post })
+    pub was : (open_view h).rest ≡ pre ++ x ∷ y ∷ post
+    pub shown : Found (record h { block = b })
+        (record (open_view h) { rest = pre ++ x' ∷ y' ∷ post })
 
   module _ (h : Inside T A) (o : IsOpen h) (b : Block T A)
-      (kept : seen b ≡ record (seen h.block) { slots = b.slots }) where
+      (kept : block_view b ≡ record (block_view h.block) { slots = b.slots }) where
     -- If the middle items of the open block `h` at the indices `k` and `k + 1` are overwritten with
     -- `x'` and `y'`, then `WrittenTwo` holds for the resulting block `b`.
-    pub write-two-step : (k : ℕ) {x y : T} (x' y' : T) → suc k < length (open_of h).rest
+    pub write-two-step : (k : ℕ) {x y : T} (x' y' : T) → suc k < length (open_view h).rest
         → slot h.block.slots (h.rest_start + k) ≡ Some x
         → slot h.block.slots (suc (h.rest_start + k)) ≡ Some y
         → b.slots ≡ set (set h.block.slots (h.rest_start + k) (Some x')) (suc (h.rest_start + k))
         (Some y')
         → WrittenTwo h o k b x y x' y'
     write-two-step k {x} {y} x' y' low first second now =
-        let c : Block T A = with_item h.block (h.rest_start + k) x' in
+        let c : Block T A = set_slot h.block (h.rest_start + k) x' in
         let one = write-step h o c k (omega arith) x x' first refl in
         let m : Inside T A = written h o c k (omega arith) in
         let next : suc (h.rest_start + k) ≡ h.rest_start + suc k = omega arith in
         let apart : suc (h.rest_start + k) ≢ h.rest_start + k = λ e. let n : suc (h.rest_start + k)
         ≡ h.rest_start + k =
         e in omega (arith, n) in
-        let rest : (open_of m).rest ≡ one.pre ++ x' ∷ one.post = ap (λ v. v.rest) one.shown.view in
-        let count : length (one.pre ++ x' ∷ one.post) ≡ length (open_of h).rest =
+        let rest : (open_view m).rest ≡ one.pre ++ x' ∷ one.post =
+        ap (λ v. v.rest) one.shown.view in
+        let count : length (one.pre ++ x' ∷ one.post) ≡ length (open_view h).rest =
         omega (
           arith,
           ap length one.was,
@@ -169,41 +174,42 @@ module _ {T A : Type 0} where
   -- the last of the front items, was overwritten with `y`, and that nothing else was changed.
   pub record WrittenLast (h : Inside T A) (b : Block T A) (x y : T) : Type 0 where
     pub pre : List T
-    pub was : (open_of h).front ≡ pre ++ x ∷ []
-    pub shown : Found (record h { block = b }) (record (open_of h) { front = pre ++ y ∷ [] })
+    pub was : (open_view h).front ≡ pre ++ x ∷ []
+    pub shown : Found (record h { block = b }) (record (open_view h) { front = pre ++ y ∷ [] })
 
   -- If the last front item of the open block `h` has been overwritten with `y`, and nothing else
   -- has changed, then `WrittenLast` holds for the resulting block `b`.
   pub write-last-step : (h : Inside T A) (o : IsOpen h) (b : Block T A) {x : T} (y : T)
-      → 0 < length (open_of h).front → slot h.block.slots (h.front_end - 1) ≡ Some x
-      → seen b ≡ record (seen h.block) { slots = set h.block.slots (h.front_end - 1) (Some y) }
+      → 0 < length (open_view h).front → slot h.block.slots (h.front_end - 1) ≡ Some x
+      → block_view b ≡ record
+      (block_view h.block) { slots = set h.block.slots (h.front_end - 1) (Some y) }
       → WrittenLast h b x y
   write-last-step h o b {x} y some is now =
-      let v : Open T A = open_of h in
+      let v : OpenView T A = open_view h in
       let p = last-of v.front some in
       let pre : List T = p.0 in
-      let z : List (Option T) = empty v.gap ++ (full v.rest ++ past_rest v) in
-      let row : h.block.slots ≡ full pre ++ (Some p.1 ∷ z) = o.row
-      ∙ (ap (λ (l : List T). full l ++ z) p.2 ∙ row-at [] pre p.1 [] z) in
-      let here : length (full pre) ≡ h.front_end - 1 =
+      let z : List (Option T) = empty_slots v.gap ++ (filled_slots v.rest ++ past_rest v) in
+      let row : h.block.slots ≡ filled_slots pre ++ (Some p.1 ∷ z) = o.row
+      ∙ (ap (λ (l : List T). filled_slots l ++ z) p.2 ∙ row-at [] pre p.1 [] z) in
+      let here : length (filled_slots pre) ≡ h.front_end - 1 =
       omega (arith, length-full pre, o.front, ap length p.2, length_push pre p.1) in
       let same : p.1 ≡ x = some-same
-      (sym (get_or_at (full pre) (Some p.1) z None (h.front_end - 1) here)
+      (sym (get_or_at (filled_slots pre) (Some p.1) z None (h.front_end - 1) here)
       ∙ (ap (λ (r : List (Option T)). slot r (h.front_end - 1)) (sym row) ∙ is)) in
-      let w : Open T A = record v { front = pre ++ y ∷ [] } in
+      let w : OpenView T A = record v { front = pre ++ y ∷ [] } in
       let count : length (pre ++ y ∷ []) ≡ length v.front =
       omega (arith, length_push pre y, ap length p.2, length_push pre p.1) in
-      let left : v.capacity - reach v ≡ w.capacity - reach w = omega (arith, count) in
-      let after : b.slots ≡ row_of w =
-      ap (λ (z : Seen T A). z.slots) now
+      let left : v.capacity - tail_end v ≡ w.capacity - tail_end w = omega (arith, count) in
+      let after : b.slots ≡ slots_of w =
+      ap (λ (z : BlockView T A). z.slots) now
       ∙ (ap (λ (r : List (Option T)). set r (h.front_end - 1) (Some y)) row
-      ∙ (set_at (full pre) (Some p.1) z (Some y) (h.front_end - 1) here
+      ∙ (set_at (filled_slots pre) (Some p.1) z (Some y) (h.front_end - 1) here
       ∙ (sym (row-at [] pre y [] z)
-      ∙ ap (λ (r : List (Option T)). full (pre ++ y ∷ [])
-      ++ (empty v.gap ++ (full v.rest ++ r))) (same-past v w refl refl left)))) in
+      ∙ ap (λ (r : List (Option T)). filled_slots (pre ++ y ∷ [])
+      ++ (empty_slots v.gap ++ (filled_slots v.rest ++ r))) (same-past v w refl refl left)))) in
       let i : Inside T A =
       record h { block = b } in
-      let shows : Shows i w = record {
+      let shows : IsOpenViewOf i w = record {
         row = after;
         front = count ∙ o.front;
         gap = o.gap;
@@ -215,16 +221,17 @@ module _ {T A : Type 0} where
       record {
         pre = pre;
         was = p.2 ∙ ap (λ (q : T). pre ++ q ∷ []) same;
-        shown = found i w shows (ap (λ (z : Seen T A). z.alloc) now)
-            (ap (λ (z : Seen T A). z.cost) now);
+        shown = found i w shows (ap (λ (z : BlockView T A). z.alloc) now)
+            (ap (λ (z : BlockView T A). z.cost) now);
       }
 
   -- If the open block `h` has front items, then the slot at index `front_end - 1` holds the last
   -- front item.
-  pub last-filled : (h : Inside T A) (o : IsOpen h) → 0 < length (open_of h).front
+  pub last-filled : (h : Inside T A) (o : IsOpen h) → 0 < length (open_view h).front
       → IsSome (slot h.block.slots (h.front_end - 1))
   last-filled h o some =
-      let v : Open T A = open_of h in
+      let v : OpenView T A = open_view h in
       rw (ap (λ (r : List (Option T)). slot r (h.front_end - 1)) o.row)
-      (slot-in-full [] v.front (empty v.gap ++ (full v.rest ++ past_rest v)) (h.front_end - 1)
+      (slot-in-full [] v.front (empty_slots v.gap ++ (filled_slots v.rest ++ past_rest v))
+      (h.front_end - 1)
       (omega arith) (omega (arith, o.front, some)))

@@ -3,9 +3,9 @@
 use Rattle.std.proofs.Common.{◌≡◌, ℕ, zero, suc, ◌+◌, ◌<◌, Bool, true, false, List, [], ◌∷◌, ◌++◌, length, take, drop, refl, sym, ap, subst, ◌∙◌, arith, inl, inr, append_assoc}
 use Rattle.std.proofs.lemmas.List.{drop_at, length_push, replicate-append-replicate, take_at}
 use Rattle.std.specs.Prelude.{MatchBool, replicate}
-use Rattle.thin_vec.specs.Edits.Retain.{moved_down, trues}
-use Rattle.thin_vec.specs.Edits.Dedup.{AskedLast}
-use Rattle.thin_vec.specs.OpenBlock.Dedup.{IsPairAskedAt, PairsAskedUpTo}
+use Rattle.thin_vec.specs.Edits.Retain.{moves_of_retain, count_true}
+use Rattle.thin_vec.specs.Edits.Dedup.{TestsEachAgainstLast}
+use Rattle.thin_vec.specs.OpenBlock.Dedup.{TestsPairAt, TestsPairsUpTo}
 use Rattle.thin_vec.proofs.RetainLemmas.{cons-head, cons-not-nil, cons-tail, single}
 
 -- `OnPairs S T` is the type of the relations that describe a test of two items of type `T` by a
@@ -28,20 +28,21 @@ abbrev pub all-stay : ℕ → List Bool
 all-stay n = replicate n true
 
 -- The number of true flags in `a ++ b` is the sum of the numbers of true flags in `a` and in `b`.
-pub trues-join : (a b : List Bool) → trues (a ++ b) ≡ trues a + trues b
-trues-join [] b = omega arith
-trues-join (true ∷ a) b = let e = trues-join a b in omega arith
-trues-join (false ∷ a) b = trues-join a b
+pub count_true-join : (a b : List Bool) → count_true (a ++ b) ≡ count_true a + count_true b
+count_true-join [] b = omega arith
+count_true-join (true ∷ a) b = let e = count_true-join a b in omega arith
+count_true-join (false ∷ a) b = count_true-join a b
 
--- `replicate n true` is a list of `n` true flags, and `trues` returns the number of true flags in a
--- list. So `trues (replicate n true)` is `n`.
-trues-all : (n : ℕ) → trues (replicate n true) ≡ n
-trues-all zero = refl
-trues-all (suc n) = ap suc (trues-all n)
+-- `replicate n true` is a list of `n` true flags, and `count_true` returns the number of true flags
+-- in a list. So `count_true (replicate n true)` is `n`.
+count_true-all : (n : ℕ) → count_true (replicate n true) ≡ n
+count_true-all zero = refl
+count_true-all (suc n) = ap suc (count_true-all n)
 
--- `moved_down` counts the kept items after the first removed item. So `n` true flags (kept items)
--- at the start of the flags do not change this number.
-pub moved-all : (n : ℕ) (b : List Bool) → moved_down (replicate n true ++ b) ≡ moved_down b
+-- `moves_of_retain` counts the kept items after the first removed item. So `n` true flags (kept
+-- items) at the start of the flags do not change this number.
+pub moved-all : (n : ℕ) (b : List Bool)
+    → moves_of_retain (replicate n true ++ b) ≡ moves_of_retain b
 moved-all zero b = refl
 moved-all (suc n) b = moved-all n b
 
@@ -69,7 +70,7 @@ module _ {S T : Type 0} (R : OnPairs S T) where
   -- If the items `xs` were tested after the kept item `k`, then the list `ys` of the kept items is
   -- not empty, because `k` is kept.
   pub last-some : (xs : List T) (s t : S) (k : T) (stays : List Bool) (ys : List T)
-      → AskedLast R s k xs stays ys t → 0 < length ys
+      → TestsEachAgainstLast R s k xs stays ys t → 0 < length ys
   last-some [] s t k stays ys h = omega (arith, ap length h.1)
   last-some (x ∷ xs) s t k stays ys h =
       by-answer h.0 _ _ (0 < length ys) (λ m. last-some xs h.3 t h.2 h.4 ys m)
@@ -78,30 +79,32 @@ module _ {S T : Type 0} (R : OnPairs S T) where
   -- Suppose that the item `x` is tested against the kept item `k`, and that the test changes `k` to
   -- `k'`. If `x` is removed, then `k'` is the only item that is kept.
   pub last-goes : (s t : S) (k x x' k' : T) → R s x k true t x' k'
-      → AskedLast R s k (x ∷ []) (false ∷ []) (k' ∷ []) t
+      → TestsEachAgainstLast R s k (x ∷ []) (false ∷ []) (k' ∷ []) t
   last-goes s t k x x' k' h = (true, x', k', t, [], h, refl, (refl, refl, refl))
 
   -- If testing the item `x` against the kept item `k` keeps `x` and leaves the items as `k'` and
   -- `x'`, then the list of the kept items is `k' ∷ x' ∷ []`.
   pub last-stays : (s t : S) (k x x' k' : T) → R s x k false t x' k'
-      → AskedLast R s k (x ∷ []) (true ∷ []) (k' ∷ x' ∷ []) t
+      → TestsEachAgainstLast R s k (x ∷ []) (true ∷ []) (k' ∷ x' ∷ []) t
   last-stays s t k x x' k' h = (false, x', k', t, [], h, refl, (x' ∷ [], (refl, refl, refl), refl))
 
   -- In this module, the items `zs` were tested after the kept item `l`. The flags `g` say which of
   -- the items `zs` were kept, and `ws` is the list of the kept items, including `l`. The tests
   -- changed the state of the closure from `t` to `u`.
-  module _ (t u : S) (l : T) (g : List Bool) (ws zs : List T) (m : AskedLast R t l zs g ws u) where
+  module _ (t u : S) (l : T) (g : List Bool) (ws zs : List T)
+      (m : TestsEachAgainstLast R t l zs g ws u) where
     -- Suppose that testing `xs` after the kept item `k` results in the kept items `pre ++ l ∷ []`,
     -- and that testing `zs` after `l` results in the kept items `ws`, including `l`. Then testing
     -- `xs ++ zs` after `k` results in `pre ++ ws`.
     pub last-append : (xs : List T) (s : S) (k : T) (f : List Bool) (pre : List T)
-        → AskedLast R s k xs f (pre ++ l ∷ []) t → AskedLast R s k (xs ++ zs) (f ++ g) (pre ++ ws) u
+        → TestsEachAgainstLast R s k xs f (pre ++ l ∷ []) t
+        → TestsEachAgainstLast R s k (xs ++ zs) (f ++ g) (pre ++ ws) u
     last-append [] s k f pre h =
         let e = last-same pre [] l k h.1 in
-        subst (λ (a : List Bool). AskedLast R s k zs (a ++ g) (pre ++ ws) u) (sym h.0)
-        (subst (λ (a : List T). AskedLast R s k zs g (a ++ ws) u) (sym e.0)
-        (subst (λ (a : T). AskedLast R s a zs g ws u) e.1
-        (subst (λ (a : S). AskedLast R a l zs g ws u) h.2 m)))
+        subst (λ (a : List Bool). TestsEachAgainstLast R s k zs (a ++ g) (pre ++ ws) u) (sym h.0)
+        (subst (λ (a : List T). TestsEachAgainstLast R s k zs g (a ++ ws) u) (sym e.0)
+        (subst (λ (a : T). TestsEachAgainstLast R s a zs g ws u) e.1
+        (subst (λ (a : S). TestsEachAgainstLast R a l zs g ws u) h.2 m)))
     last-append (x ∷ xs) s k f pre h = (
       h.0,
       h.1,
@@ -116,7 +119,7 @@ module _ {S T : Type 0} (R : OnPairs S T) where
           let c = after-first pre q.0 h.2 l q.2 (last-some xs h.3 t h.1 h.4 q.0 q.1) in (
             c.0 ++ ws,
             last-append xs h.3 h.1 h.4 c.0
-                (subst (λ (a : List T). AskedLast R h.3 h.1 xs h.4 a t) c.1 q.1),
+                (subst (λ (a : List T). TestsEachAgainstLast R h.3 h.1 xs h.4 a t) c.1 q.1),
             ap (λ (a : List T). a ++ ws) c.2,
           ))
           h.7,
@@ -133,7 +136,7 @@ module _ {S T : Type 0} (R : OnPairs S T) where
     pub pre : List T
     pub last : T
     pub was : xs ≡ first ∷ (done ++ after)
-    pub asked : AskedLast R s first done (all-stay (length pre)) (pre ++ last ∷ []) t
+    pub asked : TestsEachAgainstLast R s first done (all-stay (length pre)) (pre ++ last ∷ []) t
     pub kept : suc (length pre) ≡ m
     pub now : ys ≡ pre ++ last ∷ after
 
@@ -158,14 +161,14 @@ module _ {S T : Type 0} (R : OnPairs S T) where
     -- `NextPair b u zs a` holds if the next test, `a`, compared the first untested item with the
     -- last kept item. It returned `b`, and left the state `u` and the list `zs`.
     pub record NextPair (b : Bool) (u : S) (zs : List T)
-        (a : IsPairAskedAt R m t ys b u zs) : Type 0 where
+        (a : TestsPairAt R m t ys b u zs) : Type 0 where
       pub front : a.before ≡ h.pre
       pub last : a.kept ≡ h.last
       pub after : h.after ≡ a.later ∷ a.after
 
     -- Suppose that the next test, `a`, compared the item at index `m` with the item before it. Then
     -- `NextPair` holds: `a` compared the first untested item with the last kept item.
-    next-pair : (b : Bool) (u : S) (zs : List T) (a : IsPairAskedAt R m t ys b u zs)
+    next-pair : (b : Bool) (u : S) (zs : List T) (a : TestsPairAt R m t ys b u zs)
         → NextPair b u zs a
     next-pair b u zs a =
         let e : h.pre ++ h.last ∷ h.after ≡ a.before ++ a.kept ∷ a.later ∷ a.after = sym h.now
@@ -183,14 +186,14 @@ module _ {S T : Type 0} (R : OnPairs S T) where
 
     -- The next test, `a`, called the closure with the first untested item `a.later` and the last
     -- kept item `h.last`.
-    next-asked : (b : Bool) (u : S) (zs : List T) (a : IsPairAskedAt R m t ys b u zs)
+    next-asked : (b : Bool) (u : S) (zs : List T) (a : TestsPairAt R m t ys b u zs)
         → R t a.later h.last b u a.later_left a.kept_left
     next-asked b u zs a = subst (λ (k : T). R t a.later k b u a.later_left a.kept_left)
         (next-pair b u zs a).last a.asked
 
     -- The list `xs` consists of its first item, the items tested before the next test `a`, the item
     -- that `a` tested, and the untested items.
-    next-was : (b : Bool) (u : S) (zs : List T) (a : IsPairAskedAt R m t ys b u zs)
+    next-was : (b : Bool) (u : S) (zs : List T) (a : TestsPairAt R m t ys b u zs)
         → xs ≡ h.first ∷ ((h.done ++ a.later ∷ []) ++ a.after)
     next-was b u zs a = h.was ∙ ap (λ (l : List T). h.first ∷ l)
         (ap (λ (l : List T). h.done ++ l) (next-pair b u zs a).after
@@ -198,7 +201,7 @@ module _ {S T : Type 0} (R : OnPairs S T) where
 
     -- After the test `a`, the list `zs` contains the two items that `a` compared, as `a` left them.
     -- All other items are unchanged.
-    next-now : (b : Bool) (u : S) (zs : List T) (a : IsPairAskedAt R m t ys b u zs)
+    next-now : (b : Bool) (u : S) (zs : List T) (a : TestsPairAt R m t ys b u zs)
         → zs ≡ (h.pre ++ a.kept_left ∷ []) ++ a.later_left ∷ a.after
     next-now b u zs a =
         a.now ∙ (ap (λ (l : List T). l ++ a.kept_left ∷ a.later_left ∷ a.after)
@@ -208,7 +211,7 @@ module _ {S T : Type 0} (R : OnPairs S T) where
     -- `PairStays` states that the first items of a list were kept. If it holds for the first `m`
     -- items, and the item at index `m` was then tested and kept, then it also holds for the first
     -- `m + 1` items.
-    pub pair-more : (u : S) (zs : List T) → IsPairAskedAt R m t ys false u zs
+    pub pair-more : (u : S) (zs : List T) → TestsPairAt R m t ys false u zs
         → PairStays (m + 1) s xs u zs
     pair-more u zs a =
         let pre : List T = h.pre ++ a.kept_left ∷ [] in
@@ -226,19 +229,19 @@ module _ {S T : Type 0} (R : OnPairs S T) where
           pre = pre;
           last = a.later_left;
           was = next-was false u zs a;
-          asked = subst (λ (l : List T). AskedLast R s h.first (h.done ++ a.later ∷ [])
+          asked = subst (λ (l : List T). TestsEachAgainstLast R s h.first (h.done ++ a.later ∷ [])
               (all-stay (length pre)) l u)
               (sym (append_assoc h.pre (a.kept_left ∷ []) (a.later_left ∷ [])))
-              (subst (λ (f : List Bool). AskedLast R s h.first (h.done ++ a.later ∷ []) f
+              (subst (λ (f : List Bool). TestsEachAgainstLast R s h.first (h.done ++ a.later ∷ []) f
               (h.pre ++ a.kept_left ∷ a.later_left ∷ []) u) flags asked);
           kept = omega (arith, longer, h.kept);
           now = next-now false u zs a;
         }
 
     -- If the first `m` items were kept, and the test of the item at index `m` removes this item,
-    -- then `PairsAskedUpTo` holds: the tests stopped at index `m`.
-    pub pair-goes : (u : S) (zs : List T) → IsPairAskedAt R m t ys true u zs
-        → PairsAskedUpTo R m s xs u zs
+    -- then `TestsPairsUpTo` holds: the tests stopped at index `m`.
+    pub pair-goes : (u : S) (zs : List T) → TestsPairAt R m t ys true u zs
+        → TestsPairsUpTo R m s xs u zs
     pair-goes u zs a =
         record {
           first = h.first;
@@ -262,7 +265,7 @@ module _ {S T : Type 0} (R : OnPairs S T) where
   -- the kept items before this item.
 
   module _ (m : ℕ) (s : S) (xs : List T) (t : S) (ys : List T)
-      (r : PairsAskedUpTo R m s xs t ys) where
+      (r : TestsPairsUpTo R m s xs t ys) where
     -- The first `m` items of the list `ys` are the kept items, as the tests left them.
     pub run-left : take m ys ≡ r.left
     run-left = ap (take m) r.now ∙ take_at r.left (r.over ++ r.after) m r.long
@@ -298,7 +301,14 @@ module _ {S T : Type 0} (R : OnPairs S T) where
     -- are all false. Then the number `m` of kept items is 1 plus the number of true flags in
     -- `r.stays`. (A true flag means that a tested item is kept. The first item is kept without a
     -- test.)
-    pub run-count : (f : List Bool) → trues f ≡ 0 → r.stays ≡ all-stay r.more ++ f
-        → suc (trues r.stays) ≡ m
+    pub run-count : (f : List Bool) → count_true f ≡ 0 → r.stays ≡ all-stay r.more ++ f
+        → suc (count_true r.stays) ≡ m
     run-count f none e =
-        omega (arith, ap trues e, trues-join (all-stay r.more) f, trues-all r.more, none, r.kept)
+        omega (
+          arith,
+          ap count_true e,
+          count_true-join (all-stay r.more) f,
+          count_true-all r.more,
+          none,
+          r.kept,
+        )

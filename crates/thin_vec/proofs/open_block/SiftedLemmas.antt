@@ -3,18 +3,18 @@
 use Rattle.std.proofs.Common.{◌≡◌, ℕ, ◌+◌, ◌<◌, ◌≤◌, Bool, true, false, List, [], ◌∷◌, ◌++◌, length, take, drop, refl, sym, ap, subst, ◌∙◌, arith, length-append, append_assoc}
 use Rattle.std.proofs.Math.Seq.{take-add}
 use Rattle.std.proofs.lemmas.List.{append-nil, drop-drop, drop_at, length-drop, length-take-le, nil_from_length, take-append-drop, take_at}
-use Rattle.thin_block.specs.Cost.{moving}
-use Rattle.thin_vec.specs.Edits.Retain.{Verdicts, Asked, flags_of, left_at, moved_down, stay, trues}
-use Rattle.thin_vec.specs.Open.{Open}
-use Rattle.thin_vec.specs.OpenBlock.Sift.{Advances, IsAskedAt, IsSifted, AskedUpTo, Sifts}
-use Rattle.thin_vec.proofs.RetainLemmas.{left_at-append, left_at-stay, moved_down-stay, moving-after, moving-more, moving-none, trues-append, trues-stay}
+use Rattle.thin_block.specs.Cost.{add_moves}
+use Rattle.thin_vec.specs.Edits.Retain.{TestResults, TestsInTurn, flags_of, items_where, moves_of_retain, all_kept, count_true}
+use Rattle.thin_vec.specs.Open.{OpenView}
+use Rattle.thin_vec.specs.OpenBlock.Retain.{SeeksRejected, TestsAt, RetainsRest, TestsUpTo, RetainsSome}
+use Rattle.thin_vec.proofs.RetainLemmas.{items_where-append, items_where-stay, moves_of_retain-stay, moving-after, moving-more, moving-none, count_true-append, count_true-stay}
 use Rattle.thin_vec.proofs.open_block.TestLemmas.{Part, Stays, asked-append, part-ends, part-goes, runs-count, stays-goes, stays-more, stays-start}
 
 module _ {S T : Type 0} (R : S → T → Bool → S → T → Type 0) where
   -- The following definitions and lemmas are about open blocks. An open block is the block of a
   -- list during an edit.
 
-  module _ {A : Type 0} (v w : Open T A) where
+  module _ {A : Type 0} (v w : OpenView T A) where
     -- Suppose that some or all middle items of the open block `v` were tested, and that each tested
     -- item was moved to the front items or removed. If the result `w` has a gap before its middle
     -- items, then `Sifts` (the effect of tests and removals) relates `v` to `w`.
@@ -23,12 +23,12 @@ module _ {S T : Type 0} (R : S → T → Bool → S → T → Type 0) where
           front = v.front ++ kept;
           gap = w.gap;
           rest = w.rest;
-          cost = moving m v.cost;
-        } → Sifts R s v t w
+          cost = add_moves m v.cost;
+        } → RetainsSome R s v t w
     sifts-of m s t kept p gap now =
         record {
           done = p.done;
-          verdicts = p.verdicts;
+          results = p.results;
           rest = p.was;
           asked = p.asked;
           gap = gap;
@@ -36,27 +36,27 @@ module _ {S T : Type 0} (R : S → T → Bool → S → T → Type 0) where
             front = v.front ++ sym p.left i;
             gap = w.gap;
             rest = w.rest;
-            cost = moving (sym p.count i) v.cost;
+            cost = add_moves (sym p.count i) v.cost;
           });
         }
 
   -- In this module, the open block `v` has a gap of empty slots before its middle items. These
   -- items were tested in order until a test found an item to be removed, or no item remained. The
   -- tests turned `v` into the open block `w`, and changed the state of the closure from `s` to `t`.
-  module _ {A : Type 0} (s t : S) (v w : Open T A) (gap : 0 < v.gap)
-      (h : Advances R s v t w) where
+  module _ {A : Type 0} (s t : S) (v w : OpenView T A) (gap : 0 < v.gap)
+      (h : SeeksRejected R s v t w) where
     -- `kept` is the list of the tested items that are kept, as the closure left them.
     abbrev kept : List T
     kept = take h.count h.left
 
     -- The cost has increased by one move for each kept item.
-    moved : w.cost ≡ moving h.count v.cost
+    moved : w.cost ≡ add_moves h.count v.cost
     moved = ap (λ u. u.cost) h.now ∙ moving-after v.gap h.count v.cost gap
 
     -- If tests turned the open block `v` into `w`, and removing the item `value` turned `w` into
     -- `z`, then `Sifts` (the effect of tests and removals) relates `v` to `z`.
-    pub advanced-goes : (value : T) (z : Open T A) → w.rest ≡ value ∷ z.rest
-        → z ≡ record w { rest = z.rest; gap = w.gap + 1 } → Sifts R s v t z
+    pub advanced-goes : (value : T) (z : OpenView T A) → w.rest ≡ value ∷ z.rest
+        → z ≡ record w { rest = z.rest; gap = w.gap + 1 } → RetainsSome R s v t z
     advanced-goes value z rest same =
         sifts-of v z h.count s t kept
         (part-goes R h.count s v.rest t h.left h.run value z.rest
@@ -67,7 +67,7 @@ module _ {S T : Type 0} (R : S → T → Bool → S → T → Type 0) where
 
     -- If tests turned the open block `v` into `w`, and `w` has no middle items, then `Sifts` (the
     -- effect of tests and removals) relates `v` to `w`.
-    pub advanced-ends : w.rest ≡ [] → Sifts R s v t w
+    pub advanced-ends : w.rest ≡ [] → RetainsSome R s v t w
     advanced-ends none =
         sifts-of v w h.count s t kept
         (subst (λ (l : List T). Part R h.count s v.rest t kept l) (sym none)
@@ -84,10 +84,10 @@ module _ {S T : Type 0} (R : S → T → Bool → S → T → Type 0) where
       runs-count R h.count s v.rest t h.left h.run,
     )
 
-  -- Let `IsAskedAt` hold for the first item of `drop n ys`. Then it holds for the item at index `n`
+  -- Let `TestsAt` hold for the first item of `drop n ys`. Then it holds for the item at index `n`
   -- of `ys`.
   asked-later : (n : ℕ) (t : S) (ys : List T) (b : Bool) (u : S) (zs : List T) → n ≤ length ys
-      → IsAskedAt R 0 t (drop n ys) b u zs → IsAskedAt R n t ys b u (take n ys ++ zs)
+      → TestsAt R 0 t (drop n ys) b u zs → TestsAt R n t ys b u (take n ys ++ zs)
   asked-later n t ys b u zs low a =
       let none = nil_from_length a.before a.place in
       record {
@@ -107,18 +107,18 @@ module _ {S T : Type 0} (R : S → T → Bool → S → T → Type 0) where
   -- and kept, and that each of them was moved to the end of the front items. This changed the block
   -- from `v` to `w`, and the state of the test from `s` to `t`. The list `left` contains all middle
   -- items of `v`, as the tests left them.
-  pub record Keeps {A : Type 0} (s : S) (v : Open T A) (t : S) (w : Open T A) : Type 0 where
+  pub record Keeps {A : Type 0} (s : S) (v : OpenView T A) (t : S) (w : OpenView T A) : Type 0 where
     pub count : ℕ
     pub left : List T
     pub run : Stays R count s v.rest t left
     pub now : w ≡ record v {
       front = v.front ++ take count left;
       rest = drop count left;
-      cost = moving count v.cost;
+      cost = add_moves count v.cost;
     }
 
   -- Before the first test, `Keeps` holds for no items.
-  pub keeps-start : {A : Type 0} (s : S) (v : Open T A) → Keeps s v s v
+  pub keeps-start : {A : Type 0} (s : S) (v : OpenView T A) → Keeps s v s v
   keeps-start s v =
       record {
         count = 0;
@@ -128,7 +128,8 @@ module _ {S T : Type 0} (R : S → T → Bool → S → T → Type 0) where
             { front = sym (append-nil v.front) i; cost = sym (moving-none v.cost) i };
       }
 
-  module _ {A : Type 0} (s : S) (v : Open T A) (t : S) (w : Open T A) (h : Keeps s v t w) where
+  module _ {A : Type 0} (s : S) (v : OpenView T A) (t : S) (w : OpenView T A)
+      (h : Keeps s v t w) where
     -- The number of kept items is at most the number of all middle items of `v`.
     room : h.count ≤ length h.left
     room = omega
@@ -136,16 +137,16 @@ module _ {S T : Type 0} (R : S → T → Bool → S → T → Type 0) where
 
     -- In this module, the first middle item of `w` was tested. The test returned `b`, and changed
     -- the middle items to `zs`, the state of the test to `u`, and the block to `z`.
-    module _ (b : Bool) (u : S) (zs : List T) (a : IsAskedAt R 0 t w.rest b u zs) (z : Open T A)
+    module _ (b : Bool) (u : S) (zs : List T) (a : TestsAt R 0 t w.rest b u zs) (z : OpenView T A)
         (changes : z ≡ record w { rest = zs }) where
       -- `all` contains all middle items of `v`, as the tests left them.
       abbrev all : List T
       all = take h.count h.left ++ zs
 
       -- The test was a test of the item at index `count` of the middle items of `v`.
-      asked-all : IsAskedAt R h.count t h.left b u all
+      asked-all : TestsAt R h.count t h.left b u all
       asked-all = asked-later h.count t h.left b u zs room
-          (subst (λ (l : List T). IsAskedAt R 0 t l b u zs) (ap (λ x. x.rest) h.now) a)
+          (subst (λ (l : List T). TestsAt R 0 t l b u zs) (ap (λ x. x.rest) h.now) a)
 
       -- The test did not change the items that were kept before it.
       before-is : take h.count all ≡ take h.count h.left
@@ -157,10 +158,10 @@ module _ {S T : Type 0} (R : S → T → Bool → S → T → Type 0) where
 
       -- If the test keeps the item, and the item is moved to the end of the front items, then
       -- `Keeps` holds for one more item.
-      pub keeps-more : b ≡ true → (y : Open T A) → y ≡ record z {
+      pub keeps-more : b ≡ true → (y : OpenView T A) → y ≡ record z {
         front = z.front ++ take 1 z.rest;
         rest = drop 1 z.rest;
-        cost = moving 1 z.cost;
+        cost = add_moves 1 z.cost;
       } → Keeps s v u y
       keeps-more stays y moved =
           let n = h.count in
@@ -168,17 +169,17 @@ module _ {S T : Type 0} (R : S → T → Bool → S → T → Type 0) where
             count = n + 1;
             left = all;
             run = stays-more R n s v.rest t h.left h.run u all
-                (subst (λ (c : Bool). IsAskedAt R n t h.left c u all) stays asked-all);
+                (subst (λ (c : Bool). TestsAt R n t h.left c u all) stays asked-all);
             now = moved
                 ∙ ((λ i. let x = changes i in record x {
                   front = x.front ++ take 1 x.rest;
                   rest = drop 1 x.rest;
-                  cost = moving 1 x.cost;
+                  cost = add_moves 1 x.cost;
                 })
                 ∙ ((λ i. let x = h.now i in record x {
                   front = x.front ++ take 1 zs;
                   rest = drop 1 zs;
-                  cost = moving 1 x.cost;
+                  cost = add_moves 1 x.cost;
                 })
                 ∙ (λ i. record v {
                   front = (append_assoc v.front (take n h.left) (take 1 zs)
@@ -192,14 +193,14 @@ module _ {S T : Type 0} (R : S → T → Bool → S → T → Type 0) where
 
       -- If the test does not keep the item, then the search for the next item to be removed ends at
       -- this item.
-      pub keeps-goes : b ≡ false → 0 < v.gap → Advances R s v u z
+      pub keeps-goes : b ≡ false → 0 < v.gap → SeeksRejected R s v u z
       keeps-goes goes gap =
           let n = h.count in
           record {
             count = n;
             left = all;
             run = stays-goes R n s v.rest t h.left h.run u all
-                (subst (λ (c : Bool). IsAskedAt R n t h.left c u all) goes asked-all);
+                (subst (λ (c : Bool). TestsAt R n t h.left c u all) goes asked-all);
             now = changes
                 ∙ ((λ i. record (h.now i) { rest = zs })
                 ∙ (λ i. record v {
@@ -210,36 +211,37 @@ module _ {S T : Type 0} (R : S → T → Bool → S → T → Type 0) where
           }
 
     -- `Sifts`, the effect of tests and removals, holds for tests that keep all tested items.
-    pub keeps-sifts : 0 < v.gap → Sifts R s v t w
+    pub keeps-sifts : 0 < v.gap → RetainsSome R s v t w
     keeps-sifts gap =
         let n = h.count in
         let r = h.run in
         sifts-of v w n s t (take n h.left)
         (record {
           done = r.run;
-          verdicts = stay r.left;
+          results = all_kept r.left;
           was = r.was ∙ ap (λ (l : List T). r.run ++ l)
               (sym (ap (λ x. x.rest) h.now
               ∙ (ap (drop n) r.now ∙ drop_at r.left r.more n r.reached)));
           asked = r.asked;
-          left = left_at-stay r.left ∙ sym (ap (take n) r.now ∙ take_at r.left r.more n r.reached);
-          count = trues-stay r.left ∙ r.reached;
+          left = items_where-stay r.left
+              ∙ sym (ap (take n) r.now ∙ take_at r.left r.more n r.reached);
+          count = count_true-stay r.left ∙ r.reached;
         })
         (omega (arith, gap, ap (λ x. x.gap) h.now))
         (h.now ∙ (λ i. record v {
           front = v.front ++ take n h.left;
           gap = sym (ap (λ x. x.gap) h.now) i;
           rest = sym (ap (λ x. x.rest) h.now) i;
-          cost = moving n v.cost;
+          cost = add_moves n v.cost;
         }))
 
   -- `Sifts` (the effect of tests and removals) relates the open block `v` to itself before the
   -- first test, if `v` has a gap before its middle items.
-  pub sifts-start : {A : Type 0} (s : S) (v : Open T A) → 0 < v.gap → Sifts R s v s v
+  pub sifts-start : {A : Type 0} (s : S) (v : OpenView T A) → 0 < v.gap → RetainsSome R s v s v
   sifts-start s v gap =
       record {
         done = [];
-        verdicts = [];
+        results = [];
         rest = refl;
         asked = (refl, refl);
         gap = gap;
@@ -249,35 +251,38 @@ module _ {S T : Type 0} (R : S → T → Bool → S → T → Type 0) where
 
   -- `Sifts`, the effect of tests and removals, is transitive: if it relates the open block `v` to
   -- `w`, and `w` to `z`, then it relates `v` to `z`.
-  pub sifts-then : {A : Type 0} {s t u : S} {v w z : Open T A} → Sifts R s v t w
-      → Sifts R t w u z → Sifts R s v u z
+  pub sifts-then : {A : Type 0} {s t u : S} {v w z : OpenView T A} → RetainsSome R s v t w
+      → RetainsSome R t w u z → RetainsSome R s v u z
   sifts-then {s = s} {t} {u} {v} {w} {z} h k =
       record {
         done = h.done ++ k.done;
-        verdicts = h.verdicts ++ k.verdicts;
+        results = h.results ++ k.results;
         rest = h.rest ∙ (ap (λ (l : List T). h.done ++ l) k.rest
             ∙ sym (append_assoc h.done k.done z.rest));
-        asked = asked-append R t u k.done k.verdicts k.asked h.done s h.verdicts h.asked;
+        asked = asked-append R t u k.done k.results k.asked h.done s h.results h.asked;
         gap = k.gap;
         now = k.now ∙ ((λ i. let u = h.now i in record u {
-          front = u.front ++ left_at true k.verdicts;
+          front = u.front ++ items_where true k.results;
           gap = z.gap;
           rest = z.rest;
-          cost = moving (trues (flags_of k.verdicts)) u.cost;
+          cost = add_moves (count_true (flags_of k.results)) u.cost;
         })
             ∙ (λ i. record v {
-              front = (append_assoc v.front (left_at true h.verdicts) (left_at true k.verdicts)
+              front = (append_assoc v.front (items_where true h.results)
+                  (items_where true k.results)
                   ∙ ap (λ (l : List T). v.front ++ l)
-                  (sym (left_at-append h.verdicts k.verdicts))) i;
+                  (sym (items_where-append h.results k.results))) i;
               gap = z.gap;
               rest = z.rest;
-              cost = (moving-more (trues (flags_of k.verdicts)) (trues (flags_of h.verdicts)) v.cost
-                  ∙ ap (λ (n : ℕ). moving n v.cost) (sym (trues-append h.verdicts k.verdicts))) i;
+              cost = (moving-more (count_true (flags_of k.results))
+                  (count_true (flags_of h.results)) v.cost
+                  ∙ ap (λ (n : ℕ). add_moves n v.cost)
+                  (sym (count_true-append h.results k.results))) i;
             }));
       }
 
-  module _ {A : Type 0} (v w : Open T A) (m : ℕ) (s t : S) (ys : List T)
-      (run : AskedUpTo R m s v.rest t ys) where
+  module _ {A : Type 0} (v w : OpenView T A) (m : ℕ) (s t : S) (ys : List T)
+      (run : TestsUpTo R m s v.rest t ys) where
     -- `Passed` states that the open block `w` is `v` after the first `m` tested items were kept
     -- without being moved. These items are added to the front items. Apart from this, `w` may
     -- differ from `v` only in its gap and its middle items.
@@ -286,61 +291,62 @@ module _ {S T : Type 0} (R : S → T → Bool → S → T → Type 0) where
         { front = v.front ++ take m ys; gap = w.gap; rest = w.rest }
 
     -- Let `value` be the first item to be removed. If the open block `v` becomes `z` when `value`
-    -- is removed and all later middle items are tested, then `IsSifted` relates `v` to `z`.
-    -- `IsSifted` describes the effect of all these tests together.
-    pub sifted-goes : (value : T) (u : S) (z : Open T A) → Passed → drop m ys ≡ value ∷ w.rest
-        → Sifts R t w u z → z.rest ≡ [] → IsSifted R s v u z
+    -- is removed and all later middle items are tested, then `RetainsRest` relates `v` to `z`.
+    -- `RetainsRest` describes the effect of all these tests together.
+    pub sifted-goes : (value : T) (u : S) (z : OpenView T A) → Passed → drop m ys ≡ value ∷ w.rest
+        → RetainsSome R t w u z → z.rest ≡ [] → RetainsRest R s v u z
     unfolding part-goes
     sifted-goes value u z p k h none =
         let part = part-goes R m s v.rest t ys run value w.rest k in
         let stays : List T = run.left in
-        let verdicts : Verdicts T = part.verdicts ++ h.verdicts in
-        let up : moved_down (flags_of verdicts) ≡ trues (flags_of h.verdicts) =
-        ap (λ (a : Verdicts T). moved_down (flags_of a))
-        (append_assoc (stay stays) ((false, value) ∷ []) h.verdicts)
-        ∙ moved_down-stay stays ((false, value) ∷ h.verdicts) in
+        let results : TestResults T = part.results ++ h.results in
+        let up : moves_of_retain (flags_of results) ≡ count_true (flags_of h.results) =
+        ap (λ (a : TestResults T). moves_of_retain (flags_of a))
+        (append_assoc (all_kept stays) ((false, value) ∷ []) h.results)
+        ∙ moves_of_retain-stay stays ((false, value) ∷ h.results) in
         let all : h.done ≡ w.rest =
         sym (h.rest ∙ (ap (λ (l : List T). h.done ++ l) none ∙ append-nil h.done)) in
         record {
-          verdicts = verdicts;
-          asked = subst (λ (l : List T). Asked R s l verdicts u)
+          results = results;
+          asked = subst (λ (l : List T). TestsInTurn R s l results u)
               (ap (λ (l : List T). part.done ++ l) all ∙ sym part.was)
-              (asked-append R t u h.done h.verdicts h.asked part.done s part.verdicts part.asked);
+              (asked-append R t u h.done h.results h.asked part.done s part.results part.asked);
           now = h.now ∙ ((λ i. let u = p i in record u {
-            front = u.front ++ left_at true h.verdicts;
+            front = u.front ++ items_where true h.results;
             gap = z.gap;
             rest = none i;
-            cost = moving (sym up i) u.cost;
+            cost = add_moves (sym up i) u.cost;
           })
               ∙ (λ i. record v {
-                front = (ap (λ (l : List T). (v.front ++ l) ++ left_at true h.verdicts)
+                front = (ap (λ (l : List T). (v.front ++ l) ++ items_where true h.results)
                     (sym part.left)
-                    ∙ (append_assoc v.front (left_at true part.verdicts) (left_at true h.verdicts)
+                    ∙ (append_assoc v.front (items_where true part.results)
+                    (items_where true h.results)
                     ∙ ap (λ (l : List T). v.front ++ l)
-                    (sym (left_at-append part.verdicts h.verdicts)))) i;
+                    (sym (items_where-append part.results h.results)))) i;
                 gap = z.gap;
                 rest = [];
-                cost = moving (moved_down (flags_of verdicts)) v.cost;
+                cost = add_moves (moves_of_retain (flags_of results)) v.cost;
               }));
         }
 
-    -- If the tests found no item to be removed, then `IsSifted` (the effect of all tests) relates
-    -- the open block `v` before them to the open block `w` after them.
-    pub sifted-ends : Passed → drop m ys ≡ [] → w.rest ≡ [] → IsSifted R s v t w
+    -- If the tests found no item to be removed, then `RetainsRest` (the effect of all tests)
+    -- relates the open block `v` before them to the open block `w` after them.
+    pub sifted-ends : Passed → drop m ys ≡ [] → w.rest ≡ [] → RetainsRest R s v t w
     unfolding part-ends
     sifted-ends p k none =
         let part = part-ends R m s v.rest t ys run k in
-        let up : moved_down (flags_of part.verdicts) ≡ 0 =
-        ap (λ (a : Verdicts T). moved_down (flags_of a)) (sym (append-nil part.verdicts))
-        ∙ moved_down-stay run.left [] in
+        let up : moves_of_retain (flags_of part.results) ≡ 0 =
+        ap (λ (a : TestResults T). moves_of_retain (flags_of a)) (sym (append-nil part.results))
+        ∙ moves_of_retain-stay run.left [] in
         record {
-          verdicts = part.verdicts;
-          asked = subst (λ (l : List T). Asked R s l part.verdicts t)
+          results = part.results;
+          asked = subst (λ (l : List T). TestsInTurn R s l part.results t)
               (sym (append-nil part.done) ∙ sym part.was) part.asked;
           now = p ∙ (λ i. record v {
             front = v.front ++ sym part.left i;
             gap = w.gap;
             rest = none i;
-            cost = (sym (moving-none v.cost) ∙ ap (λ (n : ℕ). moving n v.cost) (sym up)) i;
+            cost = (sym (moving-none v.cost) ∙ ap (λ (n : ℕ). add_moves n v.cost) (sym up)) i;
           });
         }

@@ -2,21 +2,21 @@
 -- `R` describes the calls to the closure, and `s`, `t` and `u` are its states.
 use Rattle.std.proofs.Common.{◌≡◌, ℕ, suc, ◌+◌, Bool, true, false, List, [], ◌∷◌, ◌++◌, length, take, drop, refl, sym, ap, subst, ◌∙◌, arith, length-append, append_assoc}
 use Rattle.std.proofs.lemmas.List.{append-nil, drop_at, map_push, take_at}
-use Rattle.thin_vec.specs.Edits.Retain.{Verdicts, Asked, flags_of, left_at, stay, trues}
-use Rattle.thin_vec.specs.OpenBlock.Sift.{IsAskedAt, AskedUpTo, Stops}
-use Rattle.thin_vec.proofs.RetainLemmas.{cons-head, cons-not-nil, cons-tail, left_at-append, left_at-stay, trues-append, trues-stay}
+use Rattle.thin_vec.specs.Edits.Retain.{TestResults, TestsInTurn, flags_of, items_where, all_kept, count_true}
+use Rattle.thin_vec.specs.OpenBlock.Retain.{TestsAt, TestsUpTo, IsRejectedFirst}
+use Rattle.thin_vec.proofs.RetainLemmas.{cons-head, cons-not-nil, cons-tail, items_where-append, items_where-stay, count_true-append, count_true-stay}
 
 module _ {S T : Type 0} (R : S → T → Bool → S → T → Type 0) where
   -- In this module, the items `ys` were tested with the results `b`. The tests changed the state of
   -- the closure from `t` to `u`.
-  module _ (t u : S) (ys : List T) (b : Verdicts T) (k : Asked R t ys b u) where
-    -- If testing `xs` takes the closure from the state `s` to `t` with the verdicts `a`, and
-    -- testing `ys` takes it from `t` to `u` with the verdicts `b`, then testing `xs ++ ys` takes it
-    -- from `s` to `u` with the verdicts `a ++ b`.
-    pub asked-append : (xs : List T) (s : S) (a : Verdicts T) → Asked R s xs a t
-        → Asked R s (xs ++ ys) (a ++ b) u
-    asked-append [] s a h = subst (λ (c : Verdicts T). Asked R s ys (c ++ b) u) (sym h.0)
-        (subst (λ (q : S). Asked R q ys b u) h.1 k)
+  module _ (t u : S) (ys : List T) (b : TestResults T) (k : TestsInTurn R t ys b u) where
+    -- If testing `xs` takes the closure from the state `s` to `t` with the results `a`, and
+    -- testing `ys` takes it from `t` to `u` with the results `b`, then testing `xs ++ ys` takes it
+    -- from `s` to `u` with the results `a ++ b`.
+    pub asked-append : (xs : List T) (s : S) (a : TestResults T) → TestsInTurn R s xs a t
+        → TestsInTurn R s (xs ++ ys) (a ++ b) u
+    asked-append [] s a h = subst (λ (c : TestResults T). TestsInTurn R s ys (c ++ b) u) (sym h.0)
+        (subst (λ (q : S). TestsInTurn R q ys b u) h.1 k)
     asked-append (x ∷ xs) s a h = (
       h.0,
       h.1,
@@ -24,12 +24,13 @@ module _ {S T : Type 0} (R : S → T → Bool → S → T → Type 0) where
       h.3 ++ b,
       h.4,
       asked-append xs h.2 h.3 h.5,
-      ap (λ (c : Verdicts T). c ++ b) h.6,
+      ap (λ (c : TestResults T). c ++ b) h.6,
     )
 
   -- If testing the item `x` returned `b` and changed `x` to `y`, then `Asked` holds for the list
   -- `x ∷ []`: all its items were tested.
-  pub asked-one : (s t : S) (x y : T) (b : Bool) → R s x b t y → Asked R s (x ∷ []) ((b, y) ∷ []) t
+  pub asked-one : (s t : S) (x y : T) (b : Bool) → R s x b t y
+      → TestsInTurn R s (x ∷ []) ((b, y) ∷ []) t
   asked-one s t x y b h = (b, y, t, [], h, (refl, refl), refl)
 
   -- The following definitions and lemmas are about adjacent items that a closure tests and keeps.
@@ -42,7 +43,7 @@ module _ {S T : Type 0} (R : S → T → Bool → S → T → Type 0) where
     pub more : List T
     pub reached : length left ≡ m
     pub was : xs ≡ run ++ more
-    pub asked : Asked R s run (stay left) t
+    pub asked : TestsInTurn R s run (all_kept left) t
     pub now : ys ≡ left ++ more
 
   -- `Stays` states that the first items were tested and kept. Before the first test, it holds for
@@ -62,7 +63,7 @@ module _ {S T : Type 0} (R : S → T → Bool → S → T → Type 0) where
   module _ (m : ℕ) (s : S) (xs : List T) (t : S) (ys : List T) (h : Stays m s xs t ys) where
     -- If `a` is the test of the item at index `m`, then `h.left` contains the items before it, and
     -- `h.more` is this item, followed by `a.after`.
-    next-parts : (b : Bool) (u : S) (zs : List T) (a : IsAskedAt R m t ys b u zs)
+    next-parts : (b : Bool) (u : S) (zs : List T) (a : TestsAt R m t ys b u zs)
         → (a.before ≡ h.left) × (h.more ≡ a.item ∷ a.after)
     next-parts b u zs a =
         let e : h.left ++ h.more ≡ a.before ++ a.item ∷ a.after = sym h.now ∙ a.was in (
@@ -73,16 +74,16 @@ module _ {S T : Type 0} (R : S → T → Bool → S → T → Type 0) where
         )
 
     -- The test `a` of the item at index `m` changes no other item of the list.
-    next-now : (b : Bool) (u : S) (zs : List T) (a : IsAskedAt R m t ys b u zs)
+    next-now : (b : Bool) (u : S) (zs : List T) (a : TestsAt R m t ys b u zs)
         → zs ≡ h.left ++ a.left ∷ a.after
     next-now b u zs a = a.now ∙ ap (λ (l : List T). l ++ a.left ∷ a.after) (next-parts b u zs a).0
 
     -- If `Stays` holds for the first `m` items, and the test of the item at index `m` keeps it,
     -- then `Stays` holds for the first `m + 1` items.
-    pub stays-more : (u : S) (zs : List T) → IsAskedAt R m t ys true u zs
+    pub stays-more : (u : S) (zs : List T) → TestsAt R m t ys true u zs
         → Stays (m + 1) s xs u zs
     stays-more u zs a =
-        let joined : stay h.left ++ (true, a.left) ∷ [] ≡ stay (h.left ++ a.left ∷ []) =
+        let joined : all_kept h.left ++ (true, a.left) ∷ [] ≡ all_kept (h.left ++ a.left ∷ []) =
         sym (map_push (λ (x : T). (true, x)) h.left a.left) in
         record {
           run = h.run ++ a.item ∷ [];
@@ -91,16 +92,16 @@ module _ {S T : Type 0} (R : S → T → Bool → S → T → Type 0) where
           reached = omega (arith, h.reached, length-append h.left (a.left ∷ []));
           was = h.was ∙ (ap (λ (l : List T). h.run ++ l) (next-parts true u zs a).1
               ∙ sym (append_assoc h.run (a.item ∷ []) a.after));
-          asked = subst (λ (c : Verdicts T). Asked R s (h.run ++ a.item ∷ []) c u) joined
+          asked = subst (λ (c : TestResults T). TestsInTurn R s (h.run ++ a.item ∷ []) c u) joined
               (asked-append t u (a.item ∷ []) ((true, a.left) ∷ [])
-              (asked-one t u a.item a.left true a.asked) h.run s (stay h.left) h.asked);
+              (asked-one t u a.item a.left true a.asked) h.run s (all_kept h.left) h.asked);
           now = next-now true u zs a ∙ sym (append_assoc h.left (a.left ∷ []) a.after);
         }
 
     -- If the closure keeps the first `m` items and removes the item at index `m`, then the tests
-    -- stop at index `m`, as `AskedUpTo` states.
-    pub stays-goes : (u : S) (zs : List T) → IsAskedAt R m t ys false u zs
-        → AskedUpTo R m s xs u zs
+    -- stop at index `m`, as `TestsUpTo` states.
+    pub stays-goes : (u : S) (zs : List T) → TestsAt R m t ys false u zs
+        → TestsUpTo R m s xs u zs
     stays-goes u zs a =
         record {
           run = h.run;
@@ -117,24 +118,25 @@ module _ {S T : Type 0} (R : S → T → Bool → S → T → Type 0) where
 
   -- Suppose that a closure has tested and kept all items of `xs`. Then `ys`, the list of these
   -- items as the tests left them, has the same length as `xs`.
-  stay-count : (xs : List T) (s t : S) (ys : List T) → Asked R s xs (stay ys) t
+  stay-count : (xs : List T) (s t : S) (ys : List T) → TestsInTurn R s xs (all_kept ys) t
       → length xs ≡ length ys
   stay-count [] s t [] h = refl
   stay-count [] s t (y ∷ ys) h = absurd (cons-not-nil h.0)
   stay-count (x ∷ xs) s t [] h = absurd (cons-not-nil (sym h.6))
   stay-count (x ∷ xs) s t (y ∷ ys) h =
       ap suc (stay-count xs h.2 t ys
-      (subst (λ (a : Verdicts T). Asked R h.2 xs a t) (sym (cons-tail h.6)) h.5))
+      (subst (λ (a : TestResults T). TestsInTurn R h.2 xs a t) (sym (cons-tail h.6)) h.5))
 
   -- The test that ends a sequence of tests does not change the number of items: the list `b` of the
   -- items after the kept items is as long as the resulting list `e`.
-  stop-count : (u : S) (b : List T) (t : S) (e : List T) → Stops R u b t e → length e ≡ length b
+  stop-count : (u : S) (b : List T) (t : S) (e : List T) → IsRejectedFirst R u b t e
+      → length e ≡ length b
   stop-count u [] t e h = ap length h.0
   stop-count u (x ∷ b) t e h = ap length h.2
 
   -- If a closure tested the items of `xs` up to the first item to be removed, then the resulting
   -- list `ys` has the same length as `xs`.
-  pub runs-count : (m : ℕ) (s : S) (xs : List T) (t : S) (ys : List T) → AskedUpTo R m s xs t ys
+  pub runs-count : (m : ℕ) (s : S) (xs : List T) (t : S) (ys : List T) → TestsUpTo R m s xs t ys
       → length ys ≡ length xs
   runs-count m s xs t ys r =
       omega (
@@ -155,13 +157,13 @@ module _ {S T : Type 0} (R : S → T → Bool → S → T → Type 0) where
   -- tests changed the state of the closure from `s` to `t`.
   pub record Part (m : ℕ) (s : S) (xs : List T) (t : S) (kept rest : List T) : Type 0 where
     pub done : List T
-    pub verdicts : Verdicts T
+    pub results : TestResults T
     pub was : xs ≡ done ++ rest
-    pub asked : Asked R s done verdicts t
-    pub left : left_at true verdicts ≡ kept
-    pub count : trues (flags_of verdicts) ≡ m
+    pub asked : TestsInTurn R s done results t
+    pub left : items_where true results ≡ kept
+    pub count : count_true (flags_of results) ≡ m
 
-  module _ (m : ℕ) (s : S) (xs : List T) (t : S) (ys : List T) (r : AskedUpTo R m s xs t ys) where
+  module _ (m : ℕ) (s : S) (xs : List T) (t : S) (ys : List T) (r : TestsUpTo R m s xs t ys) where
     -- The first `m` items of the list `ys` are the kept items, as the closure left them.
     pub run-kept : take m ys ≡ r.left
     run-kept = ap (take m) r.now ∙ take_at r.left r.end m r.reached
@@ -173,7 +175,8 @@ module _ {S T : Type 0} (R : S → T → Bool → S → T → Type 0) where
 
     -- If the last test turned the list `b` into `v ∷ rest`, then `b` was `x ∷ rest` for some item
     -- `x`, and the test returned false for `x` and left it as `v`.
-    pub stop-goes : (u : S) (b e : List T) (v : T) (rest : List T) → Stops R u b t e → e ≡ v ∷ rest
+    pub stop-goes : (u : S) (b e : List T) (v : T) (rest : List T) → IsRejectedFirst R u b t e
+        → e ≡ v ∷ rest
         → (x : T) × (b ≡ x ∷ rest) × R u x false t v
     stop-goes u [] e v rest h k = absurd (cons-not-nil (sym k ∙ h.0))
     stop-goes u (x ∷ b) e v rest h k =
@@ -190,27 +193,29 @@ module _ {S T : Type 0} (R : S → T → Bool → S → T → Type 0) where
         let g = stop-goes r.between r.after r.end v rest r.stops (sym run-end ∙ k) in
         record {
           done = r.run ++ g.0 ∷ [];
-          verdicts = stay r.left ++ (false, v) ∷ [];
+          results = all_kept r.left ++ (false, v) ∷ [];
           was = r.was ∙ (ap (λ (l : List T). r.run ++ l) g.1
               ∙ sym (append_assoc r.run (g.0 ∷ []) rest));
           asked = asked-append r.between t (g.0 ∷ []) ((false, v) ∷ [])
-              (asked-one r.between t g.0 v false g.2) r.run s (stay r.left) r.asked;
-          left = left_at-append (stay r.left) ((false, v) ∷ [])
-              ∙ (append-nil (left_at true (stay r.left)) ∙ (left_at-stay r.left ∙ sym run-kept));
-          count = let none : trues (flags_of (let one : Verdicts T = (false, v) ∷ [] in one)) ≡ 0 =
+              (asked-one r.between t g.0 v false g.2) r.run s (all_kept r.left) r.asked;
+          left = items_where-append (all_kept r.left) ((false, v) ∷ [])
+              ∙ (append-nil (items_where true (all_kept r.left))
+              ∙ (items_where-stay r.left ∙ sym run-kept));
+          count = let none : count_true
+              (flags_of (let one : TestResults T = (false, v) ∷ [] in one)) ≡ 0 =
               refl in omega (
                 arith,
-                trues-append (stay r.left) ((false, v) ∷ []),
-                trues-stay r.left,
+                count_true-append (all_kept r.left) ((false, v) ∷ []),
+                count_true-stay r.left,
                 r.reached,
                 none,
               );
         }
 
-    -- `Stops R u b t e` describes the end of a sequence of tests, which left the items `b` after
-    -- the kept items as `e`. If `e` is empty, then `b` is also empty, and the state of the closure
-    -- did not change: `t` is `u`.
-    pub stop-ends : (u : S) (b e : List T) → Stops R u b t e → e ≡ [] → (b ≡ []) × (t ≡ u)
+    -- `IsRejectedFirst R u b t e` describes the end of a sequence of tests, which left the items
+    -- `b` after the kept items as `e`. If `e` is empty, then `b` is also empty, and the state of
+    -- the closure did not change: `t` is `u`.
+    pub stop-ends : (u : S) (b e : List T) → IsRejectedFirst R u b t e → e ≡ [] → (b ≡ []) × (t ≡ u)
     stop-ends u [] e h k = (refl, h.1)
     stop-ends u (x ∷ b) e h k = absurd (cons-not-nil (sym h.2 ∙ k))
 
@@ -220,9 +225,9 @@ module _ {S T : Type 0} (R : S → T → Bool → S → T → Type 0) where
         let g = stop-ends r.between r.after r.end r.stops (sym run-end ∙ k) in
         record {
           done = r.run;
-          verdicts = stay r.left;
+          results = all_kept r.left;
           was = r.was ∙ ap (λ (l : List T). r.run ++ l) g.0;
-          asked = subst (λ (q : S). Asked R s r.run (stay r.left) q) (sym g.1) r.asked;
-          left = left_at-stay r.left ∙ sym run-kept;
-          count = trues-stay r.left ∙ r.reached;
+          asked = subst (λ (q : S). TestsInTurn R s r.run (all_kept r.left) q) (sym g.1) r.asked;
+          left = items_where-stay r.left ∙ sym run-kept;
+          count = count_true-stay r.left ∙ r.reached;
         }

@@ -3,21 +3,23 @@
 use Rattle.std.specs.Prelude.{◌≡◌, ◌++◌, ℕ, ◌+◌, ◌-◌, List, length}
 use Rattle.std.specs.Iterator.{YieldsFirst, YieldsLast}
 use Rattle.std.specs.Iterator.Runs.{YieldsInOrder, YieldsInReverse}
-use Rattle.thin_block.specs.Block.{IsFrom}
-use Rattle.thin_block.specs.Slots.{empty, full, items_in}
+use Rattle.thin_block.specs.Block.{IsAllocatedBy}
+use Rattle.thin_block.specs.Slots.{empty_slots, filled_slots, items_in}
 use Rattle.thin_block.specs.declared.block.Block.{Block}
-use Rattle.thin_vec.specs.ThinVec.{Thin}
+use Rattle.thin_vec.specs.ThinVec.{ListView}
 
 module _ {T A : Type 0} where
-  -- `IsWalked b a start end` describes the block `b` of an iterator: exactly the slots `start..end`
-  -- hold items, and the memory of `b`, if it has any, came from the allocator `a`.
-  pub record IsWalked (b : Block T A) (a : A) (start end : ℕ) : Type 0 where
-    pub row : b.slots ≡ empty start ++ (full (items_in b.slots) ++ empty (length b.slots - end))
+  -- `IsIntoIterBlock b a start end` describes the block `b` of an iterator: exactly the slots
+  -- `start..end` hold items, and the memory of `b`, if it has any, came from the allocator `a`.
+  pub record IsIntoIterBlock (b : Block T A) (a : A) (start end : ℕ) : Type 0 where
+    pub row : b.slots
+        ≡ empty_slots start
+        ++ (filled_slots (items_in b.slots) ++ empty_slots (length b.slots - end))
     pub len : start + length (items_in b.slots) ≡ end
-    pub from : IsFrom b.alloc a
+    pub from : IsAllocatedBy b.alloc a
 
   -- `rest v` is the list of the items that the iterator `v` has not yielded yet.
-  abbrev pub rest : Thin T A → List T
+  abbrev pub rest : ListView T A → List T
   rest v = v.items
 
 module _ (T A : Type 0) where

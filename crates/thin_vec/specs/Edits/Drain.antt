@@ -5,39 +5,40 @@ use Rattle.std.specs.Borrow.{GName}
 use Rattle.std.specs.Iterator.{Yields, YieldsFirst, YieldsLast}
 use Rattle.std.specs.Iterator.Runs.{YieldsInOrder, YieldsInReverse}
 use Rattle.thin_block.specs.declared.growth.Growth.{Ghosts}
-use Rattle.thin_vec.specs.Open.{Open, cost_drained}
-use Rattle.thin_vec.specs.ThinVec.{Thin}
+use Rattle.thin_vec.specs.Open.{OpenView, cost_drained}
+use Rattle.thin_vec.specs.ThinVec.{ListView}
 use Rattle.thin_vec.specs.declared.edits.drain.Drain.{Drain}
 use Rattle.thin_vec.specs.declared.edits.holder.Holder.{Holder}
-use Rattle.thin_vec.specs.declared.edits.holder.Holds.{Ghosts as HoldsGhosts}
+use Rattle.thin_vec.specs.declared.edits.holder.IntoInner.{Ghosts as IntoInnerGhosts}
 
 -- A `Drain` has a field that owns the block of the list until the `Drain` is dropped. In this
 -- module, the type of this field is `Holder`, as in every `Drain` that the method `drain` returns.
-module _ {T A G : Type 0} {g : Ghosts G} {h : HoldsGhosts (Holder (Open T A)) (Open T A)} where
+module _ {T A G : Type 0} {g : Ghosts G}
+    {h : IntoInnerGhosts (Holder (OpenView T A)) (OpenView T A)} where
   -- `drain_block d` is the open block that the `Drain` `d` owns. Its three parts are the items
   -- before the range, the items of the range not yet yielded, and the items after the range. When
   -- `d` is dropped, the first and the last part remain in the list.
-  abbrev pub drain_block : Drain T A G (Holder (Open T A)) g h → Open T A
+  abbrev pub drain_block : Drain T A G (Holder (OpenView T A)) g h → OpenView T A
   drain_block d = d.holder.value
 
   -- `drain_rest d` contains the items of the range that the `Drain` `d` has not yielded yet.
-  abbrev pub drain_rest : Drain T A G (Holder (Open T A)) g h → List T
+  abbrev pub drain_rest : Drain T A G (Holder (OpenView T A)) g h → List T
   drain_rest d = (drain_block d).rest
 
   -- `drain_list d` is the list that the `Drain` `d` borrows, as it is until `d` is dropped. It
   -- stays as it is if `d` is leaked.
-  abbrev pub drain_list : Drain T A G (Holder (Open T A)) g h → Thin T A
+  abbrev pub drain_list : Drain T A G (Holder (OpenView T A)) g h → ListView T A
   drain_list d = d.list.now
 
   -- `drain_lender d` identifies the list that the `Drain` borrows. It is the ghost name of the
   -- reference to this list, and exists only in contracts and proofs. References with equal ghost
   -- names borrow the same list.
-  abbrev pub drain_lender : Drain T A G (Holder (Open T A)) g h → GName
+  abbrev pub drain_lender : Drain T A G (Holder (OpenView T A)) g h → GName
   drain_lender d = d.list.ghost_name
 
   -- `DrainKeeps old new` states that `old` and `new` borrow the same list, and that dropping `old`
   -- would result in the same list as dropping `new`.
-  pub record DrainKeeps (old new : Drain T A G (Holder (Open T A)) g h) : Type 0 where
+  pub record DrainKeeps (old new : Drain T A G (Holder (OpenView T A)) g h) : Type 0 where
     pub lender : drain_lender new ≡ drain_lender old
     pub kept : (drain_block new).front ++ (drain_block new).tail
         ≡ (drain_block old).front ++ (drain_block old).tail
@@ -47,29 +48,29 @@ module _ {T A G : Type 0} {g : Ghosts G} {h : HoldsGhosts (Holder (Open T A)) (O
 
   -- `DrainSteps old item new` holds if a call to `next` returned `item` and changed the `Drain`
   -- from `old` to `new`.
-  pub record DrainSteps (old : Drain T A G (Holder (Open T A)) g h) (item : Option T)
-      (new : Drain T A G (Holder (Open T A)) g h) : Type 0 where
+  pub record DrainSteps (old : Drain T A G (Holder (OpenView T A)) g h) (item : Option T)
+      (new : Drain T A G (Holder (OpenView T A)) g h) : Type 0 where
     pub gave : YieldsFirst drain_rest old item new
     pub keeps : DrainKeeps old new
 
   -- `DrainStepsBack old item new` holds if a call to `next_back` returned `item` and changed the
   -- `Drain` from `old` to `new`.
-  pub record DrainStepsBack (old : Drain T A G (Holder (Open T A)) g h) (item : Option T)
-      (new : Drain T A G (Holder (Open T A)) g h) : Type 0 where
+  pub record DrainStepsBack (old : Drain T A G (Holder (OpenView T A)) g h) (item : Option T)
+      (new : Drain T A G (Holder (OpenView T A)) g h) : Type 0 where
     pub gave : YieldsLast drain_rest old item new
     pub keeps : DrainKeeps old new
 
   -- `DrainStepsEither old item new` holds if a call to `next` or to `next_back` returned `item` and
   -- changed the `Drain` from `old` to `new`.
-  abbrev pub DrainStepsEither : Drain T A G (Holder (Open T A)) g h → Option T
-      → Drain T A G (Holder (Open T A)) g h → Type 0
+  abbrev pub DrainStepsEither : Drain T A G (Holder (OpenView T A)) g h → Option T
+      → Drain T A G (Holder (OpenView T A)) g h → Type 0
   DrainStepsEither old item new = DrainSteps old item new ⊎ DrainStepsBack old item new
 
   -- `DrainLeaves first items later` states what calls to `next` and `next_back` leave, after they
   -- yielded `items` and changed the `Drain` from `first` to `later`. The items of `before` were
   -- yielded from the front, and those of `after` from the back.
-  pub record DrainLeaves (first : Drain T A G (Holder (Open T A)) g h) (items : List T)
-      (later : Drain T A G (Holder (Open T A)) g h) : Type 0 where
+  pub record DrainLeaves (first : Drain T A G (Holder (OpenView T A)) g h) (items : List T)
+      (later : Drain T A G (Holder (OpenView T A)) g h) : Type 0 where
     pub keeps : DrainKeeps first later
     pub before : List T
     pub after : List T
@@ -79,18 +80,18 @@ module _ {T A G : Type 0} {g : Ghosts G} {h : HoldsGhosts (Holder (Open T A)) (O
   -- `DrainKeepsAlong d` states what calls to `next` and `next_back` on the `Drain` `d` leave, in
   -- whatever order and however many there are: they do not change the list that will remain after
   -- `d` is dropped, and take items from the two ends of `drain_rest d`.
-  abbrev pub DrainKeepsAlong : Drain T A G (Holder (Open T A)) g h → Type 0
-  DrainKeepsAlong first = (items : List T) (later : Drain T A G (Holder (Open T A)) g h)
+  abbrev pub DrainKeepsAlong : Drain T A G (Holder (OpenView T A)) g h → Type 0
+  DrainKeepsAlong first = (items : List T) (later : Drain T A G (Holder (OpenView T A)) g h)
       → Yields DrainStepsEither first items later → DrainLeaves first items later
 
   -- `DrainsInOrder d` states that calls to `next` yield the remaining items of the range
   -- (`drain_rest`) in order. It states this for every `Drain` of the type of `d`. The value `d`
   -- only names this type.
-  abbrev pub DrainsInOrder : Drain T A G (Holder (Open T A)) g h → Type 0
+  abbrev pub DrainsInOrder : Drain T A G (Holder (OpenView T A)) g h → Type 0
   DrainsInOrder d = YieldsInOrder DrainSteps drain_rest
 
   -- `DrainsInReverse d` states that calls to `next_back` yield the remaining items of the range
   -- (`drain_rest`) in reverse order. It states this for every `Drain` of the type of `d`. The value
   -- `d` only names this type.
-  abbrev pub DrainsInReverse : Drain T A G (Holder (Open T A)) g h → Type 0
+  abbrev pub DrainsInReverse : Drain T A G (Holder (OpenView T A)) g h → Type 0
   DrainsInReverse d = YieldsInReverse DrainStepsBack drain_rest

@@ -4,56 +4,58 @@ use Rattle.std.specs.Prelude.{◌≡◌, ℕ, ◌+◌, ◌*◌, ◌<◌, ◌≤�
 use Rattle.std.specs.Iterator.{Count, Drains, size}
 use Rattle.std.specs.declared.result.Result.{Result}
 use Rattle.std.specs.Borrow.{RattleType}
-use Rattle.thin_block.specs.Cost.{moving}
-use Rattle.thin_block.specs.Growth.{Rule}
+use Rattle.thin_block.specs.Cost.{add_moves}
+use Rattle.thin_block.specs.Growth.{GrowthRule}
 use Rattle.thin_vec.specs.Cheap.{IsCheap}
-use Rattle.thin_vec.specs.List.Extend.{CostsAdding, IsExtended, IsLoose}
-use Rattle.thin_vec.specs.Edits.Splice.{FailsAsExtend, IsStopCause, Stopped, left_of, with_between}
-use Rattle.thin_vec.specs.Open.{Open}
-use Rattle.thin_vec.specs.ThinVec.{HasRoomFor, Thin}
+use Rattle.thin_vec.specs.List.Extend.{CostsInserting, IsCapacityAfterExtend, IsKeptOrGrown}
+use Rattle.thin_vec.specs.Edits.Splice.{FailsAsExtend, IsSpliceCause, SpliceErrorAccountsFor, without_middle, with_replacement}
+use Rattle.thin_vec.specs.Open.{OpenView}
+use Rattle.thin_vec.specs.ThinVec.{HasRoomFor, ListView}
 use Rattle.thin_vec.specs.declared.errors.SpliceRefused.{SpliceRefused}
 
 module _ {T A : Type 0} where
-  -- `HasTaken rule R v w n left` describes how adding items of an iterator turned the list `v` into
-  -- `w`. `rule` is the growth rule of the list, and `R` is the type of the items. The iterator
+  -- `AddsFromIter rule R v w n left` describes how adding items of an iterator turned the list `v`
+  -- into `w`. `rule` is the growth rule of the list, and `R` is the type of the items. The iterator
   -- could yield at most `left` items, and the old items of `v` were moved at most `n` times in
   -- total.
-  pub record HasTaken (rule : Rule) (R : RattleType) (v w : Thin T A) (n : ℕ)
+  pub record AddsFromIter (rule : GrowthRule) (R : RattleType) (v w : ListView T A) (n : ℕ)
       (left : Count) : Type 0 where
-    pub capacity : IsLoose rule R v.capacity w.capacity
+    pub capacity : IsKeptOrGrown rule R v.capacity w.capacity
     pub had_room : HasRoomFor v (size left) → w.capacity ≡ v.capacity
-    pub cost : CostsAdding v w n
+    pub cost : CostsInserting v w n
     pub alloc : w.alloc ≡ v.alloc
     pub cheap : IsCheap v → IsCheap w
 
-  -- `IsClosedWith v xs a w` holds if writing the items `xs` into the gap of the open block `v` (a
+  -- `IsGapFilled v xs a w` holds if writing the items `xs` into the gap of the open block `v` (a
   -- block during an edit) results in the list `w` with the allocator `a`.
-  pub record IsClosedWith (v : Open T A) (xs : List T) (a : A) (w : Thin T A) : Type 0 where
-    pub items : w.items ≡ with_between v xs
+  pub record IsGapFilled (v : OpenView T A) (xs : List T) (a : A) (w : ListView T A) : Type 0 where
+    pub items : w.items ≡ with_replacement v xs
     pub capacity : w.capacity ≡ v.capacity
     pub alloc : w.alloc ≡ a
     -- The cost counts one move for each item of `xs`, and `m` moves for the items after the range.
     -- Each of these items is moved at most once.
-    pub cost : (m : ℕ) × (w.cost ≡ moving (length xs + m) v.cost) × (m ≤ length v.tail)
+    pub cost : (m : ℕ) × (w.cost ≡ add_moves (length xs + m) v.cost) × (m ≤ length v.tail)
         × (length xs ≡ v.gap → m ≡ 0)
 
 module _ {S T A : Type 0} (steps : S → Option T → S → Type 0) (can : S → Type 0)
     (remaining : S → Count) where
-  -- `IsFinished` describes a call that puts the items of the iterator `s` into the open block `v`,
-  -- in place of the removed range. The call returns `result`, and the list after the call is `w`.
-  -- This list has the allocator `a`, the growth rule `rule` and the item type `R`.
-  pub record IsFinished (rule : Rule) (R : RattleType) (v : Open T A) (a : A) (s : S)
-      (w : Thin T A) (result : Result (Unit {0}) (SpliceRefused T S A)) : Type 0 where
+  -- `FinishesSplice` describes a call that puts the items of the iterator `s` into the open block
+  -- `v`, in place of the removed range. The call returns `result`, and the list after the call is
+  -- `w`. This list has the allocator `a`, the growth rule `rule` and the item type `R`.
+  pub record FinishesSplice (rule : GrowthRule) (R : RattleType) (v : OpenView T A) (a : A) (s : S)
+      (w : ListView T A) (result : Result (Unit {0}) (SpliceRefused T S A)) : Type 0 where
     pub succeeds : size (remaining s) ≤ v.gap → IsOk result
-    pub succeeds_at_end : v.tail ≡ [] → HasRoomFor (left_of v a) (size (remaining s)) → IsOk result
-    pub items : OnOk result ((xs : List T) × Drains steps s xs × (w.items ≡ with_between v xs))
-    pub taken : HasTaken rule R (left_of v a) w (2 * length v.tail) (remaining s)
-    pub ruled : IsExtended rule R (left_of v a) w.capacity (length w.items) (remaining s)
+    pub succeeds_at_end : v.tail ≡ [] → HasRoomFor (without_middle v a) (size (remaining s))
+        → IsOk result
+    pub items : OnOk result ((xs : List T) × Drains steps s xs × (w.items ≡ with_replacement v xs))
+    pub taken : AddsFromIter rule R (without_middle v a) w (2 * length v.tail) (remaining s)
+    pub ruled : IsCapacityAfterExtend rule R (without_middle v a) w.capacity (length w.items)
+        (remaining s)
     pub blocks : 0 < length v.tail → w.cost.blocks ≤ v.cost.blocks + 2
-    pub placed : IfErr result (λ error. (xs : List T) × (w.items ≡ with_between v xs)
-        × Stopped steps can remaining s xs error)
+    pub placed : IfErr result (λ error. (xs : List T) × (w.items ≡ with_replacement v xs)
+        × SpliceErrorAccountsFor steps can remaining s xs error)
     pub range : OnErr result
         (0 < length v.tail → length v.front + length v.tail + v.gap ≤ length w.items)
-    pub at_end : IfErr result (λ error. v.tail ≡ [] → FailsAsExtend (left_of v a) w s error)
+    pub at_end : IfErr result (λ error. v.tail ≡ [] → FailsAsExtend (without_middle v a) w s error)
     pub cause : IfErr result
-        (λ error. IsStopCause rule R w v.tail (remaining error.rest) error)
+        (λ error. IsSpliceCause rule R w v.tail (remaining error.rest) error)

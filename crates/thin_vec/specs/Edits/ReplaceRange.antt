@@ -2,18 +2,18 @@
 -- items the list contains afterwards, and how many moves are counted. (std: `Vec::splice`)
 use Rattle.std.specs.Prelude.{◌≡◌, ℕ, ◌+◌, ◌-◌, ◌==◌, ◌≤◌, List, if◌then◌else◌, length, min}
 use Rattle.std.specs.List.{AllZip, replace_range}
-use Rattle.thin_block.specs.Cost.{Cost, moving}
-use Rattle.thin_vec.specs.ThinVec.{Thin, cost_at}
+use Rattle.thin_block.specs.Cost.{Cost, add_moves}
+use Rattle.thin_vec.specs.ThinVec.{ListView, cost_after_resize}
 
 module _ {T A : Type 0} where
   -- `moves_replacing v i j k` is the number of moves that are counted if `k` new items replace the
   -- items `i..j` of the list `v`.
-  abbrev pub moves_replacing : Thin T A → ℕ → ℕ → ℕ → ℕ
+  abbrev pub moves_replacing : ListView T A → ℕ → ℕ → ℕ → ℕ
   moves_replacing v i j k = k + (if k == j - i then 0 else length v.items - j)
 
   -- `moves_cloning v i j k` is the number of moves that are counted if `k` clones replace the items
   -- `i..j` of the list `v`. A clone that takes the place of an old item counts as two moves.
-  abbrev pub moves_cloning : Thin T A → ℕ → ℕ → ℕ → ℕ
+  abbrev pub moves_cloning : ListView T A → ℕ → ℕ → ℕ → ℕ
   moves_cloning v i j k = moves_replacing v i j k + min k (j - i)
 
 -- `ReplacesByClones clones xs i j sources ys` holds if replacing the items `i..j` of `xs` with
@@ -29,9 +29,9 @@ pub record ReplacesByClones {T : Type 0} (clones : T → T → Type 0) (xs : Lis
 pub record MovesAtMost (n : ℕ) (before after : Cost) : Type 0 where
   pub moves : ℕ
   pub few : moves ≤ n
-  pub cost : after ≡ moving moves before
+  pub cost : after ≡ add_moves moves before
 
 -- `CostsAtMost n v w` states that changing the list `v` to `w` took at most `n` moves, and one
 -- reallocation if the capacity changed.
-abbrev pub CostsAtMost : {T A : Type 0} → ℕ → Thin T A → Thin T A → Type 0
-CostsAtMost n v w = MovesAtMost n (cost_at v w.capacity) w.cost
+abbrev pub CostsAtMost : {T A : Type 0} → ℕ → ListView T A → ListView T A → Type 0
+CostsAtMost n v w = MovesAtMost n (cost_after_resize v w.capacity) w.cost

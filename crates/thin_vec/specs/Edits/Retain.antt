@@ -1,73 +1,74 @@
 -- These definitions are for methods that test each item of a list and remove the items that fail
 -- the test. (std: `Vec::retain_mut`)
 use Rattle.std.specs.Prelude.{◌≡◌, ℕ, zero, suc, List, [], ◌∷◌, Bool, true, false, map}
-use Rattle.thin_block.specs.Cost.{moving}
-use Rattle.thin_vec.specs.ThinVec.{Thin}
+use Rattle.thin_block.specs.Cost.{add_moves}
+use Rattle.thin_vec.specs.ThinVec.{ListView}
 
--- `trues flags` is the number of flags in the list `flags` that are true.
-abbrev pub trues : List Bool → ℕ
-trues [] = zero
-trues (true ∷ flags) = suc (trues flags)
-trues (false ∷ flags) = trues flags
+-- `count_true flags` is the number of flags in the list `flags` that are true.
+abbrev pub count_true : List Bool → ℕ
+count_true [] = zero
+count_true (true ∷ flags) = suc (count_true flags)
+count_true (false ∷ flags) = count_true flags
 
--- `moved_down stays` is the number of kept items that follow the first removed item. The flags
+-- `moves_of_retain stays` is the number of kept items that follow the first removed item. The flags
 -- `stays` say for each item whether it is kept.
-abbrev pub moved_down : List Bool → ℕ
-moved_down [] = zero
-moved_down (true ∷ stays) = moved_down stays
-moved_down (false ∷ stays) = trues stays
+abbrev pub moves_of_retain : List Bool → ℕ
+moves_of_retain [] = zero
+moves_of_retain (true ∷ stays) = moves_of_retain stays
+moves_of_retain (false ∷ stays) = count_true stays
 
--- `Verdicts T` is the type of lists of verdicts. A verdict on an item consists of a flag, which is
--- true if the item is kept, and the item as the test left it.
-abbrev pub Verdicts : Type 0 → Type 0
-Verdicts T = List (Bool × T)
+-- `TestResults T` is the type of lists of results. A result for an item consists of a flag, which
+-- is true if the item is kept, and the item as the test left it.
+abbrev pub TestResults : Type 0 → Type 0
+TestResults T = List (Bool × T)
 
 module _ {T : Type 0} where
-  -- `left_at true verdicts` contains the items that `verdicts` marks as kept, and
-  -- `left_at false verdicts` contains the others. The items are as the test left them.
-  abbrev pub left_at : Bool → Verdicts T → List T
-  left_at b [] = []
-  left_at true ((true, x) ∷ verdicts) = x ∷ left_at true verdicts
-  left_at true ((false, x) ∷ verdicts) = left_at true verdicts
-  left_at false ((true, x) ∷ verdicts) = left_at false verdicts
-  left_at false ((false, x) ∷ verdicts) = x ∷ left_at false verdicts
+  -- `items_where true results` contains the items that `results` marks as kept, and
+  -- `items_where false results` contains the others. The items are as the test left them.
+  abbrev pub items_where : Bool → TestResults T → List T
+  items_where b [] = []
+  items_where true ((true, x) ∷ results) = x ∷ items_where true results
+  items_where true ((false, x) ∷ results) = items_where true results
+  items_where false ((true, x) ∷ results) = items_where false results
+  items_where false ((false, x) ∷ results) = x ∷ items_where false results
 
-  -- `stay xs` is the list of verdicts of a test that keeps every item. The list `xs` contains the
-  -- items as the test left them.
-  abbrev pub stay : List T → Verdicts T
-  stay xs = map (λ (x : T). (true, x)) xs
+  -- `all_kept xs` is the list of results of a test that keeps every item. The list `xs` contains
+  -- the items as the test left them.
+  abbrev pub all_kept : List T → TestResults T
+  all_kept xs = map (λ (x : T). (true, x)) xs
 
-  -- `flags_of verdicts` is the list of the flags in `verdicts`, in order. A flag is true if the
+  -- `flags_of results` is the list of the flags in `results`, in order. A flag is true if the
   -- item is kept.
-  abbrev pub flags_of : Verdicts T → List Bool
-  flags_of verdicts = map (λ (answer : Bool × T). answer.0) verdicts
+  abbrev pub flags_of : TestResults T → List Bool
+  flags_of results = map (λ (answer : Bool × T). answer.0) results
 
 -- `R s x b t y` describes one call of a test with the item `x`. The call returns `b` (true: keep
 -- `x`), and changes the state of the test from `s` to `t`, and `x` to `y`.
 module _ {S T : Type 0} (R : S → T → Bool → S → T → Type 0) where
-  -- `Asked s xs verdicts t` holds if testing each item of `xs` once, in order, gave `verdicts`, and
-  -- changed the state of the test from `s` to `t`.
-  abbrev pub Asked : S → List T → Verdicts T → S → Type 0
-  Asked s [] verdicts t = (verdicts ≡ []) × (t ≡ s)
-  Asked s (x ∷ xs) verdicts t =
-      (b : Bool) × (y : T) × (u : S) × (rest : Verdicts T) × R s x b u y × Asked u xs rest t
-      × (verdicts ≡ (b, y) ∷ rest)
+  -- `TestsInTurn s xs results t` holds if testing each item of `xs` once, in order, gave `results`,
+  -- and changed the state of the test from `s` to `t`.
+  abbrev pub TestsInTurn : S → List T → TestResults T → S → Type 0
+  TestsInTurn s [] results t = (results ≡ []) × (t ≡ s)
+  TestsInTurn s (x ∷ xs) results t =
+      (b : Bool) × (y : T) × (u : S) × (rest : TestResults T) × R s x b u y
+      × TestsInTurn u xs rest t
+      × (results ≡ (b, y) ∷ rest)
 
   -- `IsRetainedTo s v w t` holds if removing the items that failed the test turned the list `v`
   -- into `w`, and changed the state of the test from `s` to `t`.
-  pub record IsRetainedTo {A : Type 0} (s : S) (v w : Thin T A) (t : S) : Type 0 where
-    pub verdicts : Verdicts T
-    pub asked : Asked s v.items verdicts t
-    pub items : w.items ≡ left_at true verdicts
-    pub cost : w.cost ≡ moving (moved_down (flags_of verdicts)) v.cost
+  pub record IsRetainedTo {A : Type 0} (s : S) (v w : ListView T A) (t : S) : Type 0 where
+    pub results : TestResults T
+    pub asked : TestsInTurn s v.items results t
+    pub items : w.items ≡ items_where true results
+    pub cost : w.cost ≡ add_moves (moves_of_retain (flags_of results)) v.cost
 
   -- `IsRetained s v w` holds if removing the items that failed the test turned the list `v` into
   -- `w`, where the test started in the state `s`.
-  abbrev pub IsRetained : {A : Type 0} → S → Thin T A → Thin T A → Type 0
+  abbrev pub IsRetained : {A : Type 0} → S → ListView T A → ListView T A → Type 0
   IsRetained s v w = (t : S) × IsRetainedTo s v w t
 
 -- `R s x b t` describes a test that is called with the item `x`, returns `b`, and changes its state
--- from `s` to `t`. `Looks R s x b t y` states this, and that the test left the item unchanged
+-- from `s` to `t`. `ReadsOnly R s x b t y` states this, and that the test left the item unchanged
 -- (`y ≡ x`).
-abbrev pub Looks : {S T : Type 0} → (S → T → Bool → S → Type 0) → S → T → Bool → S → T → Type 0
-Looks R s x b t y = R s x b t × (y ≡ x)
+abbrev pub ReadsOnly : {S T : Type 0} → (S → T → Bool → S → Type 0) → S → T → Bool → S → T → Type 0
+ReadsOnly R s x b t y = R s x b t × (y ≡ x)

@@ -6,35 +6,37 @@ use Rattle.std.specs.Option.{option_to_list}
 use Rattle.std.specs.declared.option.Option.TheVariants.{None}
 use Rattle.std.specs.Borrow.{GName, RattleType}
 use Rattle.thin_block.specs.declared.errors.ThinVecError.TheVariants.{CapacityOverflow, OutOfMemory}
-use Rattle.thin_block.specs.Growth.{Rule}
+use Rattle.thin_block.specs.Growth.{GrowthRule}
 use Rattle.thin_block.specs.declared.growth.Growth.{Ghosts}
-use Rattle.thin_vec.specs.List.Extend.{FailsAtHint, PausedAfter}
-use Rattle.thin_vec.specs.Open.{Open, range_len}
-use Rattle.thin_vec.specs.ThinVec.{HasRoomFor, Thin, capacity_for}
+use Rattle.thin_vec.specs.List.Extend.{FailsAtHint, YieldsAndCanContinue}
+use Rattle.thin_vec.specs.Open.{OpenView, range_len}
+use Rattle.thin_vec.specs.ThinVec.{HasRoomFor, ListView, capacity_after_reserve}
 use Rattle.thin_vec.specs.declared.errors.SpliceRefused.{SpliceRefused}
 use Rattle.thin_vec.specs.declared.edits.splice.Splice.{Splice}
-use Rattle.thin_vec.specs.declared.edits.holder.Holds.{Ghosts as HoldsGhosts}
+use Rattle.thin_vec.specs.declared.edits.holder.IntoInner.{Ghosts as IntoInnerGhosts}
 
 module _ {S T A : Type 0} (steps : S → Option T → S → Type 0) where
-  -- `Stopped can remaining s placed error` describes a call to `finish` that inserted the items
-  -- `placed` and then failed with `error`. The iterator `s` yielded first the items `placed`, and
-  -- then the items that `error` contains.
+  -- `SpliceErrorAccountsFor can remaining s placed error` describes a call to `finish` that
+  -- inserted the items `placed` and then failed with `error`. The iterator `s` yielded first the
+  -- items `placed`, and then the items that `error` contains.
   --
   -- `can` says when `next` may be called on an iterator, and `remaining` bounds the number of items
   -- that an iterator can still yield.
-  abbrev pub Stopped : (S → Type 0) → (S → Count) → S → List T → SpliceRefused T S A → Type 0
-  Stopped can remaining s placed error =
-      (PausedAfter steps can remaining s
+  abbrev pub SpliceErrorAccountsFor : (S → Type 0) → (S → Count) → S → List T → SpliceRefused T S A
+      → Type 0
+  SpliceErrorAccountsFor can remaining s placed error =
+      (YieldsAndCanContinue steps can remaining s
       ((placed ++ error.held.items) ++ option_to_list error.in_hand) error.rest
       × (error.in_hand ≡ None → error.held.items ≡ []))
       ⊎ ((error.in_hand ≡ None) × (0 < length error.held.items)
       × YieldsThen steps s (placed ++ error.held.items) None error.rest)
 
 module _ {T A : Type 0} where
-  -- `IsStopCause` states why a call to `finish` failed with `error`. The growth rule is `rule`, the
-  -- item type is `R`, the list after the call is `w`, and the items after the range are `tail`. The
-  -- rest of the iterator may yield at most `left` items.
-  pub record IsStopCause {S : Type 0} (rule : Rule) (R : RattleType) (w : Thin T A) (tail : List T)
+  -- `IsSpliceCause` states why a call to `finish` failed with `error`. The growth rule is `rule`,
+  -- the item type is `R`, the list after the call is `w`, and the items after the range are `tail`.
+  -- The rest of the iterator may yield at most `left` items.
+  pub record IsSpliceCause {S : Type 0} (rule : GrowthRule) (R : RattleType) (w : ListView T A)
+      (tail : List T)
       (left : Count) (error : SpliceRefused T S A) : Type 0 where
     -- If the error contains no items, then the call failed to reserve room for `h` more items,
     -- where `h` is a lower bound that the size hint may report. In this case, the cause is
@@ -45,7 +47,7 @@ module _ {T A : Type 0} where
     -- if and only if the growth rule chooses no capacity with room for the items in `held`.
     pub by_held : 0 < length error.held.items → error.in_hand ≡ None
         → (error.cause ≡ CapacityOverflow)
-        ↔ (capacity_for rule R w (length error.held.items) ≡ None)
+        ↔ (capacity_after_reserve rule R w (length error.held.items) ≡ None)
     -- If items follow the range, and `in_hand` is `Some`, the cause is `OutOfMemory`, because the
     -- vector `held` could not get memory for the item in `in_hand`.
     pub by_in_hand : 0 < length tail → IsSome error.in_hand → error.cause ≡ OutOfMemory
@@ -53,12 +55,12 @@ module _ {T A : Type 0} where
     -- `CapacityOverflow` if and only if the growth rule chooses no capacity with room for one more
     -- item.
     pub by_push : tail ≡ [] → IsSome error.in_hand
-        → (error.cause ≡ CapacityOverflow) ↔ (capacity_for rule R w 1 ≡ None)
+        → (error.cause ≡ CapacityOverflow) ↔ (capacity_after_reserve rule R w 1 ≡ None)
 
   -- `FailsAsExtend v w s error` describes a call to `finish` that failed with `error`, where no
   -- item follows the range. `v` is the list without the items of the range, `w` is the list after
   -- the call, and `s` is the iterator before the call.
-  pub record FailsAsExtend {S : Type 0} (v w : Thin T A) (s : S) (error : SpliceRefused T S A)
+  pub record FailsAsExtend {S : Type 0} (v w : ListView T A) (s : S) (error : SpliceRefused T S A)
       : Type 0 where
     pub held : error.held.items ≡ []
     -- If `in_hand` is `None`, the iterator has yielded no item, and `w` is equal to `v`, the list
@@ -67,25 +69,25 @@ module _ {T A : Type 0} where
     pub in_hand : MatchOption error.in_hand ((w ≡ v) × (error.rest ≡ s))
         (λ _. length w.items ≡ w.capacity)
 
-  -- `left_of v a` is the list of the front items and the tail items of the open block `v` (a block
-  -- during an edit), with the allocator `a`.
-  abbrev pub left_of : Open T A → A → Thin T A
-  left_of v a = record {
+  -- `without_middle v a` is the list of the front items and the tail items of the open block `v` (a
+  -- block during an edit), with the allocator `a`.
+  abbrev pub without_middle : OpenView T A → A → ListView T A
+  without_middle v a = record {
     items = v.front ++ v.tail;
     capacity = v.capacity;
     alloc = a;
     cost = v.cost;
   }
 
-  -- `with_between v xs` contains the front items of the open block `v`, then the items `xs`, and
-  -- then the tail items of `v`.
-  abbrev pub with_between : Open T A → List T → List T
-  with_between v xs = (v.front ++ xs) ++ v.tail
+  -- `with_replacement v xs` contains the front items of the open block `v`, then the items `xs`,
+  -- and then the tail items of `v`.
+  abbrev pub with_replacement : OpenView T A → List T → List T
+  with_replacement v xs = (v.front ++ xs) ++ v.tail
 
-module _ {I T A G H : Type 0} {g : Ghosts G} {h : HoldsGhosts H (Open T A)} where
+module _ {I T A G H : Type 0} {g : Ghosts G} {h : IntoInnerGhosts H (OpenView T A)} where
   -- `splice_block s` is the open block that the `Splice` `s` owns. Its three parts are the items
   -- before the range, the items of the range not yet yielded, and the items after the range.
-  abbrev pub splice_block : Splice I T A G H g h → Open T A
+  abbrev pub splice_block : Splice I T A G H g h → OpenView T A
   splice_block s = h.inner s.holder
 
   -- `splice_rest s` contains the items of the range that the `Splice` `s` has not yielded yet.
@@ -106,10 +108,10 @@ module _ {I T A G H : Type 0} {g : Ghosts G} {h : HoldsGhosts H (Open T A)} wher
   abbrev pub splice_lender : Splice I T A G H g h → GName
   splice_lender s = s.list.ghost_name
 
-  -- `splice_left s` is the list without the items of the range, with the present recorded cost of
-  -- the block of the `Splice` `s`.
-  abbrev pub splice_left : Splice I T A G H g h → Thin T A
-  splice_left s = left_of (splice_block s) (splice_alloc s)
+  -- `splice_outside_range s` is the list without the items of the range, with the present recorded
+  -- cost of the block of the `Splice` `s`.
+  abbrev pub splice_outside_range : Splice I T A G H g h → ListView T A
+  splice_outside_range s = without_middle (splice_block s) (splice_alloc s)
 
   -- `splice_range s` is the number of slots of the range, including the slots whose items have
   -- already been yielded.
@@ -119,15 +121,15 @@ module _ {I T A G H : Type 0} {g : Ghosts G} {h : HoldsGhosts H (Open T A)} wher
   -- `splice_replaced s xs` contains the items that the list will contain after the items of the
   -- range are replaced with `xs`.
   abbrev pub splice_replaced : Splice I T A G H g h → List T → List T
-  splice_replaced s xs = with_between (splice_block s) xs
+  splice_replaced s xs = with_replacement (splice_block s) xs
 
-  -- `HasPlacesFor s most` holds if the range of the `Splice` `s` has at least `most` slots, or if
+  -- `HasSlotsFor s most` holds if the range of the `Splice` `s` has at least `most` slots, or if
   -- no item follows the range and the list without the range has room for `most` more items. Then
   -- `s` can insert `most` items without a request for memory.
-  abbrev pub HasPlacesFor : Splice I T A G H g h → ℕ → Type 0
-  HasPlacesFor s most =
+  abbrev pub HasSlotsFor : Splice I T A G H g h → ℕ → Type 0
+  HasSlotsFor s most =
       (most ≤ splice_range s)
-      ⊎ (((splice_block s).tail ≡ []) × HasRoomFor (splice_left s) most)
+      ⊎ (((splice_block s).tail ≡ []) × HasRoomFor (splice_outside_range s) most)
 
   -- `SpliceKeeps old new` states that `old` and `new` borrow the same list, own the same iterator,
   -- and differ only in which items of the range have already been yielded.

@@ -9,67 +9,68 @@ use Rattle.std.specs.declared.result.Result.TheVariants.{Ok, Err}
 use Rattle.std.specs.Borrow.{RattleType}
 use Rattle.thin_block.specs.declared.errors.ThinVecError.{ThinVecError}
 use Rattle.thin_block.specs.declared.errors.ThinVecError.TheVariants.{CapacityOverflow}
-use Rattle.thin_block.specs.Cost.{moving}
-use Rattle.thin_block.specs.Growth.{Rule, exact_capacity}
+use Rattle.thin_block.specs.Cost.{add_moves}
+use Rattle.thin_block.specs.Growth.{GrowthRule, exact_capacity}
 use Rattle.thin_vec.specs.Cheap.{IsCheap}
-use Rattle.thin_vec.specs.ThinVec.{Thin, HasRoomFor, IsWithin, capacity_for, cost_at}
+use Rattle.thin_vec.specs.ThinVec.{ListView, HasRoomFor, IsBounded, capacity_after_reserve, cost_after_resize}
 use Rattle.thin_vec.specs.declared.errors.Rejected.{Rejected}
 
--- `causes r` is `r`, with the error, if there is one, replaced by its cause. In Rust, this is
+-- `map_cause r` is `r`, with the error, if there is one, replaced by its cause. In Rust, this is
 -- `r.map_err(|error| error.cause)`.
-abbrev pub causes : {X T : Type 0} → Result X (Rejected T) → Result X ThinVecError
-causes (Ok x) = Ok x
-causes (Err e) = Err e.cause
+abbrev pub map_cause : {X T : Type 0} → Result X (Rejected T) → Result X ThinVecError
+map_cause (Ok x) = Ok x
+map_cause (Err e) = Err e.cause
 
--- `TellsOverflow wanted r` states that the result `r` is the error `CapacityOverflow` if and only
+-- `OverflowsIff wanted r` states that the result `r` is the error `CapacityOverflow` if and only
 -- if `wanted` is `None`. The option `wanted` is the capacity that the call needs, or `None` if it
 -- is too large.
-pub record TellsOverflow {X : Type 0} (wanted : Option ℕ) (r : Result X ThinVecError) : Type 0
+pub record OverflowsIff {X : Type 0} (wanted : Option ℕ) (r : Result X ThinVecError) : Type 0
   where
     pub overflow : IsErrOf r CapacityOverflow ↔ (wanted ≡ None)
 
--- `TellsOverflowOf R n r` states that the result `r` is the error `CapacityOverflow` if and only if
--- a capacity of `n` items of the type `R` is too large.
-pub record TellsOverflowOf {X : Type 0} (R : RattleType) (n : ℕ) (r : Result X ThinVecError) : Type 0
+-- `OverflowsIffTooLarge R n r` states that the result `r` is the error `CapacityOverflow` if and
+-- only if a capacity of `n` items of the type `R` is too large.
+pub record OverflowsIffTooLarge {X : Type 0} (R : RattleType) (n : ℕ)
+    (r : Result X ThinVecError) : Type 0
   where
     pub overflow : IsErrOf r CapacityOverflow ↔ (exact_capacity R 0 n ≡ None)
 
 module _ {T A : Type 0} where
-  -- `Costs n v w` states that changing the list `v` to `w` took exactly `n` moves. If the capacity
-  -- changed, it also took one reallocation, which copied all items of `v`.
-  abbrev pub Costs : ℕ → Thin T A → Thin T A → Type 0
-  Costs n v w = w.cost ≡ moving n (cost_at v w.capacity)
+  -- `CostsMoves n v w` states that changing the list `v` to `w` took exactly `n` moves. If the
+  -- capacity changed, it also took one reallocation, which copied all items of `v`.
+  abbrev pub CostsMoves : ℕ → ListView T A → ListView T A → Type 0
+  CostsMoves n v w = w.cost ≡ add_moves n (cost_after_resize v w.capacity)
 
   -- `Reserves rule R k v w r` describes a call that needs room for `k` more items of the type `R`,
   -- under the growth rule `rule`. It relates the lists `v` and `w` before and after the call, and
   -- the result `r`.
-  pub record Reserves (rule : Rule) (R : RattleType) (k : ℕ) (v w : Thin T A)
+  pub record Reserves (rule : GrowthRule) (R : RattleType) (k : ℕ) (v w : ListView T A)
       {X : Type 0} (r : Result X ThinVecError) : Type 0 where
     -- If `v` has room for `k` more items, the capacity does not change. This follows from the fields
     -- `ok` and `err`.
     pub had_room : HasRoomFor v k → w.capacity ≡ v.capacity
-    -- On success, the new capacity is `capacity_for rule R v k`: the old capacity if there was
-    -- enough room, and otherwise the capacity that the growth rule chooses.
-    pub ok : OnOk r (capacity_for rule R v k ≡ Some w.capacity)
-    -- On failure, the list did not change, or its new capacity is the one that `capacity_for`
-    -- returns for `k` more items.
-    pub err : OnErr r ((w ≡ v) ⊎ (capacity_for rule R v k ≡ Some w.capacity))
-    -- The call returns the error `CapacityOverflow` if and only if `capacity_for` returns `None`,
-    -- which means that the capacity would be too large.
-    pub overflow : IsErrOf r CapacityOverflow ↔ (capacity_for rule R v k ≡ None)
+    -- On success, the new capacity is `capacity_after_reserve rule R v k`: the old capacity if
+    -- there was enough room, and otherwise the capacity that the growth rule chooses.
+    pub ok : OnOk r (capacity_after_reserve rule R v k ≡ Some w.capacity)
+    -- On failure, the list did not change, or its new capacity is the one that
+    -- `capacity_after_reserve` returns for `k` more items.
+    pub err : OnErr r ((w ≡ v) ⊎ (capacity_after_reserve rule R v k ≡ Some w.capacity))
+    -- The call returns the error `CapacityOverflow` if and only if `capacity_after_reserve` returns
+    -- `None`, which means that the capacity would be too large.
+    pub overflow : IsErrOf r CapacityOverflow ↔ (capacity_after_reserve rule R v k ≡ None)
 
-  -- `Keeps R v w` describes a call that changed the list `v` of items of the type `R` to `w`. The
-  -- allocator did not change, the capacity did not shrink (which follows from `Reserves`, where both
-  -- hold), and the bound `IsCheap` on the cost was preserved.
-  pub record Keeps (R : RattleType) (v w : Thin T A) : Type 0 where
+  -- `PreservesList R v w` describes a call that changed the list `v` of items of the type `R` to
+  -- `w`. The allocator did not change, the capacity did not shrink (which follows from `Reserves`,
+  -- where both hold), and the bound `IsCheap` on the cost was preserved.
+  pub record PreservesList (R : RattleType) (v w : ListView T A) : Type 0 where
     pub alloc : w.alloc ≡ v.alloc
     pub never_less : v.capacity ≤ w.capacity
     pub cheap : IsCheap v → IsCheap w
-    pub within : IsWithin R v × IsWithin R w
+    pub within : IsBounded R v × IsBounded R w
 
-  -- `IsMade R a w` holds if the new list `w` of items of the type `R` has the allocator `a`, a low
-  -- recorded cost (`IsCheap`), and a capacity that can be allocated (`IsWithin`).
-  pub record IsMade (R : RattleType) (a : A) (w : Thin T A) : Type 0 where
+  -- `IsFreshList R a w` holds if the new list `w` of items of the type `R` has the allocator `a`, a
+  -- low recorded cost (`IsCheap`), and a capacity that can be allocated (`IsBounded`).
+  pub record IsFreshList (R : RattleType) (a : A) (w : ListView T A) : Type 0 where
     pub alloc : w.alloc ≡ a
     pub cheap : IsCheap w
-    pub within : IsWithin R w
+    pub within : IsBounded R w

@@ -2,10 +2,10 @@
 -- result in `y`, and `infallible x` states that cloning `x` cannot fail.
 use Rattle.std.specs.Prelude.{◌≡◌, ℕ, ◌^◌, ◌<◌, ◌≤◌, List, [], ◌∷◌, ◌++◌, All, HoldsAt, Option, length, take}
 use Rattle.std.specs.List.{AllZip}
-use Rattle.thin_block.specs.Cost.{Cost, moving}
-use Rattle.thin_block.specs.Slots.{full, laid}
+use Rattle.thin_block.specs.Cost.{Cost, add_moves}
+use Rattle.thin_block.specs.Slots.{filled_slots, write_slots}
 use Rattle.thin_vec.specs.Cheap.{IsCheap}
-use Rattle.thin_vec.specs.ThinVec.{Thin, cost_at, cost_new}
+use Rattle.thin_vec.specs.ThinVec.{ListView, cost_after_resize, cost_of_new}
 
 module _ {T : Type 0} (clones : T → T → Type 0) where
   -- `CloneEquals x` states that every clone of the item `x` equals `x`.
@@ -16,20 +16,20 @@ module _ {T : Type 0} (clones : T → T → Type 0) where
   abbrev pub ClonesEqual : Type 0
   ClonesEqual = (x : T) → CloneEquals x
 
-  -- `LaysClones sources n i s s'` states that writing clones of the first `n` items of `sources`
+  -- `WritesClones sources n i s s'` states that writing clones of the first `n` items of `sources`
   -- into the slots `s`, from index `i` onward, results in the slots `s'`.
-  pub record LaysClones (sources : List T) (n i : ℕ) (s s' : List (Option T)) : Type 0 where
+  pub record WritesClones (sources : List T) (n i : ℕ) (s s' : List (Option T)) : Type 0 where
     pub copies : List T
     pub cloned : AllZip clones (take n sources) copies
-    pub slots : s' ≡ laid i (full copies) s
+    pub slots : s' ≡ write_slots i (filled_slots copies) s
 
   -- `IsClonedList v w` holds if the list `w` is a clone of the list `v`, with the same allocator.
   -- The capacity of `w` is its length, and its cost includes one move for each item.
-  abbrev pub IsClonedList : {A : Type 0} → Thin T A → Thin T A → Type 0
+  abbrev pub IsClonedList : {A : Type 0} → ListView T A → ListView T A → Type 0
   IsClonedList v w =
       AllZip clones v.items w.items × (length w.items ≡ length v.items)
       × (w.capacity ≡ length v.items) × (w.alloc ≡ v.alloc)
-      × (w.cost ≡ moving (length v.items) (cost_new (length v.items))) × IsCheap w
+      × (w.cost ≡ add_moves (length v.items) (cost_of_new (length v.items))) × IsCheap w
       × (w.capacity < 2 ^ 63)
 
 -- `AppendsRepeats clones x n xs ys` states that the list `ys` consists of the items of `xs`,
@@ -51,19 +51,20 @@ pub record IsResized {T : Type 0} (clones : T → T → Type 0) (xs : List T) (n
       × (ys ≡ xs ++ (copies ++ x ∷ []))
   pub len : length ys ≡ n
 
--- `StopsAtClone infallible sources before after` describes a call that cloned items of `sources` in
+-- `FailsAtClone infallible sources before after` describes a call that cloned items of `sources` in
 -- order, until a clone failed. The recorded cost changed from `before` to `after`. `infallible x`
 -- states that cloning `x` cannot fail.
-pub record StopsAtClone {T : Type 0} (infallible : T → Type 0) (sources : List T)
+pub record FailsAtClone {T : Type 0} (infallible : T → Type 0) (sources : List T)
     (before after : Cost) : Type 0 where
   pub at : ℕ
   pub in_bounds : at < length sources
   pub fallible : HoldsAt (λ x. ¬ (infallible x)) sources at
-  pub cost : after ≡ moving at before
+  pub cost : after ≡ add_moves at before
 
--- `CostsUpToClone infallible sources v w` bounds the cost of a call that cloned `sources` into a
+-- `CostsFailedClone infallible sources v w` bounds the cost of a call that cloned `sources` into a
 -- list until a clone failed, and changed the list from `v` to `w`. `infallible x` states that
 -- cloning `x` cannot fail.
-abbrev pub CostsUpToClone : {T A : Type 0} → (T → Type 0) → List T → Thin T A → Thin T A → Type 0
-CostsUpToClone infallible sources v w =
-    StopsAtClone infallible sources (cost_at v w.capacity) w.cost
+abbrev pub CostsFailedClone : {T A : Type 0} → (T → Type 0) → List T → ListView T A → ListView T A
+    → Type 0
+CostsFailedClone infallible sources v w =
+    FailsAtClone infallible sources (cost_after_resize v w.capacity) w.cost

@@ -10,56 +10,58 @@ use Rattle.std.specs.declared.option.Option.TheVariants.{None, Some}
 use Rattle.std.specs.Borrow.{RattleType}
 use Rattle.thin_block.specs.declared.errors.ThinVecError.{ThinVecError}
 use Rattle.thin_block.specs.declared.errors.ThinVecError.TheVariants.{CapacityOverflow}
-use Rattle.thin_block.specs.Growth.{Rule, exact_capacity, ruled_capacity}
+use Rattle.thin_block.specs.Growth.{GrowthRule, exact_capacity, grown_capacity}
 use Rattle.thin_vec.specs.Cheap.{IsCheap}
-use Rattle.thin_vec.specs.List.Capacity.{IsMade}
-use Rattle.thin_vec.specs.ThinVec.{HasRoomFor, IsWithin, Thin, capacity_for}
+use Rattle.thin_vec.specs.List.Capacity.{IsFreshList}
+use Rattle.thin_vec.specs.ThinVec.{HasRoomFor, IsBounded, ListView, capacity_after_reserve}
 use Rattle.thin_vec.specs.declared.errors.CollectRefused.{CollectRefused}
 use Rattle.thin_vec.specs.declared.errors.ExtendRefused.{ExtendRefused}
 
--- `PausedAfter steps can remaining s ys t` states that the iterator `s` yielded the items `ys` and
--- became `t`, and that `next` may be called on `t`.
+-- `YieldsAndCanContinue steps can remaining s ys t` states that the iterator `s` yielded the items
+-- `ys` and became `t`, and that `next` may be called on `t`.
 --
 -- `steps` describes one call to `next`, `can x` states that `next` may be called on `x`, and
 -- `remaining x` bounds the number of items that `x` still yields.
-pub record PausedAfter {S X : Type 0} (steps : S → Option X → S → Type 0) (can : S → Type 0)
+pub record YieldsAndCanContinue {S X : Type 0} (steps : S → Option X → S → Type 0)
+    (can : S → Type 0)
     (remaining : S → Count) (s : S) (ys : List X) (t : S) : Type 0 where
   pub gave : Yields steps s ys t
   pub can_next : can t
   pub finite : IsFinite (remaining t)
 
--- `IsLoose rule R c d` holds if `d` equals the old capacity `c`, or is at least a capacity that the
--- growth rule `rule` may choose when a block of capacity `c` grows. The item type is `R`.
-abbrev pub IsLoose : Rule → RattleType → ℕ → ℕ → Type 0
-IsLoose rule R c d =
-    (d ≡ c) ⊎ ((w : ℕ) × (n : ℕ) × (c < w) × (ruled_capacity rule R c w ≡ Some n) × (n ≤ d))
+-- `IsKeptOrGrown rule R c d` holds if `d` equals the old capacity `c`, or is at least a capacity
+-- that the growth rule `rule` may choose when a block of capacity `c` grows. The item type is `R`.
+abbrev pub IsKeptOrGrown : GrowthRule → RattleType → ℕ → ℕ → Type 0
+IsKeptOrGrown rule R c d =
+    (d ≡ c) ⊎ ((w : ℕ) × (n : ℕ) × (c < w) × (grown_capacity rule R c w ≡ Some n) × (n ≤ d))
 
--- `IsRuled rule R d n` holds if the growth rule `rule` may choose the capacity `d` for a list that
--- needs room for at most `n` items of the type `R`. The number `e` is the capacity before the last
--- growth. (`IsLoose` compares the new capacity with the one before the call.)
-abbrev pub IsRuled : Rule → RattleType → ℕ → ℕ → Type 0
-IsRuled rule R d n = (e w : ℕ) × (e < w) × (w ≤ n) × (ruled_capacity rule R e w ≡ Some d)
+-- `IsChosenByRule rule R d n` holds if the growth rule `rule` may choose the capacity `d` for a
+-- list that needs room for at most `n` items of the type `R`. The number `e` is the capacity before
+-- the last growth. (`IsKeptOrGrown` compares the new capacity with the one before the call.)
+abbrev pub IsChosenByRule : GrowthRule → RattleType → ℕ → ℕ → Type 0
+IsChosenByRule rule R d n = (e w : ℕ) × (e < w) × (w ≤ n) × (grown_capacity rule R e w ≡ Some d)
 
--- `IsKeptOrRuled rule R c d n` compares an old capacity `c` with a new capacity `d`. It holds if
+-- `IsKeptOrChosen rule R c d n` compares an old capacity `c` with a new capacity `d`. It holds if
 -- the two capacities are equal, or if the growth rule `rule` may choose `d` for a list that needs
--- room for at most `n` items of the type `R` (`IsRuled`).
-abbrev pub IsKeptOrRuled : Rule → RattleType → ℕ → ℕ → ℕ → Type 0
-IsKeptOrRuled rule R c d n = (d ≡ c) ⊎ IsRuled rule R d n
+-- room for at most `n` items of the type `R` (`IsChosenByRule`).
+abbrev pub IsKeptOrChosen : GrowthRule → RattleType → ℕ → ℕ → ℕ → Type 0
+IsKeptOrChosen rule R c d n = (d ≡ c) ⊎ IsChosenByRule rule R d n
 
--- `IsExtended rule R v d n left` holds if the list `v` may have capacity `d` after items of an
--- iterator were added to it. The new length is `n`, the growth rule is `rule`, and the item type is
--- `R`. The iterator could yield at most `left` items.
-abbrev pub IsExtended : {T A : Type 0} → Rule → RattleType → Thin T A → ℕ → ℕ → Count → Type 0
-IsExtended rule R v d n left =
-    IsKeptOrRuled rule R v.capacity d n
-    ⊎ ((h : ℕ) × IsWithinCount h left × (capacity_for rule R v h ≡ Some d))
+-- `IsCapacityAfterExtend rule R v d n left` holds if the list `v` may have capacity `d` after items
+-- of an iterator were added to it. The new length is `n`, the growth rule is `rule`, and the item
+-- type is `R`. The iterator could yield at most `left` items.
+abbrev pub IsCapacityAfterExtend : {T A : Type 0} → GrowthRule → RattleType → ListView T A → ℕ → ℕ
+    → Count → Type 0
+IsCapacityAfterExtend rule R v d n left =
+    IsKeptOrChosen rule R v.capacity d n
+    ⊎ ((h : ℕ) × IsWithinCount h left × (capacity_after_reserve rule R v h ≡ Some d))
 
--- `IsCollected rule R d n left` holds if `d` is a possible capacity of a new list that has been
--- filled from an iterator. Here, `n` is the length of the list, `rule` is its growth rule, and `R`
--- is its item type. At the start, the iterator could yield at most `left` items.
-abbrev pub IsCollected : Rule → RattleType → ℕ → ℕ → Count → Type 0
-IsCollected rule R d n left =
-    IsRuled rule R d n ⊎ ((h : ℕ) × IsWithinCount h left × (exact_capacity R 0 h ≡ Some d))
+-- `IsCapacityAfterCollect rule R d n left` holds if `d` is a possible capacity of a new list that
+-- has been filled from an iterator. Here, `n` is the length of the list, `rule` is its growth rule,
+-- and `R` is its item type. At the start, the iterator could yield at most `left` items.
+abbrev pub IsCapacityAfterCollect : GrowthRule → RattleType → ℕ → ℕ → Count → Type 0
+IsCapacityAfterCollect rule R d n left =
+    IsChosenByRule rule R d n ⊎ ((h : ℕ) × IsWithinCount h left × (exact_capacity R 0 h ≡ Some d))
 
 -- `RequestsAtMost b n left` bounds the number `b` of requests for memory of a call that appended `n`
 -- items of an iterator: there was at most one request for the first `h` items, and at most one for
@@ -69,16 +71,17 @@ abbrev pub RequestsAtMost : ℕ → ℕ → Count → Type 0
 RequestsAtMost b n left = (h : ℕ) × IsWithinCount h left × (b ≤ 1 + (n - h))
 
 module _ {T A : Type 0} where
-  -- `GrowsFor rule R v w left` restricts the capacity of the list `w`, which is the list `v` after
-  -- items of an iterator were added. The growth rule is `rule`, the item type is `R`, and the
+  -- `ExtendsCapacity rule R v w left` restricts the capacity of the list `w`, which is the list `v`
+  -- after items of an iterator were added. The growth rule is `rule`, the item type is `R`, and the
   -- iterator could yield at most `left` items.
-  pub record GrowsFor (rule : Rule) (R : RattleType) (v w : Thin T A) (left : Count) : Type 0 where
+  pub record ExtendsCapacity (rule : GrowthRule) (R : RattleType) (v w : ListView T A)
+      (left : Count) : Type 0 where
     -- If `v` has room for all items that the iterator may yield, the capacity does not change. In
     -- particular, nothing is allocated if the iterator cannot yield any item.
     pub had_room : HasRoomFor v (size left) → w.capacity ≡ v.capacity
     -- The capacity does not change, or the new capacity is at least a capacity that the growth rule
     -- chooses when a block of the old capacity grows.
-    pub loose : IsLoose rule R v.capacity w.capacity
+    pub loose : IsKeptOrGrown rule R v.capacity w.capacity
     -- The new capacity is one of the following:
     --
     -- - the old capacity,
@@ -86,12 +89,12 @@ module _ {T A : Type 0} where
     --   `length w.items` items,
     -- - the capacity of `v` after the call `reserve(h)`, where `h` is a possible lower bound in the
     --   size hint of the iterator.
-    pub ruled : IsExtended rule R v w.capacity (length w.items) left
+    pub ruled : IsCapacityAfterExtend rule R v w.capacity (length w.items) left
 
-  -- `CostsAdding v w n` bounds the recorded cost of a call that added items to a list, and changed
-  -- the list from `v` to `w`. Each added item costs one move, and moving the items that were
-  -- already in `v` costs at most `n` moves in total.
-  pub record CostsAdding (v w : Thin T A) (n : ℕ) : Type 0 where
+  -- `CostsInserting v w n` bounds the recorded cost of a call that added items to a list, and
+  -- changed the list from `v` to `w`. Each added item costs one move, and moving the items that
+  -- were already in `v` costs at most `n` moves in total.
+  pub record CostsInserting (v w : ListView T A) (n : ℕ) : Type 0 where
     pub least : v.cost.moves + length w.items ≤ w.cost.moves + length v.items
     pub moves : w.cost.moves + length v.items ≤ v.cost.moves + n + length w.items
     -- If the capacity did not change, the call requested no memory, and no reallocation copied any
@@ -108,63 +111,65 @@ module _ {T A : Type 0} where
 
   -- `CostsExtending v w left` bounds the recorded cost of a call that appended the items of an
   -- iterator, and changed the list from `v` to `w`. The iterator could yield at most `left` items.
-  pub record CostsExtending (v w : Thin T A) (left : Count) : Type 0 where
-    pub adding : CostsAdding v w 0
+  pub record CostsExtending (v w : ListView T A) (left : Count) : Type 0 where
+    pub adding : CostsInserting v w 0
     pub requests : RequestsAtMost (w.cost.blocks - v.cost.blocks)
         (length w.items - length v.items) left
 
   -- `IsCollectedList rule R a w left` describes a new list `w` that was made from the items of an
   -- iterator. The allocator is `a`, the growth rule is `rule`, and the item type is `R`. The
   -- iterator could yield at most `left` items.
-  pub record IsCollectedList (rule : Rule) (R : RattleType) (a : A) (w : Thin T A) (left : Count)
+  pub record IsCollectedList (rule : GrowthRule) (R : RattleType) (a : A) (w : ListView T A)
+      (left : Count)
       : Type 0 where
     -- If the iterator cannot yield any items, the list has the capacity 0 after the call, so nothing
     -- was allocated.
     pub none : size left ≡ 0 → w.capacity ≡ 0
     -- The capacity of `w` is either one that the growth rule may choose for at most
     -- `length w.items` items, or a possible lower bound in the size hint of the iterator.
-    pub ruled : IsCollected rule R w.capacity (length w.items) left
+    pub ruled : IsCapacityAfterCollect rule R w.capacity (length w.items) left
     -- Each item was moved exactly once.
     pub moves : w.cost.moves ≡ length w.items
     pub requests : RequestsAtMost w.cost.blocks (length w.items) left
     -- `w` is a valid new list with the allocator `a`. Its cost is bounded in terms of its capacity,
     -- and its length is at most its capacity.
-    pub made : IsMade R a w
+    pub made : IsFreshList R a w
 
-  -- `Extends rule R v xs w` describes a call that appended the items `xs` to a list, and changed
-  -- the list from `v` to `w`. The growth rule is `rule`, and the item type is `R`. The call may
-  -- have succeeded, or it may have failed after it had appended `xs`.
-  abbrev pub Extends : Rule → RattleType → Thin T A → List T → Thin T A → Type 0
-  Extends rule R v xs w =
+  -- `ExtendsList rule R v xs w` describes a call that appended the items `xs` to a list, and
+  -- changed the list from `v` to `w`. The growth rule is `rule`, and the item type is `R`. The call
+  -- may have succeeded, or it may have failed after it had appended `xs`.
+  abbrev pub ExtendsList : GrowthRule → RattleType → ListView T A → List T → ListView T A → Type 0
+  ExtendsList rule R v xs w =
       (w.items ≡ v.items ++ xs) × (length w.items ≡ length v.items + length xs)
-      × (v.capacity ≤ w.capacity) × IsLoose rule R v.capacity w.capacity × CostsAdding v w 0
-      × (w.alloc ≡ v.alloc) × (IsCheap v → IsCheap w) × IsWithin R w
+      × (v.capacity ≤ w.capacity) × IsKeptOrGrown rule R v.capacity w.capacity
+      × CostsInserting v w 0
+      × (w.alloc ≡ v.alloc) × (IsCheap v → IsCheap w) × IsBounded R w
 
-  -- `IsMadeOf R xs v` states what std's `FromIterator` guarantees about a list `v` that was made
-  -- from the items `xs`. `R` is the type of the items.
-  abbrev pub IsMadeOf : RattleType → List T → Thin T A → Type 0
-  IsMadeOf R xs v =
+  -- `IsCollectedFrom R xs v` states what std's `FromIterator` guarantees about a list `v` that was
+  -- made from the items `xs`. `R` is the type of the items.
+  abbrev pub IsCollectedFrom : RattleType → List T → ListView T A → Type 0
+  IsCollectedFrom R xs v =
       (v.items ≡ xs) × (length v.items ≡ length xs) × (v.cost.moves ≡ length xs) × IsCheap v
-      × IsWithin R v
+      × IsBounded R v
 
   -- `FailsAtHint rule R w left cause` states that a call failed with `cause` because the list `w`
   -- has no room for `h` more items of the type `R`. Here, `h` is a possible lower bound in the size
   -- hint of an iterator with at most `left` items. The growth rule is `rule`. The contract cannot say
   -- which `h` it was: std's contract of `size_hint` bounds the result, but gives it no name.
-  abbrev pub FailsAtHint : Rule → RattleType → Thin T A → Count → ThinVecError → Type 0
+  abbrev pub FailsAtHint : GrowthRule → RattleType → ListView T A → Count → ThinVecError → Type 0
   FailsAtHint rule R w left cause =
       (h : ℕ) × IsWithinCount h left × ¬ (HasRoomFor w h)
-      × ((cause ≡ CapacityOverflow) ↔ (capacity_for rule R w h ≡ None))
+      × ((cause ≡ CapacityOverflow) ↔ (capacity_after_reserve rule R w h ≡ None))
 
   -- `IsExtendCause rule R w left error` states why a call to `extend` failed with `error`. The
   -- growth rule is `rule`, the item type is `R`, and the list after the call is `w`. The rest of
   -- the iterator may yield at most `left` items.
-  pub record IsExtendCause {S : Type 0} (rule : Rule) (R : RattleType) (w : Thin T A)
+  pub record IsExtendCause {S : Type 0} (rule : GrowthRule) (R : RattleType) (w : ListView T A)
       (left : Count) (error : ExtendRefused T S) : Type 0 where
     -- If the error contains an item in `in_hand`, the list had no room for this item. The cause is
     -- `CapacityOverflow` if and only if the growth rule chooses no capacity for one more item.
     pub by_push : IsSome error.in_hand
-        → (error.cause ≡ CapacityOverflow) ↔ (capacity_for rule R w 1 ≡ None)
+        → (error.cause ≡ CapacityOverflow) ↔ (capacity_after_reserve rule R w 1 ≡ None)
     -- If the field `in_hand` of the error is `None`, the call could not reserve room for `h` more
     -- items, where `h` is a possible lower bound in the size hint of the iterator.
     pub by_hint : error.in_hand ≡ None → FailsAtHint rule R w left error.cause
@@ -172,13 +177,13 @@ module _ {T A : Type 0} where
   -- `IsCollectCause rule R left error` states why a call to `from_iter` failed with `error`. The
   -- growth rule is `rule`, and the item type is `R`. The rest of the iterator may yield at most
   -- `left` items.
-  pub record IsCollectCause {S : Type 0} (rule : Rule) (R : RattleType) (left : Count)
+  pub record IsCollectCause {S : Type 0} (rule : GrowthRule) (R : RattleType) (left : Count)
       (error : CollectRefused T S A) : Type 0 where
     -- If `error.in_hand` contains an item, then the list had no room for this item. In this case,
     -- the cause is `CapacityOverflow` if and only if the growth rule chooses no capacity with room
     -- for one more item.
     pub by_push : IsSome error.in_hand
-        → (error.cause ≡ CapacityOverflow) ↔ (capacity_for rule R error.list 1 ≡ None)
+        → (error.cause ≡ CapacityOverflow) ↔ (capacity_after_reserve rule R error.list 1 ≡ None)
     -- If the field `in_hand` of the error is `None`, the call could not allocate a block of
     -- capacity `h`, where `h` is a possible lower bound in the size hint of the iterator. The cause
     -- is `CapacityOverflow` if and only if this block would be too large.

@@ -1,20 +1,20 @@
 -- These definitions describe how duplicates are removed from an open block, as in std's
 -- `Vec::dedup_by`. A test decides for each item whether the item duplicates the last kept item.
 use Rattle.std.specs.Prelude.{◌≡◌, ◌⊎◌, ℕ, suc, ◌<◌, List, [], ◌∷◌, ◌++◌, Bool, true, false, length, replicate}
-use Rattle.thin_block.specs.Cost.{moving}
-use Rattle.thin_vec.specs.Edits.Retain.{moved_down, trues}
-use Rattle.thin_vec.specs.Edits.Dedup.{AskedLast, AskedPairs}
-use Rattle.thin_vec.specs.Open.{Open}
+use Rattle.thin_block.specs.Cost.{add_moves}
+use Rattle.thin_vec.specs.Edits.Retain.{moves_of_retain, count_true}
+use Rattle.thin_vec.specs.Edits.Dedup.{TestsEachAgainstLast, TestsAllAgainstLast}
+use Rattle.thin_vec.specs.Open.{OpenView}
 
 -- `R s x k b t y l` describes one call to a predicate. The predicate decides whether the item `x`
 -- is a duplicate of `k`, which is the last kept item. The result `b` is true if `x` is to be
 -- removed. The call changes the state of the predicate from `s` to `t`, the item from `x` to `y`,
 -- and the kept item from `k` to `l`.
 module _ {S T : Type 0} (R : S → T → T → Bool → S → T → T → Type 0) where
-  -- `IsPairAskedAt k s xs b t ys` states that the item at index `k` of `xs` was tested against the
+  -- `TestsPairAt k s xs b t ys` states that the item at index `k` of `xs` was tested against the
   -- item directly before it. `b` is true if the tested item is to be removed. The test changed its
   -- state from `s` to `t`, and the list from `xs` to `ys`.
-  pub record IsPairAskedAt (k : ℕ) (s : S) (xs : List T) (b : Bool) (t : S)
+  pub record TestsPairAt (k : ℕ) (s : S) (xs : List T) (b : Bool) (t : S)
       (ys : List T) : Type 0 where
     pub before : List T
     pub kept : T
@@ -27,10 +27,10 @@ module _ {S T : Type 0} (R : S → T → T → Bool → S → T → T → Type 0
     pub asked : R s later kept b t later_left kept_left
     pub now : ys ≡ before ++ kept_left ∷ later_left ∷ after
 
-  -- `IsLastAsked s x xs b t y ys` states that the item `x` was tested against the last item of the
+  -- `TestsLast s x xs b t y ys` states that the item `x` was tested against the last item of the
   -- list `xs`. `b` is true if `x` is to be removed. The test changed its state from `s` to `t`, the
   -- item from `x` to `y`, and the list from `xs` to `ys`.
-  pub record IsLastAsked (s : S) (x : T) (xs : List T) (b : Bool) (t : S) (y : T)
+  pub record TestsLast (s : S) (x : T) (xs : List T) (b : Bool) (t : S) (y : T)
       (ys : List T) : Type 0 where
     pub before : List T
     pub kept : T
@@ -39,10 +39,10 @@ module _ {S T : Type 0} (R : S → T → T → Bool → S → T → T → Type 0
     pub asked : R s x kept b t y kept_left
     pub now : ys ≡ before ++ kept_left ∷ []
 
-  -- `IsNextAsked s k xs b t l ys` states that the first item of the list `xs` was tested against
+  -- `TestsNext s k xs b t l ys` states that the first item of the list `xs` was tested against
   -- the kept item `k`. `b` is true if the first item is to be removed. The test changed its state
   -- from `s` to `t`, the kept item from `k` to `l`, and the list from `xs` to `ys`.
-  pub record IsNextAsked (s : S) (k : T) (xs : List T) (b : Bool) (t : S) (l : T)
+  pub record TestsNext (s : S) (k : T) (xs : List T) (b : Bool) (t : S) (l : T)
       (ys : List T) : Type 0 where
     pub later : T
     pub later_left : T
@@ -51,12 +51,12 @@ module _ {S T : Type 0} (R : S → T → T → Bool → S → T → T → Type 0
     pub asked : R s later k b t later_left l
     pub now : ys ≡ later_left ∷ after
 
-  -- `PairsAskedUpTo m s xs t ys` describes a search for the first item of the list `xs` that is to
+  -- `TestsPairsUpTo m s xs t ys` describes a search for the first item of the list `xs` that is to
   -- be removed. The items were tested in order, from the second item onward, each against the item
   -- directly before it. `m` is the index of the item that the search found, or the length of `xs`
   -- if the search found no such item. The search changed the state of the test from `s` to `t`, and
   -- the list from `xs` to `ys`.
-  pub record PairsAskedUpTo (m : ℕ) (s : S) (xs : List T) (t : S) (ys : List T) : Type 0 where
+  pub record TestsPairsUpTo (m : ℕ) (s : S) (xs : List T) (t : S) (ys : List T) : Type 0 where
     pub first : T
     pub done : List T
     pub after : List T
@@ -65,17 +65,18 @@ module _ {S T : Type 0} (R : S → T → T → Bool → S → T → T → Type 0
     pub left : List T
     pub over : List T
     pub was : xs ≡ first ∷ (done ++ after)
-    pub asked : AskedLast R s first done stays left t
+    pub asked : TestsEachAgainstLast R s first done stays left t
     pub kept : suc more ≡ m
     pub long : length left ≡ m
     pub now : ys ≡ left ++ (over ++ after)
     pub stops : ((length over ≡ 1) × (stays ≡ replicate more true ++ false ∷ []))
         ⊎ ((over ≡ []) × ((after ≡ []) × (stays ≡ replicate more true)))
 
-  -- `Dedups s v t w` holds if testing some or all middle items of the open block `v` for duplicates
-  -- turned `v` into `w`. The kept items were appended to the front items, and the other tested
-  -- items were removed. The state of the test changed from `s` to `t`.
-  pub record Dedups {A : Type 0} (s : S) (v : Open T A) (t : S) (w : Open T A) : Type 0 where
+  -- `DedupsSome s v t w` holds if testing some or all middle items of the open block `v` for
+  -- duplicates turned `v` into `w`. The kept items were appended to the front items, and the other
+  -- tested items were removed. The state of the test changed from `s` to `t`.
+  pub record DedupsSome {A : Type 0} (s : S) (v : OpenView T A) (t : S)
+      (w : OpenView T A) : Type 0 where
     pub before : List T
     pub first : T
     pub done : List T
@@ -83,24 +84,25 @@ module _ {S T : Type 0} (R : S → T → T → Bool → S → T → T → Type 0
     pub kept : List T
     pub was : v.front ≡ before ++ first ∷ []
     pub rest : v.rest ≡ done ++ w.rest
-    pub asked : AskedLast R s first done stays kept t
+    pub asked : TestsEachAgainstLast R s first done stays kept t
     pub gap : 0 < w.gap
     pub now : w ≡ record v {
       front = before ++ kept;
       gap = w.gap;
       rest = w.rest;
-      cost = moving (trues stays) v.cost;
+      cost = add_moves (count_true stays) v.cost;
     }
 
-  -- `IsDeduped s v t w` holds if removing all duplicates among the middle items of an open block
+  -- `DedupsRest s v t w` holds if removing all duplicates among the middle items of an open block
   -- turned the block `v` into `w`. The kept items form the front of `w`. The state of the test
   -- changed from `s` to `t`.
-  pub record IsDeduped {A : Type 0} (s : S) (v : Open T A) (t : S) (w : Open T A) : Type 0 where
+  pub record DedupsRest {A : Type 0} (s : S) (v : OpenView T A) (t : S)
+      (w : OpenView T A) : Type 0 where
     pub stays : List Bool
-    pub asked : AskedPairs R s v.rest stays w.front t
+    pub asked : TestsAllAgainstLast R s v.rest stays w.front t
     pub now : w ≡ record v {
       front = w.front;
       gap = w.gap;
       rest = [];
-      cost = moving (moved_down stays) v.cost;
+      cost = add_moves (moves_of_retain stays) v.cost;
     }

@@ -3,9 +3,9 @@
 ghost use Rattle.std.specs.Prelude.{◌≡◌, ◌+◌, ◌++◌, IfErr, IfOk, IsErr, IsOk, None, OnErr, OnOk, Some, length};
 ghost use Rattle.std.specs.Borrow.{u8};
 ghost use Rattle.std.specs.IoError.{error_kind};
-ghost use Rattle.thin_block.specs.Cost.{moving};
+ghost use Rattle.thin_block.specs.Cost.{add_moves};
 ghost use Rattle.thin_vec.specs.ThinVec.{HasRoomFor};
-ghost use Rattle.thin_vec.specs.List.Capacity.{Costs, Keeps, TellsOverflowOf, IsMade};
+ghost use Rattle.thin_vec.specs.List.Capacity.{CostsMoves, PreservesList, OverflowsIffTooLarge, IsFreshList};
 
 use crate::list::ThinVec;
 use std::alloc::Allocator;
@@ -14,7 +14,7 @@ use std::io::{ErrorKind, Write};
 use thin_block::{Growth, ThinVecError};
 
 impl<A: Allocator> ThinVec<u8, A> {
-    ghost use Rattle.thin_vec.specs.ThinVec.{cost_new};
+    ghost use Rattle.thin_vec.specs.ThinVec.{cost_of_new};
 
     /// Makes a list of the bytes of `text`, in order. The capacity is exactly the number of bytes.
     /// An empty text needs no allocation.
@@ -27,21 +27,21 @@ impl<A: Allocator> ThinVec<u8, A> {
         ensures items { IfOk result (λ list. list.items ≡ text.now) }
         ensures capacity { IfOk result (λ list. list.capacity ≡ length text.now) }
         ensures cost { IfOk result
-            (λ list. list.cost ≡ moving (length text.now) (cost_new (length text.now))) }
-        ensures made { IfOk result (IsMade u8 alloc) }
+            (λ list. list.cost ≡ add_moves (length text.now) (cost_of_new (length text.now))) }
+        ensures new { IfOk result (IsFreshList u8 alloc) }
 
         // When it must succeed.
         ensures succeeds_empty { length text.now ≡ 0 → IsOk result }
 
         // On failure.
-        ensures overflow { TellsOverflowOf u8 (length text.now) result }
+        ensures overflow { OverflowsIffTooLarge u8 (length text.now) result }
     {
         ThinVec::from_copies(alloc, text.as_bytes())
     }
 }
 
 impl<A: Allocator, G: Growth> Write for ThinVec<u8, A, G> {
-    ghost use Rattle.thin_vec.specs.ThinVec.{HasRoomFor, capacity_for};
+    ghost use Rattle.thin_vec.specs.ThinVec.{HasRoomFor, capacity_after_reserve};
 
     ghost contents = { λ list. Some list.items };
 
@@ -58,21 +58,22 @@ impl<A: Allocator, G: Growth> Write for ThinVec<u8, A, G> {
         ensures value { IfOk result (λ count. count ≡ length buf.now) }
         ensures items { OnOk result (self.new.items ≡ self.old.items ++ buf.now) }
         ensures capacity { OnOk result
-            (capacity_for G.rule u8 self.old (length buf.now) ≡ Some self.new.capacity) }
-        ensures cost { OnOk result (Costs (length buf.now) self.old self.new) }
+            (capacity_after_reserve G.rule u8 self.old (length buf.now) ≡ Some self.new.capacity) }
+        ensures cost { OnOk result (CostsMoves (length buf.now) self.old self.new) }
 
         // When it must succeed.
         ensures succeeds { HasRoomFor self.old (length buf.now) → IsOk result }
 
         // The call fails if the new capacity would be too large. On failure, the list is unchanged.
-        ensures overflow { capacity_for G.rule u8 self.old (length buf.now) ≡ None → IsErr result }
+        ensures overflow { capacity_after_reserve G.rule u8 self.old (length buf.now) ≡ None
+            → IsErr result }
         ensures cause { IfErr result (λ error. error_kind error ≡ ErrorKind.OutOfMemory) }
         ensures err { OnErr result (self.new ≡ self.old) }
 
         // In every case.
         ensures had_room { HasRoomFor self.old (length buf.now)
             → self.new.capacity ≡ self.old.capacity }
-        ensures keeps { Keeps u8 self.old self.new }
+        ensures preserved { PreservesList u8 self.old self.new }
     {
         self.write_all(buf)?;
         Ok(buf.len())
@@ -83,21 +84,22 @@ impl<A: Allocator, G: Growth> Write for ThinVec<u8, A, G> {
         // On success.
         ensures items { OnOk result (self.new.items ≡ self.old.items ++ buf.now) }
         ensures capacity { OnOk result
-            (capacity_for G.rule u8 self.old (length buf.now) ≡ Some self.new.capacity) }
-        ensures cost { OnOk result (Costs (length buf.now) self.old self.new) }
+            (capacity_after_reserve G.rule u8 self.old (length buf.now) ≡ Some self.new.capacity) }
+        ensures cost { OnOk result (CostsMoves (length buf.now) self.old self.new) }
 
         // When it must succeed.
         ensures succeeds { HasRoomFor self.old (length buf.now) → IsOk result }
 
         // The call fails if the new capacity would be too large. On failure, the list is unchanged.
-        ensures overflow { capacity_for G.rule u8 self.old (length buf.now) ≡ None → IsErr result }
+        ensures overflow { capacity_after_reserve G.rule u8 self.old (length buf.now) ≡ None
+            → IsErr result }
         ensures cause { IfErr result (λ error. error_kind error ≡ ErrorKind.OutOfMemory) }
         ensures err { OnErr result (self.new ≡ self.old) }
 
         // In every case.
         ensures had_room { HasRoomFor self.old (length buf.now)
             → self.new.capacity ≡ self.old.capacity }
-        ensures keeps { Keeps u8 self.old self.new }
+        ensures preserved { PreservesList u8 self.old self.new }
     {
         match self.reserve_run(buf.len()) {
             Ok(()) => (),
@@ -110,7 +112,7 @@ impl<A: Allocator, G: Growth> Write for ThinVec<u8, A, G> {
     /// Does nothing, and never fails: every byte that was written is already in the list.
     fn flush(&mut self) -> io::Result<()>
         ensures succeeds { IsOk result }
-        ensures unchanged { self.new ≡ self.old }
+        ensures changes { self.new ≡ self.old }
     {
         // There is nothing to flush, because every byte that was written is already in the list.
         Ok(())

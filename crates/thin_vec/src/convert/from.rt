@@ -2,11 +2,11 @@
 ghost use Rattle.std.specs.Prelude.{◌≡◌, ◌≤◌, [], IfErr, IfOk, IsOk, length};
 ghost use Rattle.std.specs.Box.{boxed_slice_items};
 ghost use Rattle.std.specs.List.{AllZip};
-ghost use Rattle.thin_block.specs.Cost.{moving};
-ghost use Rattle.thin_block.specs.Slots.{empty};
+ghost use Rattle.thin_block.specs.Cost.{add_moves};
+ghost use Rattle.thin_block.specs.Slots.{empty_slots};
 ghost use Rattle.thin_vec.specs.List.Clones.{ClonesEqual};
-ghost use Rattle.thin_vec.specs.ThinVec.{IsWithin, cost_new};
-ghost use Rattle.thin_vec.specs.List.Capacity.{TellsOverflowOf, IsMade, causes};
+ghost use Rattle.thin_vec.specs.ThinVec.{IsBounded, cost_of_new};
+ghost use Rattle.thin_vec.specs.List.Capacity.{OverflowsIffTooLarge, IsFreshList, map_cause};
 
 use crate::errors::Rejected;
 use crate::list::ThinVec;
@@ -35,15 +35,15 @@ impl<T, A: Allocator> ThinVec<T, A> {
         // On success.
         ensures items { IfOk result (λ list. list.items ≡ items) }
         ensures capacity { IfOk result (λ list. list.capacity ≡ N) }
-        ensures cost { IfOk result (λ list. list.cost ≡ moving N (cost_new N)) }
-        ensures made { IfOk result (IsMade T.row alloc) }
+        ensures cost { IfOk result (λ list. list.cost ≡ add_moves N (cost_of_new N)) }
+        ensures new { IfOk result (IsFreshList T.row alloc) }
 
         // When it must succeed.
         ensures succeeds { N ≡ 0 → IsOk result }
 
         // On failure, the error holds the array.
         ensures value_returned { IfErr result (λ error. error.value ≡ items) }
-        ensures overflow { TellsOverflowOf T.row N (causes result) }
+        ensures overflow { OverflowsIffTooLarge T.row N (map_cause result) }
     {
         match ThinVec::with_capacity(alloc, N) {
             Ok(mut list) => {
@@ -75,15 +75,16 @@ impl<T, A: Allocator> ThinVec<T, A> {
         ensures items { IfOk result (λ list. list.items ≡ items.items) }
         ensures capacity { IfOk result (λ list. list.capacity ≡ length items.items) }
         ensures cost { IfOk result
-            (λ list. list.cost ≡ moving (length items.items) (cost_new (length items.items))) }
-        ensures made { IfOk result (IsMade T.row alloc) }
+            (λ list. list.cost ≡ add_moves (length items.items)
+            (cost_of_new (length items.items))) }
+        ensures new { IfOk result (IsFreshList T.row alloc) }
 
         // When it must succeed.
         ensures succeeds_empty { length items.items ≡ 0 → IsOk result }
 
         // On failure, the error holds the vector.
         ensures value_returned { IfErr result (λ error. error.value ≡ items) }
-        ensures overflow { TellsOverflowOf T.row (length items.items) (causes result) }
+        ensures overflow { OverflowsIffTooLarge T.row (length items.items) (map_cause result) }
     {
         match ThinVec::with_capacity(alloc, items.len()) {
             Ok(mut list) => {
@@ -113,17 +114,17 @@ impl<T, A: Allocator> ThinVec<T, A> {
         ensures items { IfOk result (λ list. list.items ≡ boxed_slice_items items) }
         ensures capacity { IfOk result (λ list. list.capacity ≡ length (boxed_slice_items items)) }
         ensures cost { IfOk result
-            (λ list. list.cost ≡ moving (length (boxed_slice_items items))
-            (cost_new (length (boxed_slice_items items)))) }
-        ensures made { IfOk result (IsMade T.row alloc) }
+            (λ list. list.cost ≡ add_moves (length (boxed_slice_items items))
+            (cost_of_new (length (boxed_slice_items items)))) }
+        ensures new { IfOk result (IsFreshList T.row alloc) }
 
         // When it must succeed.
         ensures succeeds_empty { length (boxed_slice_items items) ≡ 0 → IsOk result }
 
         // On failure, the error holds the boxed slice.
         ensures value_returned { IfErr result (λ error. error.value ≡ items) }
-        ensures overflow { TellsOverflowOf T.row (length (boxed_slice_items items))
-            (causes result) }
+        ensures overflow { OverflowsIffTooLarge T.row (length (boxed_slice_items items))
+            (map_cause result) }
     {
         match ThinVec::with_capacity(alloc, items.len()) {
             Ok(mut list) => {
@@ -140,14 +141,14 @@ impl<T, A: Allocator> ThinVec<T, A> {
     // Moves the items of the vector `items` into this list, in order, and frees the vector. The
     // list must be empty, and must have room for the items.
     fn extend_from_vec_reserved<B: Allocator>(&mut self, items: Vec<T, B>)
-        requires empty { self.old.items ≡ [] }
+        requires is_empty { self.old.items ≡ [] }
         requires room { length items.items ≤ self.old.capacity }
-        requires within { IsWithin T.row self.old }
+        requires bounds { IsBounded T.row self.old }
         ensures changes { self.new ≡ record self.old {
           items = items.items;
-          cost = moving (length items.items) self.old.cost;
+          cost = add_moves (length items.items) self.old.cost;
         } }
-        ensures within { IsWithin T.row self.new }
+        ensures bounds { IsBounded T.row self.new }
     {
         let len = items.len();
         put_vec(&mut self.block, 0, items);
@@ -170,14 +171,14 @@ impl<T: Copy, A: Allocator> ThinVec<T, A> {
         ensures items { IfOk result (λ list. list.items ≡ items.now) }
         ensures capacity { IfOk result (λ list. list.capacity ≡ length items.now) }
         ensures cost { IfOk result
-            (λ list. list.cost ≡ moving (length items.now) (cost_new (length items.now))) }
-        ensures made { IfOk result (IsMade T.row alloc) }
+            (λ list. list.cost ≡ add_moves (length items.now) (cost_of_new (length items.now))) }
+        ensures new { IfOk result (IsFreshList T.row alloc) }
 
         // When it must succeed.
         ensures succeeds_empty { length items.now ≡ 0 → IsOk result }
 
         // On failure.
-        ensures overflow { TellsOverflowOf T.row (length items.now) result }
+        ensures overflow { OverflowsIffTooLarge T.row (length items.now) result }
     {
         match ThinVec::with_capacity(alloc, items.len()) {
             Ok(mut list) => {
@@ -205,14 +206,14 @@ impl<T: Clone, A: Allocator> ThinVec<T, A> {
             → list.items ≡ items.now) }
         ensures capacity { IfOk result (λ list. list.capacity ≡ length items.now) }
         ensures cost { IfOk result
-            (λ list. list.cost ≡ moving (length items.now) (cost_new (length items.now))) }
-        ensures made { IfOk result (IsMade T.row alloc) }
+            (λ list. list.cost ≡ add_moves (length items.now) (cost_of_new (length items.now))) }
+        ensures new { IfOk result (IsFreshList T.row alloc) }
 
         // When it must succeed.
         ensures succeeds_empty { length items.now ≡ 0 → IsOk result }
 
         // On failure.
-        ensures overflow { TellsOverflowOf T.row (length items.now) result }
+        ensures overflow { OverflowsIffTooLarge T.row (length items.now) result }
     {
         if !fits::<T>(items.len()) {
             return Err(ThinVecError::CapacityOverflow);
@@ -225,7 +226,7 @@ impl<T: Clone, A: Allocator> ThinVec<T, A> {
 // `from_array` needs this fact after the array was moved.
 fn count<T, const N: usize>(items: &[T; N]) -> usize
     ensures value { result ≡ N }
-    ensures length { result ≡ length items.now }
+    ensures len { result ≡ length items.now }
 {
     items.len()
 }

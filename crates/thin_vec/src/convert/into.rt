@@ -1,7 +1,7 @@
 //! Conversions of a list into a vector, a boxed slice or an array.
 ghost use Rattle.std.specs.Prelude.{◌≡◌, ◌↔◌, IfErr, IfOk, IsOk, length, vec_capacity, vec_len};
 ghost use Rattle.std.specs.Box.{boxed_slice_items, boxed_slice_len};
-ghost use Rattle.thin_vec.specs.ThinVec.{IsWithin};
+ghost use Rattle.thin_vec.specs.ThinVec.{IsBounded};
 
 use crate::errors::Rejected;
 use crate::list::ThinVec;
@@ -30,7 +30,7 @@ impl<T, A: Allocator, G: Growth> ThinVec<T, A, G> {
         // On failure, the cause is `OutOfMemory`, and the error holds the unchanged list.
         ensures cause { IfErr result (λ refused. refused.cause ≡ ThinVecError.OutOfMemory) }
         ensures value_returned { IfErr result (λ refused. refused.value ≡ self) }
-        ensures err_within { IfErr result (λ refused. IsWithin T.row refused.value) }
+        ensures bounds { IfErr result (λ refused. IsBounded T.row refused.value) }
     {
         let mut vec = match Vec::with_capacity(alloc, self.len()) {
             Ok(vec) => vec,
@@ -68,7 +68,7 @@ impl<T, A: Allocator, G: Growth> ThinVec<T, A, G> {
         // On failure, the cause is `OutOfMemory`, and the error holds the unchanged list.
         ensures cause { IfErr result (λ refused. refused.cause ≡ ThinVecError.OutOfMemory) }
         ensures value_returned { IfErr result (λ refused. refused.value ≡ self) }
-        ensures err_within { IfErr result (λ refused. IsWithin T.row refused.value) }
+        ensures bounds { IfErr result (λ refused. IsBounded T.row refused.value) }
     {
         Ok(self.into_vec(alloc)?.into_boxed_slice())
     }
@@ -95,7 +95,7 @@ impl<T, A: Allocator, G: Growth> ThinVec<T, A, G> {
 
         // On failure, the error is the unchanged list.
         ensures value_returned { IfErr result (λ list. list ≡ self) }
-        ensures err_within { IfErr result (λ list. IsWithin T.row list) }
+        ensures bounds { IfErr result (λ list. IsBounded T.row list) }
     {
         if self.len() != N {
             return Err(self);

@@ -3,7 +3,7 @@ ghost use Rattle.std.specs.Prelude.{◌≡◌, ◌↔◌, ◌^◌, ◌<◌, [], 
 ghost use Rattle.std.specs.Iterator.{YieldsFirst, YieldsLast, item_count};
 ghost use Rattle.std.specs.List.{AllZip};
 ghost use Rattle.std.specs.Option.{option_to_list};
-ghost use Rattle.thin_block.specs.Cost.{moving};
+ghost use Rattle.thin_block.specs.Cost.{add_moves};
 ghost use Rattle.thin_vec.specs.List.Clones.{ClonesEqual};
 ghost use Rattle.thin_vec.specs.Convert.IntoIter.{RestInOrder, RestInReverse, rest};
 
@@ -32,16 +32,16 @@ pub struct IntoIter<T, A: Allocator = Global, G: Growth = Doubling> {
 }
 
 impl<T, A: Allocator, G: Growth> Model for IntoIter<T, A, G> {
-    ghost use Rattle.thin_vec.specs.Convert.IntoIter.{IsWalked};
-    ghost use Rattle.thin_vec.specs.ThinVec.{Thin, thin_code, thin_of};
+    ghost use Rattle.thin_vec.specs.Convert.IntoIter.{IsIntoIterBlock};
+    ghost use Rattle.thin_vec.specs.ThinVec.{ListView, list_view_code, list_view};
 
-    ghost Value = { Thin T A };
+    ghost Value = { ListView T A };
 
-    ghost coded = { thin_code T.code A.code };
+    ghost coded = { list_view_code T.code A.code };
 
-    ghost view = { λ it. thin_of it.block it.alloc };
+    ghost view = { λ it. list_view it.block it.alloc };
 
-    ghost invariant = { λ it. IsWalked it.block it.alloc it.start it.end };
+    ghost invariant = { λ it. IsIntoIterBlock it.block it.alloc it.start it.end };
 }
 
 impl<T, A: Allocator, G: Growth> ThinVec<T, A, G> {
@@ -50,7 +50,7 @@ impl<T, A: Allocator, G: Growth> ThinVec<T, A, G> {
     /// moves no item.
     pub fn into_iter(self) -> IntoIter<T, A, G>
         ensures value { result ≡ self }
-        ensures small { length result.items < 2 ^ 64 }
+        ensures bounds { length result.items < 2 ^ 64 }
         ensures runs { RestInOrder T A }
         ensures runs_back { RestInReverse T A }
     {
@@ -127,7 +127,7 @@ impl<T, A: Allocator, G: Growth> IntoIter<T, A, G> {
 
     // Yields the first item that has not been yielded yet. There must be such an item.
     fn take_first(&mut self) -> T
-        requires some { 0 < length self.old.items }
+        requires nonempty { 0 < length self.old.items }
         ensures items { self.old.items ≡ result ∷ self.new.items }
         ensures changes { self.new ≡ record self.old { items = self.new.items } }
     {
@@ -138,7 +138,7 @@ impl<T, A: Allocator, G: Growth> IntoIter<T, A, G> {
 
     // Yields the last item that has not been yielded yet. There must be such an item.
     fn take_last(&mut self) -> T
-        requires some { 0 < length self.old.items }
+        requires nonempty { 0 < length self.old.items }
         ensures items { self.old.items ≡ self.new.items ++ result ∷ [] }
         ensures changes { self.new ≡ record self.old { items = self.new.items } }
     {
@@ -165,7 +165,7 @@ impl<T, A: Allocator, G: Growth> IntoIter<T, A, G> {
 
     // Consumes the iterator, which must have yielded all its items, and frees its allocation.
     pub(crate) fn release(self)
-        requires empty { self.items ≡ [] }
+        requires is_empty { self.items ≡ [] }
     {
         let IntoIter {
             block,
@@ -180,7 +180,7 @@ impl<T, A: Allocator, G: Growth> IntoIter<T, A, G> {
 
 impl<T: Clone, A: Allocator, G: Growth> IntoIter<T, A, G> {
     ghost use Rattle.thin_vec.specs.Cheap.{IsCheap};
-    ghost use Rattle.thin_vec.specs.ThinVec.{cost_new};
+    ghost use Rattle.thin_vec.specs.ThinVec.{cost_of_new};
 
     /// Makes an iterator that yields clones of the remaining items, in order. The new iterator uses
     /// the allocator `alloc`, and its allocation has room for exactly these clones. If no item
@@ -198,8 +198,8 @@ impl<T: Clone, A: Allocator, G: Growth> IntoIter<T, A, G> {
             → it.items ≡ self.now.items) }
         ensures capacity { IfOk result (λ it. it.capacity ≡ length self.now.items) }
         ensures alloc { IfOk result (λ it. it.alloc ≡ alloc) }
-        ensures cost { IfOk result (λ it. it.cost ≡ moving (length self.now.items)
-            (cost_new (length self.now.items))) }
+        ensures cost { IfOk result (λ it. it.cost ≡ add_moves (length self.now.items)
+            (cost_of_new (length self.now.items))) }
         ensures cheap { IfOk result (λ it. IsCheap it) }
 
         // When it must succeed.

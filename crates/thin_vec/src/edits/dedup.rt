@@ -3,8 +3,8 @@
 ghost use Rattle.std.specs.Prelude.{◌≡◌, ◌+◌, ◌<◌, ◌≤◌, length};
 ghost use Rattle.std.specs.Fn.{CalledAtPairMut, ComparesKeys};
 ghost use Rattle.std.specs.List.{dedup};
-ghost use Rattle.thin_block.specs.Cost.{moving};
-ghost use Rattle.thin_vec.specs.List.Capacity.{Keeps};
+ghost use Rattle.thin_block.specs.Cost.{add_moves};
+ghost use Rattle.thin_vec.specs.List.Capacity.{PreservesList};
 
 use crate::list::ThinVec;
 use crate::open_block::dedup::PairTest;
@@ -13,7 +13,7 @@ use thin_block::Growth;
 
 impl<T: Drop, A: Allocator, G: Growth> ThinVec<T, A, G> {
     ghost use Rattle.thin_vec.specs.Edits.Dedup.{IsDedupedBy, IsDedupedTo};
-    ghost use Rattle.thin_vec.specs.ThinVec.{IsWithin};
+    ghost use Rattle.thin_vec.specs.ThinVec.{IsBounded};
 
     /// Calls `same` once for each item except the first, in order. If `same` returns true, the item
     /// is removed and dropped.
@@ -28,23 +28,23 @@ impl<T: Drop, A: Allocator, G: Growth> ThinVec<T, A, G> {
         ensures deduped { IsDedupedBy (CalledAtPairMut F.FnMut) same self.old self.new }
         ensures bound { length self.new.items ≤ length self.old.items }
         ensures capacity { self.new.capacity ≡ self.old.capacity }
-        ensures keeps { Keeps T.row self.old self.new }
+        ensures preserved { PreservesList T.row self.old self.new }
     {
-        let mut test = Deduping { same };
-        self.dedup_those(&mut test);
-        let Deduping { same: _ } = test;
+        let mut test = SameBy { same };
+        self.dedup_with(&mut test);
+        let SameBy { same: _ } = test;
     }
 
     // Tests each item except the first, in order, against the last item kept before it. Removes and
     // drops the items that the test finds to be duplicates.
-    fn dedup_those<J: PairTest<T>>(&mut self, test: &mut J)
-        requires ready { J.ready test.old }
+    fn dedup_with<J: PairTest<T>>(&mut self, test: &mut J)
+        requires callable { J.ready test.old }
         ensures deduped { IsDedupedTo J.tests test.old self.old self.new test.new }
         ensures changes { self.new ≡ record self.old {
           items = self.new.items;
           cost = self.new.cost;
         } }
-        ensures within { IsWithin T.row self.old × IsWithin T.row self.new }
+        ensures bounds { IsBounded T.row self.old × IsBounded T.row self.new }
     {
         let len = self.len();
         if len < 2 {
@@ -68,18 +68,18 @@ impl<T: Drop, A: Allocator, G: Growth> ThinVec<T, A, G> {
         ensures deduped { IsDedupedBy (ComparesKeys F.FnMut K.eq) key self.old self.new }
         ensures bound { length self.new.items ≤ length self.old.items }
         ensures capacity { self.new.capacity ≡ self.old.capacity }
-        ensures keeps { Keeps T.row self.old self.new }
+        ensures preserved { PreservesList T.row self.old self.new }
     {
-        let mut test = Keying { key };
-        self.dedup_those(&mut test);
-        let Keying { key: _ } = test;
+        let mut test = SameKey { key };
+        self.dedup_with(&mut test);
+        let SameKey { key: _ } = test;
     }
 }
 
 impl<T: PartialEq + Drop, A: Allocator, G: Growth> ThinVec<T, A, G> {
-    ghost use Rattle.thin_vec.specs.Edits.Retain.{moved_down};
-    ghost use Rattle.thin_vec.specs.Edits.Dedup.{unlike};
-    ghost use Rattle.thin_vec.specs.ThinVec.{IsWithin};
+    ghost use Rattle.thin_vec.specs.Edits.Retain.{moves_of_retain};
+    ghost use Rattle.thin_vec.specs.Edits.Dedup.{dedup_flags};
+    ghost use Rattle.thin_vec.specs.ThinVec.{IsBounded};
 
     /// Removes and drops each item that is equal to the last item kept before it, like Rust's
     /// `Vec::dedup`. If the list is sorted, one item of each value remains.
@@ -88,35 +88,35 @@ impl<T: PartialEq + Drop, A: Allocator, G: Growth> ThinVec<T, A, G> {
     /// item is moved once. No other item is moved within the list.
     pub fn dedup(&mut self)
         ensures items { self.new.items ≡ dedup T.eq self.old.items }
-        ensures cost { self.new.cost ≡ moving (moved_down (unlike T.eq self.old.items))
+        ensures cost { self.new.cost ≡ add_moves (moves_of_retain (dedup_flags T.eq self.old.items))
             self.old.cost }
         ensures bound { length self.new.items ≤ length self.old.items }
         ensures capacity { self.new.capacity ≡ self.old.capacity }
-        ensures keeps { Keeps T.row self.old self.new }
+        ensures preserved { PreservesList T.row self.old self.new }
     {
-        let mut test = Comparing {};
-        self.dedup_those(&mut test);
-        let Comparing {} = test;
+        let mut test = SameItem {};
+        self.dedup_with(&mut test);
+        let SameItem {} = test;
     }
 }
 
 // The test that `dedup_by` uses. An item is removed if the closure `same` returns true for this
 // item and the last item that was kept before it.
-struct Deduping<F> {
+struct SameBy<F> {
     same: F,
 }
 
 // The test that `dedup_by_key` uses. An item is removed if the closure `key` returns equal keys for
 // this item and for the last item that was kept before it.
-struct Keying<F> {
+struct SameKey<F> {
     key: F,
 }
 
 // The test that `dedup` uses. An item is removed if it is equal to the last item that was kept
 // before it.
-struct Comparing {}
+struct SameItem {}
 
-impl<T, F: FnMut(&mut T, &mut T) -> bool> PairTest<T> for Deduping<F> {
+impl<T, F: FnMut(&mut T, &mut T) -> bool> PairTest<T> for SameBy<F> {
     ghost use Rattle.std.specs.Fn.{CalledAtPairMut};
 
     ghost tests = { λ s x k b t y l. CalledAtPairMut F.FnMut s.same x k b t.same y l };
@@ -128,7 +128,7 @@ impl<T, F: FnMut(&mut T, &mut T) -> bool> PairTest<T> for Deduping<F> {
     }
 }
 
-impl<T, K: PartialEq + Drop, F: FnMut(&mut T) -> K> PairTest<T> for Keying<F> {
+impl<T, K: PartialEq + Drop, F: FnMut(&mut T) -> K> PairTest<T> for SameKey<F> {
     ghost use Rattle.std.specs.Fn.{ComparesKeys};
 
     ghost tests = { λ s x k b t y l. ComparesKeys F.FnMut K.eq s.key x k b t.key y l };
@@ -141,7 +141,7 @@ impl<T, K: PartialEq + Drop, F: FnMut(&mut T) -> K> PairTest<T> for Keying<F> {
     }
 }
 
-impl<T: PartialEq> PairTest<T> for Comparing {
+impl<T: PartialEq> PairTest<T> for SameItem {
     ghost use Rattle.std.specs.Prelude.{⊤};
     ghost use Rattle.thin_vec.specs.Edits.Dedup.{Compares};
 

@@ -4,11 +4,11 @@ ghost use Rattle.std.specs.Prelude.{◌≡◌, ◌+◌, ◌-◌, ◌<◌, ◌≤
 ghost use Rattle.std.specs.List.{remove_range};
 ghost use Rattle.std.specs.Iterator.{UpTo, item_count};
 ghost use Rattle.std.specs.Iterator.SizeHint.{IsWithinCount};
-ghost use Rattle.thin_block.specs.Cost.{moving, no_cost};
-ghost use Rattle.thin_block.specs.Block.{IsFrom};
+ghost use Rattle.thin_block.specs.Cost.{add_moves, no_cost};
+ghost use Rattle.thin_block.specs.Block.{IsAllocatedBy};
 ghost use Rattle.thin_vec.specs.Open.{cost_drained};
 
-use crate::edits::holder::{Holder, Holds};
+use crate::edits::holder::{Holder, IntoInner};
 use crate::list::ThinVec;
 use crate::open_block::OpenBlock;
 use std::alloc::{Allocator, Global};
@@ -27,14 +27,14 @@ pub struct Drain<
     T,
     A: Allocator = Global,
     G: Growth = Doubling,
-    H: Holds<Inner = OpenBlock<T, A>> = Holder<OpenBlock<T, A>>,
+    H: IntoInner<Inner = OpenBlock<T, A>> = Holder<OpenBlock<T, A>>,
 > {
     list: &'a mut ThinVec<T, A, G>,
     holder: H,
-    ghost from: { IsFrom (H.inner holder).alloc list.now.alloc },
+    ghost from: { IsAllocatedBy (H.inner holder).alloc list.now.alloc },
 }
 
-impl<'a, T: Drop, A: Allocator, G: Growth, H: Holds<Inner = OpenBlock<T, A>>> Drop
+impl<'a, T: Drop, A: Allocator, G: Growth, H: IntoInner<Inner = OpenBlock<T, A>>> Drop
     for Drain<'a, T, A, G, H> {
     // Drops the items that were not yielded. Moves the items after the drained range down to the
     // start of this range, and puts the block back into the list.
@@ -90,7 +90,7 @@ impl<T: Drop, A: Allocator, G: Growth> ThinVec<T, A, G> {
         ensures capacity { (drain_block result).capacity ≡ self.old.capacity }
         ensures alloc { (drain_list result).alloc ≡ self.old.alloc }
         ensures cost { cost_drained (drain_block result)
-            ≡ (if start == end then self.old.cost else moving
+            ≡ (if start == end then self.old.cost else add_moves
             (length self.old.items - end) self.old.cost) }
 
         // The `Drain` borrows this list: its reference to the list has the same ghost name as

@@ -8,13 +8,13 @@ ghost use Rattle.std.specs.Prelude.{◌≡◌, ◌≤◌, IfSome, Some, drop, le
 ghost use Rattle.std.specs.Fn.{CalledAtMut};
 ghost use Rattle.std.specs.Iterator.{UpTo, at_most};
 ghost use Rattle.std.specs.Iterator.SizeHint.{IsWithinCount};
-ghost use Rattle.thin_block.specs.Block.{IsFrom};
+ghost use Rattle.thin_block.specs.Block.{IsAllocatedBy};
 ghost use Rattle.thin_vec.specs.Open.{cost_closed, items_of};
 
-use crate::edits::holder::{Holder, Holds};
+use crate::edits::holder::{Holder, IntoInner};
 use crate::list::ThinVec;
 use crate::open_block::OpenBlock;
-use crate::open_block::sift::Test;
+use crate::open_block::retain::Test;
 use std::alloc::{Allocator, Global};
 use thin_block::{Doubling, Growth};
 
@@ -32,30 +32,30 @@ pub struct ExtractIf<
     F,
     A: Allocator = Global,
     G: Growth = Doubling,
-    H: Holds<Inner = Extracting<T, F, A>> = Holder<Extracting<T, F, A>>,
+    H: IntoInner<Inner = ExtractState<T, F, A>> = Holder<ExtractState<T, F, A>>,
 > {
     list: &'a mut ThinVec<T, A, G>,
     holder: H,
     // If the block has memory, the allocator of the list allocated this memory.
-    ghost from: { IsFrom (H.inner holder).block.alloc list.now.alloc },
+    ghost from: { IsAllocatedBy (H.inner holder).block.alloc list.now.alloc },
 }
 
 /// The two values that an `ExtractIf` owns: the open block, which is the block of the list during
 /// the edit, and the test, which contains the closure.
-pub struct Extracting<T, F, A: Allocator> {
+pub struct ExtractState<T, F, A: Allocator> {
     block: OpenBlock<T, A>,
-    picks: Picks<F>,
+    picks: ExtractBy<F>,
     // There is no empty slot between the items that have not been tested yet and the items after
     // the range.
     ghost adjacent: { block.gap_after ≡ 0 },
 }
 
 /// The test that an `ExtractIf` uses: an item is removed if the closure `pick` returns true.
-pub struct Picks<F> {
+pub struct ExtractBy<F> {
     pick: F,
 }
 
-impl<T, F: FnMut(&mut T) -> bool> Test<T> for Picks<F> {
+impl<T, F: FnMut(&mut T) -> bool> Test<T> for ExtractBy<F> {
     ghost use Rattle.std.specs.Fn.{CalledAtMut};
 
     ghost tests = { λ s x stays t y. CalledAtMut F.FnMut s.pick x (not stays) t.pick y };
@@ -68,8 +68,14 @@ impl<T, F: FnMut(&mut T) -> bool> Test<T> for Picks<F> {
     }
 }
 
-impl<'a, T: Drop, F: Drop, A: Allocator, G: Growth, H: Holds<Inner = Extracting<T, F, A>>> Drop
-    for ExtractIf<'a, T, F, A, G, H> {
+impl<
+    'a,
+    T: Drop,
+    F: Drop,
+    A: Allocator,
+    G: Growth,
+    H: IntoInner<Inner = ExtractState<T, F, A>>,
+> Drop for ExtractIf<'a, T, F, A, G, H> {
     // Closes the gap that the removed items left, by moving down the items behind the gap. Then
     // puts the block back into the list, and drops the closure.
     fn drop(self)
@@ -79,8 +85,8 @@ impl<'a, T: Drop, F: Drop, A: Allocator, G: Growth, H: Holds<Inner = Extracting<
         ensures cost { self.exit.0.now.cost ≡ cost_closed (H.inner self.entry.holder).block }
     {
         let ExtractIf { list, holder } = self;
-        let Extracting { block, picks } = holder.into_inner();
-        let Picks { pick } = picks;
+        let ExtractState { block, picks } = holder.into_inner();
+        let ExtractBy { pick } = picks;
         // The list is already empty. This call is needed only for the proof: the contract of
         // `close` requires an empty list.
         list.clear();
@@ -89,8 +95,8 @@ impl<'a, T: Drop, F: Drop, A: Allocator, G: Growth, H: Holds<Inner = Extracting<
     }
 }
 
-impl<T, F: FnMut(&mut T) -> bool, A: Allocator> Extracting<T, F, A> {
-    ghost use Rattle.thin_vec.specs.Edits.ExtractIf.{Extracts};
+impl<T, F: FnMut(&mut T) -> bool, A: Allocator> ExtractState<T, F, A> {
+    ghost use Rattle.thin_vec.specs.Edits.ExtractIf.{ExtractsOne};
 
     // Tests the items that have not been tested yet, in order, until the closure `pick` returns
     // true for one of them. Removes that item and returns it, or returns `None` if there is no such
@@ -101,10 +107,10 @@ impl<T, F: FnMut(&mut T) -> bool, A: Allocator> Extracting<T, F, A> {
     // fields of a struct that holds a reference, such as an `ExtractIf`.
     fn next_picked(&mut self) -> Option<T>
         requires callable { F.IsAlwaysCallable self.old.picks.pick }
-        ensures extracts { Extracts (CalledAtMut F.FnMut) self.old result self.new }
+        ensures steps { ExtractsOne (CalledAtMut F.FnMut) self.old result self.new }
         ensures callable { F.IsAlwaysCallable self.new.picks.pick }
     {
-        if self.block.advance(&mut self.picks) {
+        if self.block.seek_rejected(&mut self.picks) {
             Some(self.block.take_first())
         } else {
             None
@@ -144,7 +150,7 @@ impl<T: Drop, A: Allocator, G: Growth> ThinVec<T, A, G> {
         ensures front { (extract_block result).front ≡ take start self.old.items }
         ensures rest { extract_rest result ≡ slice_range self.old.items start end }
         ensures tail { (extract_block result).tail ≡ drop end self.old.items }
-        ensures gone { (extract_block result).gap ≡ 0 }
+        ensures gap { (extract_block result).gap ≡ 0 }
         ensures callee { extract_callee result ≡ pick }
 
         // The `ExtractIf` borrows this list: its reference to the list has the same ghost name as
@@ -159,11 +165,11 @@ impl<T: Drop, A: Allocator, G: Growth> ThinVec<T, A, G> {
         ensures stays { ExtractKeepsAlong (CalledAtMut F.FnMut) result }
     {
         let block = self.open(start, end);
-        let picks = Picks { pick };
+        let picks = ExtractBy { pick };
         ExtractIf {
             list: self,
             holder: Holder {
-                value: Extracting { block, picks },
+                value: ExtractState { block, picks },
             },
         }
     }

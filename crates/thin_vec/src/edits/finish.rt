@@ -8,13 +8,13 @@ ghost use Rattle.std.specs.Prelude.{◌≡◌, ◌+◌, ◌-◌, ◌*◌, ◌<�
 ghost use Rattle.std.specs.Iterator.{Drains, IsFinite, Yields, YieldsThen, size};
 ghost use Rattle.std.specs.Iterator.SizeHint.{IsWithinCount};
 ghost use Rattle.std.specs.Option.{option_len, option_to_list};
-ghost use Rattle.thin_vec.specs.List.Extend.{FailsAtHint, IsKeptOrRuled};
-ghost use Rattle.thin_block.specs.Block.{IsFrom};
-ghost use Rattle.thin_vec.specs.Open.{reach};
-ghost use Rattle.thin_vec.specs.Edits.Splice.{IsStopCause, Stopped};
-ghost use Rattle.thin_vec.specs.Edits.Finish.{HasTaken, IsClosedWith, IsFinished};
+ghost use Rattle.thin_vec.specs.List.Extend.{FailsAtHint, IsKeptOrChosen};
+ghost use Rattle.thin_block.specs.Block.{IsAllocatedBy};
+ghost use Rattle.thin_vec.specs.Open.{tail_end};
+ghost use Rattle.thin_vec.specs.Edits.Splice.{IsSpliceCause, SpliceErrorAccountsFor};
+ghost use Rattle.thin_vec.specs.Edits.Finish.{AddsFromIter, IsGapFilled, FinishesSplice};
 ghost use Rattle.thin_vec.specs.Put.{IsFilledBy};
-ghost use Rattle.thin_vec.specs.ThinVec.{capacity_for};
+ghost use Rattle.thin_vec.specs.ThinVec.{capacity_after_reserve};
 
 use crate::errors::{ExtendRefused, Rejected, SpliceRefused};
 use crate::list::ThinVec;
@@ -30,14 +30,14 @@ impl<T, A: Allocator, G: Growth> ThinVec<T, A, G> {
     // contains the rest of `iter`, and says whether `iter` has ended.
     #[inline(always)]
     fn fill_gap<I: Iterator<Item = T>>(&mut self, mut block: OpenBlock<T, A>, iter: I) -> Filled<I>
-        requires empty { self.old.items ≡ [] }
-        requires none { block.rest ≡ [] }
+        requires is_empty { self.old.items ≡ [] }
+        requires no_rest { block.rest ≡ [] }
         requires gap_after { block.gap_after ≡ 0 }
-        requires from { IsFrom block.alloc self.old.alloc }
+        requires same_allocator { IsAllocatedBy block.alloc self.old.alloc }
         requires can_next { I.can_next iter }
         requires finite { IsFinite (I.remaining iter) }
-        ensures filled { (by : IsFilledBy I.next_gives I.can_next I.remaining block.gap iter result)
-            × IsClosedWith block by.items self.old.alloc self.new
+        ensures filled_by { (by : IsFilledBy I.next_gives I.can_next I.remaining block.gap iter result)
+            × IsGapFilled block by.items self.old.alloc self.new
             × (result.end ≡ length block.front + length by.items) }
     {
         let filled = block.fill(iter);
@@ -61,12 +61,12 @@ impl<T: Drop, A: Allocator, G: Growth> ThinVec<T, A, G> {
         requires finite { IsFinite (I.remaining iter) }
 
         // On success.
-        ensures filled { IfOk result (λ filled. (hint : ℕ)
+        ensures filled_by { IfOk result (λ filled. (hint : ℕ)
             × (by : IsFilledBy I.next_gives I.can_next I.remaining hint iter filled)
             × (self.new.items ≡ (take at self.old.items ++ by.items) ++ drop at self.old.items)
             × (filled.end ≡ at + length by.items)) }
         ensures capacity { OnOk result ((hint : ℕ) × IsWithinCount hint (I.remaining iter)
-            × (capacity_for G.rule T.row self.old hint ≡ Some self.new.capacity)) }
+            × (capacity_after_reserve G.rule T.row self.old hint ≡ Some self.new.capacity)) }
 
         // When it must succeed.
         ensures succeeds { size (I.remaining iter) ≡ 0 → IsOk result }
@@ -79,10 +79,10 @@ impl<T: Drop, A: Allocator, G: Growth> ThinVec<T, A, G> {
 
         // Each item from index `at` onward is moved at most twice. If the call succeeds and fills
         // the whole gap, each of these items is moved at most once.
-        ensures taken { HasTaken G.rule T.row self.old self.new
+        ensures added { AddsFromIter G.rule T.row self.old self.new
             (2 * (length self.old.items - at)) (I.remaining iter) }
-        ensures taken_full { IfOk result (λ filled. filled.ended ≡ false
-            → HasTaken G.rule T.row self.old self.new (length self.old.items - at)
+        ensures added_full { IfOk result (λ filled. filled.ended ≡ false
+            → AddsFromIter G.rule T.row self.old self.new (length self.old.items - at)
             (I.remaining iter)) }
         ensures blocks { self.new.cost.blocks ≤ self.old.cost.blocks + 1 }
     {
@@ -90,7 +90,7 @@ impl<T: Drop, A: Allocator, G: Growth> ThinVec<T, A, G> {
         if let Err(cause) = self.reserve(hint) {
             return Err(Rejected { value: iter, cause });
         }
-        let block = self.open_wide(at, at, hint);
+        let block = self.open_with_gap(at, at, hint);
         Ok(self.fill_gap(block, iter))
     }
 
@@ -117,14 +117,14 @@ impl<T: Drop, A: Allocator, G: Growth> ThinVec<T, A, G> {
         // On failure, the list is unchanged, and the error holds every item that `iter` yielded.
         ensures err { OnErr result (self.new ≡ self.old) }
         ensures placed { IfErr result
-            (λ error. Stopped I.next_gives I.can_next I.remaining iter [] error) }
+            (λ error. SpliceErrorAccountsFor I.next_gives I.can_next I.remaining iter [] error) }
         ensures cause { IfErr result (λ error. (tail : List T) → 0 < length tail
-            → IsStopCause G.rule T.row self.new tail (I.remaining error.rest) error) }
+            → IsSpliceCause G.rule T.row self.new tail (I.remaining error.rest) error) }
 
         // In every case.
-        ensures ruled { IsKeptOrRuled G.rule T.row self.old.capacity self.new.capacity
+        ensures capacity { IsKeptOrChosen G.rule T.row self.old.capacity self.new.capacity
             (length self.new.items) }
-        ensures taken { HasTaken G.rule T.row self.old self.new (length self.old.items - at)
+        ensures added { AddsFromIter G.rule T.row self.old self.new (length self.old.items - at)
             (I.remaining iter) }
         ensures blocks { self.new.cost.blocks ≤ self.old.cost.blocks + 1 }
     {
@@ -132,11 +132,11 @@ impl<T: Drop, A: Allocator, G: Growth> ThinVec<T, A, G> {
         let Some(first) = rest.next() else {
             return Ok(());
         };
-        let Drawn {
+        let Collected {
             held,
             in_hand,
             rest,
-        } = draw(first, rest, alloc);
+        } = collect_rest(first, rest, alloc);
         if let Some(item) = in_hand {
             return Err(SpliceRefused {
                 cause: ThinVecError::OutOfMemory,
@@ -154,7 +154,7 @@ impl<T: Drop, A: Allocator, G: Growth> ThinVec<T, A, G> {
                 rest,
             });
         }
-        let mut block = self.open_wide(at, at, count);
+        let mut block = self.open_with_gap(at, at, count);
         block.fill_from_vec(held);
         self.close(block);
         Ok(())
@@ -172,18 +172,19 @@ impl<T: Drop, A: Allocator, G: Growth> ThinVec<T, A, G> {
         // `block` must have been taken out of this list. It must contain at least one item that
         // follows the removed range (the field `tail`), and no item of the range itself (the field
         // `rest`).
-        requires some { 0 < length block.tail }
-        requires empty { self.old.items ≡ [] }
-        requires none { block.rest ≡ [] }
+        requires nonempty { 0 < length block.tail }
+        requires is_empty { self.old.items ≡ [] }
+        requires no_rest { block.rest ≡ [] }
         requires gap_after { block.gap_after ≡ 0 }
-        requires from { IsFrom block.alloc self.old.alloc }
+        requires same_allocator { IsAllocatedBy block.alloc self.old.alloc }
         requires can_next { I.can_next iter }
         requires finite { IsFinite (I.remaining iter) }
 
-        // `IsFinished` states under which conditions the call succeeds, how the call changes the
-        // list, and what it returns on failure. All `ensures` clauses of `Splice::finish` follow
-        // from this clause.
-        ensures { IsFinished I.next_gives I.can_next I.remaining G.rule T.row block self.old.alloc
+        // `FinishesSplice` states under which conditions the call succeeds, how the call changes
+        // the list, and what it returns on failure. All `ensures` clauses of `Splice::finish`
+        // follow from this clause.
+        ensures { FinishesSplice I.next_gives I.can_next I.remaining G.rule T.row block
+            self.old.alloc
             iter self.new result }
     {
         let Filled { rest, end, ended } = self.fill_gap(block, iter);
@@ -221,14 +222,15 @@ impl<T: Drop, A: Allocator, G: Growth> ThinVec<T, A, G> {
         // `block` was taken out of this list. Its `tail` (the items after the removed range) and
         // its `rest` (the items of the range itself) must be empty.
         requires no_tail { block.tail ≡ [] }
-        requires within { reach block ≤ block.capacity }
-        requires empty { self.old.items ≡ [] }
-        requires none { block.rest ≡ [] }
+        requires bounds { tail_end block ≤ block.capacity }
+        requires is_empty { self.old.items ≡ [] }
+        requires no_rest { block.rest ≡ [] }
         requires gap_after { block.gap_after ≡ 0 }
-        requires from { IsFrom block.alloc self.old.alloc }
+        requires same_allocator { IsAllocatedBy block.alloc self.old.alloc }
         requires can_next { I.can_next iter }
         requires finite { IsFinite (I.remaining iter) }
-        ensures { IsFinished I.next_gives I.can_next I.remaining G.rule T.row block self.old.alloc
+        ensures { FinishesSplice I.next_gives I.can_next I.remaining G.rule T.row block
+            self.old.alloc
             iter self.new result }
     {
         self.close(block);
@@ -253,7 +255,7 @@ impl<T: Drop, A: Allocator, G: Growth> ThinVec<T, A, G> {
 }
 
 /// The result of moving items of an iterator into a vector.
-struct Drawn<T, I, A: Allocator> {
+struct Collected<T, I, A: Allocator> {
     /// The items, in order.
     held: Vec<T, A>,
     /// The item that the iterator yielded directly after the items in `held`. The vector has no
@@ -265,16 +267,20 @@ struct Drawn<T, I, A: Allocator> {
 
 // Collects the item `first`, and then the items of `iter`, in a vector that uses `alloc`. Stops
 // when `iter` returns `None`, or when the vector cannot allocate memory for an item.
-fn draw<T, A: Allocator, I: Iterator<Item = T>>(first: T, iter: I, alloc: A) -> Drawn<T, I, A>
+fn collect_rest<T, A: Allocator, I: Iterator<Item = T>>(
+    first: T,
+    iter: I,
+    alloc: A,
+) -> Collected<T, I, A>
     requires can_next { I.can_next iter }
     requires finite { IsFinite (I.remaining iter) }
     ensures gave { (xs : List T)
         × (result.held.items ++ option_to_list result.in_hand ≡ first ∷ xs)
         × MatchOption result.in_hand (YieldsThen I.next_gives iter xs None result.rest)
         (λ _. Yields I.next_gives iter xs result.rest) }
-    ensures fewer { length result.held.items + option_len result.in_hand ≤ 1 + size
+    ensures bound { length result.held.items + option_len result.in_hand ≤ 1 + size
         (I.remaining iter) }
-    ensures asked { IsSome result.in_hand → I.can_next result.rest
+    ensures can_next { IsSome result.in_hand → I.can_next result.rest
         × IsFinite (I.remaining result.rest) }
 {
     let mut held = Vec::new(alloc);
@@ -285,7 +291,7 @@ fn draw<T, A: Allocator, I: Iterator<Item = T>>(first: T, iter: I, alloc: A) -> 
             Ok(()) => (),
             Err(refused) => {
                 let AllocFailed { value } = refused;
-                return Drawn {
+                return Collected {
                     held,
                     in_hand: Some(value),
                     rest,
@@ -295,7 +301,7 @@ fn draw<T, A: Allocator, I: Iterator<Item = T>>(first: T, iter: I, alloc: A) -> 
         // The vector has room for these items, so this loop makes no request for memory.
         while held.len() < held.capacity() {
             let Some(item) = rest.next() else {
-                return Drawn {
+                return Collected {
                     held,
                     in_hand: None,
                     rest,
@@ -304,7 +310,7 @@ fn draw<T, A: Allocator, I: Iterator<Item = T>>(first: T, iter: I, alloc: A) -> 
             held.push_reserved(item);
         }
         let Some(item) = rest.next() else {
-            return Drawn {
+            return Collected {
                 held,
                 in_hand: None,
                 rest,

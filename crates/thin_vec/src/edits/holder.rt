@@ -1,13 +1,13 @@
-//! The trait `Holds`, through which `Drain`, `ExtractIf` and `Splice` own the block of a list.
+//! The trait `IntoInner`, through which `Drain`, `ExtractIf` and `Splice` own the block of a list.
 //!
 //! Each of these structs has a field with a `&mut` to the list. If it also had a field with a raw
 //! pointer, the contract of its `drop` could not say how the list changes. A block contains a raw
-//! pointer, which a type parameter with the bound `Holds` hides.
+//! pointer, which a type parameter with the bound `IntoInner` hides.
 ghost use Rattle.std.specs.Prelude.{◌≡◌};
 
 /// A trait for types whose values contain exactly one inner value. Such a value can be converted
 /// into its inner value.
-pub trait Holds {
+pub trait IntoInner {
     /// The type of the inner value.
     type Inner;
 
@@ -19,13 +19,13 @@ pub trait Holds {
         ensures value { result ≡ inner self };
 }
 
-/// The only type in this crate that implements `Holds`, and the default of the type parameter `H`
-/// of `Drain`, `ExtractIf` and `Splice`. Users of these types need not write `H`.
+/// The only type in this crate that implements `IntoInner`, and the default of the type parameter
+/// `H` of `Drain`, `ExtractIf` and `Splice`. Users of these types need not write `H`.
 pub struct Holder<B> {
     pub(crate) value: B,
 }
 
-impl<B> Holds for Holder<B> {
+impl<B> IntoInner for Holder<B> {
     type Inner = B;
 
     ghost inner = { λ holder. holder.value };

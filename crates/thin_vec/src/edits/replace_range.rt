@@ -2,11 +2,11 @@
 //! the call fails, the list keeps its old items.
 ghost use Rattle.std.specs.Prelude.{◌≡◌, ◌+◌, ◌-◌, ◌*◌, ◌==◌, ◌<◌, ◌≤◌, ◌++◌, All, IfErr, IsOk, OnErr, OnOk, drop, if◌then◌else◌, length, take};
 ghost use Rattle.std.specs.List.{replace_range};
-ghost use Rattle.thin_block.specs.Cost.{moving};
+ghost use Rattle.thin_block.specs.Cost.{add_moves};
 ghost use Rattle.thin_vec.specs.List.Clones.{ClonesEqual};
 ghost use Rattle.thin_vec.specs.Edits.ReplaceRange.{MovesAtMost, ReplacesByClones, moves_cloning, moves_replacing, CostsAtMost};
-ghost use Rattle.thin_vec.specs.ThinVec.{HasRoomFor, IsWithin};
-ghost use Rattle.thin_vec.specs.List.Capacity.{Costs, Keeps, Reserves};
+ghost use Rattle.thin_vec.specs.ThinVec.{HasRoomFor, IsBounded};
+ghost use Rattle.thin_vec.specs.List.Capacity.{CostsMoves, PreservesList, Reserves};
 
 use crate::list::ThinVec;
 use std::alloc::Allocator;
@@ -52,7 +52,7 @@ impl<T: Clone, A: Allocator, G: Growth> ThinVec<T, A, G> {
             → self.new.items ≡ (take start self.old.items ++ items.now)
             ++ drop end self.old.items) }
         ensures cost { OnOk result
-            (Costs (moves_cloning self.old start end (length items.now)) self.old self.new) }
+            (CostsMoves (moves_cloning self.old start end (length items.now)) self.old self.new) }
 
         // When it must succeed.
         ensures succeeds { HasRoomFor self.old (length items.now) → All T.is_infallible items.now
@@ -65,8 +65,8 @@ impl<T: Clone, A: Allocator, G: Growth> ThinVec<T, A, G> {
             (length items.now + 3 * (length self.old.items - end)) self.old self.new) }
 
         // In every case.
-        ensures reserves { Reserves G.rule T.row (length items.now) self.old self.new result }
-        ensures keeps { Keeps T.row self.old self.new }
+        ensures capacity { Reserves G.rule T.row (length items.now) self.old self.new result }
+        ensures preserved { PreservesList T.row self.old self.new }
     {
         self.reserve(items.len())?;
         self.replace_reserved_by_clones(start, end, items)
@@ -83,20 +83,20 @@ impl<T: Clone, A: Allocator, G: Growth> ThinVec<T, A, G> {
         requires start_le_end { start ≤ end }
         requires in_bounds { end ≤ length self.old.items }
         requires room { HasRoomFor self.old (length items.now) }
-        requires within { IsWithin T.row self.old }
+        requires bounds { IsBounded T.row self.old }
 
         // On success.
         ensures items { OnOk result (ReplacesByClones T.is_clone self.old.items start end items.now
             self.new.items) }
         ensures cost { OnOk result (self.new.cost
-            ≡ moving (moves_cloning self.old start end (length items.now)) self.old.cost) }
+            ≡ add_moves (moves_cloning self.old start end (length items.now)) self.old.cost) }
 
         // When it must succeed.
         ensures succeeds { All T.is_infallible items.now → IsOk result }
 
         // On failure, the items are unchanged.
         ensures err_items { OnErr result (self.new.items ≡ self.old.items) }
-        ensures refused { OnErr result (MovesAtMost (length items.now + 3 *
+        ensures err_cost { OnErr result (MovesAtMost (length items.now + 3 *
             (length self.old.items - end)) self.old.cost self.new.cost) }
         ensures cause { IfErr result (λ cause. cause ≡ ThinVecError.OutOfMemory) }
 
@@ -105,7 +105,7 @@ impl<T: Clone, A: Allocator, G: Growth> ThinVec<T, A, G> {
           items = self.new.items;
           cost = self.new.cost;
         } }
-        ensures within { IsWithin T.row self.new }
+        ensures bounds { IsBounded T.row self.new }
     {
         let (inside, beyond) = items.split_at(items.len().min(end - start));
         self.insert_clones_reserved(end, beyond)?;
@@ -123,20 +123,20 @@ impl<T: Clone, A: Allocator, G: Growth> ThinVec<T, A, G> {
     fn insert_clones_reserved(&mut self, at: usize, items: &[T]) -> Result<(), ThinVecError>
         requires in_bounds { at ≤ length self.old.items }
         requires room { HasRoomFor self.old (length items.now) }
-        requires within { IsWithin T.row self.old }
+        requires bounds { IsBounded T.row self.old }
 
         // On success.
         ensures items { OnOk result (ReplacesByClones T.is_clone self.old.items at at items.now
             self.new.items) }
         ensures cost { OnOk result (self.new.cost
-            ≡ moving (moves_replacing self.old at at (length items.now)) self.old.cost) }
+            ≡ add_moves (moves_replacing self.old at at (length items.now)) self.old.cost) }
 
         // When it must succeed.
         ensures succeeds { All T.is_infallible items.now → IsOk result }
 
         // On failure, the items are unchanged.
         ensures err_items { OnErr result (self.new.items ≡ self.old.items) }
-        ensures refused { OnErr result (MovesAtMost (length items.now + 3 *
+        ensures err_cost { OnErr result (MovesAtMost (length items.now + 3 *
             (length self.old.items - at)) self.old.cost self.new.cost) }
         ensures cause { IfErr result (λ cause. cause ≡ ThinVecError.OutOfMemory) }
 
@@ -145,9 +145,9 @@ impl<T: Clone, A: Allocator, G: Growth> ThinVec<T, A, G> {
           items = self.new.items;
           cost = self.new.cost;
         } }
-        ensures within { IsWithin T.row self.new }
+        ensures bounds { IsBounded T.row self.new }
     {
-        let mut block = self.open_wide(at, at, items.len());
+        let mut block = self.open_with_gap(at, at, items.len());
         let placed = block.fill_from_clones(items);
         self.close(block);
         if placed < items.len() {
@@ -163,12 +163,12 @@ impl<T: Drop, A: Allocator, G: Growth> ThinVec<T, A, G> {
     fn drop_range(&mut self, start: usize, end: usize)
         requires start_le_end { start ≤ end }
         requires in_bounds { end ≤ length self.old.items }
-        requires within { IsWithin T.row self.old }
+        requires bounds { IsBounded T.row self.old }
         ensures changes { self.new ≡ record self.old {
           items = take start self.old.items ++ drop end self.old.items;
-          cost = moving (moves_replacing self.old start end 0) self.old.cost;
+          cost = add_moves (moves_replacing self.old start end 0) self.old.cost;
         } }
-        ensures within { IsWithin T.row self.new }
+        ensures bounds { IsBounded T.row self.new }
     {
         let mut block = self.open(start, end);
         block.drop_rest();
@@ -180,17 +180,17 @@ impl<T: Drop, A: Allocator, G: Growth> ThinVec<T, A, G> {
     // between the range and these last items are moved down to close the gap.
     fn replace_by_last(&mut self, start: usize, end: usize, count: usize)
         requires start_le_end { start ≤ end }
-        requires few { count ≤ end - start }
+        requires room { count ≤ end - start }
         requires in_bounds { end + count ≤ length self.old.items }
-        requires within { IsWithin T.row self.old }
+        requires bounds { IsBounded T.row self.old }
         ensures changes { self.new ≡ record self.old {
           items = (take start self.old.items ++ drop (length self.old.items - count) self.old.items)
               ++ take (length self.old.items - count - end) (drop end self.old.items);
-          cost = moving
+          cost = add_moves
               (count + (if count == end - start then 0 else length self.old.items - count - end))
               self.old.cost;
         } }
-        ensures within { IsWithin T.row self.new }
+        ensures bounds { IsBounded T.row self.new }
     {
         let mut block = self.open(start, end);
         block.drop_rest();

@@ -3,8 +3,8 @@
 //! is changed.
 ghost use Rattle.std.specs.Prelude.{◌≡◌, ◌+◌, ◌-◌, ◌<◌, ◌≤◌, ◌++◌, [], IsOk, OnErr, OnOk, drop, length, take};
 ghost use Rattle.thin_vec.specs.Edits.ReplaceRange.{moves_replacing};
-ghost use Rattle.thin_vec.specs.ThinVec.{HasRoomFor, IsWithin};
-ghost use Rattle.thin_vec.specs.List.Capacity.{Costs, Keeps, Reserves};
+ghost use Rattle.thin_vec.specs.ThinVec.{HasRoomFor, IsBounded};
+ghost use Rattle.thin_vec.specs.List.Capacity.{CostsMoves, PreservesList, Reserves};
 
 use crate::list::ThinVec;
 use std::alloc::Allocator;
@@ -41,7 +41,7 @@ impl<T: Copy, A: Allocator, G: Growth> ThinVec<T, A, G> {
         // On success.
         ensures items { OnOk result (self.new.items
             ≡ (take start self.old.items ++ items.now) ++ drop end self.old.items) }
-        ensures cost { OnOk result (Costs
+        ensures cost { OnOk result (CostsMoves
             (moves_replacing self.old start end (length items.now)) self.old self.new) }
 
         // When it must succeed. `succeeds_shorter` follows from `succeeds`.
@@ -52,16 +52,16 @@ impl<T: Copy, A: Allocator, G: Growth> ThinVec<T, A, G> {
         ensures err { OnErr result (self.new ≡ self.old) }
 
         // In every case.
-        ensures reserves { Reserves G.rule T.row (length items.now - (end - start)) self.old
+        ensures capacity { Reserves G.rule T.row (length items.now - (end - start)) self.old
             self.new result }
-        ensures keeps { Keeps T.row self.old self.new }
+        ensures preserved { PreservesList T.row self.old self.new }
     {
         let more = items.len().saturating_sub(end - start);
         match self.reserve(more) {
             Ok(()) => (),
             Err(cause) => return Err(cause),
         }
-        let mut block = self.open_wide(start, end, more);
+        let mut block = self.open_with_gap(start, end, more);
         block.fill_from_copies(items);
         self.close(block);
         Ok(())
@@ -100,9 +100,9 @@ impl<T: Drop, A: Allocator, G: Growth> ThinVec<T, A, G> {
         // On success.
         ensures items { OnOk result (self.new.items
             ≡ (take start self.old.items ++ other.old.items) ++ drop end self.old.items) }
-        ensures cost { OnOk result (Costs
+        ensures cost { OnOk result (CostsMoves
             (moves_replacing self.old start end (length other.old.items)) self.old self.new) }
-        ensures other { OnOk result (other.new ≡ record other.old { items = [] }) }
+        ensures other_changes { OnOk result (other.new ≡ record other.old { items = [] }) }
 
         // When it must succeed. `succeeds_shorter` follows from `succeeds`.
         ensures succeeds { HasRoomFor self.old (length other.old.items - (end - start))
@@ -114,17 +114,17 @@ impl<T: Drop, A: Allocator, G: Growth> ThinVec<T, A, G> {
         ensures other_err { OnErr result (other.new ≡ other.old) }
 
         // In every case.
-        ensures reserves { Reserves G.rule T.row (length other.old.items - (end - start)) self.old
+        ensures capacity { Reserves G.rule T.row (length other.old.items - (end - start)) self.old
             self.new result }
-        ensures keeps { Keeps T.row self.old self.new }
-        ensures other_within { IsWithin T.row other.old × IsWithin T.row other.new }
+        ensures preserved { PreservesList T.row self.old self.new }
+        ensures other_bounds { IsBounded T.row other.old × IsBounded T.row other.new }
     {
         let more = other.len().saturating_sub(end - start);
         match self.reserve(more) {
             Ok(()) => (),
             Err(cause) => return Err(cause),
         }
-        let mut block = self.open_wide(start, end, more);
+        let mut block = self.open_with_gap(start, end, more);
         block.fill_from_list(other);
         self.close(block);
         Ok(())

@@ -7,16 +7,16 @@
 ghost use Rattle.std.specs.Prelude.{◌≡◌, ◌<◌, ◌≤◌, length};
 ghost use Rattle.std.specs.List.Retain.{IsFiltered};
 ghost use Rattle.std.specs.Fn.{CalledAt, CalledAtMut};
-ghost use Rattle.thin_vec.specs.List.Capacity.{Keeps};
+ghost use Rattle.thin_vec.specs.List.Capacity.{PreservesList};
 
 use crate::list::ThinVec;
-use crate::open_block::sift::Test;
+use crate::open_block::retain::Test;
 use std::alloc::Allocator;
 use thin_block::Growth;
 
 impl<T: Drop, A: Allocator, G: Growth> ThinVec<T, A, G> {
-    ghost use Rattle.thin_vec.specs.Edits.Retain.{IsRetained, IsRetainedTo, Looks};
-    ghost use Rattle.thin_vec.specs.ThinVec.{IsWithin};
+    ghost use Rattle.thin_vec.specs.Edits.Retain.{IsRetained, IsRetainedTo, ReadsOnly};
+    ghost use Rattle.thin_vec.specs.ThinVec.{IsBounded};
 
     /// Keeps the items for which `keep` returns true, and drops the other items, like Rust's
     /// `Vec::retain`. The closure `keep` is called once for each item, in order.
@@ -25,15 +25,15 @@ impl<T: Drop, A: Allocator, G: Growth> ThinVec<T, A, G> {
     /// within the list. The capacity does not change.
     pub fn retain<F: FnMut(&T) -> bool>(&mut self, keep: F)
         requires callable { F.IsAlwaysCallable keep }
-        ensures retained { IsRetained (Looks (CalledAt F.FnMut)) keep self.old self.new }
+        ensures retained { IsRetained (ReadsOnly (CalledAt F.FnMut)) keep self.old self.new }
         ensures filtered { IsFiltered (CalledAt F.FnMut) keep self.old.items self.new.items }
         ensures bound { length self.new.items ≤ length self.old.items }
         ensures capacity { self.new.capacity ≡ self.old.capacity }
-        ensures keeps { Keeps T.row self.old self.new }
+        ensures preserved { PreservesList T.row self.old self.new }
     {
-        let mut test = Looking { keep };
-        self.keep_those(&mut test);
-        let Looking { keep: _ } = test;
+        let mut test = KeepByRef { keep };
+        self.retain_with(&mut test);
+        let KeepByRef { keep: _ } = test;
     }
 
     /// Keeps the items for which `keep` returns true, and drops the other items. Unlike the closure
@@ -43,47 +43,47 @@ impl<T: Drop, A: Allocator, G: Growth> ThinVec<T, A, G> {
         ensures retained { IsRetained (CalledAtMut F.FnMut) keep self.old self.new }
         ensures bound { length self.new.items ≤ length self.old.items }
         ensures capacity { self.new.capacity ≡ self.old.capacity }
-        ensures keeps { Keeps T.row self.old self.new }
+        ensures preserved { PreservesList T.row self.old self.new }
     {
-        let mut test = Writing { keep };
-        self.keep_those(&mut test);
-        let Writing { keep: _ } = test;
+        let mut test = KeepByMut { keep };
+        self.retain_with(&mut test);
+        let KeepByMut { keep: _ } = test;
     }
 
     // Tests each item once, in order, and drops the items that are not kept.
-    fn keep_those<J: Test<T>>(&mut self, test: &mut J)
-        requires ready { J.ready test.old }
+    fn retain_with<J: Test<T>>(&mut self, test: &mut J)
+        requires callable { J.ready test.old }
         ensures retained { IsRetainedTo J.tests test.old self.old self.new test.new }
         ensures changes { self.new ≡ record self.old {
           items = self.new.items;
           cost = self.new.cost;
         } }
-        ensures within { IsWithin T.row self.old × IsWithin T.row self.new }
+        ensures bounds { IsBounded T.row self.old × IsBounded T.row self.new }
     {
         let len = self.len();
         let mut block = self.open(0, len);
-        block.sift(test);
+        block.retain_rest(test);
         self.close(block);
     }
 }
 
 // The test that `retain` uses: an item is kept if the closure `keep` returns true. The closure
 // cannot write to the item.
-struct Looking<F> {
+struct KeepByRef<F> {
     keep: F,
 }
 
 // The test that `retain_mut` uses: an item is kept if the closure `keep` returns true. The closure
 // may write to the item.
-struct Writing<F> {
+struct KeepByMut<F> {
     keep: F,
 }
 
-impl<T, F: FnMut(&T) -> bool> Test<T> for Looking<F> {
+impl<T, F: FnMut(&T) -> bool> Test<T> for KeepByRef<F> {
     ghost use Rattle.std.specs.Fn.{CalledAt};
-    ghost use Rattle.thin_vec.specs.Edits.Retain.{Looks};
+    ghost use Rattle.thin_vec.specs.Edits.Retain.{ReadsOnly};
 
-    ghost tests = { λ s x b t y. Looks (CalledAt F.FnMut) s.keep x b t.keep y };
+    ghost tests = { λ s x b t y. ReadsOnly (CalledAt F.FnMut) s.keep x b t.keep y };
 
     ghost ready = { λ s. F.IsAlwaysCallable s.keep };
 
@@ -92,7 +92,7 @@ impl<T, F: FnMut(&T) -> bool> Test<T> for Looking<F> {
     }
 }
 
-impl<T, F: FnMut(&mut T) -> bool> Test<T> for Writing<F> {
+impl<T, F: FnMut(&mut T) -> bool> Test<T> for KeepByMut<F> {
     ghost use Rattle.std.specs.Fn.{CalledAtMut};
 
     ghost tests = { λ s x b t y. CalledAtMut F.FnMut s.keep x b t.keep y };

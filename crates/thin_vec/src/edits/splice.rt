@@ -3,11 +3,11 @@
 ghost use Rattle.std.specs.Prelude.{◌≡◌, ◌+◌, ◌-◌, ◌*◌, ◌<◌, ◌≤◌, List, [], IfErr, IsOk, OnErr, OnOk, Some, drop, length, slice_range, take};
 ghost use Rattle.std.specs.Iterator.{Drains, IsFinite, size};
 ghost use Rattle.std.specs.Iterator.Runs.{WholeRun};
-ghost use Rattle.thin_vec.specs.List.Capacity.{Keeps};
-ghost use Rattle.thin_vec.specs.List.Extend.{CostsAdding, GrowsFor};
-ghost use Rattle.thin_block.specs.Block.{IsFrom};
+ghost use Rattle.thin_vec.specs.List.Capacity.{PreservesList};
+ghost use Rattle.thin_vec.specs.List.Extend.{CostsInserting, ExtendsCapacity};
+ghost use Rattle.thin_block.specs.Block.{IsAllocatedBy};
 
-use crate::edits::holder::{Holder, Holds};
+use crate::edits::holder::{Holder, IntoInner};
 use crate::errors::SpliceRefused;
 use crate::list::ThinVec;
 use crate::open_block::OpenBlock;
@@ -28,12 +28,12 @@ pub struct Splice<
     T,
     A: Allocator = Global,
     G: Growth = Doubling,
-    H: Holds<Inner = OpenBlock<T, A>> = Holder<OpenBlock<T, A>>,
+    H: IntoInner<Inner = OpenBlock<T, A>> = Holder<OpenBlock<T, A>>,
 > {
     list: &'a mut ThinVec<T, A, G>,
     holder: H,
     iter: I,
-    ghost from: { IsFrom (H.inner holder).alloc list.now.alloc },
+    ghost from: { IsAllocatedBy (H.inner holder).alloc list.now.alloc },
 }
 
 impl<T, A: Allocator, G: Growth> ThinVec<T, A, G> {
@@ -123,9 +123,9 @@ impl<
     I: Iterator<Item = T>,
     A: Allocator,
     G: Growth,
-    H: Holds<Inner = OpenBlock<T, A>>,
+    H: IntoInner<Inner = OpenBlock<T, A>>,
 > Splice<'a, I, T, A, G, H> {
-    ghost use Rattle.thin_vec.specs.Edits.Splice.{FailsAsExtend, HasPlacesFor, IsStopCause, Stopped, splice_block, splice_iter, splice_left, splice_range, splice_replaced};
+    ghost use Rattle.thin_vec.specs.Edits.Splice.{FailsAsExtend, HasSlotsFor, IsSpliceCause, SpliceErrorAccountsFor, splice_block, splice_iter, splice_outside_range, splice_range, splice_replaced};
 
     /// Drops the items of the range that were not yielded, and puts the items of the iterator in
     /// their place. After the call, the list holds the items before the range, then the items of
@@ -200,7 +200,7 @@ impl<
             (λ p. self.exit.0.now.items ≡ splice_replaced self.entry p.items)) }
 
         // When it must succeed.
-        ensures succeeds { HasPlacesFor self.entry (size (I.remaining (splice_iter self.entry)))
+        ensures succeeds { HasSlotsFor self.entry (size (I.remaining (splice_iter self.entry)))
             → IsOk result }
 
         // On failure, every item that the iterator yielded is in the list or in the error. If items
@@ -209,14 +209,16 @@ impl<
         // (`without_tail`).
         ensures placed { IfErr result (λ error. (xs : List T)
             × (self.exit.0.now.items ≡ splice_replaced self.entry xs)
-            × Stopped I.next_gives I.can_next I.remaining (splice_iter self.entry) xs error) }
-        ensures before_tail { OnErr result (0 < length (splice_block self.entry).tail
-            → length (splice_left self.entry).items + splice_range self.entry
+            × SpliceErrorAccountsFor I.next_gives I.can_next I.remaining
+            (splice_iter self.entry) xs error) }
+        ensures err_full { OnErr result (0 < length (splice_block self.entry).tail
+            → length (splice_outside_range self.entry).items + splice_range self.entry
             ≤ length self.exit.0.now.items) }
-        ensures without_tail { IfErr result (λ error. (splice_block self.entry).tail ≡ []
-            → FailsAsExtend (splice_left self.entry) self.exit.0.now (splice_iter self.entry)
+        ensures in_hand { IfErr result (λ error. (splice_block self.entry).tail ≡ []
+            → FailsAsExtend (splice_outside_range self.entry) self.exit.0.now
+            (splice_iter self.entry)
             error) }
-        ensures cause { IfErr result (λ error. IsStopCause G.rule T.row self.exit.0.now
+        ensures cause { IfErr result (λ error. IsSpliceCause G.rule T.row self.exit.0.now
             (splice_block self.entry).tail (I.remaining error.rest) error) }
 
         // In every case. The capacity stays the same, or the growth rule chose it for items that
@@ -224,13 +226,14 @@ impl<
         // cannot be named, because the contract of `size_hint` only bounds it. So the exact number
         // of moves is not stated either: it depends on the step in which the iterator ended. If
         // items follow the range, the list requests memory at most twice (`cost`).
-        ensures capacity { GrowsFor G.rule T.row (splice_left self.entry) self.exit.0.now
+        ensures capacity { ExtendsCapacity G.rule T.row
+            (splice_outside_range self.entry) self.exit.0.now
             (I.remaining (splice_iter self.entry)) }
-        ensures cost { CostsAdding (splice_left self.entry) self.exit.0.now
+        ensures cost { CostsInserting (splice_outside_range self.entry) self.exit.0.now
             (2 * length (splice_block self.entry).tail)
             × (0 < length (splice_block self.entry).tail
-            → self.exit.0.now.cost.blocks ≤ (splice_left self.entry).cost.blocks + 2) }
-        ensures keeps { Keeps T.row (splice_left self.entry) self.exit.0.now }
+            → self.exit.0.now.cost.blocks ≤ (splice_outside_range self.entry).cost.blocks + 2) }
+        ensures preserved { PreservesList T.row (splice_outside_range self.entry) self.exit.0.now }
     {
         let Splice { list, holder, iter } = self;
         let mut block = holder.into_inner();
@@ -244,7 +247,7 @@ impl<
             list.finish_at_end(block, iter, alloc)
         };
         // This call is needed only for the proof: the contract of `len` states that the length and
-        // the capacity of the list are within certain limits (`IsWithin`).
+        // the capacity of the list are within certain limits (`IsBounded`).
         let _len = list.len();
         answer
     }

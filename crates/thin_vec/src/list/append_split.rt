@@ -1,15 +1,15 @@
 //! The methods `append`, which moves the items of one list to the end of another, and `split_off`,
 //! which splits a list in two.
 ghost use Rattle.std.specs.Prelude.{◌≡◌, ◌+◌, ◌-◌, ◌≤◌, ◌++◌, [], IfErr, IfOk, IsOk, OnErr, OnOk, drop, length, take};
-ghost use Rattle.thin_block.specs.Cost.{moving};
-ghost use Rattle.thin_vec.specs.List.Capacity.{Costs, Keeps, Reserves, IsMade};
+ghost use Rattle.thin_block.specs.Cost.{add_moves};
+ghost use Rattle.thin_vec.specs.List.Capacity.{CostsMoves, PreservesList, Reserves, IsFreshList};
 
 use crate::list::ThinVec;
 use std::alloc::Allocator;
 use thin_block::{Growth, ThinVecError};
 
 impl<T, A: Allocator, G: Growth> ThinVec<T, A, G> {
-    ghost use Rattle.thin_vec.specs.ThinVec.{HasRoomFor, IsWithin, cost_new};
+    ghost use Rattle.thin_vec.specs.ThinVec.{HasRoomFor, IsBounded, cost_of_new};
 
     /// Moves all items of `other` to the end of this list, in order. After the call, `other` is
     /// empty, and keeps its capacity. If there is not enough spare capacity, this list first grows
@@ -22,8 +22,8 @@ impl<T, A: Allocator, G: Growth> ThinVec<T, A, G> {
     pub fn append(&mut self, other: &mut ThinVec<T, A, G>) -> Result<(), ThinVecError>
         // On success.
         ensures items { OnOk result (self.new.items ≡ self.old.items ++ other.old.items) }
-        ensures cost { OnOk result (Costs (length other.old.items) self.old self.new) }
-        ensures other { OnOk result (other.new ≡ record other.old { items = [] }) }
+        ensures cost { OnOk result (CostsMoves (length other.old.items) self.old self.new) }
+        ensures other_changes { OnOk result (other.new ≡ record other.old { items = [] }) }
 
         // When it must succeed.
         ensures succeeds { HasRoomFor self.old (length other.old.items) → IsOk result }
@@ -33,9 +33,9 @@ impl<T, A: Allocator, G: Growth> ThinVec<T, A, G> {
         ensures other_err { OnErr result (other.new ≡ other.old) }
 
         // In every case, the capacity changes as `reserve(other.len())` would change it.
-        ensures reserves { Reserves G.rule T.row (length other.old.items) self.old self.new result }
-        ensures keeps { Keeps T.row self.old self.new }
-        ensures other_within { IsWithin T.row other.old × IsWithin T.row other.new }
+        ensures capacity { Reserves G.rule T.row (length other.old.items) self.old self.new result }
+        ensures preserved { PreservesList T.row self.old self.new }
+        ensures other_bounds { IsBounded T.row other.old × IsBounded T.row other.new }
     {
         match self.reserve(other.len()) {
             Ok(()) => (),
@@ -60,10 +60,10 @@ impl<T, A: Allocator, G: Growth> ThinVec<T, A, G> {
         // On success.
         ensures items { OnOk result (self.new.items ≡ take at self.old.items) }
         ensures other_items { IfOk result (λ tail. tail.items ≡ drop at self.old.items) }
-        ensures other_capacity { IfOk result (λ tail. tail.capacity ≡ length self.old.items - at) }
-        ensures other_cost { IfOk result (λ tail. tail.cost ≡ moving (length self.old.items - at)
-            (cost_new (length self.old.items - at))) }
-        ensures other_made { IfOk result (IsMade T.row alloc) }
+        ensures capacity { IfOk result (λ tail. tail.capacity ≡ length self.old.items - at) }
+        ensures cost { IfOk result (λ tail. tail.cost ≡ add_moves (length self.old.items - at)
+            (cost_of_new (length self.old.items - at))) }
+        ensures new { IfOk result (IsFreshList T.row alloc) }
 
         // When it must succeed.
         ensures succeeds { at ≡ length self.old.items → IsOk result }
@@ -74,7 +74,7 @@ impl<T, A: Allocator, G: Growth> ThinVec<T, A, G> {
 
         // In every case.
         ensures changes { self.new ≡ record self.old { items = self.new.items } }
-        ensures within { IsWithin T.row self.old × IsWithin T.row self.new }
+        ensures bounds { IsBounded T.row self.old × IsBounded T.row self.new }
     {
         let mut tail = ThinVec::with_fitting_capacity(alloc, self.len() - at)?;
         tail.append_from(self, at);
@@ -89,11 +89,11 @@ impl<T, A: Allocator, G: Growth> ThinVec<T, A, G> {
     pub fn append_reserved(&mut self, other: &mut ThinVec<T, A, G>)
         requires room { HasRoomFor self.old (length other.old.items) }
         ensures items { self.new.items ≡ self.old.items ++ other.old.items }
-        ensures cost { self.new.cost ≡ moving (length other.old.items) self.old.cost }
+        ensures cost { self.new.cost ≡ add_moves (length other.old.items) self.old.cost }
         ensures capacity { self.new.capacity ≡ self.old.capacity }
-        ensures other { other.new ≡ record other.old { items = [] } }
-        ensures keeps { Keeps T.row self.old self.new }
-        ensures other_within { IsWithin T.row other.old × IsWithin T.row other.new }
+        ensures other_changes { other.new ≡ record other.old { items = [] } }
+        ensures preserved { PreservesList T.row self.old self.new }
+        ensures other_bounds { IsBounded T.row other.old × IsBounded T.row other.new }
     {
         self.append_from(other, 0);
     }
@@ -105,13 +105,13 @@ impl<T, A: Allocator, G: Growth> ThinVec<T, A, G> {
         requires room { HasRoomFor self.old (length other.old.items - start) }
         ensures changes { self.new ≡ record self.old {
           items = self.old.items ++ drop start other.old.items;
-          cost = moving (length other.old.items - start) self.old.cost;
+          cost = add_moves (length other.old.items - start) self.old.cost;
         } }
         ensures other_changes { other.new ≡ record other.old {
           items = take start other.old.items;
         } }
-        ensures within { IsWithin T.row self.old × IsWithin T.row self.new }
-        ensures other_within { IsWithin T.row other.old × IsWithin T.row other.new }
+        ensures bounds { IsBounded T.row self.old × IsBounded T.row self.new }
+        ensures other_bounds { IsBounded T.row other.old × IsBounded T.row other.new }
     {
         let len = self.block.len();
         let count = other.block.len() - start;

@@ -2,9 +2,9 @@
 //! function `grow_for` calls the growth rule.
 ghost use Rattle.std.specs.Prelude.{◌≡◌, ◌+◌, ◌<◌, ◌≤◌, [], IfErr, IfOk, IsOk, OnErr, OnOk, Some, length};
 ghost use Rattle.thin_block.specs.Capacity.{Fits};
-ghost use Rattle.thin_block.specs.Cost.{growing};
-ghost use Rattle.thin_block.specs.Growth.{Grows};
-ghost use Rattle.thin_vec.specs.List.Capacity.{Keeps, Reserves, TellsOverflow, TellsOverflowOf, IsMade};
+ghost use Rattle.thin_block.specs.Cost.{add_realloc};
+ghost use Rattle.thin_block.specs.Growth.{GrowsValidly};
+ghost use Rattle.thin_vec.specs.List.Capacity.{PreservesList, Reserves, OverflowsIff, OverflowsIffTooLarge, IsFreshList};
 
 use crate::list::ThinVec;
 use std::alloc::Allocator;
@@ -12,7 +12,7 @@ use std::marker::PhantomData;
 use thin_block::{Block, Growth, ThinVecError, fits};
 
 impl<T, A: Allocator, G: Growth> ThinVec<T, A, G> {
-    ghost use Rattle.thin_vec.specs.ThinVec.{HasRoomFor, IsWithin, capacity_for, cost_at, cost_new, exact_for};
+    ghost use Rattle.thin_vec.specs.ThinVec.{HasRoomFor, IsBounded, capacity_after_reserve, cost_after_resize, cost_of_new, capacity_after_reserve_exact};
 
     /// Reserves room for at least `additional` more items. If there is not enough room, the list
     /// grows to the capacity that the growth rule chooses, which is at least twice the old
@@ -34,7 +34,7 @@ impl<T, A: Allocator, G: Growth> ThinVec<T, A, G> {
     pub fn reserve(&mut self, additional: usize) -> Result<(), ThinVecError>
         // On success.
         ensures room { OnOk result (HasRoomFor self.new additional) }
-        ensures cost { OnOk result (self.new.cost ≡ cost_at self.old self.new.capacity) }
+        ensures cost { OnOk result (self.new.cost ≡ cost_after_resize self.old self.new.capacity) }
 
         // When it must succeed.
         ensures succeeds { HasRoomFor self.old additional → IsOk result }
@@ -44,8 +44,8 @@ impl<T, A: Allocator, G: Growth> ThinVec<T, A, G> {
 
         // In every case.
         ensures items { self.new.items ≡ self.old.items }
-        ensures reserves { Reserves G.rule T.row additional self.old self.new result }
-        ensures keeps { Keeps T.row self.old self.new }
+        ensures capacity { Reserves G.rule T.row additional self.old self.new result }
+        ensures preserved { PreservesList T.row self.old self.new }
     {
         if additional <= self.capacity() - self.len() {
             return Ok(());
@@ -70,22 +70,23 @@ impl<T, A: Allocator, G: Growth> ThinVec<T, A, G> {
         // On success.
         ensures room { OnOk result (HasRoomFor self.new additional) }
         ensures capacity { OnOk result
-            (exact_for T.row self.old additional ≡ Some self.new.capacity) }
-        ensures cost { OnOk result (self.new.cost ≡ cost_at self.old self.new.capacity) }
+            (capacity_after_reserve_exact T.row self.old additional ≡ Some self.new.capacity) }
+        ensures cost { OnOk result (self.new.cost ≡ cost_after_resize self.old self.new.capacity) }
 
         // When it must succeed.
         ensures succeeds { HasRoomFor self.old additional → IsOk result }
 
         // On failure, the list is unchanged.
         ensures err { OnErr result (self.new ≡ self.old) }
-        ensures overflow { TellsOverflow (exact_for T.row self.old additional) result }
+        ensures overflow { OverflowsIff
+            (capacity_after_reserve_exact T.row self.old additional) result }
 
         // In every case.
         ensures items { self.new.items ≡ self.old.items }
         ensures had_room { HasRoomFor self.old additional → self.new.capacity ≡ self.old.capacity }
         ensures alloc { self.new.alloc ≡ self.old.alloc }
-        ensures never_less { self.old.capacity ≤ self.new.capacity }
-        ensures within { IsWithin T.row self.old × IsWithin T.row self.new }
+        ensures at_least { self.old.capacity ≤ self.new.capacity }
+        ensures bounds { IsBounded T.row self.old × IsBounded T.row self.new }
     {
         if additional <= self.capacity() - self.len() {
             return Ok(());
@@ -103,7 +104,7 @@ impl<T, A: Allocator, G: Growth> ThinVec<T, A, G> {
     pub(crate) fn reserve_run(&mut self, additional: usize) -> Result<(), ThinVecError>
         // On success.
         ensures room { OnOk result (HasRoomFor self.new additional) }
-        ensures cost { OnOk result (self.new.cost ≡ cost_at self.old self.new.capacity) }
+        ensures cost { OnOk result (self.new.cost ≡ cost_after_resize self.old self.new.capacity) }
 
         // When it must succeed.
         ensures succeeds { HasRoomFor self.old additional → IsOk result }
@@ -113,8 +114,8 @@ impl<T, A: Allocator, G: Growth> ThinVec<T, A, G> {
 
         // In every case.
         ensures items { self.new.items ≡ self.old.items }
-        ensures reserves { Reserves G.rule T.row additional self.old self.new result }
-        ensures keeps { Keeps T.row self.old self.new }
+        ensures capacity { Reserves G.rule T.row additional self.old self.new result }
+        ensures preserved { PreservesList T.row self.old self.new }
     {
         let len = self.len();
         let cap = self.capacity();
@@ -129,11 +130,12 @@ impl<T, A: Allocator, G: Growth> ThinVec<T, A, G> {
     #[cold]
     #[tactic(auto, using(thin_block::proofs::CapacityLemmas::ruled))]
     fn grow_for(&mut self, additional: usize) -> Result<(), ThinVecError>
-        requires more { self.old.capacity < length self.old.items + additional }
+        requires no_room { self.old.capacity < length self.old.items + additional }
 
         // The call fails with `CapacityOverflow` if and only if the growth rule chooses no
         // capacity.
-        ensures overflow { TellsOverflow (capacity_for G.rule T.row self.old additional) result }
+        ensures overflow { OverflowsIff
+            (capacity_after_reserve G.rule T.row self.old additional) result }
 
         // On success, only the fields `capacity` and `cost` change. On failure, nothing changes.
         ensures changes { self.new ≡ record self.old {
@@ -141,12 +143,14 @@ impl<T, A: Allocator, G: Growth> ThinVec<T, A, G> {
           cost = self.new.cost;
         } }
         ensures capacity { OnOk result
-            (capacity_for G.rule T.row self.old additional ≡ Some self.new.capacity) }
-        ensures grown { OnOk result
-            (Grows T.row self.old.capacity (length self.old.items + additional) self.new.capacity) }
-        ensures cost { OnOk result (self.new.cost ≡ growing (length self.old.items) self.old.cost) }
+            (capacity_after_reserve G.rule T.row self.old additional ≡ Some self.new.capacity) }
+        ensures at_least { OnOk result
+            (GrowsValidly T.row self.old.capacity
+            (length self.old.items + additional) self.new.capacity) }
+        ensures cost { OnOk result
+            (self.new.cost ≡ add_realloc (length self.old.items) self.old.cost) }
         ensures err { OnErr result (self.new ≡ self.old) }
-        ensures within { IsWithin T.row self.old × IsWithin T.row self.new }
+        ensures bounds { IsBounded T.row self.old × IsBounded T.row self.new }
     {
         let Some(want) = self.len().checked_add(additional) else {
             return Err(ThinVecError::CapacityOverflow);
@@ -161,9 +165,9 @@ impl<T, A: Allocator, G: Growth> ThinVec<T, A, G> {
     // list need not test whether the list has a block.
     #[inline(always)]
     pub(crate) fn grow_to(&mut self, cap: usize) -> Result<(), ThinVecError>
-        requires larger { self.old.capacity < cap }
+        requires cap_grows { self.old.capacity < cap }
         requires fits { Fits T.row cap }
-        requires within { IsWithin T.row self.old }
+        requires bounds { IsBounded T.row self.old }
 
         // Only the fields `capacity` and `cost` of the list may change.
         ensures changes { self.new ≡ record self.old {
@@ -173,14 +177,15 @@ impl<T, A: Allocator, G: Growth> ThinVec<T, A, G> {
 
         // On success.
         ensures capacity { OnOk result (self.new.capacity ≡ cap) }
-        ensures cost { OnOk result (self.new.cost ≡ growing (length self.old.items) self.old.cost) }
+        ensures cost { OnOk result
+            (self.new.cost ≡ add_realloc (length self.old.items) self.old.cost) }
 
         // On failure, the list is unchanged.
         ensures err { OnErr result (self.new ≡ self.old) }
         ensures cause { IfErr result (λ cause. cause ≡ ThinVecError.OutOfMemory) }
 
         // In every case.
-        ensures within { IsWithin T.row self.new }
+        ensures bounds { IsBounded T.row self.new }
     {
         self.block.grow(&self.alloc, cap)
     }
@@ -197,8 +202,8 @@ impl<T, A: Allocator, G: Growth> ThinVec<T, A, G> {
         // On success.
         ensures items { IfOk result (λ list. list.items ≡ []) }
         ensures capacity { IfOk result (λ list. list.capacity ≡ capacity) }
-        ensures cost { IfOk result (λ list. list.cost ≡ cost_new capacity) }
-        ensures made { IfOk result (IsMade T.row alloc) }
+        ensures cost { IfOk result (λ list. list.cost ≡ cost_of_new capacity) }
+        ensures new { IfOk result (IsFreshList T.row alloc) }
 
         // When it must succeed.
         ensures succeeds { capacity ≡ 0 → IsOk result }
@@ -219,7 +224,7 @@ impl<T, A: Allocator, G: Growth> ThinVec<T, A, G> {
 }
 
 impl<T, A: Allocator> ThinVec<T, A> {
-    ghost use Rattle.thin_vec.specs.ThinVec.{cost_new};
+    ghost use Rattle.thin_vec.specs.ThinVec.{cost_of_new};
 
     /// Makes an empty list with room for exactly `capacity` items. If `capacity` is 0, the call
     /// allocates nothing.
@@ -236,14 +241,14 @@ impl<T, A: Allocator> ThinVec<T, A> {
         // On success.
         ensures items { IfOk result (λ list. list.items ≡ []) }
         ensures capacity { IfOk result (λ list. list.capacity ≡ capacity) }
-        ensures cost { IfOk result (λ list. list.cost ≡ cost_new capacity) }
-        ensures made { IfOk result (IsMade T.row alloc) }
+        ensures cost { IfOk result (λ list. list.cost ≡ cost_of_new capacity) }
+        ensures new { IfOk result (IsFreshList T.row alloc) }
 
         // When it must succeed.
         ensures succeeds { capacity ≡ 0 → IsOk result }
 
         // On failure.
-        ensures overflow { TellsOverflowOf T.row capacity result }
+        ensures overflow { OverflowsIffTooLarge T.row capacity result }
     {
         if !fits::<T>(capacity) {
             return Err(ThinVecError::CapacityOverflow);

@@ -6,9 +6,9 @@
 ghost use Rattle.std.specs.Prelude.{◌≡◌, ◌⊎◌, ◌+◌, ◌<◌, ◌≤◌, [], ◌++◌, ◌-◌, All, HoldsAt, IfErr, IfOk, IsOk, OnErr, OnOk, length, slice_range, take};
 ghost use Rattle.std.specs.List.{AllZip, AppendsClones};
 ghost use Rattle.thin_block.specs.Capacity.{Fits};
-ghost use Rattle.thin_block.specs.Cost.{moving};
-ghost use Rattle.thin_vec.specs.List.Clones.{ClonesEqual, IsClonedList, StopsAtClone, CostsUpToClone};
-ghost use Rattle.thin_vec.specs.List.Capacity.{Costs, Keeps, Reserves, IsMade};
+ghost use Rattle.thin_block.specs.Cost.{add_moves};
+ghost use Rattle.thin_vec.specs.List.Clones.{ClonesEqual, IsClonedList, FailsAtClone, CostsFailedClone};
+ghost use Rattle.thin_vec.specs.List.Capacity.{CostsMoves, PreservesList, Reserves, IsFreshList};
 
 use crate::list::ThinVec;
 use crate::put::put_clones;
@@ -16,7 +16,7 @@ use std::alloc::{AllocError, Allocator};
 use thin_block::{Growth, ThinVecError};
 
 impl<T: Clone, A: Allocator, G: Growth> ThinVec<T, A, G> {
-    ghost use Rattle.thin_vec.specs.ThinVec.{HasRoomFor, IsWithin, cost_new};
+    ghost use Rattle.thin_vec.specs.ThinVec.{HasRoomFor, IsBounded, cost_of_new};
 
     /// Appends a clone of each item of `items`, in order. If there is not enough spare capacity,
     /// the list first grows to the capacity that the growth rule chooses. For items that are
@@ -35,7 +35,7 @@ impl<T: Clone, A: Allocator, G: Growth> ThinVec<T, A, G> {
             (AppendsClones T.is_clone self.old.items self.new.items items.now) }
         ensures items_if_clones_equal { OnOk result (ClonesEqual T.is_clone
             → self.new.items ≡ self.old.items ++ items.now) }
-        ensures cost { OnOk result (Costs (length items.now) self.old self.new) }
+        ensures cost { OnOk result (CostsMoves (length items.now) self.old self.new) }
 
         // When it must succeed.
         ensures succeeds { HasRoomFor self.old (length items.now) → All T.is_infallible items.now
@@ -45,11 +45,11 @@ impl<T: Clone, A: Allocator, G: Growth> ThinVec<T, A, G> {
         ensures err_items { OnErr result (self.new.items ≡ self.old.items) }
         ensures err { All T.is_infallible items.now → OnErr result (self.new ≡ self.old) }
         ensures err_cost { OnErr result ((self.new ≡ self.old)
-            ⊎ CostsUpToClone T.is_infallible items.now self.old self.new) }
+            ⊎ CostsFailedClone T.is_infallible items.now self.old self.new) }
 
         // In every case, the capacity changes as `reserve(items.len())` would change it.
-        ensures reserves { Reserves G.rule T.row (length items.now) self.old self.new result }
-        ensures keeps { Keeps T.row self.old self.new }
+        ensures capacity { Reserves G.rule T.row (length items.now) self.old self.new result }
+        ensures preserved { PreservesList T.row self.old self.new }
     {
         self.reserve(items.len())?;
         self.extend_from_slice_reserved(items)
@@ -71,9 +71,9 @@ impl<T: Clone, A: Allocator, G: Growth> ThinVec<T, A, G> {
         ensures items_if_clones_equal { IfOk result (λ list. ClonesEqual T.is_clone
             → list.items ≡ self.now.items) }
         ensures capacity { IfOk result (λ list. list.capacity ≡ length self.now.items) }
-        ensures cost { IfOk result (λ list. list.cost ≡ moving (length self.now.items)
-            (cost_new (length self.now.items))) }
-        ensures made { IfOk result (IsMade T.row alloc) }
+        ensures cost { IfOk result (λ list. list.cost ≡ add_moves (length self.now.items)
+            (cost_of_new (length self.now.items))) }
+        ensures new { IfOk result (IsFreshList T.row alloc) }
 
         // When it must succeed.
         ensures succeeds_empty { length self.now.items ≡ 0 → IsOk result }
@@ -98,9 +98,9 @@ impl<T: Clone, A: Allocator, G: Growth> ThinVec<T, A, G> {
         ensures items_if_clones_equal { IfOk result (λ list. ClonesEqual T.is_clone
             → list.items ≡ items.now) }
         ensures capacity { IfOk result (λ list. list.capacity ≡ length items.now) }
-        ensures cost { IfOk result (λ list. list.cost ≡ moving (length items.now)
-            (cost_new (length items.now))) }
-        ensures made { IfOk result (IsMade T.row alloc) }
+        ensures cost { IfOk result (λ list. list.cost ≡ add_moves (length items.now)
+            (cost_of_new (length items.now))) }
+        ensures new { IfOk result (IsFreshList T.row alloc) }
 
         // When it must succeed.
         ensures succeeds_empty { length items.now ≡ 0 → IsOk result }
@@ -131,7 +131,7 @@ impl<T: Clone, A: Allocator, G: Growth> ThinVec<T, A, G> {
             (AppendsClones T.is_clone self.old.items self.new.items items.now) }
         ensures items_if_clones_equal { OnOk result (ClonesEqual T.is_clone
             → self.new.items ≡ self.old.items ++ items.now) }
-        ensures cost { OnOk result (self.new.cost ≡ moving (length items.now) self.old.cost) }
+        ensures cost { OnOk result (self.new.cost ≡ add_moves (length items.now) self.old.cost) }
 
         // When it must succeed.
         ensures succeeds { All T.is_infallible items.now → IsOk result }
@@ -139,12 +139,12 @@ impl<T: Clone, A: Allocator, G: Growth> ThinVec<T, A, G> {
         // On failure, the cause is `OutOfMemory`, and the items are unchanged.
         ensures cause { IfErr result (λ cause. cause ≡ ThinVecError.OutOfMemory) }
         ensures err_items { OnErr result (self.new.items ≡ self.old.items) }
-        ensures err_cost { OnErr result (StopsAtClone T.is_infallible items.now self.old.cost
+        ensures err_cost { OnErr result (FailsAtClone T.is_infallible items.now self.old.cost
             self.new.cost) }
 
         // In every case.
         ensures capacity { self.new.capacity ≡ self.old.capacity }
-        ensures keeps { Keeps T.row self.old self.new }
+        ensures preserved { PreservesList T.row self.old self.new }
     {
         let len = self.len();
         if self.push_clones_reserved(items) < items.len() {
@@ -163,11 +163,11 @@ impl<T: Clone, A: Allocator, G: Growth> ThinVec<T, A, G> {
             (take result items.now) }
         ensures changes { self.new ≡ record self.old {
           items = self.new.items;
-          cost = moving result self.old.cost;
+          cost = add_moves result self.old.cost;
         } }
-        ensures refused { result < length items.now
+        ensures stopped_at { result < length items.now
             → HoldsAt (λ x. ¬ (T.is_infallible x)) items.now result }
-        ensures within { IsWithin T.row self.old × IsWithin T.row self.new }
+        ensures bounds { IsBounded T.row self.old × IsBounded T.row self.new }
     {
         let len = self.block.len();
         let placed = put_clones(&mut self.block, len, items);
@@ -193,7 +193,7 @@ impl<T: Clone, A: Allocator, G: Growth> ThinVec<T, A, G> {
             (slice_range self.old.items start end)) }
         ensures items_if_clones_equal { OnOk result (ClonesEqual T.is_clone
             → self.new.items ≡ self.old.items ++ slice_range self.old.items start end) }
-        ensures cost { OnOk result (Costs (end - start) self.old self.new) }
+        ensures cost { OnOk result (CostsMoves (end - start) self.old self.new) }
 
         // When it must succeed.
         ensures succeeds { HasRoomFor self.old (end - start)
@@ -204,12 +204,12 @@ impl<T: Clone, A: Allocator, G: Growth> ThinVec<T, A, G> {
         ensures err { All T.is_infallible (slice_range self.old.items start end)
             → OnErr result (self.new ≡ self.old) }
         ensures err_cost { OnErr result ((self.new ≡ self.old)
-            ⊎ CostsUpToClone T.is_infallible (slice_range self.old.items start end)
+            ⊎ CostsFailedClone T.is_infallible (slice_range self.old.items start end)
             self.old self.new) }
 
         // In every case, the capacity changes as `reserve(end - start)` would change it.
-        ensures reserves { Reserves G.rule T.row (end - start) self.old self.new result }
-        ensures keeps { Keeps T.row self.old self.new }
+        ensures capacity { Reserves G.rule T.row (end - start) self.old self.new result }
+        ensures preserved { PreservesList T.row self.old self.new }
     {
         self.reserve(end - start)?;
         self.extend_from_within_reserved(start, end)
@@ -230,7 +230,7 @@ impl<T: Clone, A: Allocator, G: Growth> ThinVec<T, A, G> {
             (slice_range self.old.items start end)) }
         ensures items_if_clones_equal { OnOk result (ClonesEqual T.is_clone
             → self.new.items ≡ self.old.items ++ slice_range self.old.items start end) }
-        ensures cost { OnOk result (self.new.cost ≡ moving (end - start) self.old.cost) }
+        ensures cost { OnOk result (self.new.cost ≡ add_moves (end - start) self.old.cost) }
 
         // Only the fields `items` and `cost` of the list may change.
         ensures changes { self.new ≡ record self.old {
@@ -240,12 +240,12 @@ impl<T: Clone, A: Allocator, G: Growth> ThinVec<T, A, G> {
 
         // On failure, the items are unchanged.
         ensures err_items { OnErr result (self.new.items ≡ self.old.items) }
-        ensures refused { OnErr result (StopsAtClone T.is_infallible
+        ensures err_cost { OnErr result (FailsAtClone T.is_infallible
             (slice_range self.old.items start end) self.old.cost self.new.cost) }
         ensures cause { IfErr result (λ cause. cause ≡ ThinVecError.OutOfMemory) }
 
         // In every case.
-        ensures within { IsWithin T.row self.old × IsWithin T.row self.new }
+        ensures bounds { IsBounded T.row self.old × IsBounded T.row self.new }
     {
         let len = self.len();
         if self.push_clones_within(start, end) < end - start {
@@ -262,7 +262,7 @@ impl<T: Clone, A: Allocator, G: Growth> ThinVec<T, A, G> {
         requires start_le_end { start ≤ end }
         requires in_bounds { end ≤ length self.old.items }
         requires room { HasRoomFor self.old (end - start) }
-        requires within { IsWithin T.row self.old }
+        requires bounds { IsBounded T.row self.old }
 
         // The call appends clones of the first `result` items of the range `start..end`. So
         // `result` is at most the length of this range.
@@ -272,16 +272,16 @@ impl<T: Clone, A: Allocator, G: Growth> ThinVec<T, A, G> {
         ensures len { length self.new.items ≡ length self.old.items + result }
         ensures changes { self.new ≡ record self.old {
           items = self.new.items;
-          cost = moving result self.old.cost;
+          cost = add_moves result self.old.cost;
         } }
 
         // If `result` is less than the length of the range, cloning the item at index `result` of
         // the range failed. So `T.is_infallible` is false for this item.
-        ensures refused { result < end - start → HoldsAt (λ x. ¬ (T.is_infallible x))
+        ensures stopped_at { result < end - start → HoldsAt (λ x. ¬ (T.is_infallible x))
             (slice_range self.old.items start end) result }
 
         // In every case.
-        ensures within { IsWithin T.row self.new }
+        ensures bounds { IsBounded T.row self.new }
     {
         let count = end - start;
         for i in 0..count {

@@ -1,15 +1,15 @@
 //! The methods that copy items of a `Copy` type. They copy the items byte for byte, without calling
 //! `clone`.
 ghost use Rattle.std.specs.Prelude.{◌≡◌, ◌+◌, ◌<◌, ◌++◌, IfErr, IfOk, IsOk, OnErr, OnOk, length};
-ghost use Rattle.thin_block.specs.Cost.{moving};
-ghost use Rattle.thin_vec.specs.List.Capacity.{Costs, Keeps, Reserves, IsMade};
+ghost use Rattle.thin_block.specs.Cost.{add_moves};
+ghost use Rattle.thin_vec.specs.List.Capacity.{CostsMoves, PreservesList, Reserves, IsFreshList};
 
 use crate::list::ThinVec;
 use std::alloc::Allocator;
 use thin_block::{Growth, ThinVecError};
 
 impl<T: Copy, A: Allocator, G: Growth> ThinVec<T, A, G> {
-    ghost use Rattle.thin_vec.specs.ThinVec.{HasRoomFor, cost_new};
+    ghost use Rattle.thin_vec.specs.ThinVec.{HasRoomFor, cost_of_new};
 
     /// Appends a copy of each item of `items`, in order. If there is not enough spare capacity, the
     /// list first grows to the capacity that the growth rule chooses. The items are copied byte for
@@ -24,7 +24,7 @@ impl<T: Copy, A: Allocator, G: Growth> ThinVec<T, A, G> {
     pub fn extend_from_copies(&mut self, items: &[T]) -> Result<(), ThinVecError>
         // On success.
         ensures items { OnOk result (self.new.items ≡ self.old.items ++ items.now) }
-        ensures cost { OnOk result (Costs (length items.now) self.old self.new) }
+        ensures cost { OnOk result (CostsMoves (length items.now) self.old self.new) }
 
         // When it must succeed.
         ensures succeeds { HasRoomFor self.old (length items.now) → IsOk result }
@@ -33,8 +33,8 @@ impl<T: Copy, A: Allocator, G: Growth> ThinVec<T, A, G> {
         ensures err { OnErr result (self.new ≡ self.old) }
 
         // In every case, the capacity changes as `reserve(items.len())` would change it.
-        ensures reserves { Reserves G.rule T.row (length items.now) self.old self.new result }
-        ensures keeps { Keeps T.row self.old self.new }
+        ensures capacity { Reserves G.rule T.row (length items.now) self.old self.new result }
+        ensures preserved { PreservesList T.row self.old self.new }
     {
         match self.reserve_run(items.len()) {
             Ok(()) => (),
@@ -58,9 +58,9 @@ impl<T: Copy, A: Allocator, G: Growth> ThinVec<T, A, G> {
         // On success.
         ensures items { IfOk result (λ list. list.items ≡ self.now.items) }
         ensures capacity { IfOk result (λ list. list.capacity ≡ length self.now.items) }
-        ensures cost { IfOk result (λ list. list.cost ≡ moving (length self.now.items)
-            (cost_new (length self.now.items))) }
-        ensures made { IfOk result (IsMade T.row alloc) }
+        ensures cost { IfOk result (λ list. list.cost ≡ add_moves (length self.now.items)
+            (cost_of_new (length self.now.items))) }
+        ensures new { IfOk result (IsFreshList T.row alloc) }
 
         // When it must succeed.
         ensures succeeds_empty { length self.now.items ≡ 0 → IsOk result }
@@ -80,9 +80,9 @@ impl<T: Copy, A: Allocator, G: Growth> ThinVec<T, A, G> {
     pub fn extend_from_copies_reserved(&mut self, items: &[T])
         requires room { HasRoomFor self.old (length items.now) }
         ensures items { self.new.items ≡ self.old.items ++ items.now }
-        ensures cost { self.new.cost ≡ moving (length items.now) self.old.cost }
+        ensures cost { self.new.cost ≡ add_moves (length items.now) self.old.cost }
         ensures capacity { self.new.capacity ≡ self.old.capacity }
-        ensures keeps { Keeps T.row self.old self.new }
+        ensures preserved { PreservesList T.row self.old self.new }
     {
         let len = self.block.len();
         if items.is_empty() {

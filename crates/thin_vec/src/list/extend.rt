@@ -7,13 +7,13 @@ ghost use Rattle.std.specs.Prelude.{◌≡◌, ◌+◌, ◌-◌, ◌<◌, ◌≤
 ghost use Rattle.std.specs.Iterator.Runs.{SomeRun, WholeRun};
 ghost use Rattle.std.specs.Iterator.{Drains, IsFinite, YieldsThen, size};
 ghost use Rattle.std.specs.Option.{option_to_list};
-ghost use Rattle.thin_block.specs.Cost.{moving};
+ghost use Rattle.thin_block.specs.Cost.{add_moves};
 ghost use Rattle.thin_block.specs.Growth.{doubling};
 ghost use Rattle.thin_vec.specs.Cheap.{IsCheap};
-ghost use Rattle.thin_vec.specs.List.Capacity.{Keeps};
-ghost use Rattle.thin_vec.specs.List.Extend.{Extends, GrowsFor, IsCollectCause, IsCollectedList, IsExtendCause, CostsAdding, CostsExtending, IsKeptOrRuled, IsLoose, IsMadeOf, PausedAfter};
+ghost use Rattle.thin_vec.specs.List.Capacity.{PreservesList};
+ghost use Rattle.thin_vec.specs.List.Extend.{ExtendsList, ExtendsCapacity, IsCollectCause, IsCollectedList, IsExtendCause, CostsInserting, CostsExtending, IsKeptOrChosen, IsKeptOrGrown, IsCollectedFrom, YieldsAndCanContinue};
 ghost use Rattle.thin_vec.specs.Put.{IsFilledBy};
-ghost use Rattle.thin_vec.specs.ThinVec.{HasRoomFor, IsNew, IsWithin};
+ghost use Rattle.thin_vec.specs.ThinVec.{HasRoomFor, IsNew, IsBounded};
 
 use crate::errors::{CollectRefused, ExtendRefused, Rejected};
 use crate::list::ThinVec;
@@ -58,9 +58,9 @@ impl<T, A: Allocator, G: Growth> ThinVec<T, A, G> {
         // On failure, every item that `iter` yielded is in the list or in the error.
         ensures placed { IfErr result (λ error. (xs : List T)
             × (self.new.items ≡ self.old.items ++ xs)
-            × PausedAfter I.next_gives I.can_next I.remaining iter
+            × YieldsAndCanContinue I.next_gives I.can_next I.remaining iter
             (xs ++ option_to_list error.in_hand) error.rest) }
-        ensures runs_err { IfErr result
+        ensures err_runs { IfErr result
             (λ error. SomeRun I.next_gives iter
             (λ p. (xs : List T) × (self.new.items ≡ self.old.items ++ xs)
             × (p.items ≡ xs ++ option_to_list error.in_hand))) }
@@ -71,9 +71,9 @@ impl<T, A: Allocator, G: Growth> ThinVec<T, A, G> {
             (λ error. IsExtendCause G.rule T.row self.new (I.remaining error.rest) error) }
 
         // In every case.
-        ensures capacity { GrowsFor G.rule T.row self.old self.new (I.remaining iter) }
+        ensures capacity { ExtendsCapacity G.rule T.row self.old self.new (I.remaining iter) }
         ensures cost { CostsExtending self.old self.new (I.remaining iter) }
-        ensures keeps { Keeps T.row self.old self.new }
+        ensures preserved { PreservesList T.row self.old self.new }
     {
         match self.reserve(iter.size_hint().0) {
             Ok(()) => self.extend_unhinted(iter),
@@ -92,7 +92,7 @@ impl<T, A: Allocator, G: Growth> ThinVec<T, A, G> {
     ) -> Result<(), ExtendRefused<T, I>>
         requires can_next { I.can_next iter }
         requires finite { IsFinite (I.remaining iter) }
-        requires within { IsWithin T.row self.old }
+        requires bounds { IsBounded T.row self.old }
 
         // On success.
         ensures items { OnOk result ((xs : List T) × Drains I.next_gives iter xs
@@ -104,23 +104,23 @@ impl<T, A: Allocator, G: Growth> ThinVec<T, A, G> {
         // On failure, every item that `iter` yielded is in the list or in the error.
         ensures placed { IfErr result (λ error. (xs : List T)
             × (self.new.items ≡ self.old.items ++ xs)
-            × PausedAfter I.next_gives I.can_next I.remaining iter
+            × YieldsAndCanContinue I.next_gives I.can_next I.remaining iter
             (xs ++ option_to_list error.in_hand) error.rest) }
         ensures in_hand { IfErr result (λ error. IsSome error.in_hand) }
-        ensures full { OnErr result (length self.new.items ≡ self.new.capacity) }
+        ensures err_full { OnErr result (length self.new.items ≡ self.new.capacity) }
         ensures cause { IfErr result
             (λ error. IsExtendCause G.rule T.row self.new (I.remaining error.rest) error) }
 
         // In every case.
         ensures had_room { HasRoomFor self.old (size (I.remaining iter))
             → self.new.capacity ≡ self.old.capacity }
-        ensures loose { IsLoose G.rule T.row self.old.capacity self.new.capacity }
-        ensures ruled { IsKeptOrRuled G.rule T.row self.old.capacity self.new.capacity
+        ensures at_least { IsKeptOrGrown G.rule T.row self.old.capacity self.new.capacity }
+        ensures capacity { IsKeptOrChosen G.rule T.row self.old.capacity self.new.capacity
             (length self.new.items) }
-        ensures cost { CostsAdding self.old self.new 0 }
+        ensures cost { CostsInserting self.old self.new 0 }
         ensures requests { self.new.cost.blocks
             ≤ self.old.cost.blocks + (length self.new.items - self.old.capacity) }
-        ensures keeps { Keeps T.row self.old self.new }
+        ensures preserved { PreservesList T.row self.old self.new }
     {
         let mut rest = iter;
         loop {
@@ -155,23 +155,23 @@ impl<T, A: Allocator, G: Growth> ThinVec<T, A, G> {
             × YieldsThen I.next_gives iter xs result.1 result.0 }
         ensures changes { self.new ≡ record self.old {
           items = self.new.items;
-          cost = moving (length self.new.items - length self.old.items) self.old.cost;
+          cost = add_moves (length self.new.items - length self.old.items) self.old.cost;
         } }
 
         // Suppose that the call returns an item. Then the list is full, and `next` may be called on
         // the returned iterator. For this iterator, `I.remaining`, an upper bound on the number of
         // items that it may still yield, is finite. The call has decreased this bound by more than
         // the number of appended items.
-        ensures full { OnSome result.1 (length self.new.items ≡ self.new.capacity) }
-        ensures rest { OnSome result.1 (I.can_next result.0 × IsFinite (I.remaining result.0)) }
-        ensures nearer { OnSome result.1
+        ensures err_full { OnSome result.1 (length self.new.items ≡ self.new.capacity) }
+        ensures can_next { OnSome result.1 (I.can_next result.0 × IsFinite (I.remaining result.0)) }
+        ensures decreases { OnSome result.1
             (length self.new.items + size (I.remaining result.0) < length self.old.items + size
             (I.remaining iter)) }
 
         // In every case.
         ensures room { length self.new.items ≤ self.new.capacity }
         ensures cheap { IsCheap self.old → IsCheap self.new }
-        ensures within { IsWithin T.row self.old × IsWithin T.row self.new }
+        ensures bounds { IsBounded T.row self.old × IsBounded T.row self.new }
     {
         let Filled {
             mut rest,
@@ -190,21 +190,21 @@ impl<T, A: Allocator, G: Growth> ThinVec<T, A, G> {
     fn fill_spare<I: Iterator<Item = T>>(&mut self, iter: I) -> Filled<I>
         requires can_next { I.can_next iter }
         requires finite { IsFinite (I.remaining iter) }
-        ensures filled { (by : IsFilledBy I.next_gives I.can_next I.remaining
+        ensures filled_by { (by : IsFilledBy I.next_gives I.can_next I.remaining
             (self.old.capacity - length self.old.items) iter result)
             × (self.new ≡ record self.old {
               items = self.old.items ++ by.items;
-              cost = moving (length by.items) self.old.cost;
+              cost = add_moves (length by.items) self.old.cost;
             }) × (result.end ≡ length self.new.items) }
         ensures cheap { IsCheap self.old → IsCheap self.new }
-        ensures within { IsWithin T.row self.old × IsWithin T.row self.new }
+        ensures bounds { IsBounded T.row self.old × IsBounded T.row self.new }
     {
         let len = self.block.len();
         let cap = self.block.cap();
         let block = mem::replace(&mut self.block, Block::none());
         let (block, filled) = put_iter(block, len, cap, iter);
         let none = mem::replace(&mut self.block, block);
-        none.forget_none();
+        none.forget_unallocated();
         self.block.set_len(filled.end);
         filled
     }
@@ -240,7 +240,7 @@ impl<T, A: Allocator> ThinVec<T, A> {
         ensures items { IfOk result (λ list. Drains I.next_gives iter list.items) }
         ensures runs { IfOk result
             (λ list. WholeRun I.next_gives iter (λ p. list.items ≡ p.items)) }
-        ensures list { IfOk result
+        ensures new { IfOk result
             (λ list. IsCollectedList doubling T.row alloc list (I.remaining iter)) }
 
         // When it must succeed.
@@ -248,15 +248,15 @@ impl<T, A: Allocator> ThinVec<T, A> {
 
         // On failure, every item that `iter` yielded is in the list or in the error.
         ensures placed { IfErr result
-            (λ error. PausedAfter I.next_gives I.can_next I.remaining iter
+            (λ error. YieldsAndCanContinue I.next_gives I.can_next I.remaining iter
             (error.list.items ++ option_to_list error.in_hand) error.rest) }
-        ensures runs_err { IfErr result
+        ensures err_runs { IfErr result
             (λ error. SomeRun I.next_gives iter
             (λ p. p.items ≡ error.list.items ++ option_to_list error.in_hand)) }
         ensures in_hand { IfErr result (λ error. MatchOption error.in_hand
             (IsNew error.list alloc × (error.rest ≡ iter))
             (λ _. length error.list.items ≡ error.list.capacity)) }
-        ensures err_list { IfErr result
+        ensures err_new { IfErr result
             (λ error. IsCollectedList doubling T.row alloc error.list (I.remaining iter)) }
         ensures cause { IfErr result
             (λ error. IsCollectCause doubling T.row (I.remaining error.rest) error) }
@@ -293,7 +293,7 @@ impl<T, A: Allocator> ThinVec<T, A> {
 }
 
 impl<T: Drop, A: Allocator, G: Growth> Extend<T> for ThinVec<T, A, G> {
-    ghost extend_gives = { Extends G.rule T.row };
+    ghost extend_gives = { ExtendsList G.rule T.row };
 
     // Appends the items of `iter`. On failure, the appended items stay in the list. The iterator is
     // dropped, and so is an item that was taken from it but not appended.
@@ -312,7 +312,7 @@ impl<T: Drop, A: Allocator, G: Growth> Extend<T> for ThinVec<T, A, G> {
 impl<T: Drop, A: Allocator> FromIterator<T> for ThinVec<T, A> {
     type Alloc = A;
 
-    ghost from_iter_gives = { IsMadeOf T.row };
+    ghost from_iter_gives = { IsCollectedFrom T.row };
 
     // Makes a list of the items of `iter`, like the method `ThinVec::from_iter`. On failure, drops
     // the iterator and all items that were taken from it.

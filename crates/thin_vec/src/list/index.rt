@@ -5,7 +5,7 @@ ghost use Rattle.std.specs.Iterator.Runs.{EveryRun, ItemsMapTo};
 ghost use Rattle.std.specs.Slice.Iter.{iter_mut_rest, iter_mut_steps, iter_rest, iter_steps};
 ghost use types.Logic.{sem};
 ghost use Rattle.thin_vec.specs.Lends.{LendsGet, LendsItem, LendsItems, LendsIter};
-ghost use Rattle.thin_vec.specs.ThinVec.{IsWithin};
+ghost use Rattle.thin_vec.specs.ThinVec.{IsBounded};
 
 use crate::list::ThinVec;
 use std::alloc::Allocator;
@@ -21,7 +21,7 @@ impl<T, A: Allocator, G: Growth> DerefSlice for ThinVec<T, A, G> {
 
     fn deref(&self) -> &[T]
         ensures value { result.now ≡ self.now.items }
-        ensures within { IsWithin T.row self.now }
+        ensures bounds { IsBounded T.row self.now }
     {
         self.as_slice()
     }
@@ -32,7 +32,7 @@ impl<T, A: Allocator, G: Growth> DerefSliceMut for ThinVec<T, A, G> {
         ensures* writes_back { sem 𝓛
             (LendsItems T.row A.row G.row A.Allocator G.Growth self.entry result) }
         ensures value { result.now ≡ self.old.items }
-        ensures within { IsWithin T.row self.old }
+        ensures bounds { IsBounded T.row self.old }
     {
         self.as_mut_slice()
     }
@@ -58,7 +58,7 @@ impl<T, A: Allocator, G: Growth> Index<usize> for ThinVec<T, A, G> {
         requires { index < length self.now.items }
         ensures value { result.now ≡ slice_index_or self.now.items index result.now }
         ensures found { slice_get self.now.items index ≡ Some result.now }
-        ensures within { IsWithin T.row self.now }
+        ensures bounds { IsBounded T.row self.now }
     {
         &self.as_slice()[index]
     }
@@ -73,7 +73,7 @@ impl<T, A: Allocator, G: Growth> IndexMut<usize> for ThinVec<T, A, G> {
             (LendsItem T.row A.row G.row A.Allocator G.Growth self.entry index result) }
         ensures value { result.now ≡ slice_index_or self.old.items index result.now }
         ensures found { slice_get self.old.items index ≡ Some result.now }
-        ensures within { IsWithin T.row self.old }
+        ensures bounds { IsBounded T.row self.old }
     {
         // This call is needed only for the proof: the clause `within` follows from the contract of
         // `len`.

@@ -4,9 +4,9 @@ ghost use Rattle.std.specs.Prelude.{◌≡◌, ◌+◌, ◌-◌, ◌<◌, ◌≤
 ghost use Rattle.std.specs.List.{swap_remove};
 ghost use Rattle.std.specs.List.Retain.{PopsIf};
 ghost use types.Logic.{sem};
-ghost use Rattle.thin_block.specs.Cost.{moving};
+ghost use Rattle.thin_block.specs.Cost.{add_moves};
 ghost use Rattle.thin_vec.specs.List.InsertRemove.{LendsAdded};
-ghost use Rattle.thin_vec.specs.List.Capacity.{Costs, Keeps, Reserves, TellsOverflow, causes};
+ghost use Rattle.thin_vec.specs.List.Capacity.{CostsMoves, PreservesList, Reserves, OverflowsIff, map_cause};
 
 use crate::errors::Rejected;
 use crate::list::ThinVec;
@@ -14,7 +14,7 @@ use std::alloc::Allocator;
 use thin_block::{Growth, ThinVecError};
 
 impl<T, A: Allocator, G: Growth> ThinVec<T, A, G> {
-    ghost use Rattle.thin_vec.specs.ThinVec.{HasRoomFor, IsWithin, capacity_for};
+    ghost use Rattle.thin_vec.specs.ThinVec.{HasRoomFor, IsBounded, capacity_after_reserve};
 
     /// Inserts `value` at `index`, which must be at most the length. The list then owns `value`.
     /// Each item from `index` onward is moved to the next higher index. If there is no spare
@@ -29,7 +29,8 @@ impl<T, A: Allocator, G: Growth> ThinVec<T, A, G> {
 
         // On success.
         ensures items { OnOk result (self.new.items ≡ insert self.old.items index value) }
-        ensures cost { OnOk result (Costs (length self.old.items - index + 1) self.old self.new) }
+        ensures cost { OnOk result
+            (CostsMoves (length self.old.items - index + 1) self.old self.new) }
 
         // When it must succeed.
         ensures succeeds { HasRoomFor self.old 1 → IsOk result }
@@ -39,8 +40,8 @@ impl<T, A: Allocator, G: Growth> ThinVec<T, A, G> {
         ensures value_returned { IfErr result (λ error. error.value ≡ value) }
 
         // In every case, the capacity changes as `reserve(1)` would change it.
-        ensures reserves { Reserves G.rule T.row 1 self.old self.new (causes result) }
-        ensures keeps { Keeps T.row self.old self.new }
+        ensures capacity { Reserves G.rule T.row 1 self.old self.new (map_cause result) }
+        ensures preserved { PreservesList T.row self.old self.new }
     {
         if let Err(cause) = self.reserve(1) {
             return Err(Rejected { value, cause });
@@ -58,13 +59,13 @@ impl<T, A: Allocator, G: Growth> ThinVec<T, A, G> {
         requires in_bounds { index ≤ length self.old.items }
         requires room { HasRoomFor self.old 1 }
         ensures items { self.new.items ≡ insert self.old.items index value }
-        ensures cost { self.new.cost ≡ moving (length self.old.items - index + 1) self.old.cost }
+        ensures cost { self.new.cost ≡ add_moves (length self.old.items - index + 1) self.old.cost }
         ensures capacity { self.new.capacity ≡ self.old.capacity }
-        ensures keeps { Keeps T.row self.old self.new }
+        ensures preserved { PreservesList T.row self.old self.new }
     {
         let len = self.block.len();
         self.block.move_run(index, index + 1, len - index);
-        self.block.put_and_store(index, value, len + 1);
+        self.block.put_and_set_len(index, value, len + 1);
     }
 
     /// Appends `value`, which the list then owns. Returns a mutable reference to the new item.
@@ -90,10 +91,11 @@ impl<T, A: Allocator, G: Growth> ThinVec<T, A, G> {
 
         // On failure.
         ensures value_returned { IfErr result (λ error. error.value ≡ value) }
-        ensures overflow { TellsOverflow (capacity_for G.rule T.row self.old 1) (causes result) }
+        ensures overflow { OverflowsIff (capacity_after_reserve G.rule T.row self.old 1)
+            (map_cause result) }
 
         // In every case.
-        ensures within { IsWithin T.row self.old }
+        ensures bounds { IsBounded T.row self.old }
     {
         let len = self.len();
         self.push(value)?;
@@ -126,10 +128,11 @@ impl<T, A: Allocator, G: Growth> ThinVec<T, A, G> {
 
         // On failure.
         ensures value_returned { IfErr result (λ error. error.value ≡ value) }
-        ensures overflow { TellsOverflow (capacity_for G.rule T.row self.old 1) (causes result) }
+        ensures overflow { OverflowsIff (capacity_after_reserve G.rule T.row self.old 1)
+            (map_cause result) }
 
         // In every case.
-        ensures within { IsWithin T.row self.old }
+        ensures bounds { IsBounded T.row self.old }
     {
         self.insert(index, value)?;
         Ok(&mut self[index])
@@ -141,9 +144,10 @@ impl<T, A: Allocator, G: Growth> ThinVec<T, A, G> {
         requires in_bounds { index < length self.old.items }
         ensures value { slice_get self.old.items index ≡ Some result }
         ensures items { self.new.items ≡ remove self.old.items index }
-        ensures cost { self.new.cost ≡ moving (length self.old.items - (index + 1)) self.old.cost }
+        ensures cost { self.new.cost ≡ add_moves
+            (length self.old.items - (index + 1)) self.old.cost }
         ensures capacity { self.new.capacity ≡ self.old.capacity }
-        ensures keeps { Keeps T.row self.old self.new }
+        ensures preserved { PreservesList T.row self.old self.new }
     {
         let len = self.block.len();
         let value = self.block.take(index);
@@ -158,13 +162,14 @@ impl<T, A: Allocator, G: Growth> ThinVec<T, A, G> {
         requires in_bounds { index < length self.old.items }
         ensures value { slice_get self.old.items index ≡ Some result }
         ensures items { self.new.items ≡ swap_remove self.old.items index result }
-        ensures cost { self.new.cost ≡ moving (if index + 1 == length self.old.items then 0 else 1)
+        ensures cost { self.new.cost ≡ add_moves
+            (if index + 1 == length self.old.items then 0 else 1)
             self.old.cost }
         ensures capacity { self.new.capacity ≡ self.old.capacity }
-        ensures keeps { Keeps T.row self.old self.new }
+        ensures preserved { PreservesList T.row self.old self.new }
     {
         let last = self.block.len() - 1;
-        let value = self.block.take_replacing(index, last);
+        let value = self.block.swap_take(index, last);
         self.block.store_len(last);
         value
     }
@@ -179,7 +184,7 @@ impl<T, A: Allocator, G: Growth> ThinVec<T, A, G> {
         requires callable { P.IsAlwaysCallable predicate }
         ensures popped { PopsIf P.FnOnce self.old.items self.new.items predicate result }
         ensures changes { self.new ≡ record self.old { items = self.new.items } }
-        ensures within { IsWithin T.row self.old × IsWithin T.row self.new }
+        ensures bounds { IsBounded T.row self.old × IsBounded T.row self.new }
     {
         let len = self.len();
         if len == 0 {
@@ -193,14 +198,14 @@ impl<T, A: Allocator, G: Growth> ThinVec<T, A, G> {
 }
 
 impl<T: Drop, A: Allocator, G: Growth> ThinVec<T, A, G> {
-    ghost use Rattle.thin_vec.specs.ThinVec.{IsWithin};
+    ghost use Rattle.thin_vec.specs.ThinVec.{IsBounded};
 
     /// Drops the items from index `len` onward. If the list has at most `len` items, nothing
     /// changes. The capacity does not change.
     pub fn truncate(&mut self, len: usize)
         ensures items { self.new.items ≡ take len self.old.items }
         ensures changes { self.new ≡ record self.old { items = self.new.items } }
-        ensures within { IsWithin T.row self.old × IsWithin T.row self.new }
+        ensures bounds { IsBounded T.row self.old × IsBounded T.row self.new }
     {
         let old = self.block.len();
         if len >= old {
@@ -216,7 +221,7 @@ impl<T: Drop, A: Allocator, G: Growth> ThinVec<T, A, G> {
     pub fn clear(&mut self)
         ensures items { self.new.items ≡ [] }
         ensures changes { self.new ≡ record self.old { items = self.new.items } }
-        ensures within { IsWithin T.row self.old × IsWithin T.row self.new }
+        ensures bounds { IsBounded T.row self.old × IsBounded T.row self.new }
     {
         self.truncate(0);
     }

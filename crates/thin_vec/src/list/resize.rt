@@ -4,9 +4,9 @@
 //! them, a caller needs no lemma about clones.
 ghost use Rattle.std.specs.Prelude.{◌≡◌, ◌⊎◌, ◌+◌, ◌-◌, ◌<◌, ◌≤◌, ◌++◌, IfErr, IsOk, OnErr, OnOk, length, replicate, take};
 ghost use Rattle.std.specs.List.{AppendsResults};
-ghost use Rattle.thin_block.specs.Cost.{moving};
-ghost use Rattle.thin_vec.specs.List.Clones.{AppendsRepeats, CloneEquals, IsResized, StopsAtClone, CostsUpToClone};
-ghost use Rattle.thin_vec.specs.List.Capacity.{Costs, Keeps, Reserves};
+ghost use Rattle.thin_block.specs.Cost.{add_moves};
+ghost use Rattle.thin_vec.specs.List.Clones.{AppendsRepeats, CloneEquals, IsResized, FailsAtClone, CostsFailedClone};
+ghost use Rattle.thin_vec.specs.List.Capacity.{CostsMoves, PreservesList, Reserves};
 
 use crate::list::ThinVec;
 use crate::put::{put_repeated, put_results};
@@ -15,7 +15,7 @@ use thin_block::{Growth, ThinVecError};
 
 impl<T: Clone, A: Allocator, G: Growth> ThinVec<T, A, G> {
     ghost use Rattle.thin_vec.specs.Cheap.{IsCheap};
-    ghost use Rattle.thin_vec.specs.ThinVec.{HasRoomFor, IsWithin};
+    ghost use Rattle.thin_vec.specs.ThinVec.{HasRoomFor, IsBounded};
 
     /// Changes the length to `len`. If the list is longer, the items from index `len` onward are
     /// dropped. If the list is shorter, clones of `value` are appended, and then `value` itself as
@@ -32,7 +32,7 @@ impl<T: Clone, A: Allocator, G: Growth> ThinVec<T, A, G> {
         ensures items_if_clones_equal { OnOk result (CloneEquals T.is_clone value
             → self.new.items ≡ take len self.old.items ++ replicate
             (len - length self.old.items) value) }
-        ensures cost { OnOk result (Costs (len - length self.old.items) self.old self.new) }
+        ensures cost { OnOk result (CostsMoves (len - length self.old.items) self.old self.new) }
 
         // When it must succeed.
         ensures succeeds { len ≤ self.old.capacity → T.is_infallible value → IsOk result }
@@ -43,13 +43,13 @@ impl<T: Clone, A: Allocator, G: Growth> ThinVec<T, A, G> {
         // On failure, the items are unchanged.
         ensures err_items { OnErr result (self.new.items ≡ self.old.items) }
         ensures err { T.is_infallible value → OnErr result (self.new ≡ self.old) }
-        ensures err_cost { OnErr result ((self.new ≡ self.old) ⊎ CostsUpToClone T.is_infallible
+        ensures err_cost { OnErr result ((self.new ≡ self.old) ⊎ CostsFailedClone T.is_infallible
             (replicate (len - length self.old.items - 1) value) self.old self.new) }
 
         // In every case, the capacity changes as reserving room for the new items would change it.
-        ensures reserves { Reserves G.rule T.row (len - length self.old.items) self.old self.new
+        ensures capacity { Reserves G.rule T.row (len - length self.old.items) self.old self.new
             result }
-        ensures keeps { Keeps T.row self.old self.new }
+        ensures preserved { PreservesList T.row self.old self.new }
     {
         let old = self.len();
         if len <= old {
@@ -63,7 +63,7 @@ impl<T: Clone, A: Allocator, G: Growth> ThinVec<T, A, G> {
     // Appends `count - 1` clones of `value`, and then `value` itself. The list must have room for
     // them. If cloning fails, `value` and all new clones are dropped.
     fn resize_reserved(&mut self, value: T, count: usize) -> Result<(), ThinVecError>
-        requires some { 0 < count }
+        requires nonzero { 0 < count }
         requires room { HasRoomFor self.old count }
 
         // The call succeeds if cloning `value` cannot fail. It also succeeds if `count` is 1,
@@ -75,7 +75,7 @@ impl<T: Clone, A: Allocator, G: Growth> ThinVec<T, A, G> {
             self.new.items) }
         ensures items_if_clones_equal { OnOk result (CloneEquals T.is_clone value
             → self.new.items ≡ self.old.items ++ replicate count value) }
-        ensures cost { OnOk result (self.new.cost ≡ moving count self.old.cost) }
+        ensures cost { OnOk result (self.new.cost ≡ add_moves count self.old.cost) }
 
         // In every case, only the fields `items` and `cost` of the list may change.
         ensures changes { self.new ≡ record self.old {
@@ -85,13 +85,13 @@ impl<T: Clone, A: Allocator, G: Growth> ThinVec<T, A, G> {
 
         // On failure, the items are unchanged.
         ensures err_items { OnErr result (self.new.items ≡ self.old.items) }
-        ensures refused { OnErr result
-            (StopsAtClone T.is_infallible (replicate (count - 1) value) self.old.cost
+        ensures err_cost { OnErr result
+            (FailsAtClone T.is_infallible (replicate (count - 1) value) self.old.cost
             self.new.cost) }
         ensures cause { IfErr result (λ cause. cause ≡ ThinVecError.OutOfMemory) }
 
         // In every case.
-        ensures within { IsWithin T.row self.old × IsWithin T.row self.new }
+        ensures bounds { IsBounded T.row self.old × IsBounded T.row self.new }
     {
         let len = self.len();
         if self.push_repeated_reserved(&value, count - 1) < count - 1 {
@@ -110,10 +110,10 @@ impl<T: Clone, A: Allocator, G: Growth> ThinVec<T, A, G> {
         ensures items { AppendsRepeats T.is_clone value.now result self.old.items self.new.items }
         ensures changes { self.new ≡ record self.old {
           items = self.new.items;
-          cost = moving result self.old.cost;
+          cost = add_moves result self.old.cost;
         } }
-        ensures refused { result < count → ¬ (T.is_infallible value.now) }
-        ensures within { IsWithin T.row self.old × IsWithin T.row self.new }
+        ensures stopped_at { result < count → ¬ (T.is_infallible value.now) }
+        ensures bounds { IsBounded T.row self.old × IsBounded T.row self.new }
     {
         let len = self.block.len();
         let placed = put_repeated(&mut self.block, len, value, count);
@@ -124,7 +124,7 @@ impl<T: Clone, A: Allocator, G: Growth> ThinVec<T, A, G> {
 
 impl<T: Drop, A: Allocator, G: Growth> ThinVec<T, A, G> {
     ghost use Rattle.thin_vec.specs.Cheap.{IsCheap};
-    ghost use Rattle.thin_vec.specs.ThinVec.{HasRoomFor, IsWithin};
+    ghost use Rattle.thin_vec.specs.ThinVec.{HasRoomFor, IsBounded};
 
     /// Changes the length to `len`. If the list is longer, the items from index `len` onward are
     /// dropped. If the list is shorter, the results of `make` are appended: `make` is called once
@@ -144,7 +144,7 @@ impl<T: Drop, A: Allocator, G: Growth> ThinVec<T, A, G> {
         ensures items { OnOk result
             (AppendsResults F.step (take len self.old.items) self.new.items make) }
         ensures len { OnOk result (length self.new.items ≡ len) }
-        ensures cost { OnOk result (Costs (len - length self.old.items) self.old self.new) }
+        ensures cost { OnOk result (CostsMoves (len - length self.old.items) self.old self.new) }
 
         // When it must succeed.
         ensures succeeds { len ≤ self.old.capacity → IsOk result }
@@ -153,9 +153,9 @@ impl<T: Drop, A: Allocator, G: Growth> ThinVec<T, A, G> {
         ensures err { OnErr result (self.new ≡ self.old) }
 
         // In every case, the capacity changes as reserving room for the new items would change it.
-        ensures reserves { Reserves G.rule T.row (len - length self.old.items) self.old self.new
+        ensures capacity { Reserves G.rule T.row (len - length self.old.items) self.old self.new
             result }
-        ensures keeps { Keeps T.row self.old self.new }
+        ensures preserved { PreservesList T.row self.old self.new }
     {
         let old = self.len();
         if len <= old {
@@ -176,10 +176,10 @@ impl<T: Drop, A: Allocator, G: Growth> ThinVec<T, A, G> {
         ensures len { length self.new.items ≡ length self.old.items + count }
         ensures changes { self.new ≡ record self.old {
           items = self.new.items;
-          cost = moving count self.old.cost;
+          cost = add_moves count self.old.cost;
         } }
         ensures cheap { IsCheap self.old → IsCheap self.new }
-        ensures within { IsWithin T.row self.old × IsWithin T.row self.new }
+        ensures bounds { IsBounded T.row self.old × IsBounded T.row self.new }
     {
         let len = self.block.len();
         put_results(&mut self.block, len, count, make);

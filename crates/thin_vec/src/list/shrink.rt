@@ -7,7 +7,7 @@ use std::mem;
 use thin_block::{Block, Growth, ThinVecError};
 
 impl<T, A: Allocator, G: Growth> ThinVec<T, A, G> {
-    ghost use Rattle.thin_vec.specs.ThinVec.{IsWithin, cost_shrunk, cost_shrunk_to};
+    ghost use Rattle.thin_vec.specs.ThinVec.{IsBounded, cost_shrunk, cost_after_shrink};
 
     /// Shrinks the capacity to `min_capacity`, or to the length if the length is greater. If this
     /// would not reduce the capacity, nothing changes.
@@ -26,7 +26,7 @@ impl<T, A: Allocator, G: Growth> ThinVec<T, A, G> {
         // On success.
         ensures capacity { OnOk result (self.new.capacity
             ≡ min self.old.capacity (max min_capacity (length self.old.items))) }
-        ensures cost { OnOk result (self.new.cost ≡ cost_shrunk_to self.old self.new.capacity) }
+        ensures cost { OnOk result (self.new.cost ≡ cost_after_shrink self.old self.new.capacity) }
 
         // When it must succeed.
         ensures succeeds { self.old.capacity ≤ max min_capacity (length self.old.items)
@@ -40,7 +40,7 @@ impl<T, A: Allocator, G: Growth> ThinVec<T, A, G> {
         // In every case.
         ensures items { self.new.items ≡ self.old.items }
         ensures alloc { self.new.alloc ≡ self.old.alloc }
-        ensures within { IsWithin T.row self.old × IsWithin T.row self.new }
+        ensures bounds { IsBounded T.row self.old × IsBounded T.row self.new }
     {
         let wanted = min_capacity.max(self.len());
         if wanted >= self.capacity() {
@@ -71,7 +71,7 @@ impl<T, A: Allocator, G: Growth> ThinVec<T, A, G> {
 
         // When it must succeed.
         ensures succeeds_empty { length self.old.items ≡ 0 → IsOk result }
-        ensures succeeds_full { length self.old.items ≡ self.old.capacity → IsOk result }
+        ensures succeeds { length self.old.items ≡ self.old.capacity → IsOk result }
 
         // On failure, the list is unchanged.
         ensures err { OnErr result (self.new ≡ self.old) }
@@ -80,7 +80,7 @@ impl<T, A: Allocator, G: Growth> ThinVec<T, A, G> {
         // In every case.
         ensures items { self.new.items ≡ self.old.items }
         ensures alloc { self.new.alloc ≡ self.old.alloc }
-        ensures within { IsWithin T.row self.old × IsWithin T.row self.new }
+        ensures bounds { IsBounded T.row self.old × IsBounded T.row self.new }
     {
         self.shrink_to(0)
     }

@@ -1,7 +1,7 @@
 //! Functions that the `dedup` methods call. They keep the first item, and test each other item
 //! against the last item that was kept before it.
 ghost use Rattle.std.specs.Prelude.{◌≡◌, ◌+◌, ◌-◌, ◌<◌, ◌∷◌, ◌++◌, [], Bool, length};
-ghost use Rattle.thin_block.specs.Cost.{moving};
+ghost use Rattle.thin_block.specs.Cost.{add_moves};
 
 use crate::open_block::OpenBlock;
 use std::alloc::Allocator;
@@ -26,23 +26,23 @@ pub(crate) trait PairTest<T> {
     /// Returns whether the item `later` is to be removed. `kept` is the last item that was kept
     /// before `later`.
     fn test(&mut self, later: &mut T, kept: &mut T) -> bool
-        requires ready { ready self.old }
-        ensures asked { tests self.old later.old kept.old result self.new later.new kept.new }
-        ensures ready { ready self.new };
+        requires callable { ready self.old }
+        ensures tested { tests self.old later.old kept.old result self.new later.new kept.new }
+        ensures callable { ready self.new };
 }
 
 impl<T, A: Allocator> OpenBlock<T, A> {
-    ghost use Rattle.thin_vec.specs.OpenBlock.Dedup.{IsPairAskedAt, IsLastAsked, IsNextAsked};
+    ghost use Rattle.thin_vec.specs.OpenBlock.Dedup.{TestsPairAt, TestsLast, TestsNext};
 
     // Tests the item at index `k` of the remaining items against the item at index `k - 1`, and
     // returns whether the item at index `k` is to be removed. `k` must not be 0.
     pub(crate) fn test_pair<J: PairTest<T>>(&mut self, k: usize, test: &mut J) -> bool
-        requires some { 0 < k }
+        requires nonzero { 0 < k }
         requires in_bounds { k < length self.old.rest }
-        requires ready { J.ready test.old }
-        ensures asked { IsPairAskedAt J.tests k test.old self.old.rest result test.new
+        requires callable { J.ready test.old }
+        ensures tested { TestsPairAt J.tests k test.old self.old.rest result test.new
             self.new.rest }
-        ensures ready { J.ready test.new }
+        ensures callable { J.ready test.new }
         ensures changes { self.new ≡ record self.old { rest = self.new.rest } }
     {
         let at = self.rest_start + (k - 1);
@@ -53,11 +53,11 @@ impl<T, A: Allocator> OpenBlock<T, A> {
     // Tests the item `later` against the last item that was kept. Returns whether `later` is to be
     // removed. The kept item is not moved.
     pub(crate) fn test_last<J: PairTest<T>>(&mut self, later: &mut T, test: &mut J) -> bool
-        requires some { 0 < length self.old.front }
-        requires ready { J.ready test.old }
-        ensures asked { IsLastAsked J.tests test.old later.old self.old.front result test.new
+        requires nonempty { 0 < length self.old.front }
+        requires callable { J.ready test.old }
+        ensures tested { TestsLast J.tests test.old later.old self.old.front result test.new
             later.new self.new.front }
-        ensures ready { J.ready test.new }
+        ensures callable { J.ready test.new }
         ensures changes { self.new ≡ record self.old { front = self.new.front } }
     {
         test.test(later, self.block.slot_mut(self.front_end - 1))
@@ -66,11 +66,11 @@ impl<T, A: Allocator> OpenBlock<T, A> {
     // Tests the first of the remaining items against the item `kept`, and returns whether the first
     // of the remaining items is to be removed. Neither item is moved.
     pub(crate) fn test_next<J: PairTest<T>>(&mut self, kept: &mut T, test: &mut J) -> bool
-        requires some { 0 < length self.old.rest }
-        requires ready { J.ready test.old }
-        ensures asked { IsNextAsked J.tests test.old kept.old self.old.rest result test.new
+        requires nonempty { 0 < length self.old.rest }
+        requires callable { J.ready test.old }
+        ensures tested { TestsNext J.tests test.old kept.old self.old.rest result test.new
             kept.new self.new.rest }
-        ensures ready { J.ready test.new }
+        ensures callable { J.ready test.new }
         ensures changes { self.new ≡ record self.old { rest = self.new.rest } }
     {
         test.test(self.block.slot_mut(self.rest_start), kept)
@@ -78,11 +78,11 @@ impl<T, A: Allocator> OpenBlock<T, A> {
 
     // Moves the item `value` into the first empty slot after the kept items.
     pub(crate) fn append_to_front(&mut self, value: T)
-        requires gap { 0 < self.old.gap }
+        requires has_gap { 0 < self.old.gap }
         ensures { self.new ≡ record self.old {
           front = self.old.front ++ value ∷ [];
           gap = self.old.gap - 1;
-          cost = moving 1 self.old.cost;
+          cost = add_moves 1 self.old.cost;
         } }
     {
         self.block.put(self.front_end, value);
@@ -91,17 +91,17 @@ impl<T, A: Allocator> OpenBlock<T, A> {
 }
 
 impl<T, A: Allocator> OpenBlock<T, A> {
-    ghost use Rattle.thin_vec.specs.OpenBlock.Dedup.{PairsAskedUpTo};
+    ghost use Rattle.thin_vec.specs.OpenBlock.Dedup.{TestsPairsUpTo};
 
     // Tests each remaining item except the first against the item before it. Stops at the first
     // item that is to be removed, and returns its index among the remaining items. If no item is to
     // be removed, returns the number of remaining items. No item is moved or dropped.
     fn test_pairs<J: PairTest<T>>(&mut self, test: &mut J) -> usize
-        requires some { 0 < length self.old.rest }
-        requires ready { J.ready test.old }
-        ensures asked { PairsAskedUpTo J.tests result test.old self.old.rest test.new
+        requires nonempty { 0 < length self.old.rest }
+        requires callable { J.ready test.old }
+        ensures tested { TestsPairsUpTo J.tests result test.old self.old.rest test.new
             self.new.rest }
-        ensures ready { J.ready test.new }
+        ensures callable { J.ready test.new }
         ensures changes { self.new ≡ record self.old { rest = self.new.rest } }
     {
         let mut kept = 1;
@@ -116,19 +116,19 @@ impl<T, A: Allocator> OpenBlock<T, A> {
 }
 
 impl<T: Drop, A: Allocator> OpenBlock<T, A> {
-    ghost use Rattle.thin_vec.specs.OpenBlock.Dedup.{IsDeduped, Dedups};
+    ghost use Rattle.thin_vec.specs.OpenBlock.Dedup.{DedupsRest, DedupsSome};
 
     // Keeps the first remaining item. Tests each other remaining item against the last kept item
     // before it, and drops the items that are to be removed.
     pub(crate) fn dedup_rest<J: PairTest<T>>(&mut self, test: &mut J)
-        requires some { 0 < length self.old.rest }
-        requires front { self.old.front ≡ [] }
-        requires none { self.old.gap ≡ 0 }
-        requires ready { J.ready test.old }
-        ensures deduped { IsDeduped J.tests test.old self.old test.new self.new }
+        requires nonempty { 0 < length self.old.rest }
+        requires is_empty { self.old.front ≡ [] }
+        requires no_gap { self.old.gap ≡ 0 }
+        requires callable { J.ready test.old }
+        ensures deduped { DedupsRest J.tests test.old self.old test.new self.new }
     {
         let kept = self.test_pairs(test);
-        self.pass(kept);
+        self.keep_in_place(kept);
         if self.rest_len() > 0 {
             drop(self.take_first());
             while self.rest_len() > 0 {
@@ -144,17 +144,17 @@ impl<T: Drop, A: Allocator> OpenBlock<T, A> {
     // The first remaining item is taken out of the block before its test, because the block
     // provides two mutable references only for adjacent items.
     fn dedup_next<J: PairTest<T>>(&mut self, test: &mut J)
-        requires some { 0 < length self.old.front }
-        requires rest { 0 < length self.old.rest }
-        requires gap { 0 < self.old.gap }
-        requires ready { J.ready test.old }
-        ensures dedups { Dedups J.tests test.old self.old test.new self.new }
+        requires has_front { 0 < length self.old.front }
+        requires nonempty { 0 < length self.old.rest }
+        requires has_gap { 0 < self.old.gap }
+        requires callable { J.ready test.old }
+        ensures deduped { DedupsSome J.tests test.old self.old test.new self.new }
 
         // `dedup_rest` calls this function in a loop. The proof of the loop needs this clause
         // and the next two.
-        ensures some { 0 < length self.new.front }
-        ensures less { length self.new.rest < length self.old.rest }
-        ensures ready { J.ready test.new }
+        ensures has_front { 0 < length self.new.front }
+        ensures decreases { length self.new.rest < length self.old.rest }
+        ensures callable { J.ready test.new }
     {
         let mut later = self.take_first();
         if self.test_last(&mut later, test) {

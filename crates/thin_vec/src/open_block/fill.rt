@@ -3,7 +3,7 @@
 ghost use Rattle.std.specs.Prelude.{◌≡◌, ◌-◌, ◌<◌, ◌≤◌, [], ◌++◌, HoldsAt, List, drop, length, take};
 ghost use Rattle.std.specs.Iterator.{IsFinite};
 ghost use Rattle.std.specs.List.{AllZip};
-ghost use Rattle.thin_block.specs.Cost.{moving};
+ghost use Rattle.thin_block.specs.Cost.{add_moves};
 ghost use Rattle.thin_vec.specs.Put.{IsFilledBy};
 
 use crate::list::ThinVec;
@@ -21,18 +21,18 @@ impl<T, A: Allocator> OpenBlock<T, A> {
     pub(crate) fn fill<I: Iterator<Item = T>>(&mut self, iter: I) -> Filled<I>
         requires can_next { I.can_next iter }
         requires finite { IsFinite (I.remaining iter) }
-        ensures filled { (by : IsFilledBy I.next_gives I.can_next I.remaining self.old.gap iter
+        ensures filled_by { (by : IsFilledBy I.next_gives I.can_next I.remaining self.old.gap iter
             result)
             × (self.new ≡ record self.old {
               front = self.old.front ++ by.items;
               gap = self.old.gap - length by.items;
-              cost = moving (length by.items) self.old.cost;
+              cost = add_moves (length by.items) self.old.cost;
             }) × (result.end ≡ length self.new.front) }
     {
         let block = mem::replace(&mut self.block, Block::none());
         let (block, filled) = put_iter(block, self.front_end, self.rest_start, iter);
         let none = mem::replace(&mut self.block, block);
-        none.forget_none();
+        none.forget_unallocated();
         self.front_end = filled.end;
         filled
     }
@@ -44,7 +44,7 @@ impl<T, A: Allocator> OpenBlock<T, A> {
         ensures { self.new ≡ record self.old {
           front = self.old.front ++ items.items;
           gap = self.old.gap - length items.items;
-          cost = moving (length items.items) self.old.cost;
+          cost = add_moves (length items.items) self.old.cost;
         } }
     {
         let count = items.len();
@@ -59,7 +59,7 @@ impl<T, A: Allocator> OpenBlock<T, A> {
         ensures changes { self.new ≡ record self.old {
           front = self.old.front ++ other.old.items;
           gap = self.old.gap - length other.old.items;
-          cost = moving (length other.old.items) self.old.cost;
+          cost = add_moves (length other.old.items) self.old.cost;
         } }
         ensures other_changes { other.new ≡ record other.old { items = [] } }
     {
@@ -80,7 +80,7 @@ impl<T, A: Allocator> OpenBlock<T, A> {
           front = self.old.front ++ drop (length self.old.tail - count) self.old.tail;
           gap = self.old.gap - count;
           tail = take (length self.old.tail - count) self.old.tail;
-          cost = moving count self.old.cost;
+          cost = add_moves count self.old.cost;
         } }
     {
         self.block.move_run(self.len - count, self.front_end, count);
@@ -96,7 +96,7 @@ impl<T: Copy, A: Allocator> OpenBlock<T, A> {
         ensures { self.new ≡ record self.old {
           front = self.old.front ++ items.now;
           gap = self.old.gap - length items.now;
-          cost = moving (length items.now) self.old.cost;
+          cost = add_moves (length items.now) self.old.cost;
         } }
     {
         self.block.copy_in(self.front_end, items);
@@ -115,9 +115,9 @@ impl<T: Clone, A: Allocator> OpenBlock<T, A> {
         ensures changes { self.new ≡ record self.old {
           front = self.new.front;
           gap = self.old.gap - result;
-          cost = moving result self.old.cost;
+          cost = add_moves result self.old.cost;
         } }
-        ensures refused { result < length items.now
+        ensures stopped_at { result < length items.now
             → HoldsAt (λ x. ¬ (T.is_infallible x)) items.now result }
     {
         let placed = put_clones(&mut self.block, self.front_end, items);

@@ -1,6 +1,6 @@
 -- This file proves the contract of `align_of_block`, which returns the alignment of a block.
 use Rattle.std.proofs.Common.{◌≡◌, refl, arith, List, [], ◌∷◌, ℕ, ◌^◌, ◌<◌, lit<, w64}
-use Rattle.thin_block.proofs.Walks.{Ura, Fn, Args, a_type, inst_fn, Val, vint, SProp, ent, via, fst∗, Lft, Share, ftrue, flft, Memory, align, capped, capped_is, Routine, WpFn, Tables, Env, Logic, Fun, tables, WpFn-mono, ‵, ◌⊛◌, ◌$◌, ◌∵◌, !, qed, move, keep, join, fjoin, feq_i, flt_i, suffices, done, at_ret, of_opd, lit, bin, first, branches, exec, returns, enter, alloc_all, pass_all, free_all, look_at, get, sets, sets_last, env, RattleType, layout, layouts, nothing, Clauses, triple_of, entered, walk_of, ends_at, walked, walk_Meets, ltb→lt, nltb→le, after}
+use Rattle.thin_block.proofs.WalkPrelude.{Ura, Fn, Args, a_type, inst_fn, Val, vint, SProp, ent, via, fst∗, Lft, Share, ftrue, flft, Memory, align, capped, capped_is, Routine, WpFn, Tables, Env, Logic, Fun, tables, WpFn-mono, ‵, ◌⊛◌, ◌$◌, ◌∵◌, !, qed, move, keep, join, fjoin, feq_i, flt_i, suffices, done, at_ret, of_opd, lit, bin, first, branches, exec, returns, enter, alloc_all, pass_all, free_all, look_at, get, sets, sets_last, env, RattleType, layout, layouts, nothing, Clauses, triple_of, entered, walk_of, ends_at, walked, walk_Meets, ltb→lt, nltb→le, after}
 use prog.Capped.{capped_fits}
 use Rattle.thin_block.specs.Capacity.{block_align}
 use Rattle.thin_block.proofs.sizes.SizesLemmas.{rounded}

@@ -29,7 +29,7 @@ use denote.Param.Nested.{deepest}
 use Rattle.core.specs.declared.alloc.Allocator.{Ghosts}
 use Rattle.std_alloc.specs.Vec.Recursive.{lies_placed, lent_at_placed, codes_placed}
 use Rattle.std.specs.Option.{is_some}
-use Rattle.thin_block.specs.Ownership.{any, any_same, block_lent, block_owns, frame, frame_lent, place, place_lent, places, places_lent}
+use Rattle.thin_block.specs.Ownership.{is_nonempty, is_nonempty_same, block_shares, block_owns, header_owns, header_shares, slot_owns, slot_shares, slots_own, slots_share}
 use Rattle.thin_block.specs.Cost.{no_cost}
 use Rattle.thin_block.specs.Slots.{items_in}
 use Rattle.std.specs.Mem.{type_size}
@@ -96,9 +96,9 @@ module _ (g : Former {0}) where
   slot_get-map X Y h (Some a) n v =
       λ i. (Some (g.get-map X Y h a n v i).0, (g.get-map X Y h a n v i).1)
 
-  -- `slot` is the type former of slots.
-  abbrev pub slot : Former {0}
-  slot = record {
+  -- `slot_former` is the type former of slots.
+  abbrev pub slot_former : Former {0}
+  slot_former = record {
     Of = λ X. Option (g.Of X);
     Shape = Option g.Shape;
     count = slot_count;
@@ -127,21 +127,22 @@ module _ {g : Former {0}} (w : Weighed g) where
   slot_puts X μ None n t = none_max (deepest μ n t)
   slot_puts X μ (Some y) n t = w.puts X μ y n t
 
-  -- `w_slot` adds depths to the type former of slots. It consists of the function `slot_weight`,
-  -- which computes the depth of a slot, and the lemma `slot_puts` about this function.
-  abbrev pub w_slot : Weighed (slot g)
-  w_slot = record { weight = slot_weight; puts = slot_puts }
+  -- `weighed_slot` adds depths to the type former of slots. It consists of the function
+  -- `slot_weight`, which computes the depth of a slot, and the lemma `slot_puts` about this
+  -- function.
+  abbrev pub weighed_slot : Weighed (slot_former g)
+  weighed_slot = record { weight = slot_weight; puts = slot_puts }
 
 module _ {X Y Z : Type 0} (d : Block X Z) where
-  -- `Fits ys` holds if `ys` is a possible list of slots for the block `d`, which is a parameter of
-  -- this module. This means that the length of `ys` is at least the stored length of `d`, and that
-  -- `ys` is empty exactly when `d` has no allocation.
-  abbrev pub Fits : List (Option Y) → Type 0
-  Fits ys = (d.len ≤ length ys) × (is_some d.alloc ≡ any ys) × (length ys < 2 ^ 63)
+  -- `CanHold ys` holds if `ys` is a possible list of slots for the block `d`, which is a parameter
+  -- of this module. This means that the length of `ys` is at least the stored length of `d`, and
+  -- that `ys` is empty exactly when `d` has no allocation.
+  abbrev pub CanHold : List (Option Y) → Type 0
+  CanHold ys = (d.len ≤ length ys) × (is_some d.alloc ≡ is_nonempty ys) × (length ys < 2 ^ 63)
 
   -- `holding ys p` is the block `d` of this module with the slots `ys` instead of its own slots.
   -- `p` is a proof that `d` may have these slots.
-  abbrev pub holding : (ys : List (Option Y)) → Fits ys → Block Y Z
+  abbrev pub holding : (ys : List (Option Y)) → CanHold ys → Block Y Z
   holding ys sound = record {
     at = d.at;
     item = record {};
@@ -153,86 +154,90 @@ module _ {X Y Z : Type 0} (d : Block X Z) where
     sound = sound;
   }
 
-  -- If the length of `ys` is the number of slots of the block `d`, then `Fits ys` holds: the slots
-  -- of `d` may be replaced with `ys`.
-  pub fits : (ys : List (Option Y)) → length ys ≡ length d.slots → Fits ys
-  fits ys e = (
+  -- If the length of `ys` is the number of slots of the block `d`, then `CanHold ys` holds: the
+  -- slots of `d` may be replaced with `ys`.
+  pub can_hold_as_many : (ys : List (Option Y)) → length ys ≡ length d.slots → CanHold ys
+  can_hold_as_many ys e = (
     let le = d.sound.0 in omega (arith, e, le),
-    d.sound.1 ∙ sym (any_same d.slots ys e),
+    d.sound.1 ∙ sym (is_nonempty_same d.slots ys e),
     let small = d.sound.2 in omega (arith, e, small),
   )
 
-  -- `Fits ys` states that the block `d` of this module may have the slots `ys`. If the lists `ys`
-  -- and `zs` are equal, then each proof `p` of `Fits ys` equals each proof `q` of `Fits zs`.
-  pub Fits-along : (ys zs : List (Option Y)) (e : ys ≡ zs) (p : Fits ys) (q : Fits zs)
-      → PathP (λ i. Fits (e i)) p q
-  Fits-along ys zs e = is_prop→PathP (λ i. Fits (e i))
+  -- `CanHold ys` states that the block `d` of this module may have the slots `ys`. If the lists
+  -- `ys` and `zs` are equal, then each proof `p` of `CanHold ys` equals each proof `q` of
+  -- `CanHold zs`.
+  pub CanHold-along : (ys zs : List (Option Y)) (e : ys ≡ zs) (p : CanHold ys) (q : CanHold zs)
+      → PathP (λ i. CanHold (e i)) p q
+  CanHold-along ys zs e = is_prop→PathP (λ i. CanHold (e i))
       (λ i p q j. (le_prop p.0 q.0 j, Coded-set coded_bool _ _ p.1 q.1 j, le_prop p.2 q.2 j))
 
   -- If the lists of slots `ys` and `zs` are equal, then the block `d` with the slots `ys` equals
   -- the block `d` with the slots `zs`. `p` and `q` are proofs that `d` may have these slots.
-  abbrev pub holding_along : (ys zs : List (Option Y)) (e : ys ≡ zs) (p : Fits ys) (q : Fits zs)
+  abbrev pub holding_along : (ys zs : List (Option Y)) (e : ys ≡ zs) (p : CanHold ys)
+      (q : CanHold zs)
       → holding ys p ≡ holding zs q
-  holding_along ys zs e p q = λ i. holding (e i) (Fits-along ys zs e p q i)
+  holding_along ys zs e p q = λ i. holding (e i) (CanHold-along ys zs e p q i)
 
 -- `mapped h d` is the block `d` after the function `h` has been applied to each of its items.
 abbrev pub mapped : {X Y Z : Type 0} → (X → Y) → Block X Z → Block Y Z
 mapped h d = holding d (map (on_slot h) d.slots)
-    (fits d (map (on_slot h) d.slots) (length-map d.slots (on_slot h)))
+    (can_hold_as_many d (map (on_slot h) d.slots) (length-map d.slots (on_slot h)))
 
 module _ (g : Former {0}) (Z : Type 0) where
   -- If `list_get` splits the row `v` into a list of slots with the shapes `a` and a row of `n`
   -- values, then there are as many slots as shapes.
   pub length_got : (X : Type 0) (a : List (Option g.Shape)) (n : Count)
-      (v : Row X (list_count (slot g) a n)) → length (list_get (slot g) X a n v).0 ≡ length a
+      (v : Row X (list_count (slot_former g) a n))
+      → length (list_get (slot_former g) X a n v).0 ≡ length a
   length_got X [] n v = refl
   length_got X (a ∷ as') n v =
-      ap suc (length_got X as' n ((slot g).get X a (list_count (slot g) as' n) v).1)
+      ap suc (length_got X as' n ((slot_former g).get X a (list_count (slot_former g) as' n) v).1)
 
   -- `got X a n v` splits the row `v` of values of the type `X` into a block of the shape `a` and a
   -- row of the last `n` values. A shape is a block without its values.
   abbrev pub got : (X : Type 0) (a : Block g.Shape Z) (n : Count)
-      → Row X (list_count (slot g) a.slots n) → Block (g.Of X) Z × Row X n
-  got X a n v = let r : List (Option (g.Of X)) × Row X n = list_get (slot g) X a.slots n v in
-      (holding a r.0 (fits a r.0 (length_got X a.slots n v)), r.1)
+      → Row X (list_count (slot_former g) a.slots n) → Block (g.Of X) Z × Row X n
+  got X a n v = let r : List (Option (g.Of X)) × Row X n = list_get (slot_former g) X a.slots n v in
+      (holding a r.0 (can_hold_as_many a r.0 (length_got X a.slots n v)), r.1)
 
   -- Suppose that the values in the block `d` are prepended to the row `t`. Then splitting the
   -- resulting row with `got` returns `d` and `t` again.
   pub got-put : (X : Type 0) (d : Block (g.Of X) Z) (n : Count) (t : Row X n)
-      → got X (mapped (g.shape X) d) n ((list (slot g)).put X d.slots n t) ≡ (d, t)
+      → got X (mapped (g.shape X) d) n ((list (slot_former g)).put X d.slots n t) ≡ (d, t)
   got-put X d n t = λ i. (
-    holding_along d _ _ (λ j. ((list (slot g)).get-put X d.slots n t j).0)
-        (got X (mapped (g.shape X) d) n ((list (slot g)).put X d.slots n t)).0.sound d.sound i,
-    ((list (slot g)).get-put X d.slots n t i).1,
+    holding_along d _ _ (λ j. ((list (slot_former g)).get-put X d.slots n t j).0)
+        (got X (mapped (g.shape X) d) n ((list (slot_former g)).put X d.slots n t)).0.sound
+        d.sound i,
+    ((list (slot_former g)).get-put X d.slots n t i).1,
   )
 
   -- Suppose that `got` splits the row `v` of values into a block and a shorter row. Then prepending
   -- the values in the block to the shorter row restores `v`.
   pub put-got : (X : Type 0) (a : Block g.Shape Z) (n : Count)
-      (v : Row X (list_count (slot g) a.slots n))
-      → ◌≡◌ {A = (b : Block g.Shape Z) × Row X (list_count (slot g) b.slots n)} (
+      (v : Row X (list_count (slot_former g) a.slots n))
+      → ◌≡◌ {A = (b : Block g.Shape Z) × Row X (list_count (slot_former g) b.slots n)} (
         mapped (g.shape X) (got X a n v).0,
-        (list (slot g)).put X (got X a n v).0.slots n
+        (list (slot_former g)).put X (got X a n v).0.slots n
             (got X a n v).1,
       ) (a, v)
   put-got X a n v = λ i. (
-    holding_along a _ _ (λ j. ((list (slot g)).put-get X a.slots n v j).0)
+    holding_along a _ _ (λ j. ((list (slot_former g)).put-get X a.slots n v j).0)
         (mapped (g.shape X) (got X a n v).0).sound a.sound i,
-    ((list (slot g)).put-get X a.slots n v i).1,
+    ((list (slot_former g)).put-get X a.slots n v i).1,
   )
 
   -- Splitting a row of values with `got` and then applying the function `h` to all values has the
   -- same result as applying `h` first and then splitting the row.
   pub got-map : (X Y : Type 0) (h : X → Y) (a : Block g.Shape Z) (n : Count)
-      (v : Row X (list_count (slot g) a.slots n))
-      → got Y a n (over h (list_count (slot g) a.slots n) v)
+      (v : Row X (list_count (slot_former g) a.slots n))
+      → got Y a n (over h (list_count (slot_former g) a.slots n) v)
       ≡ (mapped (g.map X Y h) (got X a n v).0, over h n (got X a n v).1)
   got-map X Y h a n v =
       λ i. (
-        holding_along a _ _ (λ j. ((list (slot g)).get-map X Y h a.slots n v j).0)
-            (got Y a n (over h (list_count (slot g) a.slots n) v)).0.sound
+        holding_along a _ _ (λ j. ((list (slot_former g)).get-map X Y h a.slots n v j).0)
+            (got Y a n (over h (list_count (slot_former g) a.slots n) v)).0.sound
             (mapped (g.map X Y h) (got X a n v).0).sound i,
-        ((list (slot g)).get-map X Y h a.slots n v i).1,
+        ((list (slot_former g)).get-map X Y h a.slots n v i).1,
       )
 
   -- `the_former` is the type former of blocks.
@@ -240,9 +245,9 @@ module _ (g : Former {0}) (Z : Type 0) where
   the_former = record {
     Of = λ X. Block (g.Of X) Z;
     Shape = Block g.Shape Z;
-    count = λ a. list_count (slot g) a.slots;
+    count = λ a. list_count (slot_former g) a.slots;
     shape = λ X. mapped (g.shape X);
-    put = λ X d. (list (slot g)).put X d.slots;
+    put = λ X d. (list (slot_former g)).put X d.slots;
     get = got;
     map = λ X Y h. mapped (g.map X Y h);
     get-put = got-put;
@@ -255,7 +260,7 @@ module _ (g : Former {0}) (Z : Type 0) where
 abbrev pub the_weighed : {g : Former {0}} → Weighed g → (Z : Type 0) → Weighed (the_former g Z)
 the_weighed w Z = record {
   weight = λ X μ d. most (slot_weight w X μ) d.slots;
-  puts = λ X μ d. List-puts (w_slot w) X μ d.slots;
+  puts = λ X μ d. List-puts (weighed_slot w) X μ d.slots;
 }
 
 -- `the_empty Z z` is a block without slots and without an allocation. Its allocator has the type
@@ -275,7 +280,7 @@ the_empty Z z = record {
 -- Under the type former `this`, each item counts as one value. So the values in the slots `xs` are
 -- the items in these slots, in order.
 pub items_listed : (X : Type 0) (xs : List (Option X))
-    → listed _ (children (list (slot this)) X xs) ≡ items_in xs
+    → listed _ (children (list (slot_former this)) X xs) ≡ items_in xs
 items_listed X [] = refl
 items_listed X (None ∷ xs) = items_listed X xs
 items_listed X (Some x ∷ xs) = ap (λ l. x ∷ l) (items_listed X xs)
@@ -314,18 +319,18 @@ module _ (R R' : RattleType) (h : R.Denot → R'.Denot) (a : Alike R R' h) where
 
   -- If each item `y` has the same layout and owns the same memory as `h y`, then applying `h` to
   -- the slot `x` does not change the memory that the slot owns.
-  place_placed : (x : Option R.Denot) (b o : ℕ) → place R' (on_slot h x) b o ≡ place R x b o
+  place_placed : (x : Option R.Denot) (b o : ℕ) → slot_owns R' (on_slot h x) b o ≡ slot_owns R x b o
   place_placed None b o = λ i. room_for (raw (lone (a.mir_same i))) (block_ptr b o)
   place_placed (Some x) b o = lies_placed R R' h a full_share (block_ptr b o) x
 
   -- If each item `y` has the same layout and owns the same memory as `h y`, then applying `h` to
   -- the slots `xs` does not change the memory that they own.
   places_placed : (xs : List (Option R.Denot)) (b o : ℕ)
-      → places R' (map (on_slot h) xs) b o ≡ places R xs b o
+      → slots_own R' (map (on_slot h) xs) b o ≡ slots_own R xs b o
   places_placed [] b o = refl
   places_placed (x ∷ xs) b o =
-      (λ i. fsep (place_placed x b o i) (places R' (map (on_slot h) xs) b (o + width i)))
-      ∙ ap (fsep (place R x b o)) (places_placed xs b (o + type_size R))
+      (λ i. fsep (place_placed x b o i) (slots_own R' (map (on_slot h) xs) b (o + width i)))
+      ∙ ap (fsep (slot_owns R x b o)) (places_placed xs b (o + type_size R))
 
   -- If each item `y` has the same layout and owns the same memory as `h y`, then applying `h` to
   -- all items of a block does not change the memory that the block owns.
@@ -335,37 +340,39 @@ module _ (R R' : RattleType) (h : R.Denot → R'.Denot) (a : Alike R R' h) where
   block_placed t null_ptr n xs w = refl
   block_placed t (block_ptr b o) n xs None = refl
   block_placed t (block_ptr b o) n xs (Some w) =
-      λ i. fsep (frame (t w) (record R { mir = a.mir_same i }) n (length-map xs (on_slot h) i) b o)
+      λ i. fsep (header_owns (t w) (record R { mir = a.mir_same i }) n
+      (length-map xs (on_slot h) i) b o)
       (places_placed xs b (o + 16) i)
 
   -- Suppose that for every item `y`, shared references to `y` and to `h y` lend the same memory.
   -- Then applying `h` to the item in the slot `x` does not change what a shared reference to the
   -- slot lends.
   place_lent_placed : (x : Option R.Denot) (p : Ptr)
-      → place_lent R' (on_slot h x) p ≡ place_lent R x p
+      → slot_shares R' (on_slot h x) p ≡ slot_shares R x p
   place_lent_placed None p = refl
   place_lent_placed (Some x) p = lent_at_placed R R' h a p x
 
   -- Suppose that for every item `y`, shared references to `y` and to `h y` lend the same memory.
   -- Then applying `h` to the items in the slots `xs` does not change what shared references to
   -- these slots lend.
-  places_lent_placed : (xs : List (Option R.Denot)) (b o : ℕ) → places_lent R' (map (on_slot h) xs)
-      b o ≡ places_lent R xs b o
+  places_lent_placed : (xs : List (Option R.Denot)) (b o : ℕ) → slots_share R' (map (on_slot h) xs)
+      b o ≡ slots_share R xs b o
   places_lent_placed [] b o = refl
   places_lent_placed (x ∷ xs) b o =
       (λ i. beside (place_lent_placed x (block_ptr b o) i)
-      (places_lent R' (map (on_slot h) xs) b (o + width i)))
-      ∙ ap (beside (place_lent R x (block_ptr b o))) (places_lent_placed xs b (o + type_size R))
+      (slots_share R' (map (on_slot h) xs) b (o + width i)))
+      ∙ ap (beside (slot_shares R x (block_ptr b o))) (places_lent_placed xs b (o + type_size R))
 
   -- Suppose that for every item `y`, shared references to `y` and to `h y` lend the same memory.
   -- Then applying `h` to the items of a block does not change what a shared reference to the block
   -- lends.
   pub block_lent_placed : {D : Type 0} (p : Ptr) (n : ℕ) (xs : List (Option R.Denot)) (w : Option D)
-      → block_lent R' p n (map (on_slot h) xs) w ≡ block_lent R p n xs w
+      → block_shares R' p n (map (on_slot h) xs) w ≡ block_shares R p n xs w
   block_lent_placed null_ptr n xs w = refl
   block_lent_placed (block_ptr b o) n xs None = refl
   block_lent_placed (block_ptr b o) n xs (Some w) =
-      λ i. beside (frame_lent (record R { mir = a.mir_same i }) n (length-map xs (on_slot h) i) b o)
+      λ i. beside (header_shares (record R { mir = a.mir_same i }) n
+      (length-map xs (on_slot h) i) b o)
       (places_lent_placed xs b (o + 16) i)
 
 module _ (A : RattleType) (G : Ghosts A.Denot) (R R' : RattleType) (h : R.Denot → R'.Denot) where

@@ -2,7 +2,7 @@
 -- a fold over the commands.
 use Rattle.std.proofs.Common.{◌≡◌, Result, Ok, Err, List, [], All, OnOk, subst, ◌∙◌, ap, ◌++◌, fold}
 use Rattle.thin_vec.specs.List.Clones.{ClonesEqual}
-use Rattle.thin_vec.specs.ThinVec.{Thin}
+use Rattle.thin_vec.specs.ThinVec.{ListView}
 use Rattle.thin_runner.specs.Headline.{Headline}
 use Rattle.thin_runner.specs.Plain.{items_after}
 use Rattle.thin_runner.specs.Replies.{IsGranted}
@@ -14,7 +14,7 @@ use Rattle.thin_examples.proofs.commands.carry_out.Goals as goal
 -- Suppose that the commands turn the list `old` into the list `new`, and that every clone equals
 -- its original. If `result` is `Ok`, and no reply in the list `seen` reports a failed call, then
 -- the items of `new` are `fold (items_after here) old.items commands`.
-carried : {T A G J E : Type 0} (here : Env T A J) (old new : Thin T A)
+carried : {T A G J E : Type 0} (here : Env T A J) (old new : ListView T A)
     (commands : List (Command T A G)) (before after seen : List (Reply T A G))
     (result : Result (Unit {0}) E) → ClonesEqual here.clones → before ≡ [] → seen ≡ after
     → Headline here old commands before after new → OnOk result (All IsGranted seen)

@@ -51,7 +51,7 @@ returns-clause-ok g c =
     (omega (arith, c.in-None.ensures.steps, c.loop-command.command-iterator.rest.ok)) in
     headline (env g.T.Clone.is_clone g.T.Clone.is_infallible g.T.PartialEq.eq
     g.J.Judge.model g.G.Growth.rule (param 0 g.row.T) c.args.alloc c.args.judge.now)
-    g.met.G.Growth.law c.capacity-capacity.ensures.within c.capacity-end.ensures.within none
+    g.met.G.Growth.law c.capacity-capacity.ensures.bounds c.capacity-end.ensures.bounds none
     c.loop-command.invariant.ran
 
 pub returns-clause-succeeds : goal.returns-clause-succeeds

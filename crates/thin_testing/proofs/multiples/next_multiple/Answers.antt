@@ -8,30 +8,31 @@ use Rattle.std.specs.Align.{type_align}
 use denote.Param.{param}
 use denote.RattleType.{RattleType}
 use Rattle.thin_block.specs.Capacity.{Fits}
-use Rattle.thin_block.specs.Growth.{fitting}
+use Rattle.thin_block.specs.Growth.{checked_capacity}
 use Rattle.thin_block.proofs.CapacityLemmas.{fits-small, fitting_none}
 use Rattle.thin_testing.specs.Multiples.{multiple}
 use Rattle.thin_testing.proofs.multiples.next_multiple.Goals as goal
 
 module _ (R : RattleType) where
-  fitting_some : (n : ℕ) → Fits R n → fitting (type_size R) (type_align R) n ≡ Some n
-  unfolding fitting
+  fitting_some : (n : ℕ) → Fits R n → checked_capacity (type_size R) (type_align R) n ≡ Some n
+  unfolding checked_capacity
   fitting_some n fit = rw fit refl
 
-  past : (n m : ℕ) → 2 ^ 63 ≤ n → 2 ^ 63 ≤ m → fitting (type_size R) (type_align R) n
-      ≡ fitting (type_size R) (type_align R) m
+  past : (n m : ℕ) → 2 ^ 63 ≤ n → 2 ^ 63 ≤ m → checked_capacity (type_size R) (type_align R) n
+      ≡ checked_capacity (type_size R) (type_align R) m
   past n m large larger =
       fitting_none R n (λ fit. absurd (omega (arith, large, fits-small R n fit)))
       ∙ sym (fitting_none R m (λ fit. absurd (omega (arith, larger, fits-small R m fit))))
 
   module _ (times c w next : ℕ) (is : next ≡ max w (min (c * times) (2 ^ 64 - 1))) where
-    same : fitting (type_size R) (type_align R) next
+    same : checked_capacity (type_size R) (type_align R) next
         ≡ multiple times (type_size R) (type_align R) c w
     unfolding multiple
     same =
         let turned : c * times ≡ times * c = mul_comm c times in
         elim (cases_lt (times * c) (2 ^ 64)) [
-          | inl few ↦ ap (fitting (type_size R) (type_align R)) (omega (arith, is, turned, few))
+          | inl few ↦ ap (checked_capacity (type_size R) (type_align R))
+              (omega (arith, is, turned, few))
           | inr many ↦ past next (max w (times * c)) (omega (arith, is, turned, many))
               (omega (arith, many))
         ]

@@ -3,7 +3,7 @@
 use Rattle.thin_block.proofs.BlockLemmas.{slots-are}
 use Rattle.std.proofs.Common.{◌≡◌, ◌≤◌, ◌-◌, ap, ◌∙◌, length, arith, None}
 use lib.ListN.{set}
-use Rattle.thin_block.specs.Slots.{empty, items_in}
+use Rattle.thin_block.specs.Slots.{empty_slots, items_in}
 use Rattle.thin_vec.proofs.ListLemmas.{empty-alone}
 use Rattle.thin_vec.proofs.list.InsertRemoveLemmas.{emptying, emptying-filled, emptying-take, emptying-all}
 use Rattle.thin_vec.proofs.list.drop_block.Goals as goal
@@ -29,8 +29,8 @@ loop-i-preserved g c =
     (emptying-take (items_in old) 0 c.loop-i.i (length old) (omega arith)
     (omega (arith, c.loop-i-test.true, len)))
 
-pub release-requires-clause-empty : goal.release-requires-clause-empty
-release-requires-clause-empty g c =
+pub release-requires-clause-is_empty : goal.release-requires-clause-is_empty
+release-requires-clause-is_empty g c =
     let old = c.args.block.slots in
     let cap = length old in
     let len = c.len-len.ensures.value ∙ c.requires.packed.len in
@@ -41,4 +41,4 @@ release-requires-clause-empty g c =
     empty-alone _ cap
     (ap (λ v. v.slots) c.loop-i.invariant
     ∙ (ap (λ k. emptying (items_in old) 0 k cap) end
-    ∙ (emptying-all (items_in old) 0 cap (omega arith) room ∙ ap (λ k. empty k) none)))
+    ∙ (emptying-all (items_in old) 0 cap (omega arith) room ∙ ap (λ k. empty_slots k) none)))

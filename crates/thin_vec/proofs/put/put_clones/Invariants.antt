@@ -1,9 +1,9 @@
 -- The loop of `put_clones` puts clones of the items, in order, into the slots from index `start`
 -- onward.
 use Rattle.std.proofs.Common.{◌≡◌}
-use Rattle.thin_block.specs.Block.{seen}
-use Rattle.thin_block.specs.Cost.{moving}
-use Rattle.thin_vec.specs.List.Clones.{LaysClones}
+use Rattle.thin_block.specs.Block.{block_view}
+use Rattle.thin_block.specs.Cost.{add_moves}
+use Rattle.thin_vec.specs.List.Clones.{WritesClones}
 use Rattle.thin_vec.proofs.put.put_clones.Given as goal
 
 -- When the loop variable is `i`, clones of the first `i` items are in the slots from index `start`
@@ -11,7 +11,7 @@ use Rattle.thin_vec.proofs.put.put_clones.Given as goal
 abbrev pub invariant-loop-i : goal.invariant-loop-i
 invariant-loop-i g l =
     record {
-      slots : LaysClones g.T.Clone.is_clone l.items l.i l.start l.fn.block.slots l.block.slots;
-      same : seen l.block ≡ record (seen l.fn.block)
-          { slots = l.block.slots; cost = moving l.i l.fn.block.cost };
+      slots : WritesClones g.T.Clone.is_clone l.items l.i l.start l.fn.block.slots l.block.slots;
+      same : block_view l.block ≡ record (block_view l.fn.block)
+          { slots = l.block.slots; cost = add_moves l.i l.fn.block.cost };
     }

@@ -1,6 +1,6 @@
 -- Each iteration of the loop puts the next item of the iterator into the next slot. The loop ends
 -- when the iterator returns `None` or all slots are full.
-use Rattle.thin_block.specs.Block.{seen}
+use Rattle.thin_block.specs.Block.{block_view}
 use Rattle.std.proofs.Common.{◌∷◌, ◌++◌, [], ◌∙◌, arith, ap, sym, ◌+◌, ◌-◌}
 use Rattle.std.proofs.lemmas.Bool.{false≢true}
 use Rattle.std.proofs.lemmas.List.{length_push}
@@ -28,7 +28,7 @@ loop-i-preserved g c =
             held.placed.3 c.in-Some.ensures.steps,
       );
       within = omega (arith, c.loop-i-test.true);
-      same = put-more (seen c.args.block) _ (c.loop-i.i + 1 - c.args.start)
+      same = put-more (block_view c.args.block) _ (c.loop-i.i + 1 - c.args.start)
           (omega (arith, held.placed.2)) c.put.ensures.changes held.same;
       nearer = omega (arith, held.nearer, goes.2);
     }
@@ -39,8 +39,8 @@ loop-i-init g c = grind (arith, common_steps)
 pub put-requires-clause-in_bounds : goal.put-requires-clause-in_bounds
 put-requires-clause-in_bounds g c = grind (arith, common_steps)
 
-pub returns-in_default-clause-filled : goal.returns-in_default-clause-filled
-returns-in_default-clause-filled g c =
+pub returns-in_default-clause-filled_by : goal.returns-in_default-clause-filled_by
+returns-in_default-clause-filled_by g c =
     let held = c.loop-i.invariant in (
       record {
         items = held.placed.0;
@@ -54,8 +54,8 @@ returns-in_default-clause-filled g c =
       held.placed.2,
     )
 
-pub returns-clause-filled : goal.returns-clause-filled
-returns-clause-filled g c =
+pub returns-clause-filled_by : goal.returns-clause-filled_by
+returns-clause-filled_by g c =
     let held = c.loop-i.invariant in (
       record {
         items = held.placed.0;

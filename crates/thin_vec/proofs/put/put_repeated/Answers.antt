@@ -1,5 +1,5 @@
 -- Each iteration of the loop puts one more clone of `value` into the next slot.
-use Rattle.thin_block.specs.Block.{seen}
+use Rattle.thin_block.specs.Block.{block_view}
 use Rattle.thin_vec.proofs.list.ExtendLemmas.{put-more}
 use Rattle.std.proofs.Common.{ap, arith, sym, ◌∙◌, refl, ◌+◌}
 use Rattle.std.proofs.lemmas.List.{get_or-replicate, length-replicate}
@@ -19,7 +19,7 @@ loop-i-preserved g c =
           (omega (arith, c.requires.in_bounds, many))
           (sym (get_or-replicate c.args.count n x x (omega arith)))
           c.in-Ok.ensures.cases (ap (λ v. v.slots) c.put.ensures.changes);
-      same = put-more (seen c.args.block.now) n (n + 1) refl c.put.ensures.changes was.same;
+      same = put-more (block_view c.args.block.now) n (n + 1) refl c.put.ensures.changes was.same;
     }
 
 pub returns-clause-slots : goal.returns-clause-slots

@@ -1,9 +1,9 @@
 -- The loop of `put_repeated` puts `count` clones of `value` into the slots from index `start`
 -- onward.
 use Rattle.std.proofs.Common.{◌≡◌, replicate}
-use Rattle.thin_block.specs.Block.{seen}
-use Rattle.thin_block.specs.Cost.{moving}
-use Rattle.thin_vec.specs.List.Clones.{LaysClones}
+use Rattle.thin_block.specs.Block.{block_view}
+use Rattle.thin_block.specs.Cost.{add_moves}
+use Rattle.thin_vec.specs.List.Clones.{WritesClones}
 use Rattle.thin_vec.proofs.put.put_repeated.Given as goal
 
 -- When the loop variable is `i`, the first `i` slots from index `start` onward hold clones of
@@ -11,8 +11,8 @@ use Rattle.thin_vec.proofs.put.put_repeated.Given as goal
 abbrev pub invariant-loop-i : goal.invariant-loop-i
 invariant-loop-i g l =
     record {
-      slots : LaysClones g.T.Clone.is_clone (replicate l.count l.value)
+      slots : WritesClones g.T.Clone.is_clone (replicate l.count l.value)
           l.i l.start l.fn.block.slots l.block.slots;
-      same : seen l.block ≡ record (seen l.fn.block)
-          { slots = l.block.slots; cost = moving l.i l.fn.block.cost };
+      same : block_view l.block ≡ record (block_view l.fn.block)
+          { slots = l.block.slots; cost = add_moves l.i l.fn.block.cost };
     }

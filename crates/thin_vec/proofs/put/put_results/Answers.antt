@@ -1,11 +1,11 @@
 -- Each iteration of the loop calls `make` and puts the result into the next slot, which is empty.
-use Rattle.thin_block.specs.Block.{seen}
+use Rattle.thin_block.specs.Block.{block_view}
 use Rattle.std.proofs.Common.{◌≡◌, [], ◌∷◌, ◌+◌, ◌++◌, ap, arith, drop, of_calls, refl, sym, take, ◌∙◌}
 use Rattle.std.proofs.SliceLists.{chained_more}
 use Rattle.std.proofs.iter.Next.{called}
 use Rattle.std.proofs.lemmas.List.{length_push, take-append-drop}
 use Rattle.std.specs.Fn.{Called}
-use Rattle.thin_block.specs.Slots.{full, slot}
+use Rattle.thin_block.specs.Slots.{filled_slots, slot}
 use Rattle.thin_block.proofs.SlotsLemmas.{slot-laid}
 use Rattle.thin_vec.proofs.list.ExtendLemmas.{laid-more, put-more, put-none}
 use Rattle.thin_vec.proofs.ListLemmas.{length-full}
@@ -23,7 +23,7 @@ loop-i-init g c =
         refl,
         refl,
       );
-      same = put-none (seen c.args.block.now) 0 refl;
+      same = put-none (block_view c.args.block.now) 0 refl;
       callable = search of_calls;
     }
 
@@ -33,7 +33,7 @@ put-requires-clause-empty g c =
     let s = c.args.block.now.slots in
     let k = c.args.start + c.loop-i.i in
     ap (λ r. slot r k) placed.1
-    ∙ (slot-laid c.args.start (full placed.0) s k (omega (arith, c.requires.in_bounds))
+    ∙ (slot-laid c.args.start (filled_slots placed.0) s k (omega (arith, c.requires.in_bounds))
     (omega (arith, placed.2, length-full placed.0))
     ∙ c.requires.empty k (omega arith) (omega arith))
 
@@ -54,7 +54,7 @@ loop-i-preserved g c =
         chained_more (λ f y f'. Called g.F.FnMut f tt y f') c.args.make xs c.loop-i.make x _
             was.placed.3 (called g.F.FnMut c.make.ensures refl),
       );
-      same = put-more (seen old) i (i + 1) refl c.put.ensures.changes was.same;
+      same = put-more (block_view old) i (i + 1) refl c.put.ensures.changes was.same;
       callable = search of_calls;
     }
 

@@ -2,10 +2,10 @@
 -- items that earlier iterations put into slots. When the vector is empty, all items are in slots,
 -- in order.
 use Rattle.std.proofs.lemmas.Grind.{common_steps}
-use Rattle.thin_block.specs.Cost.{moving}
-use Rattle.thin_block.specs.Slots.{full, laid}
+use Rattle.thin_block.specs.Cost.{add_moves}
+use Rattle.thin_block.specs.Slots.{filled_slots, write_slots}
 use Rattle.thin_vec.proofs.list.ExtendLemmas.{put-more, put-none}
-use Rattle.thin_block.specs.Block.{seen}
+use Rattle.thin_block.specs.Block.{block_view}
 use Rattle.std.proofs.Common.{◌+◌, ◌∙◌, ap, arith, length, length-append, subst, sym, ◌≡◌, ◌-◌}
 use Rattle.std.proofs.lemmas.List.{length_push}
 use Rattle.thin_vec.proofs.PutLemmas.{IsMoving, moving-first, moving-next}
@@ -14,7 +14,7 @@ use Rattle.thin_vec.proofs.put.put_vec.Goals as goal
 pub loop-item-init : goal.loop-item-init
 loop-item-init g c = record {
   slots = moving-first c.args.items.items c.args.start c.args.block.now.slots;
-  same = put-none (seen c.args.block.now) _ (omega arith);
+  same = put-none (block_view c.args.block.now) _ (omega arith);
 }
 
 pub loop-item-preserved : goal.loop-item-preserved
@@ -31,7 +31,7 @@ loop-item-preserved g c =
           (ap (λ v. v.slots) (sym c.put.ensures.changes))
           (moving-next left (start + c.len.result) c.in-Some.item before
           (ap (λ n. start + n) (c.len.ensures ∙ c.pop.new.self.ok.0)) c.requires.in_bounds);
-      same = put-more (seen c.args.block.now) _ (length xs - length left)
+      same = put-more (block_view c.args.block.now) _ (length xs - length left)
           (omega (
             arith,
             ap length c.in-Some.ensures.items,
@@ -46,11 +46,11 @@ pub returns : goal.returns
 returns g c =
     let xs = c.args.items.items in
     let old = c.args.block.now in
-    let slots : c.loop-item.block.slots ≡ laid c.args.start (full xs) old.slots =
+    let slots : c.loop-item.block.slots ≡ write_slots c.args.start (filled_slots xs) old.slots =
     search (arith, ◌∙◌) in
     let all : length xs - length c.loop-item.items.items ≡ length xs =
     grind (arith, common_steps) in
     record {
       changes = c.loop-item.invariant.same
-          ∙ (λ i. record (seen old) { slots = slots i; cost = moving (all i) old.cost });
+          ∙ (λ i. record (block_view old) { slots = slots i; cost = add_moves (all i) old.cost });
     }

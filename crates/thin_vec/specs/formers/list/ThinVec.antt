@@ -23,9 +23,9 @@ use Rattle.thin_block.specs.Slots.{IsPacked, items_in}
 use Rattle.thin_block.specs.declared.block.Block.{Block}
 use Rattle.thin_block.specs.declared.growth.Growth.{Ghosts as GrowthGhosts}
 use Rattle.thin_block.specs.formers.block.Block as block
-use Rattle.thin_block.specs.formers.block.Block.{slot, on_slot}
+use Rattle.thin_block.specs.formers.block.Block.{slot_former, on_slot}
 use Rattle.thin_vec.specs.Shapes.{from_shape, shape, to_shape}
-use Rattle.thin_vec.specs.ThinVec.{IsThin, Thin}
+use Rattle.thin_vec.specs.ThinVec.{IsListBlock, ListView}
 use Rattle.thin_vec.specs.declared.list.ThinVec.TheInside.{Inside}
 use Rattle.thin_vec.specs.declared.list.ThinVec.TheView.{view, invariant}
 use Rattle.thin_vec.specs.contracts.list.ThinVec as C
@@ -35,7 +35,7 @@ use Rattle.thin_vec.specs.contracts.list.ThinVec.TheInside as I
 -- former of the items is `g`, the allocator type is `Z`, and the type of the growth rule is `Q`.
 abbrev pub the_former : Former {0} → Type 0 → Type 0 → Former {0}
 the_former g Z Q =
-    via (pair (list g) (const (ℕ × (Z × Cost)))) (λ X. Thin (g.Of X) Z)
+    via (pair (list g) (const (ℕ × (Z × Cost)))) (λ X. ListView (g.Of X) Z)
     (λ X v. (v.items, (v.capacity, (v.alloc, v.cost))))
     (λ X p. record { items = p.0; capacity = p.1.0; alloc = p.1.1.0; cost = p.1.1.1 })
     (λ X v. refl) (λ X p. refl)
@@ -52,17 +52,17 @@ the_weighed w Z Q =
 
 -- `the_empty Z Q z q` is the empty list of capacity 0 with the allocator `z` of type `Z`. The
 -- growth rule `q` of type `Q` is not used.
-pub the_empty : (Z Q : Type 0) → Z → Q → Thin ⊥ Z
+pub the_empty : (Z Q : Type 0) → Z → Q → ListView ⊥ Z
 the_empty Z Q z q = record { items = []; capacity = 0; alloc = z; cost = no_cost }
 
 -- `the_items Z Q X v` contains the items of the list `v`, in order. The item type is `X`, the
 -- allocator type is `Z`, and the type of the growth rule is `Q`.
-abbrev pub the_items : (Z Q X : Type 0) → Thin X Z → List X
+abbrev pub the_items : (Z Q X : Type 0) → ListView X Z → List X
 the_items Z Q X v = v.items
 
 -- According to the type former of `ThinVec`, the values that the list `v` contains are exactly its
 -- items, in order.
-pub the_items_listed : (Z Q X : Type 0) (v : Thin X Z)
+pub the_items_listed : (Z Q X : Type 0) (v : ListView X Z)
     → listed _ (children (the_former this Z Q) X v) ≡ the_items Z Q X v
 the_items_listed Z Q X v = list-listed X v.items
 
@@ -124,19 +124,19 @@ module _ {X Y : Type 0} (h : X → Y) where
     -- Let `block.mapped h b` be the block `b` after the function `h` has been applied to each of
     -- its items. If `b` is the block of a list with the allocator `a`, then so is
     -- `block.mapped h b`.
-    thin_to : IsThin b a → IsThin (block.mapped h b) a
+    thin_to : IsListBlock b a → IsListBlock (block.mapped h b) a
     thin_to t = record { packed = packed_to b.slots b.len t.packed; from = t.from }
 
     -- Let `block.mapped h b` be the block `b` after the function `h` has been applied to each of
     -- its items. If `block.mapped h b` is the block of a list with the allocator `a`, then so is
     -- `b`.
-    thin_from : IsThin (block.mapped h b) a → IsThin b a
+    thin_from : IsListBlock (block.mapped h b) a → IsListBlock b a
     thin_from t = record { packed = packed_from b.slots b.len t.packed; from = t.from }
 
 -- According to the type formers of lists and rows, the list `items_in s` and the row of slots `s`
 -- contain the same values in the same order.
 items_in-held : (X : Type 0) (s : List (Option X))
-    → held (list this) X (items_in s) ≡ held (list (slot this)) X s
+    → held (list this) X (items_in s) ≡ held (list (slot_former this)) X s
 items_in-held X [] = refl
 items_in-held X (None ∷ s) = items_in-held X s
 items_in-held X (Some x ∷ s) = λ i. (one_more (items_in-held X s i).0, (x, (items_in-held X s i).1))
@@ -147,10 +147,10 @@ first : {a b c : Gv} → a ≡ b → gcons a c ≡ gcons b c
 first {c = c} e = λ i. gcons (e i) c
 
 module _ (Z Q : RattleType) (G : AllocatorGhosts Z.Denot) (K : GrowthGhosts Q.Denot) where
-  -- Any two proofs of `IsThin` for the same block and the same allocator are equal.
-  IsThin-prop : {X : Type 0} (code : Coded X) (b : Block X Z.Denot)
-      (a : Z.Denot) → IsProp (IsThin b a)
-  IsThin-prop code b a p q = λ i. record {
+  -- Any two proofs of `IsListBlock` for the same block and the same allocator are equal.
+  IsListBlock-prop : {X : Type 0} (code : Coded X) (b : Block X Z.Denot)
+      (a : Z.Denot) → IsProp (IsListBlock b a)
+  IsListBlock-prop code b a p q = λ i. record {
     packed = record {
       row = Coded-set (coded_list (coded_option code)) _ _ p.packed.row q.packed.row i;
       len = ℕ_set _ _ p.packed.len q.packed.len i;
@@ -176,7 +176,8 @@ module _ (Z Q : RattleType) (G : AllocatorGhosts Z.Denot) (K : GrowthGhosts Q.De
         (λ X u. items_in-held X u.block.slots)
         R.Denot S.Denot h (C.the_row R Z Q G K).coded (C.the_row S Z Q G K).coded
         (invariant R.Denot Z.Denot Q.Denot G K) (invariant S.Denot Z.Denot Q.Denot G K)
-        (λ u. IsThin-prop R.coded u.block u.alloc) (λ u. IsThin-prop S.coded u.block u.alloc)
+        (λ u. IsListBlock-prop R.coded u.block u.alloc)
+        (λ u. IsListBlock-prop S.coded u.block u.alloc)
         (λ u. thin_to h u.block u.alloc) (λ u. thin_from h u.block u.alloc)
         (over (I.the_row R Z Q G K)) (over (I.the_row S Z Q G K))
         (struct_places (I.the_type R Z Q G K) (I.the_type S Z Q G K)

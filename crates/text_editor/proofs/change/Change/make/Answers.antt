@@ -11,8 +11,8 @@ overflow_add-end c =
     let after = c.in_ok-replace_range_from_copies.ensures in
     omega (
       arith,
-      after.keeps.within.1.room,
-      after.keeps.within.1.small,
+      after.preserved.within.1.room,
+      after.preserved.within.1.small,
       comes_in c.args.self.now c.len.result c.args.text.now.items text c.requires.fits
           c.len.ensures.value (cc (after.items, c.deref-2.ensures.value)),
     )

@@ -1,7 +1,7 @@
 -- This file proves that a shared reference to a block lends what separate references to the
 -- capacity, to the length and to each item would lend.
 use Rattle.std.proofs.Common.{List, [], ◌∷◌, ◌++◌, ℕ, ◌+◌, Bool, true, length, w64, Option, Some, None}
-use Rattle.thin_block.proofs.Walks.{Ura, full_share, sep, wand, apply∗, Lft, Fml, ftrue, ffalse, fsep, feq, fbor, Logic, sem, ‵, raw, ◌⊛◌, later, ◌$◌, !, qed, move, drop, use1, use2, split, updating, await, done, Ty, RattleType, usize, Ptr, block_ptr, null_ptr, lies_at, Laws, nothing, type_size}
+use Rattle.thin_block.proofs.WalkPrelude.{Ura, full_share, sep, wand, apply∗, Lft, Fml, ftrue, ffalse, fsep, feq, fbor, Logic, sem, ‵, raw, ◌⊛◌, later, ◌$◌, !, qed, move, drop, use1, use2, split, updating, await, done, Ty, RattleType, usize, Ptr, block_ptr, null_ptr, lies_at, Laws, nothing, type_size}
 use mathlib.Core.List.{not-mem-nil}
 use base.Before.{chain}
 use base.Fml.{Incl, Incl-trans}
@@ -19,7 +19,7 @@ use denote.Struct.Field.{RawPtr-field}
 use denote.Struct.Laws.{RawPtr-copy, field_copy}
 use denote.Struct.Lending.{lent_at, lent_at_shr_laws, Lends, Lends-false, Lends-lies, Lends-said, Lends-nothing, Lends-first, Lends-both, of_Lends}
 use Rattle.core.specs.declared.alloc.Allocator.{Ghosts}
-use Rattle.thin_block.specs.Ownership.{fits_block, place, places, place_lent, places_lent, frame, frame_lent, backing, block_owns, block_lent}
+use Rattle.thin_block.specs.Ownership.{fits_block, slot_owns, slots_own, slot_shares, slots_share, header_owns, header_shares, dealloc_right, block_owns, block_shares}
 use Rattle.thin_block.proofs.block.Block.TheLaw.Statement.{statement}
 use Rattle.core.specs.contracts.marker.PhantomData as marker
 use Rattle.thin_block.specs.contracts.block.Block as C
@@ -28,17 +28,17 @@ word_laws : (p : Ptr) (n : ℕ) → ShrLaws (lent_at usize p n)
 word_laws p n = lent_at_shr_laws usize (uint_row_laws w64) p n
 
 module _ (R : RattleType) (L : RowLaws R) where
-  place_laws : (x : Option R.Denot) (p : Ptr) → ShrLaws (place_lent R x p)
+  place_laws : (x : Option R.Denot) (p : Ptr) → ShrLaws (slot_shares R x p)
   place_laws (Some x) p = lent_at_shr_laws R L p x
   place_laws None p = nothing_shr_laws
 
-  places_laws : (xs : List (Option R.Denot)) (b o : ℕ) → ShrLaws (places_lent R xs b o)
+  places_laws : (xs : List (Option R.Denot)) (b o : ℕ) → ShrLaws (slots_share R xs b o)
   places_laws [] b o = nothing_shr_laws
-  places_laws (x ∷ xs) b o = beside_shr_laws (place_lent R x (block_ptr b o))
-      (places_lent R xs b (o + type_size R)) (place_laws x (block_ptr b o))
+  places_laws (x ∷ xs) b o = beside_shr_laws (slot_shares R x (block_ptr b o))
+      (slots_share R xs b (o + type_size R)) (place_laws x (block_ptr b o))
       (places_laws xs b (o + type_size R))
 
-  frame_laws : (n c b o : ℕ) → ShrLaws (frame_lent R n c b o)
+  frame_laws : (n c b o : ℕ) → ShrLaws (header_shares R n c b o)
   frame_laws n c b o =
       let small = feq Bool (fits_block R c) true in
       beside_shr_laws (lent_at usize (block_ptr b o) c)
@@ -48,13 +48,13 @@ module _ (R : RattleType) (L : RowLaws R) where
       (word_laws (block_ptr b (o + 8)) n) (said_shr_laws small tt))
 
   block_laws : {D : Type 0} (p : Ptr) (n : ℕ) (xs : List (Option R.Denot)) (a : Option D)
-      → ShrLaws (block_lent R p n xs a)
+      → ShrLaws (block_shares R p n xs a)
   block_laws null_ptr n xs a = said_shr_laws ffalse tt
   block_laws (block_ptr b o) n xs None = beside_shr_laws (lent_at usize (block_ptr b o) 0)
       (lent_at usize (block_ptr b (o + 8)) 0) (word_laws (block_ptr b o) 0)
       (word_laws (block_ptr b (o + 8)) 0)
-  block_laws (block_ptr b o) n xs (Some a) = beside_shr_laws (frame_lent R n (length xs) b o)
-      (places_lent R xs b (o + 16)) (frame_laws n (length xs) b o) (places_laws xs b (o + 16))
+  block_laws (block_ptr b o) n xs (Some a) = beside_shr_laws (header_shares R n (length xs) b o)
+      (slots_share R xs b (o + 16)) (frame_laws n (length xs) b o) (places_laws xs b (o + 16))
 
 module _ {M : Type 1} {𝓤 : Ura M} (𝓛 : Logic 𝓤) where
   open 𝓛 use {H, A}
@@ -83,35 +83,36 @@ module _ {M : Type 1} {𝓤 : Ura M} (𝓛 : Logic 𝓤) where
     Lends-word p n = Lends-lies 𝓛 usize l p n ((uint_Copied 𝓛 w64).shares full_share l n)
 
     Lends-place : (x : Option R.Denot) (b o : ℕ)
-        → Lends 𝓛 (place R x b o) (place_lent R x (block_ptr b o)) l
+        → Lends 𝓛 (slot_owns R x b o) (slot_shares R x (block_ptr b o)) l
     Lends-place (Some x) b o = Lends-lies 𝓛 R l (block_ptr b o) x (s x)
-    Lends-place None b o = Lends-nothing 𝓛 (place R None b o) l
+    Lends-place None b o = Lends-nothing 𝓛 (slot_owns R None b o) l
 
-    Lends-places : (xs : List (Option R.Denot)) (b o : ℕ) → Lends 𝓛 (places R xs b o)
-        (places_lent R xs b o) l
+    Lends-places : (xs : List (Option R.Denot)) (b o : ℕ) → Lends 𝓛 (slots_own R xs b o)
+        (slots_share R xs b o) l
     Lends-places [] b o = Lends-nothing 𝓛 ftrue l
-    Lends-places (x ∷ xs) b o = Lends-both 𝓛 (place R x b o) (places R xs b (o + type_size R))
-        (place_lent R x (block_ptr b o)) (places_lent R xs b (o + type_size R)) l
+    Lends-places (x ∷ xs) b o =
+        Lends-both 𝓛 (slot_owns R x b o) (slots_own R xs b (o + type_size R))
+        (slot_shares R x (block_ptr b o)) (slots_share R xs b (o + type_size R)) l
         (Lends-place x b o) (Lends-places xs b (o + type_size R))
 
-    Lends-frame : (t : Ty → Ptr → Fml) (n c b o : ℕ) → Lends 𝓛 (frame t R n c b o)
-        (frame_lent R n c b o) l
+    Lends-frame : (t : Ty → Ptr → Fml) (n c b o : ℕ) → Lends 𝓛 (header_owns t R n c b o)
+        (header_shares R n c b o) l
     Lends-frame t n c b o =
         let small = feq Bool (fits_block R c) true in
         let first = lies_at usize full_share (block_ptr b o) c in
         let second = lies_at usize full_share (block_ptr b (o + 8)) n in
-        Lends-both 𝓛 first (fsep second (fsep small (backing t R c b o)))
+        Lends-both 𝓛 first (fsep second (fsep small (dealloc_right t R c b o)))
         (lent_at usize (block_ptr b o) c)
         (beside (lent_at usize (block_ptr b (o + 8)) n) (said small)) l
         (Lends-word (block_ptr b o) c)
-        (Lends-both 𝓛 second (fsep small (backing t R c b o))
+        (Lends-both 𝓛 second (fsep small (dealloc_right t R c b o))
         (lent_at usize (block_ptr b (o + 8)) n) (said small) l
         (Lends-word (block_ptr b (o + 8)) n)
-        (Lends-first 𝓛 small (backing t R c b o) (said small) l (Lends-said 𝓛 small tt l)))
+        (Lends-first 𝓛 small (dealloc_right t R c b o) (said small) l (Lends-said 𝓛 small tt l)))
 
     Lends-block : {D : Type 0} (t : D → Ty → Ptr → Fml) (p : Ptr) (n : ℕ)
         (xs : List (Option R.Denot)) (a : Option D) → Lends 𝓛 (block_owns t R p n xs a)
-        (block_lent R p n xs a) l
+        (block_shares R p n xs a) l
     Lends-block t null_ptr n xs a = Lends-false 𝓛 (said ffalse) l
     Lends-block t (block_ptr b o) n xs None =
         let first = lent_at usize (block_ptr b o) 0 in
@@ -120,8 +121,8 @@ module _ {M : Type 1} {𝓤 : Ura M} (𝓛 : Logic 𝓤) where
         (Lends-kept first (word_laws (block_ptr b o) 0) l)
         (Lends-kept second (word_laws (block_ptr b (o + 8)) 0) l)
     Lends-block t (block_ptr b o) n xs (Some a) =
-        Lends-both 𝓛 (frame (t a) R n (length xs) b o) (places R xs b (o + 16))
-        (frame_lent R n (length xs) b o) (places_lent R xs b (o + 16)) l
+        Lends-both 𝓛 (header_owns (t a) R n (length xs) b o) (slots_own R xs b (o + 16))
+        (header_shares R n (length xs) b o) (slots_share R xs b (o + 16)) l
         (Lends-frame (t a) n (length xs) b o) (Lends-places xs b (o + 16))
 
 pub shares : (R Z : RattleType) (g : Ghosts Z.Denot) (L : Laws R) (K : Laws Z) → statement R Z g L K

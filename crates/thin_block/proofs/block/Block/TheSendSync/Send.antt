@@ -1,4 +1,4 @@
-use Rattle.thin_block.proofs.Walks.{RattleType}
+use Rattle.thin_block.proofs.WalkPrelude.{RattleType}
 use denote.Param.Send.{IsSend, Frees}
 use Rattle.core.specs.declared.alloc.Allocator.{Ghosts}
 use Rattle.thin_block.proofs.block.SendLemmas.{block_send}

@@ -1,7 +1,7 @@
 -- This file proves the contract of `allocate_block`, which allocates the memory of a block with
 -- empty slots and writes its header.
 use Rattle.std.proofs.Common.{◌≡◌, ℕ, ◌+◌, ◌<◌, List, [], ◌∷◌, ◌++◌, length, replicate, Bool, true, refl, sym, ap, ◌∙◌, arith, lit<, w64, Some, None, Option}
-use Rattle.thin_block.proofs.Walks.{Ty, Body, ty_int, Val, WT, vint, vptr, vstruct, vcons, vnil, inst_fn, length-replicate, full_share, SProp, Lft, Share, fat, froom, flft, size, align, capped, capped_is, Env, ⊑_trans, tables, After, ‵, raw, ◌⊛◌, later, at_ret, ◌$◌, !, move, keep, drop, use0, use1, use2, split, split3, join, rewrite, fsplit, fjoin, feq_i, await, suffices, done, whole, agg, stop, fld, lit, bin, init, of_opd, no_more, and_then, assigns, assigns_last, first, blocks, exec, returns, alloc_all, pass_all, free_all, look_at, get, get_in, through, sets, sets_last, lands_as, env, RattleType, usize, uint_in, Ptr, block_ptr, lies_at, calls_at, walk_of, ends_at, token, fm, proved_at, type_size, type_align, R, slot_at, then_runs, after, head, arm_body, says_all, refused_made}
+use Rattle.thin_block.proofs.WalkPrelude.{Ty, Body, ty_int, Val, WT, vint, vptr, vstruct, vcons, vnil, inst_fn, length-replicate, full_share, SProp, Lft, Share, fat, froom, flft, size, align, capped, capped_is, Env, ⊑_trans, tables, After, ‵, raw, ◌⊛◌, later, at_ret, ◌$◌, !, move, keep, drop, use0, use1, use2, split, split3, join, rewrite, fsplit, fjoin, feq_i, await, suffices, done, whole, agg, stop, fld, lit, bin, init, of_opd, no_more, and_then, assigns, assigns_last, first, blocks, exec, returns, alloc_all, pass_all, free_all, look_at, get, get_in, through, sets, sets_last, lands_as, env, RattleType, usize, uint_in, Ptr, block_ptr, lies_at, calls_at, walk_of, ends_at, token, fm, proved_at, type_size, type_align, R, slot_at, then_runs, after, head, arm_body, says_all, refused_made}
 use types.Match.{live, vrt, in_variant}
 use types.Run.{switches_on}
 use types.ByLocal.{get_tag}
@@ -9,14 +9,14 @@ use denote.Signature.{type_at}
 use Rattle.core.proofs.alloc.Calls.{Takes, at_takes, Answered, Takes-goes, Takes-gives, answers}
 use Rattle.core.specs.declared.result.Result.TheVariants.{Ok, Err}
 use Rattle.std_alloc.proofs.ResultValues.{ok_of, err_of}
-use Rattle.thin_block.specs.Cost.{requesting}
+use Rattle.thin_block.specs.Cost.{add_request}
 use Rattle.thin_block.specs.Capacity.{Fits, block_align, block_bytes}
-use Rattle.thin_block.specs.Ownership.{fits_block, places, frame, bare, words_of, way_back, asked as whole_block}
+use Rattle.thin_block.specs.Ownership.{fits_block, slots_own, header_owns, erased_type, words_of, rejoin_wand, requested_type as whole_block}
 use Rattle.thin_block.proofs.sizes.SizesLemmas.{fits_tells, opened, rounded}
-use Rattle.thin_block.proofs.Turning.{asked_size, asked_align, carve_asked}
+use Rattle.thin_block.proofs.WordConversionLemmas.{asked_size, asked_align, carve_asked}
 use Rattle.thin_block.proofs.HeaderMemory.{args, Br, any_some, block_val, block_made, items}
 use Rattle.thin_block.proofs.SlotMemory.{of_raw}
-use Rattle.thin_block.proofs.Methods.{item, source, others, dropped, all_go, arrives, heard_all, enters, blank}
+use Rattle.thin_block.proofs.MethodSignatures.{item, source, others, dropped, all_go, arrives, heard_all, enters, blank}
 use Rattle.thin_block.specs.contracts.block.Block.allocate_block.{ended, clauses}
 use Rattle.thin_block.specs.contracts.block.Block.allocate_block.Key.{name as #self}
 use Rattle.thin_block.proofs.block.Block.allocate_block.Statement.{statement}
@@ -110,7 +110,7 @@ allocate_block_spec 𝓤 𝓛 𝓜 𝓡 wired T A LT LA g d dd met md =
       slots = none;
       len = 0;
       alloc = Some h;
-      cost = requesting old.cost;
+      cost = add_request old.cost;
       sound = (
         omega arith,
         any_some none (omega arith),
@@ -124,7 +124,7 @@ allocate_block_spec 𝓤 𝓛 𝓜 𝓡 wired T A LT LA g d dd met md =
     (in_variant ! 0 0 refl refl (whole !)))) refl (tt, tt) $
     sets ! (of_opd ! (get ! refl)) refl (tt, tt) $
     use1 𝓛 (‵ (froom (ty_int w64) b o) ⊛ ‵ (froom (ty_int w64) b (o + 8)) ⊛ ‵
-    (froom (items Rt cap) b (o + 16)) ⊛ ‵ (way_back (words_of Rt) (bare Rt) cap b o))
+    (froom (items Rt cap) b (o + 16)) ⊛ ‵ (rejoin_wand (words_of Rt) (erased_type Rt) cap b o))
     (carve_asked 𝓛 E b cap o) $ split3 ! $ move ! (2 ∷ []) $ split ! $ move ! (2 ∷ 3 ∷ []) $
     -- The proof has split the new memory into the parts of a block. The proof context now holds, in
     -- this order: memory for the capacity; memory for the length; memory for the slots; the right
@@ -154,10 +154,10 @@ allocate_block_spec 𝓤 𝓛 𝓜 𝓡 wired T A LT LA g d dd met md =
     move ! (1 ∷ []) $
     use1 𝓛 (‵ (lies_at usize full_share (block_ptr b (o + 8)) 0))
     (uint_in 𝓛 full_share w64 0 b (o + 8)) $ move ! (2 ∷ []) $
-    use1 𝓛 (‵ (places Rt none b (o + 16))) (of_raw E 𝓛 b cap (o + 16)) $ move ! (3 ∷ 4 ∷ []) $
+    use1 𝓛 (‵ (slots_own Rt none b (o + 16))) (of_raw E 𝓛 b cap (o + 16)) $ move ! (3 ∷ 4 ∷ []) $
     fjoin ! $ feq_i ! Bool (fits_block Rt cap) true fits $ fjoin ! $
     move ! (2 ∷ 0 ∷ []) $ fjoin ! $ move ! (2 ∷ 0 ∷ []) $ fjoin ! $
-    rewrite ! 0 (λ (k : ℕ). ‵ (frame (token Y h) Rt 0 k b o)) (sym long) refl $
+    rewrite ! 0 (λ (k : ℕ). ‵ (header_owns (token Y h) Rt 0 k b o)) (sym long) refl $
     block_made E Y ! x b o refl $
     use1 𝓛 (‵ (Out.own_val (Ok x) (live 0 (vcons (block_val p) vnil) ∷ [])))
     (ok_of 𝓛 B AE.the_row x (block_val p)) $

@@ -1,7 +1,7 @@
 -- This file proves the contract of `copy_in`, which copies items into adjacent empty slots of a
 -- block.
 use Rattle.std.proofs.Common.{◌≡◌, ℕ, Some, None, false, ◌+◌, ◌*◌, ◌^◌, ◌<◌, ◌≤◌, List, ◌∷◌, [], ◌++◌, length, refl, sym, subst, ◌∙◌, arith, w64, replicate, Option}
-use Rattle.thin_block.proofs.Walks.{length-map, length-replicate, Fn, Args, ty_array, a_type, dcons, dnil, named, Val, WT, vint, vunit, inst_fn, full_share, Lft, Share, froom, flft, ‵, raw, ◌⊛◌, exists, given, later, learn, pick, await, ◌$◌, !, move, keep, drop, use1, use2, use3, split, split3, join, fsplit, fsplit3, rewrite, suffices, done, whole, sub, stop, fld, unit_lit, of_opd, no_more, and_then, first, blocks, returns, alloc_all, pass_all, free_all, look_at, sets, lands_as, lands_last, get, get_in, Array, part_at, RattleType, block_ptr, layout, param, bounded, plain, slice_val, calls_at, calls_at_last, Stays, stay_ref, walk_of, Goes-ref, ends_at, proved_at, framed, R, slot_at, says_all}
+use Rattle.thin_block.proofs.WalkPrelude.{length-map, length-replicate, Fn, Args, ty_array, a_type, dcons, dnil, named, Val, WT, vint, vunit, inst_fn, full_share, Lft, Share, froom, flft, ‵, raw, ◌⊛◌, exists, given, later, learn, pick, await, ◌$◌, !, move, keep, drop, use1, use2, use3, split, split3, join, fsplit, fsplit3, rewrite, suffices, done, whole, sub, stop, fld, unit_lit, of_opd, no_more, and_then, first, blocks, returns, alloc_all, pass_all, free_all, look_at, sets, lands_as, lands_last, get, get_in, Array, part_at, RattleType, block_ptr, layout, param, bounded, plain, slice_val, calls_at, calls_at_last, Stays, stay_ref, walk_of, Goes-ref, ends_at, proved_at, framed, R, slot_at, says_all}
 use denote.Param.{copied}
 use denote.Slice.{ShrSlice}
 use Rattle.core.specs.Mem.Slots.{slots_items, slots_filled, slots_ptr, slots_len, slots_counts, slots_small}
@@ -10,15 +10,15 @@ use Rattle.core.proofs.slots.Opens.{row_val}
 use Rattle.core.proofs.slots.Runs.{of_space, to_values}
 use Rattle.std_alloc.proofs.vec.Blocks.{all}
 use Rattle.std_alloc.proofs.vec.Spares.{Row, parts_typed, From, at_from, Made, from_goes, from_gives, Into, at_into, Into-goes, Into-gives}
-use Rattle.thin_block.specs.Cost.{moving}
+use Rattle.thin_block.specs.Cost.{add_moves}
 use Rattle.thin_block.specs.Lends.{with_slots}
-use Rattle.thin_block.specs.Ownership.{places}
-use Rattle.thin_block.specs.Slots.{full, empty, slot, laid}
+use Rattle.thin_block.specs.Ownership.{slots_own}
+use Rattle.thin_block.specs.Slots.{filled_slots, empty_slots, slot, write_slots}
 use Rattle.thin_block.proofs.slots.CopyCall.{Copied, at_copied, IsCopy, Copied-goes, Copied-gives}
 use Rattle.thin_block.proofs.HeaderMemory.{Br}
 use Rattle.thin_block.proofs.SlotMemory.{sz, around, run_out, run_in, of_items, to_room}
 use Rattle.thin_block.proofs.SlotsLemmas.{empty-run, length-laid}
-use Rattle.thin_block.proofs.Methods.{item, source, others, dropped, all_go, arrives, heard_all, token_out, enters, closes_over, leaves_unit, ptr_of, opens_self, continues, word}
+use Rattle.thin_block.proofs.MethodSignatures.{item, source, others, dropped, all_go, arrives, heard_all, token_out, enters, closes_over, leaves_unit, ptr_of, opens_self, continues, word}
 use Rattle.thin_block.proofs.Addresses.{near, its_ptr, slot_found}
 use Rattle.thin_block.specs.contracts.block.Block.copy_in.{ended, clauses}
 use Rattle.thin_block.specs.contracts.block.Block.copy_in.Key.{name as #self}
@@ -26,7 +26,7 @@ use Rattle.thin_block.proofs.block.Block.copy_in.Statement.{statement}
 use Rattle.core.proofs.slots.Slots.from_raw_parts.Met as from_met
 use Rattle.core.proofs.slots.Slots.into_raw_parts.Met as into_met
 use Rattle.std_alloc.proofs.VecSteps.El as vecs
-use Rattle.thin_block.proofs.slots.copied.Met as copied_met
+use Rattle.thin_block.proofs.slots.fill_from.Met as fill_from_met
 use Rattle.thin_block.specs.contracts.block.Block as block
 use Rattle.thin_block.proofs.block.Block.copy_in.Code as compiled
 
@@ -76,8 +76,9 @@ copy_in_spec 𝓤 𝓛 𝓜 𝓡 wired T A LT LA copies gc dc g d dd metc met md
     sets ! (of_opd ! (get_in ! (fld ! refl (stop !)) (sub ! 1 refl (whole !)))) refl
     (tt, record { fits = fk }) $
     move ! (1 ∷ []) $ use1 𝓛
-    (‵ (places (R E) (empty n) b here) ⊛ ‵ (around E 𝓛 b (o + 16) x.slots i n))
-    (run_out E 𝓛 b (o + 16) x.slots i n within (empty n) (empty-run x.slots i n within bare)) $
+    (‵ (slots_own (R E) (empty_slots n) b here) ⊛ ‵ (around E 𝓛 b (o + 16) x.slots i n))
+    (run_out E 𝓛 b (o + 16) x.slots i n within (empty_slots n)
+    (empty-run x.slots i n within bare)) $
     split ! $
     use1 𝓛 (‵ (froom (ty_array (layout T) n) b here)) (to_room E 𝓛 b n here) $
     use1 𝓛 (‵ (all V b here xs (replicate n false))) (of_space E 𝓛 b here n xs refl) $
@@ -117,7 +118,7 @@ copy_in_spec 𝓤 𝓛 𝓜 𝓡 wired T A LT LA copies gc dc g d dd metc met md
     (Copied-goes V gc dc 𝓛 𝓜.mem 𝓡.returns κ₁ κ₂ q₁ q₂ z.0.2.1.1.0 r b here n
     items lives made.1.1) $
     calls_at ! (framed 𝓛 𝓜 𝓡) Cp
-    (copied_met.met 𝓤 𝓛 𝓜 𝓡 (compiled.calls-thin_block::slots::copied 𝓡.env wired)
+    (fill_from_met.met 𝓤 𝓛 𝓜 𝓡 (compiled.calls-thin_block::slots::fill_from 𝓡.env wired)
     T LT copies gc dc metc) y₂ (and_then ! (get ! refl) (and_then ! (get ! refl) (no_more !)))
     (λ v₂.
     use1 𝓛 (later (exists
@@ -130,7 +131,7 @@ copy_in_spec 𝓤 𝓛 𝓜 𝓡 wired T A LT LA copies gc dc g d dd metc met md
     let copy = is_copy.2 in
     let fz : slots_len f < 2 ^ 64 = slots_small f in
     lands_as ! is_copy.0 refl (tt, (tt, (record { fits = fz }, tt))) $
-    -- The call to `copied` has copied the items into the value of the type `core::slots::Slots`.
+    -- The call to `fill_from` has copied the items into the value of the type `core::slots::Slots`.
     -- The proof context now holds, in this order: this value; the lifetime tokens of `items`, of
     -- `T` and of `A`; the other slots; the header; the block's pointer; the right to close the
     -- borrow of the block; two ghost resources that record the value of the block.
@@ -160,13 +161,15 @@ copy_in_spec 𝓤 𝓛 𝓜 𝓡 wired T A LT LA copies gc dc g d dd metc met md
     rewrite ! 0 (λ (ys : List T.Denot). ‵ (all V b here ys (slots_filled f))) copy.items refl $
     use1 𝓛 (‵ (part_at (Array (R E) n) full_share xs b here))
     (to_values E 𝓛 b here n xs refl (slots_filled f) flags filled) $
-    let laid_in : List (Option T.Denot) = laid i (full xs) x.slots in
-    let long_full : length (full xs) ≡ n = length-map xs Some in
-    let long : length laid_in ≡ length x.slots = length-laid i (full xs) x.slots (omega arith) in
-    let y : (Br E Y).Denot = record (with_slots x laid_in long) { cost = moving n x.cost } in
-    use1 𝓛 (‵ (places (R E) (full xs) b here)) (of_items E 𝓛 b n xs here) $ move ! (0 ∷ 4 ∷ []) $
-    use2 𝓛 (‵ (places (R E) laid_in b (o + 16)))
-    (run_in E 𝓛 b (o + 16) x.slots i n within (full xs) long_full) $
+    let laid_in : List (Option T.Denot) = write_slots i (filled_slots xs) x.slots in
+    let long_full : length (filled_slots xs) ≡ n = length-map xs Some in
+    let long : length laid_in ≡ length x.slots =
+    length-laid i (filled_slots xs) x.slots (omega arith) in
+    let y : (Br E Y).Denot = record (with_slots x laid_in long) { cost = add_moves n x.cost } in
+    use1 𝓛 (‵ (slots_own (R E) (filled_slots xs) b here)) (of_items E 𝓛 b n xs here) $
+    move ! (0 ∷ 4 ∷ []) $
+    use2 𝓛 (‵ (slots_own (R E) laid_in b (o + 16)))
+    (run_in E 𝓛 b (o + 16) x.slots i n within (filled_slots xs) long_full) $
     -- The filled slots have been joined with the other slots. The proof context now holds, in this
     -- order: all slots; the lifetime tokens of `T`, of `items` and of `A`; the header; the block's
     -- pointer; the right to close the borrow of the block; two ghost resources that record the

@@ -1,17 +1,17 @@
 -- This file proves the contract of `free_block`. The proof joins the parts of the block into one
 -- piece of memory, which the function returns to the allocator.
 use Rattle.std.proofs.Common.{◌≡◌, ℕ, ◌+◌, List, [], ◌∷◌, ◌++◌, length, refl, sym, ap, ◌∙◌, arith, w64, Some, Option}
-use Rattle.thin_block.proofs.Walks.{Ty, place, Val, vint, vptr, vunit, inst_fn, SProp, Lft, Share, froom, flft, size, align, capped, capped_is, Env, ⊑_trans, tables, ‵, raw, ◌⊛◌, given, later, at_ret, ◌$◌, !, by, move, keep, drop, use1, use2, use3, split, join, learn, rewrite, regoal, fsplit, feq_i, await, whole, sub, stop, fld, unit_lit, of_opd, no_more, and_then, first, blocks, exec, returns, alloc_all, pass_all, free_all, look_at, get, get_in, sets, lands_last, env, RattleType, block_ptr, nothing, calls_at_last, walk_of, token, fm, proved_at, leaves, type_size, type_align, R, slot_at, then_runs, out_of_block, after}
+use Rattle.thin_block.proofs.WalkPrelude.{Ty, place, Val, vint, vptr, vunit, inst_fn, SProp, Lft, Share, froom, flft, size, align, capped, capped_is, Env, ⊑_trans, tables, ‵, raw, ◌⊛◌, given, later, at_ret, ◌$◌, !, by, move, keep, drop, use1, use2, use3, split, join, learn, rewrite, regoal, fsplit, feq_i, await, whole, sub, stop, fld, unit_lit, of_opd, no_more, and_then, first, blocks, exec, returns, alloc_all, pass_all, free_all, look_at, get, get_in, sets, lands_last, env, RattleType, block_ptr, nothing, calls_at_last, walk_of, token, fm, proved_at, leaves, type_size, type_align, R, slot_at, then_runs, out_of_block, after}
 use types.Kit.{settles}
 use Rattle.core.proofs.alloc.Calls.{Goes-blank, Gives, at_gives, Gives-goes, Gives-Gives}
-use Rattle.thin_block.specs.Slots.{empty}
+use Rattle.thin_block.specs.Slots.{empty_slots}
 use Rattle.thin_block.specs.Capacity.{block_align, block_bytes}
-use Rattle.thin_block.specs.Ownership.{places, asked as whole_block}
+use Rattle.thin_block.specs.Ownership.{slots_own, requested_type as whole_block}
 use Rattle.thin_block.proofs.sizes.SizesLemmas.{fits_tells, rounded}
-use Rattle.thin_block.proofs.Turning.{asked_size, asked_align, gather}
+use Rattle.thin_block.proofs.WordConversionLemmas.{asked_size, asked_align, gather}
 use Rattle.thin_block.proofs.HeaderMemory.{args, header, t, block_val, block_had, items}
 use Rattle.thin_block.proofs.SlotMemory.{to_raw}
-use Rattle.thin_block.proofs.Methods.{item, source, others, dropped, all_go, arrives, heard_all, enters, blank}
+use Rattle.thin_block.proofs.MethodSignatures.{item, source, others, dropped, all_go, arrives, heard_all, enters, blank}
 use Rattle.thin_block.specs.contracts.block.Block.free_block.{ended, clauses}
 use Rattle.thin_block.specs.contracts.block.Block.free_block.Key.{name as #self}
 use Rattle.thin_block.proofs.block.Block.free_block.Statement.{statement}
@@ -47,7 +47,7 @@ free_block_spec 𝓤 𝓛 𝓜 𝓡 wired T A LT LA g d dd met md =
     arrives (slot_at 0 ps) (others ps) 𝓛 z.0 ((c z.0.0 z.0.3).requires z.1) (
     move ! (4 ∷ []) $ heard_all ! (_ ∷ _ ∷ _ ∷ _ ∷ _ ∷ _ ∷ []) (λ said.
     let le = said.1.0 in let from : x.alloc ≡ Some h = said.1.1.0 in
-    let bare : xs ≡ empty cap = said.1.1.1.0 in
+    let bare : xs ≡ empty_slots cap = said.1.1.1.0 in
     let bytes_are : bytes ≡ size_of_block = said.1.1.1.1.0 in
     let align_is : al ≡ align_of_block = said.1.1.1.1.1 in
     move ! (0 ∷ 3 ∷ []) $ block_had E Y ! x z.0.4.0 (λ b o at told fits.
@@ -56,7 +56,7 @@ free_block_spec 𝓤 𝓛 𝓜 𝓡 wired T A LT LA g d dd met md =
     -- reference to the allocator; the other lifetime tokens.
     rewrite ! 0 (λ (u : Option A.Denot). ‵ (header (t E Y) Rt x.len cap u b o))
     from refl $ move ! (1 ∷ []) $
-    rewrite ! 0 (λ (ys : List (Option T.Denot)). ‵ (places Rt ys b (o + 16))) bare refl $
+    rewrite ! 0 (λ (ys : List (Option T.Denot)). ‵ (slots_own Rt ys b (o + 16))) bare refl $
     use1 𝓛 (‵ (froom (items Rt cap) b (o + 16))) (to_raw E 𝓛 b cap (o + 16))
     $ move ! (1 ∷ 0 ∷ []) $
     use2 𝓛 (‵ (froom τ b o) ⊛ ‵ (token Y h τ (block_ptr b o)))

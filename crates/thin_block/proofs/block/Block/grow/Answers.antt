@@ -2,14 +2,14 @@
 use Rattle.std.proofs.Common.{arith}
 use Rattle.thin_block.proofs.BlockLemmas.{slots-are}
 use Rattle.thin_block.proofs.SlotsLemmas.{packed-grown}
-use Rattle.thin_block.proofs.Outcomes.{on-ok}
+use Rattle.thin_block.proofs.ResultLemmas.{on-ok}
 use Rattle.thin_block.proofs.block.Block.grow.Goals as goal
 
 -- If `grow` succeeds, the list of slots after the call consists of the slots before the call,
 -- followed by empty slots.
 pub returns-clause-ok : goal.returns-clause-ok
 returns-clause-ok g c =
-    let larger = c.requires.larger in
+    let larger = c.requires.cap_grows in
     on-ok c.resize.result
     (λ e. slots-are e (packed-grown c.args.self.now.slots c.args.self.now.len c.requires.packed
-    c.args.cap (omega arith))) c.resize.ensures.remade.ok
+    c.args.cap (omega arith))) c.resize.ensures.reallocated.ok

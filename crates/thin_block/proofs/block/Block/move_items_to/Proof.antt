@@ -1,17 +1,17 @@
 -- This file proves the contract of `move_items_to`, which moves adjacent items from one block
 -- to another block.
 use Rattle.std.proofs.Common.{◌≡◌, ℕ, Some, None, ◌+◌, ◌*◌, ◌^◌, ◌<◌, ◌≤◌, List, ◌∷◌, [], ◌++◌, length, refl, sym, ap, subst, ◌∙◌, arith, w64, Bool, Option}
-use Rattle.thin_block.proofs.Walks.{Holds, length-map, length-replicate, Fn, ty_array, ty_unit, Val, WT, vbool, has_ty, vint, vptr, vunit, inst_fn, full_share, SProp, Lft, Share, ftrue, froom, flft, Env, WpFn, ◌⊑◌, fact, tables, ‵, raw, ◌⊛◌, given, later, prop, at_ret, ◌$◌, ◌∵◌, !, qed, move, keep, drop, use1, use2, use3, split, split3, join, fsplit, fsplit3, fjoin, fjoin3, feq_i, rewrite, regoal, learn, await, suffices, done, whole, sub, look_in, stop, fld, load, unit_lit, of_opd, no_more, and_then, first, blocks, exec, returns, enter, alloc_all, pass_all, free_all, look_at, through, sets, lands_last, env, get, Array, part_at, RattleType, owns, layout, plain, types_at, nothing, heard, calls_at_last, Stays, stay_ref, stay_dropped, walk_of, Goes-dropped, Goes-ref, ends_at, proved_at, Al, framed, El, R, slot_at, after, says_all}
+use Rattle.thin_block.proofs.WalkPrelude.{Holds, length-map, length-replicate, Fn, ty_array, ty_unit, Val, WT, vbool, has_ty, vint, vptr, vunit, inst_fn, full_share, SProp, Lft, Share, ftrue, froom, flft, Env, WpFn, ◌⊑◌, fact, tables, ‵, raw, ◌⊛◌, given, later, prop, at_ret, ◌$◌, ◌∵◌, !, qed, move, keep, drop, use1, use2, use3, split, split3, join, fsplit, fsplit3, fjoin, fjoin3, feq_i, rewrite, regoal, learn, await, suffices, done, whole, sub, look_in, stop, fld, load, unit_lit, of_opd, no_more, and_then, first, blocks, exec, returns, enter, alloc_all, pass_all, free_all, look_at, through, sets, lands_last, env, get, Array, part_at, RattleType, owns, layout, plain, types_at, nothing, heard, calls_at_last, Stays, stay_ref, stay_dropped, walk_of, Goes-dropped, Goes-ref, ends_at, proved_at, Al, framed, El, R, slot_at, after, says_all}
 use Rattle.std.specs.Prelude.{IsSome, if◌then◌else◌}
 use Rattle.core.proofs.alloc.Moves.{Copies, at_copies, Copies-goes, Copies-gives}
-use Rattle.thin_block.specs.Cost.{Cost, moving, relocating}
+use Rattle.thin_block.specs.Cost.{Cost, add_moves, add_copies}
 use Rattle.thin_block.specs.Lends.{with_slots}
-use Rattle.thin_block.specs.Ownership.{places}
-use Rattle.thin_block.specs.Slots.{full, empty, slot, laid, emptied}
+use Rattle.thin_block.specs.Ownership.{slots_own}
+use Rattle.thin_block.specs.Slots.{filled_slots, empty_slots, slot, write_slots, clear_slots}
 use Rattle.thin_block.proofs.SlotsLemmas.{full-run, empty-run, length-run, length-laid}
 use Rattle.thin_block.proofs.HeaderMemory.{args, Br, header, t, block_opens, block_closes}
 use Rattle.thin_block.proofs.SlotMemory.{sz, reach, around, run_out, run_in, to_items, of_items, to_room, of_room}
-use Rattle.thin_block.specs.Block.{seen}
+use Rattle.thin_block.specs.Block.{block_view}
 use Rattle.thin_block.proofs.Addresses.{near, slot_found}
 use Rattle.thin_block.specs.contracts.block.Block.move_items_to.{ended, clauses}
 use Rattle.thin_block.specs.contracts.block.Block.move_items_to.Key.{name as #self}
@@ -84,7 +84,7 @@ move_items_to_spec 𝓤 𝓛 𝓜 𝓡 wired T A LT LA g d dd met md =
     let to : ℕ = a.1.1.1.0 in
     let k : ℕ = a.1.1.1.1.0 in
     let relocates : Bool = a.1.1.1.1.1.0 in
-    let cost : Cost = if relocates then relocating k y.cost else moving k y.cost in
+    let cost : Cost = if relocates then add_copies k y.cost else add_moves k y.cost in
     let s : ℕ = sz E in
     let Source : Type 0 = from + k ≤ length x.slots in
     let Target : Type 0 = to + k ≤ length y.slots in
@@ -139,12 +139,12 @@ move_items_to_spec 𝓤 𝓛 𝓜 𝓡 wired T A LT LA g d dd met md =
     first ! $ blocks ! $ slot_found E ! b o from fm refl ((tt, tt), (tt, tt)) $
     slot_found E ! b' o' to fm' refl ((tt, tt), (tt, tt)) $
     move ! (1 ∷ []) $ use1 𝓛
-    (‵ (places (R E) (empty k) b' dst) ⊛ ‵ (around E 𝓛 b' (o' + 16) y.slots to k))
-    (run_out E 𝓛 b' (o' + 16) y.slots to k target (empty k)
+    (‵ (slots_own (R E) (empty_slots k) b' dst) ⊛ ‵ (around E 𝓛 b' (o' + 16) y.slots to k))
+    (run_out E 𝓛 b' (o' + 16) y.slots to k target (empty_slots k)
     (empty-run y.slots to k target bare)) $ split ! $
     use1 𝓛 (‵ (froom (ty_array (layout T) k) b' dst)) (to_room E 𝓛 b' k dst) $ move ! (8 ∷ []) $
-    use1 𝓛 (‵ (places (R E) (full xs) b src) ⊛ ‵ (around E 𝓛 b (o + 16) x.slots from k))
-    (run_out E 𝓛 b (o + 16) x.slots from k source (full xs) items.1) $ split ! $
+    use1 𝓛 (‵ (slots_own (R E) (filled_slots xs) b src) ⊛ ‵ (around E 𝓛 b (o + 16) x.slots from k))
+    (run_out E 𝓛 b (o + 16) x.slots from k source (filled_slots xs) items.1) $ split ! $
     use1 𝓛 (‵ (part_at (Array (R E) k) full_share xs b src)) (to_items E 𝓛 b k xs src long) $
     move ! (0 ∷ 2 ∷ []) $ move ! (14 ∷ []) $ split ! $ move ! (2 ∷ 3 ∷ 0 ∷ []) $
     -- The proof has separated the items in `self` and their new slots in `other` from all other
@@ -172,14 +172,15 @@ move_items_to_spec 𝓤 𝓛 𝓜 𝓡 wired T A LT LA g d dd met md =
     -- of `T` and `A`; the other slots of `self`; the other slots of `other`; the header, the
     -- memory that stores the pointer, the right to close the borrow, and two ghost resources of
     -- `other`; the same five entries for `self`.
-    let laid_to : List (Option T.Denot) = laid to (full xs) y.slots in
-    let long_full : length (full xs) ≡ k = length-map xs Some ∙ long in
+    let laid_to : List (Option T.Denot) = write_slots to (filled_slots xs) y.slots in
+    let long_full : length (filled_slots xs) ≡ k = length-map xs Some ∙ long in
     let long_to : length laid_to ≡ length y.slots =
-    length-laid to (full xs) y.slots (omega arith) in
+    length-laid to (filled_slots xs) y.slots (omega arith) in
     let y' : B.Denot = record (with_slots y laid_to long_to) { cost = cost } in
-    use1 𝓛 (‵ (places (R E) (full xs) b' dst)) (of_items E 𝓛 b' k xs dst) $ move ! (0 ∷ 5 ∷ []) $
-    use2 𝓛 (‵ (places (R E) laid_to b' (o' + 16)))
-    (run_in E 𝓛 b' (o' + 16) y.slots to k target (full xs) long_full) $
+    use1 𝓛 (‵ (slots_own (R E) (filled_slots xs) b' dst)) (of_items E 𝓛 b' k xs dst) $
+    move ! (0 ∷ 5 ∷ []) $
+    use2 𝓛 (‵ (slots_own (R E) laid_to b' (o' + 16)))
+    (run_in E 𝓛 b' (o' + 16) y.slots to k target (filled_slots xs) long_full) $
     move ! (5 ∷ 0 ∷ 6 ∷ 7 ∷ 8 ∷ 9 ∷ []) $
     rewrite ! 0 (λ (n : ℕ). ‵ (header (t E Y) (R E) y.len n y.alloc b' o')) (sym long_to) refl $
     block_closes E Y ! tt y' b' o' sb so at' $
@@ -188,14 +189,14 @@ move_items_to_spec 𝓤 𝓛 𝓜 𝓡 wired T A LT LA g d dd met md =
     -- of this borrow; the memory at the old address of the items; the lifetime tokens of `T` and
     -- `A`; the other slots of `self`; and five entries that together describe the header and the
     -- open borrow of `self`.
-    let left : List (Option T.Denot) = emptied from k x.slots in
-    let long_empty : length (empty {T = T.Denot} k) ≡ k = length-replicate k None in
+    let left : List (Option T.Denot) = clear_slots from k x.slots in
+    let long_empty : length (empty_slots {T = T.Denot} k) ≡ k = length-replicate k None in
     let long_left : length left ≡ length x.slots =
-    length-laid from (empty k) x.slots (omega arith) in
+    length-laid from (empty_slots k) x.slots (omega arith) in
     let x' : B.Denot = with_slots x left long_left in
-    move ! (3 ∷ 6 ∷ []) $ use1 𝓛 (‵ (places (R E) (empty k) b src)) (of_room E 𝓛 b k src) $
-    use2 𝓛 (‵ (places (R E) left b (o + 16)))
-    (run_in E 𝓛 b (o + 16) x.slots from k source (empty k) long_empty) $
+    move ! (3 ∷ 6 ∷ []) $ use1 𝓛 (‵ (slots_own (R E) (empty_slots k) b src)) (of_room E 𝓛 b k src) $
+    use2 𝓛 (‵ (slots_own (R E) left b (o + 16)))
+    (run_in E 𝓛 b (o + 16) x.slots from k source (empty_slots k) long_empty) $
     move ! (6 ∷ 0 ∷ 7 ∷ 8 ∷ 9 ∷ 10 ∷ []) $
     rewrite ! 0 (λ (n : ℕ). ‵ (header (t E Y) (R E) x.len n x.alloc b o)) (sym long_left) refl $
     block_closes E Y ! tt x' b o rb ro at $
@@ -217,5 +218,5 @@ move_items_to_spec 𝓤 𝓛 𝓜 𝓡 wired T A LT LA g d dd met md =
     says_all ! (_ ∷ _ ∷ []) (
       refl,
       ap (λ (ys : List (Option T.Denot)).
-          record (seen y) { slots = laid to ys y.slots; cost = cost }) (sym items.1),
+          record (block_view y) { slots = write_slots to ys y.slots; cost = cost }) (sym items.1),
     ) $ done !)))))))))))

@@ -1,17 +1,17 @@
 -- This file proves the contract of `put_array`, which moves the items of an array into adjacent
 -- empty slots.
 use Rattle.std.proofs.Common.{◌≡◌, ℕ, Some, ◌+◌, ◌*◌, ◌≤◌, List, ◌∷◌, [], ◌++◌, length, refl, ◌∙◌, arith, w64, Option}
-use Rattle.thin_block.proofs.Walks.{length-map, ty_array, Val, vint, vunit, inst_fn, full_share, froom, ‵, ◌⊛◌, given, learn, ◌$◌, !, move, keep, drop, use1, use2, split, fsplit, rewrite, suffices, done, stop, init, unit_lit, of_opd, assigns_last, first, blocks, returns, alloc_all, pass_all, free_all, look_at, through, sets, get, Array, part_at, RattleType, layout, param, number, plain, walk_of, Goes-dropped, Goes-ref, ends_at, proved_at, R, slot_at, says_all, ArrayAt, param_laws, array_at_laws, via, part_in, alone, nothing_left}
-use Rattle.thin_block.specs.Cost.{moving}
+use Rattle.thin_block.proofs.WalkPrelude.{length-map, ty_array, Val, vint, vunit, inst_fn, full_share, froom, ‵, ◌⊛◌, given, learn, ◌$◌, !, move, keep, drop, use1, use2, split, fsplit, rewrite, suffices, done, stop, init, unit_lit, of_opd, assigns_last, first, blocks, returns, alloc_all, pass_all, free_all, look_at, through, sets, get, Array, part_at, RattleType, layout, param, number, plain, walk_of, Goes-dropped, Goes-ref, ends_at, proved_at, R, slot_at, says_all, ArrayAt, param_laws, array_at_laws, via, part_in, alone, nothing_left}
+use Rattle.thin_block.specs.Cost.{add_moves}
 use Rattle.thin_block.specs.Lends.{with_slots}
-use Rattle.thin_block.specs.Ownership.{places}
-use Rattle.thin_block.specs.Slots.{full, empty, laid}
+use Rattle.thin_block.specs.Ownership.{slots_own}
+use Rattle.thin_block.specs.Slots.{filled_slots, empty_slots, write_slots}
 use Rattle.thin_block.proofs.SlotsLemmas.{empty-run, length-laid}
 use Rattle.thin_block.proofs.HeaderMemory.{Br}
 use Rattle.thin_block.proofs.SlotMemory.{sz, around, run_out, run_in, of_items, to_room}
 use denote.Exit.{all_rest}
 use Rattle.thin_block.proofs.SlotMemory.{counted}
-use Rattle.thin_block.proofs.Methods.{item, source, others, block_stays, begins_with, enters, closes_over, args_at, leaves_unit, ptr_of, opens_self, continues, word}
+use Rattle.thin_block.proofs.MethodSignatures.{item, source, others, block_stays, begins_with, enters, closes_over, args_at, leaves_unit, ptr_of, opens_self, continues, word}
 use Rattle.thin_block.proofs.Addresses.{near, its_ptr, slot_found}
 use Rattle.thin_block.specs.contracts.block.Block.put_array.{ended, clauses}
 use Rattle.thin_block.specs.contracts.block.Block.put_array.Key.{name as #self}
@@ -55,8 +55,9 @@ put_array_spec 𝓤 𝓛 𝓜 𝓡 wired T A N LT LA fits_N g d dd met md =
     let here : ℕ = i * sz E + (o + 16) in
     sets ! (of_opd ! (get ! refl)) refl (tt, tt) $
     move ! (1 ∷ []) $ use1 𝓛
-    (‵ (places (R E) (empty N) b here) ⊛ ‵ (around E 𝓛 b (o + 16) x.slots i N))
-    (run_out E 𝓛 b (o + 16) x.slots i N within (empty N) (empty-run x.slots i N within bare)) $
+    (‵ (slots_own (R E) (empty_slots N) b here) ⊛ ‵ (around E 𝓛 b (o + 16) x.slots i N))
+    (run_out E 𝓛 b (o + 16) x.slots i N within (empty_slots N)
+    (empty-run x.slots i N within bare)) $
     split ! $
     use1 𝓛 (‵ (froom (ty_array (layout T) N) b here)) (to_room E 𝓛 b N here) $
     -- The empty slots have been separated from the other slots, and serve as the memory for the
@@ -72,14 +73,14 @@ put_array_spec 𝓤 𝓛 𝓜 𝓡 wired T A N LT LA fits_N g d dd met md =
     (part_in 𝓛 (Array (R E) N) refl full_share values b here v) $
     use1 𝓛 (given (length values ≡ N) (‵ (part_at (Array (R E) N) full_share values b here)))
     (counted E 𝓛 b N values here) $ learn ! (λ count.
-    let laid_in : List (Option T.Denot) = laid i (full values) x.slots in
-    let long_full : length (full values) ≡ N = length-map values Some ∙ count in
-    let long : length laid_in ≡ length x.slots = length-laid i (full values)
+    let laid_in : List (Option T.Denot) = write_slots i (filled_slots values) x.slots in
+    let long_full : length (filled_slots values) ≡ N = length-map values Some ∙ count in
+    let long : length laid_in ≡ length x.slots = length-laid i (filled_slots values)
     x.slots (omega arith) in
-    let y : (Br E Y).Denot = record (with_slots x laid_in long) { cost = moving N x.cost } in
-    use1 𝓛 (‵ (places (R E) (full values) b here)) (of_items E 𝓛 b N values here) $
-    use2 𝓛 (‵ (places (R E) laid_in b (o + 16)))
-    (run_in E 𝓛 b (o + 16) x.slots i N within (full values) long_full) $
+    let y : (Br E Y).Denot = record (with_slots x laid_in long) { cost = add_moves N x.cost } in
+    use1 𝓛 (‵ (slots_own (R E) (filled_slots values) b here)) (of_items E 𝓛 b N values here) $
+    use2 𝓛 (‵ (slots_own (R E) laid_in b (o + 16)))
+    (run_in E 𝓛 b (o + 16) x.slots i N within (filled_slots values) long_full) $
     closes_over E Y ! tt r y b o at long $
     returns ! (look_at ! 0 refl) $ free_all ! refl $ leaves_unit E Y ! r y 2 are.0.0 $
     suffices ! _ (ends_at 𝓛 En₀ hs c z vunit tt

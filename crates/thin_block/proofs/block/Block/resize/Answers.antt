@@ -3,7 +3,7 @@
 use Rattle.std.proofs.Common.{◌≡◌, ℕ, length, sym, ap, ◌∙◌, arith}
 use Rattle.std.specs.declared.option.Option.TheVariants.{None}
 use Rattle.std.proofs.lemmas.List.{length-replicate}
-use Rattle.thin_block.specs.Slots.{empty, emptied}
+use Rattle.thin_block.specs.Slots.{empty_slots, clear_slots}
 use Rattle.thin_block.proofs.SlotsLemmas.{packed-filled, packed-emptied}
 use Rattle.thin_block.proofs.block.Block.resize.Goals as goal
 
@@ -18,9 +18,9 @@ move_items_to-requires-clause-filled g c =
 pub free_block-requires-clause-empty : goal.free_block-requires-clause-empty
 free_block-requires-clause-empty g c =
     let old = c.args.self.now.slots in
-    let left : c.replace-old.result.slots ≡ empty (length old) =
+    let left : c.replace-old.result.slots ≡ empty_slots (length old) =
     ap (λ b. b.slots) c.replace-old.ensures.value
     ∙ (ap (λ v. v.slots) c.move_items_to.ensures.changes
-    ∙ (ap (λ (k : ℕ). emptied 0 k old) c.requires.len
+    ∙ (ap (λ (k : ℕ). clear_slots 0 k old) c.requires.len
     ∙ packed-emptied old c.args.self.now.len c.requires.packed)) in
-    left ∙ ap (λ (k : ℕ). empty k) (sym (ap length left ∙ length-replicate (length old) None))
+    left ∙ ap (λ (k : ℕ). empty_slots k) (sym (ap length left ∙ length-replicate (length old) None))

@@ -1,7 +1,7 @@
 -- This file proves the contract of `resize_words`, which converts a block into an array of words,
 -- resizes the array, and converts it back into a block.
 use Rattle.std.proofs.Common.{◌≡◌, ℕ, ◌+◌, ◌-◌, ◌*◌, ◌^◌, ◌<◌, ◌≤◌, List, [], ◌∷◌, ◌++◌, length, true, refl, sym, ap, subst, ◌∙◌, arith, lit<, w64, Some, None, Option, take, drop as rest}
-use Rattle.thin_block.proofs.Walks.{div_ceil, length-take, length-append, Ty, Fn, Body, Args, ty_int, ty_array, a_type, a_number, dcons, dnil, bare, Val, WT, vint, vptr, vcons, vnil, inst_fn, full_share, SProp, ex, emp, id⊢, Fml, Lft, Share, ftrue, fsep, fat, froom, flft, Env, WpFn, ◌⊑◌, fact, fact_i, tables, After, ‵, raw, ◌⊛◌, exists, pick, later, prop, at_ret, ◌$◌, ◌∵◌, !, qed, move, keep, drop, group, use0, use1, use2, use3, split, split3, join, regoal, rewrite, fsplit, await, feq_l, suffices, done, whole, sub, agg, stop, fld, lit, bin, init, look, load, size_word, of_opd, no_more, and_then, assigns, first, blocks, exec, returns, enter, alloc_all, pass_all, free_all, look_at, get, get_in, through, is, sets, sets_last, lands_as, env, Array, usize, unit, part_at, RattleType, owns, yes, layout, param, number, bounded, ArrayAt, param_laws, array_at_laws, Is, shows, uint_in, Ptr, RawPtr, block_ptr, lies_at, types_at, peeks, nothing, only, calls_at, triple_of, walk_of, ends_at, part_out, part_in, array_of, block_with_items, Al, token, fm, uncapped, proved_at, type_size, type_align, El, R, slot_at, then_runs, out_of_block, after, head, inside, arm_body, says_all}
+use Rattle.thin_block.proofs.WalkPrelude.{div_ceil, length-take, length-append, Ty, Fn, Body, Args, ty_int, ty_array, a_type, a_number, dcons, dnil, bare, Val, WT, vint, vptr, vcons, vnil, inst_fn, full_share, SProp, ex, emp, id⊢, Fml, Lft, Share, ftrue, fsep, fat, froom, flft, Env, WpFn, ◌⊑◌, fact, fact_i, tables, After, ‵, raw, ◌⊛◌, exists, pick, later, prop, at_ret, ◌$◌, ◌∵◌, !, qed, move, keep, drop, group, use0, use1, use2, use3, split, split3, join, regoal, rewrite, fsplit, await, feq_l, suffices, done, whole, sub, agg, stop, fld, lit, bin, init, look, load, size_word, of_opd, no_more, and_then, assigns, first, blocks, exec, returns, enter, alloc_all, pass_all, free_all, look_at, get, get_in, through, is, sets, sets_last, lands_as, env, Array, usize, unit, part_at, RattleType, owns, yes, layout, param, number, bounded, ArrayAt, param_laws, array_at_laws, Is, shows, uint_in, Ptr, RawPtr, block_ptr, lies_at, types_at, peeks, nothing, only, calls_at, triple_of, walk_of, ends_at, part_out, part_in, array_of, block_with_items, Al, token, fm, uncapped, proved_at, type_size, type_align, El, R, slot_at, then_runs, out_of_block, after, head, inside, arm_body, says_all}
 use Rattle.std.proofs.lemmas.List.{take-append-drop, length-drop, length-map, length-replicate}
 use native.Mathlib.Nat.{mul_assoc}
 use contract.BorrowLft.{⊑_meet, ⊑_static}
@@ -17,25 +17,25 @@ use Rattle.core.proofs.alloc.Calls.{Goes-blank}
 use Rattle.core.proofs.alloc.Resizes.{Flagged, flagged}
 use Rattle.core.specs.declared.result.Result.TheVariants.{Ok, Err}
 use Rattle.std_alloc.proofs.ResultValues.{ok_of, err_of}
-use Rattle.thin_block.specs.Cost.{growing}
+use Rattle.thin_block.specs.Cost.{add_realloc}
 use Rattle.thin_block.specs.Capacity.{block_bytes}
-use Rattle.thin_block.specs.Slots.{items_in, full, empty, laid, run}
-use Rattle.thin_block.specs.Ownership.{fits_block, places, frame, word_of, header_way, slots_way}
+use Rattle.thin_block.specs.Slots.{items_in, filled_slots, empty_slots, write_slots, slot_range}
+use Rattle.thin_block.specs.Ownership.{fits_block, slots_own, header_owns, word_of, header_wand, slots_wand}
 use Rattle.thin_block.specs.Words.{runs_at}
 use Rattle.thin_block.proofs.sizes.SizesLemmas.{fits_tells, opened}
 use Rattle.thin_block.proofs.HeaderMemory.{Br, header, t, any_some, block_val, block_had, block_made}
 use Rattle.thin_block.proofs.SlotMemory.{sz, reach}
 use Rattle.thin_block.proofs.SlotsLemmas.{packed-carried}
-use Rattle.thin_block.proofs.Turning.{turn_out, turn_back, turn_up, turn_down, units_out, header_apart, header_whole}
+use Rattle.thin_block.proofs.WordConversionLemmas.{turn_out, turn_back, turn_up, turn_down, units_out, header_apart, header_whole}
 use Rattle.thin_block.proofs.words.WordsLemmas.{InWords, words_told}
 use Rattle.thin_block.proofs.words.WordsMemory.{word_el, words_made, words_long, chunks_long, words_in, words_joined, words_back}
 use Rattle.thin_block.proofs.in_place.ResizedCall.{Sized, Resizing, at_resizing, leaves, Resizing-goes, Resizing-gives}
-use Rattle.thin_block.specs.Block.{seen}
-use Rattle.thin_block.proofs.Methods.{others, dropped, all_go, heard_all, blank}
+use Rattle.thin_block.specs.Block.{block_view}
+use Rattle.thin_block.proofs.MethodSignatures.{others, dropped, all_go, heard_all, blank}
 use Rattle.thin_block.specs.contracts.block.Block.resize_words.{ended, clauses}
 use Rattle.thin_block.specs.contracts.block.Block.resize_words.Key.{name as #self}
 use Rattle.thin_block.proofs.block.Block.resize_words.Statement.{statement}
-use Rattle.thin_block.proofs.in_place.resized.Met as resized_met
+use Rattle.thin_block.proofs.in_place.grow_or_shrink.Met as grow_or_shrink_met
 use Rattle.thin_block.proofs.words.make_words.Met as make_met
 use Rattle.thin_block.specs.contracts.words.make_words as make
 use Rattle.thin_block.proofs.block.Block.resize_words.Code as compiled
@@ -45,8 +45,8 @@ resize_words_spec 𝓤 𝓛 𝓜 𝓡 wired T A m k LT LA fits_m fits_k g d dd m
     let H = 𝓛.H in
     let E : El = record { row = T; laws = LT } in
     let W : El = word_el T LT m in
-    -- `X` is the type of a word, together with its memory layout. The function calls `resized` with
-    -- `X` as the type argument.
+    -- `X` is the type of a word, together with its memory layout. The function calls
+    -- `grow_or_shrink` with `X` as the type argument.
     let X : RattleType = arg (word_of (layout T) m) yes W.row in
     let EX : El = record {
       row = X;
@@ -134,7 +134,8 @@ resize_words_spec 𝓤 𝓛 𝓜 𝓡 wired T A m k LT LA fits_m fits_k g d dd m
     let all : len ≡ length items = len_is ∙ packed.len in
     let whole_words : length items ≡ count * m = sym (count_is ∙ all) in
     let counted : length x.slots ≡ length items + (length x.slots - length items) =
-    ap length packed.row ∙ (length-append (full items) (empty (length x.slots - length items))
+    ap length packed.row
+    ∙ (length-append (filled_slots items) (empty_slots (length x.slots - length items))
     ∙ (λ i. length-map items Some i
     + length-replicate {A = Option T.Denot} (length x.slots - length items) None i)) in
     let within : len ≤ old = omega arith in
@@ -153,8 +154,9 @@ resize_words_spec 𝓤 𝓛 𝓜 𝓡 wired T A m k LT LA fits_m fits_k g d dd m
     let filled' : w' ≡ count + v' = omega arith in
     let slots_are : old ≡ length items + j = omega arith in
     let slots_are' : cap ≡ length items + j' = omega arith in
-    let row : x.slots ≡ full items ++ empty j = packed.row
-    ∙ (λ i. full items ++ empty (let e : length x.slots - length items ≡ j = omega arith in e i)) in
+    let row : x.slots ≡ filled_slots items ++ empty_slots j = packed.row
+    ∙ (λ i. filled_slots items ++ empty_slots
+    (let e : length x.slots - length items ≡ j = omega arith in e i)) in
     -- The items form `count` words. The list `xss` contains, for each word, the list of its items.
     -- The list `ws` contains all words, the list `ys` contains the last `k` words, and the list
     -- `xs` contains the words before them.
@@ -187,14 +189,14 @@ resize_words_spec 𝓤 𝓛 𝓜 𝓡 wired T A m k LT LA fits_m fits_k g d dd m
     subst (λ (n : ℕ). fits_block Rt n ≡ true) (sym old_is) fits in
     rewrite ! 0 (λ (u : Option A.Denot). ‵ (header (t E Y) Rt x.len (length x.slots) u b o)) from
     refl $
-    rewrite ! 0 (λ (n : ℕ). ‵ (frame tok Rt x.len n b o)) (sym old_is) refl $
-    use1 𝓛 (‵ (froom (ty_array ω k) b o) ⊛ ‵ (slots_way τ' m w old b (o + 16)) ⊛ ‵
+    rewrite ! 0 (λ (n : ℕ). ‵ (header_owns tok Rt x.len n b o)) (sym old_is) refl $
+    use1 𝓛 (‵ (froom (ty_array ω k) b o) ⊛ ‵ (slots_wand τ' m w old b (o + 16)) ⊛ ‵
     (tok (array_of Rw held) here))
     (header_apart 𝓛 T LT b m k in_words o tok x.len old held held_is) $ split3 ! $
     move ! (3 ∷ 1 ∷ []) $
-    rewrite ! 0 (λ (l : List (Option T.Denot)). ‵ (places Rt l b (o + 16))) row refl $
+    rewrite ! 0 (λ (l : List (Option T.Denot)). ‵ (slots_own Rt l b (o + 16))) row refl $
     use2 𝓛 (‵ (runs_at Rt (param 1 Mr) xss b (o + 16)) ⊛ ‵
-    (places Rw (empty v) b (count * s + (o + 16))))
+    (slots_own Rw (empty_slots v) b (count * s + (o + 16))))
     (words_in 𝓛 T LT m k b hd items count j v w old (o + 16) whole_words slots_are fill
     (hd.counts.covers old)) $ split ! $ move ! (4 ∷ []) $ fsplit ! $ fsplit ! $ drop ! $
     keep ! (2 ∷ 3 ∷ 4 ∷ 5 ∷ 0 ∷ 9 ∷ 10 ∷ 6 ∷ 7 ∷ 8 ∷ []) $
@@ -270,7 +272,7 @@ resize_words_spec 𝓤 𝓛 𝓜 𝓡 wired T A m k LT LA fits_m fits_k g d dd m
     use1 𝓛 (later (exists
     (λ (r : Unit {0}). ((‵ (flft κT qT) ⊛ ‵ (flft κM qM) ⊛ ‵ ftrue) ⊛ ‵ (unit.own_val r (v₀ ∷ [])))
     ⊛ exists (λ (us : Unit {0} × (Unit {0} × Unit {0})). ‵ (fsep ftrue (fsep ftrue ftrue)) ⊛ ‵
-    (places Rw (full ws) b (o + 16)))))) (id⊢ 𝓤 _) $
+    (slots_own Rw (filled_slots ws) b (o + 16)))))) (id⊢ 𝓤 _) $
     await ! tt $ pick ! (λ r₀. split ! $ split ! $ move ! (1 ∷ []) $ feq_l ! (λ is_unit.
     move ! (1 ∷ []) $ pick ! (λ us₀. split ! $ drop ! $
     lands_as ! (ap only is_unit) refl (tt, tt) $ move ! (0 ∷ 2 ∷ []) $
@@ -278,13 +280,16 @@ resize_words_spec 𝓤 𝓛 𝓜 𝓡 wired T A m k LT LA fits_m fits_k g d dd m
     -- this order: the words; the empty words; the lifetime tokens of `T` and `M`; memory for the
     -- header; the right to free the block; the shared reference to the allocator and its lifetime
     -- token; the lifetime tokens of `A` and `K`.
-    use2 𝓛 (‵ (places Rw (full ws ++ empty v) b (o + 16)))
+    use2 𝓛 (‵ (slots_own Rw (filled_slots ws ++ empty_slots v) b (o + 16)))
     (words_joined 𝓛 T LT m k b hd items count j v w old (o + 16) whole_words slots_are fill
     (hd.counts.covers old)) $
-    rewrite ! 0 (λ (l : List W.row.Denot). ‵ (places Rw (full l ++ empty v) b (o + 16))) joined
+    rewrite ! 0 (λ (l : List W.row.Denot).
+    ‵ (slots_own Rw (filled_slots l ++ empty_slots v) b (o + 16))) joined
     refl $
-    use1 𝓛 (‵ (places Rw (full xs) b (o + 16)) ⊛ ‵ (part_at (Array Rw k) full_share ys b there) ⊛ ‵
-    (places Rw (empty v) b (k * s + there))) (turn_out 𝓛 W b k sixteen o xs ys long count v parted)
+    use1 𝓛 (‵ (slots_own Rw (filled_slots xs) b (o + 16)) ⊛
+    ‵ (part_at (Array Rw k) full_share ys b there) ⊛ ‵
+    (slots_own Rw (empty_slots v) b (k * s + there)))
+    (turn_out 𝓛 W b k sixteen o xs ys long count v parted)
     $ split3 ! $ move ! (3 ∷ []) $ split3 ! $ move ! (2 ∷ []) $ drop ! $
     -- The last `k` words have been separated from the earlier words. The proof context now holds,
     -- in this order: the lifetime tokens of `T` and `M`; the earlier words; the last `k` words; the
@@ -349,7 +354,8 @@ resize_words_spec 𝓤 𝓛 𝓜 𝓡 wired T A m k LT LA fits_m fits_k g d dd m
     held wanted (ys ++ xs) leW leA sizes are.1.1.1.1.1.0.1 are.1.1.1.1.1.1.0.1
     are.1.1.1.1.1.1.1.0.1) $
     calls_at ! (fm 𝓛 𝓜 𝓡) V
-    (resized_met.met 𝓤 𝓛 𝓜 𝓡 (compiled.calls-thin_block::in_place::resized 𝓡.env wired) X A EX.laws
+    (grow_or_shrink_met.met 𝓤 𝓛 𝓜 𝓡
+    (compiled.calls-thin_block::in_place::grow_or_shrink 𝓡.env wired) X A EX.laws
     LA g d dd met md) y
     (and_then ! (get ! refl) (and_then ! (get ! refl) (and_then ! (get ! refl)
     (and_then ! (get ! refl) (and_then ! (get ! refl) (no_more !)))))) (λ u.
@@ -357,13 +363,13 @@ resize_words_spec 𝓤 𝓛 𝓜 𝓡 wired T A m k LT LA fits_m fits_k g d dd m
     (flft κA z.0.1.1.1.0)))
     (Resizing-gives EX Y 𝓛 𝓜.mem 𝓡.returns κ κT κA q qT z.0.1.1.1.0 z.0.2.0 handle_at h b o count
     held wanted (ys ++ xs) u) $ await ! tt $ split ! $ move ! (1 ∷ []) $ split3 ! $
-    -- `resized` has returned. The proof context now holds, in this order: the lifetime tokens of
-    -- the allocator reference, of `T` and of `A`; the result of `resized`; the lifetime tokens of
-    -- `M` and `K`.
+    -- `grow_or_shrink` has returned. The proof context now holds, in this order: the lifetime
+    -- tokens of the allocator reference, of `T` and of `A`; the result of `grow_or_shrink`; the
+    -- lifetime tokens of `M` and `K`.
     move ! (2 ∷ 4 ∷ []) $ join ! $ move ! (2 ∷ 0 ∷ []) $ join ! $ move ! (1 ∷ 0 ∷ []) $ join ! $
     move ! (1 ∷ []) $
     -- The proof has joined the lifetime tokens into one entry. The proof context now holds, in this
-    -- order: the resources that `resized` has returned; the lifetime tokens.
+    -- order: the resources that `grow_or_shrink` has returned; the lifetime tokens.
     let inner : Body = inside (head (after 1 fn.body)) in
     let both : Body = head (after 12 inner) in
     let Last : After 𝓤 H = out_of_block 𝓛
@@ -373,9 +379,9 @@ resize_words_spec 𝓤 𝓛 𝓜 𝓡 wired T A m k LT LA fits_m fits_k g d dd m
     (λ b' o' e.
     let p : Ptr = block_ptr b' o' in
     let there' : ℕ = count * s + o' in
-    let news : List (Option T.Denot) = full items ++ empty j' in
+    let news : List (Option T.Denot) = filled_slots items ++ empty_slots j' in
     let some_more : length news ≡ cap =
-    let front = length-append (full items) (empty {T = T.Denot} j') in
+    let front = length-append (filled_slots items) (empty_slots {T = T.Denot} j') in
     let first_ones = length-map items Some in
     let bare_ones = length-replicate {A = Option T.Denot} j' None in
     omega arith in
@@ -387,11 +393,12 @@ resize_words_spec 𝓤 𝓛 𝓜 𝓡 wired T A m k LT LA fits_m fits_k g d dd m
       slots = news;
       len = x.len;
       alloc = Some h;
-      cost = growing x.len x.cost;
+      cost = add_realloc x.len x.cost;
       sound = (omega arith, any_some news (omega arith), omega arith);
     } in
-    let changes : seen y' ≡ record (seen y') { slots = laid 0 (run 0 x.len x.slots) (empty cap) } =
-    ap (λ (l : List (Option T.Denot)). record (seen y') { slots = l })
+    let changes : block_view y' ≡ record
+    (block_view y') { slots = write_slots 0 (slot_range 0 x.len x.slots) (empty_slots cap) } =
+    ap (λ (l : List (Option T.Denot)). record (block_view y') { slots = l })
     (sym (packed-carried x.slots x.len packed cap)) in
     lands_as ! e refl (tt, (record { fits = lit< tt }, (tt, tt))) $
     first ! $ switches_on ! (get_tag ! (vrt ! refl (fld ! refl (stop !))) (whole !)) $
@@ -404,8 +411,9 @@ resize_words_spec 𝓤 𝓛 𝓜 𝓡 wired T A m k LT LA fits_m fits_k g d dd m
     (ap (vint w64) (uncapped count s short))) refl (tt, record { fits = short }) $
     sets ! (bin ! (get ! refl) (get ! refl) tt) refl (tt, tt) $
     sets ! (of_opd ! (get ! refl)) refl (tt, tt) $
-    use1 𝓛 (‵ (part_at (Array Rw k) full_share ys b' o') ⊛ ‵ (places Rw (full xs) b' (o' + 16))
-    ⊛ ‵ (froom (ty_array ω k) b' there') ⊛ ‵ (places Rw (empty v') b' (k * s + there')) ⊛ ‵
+    use1 𝓛 (‵ (part_at (Array Rw k) full_share ys b' o') ⊛
+    ‵ (slots_own Rw (filled_slots xs) b' (o' + 16))
+    ⊛ ‵ (froom (ty_array ω k) b' there') ⊛ ‵ (slots_own Rw (empty_slots v') b' (k * s + there')) ⊛ ‵
     (tok (array_of Rw wanted) (block_ptr b' o')))
     (turn_down 𝓛 W b' k sixteen o' xs ys long count v' parted tok w' wanted filled' wanted_is) $
     split3 ! $ move ! (2 ∷ []) $ split3 ! $ move ! (3 ∷ []) $
@@ -416,16 +424,16 @@ resize_words_spec 𝓤 𝓛 𝓜 𝓡 wired T A m k LT LA fits_m fits_k g d dd m
     let good' = (((array_at_laws 3 Rw (param_laws 0 W.row W.laws) k).lawful 𝓛).typed ys (u₂ ∷ [])
     is_u₂).0 in
     move ! (1 ∷ []) $
-    -- The call to `resized` has succeeded, and the proof has split the returned array into the last
-    -- `k` words, the preceding words and the empty words. The proof context now holds, in this
-    -- order: the bytes of the last `k` words, in the memory of the header; the resources that the
-    -- last `k` words own; uninitialized memory directly after the preceding words; the empty words;
-    -- the right to free the block; the preceding words; the lifetime tokens.
+    -- The call to `grow_or_shrink` has succeeded, and the proof has split the returned array into
+    -- the last `k` words, the preceding words and the empty words. The proof context now holds, in
+    -- this order: the bytes of the last `k` words, in the memory of the header; the resources that
+    -- the last `k` words own; uninitialized memory directly after the preceding words; the empty
+    -- words; the right to free the block; the preceding words; the lifetime tokens.
     sets ! (of_opd ! (load ! (through ! refl (stop !)) (look ! 0 refl))) refl good' $
     assigns ! (of_opd ! (get ! refl)) (through ! refl (stop !)) (init ! 2 refl good') $
     use1 𝓛 (‵ (froom (ty_array ω k) b' o')) (𝓛.laws.at_room (ty_array ω k) b' o' u₂) $
     use1 𝓛 (‵ (froom (ty_int w64) b' o') ⊛ ‵ (froom (ty_int w64) b' (o' + 8)) ⊛ ‵
-    (header_way τ' m k b' o')) (units_out 𝓛 T LT b' m k in_words o') $ split3 ! $
+    (header_wand τ' m k b' o')) (units_out 𝓛 T LT b' m k in_words o') $ split3 ! $
     rewrite ! 1 (λ (n : ℕ). ‵ (froom (ty_int w64) b' n))
     (let turned : o' + 8 ≡ 8 + o' = omega arith in turned) refl $
     sets ! (of_opd ! (get ! refl)) refl (tt, tt) $
@@ -445,8 +453,8 @@ resize_words_spec 𝓤 𝓛 𝓜 𝓡 wired T A m k LT LA fits_m fits_k g d dd m
     exec ! C Λ En (after 2 fn.body) (at_ret En Post) $
     sets ! (of_opd ! (get ! refl)) refl (tt, (record { fits = lit< tt }, (words, tt))) $
     returns ! (look_at ! 0 refl) $ free_all ! refl $
-    -- The call to `resized` has succeeded. The function has copied the bytes of the last `k` words
-    -- to the memory directly after the preceding words, and has written the header. The proof
+    -- The call to `grow_or_shrink` has succeeded. The function has copied the bytes of the last `k`
+    -- words to the memory directly after the preceding words, and has written the header. The proof
     -- context now holds, in this order: the capacity in the header; the length in the header; the
     -- right to convert the memory of the header back into memory for words; the resources that the
     -- last `k` words own; the bytes of these words; the empty words; the right to free the block;
@@ -460,23 +468,24 @@ resize_words_spec 𝓤 𝓛 𝓜 𝓡 wired T A m k LT LA fits_m fits_k g d dd m
     (uint_in 𝓛 full_share w64 len b' (o' + 8)) $ move ! (4 ∷ 3 ∷ []) $
     use2 𝓛 (‵ (part_at (Array Rw k) full_share ys b' there'))
     (part_in 𝓛 (Array Rw k) refl full_share ys b' there' u₂) $ move ! (6 ∷ 0 ∷ 4 ∷ []) $
-    use3 𝓛 (‵ (places Rw (full (xs ++ ys) ++ empty v') b' (o' + 16)))
+    use3 𝓛 (‵ (slots_own Rw (filled_slots (xs ++ ys) ++ empty_slots v') b' (o' + 16)))
     (turn_back 𝓛 W b' k sixteen o' xs ys long count v' parted) $
-    rewrite ! 0 (λ (l : List W.row.Denot). ‵ (places Rw (full l ++ empty v') b' (o' + 16)))
+    rewrite ! 0 (λ (l : List W.row.Denot).
+    ‵ (slots_own Rw (filled_slots l ++ empty_slots v') b' (o' + 16)))
     (sym joined) refl $
-    use1 𝓛 (‵ (places Rt news b' (o' + 16)) ⊛ ‵ (slots_way τ' m w' cap b' (o' + 16)))
+    use1 𝓛 (‵ (slots_own Rt news b' (o' + 16)) ⊛ ‵ (slots_wand τ' m w' cap b' (o' + 16)))
     (words_back 𝓛 T LT m k b' hd items count j' v' w' cap (o' + 16) whole_words slots_are' fill'
     (hd.counts.covers cap)) $ split ! $
-    -- The call to `resized` has succeeded. The proof has converted the filled words into filled
-    -- slots, and the empty words into empty slots. The proof context now holds, in this order: the
-    -- slots; the right to convert the memory of the slots back into memory for words; the length;
-    -- the capacity; the right to convert the memory of the header back into memory for words; the
-    -- right to free the block; the lifetime tokens.
+    -- The call to `grow_or_shrink` has succeeded. The proof has converted the filled words into
+    -- filled slots, and the empty words into empty slots. The proof context now holds, in this
+    -- order: the slots; the right to convert the memory of the slots back into memory for words;
+    -- the length; the capacity; the right to convert the memory of the header back into memory for
+    -- words; the right to free the block; the lifetime tokens.
     move ! (3 ∷ 2 ∷ 4 ∷ 1 ∷ 5 ∷ []) $ group ! 5 $
-    use1 𝓛 (‵ (frame tok Rt len cap b' o'))
+    use1 𝓛 (‵ (header_owns tok Rt len cap b' o'))
     (header_whole 𝓛 T LT b' m k in_words o' tok len cap wanted wanted_is fits_cap) $
-    rewrite ! 0 (λ (n : ℕ). ‵ (frame tok Rt n cap b' o')) len_is refl $
-    rewrite ! 0 (λ (n : ℕ). ‵ (frame tok Rt x.len n b' o')) (sym some_more) refl $
+    rewrite ! 0 (λ (n : ℕ). ‵ (header_owns tok Rt n cap b' o')) len_is refl $
+    rewrite ! 0 (λ (n : ℕ). ‵ (header_owns tok Rt x.len n b' o')) (sym some_more) refl $
     block_made E Y ! y' b' o' refl $
     use1 𝓛 (‵ (Out.own_val (Ok y') (live 0 (vcons (block_val p) vnil) ∷ [])))
     (ok_of 𝓛 B B y' (block_val p)) $
@@ -491,8 +500,9 @@ resize_words_spec 𝓤 𝓛 𝓜 𝓡 wired T A m k LT LA fits_m fits_k g d dd m
     exec ! C Λ En (arm_body 1 both) Then $
     sets ! (of_opd ! (get_in ! (vrt ! refl (fld ! refl (stop !)))
     (in_variant ! 1 0 refl refl (whole !)))) refl (tt, tt) $
-    use1 𝓛 (‵ (part_at (Array Rw k) full_share ys b o) ⊛ ‵ (places Rw (full xs) b (o + 16))
-    ⊛ ‵ (froom (ty_array ω k) b there) ⊛ ‵ (places Rw (empty v) b (k * s + there)) ⊛ ‵
+    use1 𝓛 (‵ (part_at (Array Rw k) full_share ys b o) ⊛
+    ‵ (slots_own Rw (filled_slots xs) b (o + 16))
+    ⊛ ‵ (froom (ty_array ω k) b there) ⊛ ‵ (slots_own Rw (empty_slots v) b (k * s + there)) ⊛ ‵
     (tok (array_of Rw held) (block_ptr b o)))
     (turn_down 𝓛 W b k sixteen o xs ys long count v parted tok w held filled held_is) $
     split3 ! $ move ! (2 ∷ []) $ split3 ! $ move ! (3 ∷ []) $
@@ -503,17 +513,17 @@ resize_words_spec 𝓤 𝓛 𝓜 𝓡 wired T A m k LT LA fits_m fits_k g d dd m
     let good' = (((array_at_laws 3 Rw (param_laws 0 W.row W.laws) k).lawful 𝓛).typed ys (u₂ ∷ [])
     is_u₂).0 in
     move ! (1 ∷ []) $
-    -- The call to `resized` has failed. The proof has split the old array into three parts: the
-    -- words before the last `k` words, the last `k` words, and the empty words. The proof context
-    -- now holds, in this order: the bytes of the last `k` words, in the memory of the header; the
-    -- resources that the last `k` words own; the uninitialized memory directly after the first
-    -- part; the empty words; the right to free the block; the words of the first part; the lifetime
-    -- tokens.
+    -- The call to `grow_or_shrink` has failed. The proof has split the old array into three parts:
+    -- the words before the last `k` words, the last `k` words, and the empty words. The proof
+    -- context now holds, in this order: the bytes of the last `k` words, in the memory of the
+    -- header; the resources that the last `k` words own; the uninitialized memory directly after
+    -- the first part; the empty words; the right to free the block; the words of the first part;
+    -- the lifetime tokens.
     sets ! (of_opd ! (load ! (through ! refl (stop !)) (look ! 0 refl))) refl good' $
     assigns ! (of_opd ! (get ! refl)) (through ! refl (stop !)) (init ! 2 refl good') $
     use1 𝓛 (‵ (froom (ty_array ω k) b o)) (𝓛.laws.at_room (ty_array ω k) b o u₂) $
     use1 𝓛 (‵ (froom (ty_int w64) b o) ⊛ ‵ (froom (ty_int w64) b (o + 8)) ⊛ ‵
-    (header_way τ' m k b o)) (units_out 𝓛 T LT b m k in_words o) $ split3 ! $
+    (header_wand τ' m k b o)) (units_out 𝓛 T LT b m k in_words o) $ split3 ! $
     rewrite ! 1 (λ (n : ℕ). ‵ (froom (ty_int w64) b n))
     (let turned : o + 8 ≡ 8 + o = omega arith in turned) refl $
     assigns ! (of_opd ! (get ! refl)) (through ! refl (stop !))
@@ -532,10 +542,10 @@ resize_words_spec 𝓤 𝓛 𝓜 𝓡 wired T A m k LT LA fits_m fits_k g d dd m
     exec ! C Λ En (after 2 fn.body) (at_ret En Post) $
     sets ! (of_opd ! (get ! refl)) refl (tt, (record { fits = lit< tt }, (words, tt))) $
     returns ! (look_at ! 0 refl) $ free_all ! refl $
-    -- The call to `resized` has failed. After this call, `resize_words` has copied the bytes of the
-    -- last `k` words to the memory directly after the preceding words, and has written the header.
-    -- The proof context now holds, in this order: the capacity in the header; the length in the
-    -- header; the right to convert the memory of the header back into memory for words; the
+    -- The call to `grow_or_shrink` has failed. After this call, `resize_words` has copied the bytes
+    -- of the last `k` words to the memory directly after the preceding words, and has written the
+    -- header. The proof context now holds, in this order: the capacity in the header; the length in
+    -- the header; the right to convert the memory of the header back into memory for words; the
     -- resources that the last `k` words own; the bytes of these words; the empty words; the right
     -- to free the block; the preceding words; the lifetime tokens.
     rewrite ! 1 (λ (n : ℕ). ‵ (fat full_share (ty_int w64) b n (vint w64 len)))
@@ -546,27 +556,28 @@ resize_words_spec 𝓤 𝓛 𝓜 𝓡 wired T A m k LT LA fits_m fits_k g d dd m
     (uint_in 𝓛 full_share w64 len b (o + 8)) $ move ! (4 ∷ 3 ∷ []) $
     use2 𝓛 (‵ (part_at (Array Rw k) full_share ys b there))
     (part_in 𝓛 (Array Rw k) refl full_share ys b there u₂) $ move ! (6 ∷ 0 ∷ 4 ∷ []) $
-    use3 𝓛 (‵ (places Rw (full (xs ++ ys) ++ empty v) b (o + 16)))
+    use3 𝓛 (‵ (slots_own Rw (filled_slots (xs ++ ys) ++ empty_slots v) b (o + 16)))
     (turn_back 𝓛 W b k sixteen o xs ys long count v parted) $
-    rewrite ! 0 (λ (l : List W.row.Denot). ‵ (places Rw (full l ++ empty v) b (o + 16)))
+    rewrite ! 0 (λ (l : List W.row.Denot).
+    ‵ (slots_own Rw (filled_slots l ++ empty_slots v) b (o + 16)))
     (sym joined) refl $
-    use1 𝓛 (‵ (places Rt (full items ++ empty j) b (o + 16)) ⊛ ‵
-    (slots_way τ' m w old b (o + 16)))
+    use1 𝓛 (‵ (slots_own Rt (filled_slots items ++ empty_slots j) b (o + 16)) ⊛ ‵
+    (slots_wand τ' m w old b (o + 16)))
     (words_back 𝓛 T LT m k b hd items count j v w old (o + 16) whole_words slots_are fill
     (hd.counts.covers old)) $ split ! $
-    -- The call to `resized` has failed. The proof has converted the filled words into filled slots,
-    -- and the empty words into empty slots. The proof context now holds, in this order: the slots;
-    -- the right to convert the memory of the slots back into memory for words; the length; the
-    -- capacity; the right to convert the memory of the header back into memory for words; the right
-    -- to free the block; the lifetime tokens.
+    -- The call to `grow_or_shrink` has failed. The proof has converted the filled words into filled
+    -- slots, and the empty words into empty slots. The proof context now holds, in this order: the
+    -- slots; the right to convert the memory of the slots back into memory for words; the length;
+    -- the capacity; the right to convert the memory of the header back into memory for words; the
+    -- right to free the block; the lifetime tokens.
     move ! (3 ∷ 2 ∷ 4 ∷ 1 ∷ 5 ∷ []) $ group ! 5 $
-    use1 𝓛 (‵ (frame tok Rt len old b o))
+    use1 𝓛 (‵ (header_owns tok Rt len old b o))
     (header_whole 𝓛 T LT b m k in_words o tok len old held held_is fits_old) $
-    rewrite ! 0 (λ (n : ℕ). ‵ (frame tok Rt n old b o)) len_is refl $
-    rewrite ! 0 (λ (n : ℕ). ‵ (frame tok Rt x.len n b o)) old_is refl $
+    rewrite ! 0 (λ (n : ℕ). ‵ (header_owns tok Rt n old b o)) len_is refl $
+    rewrite ! 0 (λ (n : ℕ). ‵ (header_owns tok Rt x.len n b o)) old_is refl $
     rewrite ! 0 (λ (u : Option A.Denot). ‵ (header (t E Y) Rt x.len (length x.slots) u b o))
     (sym from) refl $
-    rewrite ! 1 (λ (l : List (Option T.Denot)). ‵ (places Rt l b (o + 16))) (sym row) refl $
+    rewrite ! 1 (λ (l : List (Option T.Denot)). ‵ (slots_own Rt l b (o + 16))) (sym row) refl $
     block_made E Y ! x b o at $
     use1 𝓛 (‵ (Out.own_val (Err x) (live 1 (vcons (block_val here) vnil) ∷ [])))
     (err_of 𝓛 B B x (block_val here)) $

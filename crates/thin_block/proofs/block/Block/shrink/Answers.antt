@@ -5,21 +5,21 @@ use denote.Param.{param}
 use Rattle.thin_block.proofs.BlockLemmas.{slots-are}
 use Rattle.thin_block.proofs.CapacityLemmas.{fits-less}
 use Rattle.thin_block.proofs.SlotsLemmas.{packed-shrunk}
-use Rattle.thin_block.proofs.Outcomes.{on-ok}
+use Rattle.thin_block.proofs.ResultLemmas.{on-ok}
 use Rattle.thin_block.proofs.block.Block.shrink.Goals as goal
 
 -- A block of the new capacity is small enough to be allocated, because the new capacity is less
 -- than the old capacity.
 pub resize-requires-clause-fits : goal.resize-requires-clause-fits
 resize-requires-clause-fits g c =
-    let smaller = c.requires.smaller in
+    let smaller = c.requires.cap_shrinks in
     fits-less (param 0 g.row.T) c.args.cap (length c.args.self.now.slots)
     c.len-len.ensures.slots_fit (omega arith)
 
 -- If `shrink` succeeds, the new list of slots consists of the first `cap` slots of the old block.
 pub returns-clause-ok : goal.returns-clause-ok
 returns-clause-ok g c =
-    let smaller = c.requires.smaller in
+    let smaller = c.requires.cap_shrinks in
     on-ok c.resize.result
     (λ e. slots-are e (packed-shrunk c.args.self.now.slots c.args.self.now.len c.requires.packed
-    c.args.cap c.requires.room (omega arith))) c.resize.ensures.remade.ok
+    c.args.cap c.requires.len_le_cap (omega arith))) c.resize.ensures.reallocated.ok

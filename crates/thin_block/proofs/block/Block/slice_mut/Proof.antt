@@ -1,19 +1,19 @@
 -- This file proves the contract of `slice_mut`, which returns the items in adjacent slots as a
 -- mutable slice.
 use Rattle.std.proofs.Common.{◌≡◌, ℕ, Some, ◌+◌, ◌-◌, ◌*◌, ◌^◌, ◌<◌, ◌≤◌, List, ◌∷◌, [], ◌++◌, length, refl, sym, ap, subst, ◌∙◌, arith, w64}
-use Rattle.thin_block.proofs.Walks.{length-map, named, vint, inst_fn, ent, sep, emp, Lft, Share, GName, Fml, fsep, flft, fact, fact_i, sem, ‵, raw, ◌⊛◌, exists, later, pick, await, ◌$◌, !, by, move, use0, use1, split, split3, join, group, fjoin, rewrite, agg, bin, of_opd, no_more, and_then, first, blocks, returns, alloc_all, pass_all, free_all, look_at, sets, sets_last, get, cells, Array, mem, slice_val, walk_of, proved_at, leaves, R}
+use Rattle.thin_block.proofs.WalkPrelude.{length-map, named, vint, inst_fn, ent, sep, emp, Lft, Share, GName, Fml, fsep, flft, fact, fact_i, sem, ‵, raw, ◌⊛◌, exists, later, pick, await, ◌$◌, !, by, move, use0, use1, split, split3, join, group, fjoin, rewrite, agg, bin, of_opd, no_more, and_then, first, blocks, returns, alloc_all, pass_all, free_all, look_at, sets, sets_last, get, cells, Array, mem, slice_val, walk_of, proved_at, leaves, R}
 use denote.Follow.{follows}
 use denote.FollowSlice.{lends_Elements}
 use denote.Slice.{MutSlice}
 use Rattle.std.specs.Prelude.{slice_range}
-use Rattle.thin_block.specs.Lends.{with_items}
-use Rattle.thin_block.specs.Ownership.{places}
-use Rattle.thin_block.specs.Slots.{full}
+use Rattle.thin_block.specs.Lends.{set_slots}
+use Rattle.thin_block.specs.Ownership.{slots_own}
+use Rattle.thin_block.specs.Slots.{filled_slots}
 use Rattle.thin_block.proofs.SlotsLemmas.{full-run, length-run}
 use Rattle.thin_block.proofs.HeaderMemory.{args, Br}
 use Rattle.thin_block.proofs.SlotMemory.{sz, reach, around, run_out, to_cells}
-use Rattle.thin_block.proofs.Lending.{Waiting, items_back}
-use Rattle.thin_block.proofs.Methods.{blank, item, source, others, dropped, all_go, begins, enters, ptr_of, opens_self, continues, word}
+use Rattle.thin_block.proofs.BorrowLemmas.{Waiting, items_back}
+use Rattle.thin_block.proofs.MethodSignatures.{blank, item, source, others, dropped, all_go, begins, enters, ptr_of, opens_self, continues, word}
 use Rattle.thin_block.proofs.Addresses.{near, its_ptr, slot_found}
 use Rattle.thin_block.specs.contracts.block.Block.slice_mut.{ended, clauses}
 use Rattle.thin_block.specs.contracts.block.Block.slice_mut.Key.{name as #self}
@@ -62,8 +62,8 @@ slice_mut_spec 𝓤 𝓛 𝓜 𝓡 wired T A LT LA g d dd met md =
     continues ! 𝓜 𝓡 fn l 2 ((walk_of 𝓛 En₀ hs c).post z) $
     sets ! (of_opd ! (get ! refl)) refl (tt, (tt, (record { fits = omega arith }, tt))) $
     move ! (1 ∷ []) $ use1 𝓛
-    (‵ (places (R E) (full xs) b here) ⊛ ‵ (around E 𝓛 b (o + 16) x.slots i k))
-    (run_out E 𝓛 b (o + 16) x.slots i k (omega arith) (full xs) items.1) $ split ! $
+    (‵ (slots_own (R E) (filled_slots xs) b here) ⊛ ‵ (around E 𝓛 b (o + 16) x.slots i k))
+    (run_out E 𝓛 b (o + 16) x.slots i k (omega arith) (filled_slots xs) items.1) $ split ! $
     use1 𝓛 (‵ (cells (mem (R E)) xs b here)) (to_cells E 𝓛 b xs here) $
     -- The slots of the slice have been separated from the other slots. The proof context now holds,
     -- in this order: the items of the slice; the other slots; the header; the block's pointer; the
@@ -73,7 +73,7 @@ slice_mut_spec 𝓤 𝓛 𝓜 𝓡 wired T A LT LA g d dd met md =
     (Waiting E Y 𝓛 x b o r.ref_ptr.0 r.ref_ptr.1 at) in
     let Back : List T.Denot → Type 1 =
     λ ws. ent 𝓤 (sep 𝓤 (sem 𝓛 (cells (mem (R E)) ws b here)) (sem 𝓛 Rest))
-    (sem 𝓛 ((mem (Br E Y)).own_at (with_items x i ws) r.ref_ptr.0 r.ref_ptr.1)) in
+    (sem 𝓛 ((mem (Br E Y)).own_at (set_slots x i ws) r.ref_ptr.0 r.ref_ptr.1)) in
     let back : (ws : List T.Denot) → length ws ≡ length xs → Back ws =
     λ ws same. items_back E Y 𝓛 x b o r.ref_ptr.0 r.ref_ptr.1 at i k (omega arith)
     (λ n p q. filled n p (omega arith)) ws (same ∙ long) in
@@ -84,8 +84,8 @@ slice_mut_spec 𝓤 𝓛 𝓜 𝓡 wired T A LT LA g d dd met md =
     ((MutSlice (named 0) κ (R E)).own_val
     (record { ref_ptr = (b, here); ghost_name = γ'; now = xs })
     (slice_val (b, here) (length xs) ∷ [])) ⊛ ‵ (flft κ q) ⊛ ‵
-    (follows (Br E Y) (Array (R E) 0) γ γ' (with_items x i)))))
-    (lends_Elements 𝓛 (Br E Y) (R E) (with_items x i) (named 0) κ q r.ref_ptr.0 r.ref_ptr.1
+    (follows (Br E Y) (Array (R E) 0) γ γ' (set_slots x i)))))
+    (lends_Elements 𝓛 (Br E Y) (R E) (set_slots x i) (named 0) κ q r.ref_ptr.0 r.ref_ptr.1
     b here γ xs small (sem 𝓛 Rest)
     back ((Br E Y).coded.code x) ((Br E Y).coded.code x)) $
     await ! tt $ pick ! (λ γ'. split3 ! $ returns ! (look_at ! 0 refl) $ free_all ! refl $
@@ -96,8 +96,8 @@ slice_mut_spec 𝓤 𝓛 𝓜 𝓡 wired T A LT LA g d dd met md =
     ((MutSlice (named 0) κ (R E)).own_val
     (record { ref_ptr = (b, here); ghost_name = γ'; now = xs }) (slice_val (b, here) n ∷ [])))
     long refl $
-    use0 𝓛 (raw (fact 𝓤 (full xs ≡ slice_range x.slots i j)))
-    (fact_i 𝓤 (full xs ≡ slice_range x.slots i j) (emp 𝓤) (sym items.1)) $
+    use0 𝓛 (raw (fact 𝓤 (filled_slots xs ≡ slice_range x.slots i j)))
+    (fact_i 𝓤 (filled_slots xs ≡ slice_range x.slots i j) (emp 𝓤) (sym items.1)) $
     move ! (3 ∷ 0 ∷ []) $ join ! $
     blank ! 3 $
     move ! (3 ∷ 4 ∷ []) $ join ! $ move ! (0 ∷ 1 ∷ 3 ∷ 2 ∷ []) $

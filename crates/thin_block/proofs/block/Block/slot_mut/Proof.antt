@@ -1,16 +1,16 @@
 -- This file proves the contract of `slot_mut`, which returns a mutable reference to the item in a
 -- filled slot.
 use Rattle.std.proofs.Common.{◌≡◌, ℕ, Some, None, ◌+◌, ◌*◌, ◌<◌, ◌∷◌, [], ◌++◌, length, refl, arith, w64}
-use Rattle.thin_block.proofs.Walks.{get_or, named, vint, vptr, inst_fn, emp, Lft, Share, GName, Fml, fsep, flft, fact, fact_i, sem, ‵, raw, ◌⊛◌, exists, later, pick, await, ◌$◌, !, by, move, use0, use1, split3, join, group, fjoin, stop, of_opd, first, blocks, returns, alloc_all, pass_all, free_all, look_at, through, sets, sets_last, get, walk_of, proved_at, leaves, R}
+use Rattle.thin_block.proofs.WalkPrelude.{get_or, named, vint, vptr, inst_fn, emp, Lft, Share, GName, Fml, fsep, flft, fact, fact_i, sem, ‵, raw, ◌⊛◌, exists, later, pick, await, ◌$◌, !, by, move, use0, use1, split3, join, group, fjoin, stop, of_opd, first, blocks, returns, alloc_all, pass_all, free_all, look_at, through, sets, sets_last, get, walk_of, proved_at, leaves, R}
 use types.Run.{addr}
 use denote.Follow.{follows, lends_Part}
 use denote.Ref.{MutRef}
-use Rattle.thin_block.specs.Lends.{with_item}
+use Rattle.thin_block.specs.Lends.{set_slot}
 use Rattle.thin_block.proofs.SlotsLemmas.{the_item, filled-within}
 use Rattle.thin_block.proofs.HeaderMemory.{args, Br}
 use Rattle.thin_block.proofs.SlotMemory.{sz, besides}
-use Rattle.thin_block.proofs.Lending.{Waiting, item_back}
-use Rattle.thin_block.proofs.Methods.{blank, item, source, others, dropped, all_go, begins, enters, ptr_of, opens_self, continues, word}
+use Rattle.thin_block.proofs.BorrowLemmas.{Waiting, item_back}
+use Rattle.thin_block.proofs.MethodSignatures.{blank, item, source, others, dropped, all_go, begins, enters, ptr_of, opens_self, continues, word}
 use Rattle.thin_block.proofs.Addresses.{near, its_ptr, slot_found, takes_slot}
 use Rattle.thin_block.specs.contracts.block.Block.slot_mut.{ended, clauses}
 use Rattle.thin_block.specs.contracts.block.Block.slot_mut.Key.{name as #self}
@@ -52,8 +52,8 @@ slot_mut_spec 𝓤 𝓛 𝓜 𝓡 wired T A LT LA g d dd met md =
     (λ (γ' : GName). ‵
     ((MutRef (named 0) κ (R E)).own_val
     (record { ref_ptr = (b, here); ghost_name = γ'; now = value }) (vptr b here ∷ [])) ⊛ ‵
-    (flft κ q) ⊛ ‵ (follows (Br E Y) (R E) γ γ' (with_item x i)))))
-    (lends_Part 𝓛 (Br E Y) (R E) (with_item x i) (named 0) κ q r.ref_ptr.0 r.ref_ptr.1
+    (flft κ q) ⊛ ‵ (follows (Br E Y) (R E) γ γ' (set_slot x i)))))
+    (lends_Part 𝓛 (Br E Y) (R E) (set_slot x i) (named 0) κ q r.ref_ptr.0 r.ref_ptr.1
     b here γ (sem 𝓛 Rest)
     (item_back E Y 𝓛 x b o r.ref_ptr.0 r.ref_ptr.1 at i within)
     ((Br E Y).coded.code x) ((Br E Y).coded.code x) value) $

@@ -1,12 +1,12 @@
 -- This file proves the contract of `take`, which moves the item out of a filled slot.
 use Rattle.std.proofs.Common.{ℕ, None, ◌+◌, ◌*◌, ◌<◌, ◌∷◌, [], ◌++◌, length, refl, arith, w64}
-use Rattle.thin_block.proofs.Walks.{set, length-set, get_or, vint, inst_fn, froom, ‵, ◌$◌, !, move, use1, use2, suffices, done, stop, load, look, of_opd, first, blocks, returns, alloc_all, pass_all, free_all, look_at, through, sets, sets_last, get, layout, walk_of, ends_at, proved_at, R, says_all}
+use Rattle.thin_block.proofs.WalkPrelude.{set, length-set, get_or, vint, inst_fn, froom, ‵, ◌$◌, !, move, use1, use2, suffices, done, stop, load, look, of_opd, first, blocks, returns, alloc_all, pass_all, free_all, look_at, through, sets, sets_last, get, layout, walk_of, ends_at, proved_at, R, says_all}
 use Rattle.thin_block.specs.Lends.{with_slots}
-use Rattle.thin_block.specs.Ownership.{place, places}
+use Rattle.thin_block.specs.Ownership.{slot_owns, slots_own}
 use Rattle.thin_block.proofs.SlotsLemmas.{the_item, filled-within}
 use Rattle.thin_block.proofs.HeaderMemory.{args, Br}
 use Rattle.thin_block.proofs.Addresses.{near, its_ptr, slot_found, takes_item}
-use Rattle.thin_block.proofs.Methods.{item, source, others, block_stays, goes, begins, enters, closes_over, leaves_with, ptr_of, opens_self, continues, word}
+use Rattle.thin_block.proofs.MethodSignatures.{item, source, others, block_stays, goes, begins, enters, closes_over, leaves_with, ptr_of, opens_self, continues, word}
 use Rattle.thin_block.proofs.SlotMemory.{sz, slot_in}
 use Rattle.thin_block.specs.contracts.block.Block.take.{ended, clauses}
 use Rattle.thin_block.specs.contracts.block.Block.take.Key.{name as #self}
@@ -42,10 +42,10 @@ take_spec 𝓤 𝓛 𝓜 𝓡 wired T A LT LA g d dd met md =
     continues ! 𝓜 𝓡 fn l 2 ((walk_of 𝓛 En₀ hs c).post z) $
     sets ! (of_opd ! (get ! refl)) refl good $
     use1 𝓛 (‵ (froom (layout T) b here)) (𝓛.laws.at_room (layout T) b here v) $
-    use1 𝓛 (‵ (place (R E) None b here)) (𝓛.laws.room-raw (layout T) b here) $
+    use1 𝓛 (‵ (slot_owns (R E) None b here)) (𝓛.laws.room-raw (layout T) b here) $
     let long = length-set x.slots i None in
     let y : (Br E Y).Denot = with_slots x (set x.slots i None) long in
-    move ! (0 ∷ 2 ∷ []) $ use2 𝓛 (‵ (places (R E) y.slots b (o + 16)))
+    move ! (0 ∷ 2 ∷ []) $ use2 𝓛 (‵ (slots_own (R E) y.slots b (o + 16)))
     (slot_in E 𝓛 b (o + 16) x.slots i within None) $
     move ! (0 ∷ 2 ∷ 3 ∷ 4 ∷ 5 ∷ 6 ∷ []) $ closes_over E Y ! tt r y b o at long $
     returns ! (look_at ! 0 refl) $ free_all ! refl $ leaves_with E Y ! r y 1 are.0.0 $

@@ -1,14 +1,14 @@
 -- This file proves the contract of `take_array`, which moves the items out of adjacent slots and
 -- returns them as an array.
 use Rattle.std.proofs.Common.{◌≡◌, ℕ, Some, None, ◌+◌, ◌*◌, ◌≤◌, List, ◌∷◌, [], ◌++◌, length, refl, sym, ap, ◌∙◌, arith, w64, Option}
-use Rattle.thin_block.proofs.Walks.{length-map, length-replicate, ty_array, Val, vint, inst_fn, full_share, fat, froom, ‵, ◌⊛◌, exists, pick, ◌$◌, !, move, use1, use2, split, suffices, done, stop, look, load, of_opd, first, blocks, returns, alloc_all, pass_all, free_all, look_at, through, sets, sets_last, get, Array, part_at, RattleType, layout, param, number, walk_of, ends_at, proved_at, R, says_all, Is, shows, ArrayAt, param_laws, array_at_laws, peeks, part_out}
+use Rattle.thin_block.proofs.WalkPrelude.{length-map, length-replicate, ty_array, Val, vint, inst_fn, full_share, fat, froom, ‵, ◌⊛◌, exists, pick, ◌$◌, !, move, use1, use2, split, suffices, done, stop, look, load, of_opd, first, blocks, returns, alloc_all, pass_all, free_all, look_at, through, sets, sets_last, get, Array, part_at, RattleType, layout, param, number, walk_of, ends_at, proved_at, R, says_all, Is, shows, ArrayAt, param_laws, array_at_laws, peeks, part_out}
 use Rattle.thin_block.specs.Lends.{with_slots}
-use Rattle.thin_block.specs.Ownership.{places}
-use Rattle.thin_block.specs.Slots.{full, empty, emptied}
+use Rattle.thin_block.specs.Ownership.{slots_own}
+use Rattle.thin_block.specs.Slots.{filled_slots, empty_slots, clear_slots}
 use Rattle.thin_block.proofs.SlotsLemmas.{full-run, length-run, length-laid}
 use Rattle.thin_block.proofs.HeaderMemory.{Br}
 use Rattle.thin_block.proofs.SlotMemory.{sz, around, run_out, run_in, to_items, of_room}
-use Rattle.thin_block.proofs.Methods.{item, source, others, block_stays, goes, begins, enters, closes_over, args_at, leaves_with, ptr_of, opens_self, continues, word}
+use Rattle.thin_block.proofs.MethodSignatures.{item, source, others, block_stays, goes, begins, enters, closes_over, args_at, leaves_with, ptr_of, opens_self, continues, word}
 use Rattle.thin_block.proofs.Addresses.{near, its_ptr, slot_found}
 use Rattle.thin_block.specs.contracts.block.Block.take_array.{ended, clauses}
 use Rattle.thin_block.specs.contracts.block.Block.take_array.Key.{name as #self}
@@ -40,8 +40,8 @@ take_array_spec 𝓤 𝓛 𝓜 𝓡 wired T A N LT LA fits_N g d dd met md =
     let here : ℕ = i * sz E + (o + 16) in
     sets ! (of_opd ! (get ! refl)) refl (tt, tt) $
     move ! (1 ∷ []) $ use1 𝓛
-    (‵ (places (R E) (full xs) b here) ⊛ ‵ (around E 𝓛 b (o + 16) x.slots i N))
-    (run_out E 𝓛 b (o + 16) x.slots i N within (full xs) items.1) $ split ! $
+    (‵ (slots_own (R E) (filled_slots xs) b here) ⊛ ‵ (around E 𝓛 b (o + 16) x.slots i N))
+    (run_out E 𝓛 b (o + 16) x.slots i N within (filled_slots xs) items.1) $ split ! $
     use1 𝓛 (‵ (part_at (Array (R E) N) full_share xs b here)) (to_items E 𝓛 b N xs here count) $
     use1 𝓛 (exists (λ (v : Val). ‵ (fat full_share (ty_array (layout T) N) b here v) ⊛ ‵
     (Arr.own_val xs (v ∷ [])))) (part_out 𝓛 (Array (R E) N) refl full_share xs b here)
@@ -58,15 +58,16 @@ take_array_spec 𝓤 𝓛 𝓜 𝓡 wired T A N LT LA fits_N g d dd met md =
     sets_last ! (of_opd ! (load ! (through ! refl (stop !)) (look ! 0 refl))) refl good $
     continues ! 𝓜 𝓡 fn l 2 ((walk_of 𝓛 En₀ hs c).post z) $
     sets ! (of_opd ! (get ! refl)) refl good $
-    let left : List (Option T.Denot) = emptied i N x.slots in
-    let long_empty : length (empty {T = T.Denot} N) ≡ N = length-replicate N None in
-    let long : length left ≡ length x.slots = length-laid i (empty N) x.slots (omega arith) in
+    let left : List (Option T.Denot) = clear_slots i N x.slots in
+    let long_empty : length (empty_slots {T = T.Denot} N) ≡ N = length-replicate N None in
+    let long : length left ≡ length x.slots = length-laid i (empty_slots N) x.slots (omega arith) in
     let y : (Br E Y).Denot = with_slots x left long in
     use1 𝓛 (‵ (froom (ty_array (layout T) N) b here))
     (𝓛.laws.at_room (ty_array (layout T) N) b here v) $
-    use1 𝓛 (‵ (places (R E) (empty N) b here)) (of_room E 𝓛 b N here) $ move ! (0 ∷ 2 ∷ []) $
-    use2 𝓛 (‵ (places (R E) left b (o + 16)))
-    (run_in E 𝓛 b (o + 16) x.slots i N within (empty N) long_empty) $
+    use1 𝓛 (‵ (slots_own (R E) (empty_slots N) b here)) (of_room E 𝓛 b N here) $
+    move ! (0 ∷ 2 ∷ []) $
+    use2 𝓛 (‵ (slots_own (R E) left b (o + 16)))
+    (run_in E 𝓛 b (o + 16) x.slots i N within (empty_slots N) long_empty) $
     move ! (0 ∷ 2 ∷ 3 ∷ 4 ∷ 5 ∷ 6 ∷ []) $ closes_over E Y ! tt r y b o at long $
     returns ! (look_at ! 0 refl) $ free_all ! refl $ leaves_with E Y ! r y 1 are.0.0 $
     suffices ! _ (ends_at 𝓛 En₀ hs c z v xs (y, (tt, tt)) (tt, (tt, tt))) $

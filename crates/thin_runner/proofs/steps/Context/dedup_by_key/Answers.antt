@@ -11,6 +11,6 @@ returns g c =
         tt,
         deduped-by-keys _ (λ f. f.0) g.J.Judge.model.key
             (λ f x k f' x' called. search rules) _ c.args.list.now c.dedup_by_key.new.self
-            e.deduped e.capacity e.keeps.alloc,
+            e.deduped e.capacity e.preserved.alloc,
       );
     }

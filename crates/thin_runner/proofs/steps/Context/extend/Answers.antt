@@ -20,7 +20,7 @@ returns-in-Ok g c =
       allowed = (
         tt,
         replaces ((e.items.2 ∙ ap (λ l. old.items ++ l) items) ∙ sym (at-end old.items _))
-            e.capacity e.cost.adding e.keeps (sym (without_range-end old)) count (omega arith),
+            e.capacity e.cost.adding e.preserved (sym (without_range-end old)) count (omega arith),
       );
     }
 
@@ -51,10 +51,10 @@ returns-in-Err g c =
                 ∙ sym (ap (λ h. e.placed.0 ++ (h ++ (one ++ hinted_items rest))) none)));
             claim = claim ∙ c.new.ensures.lower;
             filled = replaces (e.placed.1 ∙ sym (at-end old.items e.placed.0)) e.capacity
-                e.cost.adding e.keeps (sym (without_range-end old)) count (omega arith);
+                e.cost.adding e.preserved (sym (without_range-end old)) count (omega arith);
             no_room = places-end old ⊥ may
                 (λ nothing. false≢true
-                (e.succeeds (omega (arith, nothing, most, e.keeps.within.0.room)))) full;
+                (e.succeeds (omega (arith, nothing, most, e.preserved.within.0.room)))) full;
             by_hint = λ _ empty. e.cause.by_hint empty;
             by_held = λ some _. absurd (omega (arith, ap length none, some));
             by_in_hand = λ more. absurd (omega (arith, more));
@@ -64,7 +64,7 @@ returns-in-Err g c =
             at_end = λ end. (none, at-some-in-hand _ _ c.in-Err.refused.in_hand e.in_hand);
             unchanged = λ end empty.
                 (at-no-in-hand _ _ c.in-Err.refused.in_hand e.in_hand empty).0
-                    ∙ sym (without_range-end old);
+                ∙ sym (without_range-end old);
           },
         ),
       );

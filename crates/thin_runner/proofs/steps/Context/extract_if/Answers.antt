@@ -3,7 +3,7 @@
 use Rattle.std.proofs.Common.{ℕ, ◌≡◌, ◌+◌, ◌-◌, ◌++◌, ◌∷◌, [], false, suc, take, slice_range, ap, arith, refl, rules, sym, ◌∙◌, append_assoc}
 use Rattle.std.proofs.lemmas.List.{append-nil}
 use Rattle.thin_vec.specs.Edits.ExtractIf.{extract_block, extract_callee, extract_rest}
-use Rattle.thin_vec.specs.Edits.Retain.{left_at, stay}
+use Rattle.thin_vec.specs.Edits.Retain.{items_where, all_kept}
 use Rattle.thin_runner.specs.commands.Filters.{extract_results}
 use Rattle.thin_runner.proofs.CallbackExtractLemmas.{extracting-ends, extracting-none, extracting-step, extracts-by, goes, handed-by, handed_out}
 use Rattle.thin_runner.proofs.steps.Context.extract_if.Goals as goal
@@ -15,7 +15,7 @@ loop-init g c =
     let e = c.extract_if-extract.ensures in
     let extract = c.extract_if-extract.result in
     let results =
-        extract_results ask a.self.judge a.count (slice_range a.list.now.items a.start a.end) in
+    extract_results ask a.self.judge a.count (slice_range a.list.now.items a.start a.end) in
     let all : a.count - 0 ≡ a.count = omega arith in
     let none : c.reserve.new.self.items ≡ [] = c.reserve.ensures.items
     ∙ c.new-answers.ensures.items in
@@ -24,9 +24,9 @@ loop-init g c =
     λ i. extract_results ask (e.callee i).0 (all i) (e.rest i) in
     record {
       room = omega (arith, c.in-Ok.ensures.ok, c.reserve.ensures.len, c.new-answers.ensures.len);
-      answers = λ i. none i ++ handed_out (all i) (left_at false (same i));
+      answers = λ i. none i ++ handed_out (all i) (items_where false (same i));
       extracting = extracting-none results (take a.start a.list.now.items) a.list.now.cost
-          _ same e.front e.gone e.cost;
+          _ same e.front e.gap e.cost;
       tail = e.tail;
       lender = refl;
       capacity = e.capacity;
@@ -44,21 +44,21 @@ loop-preserved g c =
     let now = c.next.new.self in
     let k = a.count - (c.loop.counter + 1) in
     let results =
-        extract_results ask a.self.judge a.count (slice_range a.list.now.items a.start a.end) in
+    extract_results ask a.self.judge a.count (slice_range a.list.now.items a.start a.end) in
     let one : a.count - c.loop.counter ≡ suc k = omega (arith, c.loop-test.true) in
     let left = extract_results ask (extract_callee now).0 k (extract_rest now) in
     let next : extract_results ask (extract_callee was).0 (a.count - c.loop.counter)
-        (extract_rest was)
-    ≡ stay s.kept ++ (goes c.next.result ++ left) =
+    (extract_rest was)
+    ≡ all_kept s.kept ++ (goes c.next.result ++ left) =
     ap (λ n. extract_results ask (extract_callee was).0 n (extract_rest was)) one
     ∙ extracts-by _ (λ f. f.0) ask
     (λ f x b f' y called. ap (λ z. (b, z, f'.0)) (sym called.leaves)
     ∙ (called.called.met ∙ ap (ask f.0) called.shows)) _ k _ _ _ _ s.kept s.asked in
     let handed : handed_out (a.count - c.loop.counter)
-    (left_at false (extract_results ask (extract_callee was).0 (a.count - c.loop.counter)
+    (items_where false (extract_results ask (extract_callee was).0 (a.count - c.loop.counter)
     (extract_rest was)))
-    ≡ c.next.result ∷ handed_out k (left_at false left) =
-    ap (λ n. handed_out n (left_at false
+    ≡ c.next.result ∷ handed_out k (items_where false left) =
+    ap (λ n. handed_out n (items_where false
     (extract_results ask (extract_callee was).0 n (extract_rest was)))) one
     ∙ handed-by _ (λ f. f.0) ask
     (λ f x b f' y called. ap (λ z. (b, z, f'.0)) (sym called.leaves)
@@ -71,9 +71,9 @@ loop-preserved g c =
         at.room,
         c.loop-test.true,
       );
-      answers = ap (λ l. l ++ handed_out k (left_at false left)) c.in-Ok-push.ensures.items
+      answers = ap (λ l. l ++ handed_out k (items_where false left)) c.in-Ok-push.ensures.items
           ∙ (append_assoc c.loop.answers.items (c.next.result ∷ [])
-          (handed_out k (left_at false left))
+          (handed_out k (items_where false left))
           ∙ (ap (λ l. c.loop.answers.items ++ l) (sym handed) ∙ at.answers));
       extracting = extracting-step results (take a.start a.list.now.items) a.list.now.cost
           _ _ s.kept c.next.result at.extracting next s.front s.gap s.cost;
@@ -90,13 +90,13 @@ returns g c =
     let at = c.loop.invariant in
     let end = c.loop.extract in
     let results =
-        extract_results ask a.self.judge a.count (slice_range a.list.now.items a.start a.end) in
+    extract_results ask a.self.judge a.count (slice_range a.list.now.items a.start a.end) in
     let none : a.count - c.loop.counter ≡ 0 =
     omega (arith, c.loop-test.false, c.loop.auto.counter-end) in
     let left = λ (n : ℕ). extract_results ask (extract_callee end).0 n (extract_rest end) in
-    let stays : left (a.count - c.loop.counter) ≡ stay (extract_rest end) = ap left none in
+    let stays : left (a.count - c.loop.counter) ≡ all_kept (extract_rest end) = ap left none in
     let all = sym (append-nil c.loop.answers.items)
-    ∙ (sym (ap (λ n. c.loop.answers.items ++ handed_out n (left_at false (left n))) none)
+    ∙ (sym (ap (λ n. c.loop.answers.items ++ handed_out n (items_where false (left n))) none)
     ∙ at.answers) in
     record {
       allowed = (

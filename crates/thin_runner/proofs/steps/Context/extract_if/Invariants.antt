@@ -2,7 +2,7 @@
 use Rattle.std.proofs.Common.{◌≡◌, ◌++◌, ◌≤◌, ◌+◌, ◌-◌, drop, take, false, slice_range, vec_len}
 use Rattle.std.specs.Vec.{vec_capacity}
 use Rattle.thin_vec.specs.Edits.ExtractIf.{extract_alloc, extract_block, extract_callee, extract_lender, extract_rest}
-use Rattle.thin_vec.specs.Edits.Retain.{left_at}
+use Rattle.thin_vec.specs.Edits.Retain.{items_where}
 use Rattle.thin_runner.specs.commands.Filters.{extract_results}
 use Rattle.thin_runner.proofs.CallbackExtractLemmas.{IsExtracting, handed_out}
 use Rattle.thin_runner.proofs.steps.Context.extract_if.Given as goal
@@ -16,8 +16,8 @@ invariant-loop g l =
     (extract_rest l.extract) in
     record {
       room : vec_len l.answers + (l.fn.count - l.counter) ≤ vec_capacity l.answers;
-      answers : l.answers.items ++ handed_out (l.fn.count - l.counter) (left_at false left)
-          ≡ handed_out l.fn.count (left_at false results);
+      answers : l.answers.items ++ handed_out (l.fn.count - l.counter) (items_where false left)
+          ≡ handed_out l.fn.count (items_where false results);
       extracting : IsExtracting results (take l.fn.start l.fn.list.items) l.fn.list.cost (record {
         left = left;
         front = (extract_block l.extract).front;

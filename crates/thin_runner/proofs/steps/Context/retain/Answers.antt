@@ -12,6 +12,6 @@ returns g c =
         tt,
         retained-by _ (λ f. f.0) _
             (λ f x b f' y called. looked look f.0 f'.0 x y b (search rules) called.1)
-            _ c.args.list.now c.retain.new.self e.retained e.capacity e.keeps.alloc,
+            _ c.args.list.now c.retain.new.self e.retained e.capacity e.preserved.alloc,
       );
     }

@@ -45,7 +45,7 @@ returns-in-Ok-finish g c =
         (
           search rules,
           replaces-of left (replaces (e.items.2 ∙ (λ i. (is.front i ++ all i) ++ is.tail i))
-              e.capacity e.cost.0 e.keeps (left-is old start end block alloc is) count
+              e.capacity e.cost.0 e.preserved (left-is old start end block alloc is) count
               (ap (λ n. 2 * n) (tail-count old start end block alloc is))),
         ),
       );
@@ -94,7 +94,7 @@ returns-in-Err-finish g c =
                 ∙ stopped-items drawn placed refused e.placed.2;
             claim = stopped-claim drawn placed refused e.placed.2 ∙ claim;
             filled = replaces (e.placed.1 ∙ (λ i. (is.front i ++ placed) ++ is.tail i))
-                e.capacity e.cost.0 e.keeps (left-is old start end block alloc is) count
+                e.capacity e.cost.0 e.preserved (left-is old start end block alloc is) count
                 (ap (λ n. 2 * n) (tail-count old start end block alloc is));
             no_room = λ places. false≢true (⊎_elim
                 (λ (few : may ≤ end - start). e.succeeds (inl (omega (arith, few, most, width))))
@@ -113,17 +113,17 @@ returns-in-Err-finish g c =
             range = λ more. omega (
               arith,
               width,
-              e.before_tail (some-tail old start end block alloc is more),
+              e.err_full (some-tail old start end block alloc is more),
               ap length e.placed.1,
               length-append (block.front ++ placed) block.tail,
               length-append block.front placed,
               length-append block.front block.tail,
             );
             at_end = λ full.
-                let fails = e.without_tail (no-tail old start end block alloc is full) in
+                let fails = e.in_hand (no-tail old start end block alloc is full) in
                 (fails.held, at-some-in-hand _ _ refused.in_hand fails.in_hand);
             unchanged = λ full none.
-                let fails = e.without_tail (no-tail old start end block alloc is full) in
+                let fails = e.in_hand (no-tail old start end block alloc is full) in
                 (at-no-in-hand _ _ refused.in_hand fails.in_hand none).0
                 ∙ left-is old start end block alloc is;
           }),

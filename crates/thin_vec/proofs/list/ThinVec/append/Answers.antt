@@ -2,7 +2,7 @@
 -- `reserve` chooses, and `append` returns any error of `reserve`.
 use Rattle.std.proofs.Common.{Ok, arith, ap, sym, ◌∙◌}
 use denote.Param.{param}
-use Rattle.thin_vec.specs.ThinVec.{capacity_for}
+use Rattle.thin_vec.specs.ThinVec.{capacity_after_reserve}
 use Rattle.thin_vec.proofs.list.ReservesLemmas.{reserves-then}
 use Rattle.thin_vec.proofs.list.ThinVec.append.Goals as goal
 
@@ -12,12 +12,12 @@ returns-clause-items g c = search (arith, ◌∙◌)
 pub returns-in-Err-clause-err : goal.returns-in-Err-clause-err
 returns-in-Err-clause-err g c = search (arith, ◌∙◌)
 
-pub returns-in-Err-clause-reserves : goal.returns-in-Err-clause-reserves
-returns-in-Err-clause-reserves g c = rw c.len.ensures.value at c.in-Err.ensures.reserves
+pub returns-in-Err-clause-capacity : goal.returns-in-Err-clause-capacity
+returns-in-Err-clause-capacity g c = rw c.len.ensures.value at c.in-Err.ensures.capacity
 
-pub returns-clause-reserves : goal.returns-clause-reserves
-returns-clause-reserves g c =
+pub returns-clause-capacity : goal.returns-clause-capacity
+returns-clause-capacity g c =
     reserves-then _ c.args.self.now g.G.Growth.rule (param 0 g.row.T) c.len.result _
     c.reserve.new.self _ (Ok tt) (sym c.len.ensures.value)
-    (ap (λ n. capacity_for g.G.Growth.rule (param 0 g.row.T) c.args.self.now n)
-    (sym c.len.ensures.value)) c.append_reserved.ensures.capacity c.in-Ok.ensures.reserves tt
+    (ap (λ n. capacity_after_reserve g.G.Growth.rule (param 0 g.row.T) c.args.self.now n)
+    (sym c.len.ensures.value)) c.append_reserved.ensures.capacity c.in-Ok.ensures.capacity tt

@@ -3,8 +3,8 @@
 use Rattle.std.proofs.Common.{◌-◌, ◌++◌, ◌∙◌, ap, arith, drop, length, take, rules}
 use Rattle.thin_block.proofs.BlockLemmas.{then-len}
 use Rattle.thin_block.specs.Slots.{items_in}
-use Rattle.thin_vec.proofs.list.AppendSplitLemmas.{settle-cut, settle-joined}
-use Rattle.thin_vec.proofs.ListLemmas.{Settled, thin-filled, thin_of-keeps}
+use Rattle.thin_vec.proofs.list.AppendSplitLemmas.{restores-cut, restores-joined}
+use Rattle.thin_vec.proofs.ListLemmas.{RestoresInvariant, thin-filled, list_view-keeps}
 use Rattle.thin_vec.proofs.ThinVecLemmas.{within-kept}
 use Rattle.thin_vec.proofs.list.ThinVec.append_from.Goals as goal
 
@@ -21,20 +21,21 @@ move_run_to-requires-clause-filled g c = λ i low high.
       ap (λ v. length v.items) c.other.view_is,
     ))
 
-cut : (g : _) (c : goal.After-set_len-2 g) → Settled c.set_len.new.self c.other.inside.alloc
+cut : (g : _) (c : goal.After-set_len-2 g)
+    → RestoresInvariant c.set_len.new.self c.other.inside.alloc
     (take c.args.start (items_in c.other.inside.block.slots)) (length c.other.inside.block.slots)
 cut g c =
-    settle-cut c.other.invariant c.set_len.new.self c.args.start
+    restores-cut c.other.invariant c.set_len.new.self c.args.start
     (omega (arith, c.requires.in_bounds, ap (λ v. length v.items) c.other.view_is))
     (ap (λ n. n - c.args.start) c.len.ensures.value)
     (then-len c.set_len.ensures.changes c.move_run_to.ensures.changes)
 
 joined : (g : _) (c : goal.After-set_len-2 g)
-    → Settled c.set_len-2.new.self c.self.inside.alloc
+    → RestoresInvariant c.set_len-2.new.self c.self.inside.alloc
     (items_in c.self.inside.block.slots ++ drop c.args.start
     (items_in c.other.inside.block.slots)) (length c.self.inside.block.slots)
 joined g c =
-    settle-joined c.self.invariant c.other.invariant c.set_len-2.new.self c.args.start
+    restores-joined c.self.invariant c.other.invariant c.set_len-2.new.self c.args.start
     (omega (arith, c.requires.in_bounds, ap (λ v. length v.items) c.other.view_is))
     (ap (λ n. n - c.args.start) c.len.ensures.value) c.len-len.ensures.value
     (omega (
@@ -56,21 +57,21 @@ invariant_of-self g c = (joined g c).thin
 pub invariant_of-other : goal.invariant_of-other
 invariant_of-other g c = (cut g c).thin
 
-pub returns-clause-within : goal.returns-clause-within
-returns-clause-within g c =
+pub returns-clause-bounds : goal.returns-clause-bounds
+returns-clause-bounds g c =
     within-kept _ _ _ _ _ _ c.self.invariant c.self.view_is c.len-len.ensures.slots_fit (joined g c)
 
-pub returns-clause-other_within : goal.returns-clause-other_within
-returns-clause-other_within g c =
+pub returns-clause-other_bounds : goal.returns-clause-other_bounds
+returns-clause-other_bounds g c =
     within-kept _ _ _ _ _ _ c.other.invariant c.other.view_is c.len.ensures.slots_fit (cut g c)
 
 pub returns-clause-changes : goal.returns-clause-changes
 returns-clause-changes g c =
-    thin_of-keeps c.self.view_is c.set_len-2.new.self (joined g c).cap
+    list_view-keeps c.self.view_is c.set_len-2.new.self (joined g c).cap
     ((joined g c).items
     ∙ (λ i. (c.self.view_is i).items ++ drop c.args.start (c.other.view_is i).items)) (search rules)
 
 pub returns-clause-other_changes : goal.returns-clause-other_changes
 returns-clause-other_changes g c =
-    thin_of-keeps c.other.view_is c.set_len.new.self (cut g c).cap
+    list_view-keeps c.other.view_is c.set_len.new.self (cut g c).cap
     ((cut g c).items ∙ ap (λ v. take c.args.start v.items) c.other.view_is) (search rules)

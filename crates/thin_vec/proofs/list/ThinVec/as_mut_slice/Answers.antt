@@ -1,9 +1,9 @@
 -- `as_mut_slice` borrows exactly the slots that hold items. When the borrow ends, the list contains
 -- the items of the slice as the borrower left them.
 use Rattle.std.proofs.Common.{ap, arith, length, refl, ◌≡◌, ◌∙◌}
-use Rattle.thin_block.specs.Lends.{with_items as block_with_items}
+use Rattle.thin_block.specs.Lends.{set_slots as block_with_items}
 use Rattle.thin_vec.specs.Lends.{with_items}
-use Rattle.thin_vec.proofs.LendsLemmas.{settle-over, view-with_items}
+use Rattle.thin_vec.proofs.LendsLemmas.{restores-over, view-with_items}
 use Rattle.thin_vec.proofs.ListLemmas.{thin-filled, thin-run}
 use Rattle.thin_vec.proofs.ThinVecLemmas.{within-of}
 use Rattle.thin_vec.proofs.list.ThinVec.as_mut_slice.Goals as goal
@@ -15,7 +15,7 @@ slice_mut-requires-clause-filled g c = λ i low high.
 
 pub invariant_of-self-lent : goal.invariant_of-self-lent
 invariant_of-self-lent g c =
-    λ w. (settle-over c.self.invariant (block_with_items c.self.inside.block 0 w) w
+    λ w. (restores-over c.self.invariant (block_with_items c.self.inside.block 0 w) w
     refl).thin
 
 -- The slice contains exactly the items of the list.
@@ -36,6 +36,6 @@ returns g c = (
     writes_back = tt;
     value = lent g c;
     len = ap length (lent g c);
-    within = within-of _ _ _ _ c.self.invariant c.self.view_is c.len-len.ensures.slots_fit;
+    bounds = within-of _ _ _ _ c.self.invariant c.self.view_is c.len-len.ensures.slots_fit;
   },
 )

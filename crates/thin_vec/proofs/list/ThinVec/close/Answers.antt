@@ -1,19 +1,21 @@
--- `into_closed` removes the gap between the items of the open block. Then `close` puts the block,
+-- `close_gap` removes the gap between the items of the open block. Then `close` puts the block,
 -- which contains the items in order, back into the list.
 use Rattle.std.proofs.Common.{ap, sym, ◌∙◌, rules}
 use Rattle.thin_vec.specs.Open.{items_of}
-use Rattle.thin_vec.proofs.ListLemmas.{Settled, settled, thin-room, thin_of-becomes}
+use Rattle.thin_vec.proofs.ListLemmas.{RestoresInvariant, settled, thin-room, list_view-becomes}
 use Rattle.thin_vec.proofs.list.ThinVec.close.Goals as goal
 
-facts : (g : _) (c : goal.After-release g) → Settled c.replace-none.new.dest c.self.inside.alloc
+facts : (g : _) (c : goal.After-release g)
+    → RestoresInvariant c.replace-none.new.dest c.self.inside.alloc
     (items_of c.args.block) c.args.block.capacity
 facts g c =
     let is = c.replace-none.ensures.after in
     settled c.replace-none.new.dest c.self.inside.alloc (items_of c.args.block)
     c.args.block.capacity
-    (ap (λ b. b.slots) is ∙ c.into_closed.ensures.slots)
-    (ap (λ b. b.len) is ∙ c.into_closed.ensures.len) c.into_closed.ensures.in_bounds
-    (λ x e. c.requires.from x (sym c.into_closed.ensures.alloc ∙ (sym (ap (λ b. b.alloc) is) ∙ e))
+    (ap (λ b. b.slots) is ∙ c.close_gap.ensures.slots)
+    (ap (λ b. b.len) is ∙ c.close_gap.ensures.len) c.close_gap.ensures.in_bounds
+    (λ x e. c.requires.same_allocator x
+    (sym c.close_gap.ensures.alloc ∙ (sym (ap (λ b. b.alloc) is) ∙ e))
     ∙ sym (ap (λ v. v.alloc) c.self.view_is))
 
 pub invariant_of-self : goal.invariant_of-self
@@ -24,5 +26,5 @@ returns-clause-room g c = thin-room c.replace-none.new.dest c.self.inside.alloc 
 
 pub returns-clause-changes : goal.returns-clause-changes
 returns-clause-changes g c =
-    thin_of-becomes c.self.view_is c.replace-none.new.dest (facts g c).cap (facts g c).items
+    list_view-becomes c.self.view_is c.replace-none.new.dest (facts g c).cap (facts g c).items
     (search rules)

@@ -1,25 +1,25 @@
 -- `dedup` compares items with `==`. After the call, the list contains the items that the
 -- specification function `dedup` returns for the old items.
 use Rattle.std.proofs.Common.{ap, ◌∙◌}
-use Rattle.thin_block.specs.Cost.{moving}
-use Rattle.thin_vec.specs.Edits.Retain.{moved_down}
+use Rattle.thin_block.specs.Cost.{add_moves}
+use Rattle.thin_vec.specs.Edits.Retain.{moves_of_retain}
 use Rattle.thin_vec.specs.Edits.Dedup.{Compares}
 use Rattle.thin_vec.proofs.edits.DedupLemmas.{few-deduped, pairs-compare}
 use Rattle.thin_vec.proofs.list.ThinVec.dedup.Goals as goal
 
 pub returns-clause-items : goal.returns-clause-items
 returns-clause-items g c =
-    let h = c.dedup_those.ensures.deduped in
+    let h = c.dedup_with.ensures.deduped in
     (pairs-compare g.T.PartialEq.eq c.args.self.now.items _ _ h.stays
-    c.dedup_those.new.self.items h.asked).1
+    c.dedup_with.new.self.items h.asked).1
 
 pub returns-clause-cost : goal.returns-clause-cost
 returns-clause-cost g c =
-    let h = c.dedup_those.ensures.deduped in
-    h.cost ∙ ap (λ f. moving (moved_down f) c.args.self.now.cost)
+    let h = c.dedup_with.ensures.deduped in
+    h.cost ∙ ap (λ f. add_moves (moves_of_retain f) c.args.self.now.cost)
     (pairs-compare g.T.PartialEq.eq c.args.self.now.items _ _ h.stays
-    c.dedup_those.new.self.items h.asked).0
+    c.dedup_with.new.self.items h.asked).0
 
 pub returns-clause-bound : goal.returns-clause-bound
 returns-clause-bound g c = few-deduped (Compares g.T.PartialEq.eq) _ c.args.self.now
-    c.dedup_those.new.self (_, c.dedup_those.ensures.deduped)
+    c.dedup_with.new.self (_, c.dedup_with.ensures.deduped)

@@ -1,5 +1,5 @@
--- `dedup_by` calls `dedup_those` with a test. Each call of this test calls the closure `same`
--- exactly once. So what `dedup_those` guarantees about the test also holds for `same`.
+-- `dedup_by` calls `dedup_with` with a test. Each call of this test calls the closure `same`
+-- exactly once. So what `dedup_with` guarantees about the test also holds for `same`.
 use Rattle.std.specs.Fn.{CalledAtPairMut}
 use Rattle.thin_vec.proofs.edits.DedupLemmas.{deduped-through, few-deduped}
 use Rattle.thin_vec.proofs.list.ThinVec.dedup_by.Goals as goal
@@ -7,10 +7,10 @@ use Rattle.thin_vec.proofs.list.ThinVec.dedup_by.Goals as goal
 pub returns-clause-deduped : goal.returns-clause-deduped
 returns-clause-deduped g c =
     deduped-through (CalledAtPairMut g.F.FnMut) (λ s. s.same)
-    _ c.args.self.now c.dedup_those.new.self _ c.dedup_those.ensures.deduped
+    _ c.args.self.now c.dedup_with.new.self _ c.dedup_with.ensures.deduped
 
 pub returns-clause-bound : goal.returns-clause-bound
 returns-clause-bound g c =
-    few-deduped (CalledAtPairMut g.F.FnMut) _ c.args.self.now c.dedup_those.new.self
+    few-deduped (CalledAtPairMut g.F.FnMut) _ c.args.self.now c.dedup_with.new.self
     (deduped-through (CalledAtPairMut g.F.FnMut) (λ s. s.same)
-    _ c.args.self.now c.dedup_those.new.self _ c.dedup_those.ensures.deduped)
+    _ c.args.self.now c.dedup_with.new.self _ c.dedup_with.ensures.deduped)

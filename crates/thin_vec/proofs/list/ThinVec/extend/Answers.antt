@@ -7,10 +7,10 @@ use Rattle.std.specs.Iterator.Runs.{SomeRun, WholeRun}
 use Rattle.std.specs.Option.{option_to_list}
 use Rattle.std.specs.Prelude.{IfErr, OnOk}
 use denote.Param.{param}
-use Rattle.thin_vec.proofs.ThinVecLemmas.{cost_at-blocks, cost_at-copied}
+use Rattle.thin_vec.proofs.ThinVecLemmas.{cost_after_resize-blocks, cost_after_resize-copied}
 use Rattle.std.proofs.lemmas.Bool.{false≢true}
-use Rattle.thin_block.proofs.Outcomes.{err-same}
-use Rattle.thin_vec.specs.ThinVec.{HasRoomFor, capacity_for}
+use Rattle.thin_block.proofs.ResultLemmas.{err-same}
+use Rattle.thin_vec.specs.ThinVec.{HasRoomFor, capacity_after_reserve}
 use Rattle.std.proofs.Common.{inl, sym, Some, List, None, [], refl}
 use Rattle.thin_vec.proofs.list.ExtendLemmas.{full-in-hand, ruled-after, run_of_ok, adding-join, filled-reserved, loose-join, loose-le, loose-ruled, run_given, run_given_err}
 use Rattle.thin_vec.proofs.list.ThinVec.extend.Goals as goal
@@ -19,7 +19,7 @@ pub returns-in-Ok-clause-capacity : goal.returns-in-Ok-clause-capacity
 returns-in-Ok-clause-capacity g c =
     let rule = g.G.Growth.rule in let T = param 0 g.row.T in let law = g.met.G.Growth.law in
     let v = c.args.self.now in let u = c.reserve.new.self in let w = c.extend_unhinted.new.self in
-    let e = c.extend_unhinted.ensures in let reserves = c.in-Ok.ensures.reserves in
+    let e = c.extend_unhinted.ensures in let reserves = c.in-Ok.ensures.capacity in
     let hint = c.size_hint.result.0 in
     record {
       had_room = λ room. let same = reserves.had_room (omega (
@@ -29,8 +29,8 @@ returns-in-Ok-clause-capacity g c =
       )) in
           e.had_room (omega (arith, room, same, ap length c.reserve.ensures.items)) ∙ same;
       loose = loose-join rule T law v.capacity u.capacity w.capacity
-          (loose-ruled rule T law v hint u.capacity reserves.ok) e.loose;
-      ruled = ruled-after rule T law v.capacity u.capacity w.capacity (length w.items) _ e.ruled
+          (loose-ruled rule T law v hint u.capacity reserves.ok) e.at_least;
+      ruled = ruled-after rule T law v.capacity u.capacity w.capacity (length w.items) _ e.capacity
           (λ same. (
             hint,
             c.size_hint.ensures.lower,
@@ -46,12 +46,13 @@ returns-in-Ok-clause-cost g c =
     record {
       adding = adding-join 0 0 0 (omega arith)
           (filled-reserved v u c.in-Ok.ensures.cost c.reserve.ensures.items
-          (cost_at-copied rule T law v hint u.capacity c.reserve.ensures.keeps.within.0.room
-          c.in-Ok.ensures.reserves.ok))
+          (cost_after_resize-copied rule T law v hint u.capacity
+          c.reserve.ensures.preserved.within.0.room
+          c.in-Ok.ensures.capacity.ok))
           e.cost
           (loose-le rule T law v.capacity u.capacity
-          (loose-ruled rule T law v hint u.capacity c.in-Ok.ensures.reserves.ok))
-          (loose-le rule T law u.capacity w.capacity e.loose)
+          (loose-ruled rule T law v hint u.capacity c.in-Ok.ensures.capacity.ok))
+          (loose-le rule T law u.capacity w.capacity e.at_least)
           (omega (arith, ap length c.reserve.ensures.items));
       requests = (
         hint,
@@ -60,7 +61,7 @@ returns-in-Ok-clause-cost g c =
           arith,
           e.requests,
           ap (λ k. k.blocks) c.in-Ok.ensures.cost,
-          cost_at-blocks v u.capacity,
+          cost_after_resize-blocks v u.capacity,
           c.in-Ok.ensures.room,
           ap length c.reserve.ensures.items,
         ),
@@ -79,8 +80,8 @@ returns-in-Err-clause-capacity g c =
 pub returns-in-Err-clause-cause : goal.returns-in-Err-clause-cause
 returns-in-Err-clause-cause g c =
     let hint = c.size_hint.result.0 in let same = c.in-Err.ensures.err in
-    let overflow = c.in-Err.ensures.reserves.overflow in
-    let named = ap (λ v. capacity_for g.G.Growth.rule (param 0 g.row.T) v hint) same in
+    let overflow = c.in-Err.ensures.capacity.overflow in
+    let named = ap (λ v. capacity_after_reserve g.G.Growth.rule (param 0 g.row.T) v hint) same in
     record {
       by_push = λ none. absurd (false≢true none);
       by_hint = λ _. (
@@ -98,7 +99,7 @@ returns-in-Err-clause-cause g c =
 pub returns-in-Ok-clause-in_hand : goal.returns-in-Ok-clause-in_hand
 returns-in-Ok-clause-in_hand g c =
     full-in-hand _ _ c.extend_unhinted.result c.extend_unhinted.ensures.in_hand
-    c.extend_unhinted.ensures.full
+    c.extend_unhinted.ensures.err_full
 
 pub returns-in-Ok-clause-runs : goal.returns-in-Ok-clause-runs
 returns-in-Ok-clause-runs g c =
@@ -108,8 +109,8 @@ returns-in-Ok-clause-runs g c =
     (run_of_ok steps c.args.iter (λ xs. w.items ≡ c.reserve.new.self.items ++ xs)
     c.extend_unhinted.result c.extend_unhinted.ensures.items)
 
-pub returns-in-Ok-clause-runs_err : goal.returns-in-Ok-clause-runs_err
-returns-in-Ok-clause-runs_err g c =
+pub returns-in-Ok-clause-err_runs : goal.returns-in-Ok-clause-err_runs
+returns-in-Ok-clause-err_runs g c =
     let steps = g.I.Iterator.next_gives in let w = c.extend_unhinted.new.self in
     subst (λ old. IfErr c.extend_unhinted.result
     (λ error. SomeRun steps c.args.iter
@@ -120,8 +121,8 @@ returns-in-Ok-clause-runs_err g c =
     (λ xs. w.items ≡ c.reserve.new.self.items ++ xs) c.extend_unhinted.result
     c.extend_unhinted.ensures.placed)
 
-pub returns-in-Err-clause-runs_err : goal.returns-in-Err-clause-runs_err
-returns-in-Err-clause-runs_err g c =
+pub returns-in-Err-clause-err_runs : goal.returns-in-Err-clause-err_runs
+returns-in-Err-clause-err_runs g c =
     run_given g.I.Iterator.next_gives c.args.iter [] None c.args.iter
     (λ l. (xs : List g.row.T.Denot) × (c.reserve.new.self.items ≡ c.args.self.now.items ++ xs)
     × (l ≡ xs ++ [])) refl

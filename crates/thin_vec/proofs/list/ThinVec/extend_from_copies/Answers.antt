@@ -6,17 +6,17 @@ use Rattle.thin_block.proofs.CapacityLemmas.{ruled-at}
 use Rattle.thin_vec.proofs.list.ReservesLemmas.{reserves-failed, reserves-then}
 use Rattle.thin_vec.proofs.list.ThinVec.extend_from_copies.Goals as goal
 
-pub returns-clause-reserves : goal.returns-clause-reserves
-returns-clause-reserves g c =
+pub returns-clause-capacity : goal.returns-clause-capacity
+returns-clause-capacity g c =
     let v = c.args.self.now in
     reserves-then _ v g.G.Growth.rule _ (length c.args.items.now) _ c.reserve_run.new.self _ (Ok tt)
     refl
     (ruled-at _ _ v.capacity (length v.items + length c.args.items.now) refl refl g.G.Growth.rule)
-    c.extend_from_copies_reserved.ensures.capacity c.in-Ok.ensures.reserves tt
+    c.extend_from_copies_reserved.ensures.capacity c.in-Ok.ensures.capacity tt
 
-pub returns-in-Err-clause-reserves : goal.returns-in-Err-clause-reserves
-returns-in-Err-clause-reserves g c =
+pub returns-in-Err-clause-capacity : goal.returns-in-Err-clause-capacity
+returns-in-Err-clause-capacity g c =
     let v = c.args.self.now in
     reserves-failed _ v g.G.Growth.rule _ (length c.args.items.now) _ _ c.in-Err.cause refl
     (ruled-at _ _ v.capacity (length v.items + length c.args.items.now) refl refl g.G.Growth.rule)
-    c.in-Err.ensures.reserves c.in-Err.ensures.err
+    c.in-Err.ensures.capacity c.in-Err.ensures.err

@@ -4,16 +4,17 @@ use Rattle.std.proofs.lemmas.Grind.{common_steps}
 use Rattle.std.proofs.Common.{◌++◌, ◌∙◌, ap, arith, length, refl}
 use Rattle.thin_block.proofs.BlockLemmas.{then-len}
 use Rattle.thin_block.specs.Slots.{items_in}
-use Rattle.thin_vec.proofs.list.AppendSplitLemmas.{settle-more}
-use Rattle.thin_vec.proofs.ListLemmas.{Settled}
+use Rattle.thin_vec.proofs.list.AppendSplitLemmas.{restores-more}
+use Rattle.thin_vec.proofs.ListLemmas.{RestoresInvariant}
 use Rattle.thin_vec.proofs.ThinVecLemmas.{within-of}
 use Rattle.thin_vec.proofs.list.ReservesLemmas.{keeps-settled}
 use Rattle.thin_vec.proofs.list.ThinVec.extend_from_copies_reserved.Goals as goal
 
-facts : (g : _) (c : goal.After-store_len g) → Settled c.store_len.new.self c.self.inside.alloc
+facts : (g : _) (c : goal.After-store_len g)
+    → RestoresInvariant c.store_len.new.self c.self.inside.alloc
     (items_in c.self.inside.block.slots ++ c.args.items.now) (length c.self.inside.block.slots)
 facts g c =
-    settle-more c.self.invariant c.store_len.new.self c.args.items.now _ c.len-len.ensures.value
+    restores-more c.self.invariant c.store_len.new.self c.args.items.now _ c.len-len.ensures.value
     (omega (
       arith,
       c.requires.room,
@@ -36,14 +37,14 @@ returns-clause-capacity g c = grind (arith, common_steps)
 pub returns-then-is_empty-clause-items : goal.returns-then-is_empty-clause-items
 returns-then-is_empty-clause-items g c = grind (arith, common_steps)
 
-pub returns-clause-keeps : goal.returns-clause-keeps
-returns-clause-keeps g c =
+pub returns-clause-preserved : goal.returns-clause-preserved
+returns-clause-preserved g c =
     keeps-settled _ _ c.self.invariant c.self.view_is c.len-len.ensures.slots_fit (facts g c)
     (ap (λ v. v.cost) c.store_len.ensures.changes
     ∙ ap (λ v. v.cost) c.copy_in.ensures.changes) (refl, refl)
 
-pub returns-then-is_empty-clause-keeps : goal.returns-then-is_empty-clause-keeps
-returns-then-is_empty-clause-keeps g c =
+pub returns-then-is_empty-clause-preserved : goal.returns-then-is_empty-clause-preserved
+returns-then-is_empty-clause-preserved g c =
     let same = within-of _ _ _ _ c.self.invariant c.self.view_is c.len-len.ensures.slots_fit in
     record {
       alloc = refl;

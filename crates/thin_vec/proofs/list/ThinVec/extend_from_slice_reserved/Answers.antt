@@ -11,7 +11,7 @@ pub returns-then-push_clones_reserved-items-clause-succeeds :
 returns-then-push_clones_reserved-items-clause-succeeds g c = λ all.
     let less = c.if-push_clones_reserved-items.true in
     absurd (not-all g.T.Clone.is_infallible c.args.items.now c.push_clones_reserved.result less
-    (c.push_clones_reserved.ensures.refused less) all)
+    (c.push_clones_reserved.ensures.stopped_at less) all)
 
 pub returns-clause-items_if_clones_equal : goal.returns-clause-items_if_clones_equal
 returns-clause-items_if_clones_equal g c = λ equal.

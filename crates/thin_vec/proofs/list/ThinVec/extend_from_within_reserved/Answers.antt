@@ -14,7 +14,7 @@ returns-then-push_clones_within-end-clause-succeeds g c = λ all.
     let less = c.if-push_clones_within-end.true in
     absurd (not-all g.T.Clone.is_infallible (slice_range xs c.args.start c.args.end) placed.result
     (omega (arith, less, length-range xs c.args.start c.args.end c.requires.in_bounds))
-    (placed.ensures.refused less) all)
+    (placed.ensures.stopped_at less) all)
 
 pub returns-clause-items_if_clones_equal : goal.returns-clause-items_if_clones_equal
 returns-clause-items_if_clones_equal g c = λ equal.

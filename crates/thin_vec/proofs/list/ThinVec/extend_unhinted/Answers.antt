@@ -4,11 +4,11 @@ use Rattle.std.proofs.lemmas.Grind.{common_steps}
 use Rattle.std.proofs.Common.{Err, ◌++◌, ◌∷◌, [], ◌-◌, ◌∙◌, ap, arith, append_assoc, length, length-append, refl, subst, sym, ◌+◌, inr}
 use Rattle.std.proofs.lemmas.List.{length_push}
 use denote.Param.{param}
-use Rattle.thin_vec.specs.List.Extend.{IsLoose}
-use Rattle.thin_vec.specs.ThinVec.{capacity_for}
+use Rattle.thin_vec.specs.List.Extend.{IsKeptOrGrown}
+use Rattle.thin_vec.specs.ThinVec.{capacity_after_reserve}
 use Rattle.thin_vec.proofs.list.ExtendLemmas.{ruled-more, filled-at, adding-join, filled-spare, loose-join, loose-le, loose-ruled, yields-join, yields-more}
-use Rattle.thin_vec.proofs.ThinVecLemmas.{cost_at-blocks, cost_at-copied}
-use Rattle.thin_block.proofs.Outcomes.{at-some, err-same, none-some}
+use Rattle.thin_vec.proofs.ThinVecLemmas.{cost_after_resize-blocks, cost_after_resize-copied}
+use Rattle.thin_block.proofs.ResultLemmas.{at-some, err-same, none-some}
 use Rattle.thin_vec.proofs.list.ThinVec.extend_unhinted.Goals as goal
 
 pub returns-in_default-clause-items : goal.returns-in_default-clause-items
@@ -45,23 +45,23 @@ returns-in-Err-clause-placed g c =
     drawn in (
       before.0 ++ now.0,
       ap (λ v. v.items) c.in-Err.ensures.err ∙ items,
-      (let rest = at-some c.in-Some.is c.extend_reserved-left.ensures.rest in record {
+      (let rest = at-some c.in-Some.is c.extend_reserved-left.ensures.can_next in record {
         gave = rw c.in-Err.ensures.value_returned gave;
         can_next = rest.0;
         finite = rest.1;
       }),
     )
 
-pub returns-in_default-clause-ruled : goal.returns-in_default-clause-ruled
-returns-in_default-clause-ruled g c =
+pub returns-in_default-clause-capacity : goal.returns-in_default-clause-capacity
+returns-in_default-clause-capacity g c =
     let u = c.loop-item.self in let w = c.extend_reserved-left.new.self in
     let now = c.extend_reserved-left.ensures.items in
     ruled-more g.G.Growth.rule (param 0 g.row.T) g.met.G.Growth.law c.args.self.now.capacity
     (length u.items) (length w.items) (ap (λ z. z.capacity) c.extend_reserved-left.ensures.changes)
     (omega (arith, ap length now.1, length-append u.items now.0)) c.loop-item.invariant.ruled
 
-pub returns-in-Err-clause-ruled : goal.returns-in-Err-clause-ruled
-returns-in-Err-clause-ruled g c =
+pub returns-in-Err-clause-capacity : goal.returns-in-Err-clause-capacity
+returns-in-Err-clause-capacity g c =
     let u = c.loop-item.self in let w = c.extend_reserved-left.new.self in
     let now = c.extend_reserved-left.ensures.items in
     rw c.in-Err.ensures.err
@@ -83,8 +83,8 @@ loop-item-preserved g c =
     drawn in
     let items = now.1 ∙ (ap (λ l. l ++ now.0) before.1
     ∙ append_assoc c.args.self.now.items before.0 now.0) in
-    let rest = at-some c.in-Some.is c.extend_reserved-left.ensures.rest in
-    let nearer = at-some c.in-Some.is c.extend_reserved-left.ensures.nearer in
+    let rest = at-some c.in-Some.is c.extend_reserved-left.ensures.can_next in
+    let nearer = at-some c.in-Some.is c.extend_reserved-left.ensures.decreases in
     let v = c.args.self.now in let u = c.loop-item.self in
     let w = c.extend_reserved-left.new.self in let z = c.push.new.self in
     let pushed = c.in-Ok.ensures in
@@ -92,15 +92,15 @@ loop-item-preserved g c =
     let long = ap length pushed.items ∙ length_push w.items c.in-Some.item in
     let more = ap length now.1 ∙ length-append u.items now.0 in
     let some = ap length before.1 ∙ length-append v.items before.0 in
-    let grown = loose-ruled rule T law w 1 z.capacity pushed.reserves.ok in
+    let grown = loose-ruled rule T law w 1 z.capacity pushed.capacity.ok in
     let spare = filled-spare u w (length w.items - length u.items)
     c.extend_reserved-left.ensures.changes (omega (arith, more)) in
     let push = filled-at w z 1 pushed.cost long
-    (cost_at-copied rule T law w 1 z.capacity c.extend_reserved-left.ensures.within.1.room
-    pushed.reserves.ok) in
+    (cost_after_resize-copied rule T law w 1 z.capacity c.extend_reserved-left.ensures.bounds.1.room
+    pushed.capacity.ok) in
     let high = loose-le rule T law w.capacity z.capacity grown in
     let low = loose-le rule T law v.capacity u.capacity held.loose in
-    let full = at-some c.in-Some.is c.extend_reserved-left.ensures.full in
+    let full = at-some c.in-Some.is c.extend_reserved-left.ensures.err_full in
     record {
       can = rest.0;
       finite = rest.1;
@@ -112,15 +112,15 @@ loop-item-preserved g c =
       );
       nearer = omega (arith, held.nearer, nearer, long);
       loose = loose-join rule T law v.capacity u.capacity z.capacity held.loose
-          (subst (λ n. IsLoose rule T n z.capacity) kept grown);
+          (subst (λ n. IsKeptOrGrown rule T n z.capacity) kept grown);
       never_less = omega (
         arith,
         held.never_less,
-        pushed.keeps.never_less,
+        pushed.preserved.never_less,
         kept,
       );
       had_room = λ fit. let same = held.had_room fit in
-          pushed.reserves.had_room (omega (
+          pushed.capacity.had_room (omega (
             arith,
             fit,
             held.nearer,
@@ -138,7 +138,7 @@ loop-item-preserved g c =
         held.requests,
         ap (λ y. y.cost.blocks) c.extend_reserved-left.ensures.changes,
         ap (λ k. k.blocks) pushed.cost,
-        cost_at-blocks w z.capacity,
+        cost_after_resize-blocks w z.capacity,
         full,
         kept,
         low,
@@ -150,17 +150,18 @@ loop-item-preserved g c =
         length w.items + 1,
         omega (arith, full),
         omega (arith, long),
-        pushed.reserves.ok,
+        pushed.capacity.ok,
       );
-      alloc = pushed.keeps.alloc
+      alloc = pushed.preserved.alloc
           ∙ (ap (λ y. y.alloc) c.extend_reserved-left.ensures.changes ∙ held.alloc);
-      cheap = λ first. pushed.keeps.cheap (c.extend_reserved-left.ensures.cheap (held.cheap first));
+      cheap = λ first. pushed.preserved.cheap
+          (c.extend_reserved-left.ensures.cheap (held.cheap first));
     }
 
 pub returns-in-Err-clause-succeeds : goal.returns-in-Err-clause-succeeds
 returns-in-Err-clause-succeeds g c = λ fit.
     let held = c.loop-item.invariant in
-    let nearer = at-some c.in-Some.is c.extend_reserved-left.ensures.nearer in
+    let nearer = at-some c.in-Some.is c.extend_reserved-left.ensures.decreases in
     let low = loose-le g.G.Growth.rule (param 0 g.row.T) g.met.G.Growth.law c.args.self.now.capacity
     c.loop-item.self.capacity held.loose in
     c.in-Err.ensures.succeeds
@@ -213,17 +214,19 @@ returns-in-Err-clause-requests g c =
       length-append c.loop-item.self.items now.0,
     )
 
-pub returns-in-Err-clause-loose : goal.returns-in-Err-clause-loose
-returns-in-Err-clause-loose g c =
+pub returns-in-Err-clause-at_least : goal.returns-in-Err-clause-at_least
+returns-in-Err-clause-at_least g c =
     let kept = ap (λ z. z.capacity) c.in-Err.ensures.err
     ∙ ap (λ z. z.capacity) c.extend_reserved-left.ensures.changes in
-    subst (λ n. IsLoose g.G.Growth.rule (param 0 g.row.T) c.args.self.now.capacity n) (sym kept)
+    subst (λ n. IsKeptOrGrown g.G.Growth.rule (param 0 g.row.T) c.args.self.now.capacity n)
+    (sym kept)
     c.loop-item.invariant.loose
 
 pub returns-in-Err-clause-cause : goal.returns-in-Err-clause-cause
 returns-in-Err-clause-cause g c =
-    let same = ap (λ v. capacity_for g.G.Growth.rule (param 0 g.row.T) v 1) c.in-Err.ensures.err in
-    let overflow = c.in-Err.ensures.reserves.overflow in
+    let same = ap (λ v. capacity_after_reserve g.G.Growth.rule (param 0 g.row.T) v 1)
+    c.in-Err.ensures.err in
+    let overflow = c.in-Err.ensures.capacity.overflow in
     record {
       by_push = λ _. (
         λ over. same ∙ overflow.0 (ap Err over),
@@ -232,9 +235,9 @@ returns-in-Err-clause-cause g c =
       by_hint = λ none. absurd (none-some none refl);
     }
 
-pub returns-in-Err-clause-keeps : goal.returns-in-Err-clause-keeps
-returns-in-Err-clause-keeps g c =
-    let held = c.loop-item.invariant in let pushed = c.in-Err.ensures.keeps in
+pub returns-in-Err-clause-preserved : goal.returns-in-Err-clause-preserved
+returns-in-Err-clause-preserved g c =
+    let held = c.loop-item.invariant in let pushed = c.in-Err.ensures.preserved in
     let drawn = c.extend_reserved-left.ensures in
     record {
       alloc = pushed.alloc ∙ (ap (λ z. z.alloc) drawn.changes ∙ held.alloc);
@@ -245,27 +248,27 @@ returns-in-Err-clause-keeps g c =
         pushed.never_less,
       );
       cheap = λ first. pushed.cheap (drawn.cheap (held.cheap first));
-      within = (c.requires.within, pushed.within.1);
+      within = (c.requires.bounds, pushed.within.1);
     }
 
-pub returns-in_default-clause-keeps : goal.returns-in_default-clause-keeps
-returns-in_default-clause-keeps g c =
+pub returns-in_default-clause-preserved : goal.returns-in_default-clause-preserved
+returns-in_default-clause-preserved g c =
     let held = c.loop-item.invariant in let drawn = c.extend_reserved-left.ensures in
     record {
       alloc = ap (λ z. z.alloc) drawn.changes ∙ held.alloc;
       never_less = omega (arith, held.never_less, ap (λ z. z.capacity) drawn.changes);
       cheap = λ first. drawn.cheap (held.cheap first);
-      within = (c.requires.within, drawn.within.1);
+      within = (c.requires.bounds, drawn.bounds.1);
     }
 
-pub returns-in-Err-clause-full : goal.returns-in-Err-clause-full
-returns-in-Err-clause-full g c = search (arith, ◌∙◌)
+pub returns-in-Err-clause-err_full : goal.returns-in-Err-clause-err_full
+returns-in-Err-clause-err_full g c = search (arith, ◌∙◌)
 
 pub returns-in-Err-clause-had_room : goal.returns-in-Err-clause-had_room
 returns-in-Err-clause-had_room g c = search (arith, ◌∙◌)
 
-pub returns-in_default-clause-loose : goal.returns-in_default-clause-loose
-returns-in_default-clause-loose g c = grind (arith, common_steps)
+pub returns-in_default-clause-at_least : goal.returns-in_default-clause-at_least
+returns-in_default-clause-at_least g c = grind (arith, common_steps)
 
 pub returns-in_default-clause-cost : goal.returns-in_default-clause-cost
 returns-in_default-clause-cost g c = grind (arith, common_steps)

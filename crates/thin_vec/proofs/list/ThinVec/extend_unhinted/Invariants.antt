@@ -5,7 +5,7 @@ use Rattle.std.proofs.Common.{◌≡◌, ◌+◌, ◌-◌, ◌≤◌, List, ◌+
 use Rattle.std.specs.Iterator.{IsFinite, Yields, size}
 use denote.Param.{param}
 use Rattle.thin_vec.specs.Cheap.{IsCheap}
-use Rattle.thin_vec.specs.List.Extend.{CostsAdding, IsLoose, IsKeptOrRuled}
+use Rattle.thin_vec.specs.List.Extend.{CostsInserting, IsKeptOrGrown, IsKeptOrChosen}
 use Rattle.thin_vec.proofs.list.ThinVec.extend_unhinted.Given as goal
 
 abbrev pub invariant-loop-item : goal.invariant-loop-item
@@ -16,14 +16,14 @@ invariant-loop-item g l = record {
       × Yields g.I.Iterator.next_gives l.fn.iter xs l.rest;
   nearer : length l.self.items + size (g.I.Iterator.remaining l.rest)
       ≤ length l.fn.self.items + size (g.I.Iterator.remaining l.fn.iter);
-  loose : IsLoose g.G.Growth.rule (param 0 g.row.T) l.fn.self.capacity l.self.capacity;
+  loose : IsKeptOrGrown g.G.Growth.rule (param 0 g.row.T) l.fn.self.capacity l.self.capacity;
   never_less : l.fn.self.capacity ≤ l.self.capacity;
   had_room : length l.fn.self.items + size (g.I.Iterator.remaining l.fn.iter) ≤ l.fn.self.capacity
       → l.self.capacity ≡ l.fn.self.capacity;
-  cost : CostsAdding l.fn.self l.self 0;
+  cost : CostsInserting l.fn.self l.self 0;
   requests : l.self.cost.blocks
       ≤ l.fn.self.cost.blocks + (length l.self.items - l.fn.self.capacity);
-  ruled : IsKeptOrRuled g.G.Growth.rule (param 0 g.row.T) l.fn.self.capacity
+  ruled : IsKeptOrChosen g.G.Growth.rule (param 0 g.row.T) l.fn.self.capacity
       l.self.capacity (length l.self.items);
   alloc : l.self.alloc ≡ l.fn.self.alloc;
   cheap : IsCheap l.fn.self → IsCheap l.self;

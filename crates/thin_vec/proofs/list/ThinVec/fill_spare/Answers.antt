@@ -3,11 +3,11 @@
 use Rattle.thin_block.proofs.BlockLemmas.{slots-are, then-len}
 use Rattle.std.proofs.lemmas.Grind.{common_steps}
 use Rattle.std.proofs.Common.{◌++◌, ◌-◌, ◌≡◌, ◌∙◌, ap, arith, length, length-append}
-use Rattle.thin_block.specs.Block.{seen}
-use Rattle.thin_block.specs.Cost.{moving}
-use Rattle.thin_block.specs.Slots.{full, items_in, laid}
-use Rattle.thin_vec.proofs.list.AppendSplitLemmas.{settle-more}
-use Rattle.thin_vec.proofs.ListLemmas.{Settled, thin-room, thin_of-keeps}
+use Rattle.thin_block.specs.Block.{block_view}
+use Rattle.thin_block.specs.Cost.{add_moves}
+use Rattle.thin_block.specs.Slots.{filled_slots, items_in, write_slots}
+use Rattle.thin_vec.proofs.list.AppendSplitLemmas.{restores-more}
+use Rattle.thin_vec.proofs.ListLemmas.{RestoresInvariant, thin-room, list_view-keeps}
 use Rattle.thin_vec.proofs.PutLemmas.{filled-fits, filled-room}
 use Rattle.thin_vec.proofs.ThinVecLemmas.{within-kept}
 use Rattle.thin_vec.proofs.list.ThinVec.fill_spare.Goals as goal
@@ -15,27 +15,28 @@ use Rattle.thin_vec.proofs.list.ThinVec.fill_spare.Goals as goal
 -- After the call to `put_iter`, `fill_spare` puts the block back into the list. At this point, the
 -- block differs from the old block in two ways: the yielded items are in the slots directly after
 -- the old items, and the cost counts one more move for each yielded item.
-stored : (g : _) (c : goal.After-set_len g) → seen c.replace-none.new.dest
-    ≡ record (seen c.self.inside.block) {
-      slots = laid c.len-len.result (full c.put_iter-block.ensures.filled.0.items)
+stored : (g : _) (c : goal.After-set_len g) → block_view c.replace-none.new.dest
+    ≡ record (block_view c.self.inside.block) {
+      slots = write_slots c.len-len.result (filled_slots c.put_iter-block.ensures.filled_by.0.items)
           c.self.inside.block.slots;
-      cost = moving (c.put_iter-block.result.1.end - c.len-len.result) c.self.inside.block.cost;
+      cost = add_moves (c.put_iter-block.result.1.end - c.len-len.result) c.self.inside.block.cost;
     }
 stored g c =
     let put = c.put_iter-block in
-    ap seen c.replace-none.ensures.after
-    ∙ (slots-are put.ensures.changes put.ensures.filled.1
-    ∙ (λ i. let v = seen (c.replace-block.ensures.value i) in record v {
-      slots = laid c.len-len.result (full put.ensures.filled.0.items) v.slots;
-      cost = moving (put.result.1.end - c.len-len.result) v.cost;
+    ap block_view c.replace-none.ensures.after
+    ∙ (slots-are put.ensures.changes put.ensures.filled_by.1
+    ∙ (λ i. let v = block_view (c.replace-block.ensures.value i) in record v {
+      slots = write_slots c.len-len.result (filled_slots put.ensures.filled_by.0.items) v.slots;
+      cost = add_moves (put.result.1.end - c.len-len.result) v.cost;
     }))
 
-facts : (g : _) (c : goal.After-set_len g) → Settled c.set_len.new.self c.self.inside.alloc
-    (items_in c.self.inside.block.slots ++ c.put_iter-block.ensures.filled.0.items)
+facts : (g : _) (c : goal.After-set_len g)
+    → RestoresInvariant c.set_len.new.self c.self.inside.alloc
+    (items_in c.self.inside.block.slots ++ c.put_iter-block.ensures.filled_by.0.items)
     (length c.self.inside.block.slots)
 facts g c =
-    let put = c.put_iter-block.ensures.filled in
-    settle-more c.self.invariant c.set_len.new.self put.0.items c.len-len.result
+    let put = c.put_iter-block.ensures.filled_by in
+    restores-more c.self.invariant c.set_len.new.self put.0.items c.len-len.result
     c.len-len.ensures.value
     (omega (
       arith,
@@ -53,7 +54,7 @@ facts g c =
 ends : (g : _) (c : goal.After-set_len g) → c.put_iter-block.result.1.end
     ≡ length (items_in c.set_len.new.self.slots)
 ends g c =
-    let put = c.put_iter-block.ensures.filled in
+    let put = c.put_iter-block.ensures.filled_by in
     omega (
       arith,
       ap length (facts g c).items,
@@ -70,26 +71,26 @@ begins g c = c.len-len.ensures.value
 pub invariant_of-self : goal.invariant_of-self
 invariant_of-self g c = (facts g c).thin
 
-pub returns-clause-filled : goal.returns-clause-filled
-returns-clause-filled g c =
-    let put = c.put_iter-block.ensures.filled in
+pub returns-clause-filled_by : goal.returns-clause-filled_by
+returns-clause-filled_by g c =
+    let put = c.put_iter-block.ensures.filled_by in
     let xs = put.0.items in
     let room : c.cap-cap.result - c.len-len.result
     ≡ c.args.self.now.capacity - length c.args.self.now.items =
     omega (arith, c.cap-cap.ensures.value, ap (λ v. v.capacity) c.self.view_is, begins g c) in (
       filled-room room put.0,
-      thin_of-keeps c.self.view_is c.set_len.new.self (facts g c).cap
+      list_view-keeps c.self.view_is c.set_len.new.self (facts g c).cap
           ((facts g c).items ∙ ap (λ v. v.items ++ xs) c.self.view_is)
           (ap (λ v. v.cost) c.set_len.ensures.changes
           ∙ (ap (λ v. v.cost) (stored g c)
-          ∙ (ap (λ v. moving (c.put_iter-block.result.1.end - c.len-len.result) v.cost)
+          ∙ (ap (λ v. add_moves (c.put_iter-block.result.1.end - c.len-len.result) v.cost)
           c.self.view_is
-          ∙ ap (λ k. moving k c.args.self.now.cost) (omega (arith, put.2))))),
+          ∙ ap (λ k. add_moves k c.args.self.now.cost) (omega (arith, put.2))))),
       ends g c,
     )
 
-pub returns-clause-within : goal.returns-clause-within
-returns-clause-within g c =
+pub returns-clause-bounds : goal.returns-clause-bounds
+returns-clause-bounds g c =
     within-kept _ _ _ _ _ _ c.self.invariant c.self.view_is c.len-len.ensures.slots_fit (facts g c)
 
 pub returns-clause-cheap : goal.returns-clause-cheap

@@ -4,9 +4,9 @@ use Rattle.std.proofs.Common.{◌≡◌, ◌*◌, ◌++◌, ◌∙◌, ap, arith
 use Rattle.std.specs.Iterator.{size}
 use Rattle.std.specs.Prelude.{MatchOption}
 use denote.Param.{param}
-use Rattle.thin_vec.specs.List.Extend.{IsExtended}
-use Rattle.thin_vec.specs.Edits.Splice.{left_of}
-use Rattle.thin_vec.specs.Edits.Finish.{HasTaken}
+use Rattle.thin_vec.specs.List.Extend.{IsCapacityAfterExtend}
+use Rattle.thin_vec.specs.Edits.Splice.{without_middle}
+use Rattle.thin_vec.specs.Edits.Finish.{AddsFromIter}
 use Rattle.thin_vec.specs.ThinVec.{HasRoomFor}
 use Rattle.thin_vec.proofs.edits.SpliceLemmas.{after-items, closed-left, stop-at-end, stopped-now}
 use Rattle.thin_vec.proofs.list.ExtendLemmas.{adding-more}
@@ -16,39 +16,42 @@ use Rattle.thin_vec.proofs.list.ThinVec.finish_at_end.Goals.{After-extend}
 use Rattle.thin_vec.proofs.list.ThinVec.finish_at_end.Goals as goal
 
 -- After the call to `close`, the list contains only the items outside the replaced range. The
--- definition `left_of` describes this list.
+-- definition `without_middle` describes this list.
 left : (g : _) (c : After-extend g)
-    → c.close.new.self ≡ left_of c.args.block c.args.self.now.alloc
+    → c.close.new.self ≡ without_middle c.args.block c.args.self.now.alloc
 left g c =
     c.close.ensures.changes
-    ∙ closed-left c.args.block c.args.self.now c.requires.none c.requires.no_tail
+    ∙ closed-left c.args.block c.args.self.now c.requires.no_rest c.requires.no_tail
 
--- `HasTaken` describes how adding items of an iterator may change the capacity and the cost of a
--- list. It holds for the list before the call to `extend` and the list after this call.
+-- `AddsFromIter` describes how adding items of an iterator may change the capacity and the cost of
+-- a list. It holds for the list before the call to `extend` and the list after this call.
 taken : (g : _) (c : After-extend g)
-    → HasTaken g.G.Growth.rule (param 0 g.row.T) (left_of c.args.block c.args.self.now.alloc)
+    → AddsFromIter g.G.Growth.rule (param 0 g.row.T)
+    (without_middle c.args.block c.args.self.now.alloc)
     c.extend.new.self (2 * length c.args.block.tail) (g.I.Iterator.remaining c.args.iter)
 taken g c =
     let n = 2 * length c.args.block.tail in
     let w = c.extend.new.self in let more = g.I.Iterator.remaining c.args.iter in
-    let now : HasTaken g.G.Growth.rule (param 0 g.row.T) c.close.new.self w n more = record {
+    let now : AddsFromIter g.G.Growth.rule (param 0 g.row.T) c.close.new.self w n more = record {
       capacity = c.extend.ensures.capacity.loose;
       had_room = c.extend.ensures.capacity.had_room;
       cost = adding-more c.close.new.self w n c.extend.ensures.cost.adding;
-      alloc = c.extend.ensures.keeps.alloc;
-      cheap = c.extend.ensures.keeps.cheap;
+      alloc = c.extend.ensures.preserved.alloc;
+      cheap = c.extend.ensures.preserved.cheap;
     } in
-    subst (λ z. HasTaken g.G.Growth.rule (param 0 g.row.T) z w n more) (left g c) now
+    subst (λ z. AddsFromIter g.G.Growth.rule (param 0 g.row.T) z w n more) (left g c) now
 
--- After the call to `extend`, `IsExtended` holds for the capacity of the list: either the call did
--- not change the capacity, or the growth rule chose the new one.
+-- After the call to `extend`, `IsCapacityAfterExtend` holds for the capacity of the list: either
+-- the call did not change the capacity, or the growth rule chose the new one.
 ruled : (g : _) (c : After-extend g)
-    → IsExtended g.G.Growth.rule (param 0 g.row.T) (left_of c.args.block c.args.self.now.alloc)
+    → IsCapacityAfterExtend g.G.Growth.rule (param 0 g.row.T)
+    (without_middle c.args.block c.args.self.now.alloc)
     c.extend.new.self.capacity (length c.extend.new.self.items)
     (g.I.Iterator.remaining c.args.iter)
 ruled g c =
     let w = c.extend.new.self in
-    subst (λ z. IsExtended g.G.Growth.rule (param 0 g.row.T) z w.capacity (length w.items)
+    subst (λ z. IsCapacityAfterExtend g.G.Growth.rule (param 0 g.row.T) z w.capacity
+    (length w.items)
     (g.I.Iterator.remaining c.args.iter)) (left g c) c.extend.ensures.capacity.ruled
 
 pub returns-in-Ok : goal.returns-in-Ok
@@ -80,7 +83,7 @@ returns-in-Err g c =
       succeeds = λ few. c.in-Err.ensures.succeeds (omega (
         arith,
         few,
-        c.requires.within,
+        c.requires.bounds,
         ap (λ z. length z.items) is,
         ap (λ z. z.capacity) is,
         length-append v.front v.tail,

@@ -3,10 +3,10 @@
 -- of the size hint. Finally, `insert_held` inserts the remaining items.
 use Rattle.std.proofs.Common.{[], Err, None, Ok, Some, inl, inr, ◌-◌, ◌*◌, ◌∙◌, ap, arith, length, refl, subst, sym}
 use denote.Param.{param}
-use Rattle.thin_vec.specs.Edits.Finish.{HasTaken}
-use Rattle.thin_vec.specs.List.Extend.{FailsAtHint, PausedAfter}
-use Rattle.thin_vec.specs.Edits.Splice.{left_of}
-use Rattle.thin_vec.specs.Put.{Gives}
+use Rattle.thin_vec.specs.Edits.Finish.{AddsFromIter}
+use Rattle.thin_vec.specs.List.Extend.{FailsAtHint, YieldsAndCanContinue}
+use Rattle.thin_vec.specs.Edits.Splice.{without_middle}
+use Rattle.thin_vec.specs.Put.{YieldsThenMayEnd}
 use Rattle.thin_vec.proofs.list.ExtendLemmas.{ruled-after}
 use Rattle.thin_vec.proofs.edits.SpliceLemmas.{if-err, stop-at-hint, stopped-now}
 use Rattle.thin_vec.proofs.edits.FinishLemmas.{IsReached, filled-drains, filled-reached, filled-taken, finished-from, finished-ok, reached-extended, reached-long, reached-more, reached-taken}
@@ -16,7 +16,7 @@ use Rattle.thin_vec.proofs.list.ThinVec.finish_before_tail.Goals as goal
 pub returns-then-ended : goal.returns-then-ended
 returns-then-ended g c =
     let v = c.args.block in
-    let p = c.fill_gap-rest.ensures.filled in
+    let p = c.fill_gap-rest.ensures.filled_by in
     finished-ok v c.args.self.now.alloc c.args.iter c.fill_gap-rest.new.self tt
     (p.0.items, filled-drains p c.if-ended.true, p.1.items)
     (filled-taken p g.G.Growth.rule (param 0 g.row.T) (2 * length v.tail)
@@ -30,7 +30,7 @@ returns-in-Err g c =
     let can = g.I.Iterator.can_next in let left = g.I.Iterator.remaining in
     let v = c.args.block in let a = c.args.self.now.alloc in
     let w = c.insert_hinted.new.self in let t = c.fill_gap-rest.result.rest in
-    let p = c.fill_gap-rest.ensures.filled in
+    let p = c.fill_gap-rest.ensures.filled_by in
     let rejected = c.in-Err.rejected in
     let same = c.in-Err.ensures.err.0 in let rest = c.in-Err.ensures.err.1 in
     let here = subst
@@ -43,17 +43,20 @@ returns-in-Err g c =
       in_hand = None;
       rest = rejected.value;
     } in
-    finished-from v a c.args.iter w (Err error) here c.requires.some c.in-Err.ensures.succeeds tt
+    finished-from v a c.args.iter w
+    (Err error) here c.requires.nonempty c.in-Err.ensures.succeeds tt
     (stopped-now steps can left t [] error c.new.ensures.items
-    (subst (λ r. PausedAfter steps can left t [] r) (sym rest) (record {
+    (subst (λ r. YieldsAndCanContinue steps can left t [] r) (sym rest) (record {
       gave = refl;
       can_next = here.can_next;
       finite = here.finite;
     })))
-    (stop-at-hint rule T w v.tail (left rejected.value) error c.requires.some c.new.ensures.items refl
+    (stop-at-hint rule T w v.tail
+    (left rejected.value) error c.requires.nonempty c.new.ensures.items refl
     (subst (λ r. FailsAtHint rule T w (left r) rejected.cause) (sym rest) c.in-Err.ensures.cause))
     refl
-    (subst (λ z. HasTaken rule T (left_of v a) z (2 * length v.tail) (left c.args.iter)) (sym same)
+    (subst (λ z. AddsFromIter rule T (without_middle v a) z (2 * length v.tail) (left c.args.iter))
+    (sym same)
     (filled-taken p rule T (2 * length v.tail) (left c.args.iter)
     (omega (arith, p.1.cost.3 (p.0.full c.if-ended.false)))))
     (inl (inl (ap (λ z. z.capacity) same ∙ p.1.capacity)))
@@ -65,14 +68,14 @@ returns-then-ended-2 g c =
     let steps = g.I.Iterator.next_gives in
     let v = c.args.block in let a = c.args.self.now.alloc in
     let w = c.insert_hinted.new.self in let t = c.fill_gap-rest.result.rest in
-    let p = c.fill_gap-rest.ensures.filled in
+    let p = c.fill_gap-rest.ensures.filled_by in
     let first = filled-reached p c.if-ended.false in
-    let q = c.in-Ok.ensures.filled in
+    let q = c.in-Ok.ensures.filled_by in
     let f = c.in-Ok.filled in
     let n = 2 * length v.tail in
-    finished-from v a c.args.iter w (Ok tt) first c.requires.some (λ _. refl) (
+    finished-from v a c.args.iter w (Ok tt) first c.requires.nonempty (λ _. refl) (
       q.1.items,
-      (f.rest, subst (λ b. Gives steps t q.1.items b f.rest) c.if-ended-2.true q.1.gave),
+      (f.rest, subst (λ b. YieldsThenMayEnd steps t q.1.items b f.rest) c.if-ended-2.true q.1.gave),
       q.2,
     )
     tt tt tt
@@ -80,7 +83,7 @@ returns-then-ended-2 g c =
     - c.fill_gap-rest.result.end)) n (omega (arith, reached-long first))
     (filled-taken p rule T 0 (g.I.Iterator.remaining c.args.iter)
     (omega (arith, p.1.cost.3 (p.0.full c.if-ended.false))))
-    c.insert_hinted.ensures.taken)
+    c.insert_hinted.ensures.added)
     (reached-extended first rule T a w.capacity (length w.items) p.1.capacity
     (inr c.in-Ok.ensures.capacity))
     (λ _. omega (arith, ap (λ z. z.blocks) p.1.cost.1, c.insert_hinted.ensures.blocks))
@@ -91,15 +94,15 @@ returns-else-ended-2 g c =
     let v = c.args.block in let a = c.args.self.now.alloc in
     let u = c.fill_gap-rest.new.self in let y = c.insert_hinted.new.self in
     let w = c.insert_held.new.self in
-    let p = c.fill_gap-rest.ensures.filled in
+    let p = c.fill_gap-rest.ensures.filled_by in
     let first = filled-reached p c.if-ended.false in
-    let q = c.in-Ok.ensures.filled in
+    let q = c.in-Ok.ensures.filled_by in
     let last = reached-more first q.1 q.2 q.3 c.if-ended-2.false in
     let n = length v.tail in
     let hint = c.in-Ok.ensures.capacity in
-    finished-from v a c.args.iter w c.insert_held.result last c.requires.some
+    finished-from v a c.args.iter w c.insert_held.result last c.requires.nonempty
     c.insert_held.ensures.succeeds c.insert_held.ensures.items c.insert_held.ensures.placed
-    (if-err c.insert_held.result (λ refused is now. now v.tail c.requires.some)
+    (if-err c.insert_held.result (λ refused is now. now v.tail c.requires.nonempty)
     c.insert_held.ensures.cause)
     c.insert_held.ensures.err
     (reached-taken last rule T law a w n (length y.items - c.in-Ok.filled.end) (2 * n)
@@ -108,11 +111,11 @@ returns-else-ended-2 g c =
     (omega (arith, reached-long first))
     (filled-taken p rule T 0 (g.I.Iterator.remaining c.args.iter)
     (omega (arith, p.1.cost.3 (p.0.full c.if-ended.false))))
-    (c.in-Ok.ensures.taken_full c.if-ended-2.false))
-    c.insert_held.ensures.taken)
+    (c.in-Ok.ensures.added_full c.if-ended-2.false))
+    c.insert_held.ensures.added)
     (reached-extended first rule T a w.capacity (length w.items) p.1.capacity
     (ruled-after rule T law u.capacity y.capacity w.capacity (length w.items) _
-    c.insert_held.ensures.ruled
+    c.insert_held.ensures.capacity
     (λ same. (hint.0, hint.1, hint.2 ∙ ap Some (sym same)))))
     (λ _. omega (
       arith,

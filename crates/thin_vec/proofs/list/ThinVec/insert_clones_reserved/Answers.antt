@@ -1,5 +1,5 @@
 -- This file proves the contract of `insert_clones_reserved`. If an item cannot be cloned,
--- `drop_range` drops the clones that were made so far. The calls `open_wide`, `close` and
+-- `drop_range` drops the clones that were made so far. The calls `open_with_gap`, `close` and
 -- `drop_range` each move every old item whose index is at least `at` at most once.
 use Rattle.std.proofs.Common.{◌≡◌, ◌+◌, ◌-◌, ◌++◌, ◌∙◌, [], ap, arith, drop, eqb, length, length-append, sym, take}
 use Rattle.std.proofs.lemmas.List.{length-drop, length-take-le}
@@ -19,10 +19,11 @@ closed g c =
     let block = c.fill_from_clones-placed.new.self in
     let xs = c.args.self.now.items in
     let front : block.front ≡ take c.args.at xs ++ put.front.0 =
-    put.front.2 ∙ ap (λ l. l ++ put.front.0) c.open_wide-block.ensures.front in
-    let rest : block.rest ≡ [] = ap (λ v. v.rest) put.changes ∙ c.open_wide-block.ensures.rest in
+    put.front.2 ∙ ap (λ l. l ++ put.front.0) c.open_with_gap-block.ensures.front in
+    let rest : block.rest ≡ [] =
+    ap (λ v. v.rest) put.changes ∙ c.open_with_gap-block.ensures.rest in
     let tail : block.tail ≡ drop c.args.at xs =
-    ap (λ v. v.tail) put.changes ∙ c.open_wide-block.ensures.tail in
+    ap (λ v. v.tail) put.changes ∙ c.open_with_gap-block.ensures.tail in
     ap (λ v. v.items) c.close.ensures.changes ∙ (λ i. front i ++ (rest i ++ tail i))
 
 count : (g : _) (c : goal.After-drop_range g)
@@ -36,7 +37,8 @@ count g c =
 pub returns-then-placed-items-clause-succeeds : goal.returns-then-placed-items-clause-succeeds
 returns-then-placed-items-clause-succeeds g c = λ all. absurd
     (not-all g.T.Clone.is_infallible c.args.items.now c.fill_from_clones-placed.result
-    c.if-placed-items.true (c.fill_from_clones-placed.ensures.refused c.if-placed-items.true) all)
+    c.if-placed-items.true
+    (c.fill_from_clones-placed.ensures.stopped_at c.if-placed-items.true) all)
 
 pub returns-then-placed-items-clause-err_items : goal.returns-then-placed-items-clause-err_items
 returns-then-placed-items-clause-err_items g c =
@@ -45,21 +47,21 @@ returns-then-placed-items-clause-err_items g c =
     c.requires.in_bounds
     (count g c) (closed g c)
 
-pub returns-then-placed-items-clause-refused : goal.returns-then-placed-items-clause-refused
-returns-then-placed-items-clause-refused g c =
+pub returns-then-placed-items-clause-err_cost : goal.returns-then-placed-items-clause-err_cost
+returns-then-placed-items-clause-err_cost g c =
     let xs = c.args.self.now.items in
     let put = c.fill_from_clones-placed.ensures in
     let block = c.fill_from_clones-placed.new.self in
     let opened = at-most-if (eqb (length c.args.items.now) 0) (length xs - c.args.at)
-    c.args.self.now.cost c.open_wide-block.result.cost c.open_wide-block.ensures.other_cost in
+    c.args.self.now.cost c.open_with_gap-block.result.cost c.open_with_gap-block.ensures.cost in
     let filled = at-most-more opened put.in_bounds (ap (λ v. v.cost) put.changes) in
     let after : length block.rest + length block.tail ≡ length xs - c.args.at =
     omega (
       arith,
       ap (λ v. length v.rest) put.changes,
-      ap length c.open_wide-block.ensures.rest,
+      ap length c.open_with_gap-block.ensures.rest,
       ap (λ v. length v.tail) put.changes,
-      ap length c.open_wide-block.ensures.tail,
+      ap length c.open_with_gap-block.ensures.tail,
       length-drop c.args.at xs,
     ) in
     let shut = at-most-if (eqb block.gap 0) (length block.rest + length block.tail) block.cost

@@ -1,73 +1,73 @@
--- `draw` collects the items of the iterator in a vector. `open_wide` makes a gap with one slot for
--- each of these items, and `fill_from_vec` moves the items into the gap. If memory runs out, the
--- error contains the vector, and the item that did not fit into it, if there is one.
+-- `collect_rest` collects the items of the iterator in a vector. `open_with_gap` makes a gap with
+-- one slot for each of these items, and `fill_from_vec` moves the items into the gap. If memory
+-- runs out, the error contains the vector, and the item that did not fit into it, if there is one.
 use Rattle.std.proofs.Common.{Err, ◌++◌, drop, take, inl, inr, ◌≡◌, ℕ, ◌+◌, ◌-◌, ◌<◌, ◌≤◌, ◌∙◌, ap, arith, length, refl, subst, sym}
 use Rattle.std.proofs.lemmas.Bool.{cases_lt, false≢true}
 use Rattle.std.specs.Option.{option_len}
 use Rattle.std.specs.Prelude.{IsSome}
 use denote.Param.{param}
-use Rattle.thin_block.specs.Cost.{moving}
-use Rattle.thin_vec.specs.List.Extend.{IsKeptOrRuled}
-use Rattle.thin_vec.specs.ThinVec.{capacity_for}
+use Rattle.thin_block.specs.Cost.{add_moves}
+use Rattle.thin_vec.specs.List.Extend.{IsKeptOrChosen}
+use Rattle.thin_vec.specs.ThinVec.{capacity_after_reserve}
 use Rattle.thin_vec.proofs.edits.SpliceLemmas.{blocks-if, closed-moves, drawn-after, inserted-long, kept-or-ruled, run-moves, stop-at-held, taken-join, taken-none, taken-reserved, taken-spare}
-use Rattle.thin_block.proofs.Outcomes.{err-same}
+use Rattle.thin_block.proofs.ResultLemmas.{err-same}
 use Rattle.thin_vec.proofs.list.ThinVec.insert_held.Goals.{After-close, In-Err}
 use Rattle.thin_vec.proofs.list.ThinVec.insert_held.Goals as goal
 
 -- The call to `reserve` asks for room for exactly the items in the vector `held`.
-count : (g : _) (c : In-Err g) → c.len-count.result ≡ length c.draw-held.result.held.items
-count g c = c.len-count.ensures ∙ c.draw-held.result.held.ok.0
+count : (g : _) (c : In-Err g) → c.len-count.result ≡ length c.collect_rest-held.result.held.items
+count g c = c.len-count.ensures ∙ c.collect_rest-held.result.held.ok.0
 
 -- If the call to `reserve` fails, the vector `held` contains at least one item, because reserving
 -- room for zero items always succeeds.
-more : (g : _) (c : In-Err g) → 0 < length c.draw-held.result.held.items
-more g c = elim (cases_lt 0 (length c.draw-held.result.held.items)) [
+more : (g : _) (c : In-Err g) → 0 < length c.collect_rest-held.result.held.items
+more g c = elim (cases_lt 0 (length c.collect_rest-held.result.held.items)) [
   | inl some ↦ some
   | inr none ↦
       absurd (false≢true (c.in-Err.ensures.succeeds
-      (omega (arith, count g c, none, c.reserve.ensures.keeps.within.0.room))))
+      (omega (arith, count g c, none, c.reserve.ensures.preserved.within.0.room))))
 ]
 
 -- The list contains the items of the vector `held`, directly before the item at index `at`.
 items : (g : _) (c : After-close g)
     → c.close.new.self.items ≡ (take c.args.at c.reserve.new.self.items
-    ++ c.draw-held.result.held.items) ++ drop c.args.at c.reserve.new.self.items
+    ++ c.collect_rest-held.result.held.items) ++ drop c.args.at c.reserve.new.self.items
 items g c =
-    let put = c.fill_from_vec.ensures in let held = c.draw-held.result.held.items in
-    let front = ap (λ v. v.front) put ∙ ap (λ l. l ++ held) c.open_wide-block.ensures.front in
-    let rest = ap (λ v. v.rest) put ∙ c.open_wide-block.ensures.rest in
-    let tail = ap (λ v. v.tail) put ∙ c.open_wide-block.ensures.tail in
+    let put = c.fill_from_vec.ensures in let held = c.collect_rest-held.result.held.items in
+    let front = ap (λ v. v.front) put ∙ ap (λ l. l ++ held) c.open_with_gap-block.ensures.front in
+    let rest = ap (λ v. v.rest) put ∙ c.open_with_gap-block.ensures.rest in
+    let tail = ap (λ v. v.tail) put ∙ c.open_with_gap-block.ensures.tail in
     ap (λ z. z.items) c.close.ensures.changes ∙ (λ i. front i ++ (rest i ++ tail i))
 
 capacity : (g : _) (c : After-close g)
     → c.close.new.self.capacity ≡ c.reserve.new.self.capacity
 capacity g c =
     ap (λ z. z.capacity) c.close.ensures.changes
-    ∙ (ap (λ v. v.capacity) c.fill_from_vec.ensures ∙ c.open_wide-block.ensures.other_capacity)
+    ∙ (ap (λ v. v.capacity) c.fill_from_vec.ensures ∙ c.open_with_gap-block.ensures.capacity)
 
 -- Each item of the vector `held` is moved once, and each old item from index `at` onward at most
 -- once.
 cost : (g : _) (c : After-close g)
     → (m : ℕ) × (c.close.new.self.cost
-    ≡ moving (length c.draw-held.result.held.items + m) c.reserve.new.self.cost)
+    ≡ add_moves (length c.collect_rest-held.result.held.items + m) c.reserve.new.self.cost)
     × (m ≤ length c.reserve.new.self.items - c.args.at)
 cost g c =
     let v = c.reserve.new.self in
-    let block = c.open_wide-block.result in
+    let block = c.open_with_gap-block.result in
     let w = c.fill_from_vec.new.self in
-    let k = length c.draw-held.result.held.items in
-    let count = c.len-count.ensures ∙ c.draw-held.result.held.ok.0 in
-    let before = c.open_wide-block.ensures.gap in
+    let k = length c.collect_rest-held.result.held.items in
+    let count = c.len-count.ensures ∙ c.collect_rest-held.result.held.ok.0 in
+    let before = c.open_with_gap-block.ensures.gap in
     let none : w.gap ≡ 0 =
     omega (arith, ap (λ v. v.gap) c.fill_from_vec.ensures, before, count) in
     let all : k ≡ block.gap - w.gap = omega (arith, none, before, count) in
     let put = closed-moves block w k
-    (ap (λ v. v.cost) c.fill_from_vec.ensures ∙ ap (λ n. moving n block.cost) all)
-    (ap (λ v. v.rest) c.fill_from_vec.ensures ∙ c.open_wide-block.ensures.rest)
+    (ap (λ v. v.cost) c.fill_from_vec.ensures ∙ ap (λ n. add_moves n block.cost) all)
+    (ap (λ v. v.rest) c.fill_from_vec.ensures ∙ c.open_with_gap-block.ensures.rest)
     (ap (λ v. v.tail) c.fill_from_vec.ensures)
     all in
     let moves = run-moves c.len-count.result (length v.items - c.args.at) k put.0 v.cost block.cost
-    c.open_wide-block.ensures.other_cost in (
+    c.open_with_gap-block.ensures.cost in (
       moves.0,
       ap (λ z. z.cost) c.close.ensures.changes ∙ (put.1 ∙ moves.1),
       omega (arith, moves.2, put.3 none),
@@ -76,10 +76,11 @@ cost g c =
 pub returns-in-Some-in_hand-clause-placed : goal.returns-in-Some-in_hand-clause-placed
 returns-in-Some-in_hand-clause-placed g c =
     let gave = drawn-after g.I.Iterator.next_gives c.args.iter c.next.new.self
-    c.draw-held.result.rest c.in-Some.first c.draw-held.ensures.gave.0
-    c.draw-held.result.held.items c.draw-held.result.in_hand c.in-Some.ensures.steps
-    c.draw-held.ensures.gave.1 c.draw-held.ensures.gave.2 in
-    let asked = c.draw-held.ensures.asked (subst IsSome (sym c.in-Some-in_hand.is) refl) in
+    c.collect_rest-held.result.rest c.in-Some.first c.collect_rest-held.ensures.gave.0
+    c.collect_rest-held.result.held.items c.collect_rest-held.result.in_hand c.in-Some.ensures.steps
+    c.collect_rest-held.ensures.gave.1 c.collect_rest-held.ensures.gave.2 in
+    let asked = c.collect_rest-held.ensures.can_next
+    (subst IsSome (sym c.in-Some-in_hand.is) refl) in
     inl (
       record {
         gave = rw c.in-Some-in_hand.is at gave;
@@ -91,24 +92,31 @@ returns-in-Some-in_hand-clause-placed g c =
 
 pub returns-in-Some-in_hand-clause-succeeds : goal.returns-in-Some-in_hand-clause-succeeds
 returns-in-Some-in_hand-clause-succeeds g c = λ none.
-    absurd (omega (arith, none, c.draw-held.ensures.fewer, (c.in-Some.ensures.goes.on c.requires.finite).2, ap option_len c.in-Some-in_hand.is))
+    absurd (omega (
+      arith,
+      none,
+      c.collect_rest-held.ensures.bound,
+      (c.in-Some.ensures.goes.on c.requires.finite).2,
+      ap option_len c.in-Some-in_hand.is,
+    ))
 
 pub returns-in-Some-in_hand-clause-cause : goal.returns-in-Some-in_hand-clause-cause
 returns-in-Some-in_hand-clause-cause g c = λ tail some.
     stop-at-held g.G.Growth.rule (param 0 g.row.T) c.args.self.now tail
-    (g.I.Iterator.remaining c.draw-held.result.rest) _ some (λ none. cc) (λ none. cc) (λ _. refl)
+    (g.I.Iterator.remaining c.collect_rest-held.result.rest) _ some (λ none. cc) (λ none. cc)
+    (λ _. refl)
 
-pub returns-in-Some-in_hand-clause-taken : goal.returns-in-Some-in_hand-clause-taken
-returns-in-Some-in_hand-clause-taken g c =
+pub returns-in-Some-in_hand-clause-added : goal.returns-in-Some-in_hand-clause-added
+returns-in-Some-in_hand-clause-added g c =
     taken-none g.G.Growth.rule (param 0 g.row.T) c.args.self.now c.args.self.now _ _ refl
 
 pub returns-in-Err-clause-placed : goal.returns-in-Err-clause-placed
 returns-in-Err-clause-placed g c =
     let here = (goal.at.returns-in-Err-clause-placed g c).In-Err in
     let gave = drawn-after g.I.Iterator.next_gives c.args.iter c.next.new.self
-    c.draw-held.result.rest c.in-Some.first c.draw-held.ensures.gave.0
-    c.draw-held.result.held.items c.draw-held.result.in_hand c.in-Some.ensures.steps
-    c.draw-held.ensures.gave.1 c.draw-held.ensures.gave.2 in
+    c.collect_rest-held.result.rest c.in-Some.first c.collect_rest-held.ensures.gave.0
+    c.collect_rest-held.result.held.items c.collect_rest-held.result.in_hand c.in-Some.ensures.steps
+    c.collect_rest-held.ensures.gave.1 c.collect_rest-held.ensures.gave.2 in
     inr (refl, more g here, rw c.in_default-in_hand.is at gave)
 
 pub returns-in-Err-clause-succeeds : goal.returns-in-Err-clause-succeeds
@@ -119,29 +127,30 @@ returns-in-Err-clause-succeeds g c = λ none.
       arith,
       count g here,
       none,
-      c.draw-held.ensures.fewer,
+      c.collect_rest-held.ensures.bound,
       (c.in-Some.ensures.goes.on c.requires.finite).2,
-      c.reserve.ensures.keeps.within.0.room,
+      c.reserve.ensures.preserved.within.0.room,
     ))
 
 pub returns-in-Err-clause-cause : goal.returns-in-Err-clause-cause
 returns-in-Err-clause-cause g c = λ tail some.
     let here = (goal.at.returns-in-Err-clause-cause g c).In-Err in
-    let held = c.draw-held.result.held.items in
+    let held = c.collect_rest-held.result.held.items in
     let rule = g.G.Growth.rule in let T = param 0 g.row.T in
-    let same : capacity_for rule T c.args.self.now c.len-count.result
-    ≡ capacity_for rule T c.reserve.new.self (length held) =
-    λ i. capacity_for rule T (sym c.in-Err.ensures.err i) (count g here i) in
-    stop-at-held rule T c.reserve.new.self tail (g.I.Iterator.remaining c.draw-held.result.rest) _
+    let same : capacity_after_reserve rule T c.args.self.now c.len-count.result
+    ≡ capacity_after_reserve rule T c.reserve.new.self (length held) =
+    λ i. capacity_after_reserve rule T (sym c.in-Err.ensures.err i) (count g here i) in
+    stop-at-held rule T c.reserve.new.self tail
+    (g.I.Iterator.remaining c.collect_rest-held.result.rest) _
     some (λ _. more g here)
     (λ _. (
-      λ over. sym same ∙ c.in-Err.ensures.reserves.overflow.0 (ap Err over),
-      λ none. err-same (c.in-Err.ensures.reserves.overflow.1 (same ∙ none)),
+      λ over. sym same ∙ c.in-Err.ensures.capacity.overflow.0 (ap Err over),
+      λ none. err-same (c.in-Err.ensures.capacity.overflow.1 (same ∙ none)),
     ))
     (λ is. absurd (false≢true is))
 
-pub returns-in-Err-clause-taken : goal.returns-in-Err-clause-taken
-returns-in-Err-clause-taken g c =
+pub returns-in-Err-clause-added : goal.returns-in-Err-clause-added
+returns-in-Err-clause-added g c =
     taken-none g.G.Growth.rule (param 0 g.row.T) c.args.self.now c.reserve.new.self _ _
     c.in-Err.ensures.err
 
@@ -159,63 +168,65 @@ returns-clause-blocks g c = omega (
 pub returns-in-Err-clause-err : goal.returns-in-Err-clause-err
 returns-in-Err-clause-err g c = search (arith, ◌∙◌)
 
-pub returns-clause-ruled : goal.returns-clause-ruled
-returns-clause-ruled g c =
+pub returns-clause-capacity : goal.returns-clause-capacity
+returns-clause-capacity g c =
     let rule = g.G.Growth.rule in let T = param 0 g.row.T in
     let v = c.args.self.now in let u = c.reserve.new.self in let w = c.close.new.self in
-    let here = (goal.at.returns-clause-ruled g c).After-close in
+    let here = (goal.at.returns-clause-capacity g c).After-close in
     let long = ap length (items g here)
-    ∙ inserted-long c.reserve.new.self.items c.draw-held.result.held.items c.args.at
+    ∙ inserted-long c.reserve.new.self.items c.collect_rest-held.result.held.items c.args.at
     (omega (arith, ap length c.reserve.ensures.items, c.requires.in_bounds)) in
-    subst (λ d. IsKeptOrRuled rule T v.capacity d (length w.items)) (sym (capacity g here))
+    subst (λ d. IsKeptOrChosen rule T v.capacity d (length w.items)) (sym (capacity g here))
     (kept-or-ruled rule T g.met.G.Growth.law v c.len-count.result u.capacity (length w.items)
-    c.in_default-reserve.ensures.reserves.ok
+    c.in_default-reserve.ensures.capacity.ok
     (omega (
       arith,
-      c.len-count.ensures ∙ c.draw-held.result.held.ok.0,
+      c.len-count.ensures ∙ c.collect_rest-held.result.held.ok.0,
       long,
       ap length c.reserve.ensures.items,
     )))
 
-pub returns-clause-taken : goal.returns-clause-taken
-returns-clause-taken g c =
+pub returns-clause-added : goal.returns-clause-added
+returns-clause-added g c =
     let rule = g.G.Growth.rule in let T = param 0 g.row.T in let law = g.met.G.Growth.law in
     let left = g.I.Iterator.remaining c.args.iter in
     let v = c.args.self.now in let u = c.reserve.new.self in
     let n = length v.items - c.args.at in
     let old = ap length c.reserve.ensures.items in
-    let count = c.len-count.ensures ∙ c.draw-held.result.held.ok.0 in
-    let here = (goal.at.returns-clause-taken g c).After-close in
+    let count = c.len-count.ensures ∙ c.collect_rest-held.result.held.ok.0 in
+    let here = (goal.at.returns-clause-added g c).After-close in
     let long = ap length (items g here)
-    ∙ inserted-long c.reserve.new.self.items c.draw-held.result.held.items c.args.at
+    ∙ inserted-long c.reserve.new.self.items c.collect_rest-held.result.held.items c.args.at
     (omega (arith, ap length c.reserve.ensures.items, c.requires.in_bounds)) in
     let paid = cost g here in
     taken-join rule T law v u c.close.new.self 0 n n left left (omega arith)
     (omega (arith, old)) (λ fit same. omega (arith, fit, same, old))
-    (taken-reserved rule T law v u c.len-count.result left c.in_default-reserve.ensures.reserves.ok
-    c.reserve.ensures.items c.reserve.ensures.keeps.alloc c.in_default-reserve.ensures.cost
-    c.reserve.ensures.keeps.cheap
+    (taken-reserved rule T law v u c.len-count.result left c.in_default-reserve.ensures.capacity.ok
+    c.reserve.ensures.items c.reserve.ensures.preserved.alloc c.in_default-reserve.ensures.cost
+    c.reserve.ensures.preserved.cheap
     (omega (
       arith,
       count,
-      c.draw-held.ensures.fewer,
+      c.collect_rest-held.ensures.bound,
       (c.in-Some.ensures.goes.on c.requires.finite).2,
     ))
-    c.reserve.ensures.keeps.within.0.room)
-    (taken-spare rule T u c.close.new.self (length c.draw-held.result.held.items) paid.0 n left
+    c.reserve.ensures.preserved.within.0.room)
+    (taken-spare rule T u c.close.new.self
+    (length c.collect_rest-held.result.held.items) paid.0 n left
     paid.1 (capacity g here) long (omega (arith, paid.2, old))
     (ap (λ z. z.alloc) c.close.ensures.changes
-    ∙ ap (λ z. z.alloc) c.open_wide-block.ensures.changes))
+    ∙ ap (λ z. z.alloc) c.open_with_gap-block.ensures.changes))
 
 pub returns-clause-items : goal.returns-clause-items
 returns-clause-items g c =
     let gave = drawn-after g.I.Iterator.next_gives c.args.iter c.next.new.self
-    c.draw-held.result.rest c.in-Some.first c.draw-held.ensures.gave.0
-    c.draw-held.result.held.items c.draw-held.result.in_hand c.in-Some.ensures.steps
-    c.draw-held.ensures.gave.1 c.draw-held.ensures.gave.2 in (
-      c.draw-held.result.held.items,
-      (c.draw-held.result.rest, rw c.in_default-in_hand.is at gave),
+    c.collect_rest-held.result.rest c.in-Some.first c.collect_rest-held.ensures.gave.0
+    c.collect_rest-held.result.held.items c.collect_rest-held.result.in_hand c.in-Some.ensures.steps
+    c.collect_rest-held.ensures.gave.1 c.collect_rest-held.ensures.gave.2 in (
+      c.collect_rest-held.result.held.items,
+      (c.collect_rest-held.result.rest, rw c.in_default-in_hand.is at gave),
       items g ((goal.at.returns-clause-items g c).After-close)
-          ∙ ap (λ l. (take c.args.at l ++ c.draw-held.result.held.items) ++ drop c.args.at l)
+          ∙ ap (λ l. (take c.args.at l ++ c.collect_rest-held.result.held.items) ++ drop
+          c.args.at l)
           c.reserve.ensures.items,
     )

@@ -1,36 +1,36 @@
--- `open_wide` makes a gap of empty slots at index `at`. The number of these slots is the lower
+-- `open_with_gap` makes a gap of empty slots at index `at`. The number of these slots is the lower
 -- bound of the iterator's size hint. Then `fill_gap` fills the gap with items of the iterator.
 use Rattle.std.proofs.Common.{Err, Some, ◌≡◌, ◌+◌, ◌-◌, ◌*◌, ◌≤◌, ◌++◌, ◌∙◌, ap, arith, drop, length, refl, subst, sym, take}
 use Rattle.std.proofs.lemmas.Bool.{false≢true}
 use Rattle.std.proofs.lemmas.List.{length-drop, length-take-le}
 use denote.Param.{param}
-use Rattle.thin_block.proofs.Outcomes.{err-same}
-use Rattle.thin_vec.specs.Edits.Finish.{HasTaken}
-use Rattle.thin_vec.specs.ThinVec.{HasRoomFor, capacity_for}
+use Rattle.thin_block.proofs.ResultLemmas.{err-same}
+use Rattle.thin_vec.specs.Edits.Finish.{AddsFromIter}
+use Rattle.thin_vec.specs.ThinVec.{HasRoomFor, capacity_after_reserve}
 use Rattle.thin_vec.proofs.edits.SpliceLemmas.{blocks-if, run-moves, taken-join, taken-none, taken-reserved}
 use Rattle.thin_vec.proofs.edits.FinishLemmas.{IsWide, wide-taken}
 use Rattle.thin_vec.proofs.list.ThinVec.insert_hinted.Goals.{After-fill_gap}
 use Rattle.thin_vec.proofs.list.ThinVec.insert_hinted.Goals as goal
 
--- After the call to `open_wide`, the block has a gap of empty slots at index `at`. The number of
--- these slots is the lower bound of the size hint.
+-- After the call to `open_with_gap`, the block has a gap of empty slots at index `at`. The number
+-- of these slots is the lower bound of the size hint.
 wide : (g : _) (c : After-fill_gap g)
-    → IsWide c.open_wide-block.result c.reserve.new.self c.args.at c.size_hint-hint.result.0
+    → IsWide c.open_with_gap-block.result c.reserve.new.self c.args.at c.size_hint-hint.result.0
 wide g c = record {
   in_bounds = omega (arith, c.requires.in_bounds, ap length c.reserve.ensures.items);
-  front = c.open_wide-block.ensures.front;
-  tail = c.open_wide-block.ensures.tail;
-  capacity = c.open_wide-block.ensures.other_capacity;
-  cost = c.open_wide-block.ensures.other_cost;
+  front = c.open_with_gap-block.ensures.front;
+  tail = c.open_with_gap-block.ensures.tail;
+  capacity = c.open_with_gap-block.ensures.capacity;
+  cost = c.open_with_gap-block.ensures.cost;
 }
 
--- `HasTaken` describes how adding items of an iterator changed a list, and bounds the number of
+-- `AddsFromIter` describes how adding items of an iterator changed a list, and bounds the number of
 -- moves of old items. Suppose that opening and closing the gap takes at most `n` moves. Then
--- `HasTaken` holds, with the bound `n`, for the list before the call to `insert_hinted` and the
+-- `AddsFromIter` holds, with the bound `n`, for the list before the call to `insert_hinted` and the
 -- list after this call.
 taken : (g : _) (c : After-fill_gap g) (n : _)
-    → c.fill_gap.ensures.filled.1.cost.0 + (length c.reserve.new.self.items - c.args.at) ≤ n
-    → HasTaken g.G.Growth.rule (param 0 g.row.T) c.args.self.now c.fill_gap.new.self n
+    → c.fill_gap.ensures.filled_by.1.cost.0 + (length c.reserve.new.self.items - c.args.at) ≤ n
+    → AddsFromIter g.G.Growth.rule (param 0 g.row.T) c.args.self.now c.fill_gap.new.self n
     (g.I.Iterator.remaining c.args.iter)
 taken g c n few =
     let rule = g.G.Growth.rule in let T = param 0 g.row.T in let law = g.met.G.Growth.law in
@@ -40,30 +40,30 @@ taken g c n few =
     let old = ap length c.reserve.ensures.items in
     taken-join rule T law v u w 0 n n left left (omega arith)
     (omega (arith, old)) (λ fit same. omega (arith, fit, same, old))
-    (taken-reserved rule T law v u hint left c.in_default.ensures.reserves.ok
-    c.reserve.ensures.items c.reserve.ensures.keeps.alloc c.in_default.ensures.cost
-    c.reserve.ensures.keeps.cheap (c.size_hint-hint.ensures.lower c.requires.finite)
-    c.reserve.ensures.keeps.within.0.room)
-    (wide-taken c.fill_gap.ensures.filled rule T n left u c.args.at hint (wide g c)
-    (ap (λ z. z.alloc) c.open_wide-block.ensures.changes) few)
+    (taken-reserved rule T law v u hint left c.in_default.ensures.capacity.ok
+    c.reserve.ensures.items c.reserve.ensures.preserved.alloc c.in_default.ensures.cost
+    c.reserve.ensures.preserved.cheap (c.size_hint-hint.ensures.lower c.requires.finite)
+    c.reserve.ensures.preserved.within.0.room)
+    (wide-taken c.fill_gap.ensures.filled_by rule T n left u c.args.at hint (wide g c)
+    (ap (λ z. z.alloc) c.open_with_gap-block.ensures.changes) few)
 
 -- The items after the gap are the items of the old list from index `at` onward. So their number is
 -- the length of the old list minus `at`.
-tail : (g : _) (c : After-fill_gap g) → length c.open_wide-block.result.tail
+tail : (g : _) (c : After-fill_gap g) → length c.open_with_gap-block.result.tail
     ≡ length c.args.self.now.items - c.args.at
 tail g c = omega (
   arith,
-  ap length c.open_wide-block.ensures.tail,
+  ap length c.open_with_gap-block.ensures.tail,
   length-drop c.args.at c.reserve.new.self.items,
   ap length c.reserve.ensures.items,
 )
 
-pub returns-clause-filled : goal.returns-clause-filled
-returns-clause-filled g c =
-    let filled = c.fill_gap.ensures.filled in
+pub returns-clause-filled_by : goal.returns-clause-filled_by
+returns-clause-filled_by g c =
+    let filled = c.fill_gap.ensures.filled_by in
     let xs = filled.0.items in
-    let there = wide g ((goal.at.returns-clause-filled g c).After-fill_gap) in (
-      c.open_wide-block.result.gap,
+    let there = wide g ((goal.at.returns-clause-filled_by g c).After-fill_gap) in (
+      c.open_with_gap-block.result.gap,
       filled.0,
       filled.1.items
           ∙ ((λ i. (there.front i ++ xs) ++ there.tail i)
@@ -78,28 +78,28 @@ returns-clause-filled g c =
 
 pub returns-clause-capacity : goal.returns-clause-capacity
 returns-clause-capacity g c =
-    let filled = c.fill_gap.ensures.filled in (
+    let filled = c.fill_gap.ensures.filled_by in (
       c.size_hint-hint.result.0,
       c.size_hint-hint.ensures.lower,
-      c.in_default.ensures.reserves.ok
-          ∙ ap Some (sym (filled.1.capacity ∙ c.open_wide-block.ensures.other_capacity)),
+      c.in_default.ensures.capacity.ok
+          ∙ ap Some (sym (filled.1.capacity ∙ c.open_with_gap-block.ensures.capacity)),
     )
 
-pub returns-clause-taken : goal.returns-clause-taken
-returns-clause-taken g c =
-    let here = (goal.at.returns-clause-taken g c).After-fill_gap in
+pub returns-clause-added : goal.returns-clause-added
+returns-clause-added g c =
+    let here = (goal.at.returns-clause-added g c).After-fill_gap in
     taken g here (2 * (length c.args.self.now.items - c.args.at))
     (omega (
       arith,
-      c.fill_gap.ensures.filled.1.cost.2,
+      c.fill_gap.ensures.filled_by.1.cost.2,
       tail g here,
       ap length c.reserve.ensures.items,
     ))
 
-pub returns-clause-taken_full : goal.returns-clause-taken_full
-returns-clause-taken_full g c = λ full.
-    let here = (goal.at.returns-clause-taken_full g c).After-fill_gap in
-    let filled = c.fill_gap.ensures.filled in
+pub returns-clause-added_full : goal.returns-clause-added_full
+returns-clause-added_full g c = λ full.
+    let here = (goal.at.returns-clause-added_full g c).After-fill_gap in
+    let filled = c.fill_gap.ensures.filled_by in
     taken g here (length c.args.self.now.items - c.args.at)
     (omega (
       arith,
@@ -109,10 +109,10 @@ returns-clause-taken_full g c = λ full.
 
 pub returns-clause-blocks : goal.returns-clause-blocks
 returns-clause-blocks g c =
-    let p = c.fill_gap.ensures.filled in
+    let p = c.fill_gap.ensures.filled_by in
     let u = c.reserve.new.self in
     let all = run-moves c.size_hint-hint.result.0 (length u.items - c.args.at) (length p.0.items)
-    p.1.cost.0 u.cost c.open_wide-block.result.cost c.open_wide-block.ensures.other_cost in
+    p.1.cost.0 u.cost c.open_with_gap-block.result.cost c.open_with_gap-block.ensures.cost in
     omega (
       arith,
       ap (λ q. q.blocks) (p.1.cost.1 ∙ all.1),
@@ -129,14 +129,14 @@ returns-in-Err-clause-succeeds g c = λ none.
       arith,
       none,
       c.size_hint-hint.ensures.lower c.requires.finite,
-      c.reserve.ensures.keeps.within.0.room,
+      c.reserve.ensures.preserved.within.0.room,
     ))
 
 pub returns-in-Err-clause-cause : goal.returns-in-Err-clause-cause
 returns-in-Err-clause-cause g c =
     let hint = c.size_hint-hint.result.0 in let same = c.in-Err.ensures.err in
-    let overflow = c.in-Err.ensures.reserves.overflow in
-    let named = ap (λ z. capacity_for g.G.Growth.rule (param 0 g.row.T) z hint) same in (
+    let overflow = c.in-Err.ensures.capacity.overflow in
+    let named = ap (λ z. capacity_after_reserve g.G.Growth.rule (param 0 g.row.T) z hint) same in (
       hint,
       c.size_hint-hint.ensures.lower,
       (λ room. false≢true
@@ -150,7 +150,7 @@ returns-in-Err-clause-cause g c =
 pub returns-in-Err-clause-err : goal.returns-in-Err-clause-err
 returns-in-Err-clause-err g c = (c.in-Err.ensures.err, refl)
 
-pub returns-in-Err-clause-taken : goal.returns-in-Err-clause-taken
-returns-in-Err-clause-taken g c =
+pub returns-in-Err-clause-added : goal.returns-in-Err-clause-added
+returns-in-Err-clause-added g c =
     taken-none g.G.Growth.rule (param 0 g.row.T) c.args.self.now c.reserve.new.self _ _
     c.in-Err.ensures.err

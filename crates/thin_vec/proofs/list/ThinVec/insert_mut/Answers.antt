@@ -16,15 +16,15 @@ returns g c =
     let put = c.in_ok-insert.ensures.items in
     let at : length (take i xs) ≡ i = length-take-le i xs c.requires.in_bounds in
     let y = c.index_mut.result.now in
-    let within = c.insert.ensures.keeps.within in (
+    let within = c.insert.ensures.preserved.within in (
       (
         refl,
         λ w _. record {
           items = ap (λ l. set l i w) put ∙ set_at (take i xs) v (drop i xs) w i at;
-          capacity = c.in_ok-insert.ensures.reserves.ok;
-          alloc = c.insert.ensures.keeps.alloc;
+          capacity = c.in_ok-insert.ensures.capacity.ok;
+          alloc = c.insert.ensures.preserved.alloc;
           cost = c.in_ok-insert.ensures.cost;
-          cheap = c.insert.ensures.keeps.cheap;
+          cheap = c.insert.ensures.preserved.cheap;
           within = within-like _ _ new within.1 refl
               (omega (arith, length-set new.items i w, within.1.room));
         },
@@ -35,8 +35,8 @@ returns g c =
         value = c.index_mut.ensures.value
             ∙ (ap (λ l. get_or l i y) put ∙ get_or_at (take i xs) v (drop i xs) y i at);
         succeeds = λ _. refl;
-        overflow = tells-ok _ _ _ c.in_ok-insert.ensures.reserves.ok;
+        overflow = tells-ok _ _ _ c.in_ok-insert.ensures.capacity.ok;
         value_returned = tt;
-        within = within.0;
+        bounds = within.0;
       },
     )

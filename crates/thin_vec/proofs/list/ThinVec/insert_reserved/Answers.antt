@@ -1,14 +1,14 @@
--- `move_run` moves the items from `index` onward up by one slot, and `put_and_store` writes `value`
--- into the empty slot at `index`.
+-- `move_run` moves the items from `index` onward up by one slot, and `put_and_set_len` writes
+-- `value` into the empty slot at `index`.
 use Rattle.std.proofs.Common.{Some, ◌+◌, ◌-◌, ap, ◌∙◌, length, arith, refl}
 use lib.ListN.{set}
 use Rattle.std.specs.Prelude.{insert}
-use Rattle.thin_vec.proofs.ListLemmas.{Settled, thin-filled}
-use Rattle.thin_block.specs.Block.{Seen}
-use Rattle.thin_block.specs.Cost.{moving}
+use Rattle.thin_vec.proofs.ListLemmas.{RestoresInvariant, thin-filled}
+use Rattle.thin_block.specs.Block.{BlockView}
+use Rattle.thin_block.specs.Cost.{add_moves}
 use Rattle.thin_block.specs.Slots.{items_in, slot}
-use Rattle.thin_vec.proofs.list.ThinVec.insert_reserved.Goals.{After-put_and_store}
-use Rattle.thin_vec.proofs.list.InsertRemoveLemmas.{settle-insert, thin-gap}
+use Rattle.thin_vec.proofs.list.ThinVec.insert_reserved.Goals.{After-put_and_set_len}
+use Rattle.thin_vec.proofs.list.InsertRemoveLemmas.{restores-insert, thin-gap}
 use Rattle.thin_vec.proofs.list.ReservesLemmas.{keeps-settled}
 use Rattle.thin_vec.proofs.list.ThinVec.insert_reserved.Goals as goal
 
@@ -25,8 +25,8 @@ move_run-requires-clause-filled g c = λ j low high.
       ap (λ v. length v.items) c.self.view_is,
     ))
 
-pub put_and_store-requires-clause-empty : goal.put_and_store-requires-clause-empty
-put_and_store-requires-clause-empty g c =
+pub put_and_set_len-requires-clause-empty : goal.put_and_set_len-requires-clause-empty
+put_and_set_len-requires-clause-empty g c =
     ap (λ v. slot v.slots c.args.index) c.move_run.ensures.changes
     ∙ thin-gap c.self.invariant c.args.index
     (omega (arith, c.requires.in_bounds, ap (λ v. length v.items) c.self.view_is))
@@ -39,11 +39,12 @@ put_and_store-requires-clause-empty g c =
     ))
     refl (ap (λ n. n - c.args.index) c.len-len.ensures.value)
 
-facts : (g : _) (c : After-put_and_store g) → Settled c.put_and_store.new.self c.self.inside.alloc
+facts : (g : _) (c : After-put_and_set_len g)
+    → RestoresInvariant c.put_and_set_len.new.self c.self.inside.alloc
     (insert (items_in c.self.inside.block.slots) c.args.index c.args.value)
     (length c.self.inside.block.slots)
 facts g c =
-    settle-insert c.self.invariant c.put_and_store.new.self c.args.index c.args.value
+    restores-insert c.self.invariant c.put_and_set_len.new.self c.args.index c.args.value
     (omega (arith, c.requires.in_bounds, ap (λ v. length v.items) c.self.view_is))
     (omega (
       arith,
@@ -53,10 +54,10 @@ facts g c =
       ap (λ v. v.capacity) c.self.view_is,
     ))
     refl (ap (λ n. n - c.args.index) c.len-len.ensures.value) c.len-len.ensures.value
-    (c.put_and_store.ensures.changes ∙ ap {A = Seen _ _} (λ v. record v {
+    (c.put_and_set_len.ensures.changes ∙ ap {A = BlockView _ _} (λ v. record v {
       slots = set v.slots c.args.index (Some c.args.value);
       len = c.len-len.result + 1;
-      cost = moving 1 v.cost;
+      cost = add_moves 1 v.cost;
     }) c.move_run.ensures.changes)
 
 pub invariant_of-self : goal.invariant_of-self
@@ -66,8 +67,8 @@ pub returns-clause-items : goal.returns-clause-items
 returns-clause-items g c = (facts g c).items
     ∙ ap (λ v. insert v.items c.args.index c.args.value) c.self.view_is
 
-pub returns-clause-keeps : goal.returns-clause-keeps
-returns-clause-keeps g c =
+pub returns-clause-preserved : goal.returns-clause-preserved
+returns-clause-preserved g c =
     keeps-settled _ _ c.self.invariant c.self.view_is c.len-len.ensures.slots_fit (facts g c)
-    (ap (λ v. v.cost) c.put_and_store.ensures.changes
-    ∙ ap (λ v. moving 1 v.cost) c.move_run.ensures.changes) (refl, refl)
+    (ap (λ v. v.cost) c.put_and_set_len.ensures.changes
+    ∙ ap (λ v. add_moves 1 v.cost) c.move_run.ensures.changes) (refl, refl)

@@ -3,16 +3,17 @@
 use Rattle.std.proofs.Common.{◌≡◌, ◌≤◌, ap, sym, ◌∙◌, subst, arith, drop, length, take, rules}
 use Rattle.std.specs.Prelude.{slice_range}
 use Rattle.thin_block.specs.Slots.{items_in}
-use Rattle.thin_vec.specs.ThinVec.{IsThin}
-use Rattle.thin_vec.proofs.ListLemmas.{thin_of-becomes}
+use Rattle.thin_vec.specs.ThinVec.{IsListBlock}
+use Rattle.thin_vec.proofs.ListLemmas.{list_view-becomes}
 use Rattle.thin_vec.proofs.OpenBlockLemmas.{Found}
-use Rattle.thin_vec.proofs.open_block.StepLemmas.{open-step, opened, opened-seen}
+use Rattle.thin_vec.proofs.open_block.StepLemmas.{open-step, opened, opened-view}
 use Rattle.thin_vec.proofs.list.ThinVec.open.Goals as goal
 
--- `replace` returns the old block of the list. So this block satisfies `IsThin`, the invariant of a
--- list's block.
-was : (g : _) (c : goal.After-replace-block g) → IsThin c.replace-block.result c.self.inside.alloc
-was g c = subst (λ b. IsThin b c.self.inside.alloc)
+-- `replace` returns the old block of the list. So this block satisfies `IsListBlock`, the invariant
+-- of a list's block.
+was : (g : _) (c : goal.After-replace-block g)
+    → IsListBlock c.replace-block.result c.self.inside.alloc
+was g c = subst (λ b. IsListBlock b c.self.inside.alloc)
     (sym c.replace-block.ensures.value) c.self.invariant
 
 same : (g : _) (c : goal.After-replace-block g) → items_in c.replace-block.result.slots
@@ -25,7 +26,7 @@ facts : (g : _) (c : goal.After-replace-block g)
     omega (arith, c.requires.in_bounds, ap length (same g c)) in
     Found (opened c.replace-block.result c.self.inside.alloc c.args.start c.args.end (was g c)
     c.requires.start_le_end within c.len-len.result)
-    (opened-seen c.replace-block.result c.self.inside.alloc c.args.start c.args.end (was g c)
+    (opened-view c.replace-block.result c.self.inside.alloc c.args.start c.args.end (was g c)
     c.requires.start_le_end within)
 facts g c =
     let within : c.args.end ≤ length (items_in c.replace-block.result.slots) =
@@ -55,5 +56,5 @@ pub returns-clause-changes : goal.returns-clause-changes
 returns-clause-changes g c =
     let none = ap (λ b. b.slots) c.replace-block.ensures.after
     ∙ ap (λ v. v.slots) c.none.ensures.new in
-    thin_of-becomes c.self.view_is c.replace-block.new.dest (ap length none) (ap items_in none)
+    list_view-becomes c.self.view_is c.replace-block.new.dest (ap length none) (ap items_in none)
     (search rules)

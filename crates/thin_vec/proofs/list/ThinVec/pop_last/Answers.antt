@@ -1,7 +1,7 @@
 -- The last item is in the last filled slot. `pop_last` empties this slot, so the list contains all
 -- other items afterwards.
 use Rattle.std.proofs.Common.{◌≡◌, ◌+◌, ◌++◌, ◌∷◌, [], sym, ap, ◌∙◌, length, take, arith, ◌-◌, refl, rules}
-use Rattle.thin_vec.proofs.ListLemmas.{Settled, last-item, settle-pop, thin-filled, thin_of-keeps}
+use Rattle.thin_vec.proofs.ListLemmas.{RestoresInvariant, last-item, restores-pop, thin-filled, list_view-keeps}
 use Rattle.thin_block.specs.Slots.{items_in}
 use Rattle.thin_block.proofs.BlockLemmas.{then-len}
 use Rattle.thin_vec.proofs.list.ThinVec.pop_last.Goals as goal
@@ -12,7 +12,7 @@ take-value-requires g c =
       filled = thin-filled c.self.inside.block c.self.inside.alloc _ c.self.invariant
           (omega (
             arith,
-            c.requires.some,
+            c.requires.nonempty,
             c.len-last.ensures.value,
             c.self.invariant.packed.len,
             ap (λ v. length v.items) c.self.view_is,
@@ -22,17 +22,18 @@ take-value-requires g c =
 stored : (g : _) (c : goal.After-store_len g) → c.len-last.result - 1 + 1 ≡ c.self.inside.block.len
 stored g c = omega (
   arith,
-  c.requires.some,
+  c.requires.nonempty,
   c.len-last.ensures.value,
   c.self.invariant.packed.len,
   ap (λ v. length v.items) c.self.view_is,
 )
 
-facts : (g : _) (c : goal.After-store_len g) → Settled c.store_len.new.self c.self.inside.alloc
+facts : (g : _) (c : goal.After-store_len g)
+    → RestoresInvariant c.store_len.new.self c.self.inside.alloc
     (take (c.len-last.result - 1) (items_in c.self.inside.block.slots))
     (length c.self.inside.block.slots)
 facts g c =
-    settle-pop c.self.invariant c.store_len.new.self c.take-value.result (c.len-last.result - 1)
+    restores-pop c.self.invariant c.store_len.new.self c.take-value.result (c.len-last.result - 1)
     (stored g c) c.take-value.ensures.value
     (then-len c.store_len.ensures.changes c.take-value.ensures.changes)
 
@@ -48,4 +49,4 @@ returns-clause-items g c =
 
 pub returns-clause-changes : goal.returns-clause-changes
 returns-clause-changes g c =
-    thin_of-keeps c.self.view_is c.store_len.new.self (facts g c).cap refl (search rules)
+    list_view-keeps c.self.view_is c.store_len.new.self (facts g c).cap refl (search rules)

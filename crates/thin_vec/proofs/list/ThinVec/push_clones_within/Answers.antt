@@ -4,7 +4,7 @@ use Rattle.std.proofs.Common.{[], ◌∷◌, ◌+◌, ◌++◌, ap, append_assoc
 use Rattle.std.proofs.lemmas.List.{length_push}
 use Rattle.std.proofs.lemmas.List.Elements.{all_zip_more}
 use Rattle.std.specs.Prelude.{slice_range}
-use Rattle.thin_block.specs.Cost.{moving}
+use Rattle.thin_block.specs.Cost.{add_moves}
 use Rattle.thin_vec.proofs.RetainLemmas.{moving-more}
 use Rattle.thin_vec.proofs.list.ClonesLemmas.{get-range, length-range}
 use Rattle.thin_vec.proofs.list.ThinVec.push_clones_within.Goals as goal
@@ -30,7 +30,8 @@ loop-i-preserved g c =
       );
       len = ap length pushed.items ∙ (length_push _ y ∙ omega (arith, was.len));
       capacity = pushed.capacity ∙ was.capacity;
-      alloc = pushed.keeps.alloc ∙ was.alloc;
-      cost = pushed.cost ∙ (ap (λ d. moving 1 d) was.cost ∙ moving-more 1 i c.args.self.now.cost);
-      within = pushed.keeps.within.1;
+      alloc = pushed.preserved.alloc ∙ was.alloc;
+      cost = pushed.cost
+          ∙ (ap (λ d. add_moves 1 d) was.cost ∙ moving-more 1 i c.args.self.now.cost);
+      within = pushed.preserved.within.1;
     }

@@ -2,9 +2,9 @@
 use Rattle.std.proofs.Common.{◌≡◌, ◌+◌, length, take}
 use Rattle.std.specs.List.{AppendsClones}
 use Rattle.std.specs.Prelude.{slice_range}
-use Rattle.thin_block.specs.Cost.{moving}
+use Rattle.thin_block.specs.Cost.{add_moves}
 use denote.Param.{param}
-use Rattle.thin_vec.specs.ThinVec.{IsWithin}
+use Rattle.thin_vec.specs.ThinVec.{IsBounded}
 use Rattle.thin_vec.proofs.list.ThinVec.push_clones_within.Given as goal
 
 -- When the loop variable is `i`, clones of the first `i` items of the range have been appended, and
@@ -17,6 +17,6 @@ invariant-loop-i g l =
       len : length l.self.items ≡ length l.fn.self.items + l.i;
       capacity : l.self.capacity ≡ l.fn.self.capacity;
       alloc : l.self.alloc ≡ l.fn.self.alloc;
-      cost : l.self.cost ≡ moving l.i l.fn.self.cost;
-      within : IsWithin (param 0 g.row.T) l.self;
+      cost : l.self.cost ≡ add_moves l.i l.fn.self.cost;
+      within : IsBounded (param 0 g.row.T) l.self;
     }

@@ -16,15 +16,15 @@ returns g c =
     let put = c.in_ok-push.ensures.items in
     let at = sym c.len-len.ensures.value in
     let y = c.index_mut.result.now in
-    let within = c.push.ensures.keeps.within in (
+    let within = c.push.ensures.preserved.within in (
       (
         refl,
         λ w _. record {
           items = ap (λ l. set l i w) put ∙ set_at xs v [] w i at;
-          capacity = c.in_ok-push.ensures.reserves.ok;
-          alloc = c.push.ensures.keeps.alloc;
+          capacity = c.in_ok-push.ensures.capacity.ok;
+          alloc = c.push.ensures.preserved.alloc;
           cost = c.in_ok-push.ensures.cost;
-          cheap = c.push.ensures.keeps.cheap;
+          cheap = c.push.ensures.preserved.cheap;
           within = within-like _ _ new within.1 refl
               (omega (arith, length-set new.items i w, within.1.room));
         },
@@ -35,8 +35,8 @@ returns g c =
         value = c.index_mut.ensures.value
             ∙ (ap (λ l. get_or l i y) put ∙ get_or_at xs v [] y i at);
         succeeds = λ _. refl;
-        overflow = tells-ok _ _ _ c.in_ok-push.ensures.reserves.ok;
+        overflow = tells-ok _ _ _ c.in_ok-push.ensures.capacity.ok;
         value_returned = tt;
-        within = within.0;
+        bounds = within.0;
       },
     )

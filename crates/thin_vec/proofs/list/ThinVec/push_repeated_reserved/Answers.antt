@@ -5,8 +5,8 @@ use Rattle.std.proofs.lemmas.List.{length-replicate}
 use Rattle.thin_block.proofs.BlockLemmas.{slots-are, then-len}
 use Rattle.thin_block.specs.Slots.{items_in}
 use Rattle.thin_vec.proofs.list.ClonesLemmas.{all-repeated, length-copies}
-use Rattle.thin_vec.proofs.list.AppendSplitLemmas.{settle-more}
-use Rattle.thin_vec.proofs.ListLemmas.{Settled, thin_of-keeps}
+use Rattle.thin_vec.proofs.list.AppendSplitLemmas.{restores-more}
+use Rattle.thin_vec.proofs.ListLemmas.{RestoresInvariant, list_view-keeps}
 use Rattle.thin_vec.proofs.ThinVecLemmas.{within-kept}
 use Rattle.thin_vec.proofs.list.ThinVec.push_repeated_reserved.Goals as goal
 
@@ -17,13 +17,14 @@ many g c =
     length-copies put.slots
     (omega (arith, put.in_bounds, length-replicate c.args.count c.args.value.now))
 
-facts : (g : _) (c : goal.After-set_len g) → Settled c.set_len.new.self c.self.inside.alloc
+facts : (g : _) (c : goal.After-set_len g)
+    → RestoresInvariant c.set_len.new.self c.self.inside.alloc
     (items_in c.self.inside.block.slots ++ c.put_repeated-placed.ensures.slots.copies)
     (length c.self.inside.block.slots)
 facts g c =
     let put = c.put_repeated-placed.ensures in
     let len = c.len-len in
-    settle-more c.self.invariant c.set_len.new.self put.slots.copies len.result len.ensures.value
+    restores-more c.self.invariant c.set_len.new.self put.slots.copies len.result len.ensures.value
     (omega (
       arith,
       c.requires.room,
@@ -52,10 +53,10 @@ returns-clause-items g c =
       items = (facts g c).items ∙ ap (λ v. v.items ++ lays.copies) c.self.view_is;
     }
 
-pub returns-clause-within : goal.returns-clause-within
-returns-clause-within g c =
+pub returns-clause-bounds : goal.returns-clause-bounds
+returns-clause-bounds g c =
     within-kept _ _ _ _ _ _ c.self.invariant c.self.view_is c.len-len.ensures.slots_fit (facts g c)
 
 pub returns-clause-changes : goal.returns-clause-changes
 returns-clause-changes g c =
-    thin_of-keeps c.self.view_is c.set_len.new.self (facts g c).cap refl (search rules)
+    list_view-keeps c.self.view_is c.set_len.new.self (facts g c).cap refl (search rules)

@@ -1,17 +1,17 @@
--- `put_and_store` writes `value` into the slot directly after the last item. So `value` is appended
--- to the list, and the capacity does not change.
+-- `put_and_set_len` writes `value` into the slot directly after the last item. So `value` is
+-- appended to the list, and the capacity does not change.
 use Rattle.std.proofs.Common.{◌++◌, ◌∷◌, [], ap, ◌∙◌, length, arith, refl}
-use Rattle.thin_vec.proofs.ListLemmas.{Settled, settle-push}
+use Rattle.thin_vec.proofs.ListLemmas.{RestoresInvariant, restores-push}
 use Rattle.thin_block.specs.Slots.{items_in}
 use Rattle.thin_vec.proofs.list.ReservesLemmas.{keeps-settled}
 use Rattle.std.proofs.lemmas.List.{length_push}
 use Rattle.thin_vec.proofs.list.ThinVec.push_reserved.Goals as goal
 
-facts : (g : _) (c : goal.After-put_and_store g)
-    → Settled c.put_and_store.new.self c.self.inside.alloc
+facts : (g : _) (c : goal.After-put_and_set_len g)
+    → RestoresInvariant c.put_and_set_len.new.self c.self.inside.alloc
     (items_in c.self.inside.block.slots ++ c.args.value ∷ []) (length c.self.inside.block.slots)
 facts g c =
-    settle-push c.self.invariant c.put_and_store.new.self c.args.value c.len-len.result
+    restores-push c.self.invariant c.put_and_set_len.new.self c.args.value c.len-len.result
     c.len-len.ensures.value
     (omega (
       arith,
@@ -21,7 +21,7 @@ facts g c =
       ap (λ v. length v.items) c.self.view_is,
       ap (λ v. v.capacity) c.self.view_is,
     ))
-    c.put_and_store.ensures.changes
+    c.put_and_set_len.ensures.changes
 
 pub invariant_of-self : goal.invariant_of-self
 invariant_of-self g c = (facts g c).thin
@@ -32,7 +32,7 @@ returns-clause-items g c = (facts g c).items ∙ ap (λ v. v.items ++ c.args.val
 pub returns-clause-len : goal.returns-clause-len
 returns-clause-len g c = ap length (returns-clause-items g c) ∙ length_push _ _
 
-pub returns-clause-keeps : goal.returns-clause-keeps
-returns-clause-keeps g c =
+pub returns-clause-preserved : goal.returns-clause-preserved
+returns-clause-preserved g c =
     keeps-settled _ _ c.self.invariant c.self.view_is c.len-len.ensures.slots_fit (facts g c)
-    (ap (λ v. v.cost) c.put_and_store.ensures.changes) (refl, refl)
+    (ap (λ v. v.cost) c.put_and_set_len.ensures.changes) (refl, refl)

@@ -2,13 +2,13 @@
 -- The capacity does not change.
 use Rattle.std.proofs.Common.{◌+◌, ◌-◌, ap, ◌∙◌, length, arith, refl}
 use Rattle.std.specs.Prelude.{remove}
-use Rattle.thin_vec.proofs.ListLemmas.{Settled, thin-filled, thin-get, kept-filled}
+use Rattle.thin_vec.proofs.ListLemmas.{RestoresInvariant, thin-filled, thin-get, kept-filled}
 use Rattle.thin_block.proofs.BlockLemmas.{then-len}
-use Rattle.thin_block.specs.Block.{Seen}
-use Rattle.thin_block.specs.Cost.{moving}
-use Rattle.thin_block.specs.Slots.{items_in, moved}
+use Rattle.thin_block.specs.Block.{BlockView}
+use Rattle.thin_block.specs.Cost.{add_moves}
+use Rattle.thin_block.specs.Slots.{items_in, move_slots}
 use Rattle.thin_vec.proofs.list.ThinVec.remove.Goals.{After-store_len}
-use Rattle.thin_vec.proofs.list.InsertRemoveLemmas.{settle-remove}
+use Rattle.thin_vec.proofs.list.InsertRemoveLemmas.{restores-remove}
 use Rattle.thin_vec.proofs.list.ReservesLemmas.{keeps-settled}
 use Rattle.thin_vec.proofs.list.ThinVec.remove.Goals as goal
 
@@ -34,17 +34,17 @@ returns-clause-value g c =
     (arith, c.requires.in_bounds, ap (λ v. length v.items) c.self.view_is))
     c.take-value.ensures.value)
 
-facts : (g : _) (c : After-store_len g) → Settled c.store_len.new.self c.self.inside.alloc
+facts : (g : _) (c : After-store_len g) → RestoresInvariant c.store_len.new.self c.self.inside.alloc
     (remove (items_in c.self.inside.block.slots) c.args.index) (length c.self.inside.block.slots)
 facts g c =
     let after = c.len-len.result - (c.args.index + 1) in
-    settle-remove c.self.invariant c.store_len.new.self c.args.index
+    restores-remove c.self.invariant c.store_len.new.self c.args.index
     (omega (arith, c.requires.in_bounds, ap (λ v. length v.items) c.self.view_is)) refl
     (ap (λ n. n - (c.args.index + 1)) c.len-len.ensures.value) c.len-len.ensures.value
     (then-len c.store_len.ensures.changes (c.move_down.ensures.changes
-    ∙ ap {A = Seen _ _} (λ v. record v {
-      slots = moved (c.args.index + 1) c.args.index after v.slots;
-      cost = moving after v.cost;
+    ∙ ap {A = BlockView _ _} (λ v. record v {
+      slots = move_slots (c.args.index + 1) c.args.index after v.slots;
+      cost = add_moves after v.cost;
     }) c.take-value.ensures.changes))
 
 pub invariant_of-self : goal.invariant_of-self
@@ -53,9 +53,10 @@ invariant_of-self g c = (facts g c).thin
 pub returns-clause-items : goal.returns-clause-items
 returns-clause-items g c = (facts g c).items ∙ ap (λ v. remove v.items c.args.index) c.self.view_is
 
-pub returns-clause-keeps : goal.returns-clause-keeps
-returns-clause-keeps g c =
+pub returns-clause-preserved : goal.returns-clause-preserved
+returns-clause-preserved g c =
     keeps-settled _ _ c.self.invariant c.self.view_is c.len-len.ensures.slots_fit (facts g c)
     (ap (λ v. v.cost) c.store_len.ensures.changes
     ∙ (ap (λ v. v.cost) c.move_down.ensures.changes
-    ∙ ap (λ v. moving (c.len-len.result - (c.args.index + 1)) v.cost) c.take-value.ensures.changes)) (refl, refl)
+    ∙ ap (λ v. add_moves (c.len-len.result - (c.args.index + 1)) v.cost)
+    c.take-value.ensures.changes)) (refl, refl)

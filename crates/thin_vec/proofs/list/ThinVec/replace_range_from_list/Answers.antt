@@ -2,26 +2,27 @@
 -- longer, or 0 if it does not become longer. If `reserve` fails, its error is returned.
 use Rattle.std.proofs.Common.{◌≡◌, ◌-◌, ◌∙◌, Ok, ap, arith, length}
 use denote.Param.{param}
-use Rattle.thin_vec.specs.ThinVec.{capacity_for}
+use Rattle.thin_vec.specs.ThinVec.{capacity_after_reserve}
 use Rattle.thin_vec.proofs.list.ReservesLemmas.{reserves-failed, reserves-then}
 use Rattle.thin_vec.proofs.list.ThinVec.replace_range_from_list.Goals as goal
 
-pub returns-clause-reserves : goal.returns-clause-reserves
-returns-clause-reserves g c =
+pub returns-clause-capacity : goal.returns-clause-capacity
+returns-clause-capacity g c =
     let v = c.args.self.now in let rule = g.G.Growth.rule in let T = param 0 g.row.T in
     let k = c.saturating_sub-more.result in
     let more : length c.args.other.now.items - (c.args.end - c.args.start) ≡ k = omega arith in
     reserves-then _ v rule T k _ c.reserve.new.self _ (Ok tt) more
-    (ap (λ n. capacity_for rule T v n) more)
+    (ap (λ n. capacity_after_reserve rule T v n) more)
     (ap (λ z. z.capacity) c.close.ensures.changes
     ∙ (ap (λ z. z.capacity) c.fill_from_list.ensures.changes
-    ∙ c.open_wide-block.ensures.other_capacity))
-    c.in-Ok.ensures.reserves tt
+    ∙ c.open_with_gap-block.ensures.capacity))
+    c.in-Ok.ensures.capacity tt
 
-pub returns-in-Err-clause-reserves : goal.returns-in-Err-clause-reserves
-returns-in-Err-clause-reserves g c =
+pub returns-in-Err-clause-capacity : goal.returns-in-Err-clause-capacity
+returns-in-Err-clause-capacity g c =
     let v = c.args.self.now in let rule = g.G.Growth.rule in let T = param 0 g.row.T in
     let k = c.saturating_sub-more.result in
     let more : length c.args.other.now.items - (c.args.end - c.args.start) ≡ k = omega arith in
-    reserves-failed _ v rule T k _ _ c.in-Err.cause more (ap (λ n. capacity_for rule T v n) more)
-    c.in-Err.ensures.reserves c.in-Err.ensures.err
+    reserves-failed _ v rule T k _ _ c.in-Err.cause more
+    (ap (λ n. capacity_after_reserve rule T v n) more)
+    c.in-Err.ensures.capacity c.in-Err.ensures.err

@@ -5,17 +5,17 @@
 use Rattle.std.proofs.Common.{if◌then◌else◌, ◌≡◌, ◌+◌, ◌-◌, ◌≤◌, ◌++◌, ◌∙◌, ap, arith, eqb, length, length-append, subst, sym}
 use Rattle.std.proofs.lemmas.List.Elements.{length_all_zip}
 use Rattle.std.specs.List.{AllZip}
-use Rattle.thin_block.specs.Cost.{moving}
+use Rattle.thin_block.specs.Cost.{add_moves}
 use Rattle.thin_vec.specs.Edits.ReplaceRange.{MovesAtMost}
 use Rattle.thin_vec.proofs.RetainLemmas.{moving-more}
 use Rattle.thin_vec.proofs.edits.SpliceLemmas.{any-err}
 use Rattle.thin_vec.proofs.edits.ReplaceRangeLemmas.{IsParted, all_zip-append, at-most-le, at-most-more, brought-in, cloning-moves, if-le, put-and-gone, replaced-length}
 use Rattle.thin_vec.proofs.list.ThinVec.replace_reserved_by_clones.Goals as goal
 
-pub returns-in_err-insert_clones_reserved-clause-refused :
-    goal.returns-in_err-insert_clones_reserved-clause-refused
-returns-in_err-insert_clones_reserved-clause-refused g c =
-    any-err c.from_residual.result (λ _. at-most-le c.in_err-insert_clones_reserved.ensures.refused
+pub returns-in_err-insert_clones_reserved-clause-err_cost :
+    goal.returns-in_err-insert_clones_reserved-clause-err_cost
+returns-in_err-insert_clones_reserved-clause-err_cost g c =
+    any-err c.from_residual.result (λ _. at-most-le c.in_err-insert_clones_reserved.ensures.err_cost
     (omega (arith, c.split_at.ensures.back_len)))
 
 pub extend_from_slice_reserved-requires : goal.extend_from_slice_reserved-requires
@@ -53,8 +53,8 @@ returns-in-Err-clause-err_items g c =
     (sym (length_all_zip g.T.Clone.is_clone c.split_at.result.1.now put.copies put.cloned))
     (c.in-Err.ensures.err_items ∙ put.items)
 
-pub returns-in-Err-clause-refused : goal.returns-in-Err-clause-refused
-returns-in-Err-clause-refused g c =
+pub returns-in-Err-clause-err_cost : goal.returns-in-Err-clause-err_cost
+returns-in-Err-clause-err_cost g c =
     let n = length c.args.self.now.items in
     let k2 = length c.split_at.result.1.now in
     let stopped = c.in-Err.ensures.err_cost in
@@ -142,8 +142,8 @@ returns-clause-cost g c =
     omega (arith, all, c.requires.in_bounds) in
     let sum = cloning-moves parted (n - c.args.end) none past in
     ap (λ v. v.cost) c.replace_by_last.ensures.changes
-    ∙ (ap (λ q. moving (k1 + (if eqb k1 (c.args.end - c.args.start) then 0
+    ∙ (ap (λ q. add_moves (k1 + (if eqb k1 (c.args.end - c.args.start) then 0
     else w - k1 - c.args.end)) q)
-    (c.in_default.ensures.cost ∙ (ap (λ q. moving k1 q)
+    (c.in_default.ensures.cost ∙ (ap (λ q. add_moves k1 q)
     c.in_ok-insert_clones_reserved.ensures.cost ∙ moving-more _ _ _))
-    ∙ (moving-more _ _ _ ∙ ap (λ m. moving m c.args.self.now.cost) sum))
+    ∙ (moving-more _ _ _ ∙ ap (λ m. add_moves m c.args.self.now.cost) sum))

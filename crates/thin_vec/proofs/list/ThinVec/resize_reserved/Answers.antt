@@ -14,14 +14,14 @@ returns-clause-items_if_clones_equal g c = λ equal.
       arith,
       placed.ensures.in_bounds,
       c.if-push_repeated_reserved-count.false,
-      c.requires.some,
+      c.requires.nonzero,
     ))
 
 pub returns-then-push_repeated_reserved-count-clause-err_items : goal.returns-then-push_repeated_reserved-count-clause-err_items
 returns-then-push_repeated_reserved-count-clause-err_items g c = grind (arith, common_steps)
 
-pub returns-then-push_repeated_reserved-count-clause-refused : goal.returns-then-push_repeated_reserved-count-clause-refused
-returns-then-push_repeated_reserved-count-clause-refused g c = grind (arith, common_steps)
+pub returns-then-push_repeated_reserved-count-clause-err_cost : goal.returns-then-push_repeated_reserved-count-clause-err_cost
+returns-then-push_repeated_reserved-count-clause-err_cost g c = grind (arith, common_steps)
 
 pub push_reserved-requires : goal.push_reserved-requires
 push_reserved-requires g c = grind (arith, common_steps)

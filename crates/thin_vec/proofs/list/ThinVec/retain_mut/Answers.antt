@@ -1,16 +1,17 @@
--- `retain_mut` calls `keep_those` with a test that calls the closure `keep` once for each item. So
--- what `keep_those` guarantees about the test also holds for `keep`.
+-- `retain_mut` calls `retain_with` with a test that calls the closure `keep` once for each item. So
+-- what `retain_with` guarantees about the test also holds for `keep`.
 use Rattle.std.specs.Fn.{CalledAtMut}
 use Rattle.thin_vec.proofs.RetainLemmas.{few-retained, retained-through}
 use Rattle.thin_vec.proofs.list.ThinVec.retain_mut.Goals as goal
 
 pub returns-clause-retained : goal.returns-clause-retained
 returns-clause-retained g c =
-    retained-through (CalledAtMut g.F.FnMut) (λ s. s.keep) _ c.args.self.now c.keep_those.new.self _
-    c.keep_those.ensures.retained
+    retained-through (CalledAtMut g.F.FnMut)
+    (λ s. s.keep) _ c.args.self.now c.retain_with.new.self _
+    c.retain_with.ensures.retained
 
 pub returns-clause-bound : goal.returns-clause-bound
 returns-clause-bound g c =
-    few-retained (CalledAtMut g.F.FnMut) _ c.args.self.now c.keep_those.new.self
+    few-retained (CalledAtMut g.F.FnMut) _ c.args.self.now c.retain_with.new.self
     (retained-through (CalledAtMut g.F.FnMut) (λ s. s.keep) _ c.args.self.now
-    c.keep_those.new.self _ c.keep_those.ensures.retained)
+    c.retain_with.new.self _ c.retain_with.ensures.retained)

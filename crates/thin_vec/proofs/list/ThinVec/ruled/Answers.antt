@@ -5,8 +5,8 @@ use Rattle.thin_block.specs.Slots.{items_in}
 use Rattle.thin_vec.proofs.ThinVecLemmas.{within-none}
 use Rattle.thin_vec.proofs.list.ThinVec.ruled.Goals as goal
 
-pub returns-clause-within : goal.returns-clause-within
-returns-clause-within g c =
+pub returns-clause-bounds : goal.returns-clause-bounds
+returns-clause-bounds g c =
     within-none _ _ (ap (λ v. items_in v.slots) c.none.ensures.new)
     (ap (λ v. length v.slots) c.none.ensures.new)
 

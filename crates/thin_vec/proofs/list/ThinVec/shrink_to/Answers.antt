@@ -4,15 +4,15 @@ use Rattle.std.proofs.Common.{ap, ◌∙◌, arith, length}
 use denote.Param.{param}
 use Rattle.thin_block.proofs.CapacityLemmas.{fits-less}
 use Rattle.thin_block.specs.Slots.{items_in}
-use Rattle.thin_vec.proofs.ListLemmas.{Settled}
+use Rattle.thin_vec.proofs.ListLemmas.{RestoresInvariant}
 use Rattle.thin_vec.proofs.ThinVecLemmas.{within-settled}
-use Rattle.thin_vec.proofs.list.CapacityLemmas.{settle-shrink}
+use Rattle.thin_vec.proofs.list.CapacityLemmas.{restores-shrink}
 use Rattle.thin_vec.proofs.list.ThinVec.shrink_to.Goals as goal
 
-facts : (g : _) (c : goal.In_ok-shrink g) → Settled c.shrink.new.self c.self.inside.alloc
+facts : (g : _) (c : goal.In_ok-shrink g) → RestoresInvariant c.shrink.new.self c.self.inside.alloc
     (items_in c.self.inside.block.slots) c.max-wanted.result
 facts g c =
-    settle-shrink c.self.invariant c.shrink.new.self c.max-wanted.result
+    restores-shrink c.self.invariant c.shrink.new.self c.max-wanted.result
     (omega (
       arith,
       c.max-wanted.ensures,
@@ -33,9 +33,9 @@ invariant_of-self-2 g c = (facts g c).thin
 pub returns-clause-items : goal.returns-clause-items
 returns-clause-items g c = (facts g c).items ∙ ap (λ v. v.items) c.self.view_is
 
-pub returns-clause-within : goal.returns-clause-within
-returns-clause-within g c =
-    let before = c.len.ensures.within in (
+pub returns-clause-bounds : goal.returns-clause-bounds
+returns-clause-bounds g c =
+    let before = c.len.ensures.bounds in (
       before,
       within-settled _ _ _ _ _
           (fits-less (param 0 g.row.T) _ _ before.fits

@@ -1,20 +1,20 @@
--- `take_replacing` takes the item at `index` out of its slot. Unless this is the last item, the
+-- `swap_take` takes the item at `index` out of its slot. Unless this is the last item, the
 -- last item is moved into the slot, as the specification function `swap_remove` says.
 use Rattle.std.proofs.Common.{◌-◌, sym, ap, ◌∙◌, length, arith, refl}
 use Rattle.std.specs.List.{slice_get, swap_remove}
 use Rattle.thin_block.proofs.BlockLemmas.{then-len}
 use Rattle.thin_block.specs.Slots.{items_in}
-use Rattle.thin_vec.proofs.list.InsertRemoveLemmas.{settle-replaced}
-use Rattle.thin_vec.proofs.ListLemmas.{Settled, thin-filled, thin-get}
+use Rattle.thin_vec.proofs.list.InsertRemoveLemmas.{restores-replaced}
+use Rattle.thin_vec.proofs.ListLemmas.{RestoresInvariant, thin-filled, thin-get}
 use Rattle.thin_vec.proofs.list.ReservesLemmas.{keeps-settled}
 use Rattle.thin_vec.proofs.list.ThinVec.swap_remove.Goals as goal
 
-pub take_replacing-value-requires : goal.take_replacing-value-requires
-take_replacing-value-requires g c =
+pub swap_take-value-requires : goal.swap_take-value-requires
+swap_take-value-requires g c =
     record {
-      first = thin-filled c.self.inside.block c.self.inside.alloc c.args.index c.self.invariant
+      filled = thin-filled c.self.inside.block c.self.inside.alloc c.args.index c.self.invariant
           (omega (arith, c.requires.in_bounds, ap (λ v. length v.items) c.self.view_is));
-      second = thin-filled c.self.inside.block c.self.inside.alloc _ c.self.invariant
+      other_filled = thin-filled c.self.inside.block c.self.inside.alloc _ c.self.invariant
           (omega (
             arith,
             c.requires.in_bounds,
@@ -25,13 +25,13 @@ take_replacing-value-requires g c =
     }
 
 facts : (g : _) (c : goal.After-store_len g)
-    → Settled c.store_len.new.self c.self.inside.alloc
+    → RestoresInvariant c.store_len.new.self c.self.inside.alloc
     (swap_remove (items_in c.self.inside.block.slots)
-    c.args.index c.take_replacing-value.result) (length c.self.inside.block.slots)
+    c.args.index c.swap_take-value.result) (length c.self.inside.block.slots)
 facts g c =
     let long = ap (λ v. length v.items) c.self.view_is in
-    settle-replaced c.self.invariant c.store_len.new.self c.args.index (c.len-last.result - 1)
-    c.take_replacing-value.result
+    restores-replaced c.self.invariant c.store_len.new.self c.args.index (c.len-last.result - 1)
+    c.swap_take-value.result
     (omega (
       arith,
       c.requires.in_bounds,
@@ -46,8 +46,8 @@ facts g c =
       c.self.invariant.packed.len,
       long,
     ))
-    c.take_replacing-value.ensures.value
-    (then-len c.store_len.ensures.changes c.take_replacing-value.ensures.changes)
+    c.swap_take-value.ensures.value
+    (then-len c.store_len.ensures.changes c.swap_take-value.ensures.changes)
 
 pub invariant_of-self : goal.invariant_of-self
 invariant_of-self g c = (facts g c).thin
@@ -56,19 +56,19 @@ pub returns-clause-value : goal.returns-clause-value
 returns-clause-value g c =
     let long = ap (λ v. length v.items) c.self.view_is in
     sym (ap (λ v. slice_get v.items c.args.index) c.self.view_is)
-    ∙ thin-get c.self.inside.block c.self.inside.alloc c.args.index c.take_replacing-value.result
+    ∙ thin-get c.self.inside.block c.self.inside.alloc c.args.index c.swap_take-value.result
     c.self.invariant (omega (arith, c.requires.in_bounds, long))
-    c.take_replacing-value.ensures.value
+    c.swap_take-value.ensures.value
 
 pub returns-clause-items : goal.returns-clause-items
 returns-clause-items g c = (facts g c).items
-    ∙ ap (λ v. swap_remove v.items c.args.index c.take_replacing-value.result) c.self.view_is
+    ∙ ap (λ v. swap_remove v.items c.args.index c.swap_take-value.result) c.self.view_is
 
 pub returns-clause-cost : goal.returns-clause-cost
 returns-clause-cost g c = search (arith, ◌∙◌)
 
-pub returns-clause-keeps : goal.returns-clause-keeps
-returns-clause-keeps g c =
+pub returns-clause-preserved : goal.returns-clause-preserved
+returns-clause-preserved g c =
     keeps-settled _ _ c.self.invariant c.self.view_is c.len-last.ensures.slots_fit (facts g c)
     (ap (λ v. v.cost) c.store_len.ensures.changes
-    ∙ ap (λ v. v.cost) c.take_replacing-value.ensures.changes) (refl, refl)
+    ∙ ap (λ v. v.cost) c.swap_take-value.ensures.changes) (refl, refl)

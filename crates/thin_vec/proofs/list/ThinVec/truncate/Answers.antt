@@ -2,16 +2,16 @@
 -- contains only its first `len` items.
 use Rattle.std.proofs.Common.{◌≡◌, ◌≤◌, sym, ap, ◌∙◌, length, take, arith, None}
 use lib.ListN.{set}
-use Rattle.thin_block.specs.Slots.{front, items_in}
+use Rattle.thin_block.specs.Slots.{packed_slots, items_in}
 use Rattle.thin_vec.proofs.list.InsertRemoveLemmas.{emptying, emptying-none, emptying-filled, emptying-take, emptying-all}
-use Rattle.thin_vec.proofs.ListLemmas.{Settled, settled, thin-room}
+use Rattle.thin_vec.proofs.ListLemmas.{RestoresInvariant, settled, thin-room}
 use Rattle.std.proofs.lemmas.List.{length-take, length-take-le}
 use Rattle.thin_vec.proofs.ThinVecLemmas.{within-like, within-of}
 use Rattle.thin_vec.proofs.list.ThinVec.truncate.Goals as goal
 
 pub loop-i-init : goal.loop-i-init
 loop-i-init g c =
-    let row = ap (λ v. front v.items v.capacity) c.self.view_is in
+    let row = ap (λ v. packed_slots v.items v.capacity) c.self.view_is in
     let stored = c.store_len.ensures.changes in
     record {
       slots = ap (λ v. v.slots) stored
@@ -51,7 +51,7 @@ loop-i-preserved g c =
     }
 
 facts : (g : _) (c : goal.After-loop-i g)
-    → Settled c.loop-i.self-inside.block c.loop-i.self-inside.alloc
+    → RestoresInvariant c.loop-i.self-inside.block c.loop-i.self-inside.alloc
     (take c.args.len c.args.self.now.items) c.args.self.now.capacity
 facts g c =
     let v = c.args.self.now in
@@ -81,8 +81,8 @@ invariant_of-self g c = (facts g c).thin
 pub returns-clause-items : goal.returns-clause-items
 returns-clause-items g c = (facts g c).items
 
-pub returns-clause-within : goal.returns-clause-within
-returns-clause-within g c =
+pub returns-clause-bounds : goal.returns-clause-bounds
+returns-clause-bounds g c =
     let before = within-of _ _ _ _ c.self.invariant c.self.view_is c.len-old.ensures.slots_fit in (
       before,
       within-like _ _ _ before (facts g c).cap

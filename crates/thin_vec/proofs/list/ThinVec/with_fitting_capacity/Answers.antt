@@ -2,15 +2,16 @@
 -- argument `capacity`.
 use Rattle.std.proofs.Common.{[], arith, refl}
 use Rattle.std.proofs.lemmas.Grind.{common_steps}
-use Rattle.thin_vec.proofs.ListLemmas.{Settled}
+use Rattle.thin_vec.proofs.ListLemmas.{RestoresInvariant}
 use Rattle.thin_vec.proofs.ThinVecLemmas.{within-settled}
 use Rattle.thin_vec.proofs.list.ThinVec.with_fitting_capacity.Goals.{In_ok-block}
-use Rattle.thin_vec.proofs.list.CapacityLemmas.{settle-new}
+use Rattle.thin_vec.proofs.list.CapacityLemmas.{restores-new}
 use Rattle.thin_vec.proofs.list.ThinVec.with_fitting_capacity.Goals as goal
 
-facts : (g : _) (c : In_ok-block g) → Settled c.in_ok-block.block c.args.alloc [] c.args.capacity
+facts : (g : _) (c : In_ok-block g)
+    → RestoresInvariant c.in_ok-block.block c.args.alloc [] c.args.capacity
 facts g c =
-    settle-new c.in_ok-block.block c.args.alloc c.args.capacity c.in_ok-block.ensures.ok
+    restores-new c.in_ok-block.block c.args.alloc c.args.capacity c.in_ok-block.ensures.ok
 
 pub invariant_of-result : goal.invariant_of-result
 invariant_of-result g c = (facts g c).thin
@@ -18,8 +19,8 @@ invariant_of-result g c = (facts g c).thin
 pub returns-clause-items : goal.returns-clause-items
 returns-clause-items g c = (facts g c).items
 
-pub returns-clause-made : goal.returns-clause-made
-returns-clause-made g c = record {
+pub returns-clause-new : goal.returns-clause-new
+returns-clause-new g c = record {
   alloc = refl;
   cheap = grind (arith, common_steps);
   within = within-settled _ _ _ _ _ c.requires.fits (facts g c);

@@ -1,8 +1,8 @@
 -- `append_to_front` puts `value` into the first slot of the gap, directly after the front items. So
 -- `value` becomes the last front item, at the cost of one move.
 use Rattle.std.proofs.Common.{◌+◌, ◌-◌, ◌<◌, ◌++◌, ◌∷◌, ◌∙◌, [], Some, ap, arith, length, refl}
-use Rattle.thin_block.specs.Block.{seen}
-use Rattle.thin_block.specs.Cost.{moving}
+use Rattle.thin_block.specs.Block.{block_view}
+use Rattle.thin_block.specs.Cost.{add_moves}
 use Rattle.thin_vec.proofs.OpenBlockLemmas.{Found}
 use Rattle.thin_vec.proofs.open_block.StepLemmas.{fill-view, set-laid}
 use Rattle.thin_vec.proofs.open_block.OpenBlock.append_to_front.Goals as goal
@@ -15,19 +15,19 @@ facts : (g : _) (c : goal.After-self-1 g)
     (record c.args.self.now {
       front = c.args.self.now.front ++ c.args.value ∷ [];
       gap = c.args.self.now.gap - 1;
-      cost = moving 1 c.args.self.now.cost;
+      cost = add_moves 1 c.args.self.now.cost;
     })
 facts g c =
     let h = c.self.inside in
     let o = c.self.invariant in
     let gap = ap (λ v. v.gap) c.self.view_is in
     let low : h.front_end < length h.block.slots =
-    omega (arith, c.requires.gap, gap, o.gap, o.rest, o.gap_after, o.tail, o.room) in
+    omega (arith, c.requires.has_gap, gap, o.gap, o.rest, o.gap_after, o.tail, o.room) in
     fill-view h o c.self.view_is c.put.new.self (c.args.value ∷ []) (h.front_end + 1) refl
-    (omega (arith, c.requires.gap))
-    (c.put.ensures.changes ∙ (λ i. record (seen h.block) {
+    (omega (arith, c.requires.has_gap))
+    (c.put.ensures.changes ∙ (λ i. record (block_view h.block) {
       slots = set-laid h.block.slots h.front_end (Some c.args.value) low i;
-      cost = moving 1 h.block.cost;
+      cost = add_moves 1 h.block.cost;
     }))
 
 pub invariant_of-self : goal.invariant_of-self

@@ -1,4 +1,4 @@
--- The clause `dedups` holds in each of five cases: the first item is removed, it is kept alone
+-- The clause `deduped` holds in each of five cases: the first item is removed, it is kept alone
 -- (since the items are small, or no item follows it), or it is kept and the items are large. Then
 -- the second item is removed, a later item is removed, or no item is removed.
 use Rattle.std.proofs.Common.{◌≡◌, ◌∷◌, [], ap, false, refl, sym, ◌∙◌, arith, rules}
@@ -9,39 +9,39 @@ use Rattle.std.proofs.lemmas.Grind.{common_steps}
 use Rattle.thin_vec.proofs.open_block.OpenBlock.dedup_next.Goals as goal
 
 -- If the test decides to remove the next item, `dedup_next` drops this item.
-pub returns-then-test_last-clause-dedups : goal.returns-then-test_last-clause-dedups
-returns-then-test_last-clause-dedups g c =
+pub returns-then-test_last-clause-deduped : goal.returns-then-test_last-clause-deduped
+returns-then-test_last-clause-deduped g c =
     dedups-goes g.J.PairTest.tests c.args.self.now c.test_last.new.self
     c.take_first-later.result c.test_last.new.later c.test_last.new.self.front
     (search rules) (search rules) (search rules) (search rules)
 
 -- If the items are small, or if no item follows, `dedup_next` appends an item that the test keeps
 -- to the kept items.
-pub returns-then-item_size-lt-LARGE-clause-dedups :
-    goal.returns-then-item_size-lt-LARGE-clause-dedups
-returns-then-item_size-lt-LARGE-clause-dedups g c =
+pub returns-then-item_size-lt-LARGE-clause-deduped :
+    goal.returns-then-item_size-lt-LARGE-clause-deduped
+returns-then-item_size-lt-LARGE-clause-deduped g c =
     dedups-stays g.J.PairTest.tests c.args.self.now c.append_to_front.new.self
     c.take_first-later.result c.test_last.new.later c.test_last.new.self.front
     (search rules) (search rules) (search rules) (search rules)
 
 -- If the test keeps the next item and decides to remove the item after it, `dedup_next` appends the
 -- first of these items to the kept items, and drops the second.
-pub returns-then-goes-clause-dedups : goal.returns-then-goes-clause-dedups
-returns-then-goes-clause-dedups g c =
+pub returns-then-goes-clause-deduped : goal.returns-then-goes-clause-deduped
+returns-then-goes-clause-deduped g c =
     dedups-two g.J.PairTest.tests c.args.self.now c.take_first.new.self c.args.test.now
     c.test_last.new.test c.test_next-goes.new.test c.take_first-later.result
     c.test_last.new.later c.test_next-goes.new.kept
     c.test_last.new.self.front c.test_last.new.self.rest c.test_next-goes.new.self.rest
     (search rules)
-    c.test_next-goes.result c.test_next-goes.ensures.asked (search rules)
+    c.test_next-goes.result c.test_next-goes.ensures.tested (search rules)
     c.if-goes.true c.take_first.result (search rules) (search rules) (search rules)
 
 -- If the test keeps the next two items and decides to remove a later item, `dedup_next` moves all
 -- items before that item to the end of the kept items, and drops that item.
-pub returns-then-rest_len-gt0-clause-dedups : goal.returns-then-rest_len-gt0-clause-dedups
-returns-then-rest_len-gt0-clause-dedups g c =
+pub returns-then-rest_len-gt0-clause-deduped : goal.returns-then-rest_len-gt0-clause-deduped
+returns-then-rest_len-gt0-clause-deduped g c =
     let R = g.J.PairTest.tests in
-    let r = c.test_pairs-kept.ensures.asked in
+    let r = c.test_pairs-kept.ensures.tested in
     let w = c.take_first-then-rest_len-gt0.new.self in
     let goes = run-goes R c.test_pairs-kept.result c.test_next-goes.new.test
     c.append_to_front-2.new.self.rest c.test_pairs-kept.new.test c.test_pairs-kept.new.self.rest r
@@ -58,10 +58,10 @@ returns-then-rest_len-gt0-clause-dedups g c =
 
 -- If the test keeps all remaining items, `dedup_next` moves all of them to the end of the kept
 -- items.
-pub returns-else-rest_len-gt0-clause-dedups : goal.returns-else-rest_len-gt0-clause-dedups
-returns-else-rest_len-gt0-clause-dedups g c =
+pub returns-else-rest_len-gt0-clause-deduped : goal.returns-else-rest_len-gt0-clause-deduped
+returns-else-rest_len-gt0-clause-deduped g c =
     let R = g.J.PairTest.tests in
-    let r = c.test_pairs-kept.ensures.asked in
+    let r = c.test_pairs-kept.ensures.tested in
     let w = c.move_down.new.self in
     let none : w.rest ≡ [] =
     nil_from_length w.rest (omega (arith, c.rest_len-2.ensures.value, c.if-rest_len-gt0.false)) in
@@ -78,23 +78,23 @@ returns-else-rest_len-gt0-clause-dedups g c =
     (run-count R _ _ _ _ _ r [] refl (ends.1 ∙ sym (append-nil _)))
     (search rules) (search rules)
 
-pub returns-then-test_last-clause-some : goal.returns-then-test_last-clause-some
-returns-then-test_last-clause-some g c = grind (arith, common_steps)
+pub returns-then-test_last-clause-has_front : goal.returns-then-test_last-clause-has_front
+returns-then-test_last-clause-has_front g c = grind (arith, common_steps)
 
-pub returns-then-goes-clause-some : goal.returns-then-goes-clause-some
-returns-then-goes-clause-some g c = grind (arith, common_steps)
+pub returns-then-goes-clause-has_front : goal.returns-then-goes-clause-has_front
+returns-then-goes-clause-has_front g c = grind (arith, common_steps)
 
 pub move_down-requires-clause-in_bounds : goal.move_down-requires-clause-in_bounds
 move_down-requires-clause-in_bounds g c = grind (arith, common_steps)
 
-pub returns-then-rest_len-gt0-clause-some : goal.returns-then-rest_len-gt0-clause-some
-returns-then-rest_len-gt0-clause-some g c = grind (arith, common_steps)
+pub returns-then-rest_len-gt0-clause-has_front : goal.returns-then-rest_len-gt0-clause-has_front
+returns-then-rest_len-gt0-clause-has_front g c = grind (arith, common_steps)
 
-pub returns-then-rest_len-gt0-clause-less : goal.returns-then-rest_len-gt0-clause-less
-returns-then-rest_len-gt0-clause-less g c = grind (arith, common_steps)
+pub returns-then-rest_len-gt0-clause-decreases : goal.returns-then-rest_len-gt0-clause-decreases
+returns-then-rest_len-gt0-clause-decreases g c = grind (arith, common_steps)
 
-pub returns-else-rest_len-gt0-clause-some : goal.returns-else-rest_len-gt0-clause-some
-returns-else-rest_len-gt0-clause-some g c = grind (arith, common_steps)
+pub returns-else-rest_len-gt0-clause-has_front : goal.returns-else-rest_len-gt0-clause-has_front
+returns-else-rest_len-gt0-clause-has_front g c = grind (arith, common_steps)
 
-pub returns-then-goes-clause-less : goal.returns-then-goes-clause-less
-returns-then-goes-clause-less g c = search (arith, ◌∙◌)
+pub returns-then-goes-clause-decreases : goal.returns-then-goes-clause-decreases
+returns-then-goes-clause-decreases g c = search (arith, ◌∙◌)

@@ -10,12 +10,12 @@ use Rattle.thin_vec.proofs.open_block.OpenBlock.dedup_rest.Goals as goal
 pub loop-self-init : goal.loop-self-init
 loop-self-init g c =
     let run = c.test_pairs-kept in
-    let asked = run.ensures.asked in
+    let asked = run.ensures.tested in
     let some : 0 < length c.take_first.new.self.front =
     omega (
       arith,
       ap (λ v. length v.front) c.take_first.ensures.changes,
-      ap (λ v. length v.front) c.pass.ensures,
+      ap (λ v. length v.front) c.keep_in_place.ensures,
       length-append run.new.self.front (take run.result run.new.self.rest),
       ap length (run-left g.J.PairTest.tests run.result _ _ _ _ asked),
       asked.long,
@@ -25,15 +25,15 @@ loop-self-init g c =
       dedups = dedups-start g.J.PairTest.tests run.new.test c.take_first.new.self some
           (omega (arith, ap (λ v. v.gap) c.take_first.ensures.changes));
       some = some;
-      ready = run.ensures.ready;
+      ready = run.ensures.callable;
     }
 
 pub loop-self-preserved : goal.loop-self-preserved
 loop-self-preserved g c = record {
   dedups = dedups-then g.J.PairTest.tests c.loop-self.invariant.dedups
-      c.dedup_next.ensures.dedups;
-  some = c.dedup_next.ensures.some;
-  ready = c.dedup_next.ensures.ready;
+      c.dedup_next.ensures.deduped;
+  some = c.dedup_next.ensures.has_front;
+  ready = c.dedup_next.ensures.callable;
 }
 
 pub returns-after-loop-self : goal.returns-after-loop-self
@@ -42,10 +42,10 @@ returns-after-loop-self g c =
     let end : length c.loop-self.self.rest ≡ 0 = grind (arith, common_steps) in
     record {
       deduped = deduped-goes g.J.PairTest.tests c.args.self.now c.take_first.new.self run.result
-          c.args.test.now run.new.test run.new.self.rest run.ensures.asked c.take_first.result
+          c.args.test.now run.new.test run.new.self.rest run.ensures.tested c.take_first.result
           c.loop-self.test c.loop-self.self
           (search rules)
-          (sym (ap (λ v. v.rest) c.pass.ensures) ∙ c.take_first.ensures.rest)
+          (sym (ap (λ v. v.rest) c.keep_in_place.ensures) ∙ c.take_first.ensures.rest)
           c.loop-self.invariant.dedups
           (nil_from_length c.loop-self.self.rest end);
     }
@@ -53,11 +53,11 @@ returns-after-loop-self g c =
 pub returns-else-rest_len-gt0 : goal.returns-else-rest_len-gt0
 returns-else-rest_len-gt0 g c =
     let run = c.test_pairs-kept in
-    let none : c.pass.new.self.rest ≡ [] = nil_from_length c.pass.new.self.rest
+    let none : c.keep_in_place.new.self.rest ≡ [] = nil_from_length c.keep_in_place.new.self.rest
     (omega (arith, c.rest_len.ensures.value, c.if-rest_len-gt0.false)) in
     record {
-      deduped = deduped-ends g.J.PairTest.tests c.args.self.now c.pass.new.self run.result
-          c.args.test.now run.new.test run.new.self.rest run.ensures.asked
+      deduped = deduped-ends g.J.PairTest.tests c.args.self.now c.keep_in_place.new.self run.result
+          c.args.test.now run.new.test run.new.self.rest run.ensures.tested
           (search rules)
-          (sym (ap (λ v. v.rest) c.pass.ensures) ∙ none) none;
+          (sym (ap (λ v. v.rest) c.keep_in_place.ensures) ∙ none) none;
     }

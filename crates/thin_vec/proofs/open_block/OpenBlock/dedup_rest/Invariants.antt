@@ -2,12 +2,12 @@
 -- were tested, and were then either kept or removed. The block still has a gap after its front
 -- items, and there is at least one front item. Each iteration reduces the number of untested items.
 use Rattle.std.proofs.Common.{◌<◌, length}
-use Rattle.thin_vec.specs.OpenBlock.Dedup.{Dedups}
+use Rattle.thin_vec.specs.OpenBlock.Dedup.{DedupsSome}
 use Rattle.thin_vec.proofs.open_block.OpenBlock.dedup_rest.Given as goal
 
 abbrev pub invariant-loop-self : goal.invariant-loop-self
 invariant-loop-self g l = record {
-  dedups : Dedups g.J.PairTest.tests l.initial.test l.initial.self l.test l.self;
+  dedups : DedupsSome g.J.PairTest.tests l.initial.test l.initial.self l.test l.self;
   some : 0 < length l.self.front;
   ready : g.J.PairTest.ready l.test;
 }

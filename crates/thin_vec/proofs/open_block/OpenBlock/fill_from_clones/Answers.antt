@@ -2,9 +2,9 @@
 -- front items, and each clone shortens the gap by one slot.
 use Rattle.std.proofs.Common.{◌≡◌, ◌+◌, ◌-◌, ◌++◌, ◌∙◌, ap, arith, length, sym}
 use Rattle.thin_block.proofs.BlockLemmas.{slots-are}
-use Rattle.thin_block.specs.Block.{seen}
-use Rattle.thin_block.specs.Cost.{moving}
-use Rattle.thin_block.specs.Slots.{full, laid}
+use Rattle.thin_block.specs.Block.{block_view}
+use Rattle.thin_block.specs.Cost.{add_moves}
+use Rattle.thin_block.specs.Slots.{filled_slots, write_slots}
 use Rattle.thin_vec.proofs.list.ClonesLemmas.{length-copies}
 use Rattle.thin_vec.proofs.OpenBlockLemmas.{Found}
 use Rattle.thin_vec.proofs.open_block.StepLemmas.{fill-view}
@@ -24,7 +24,7 @@ facts : (g : _) (c : goal.After-self-1 g)
     (record c.args.self.now {
       front = c.args.self.now.front ++ xs;
       gap = c.args.self.now.gap - length xs;
-      cost = moving (length xs) c.args.self.now.cost;
+      cost = add_moves (length xs) c.args.self.now.cost;
     })
 facts g c =
     let h = c.self.inside in
@@ -33,9 +33,9 @@ facts g c =
     let many = count g c in
     fill-view h c.self.invariant c.self.view_is c.put_clones-placed.new.block xs _
     (ap (λ n. h.front_end + n) (sym many)) (omega (arith, c.requires.room, many, put.in_bounds))
-    (slots-are put.changes put.slots.slots ∙ (λ i. record (seen h.block) {
-      slots = laid h.front_end (full xs) h.block.slots;
-      cost = moving (sym many i) h.block.cost;
+    (slots-are put.changes put.slots.slots ∙ (λ i. record (block_view h.block) {
+      slots = write_slots h.front_end (filled_slots xs) h.block.slots;
+      cost = add_moves (sym many i) h.block.cost;
     }))
 
 pub invariant_of-self : goal.invariant_of-self
@@ -53,5 +53,5 @@ returns-clause-changes g c =
     view ∙ (λ i. record c.args.self.now {
       front = (sym view i).front;
       gap = c.args.self.now.gap - many i;
-      cost = moving (many i) c.args.self.now.cost;
+      cost = add_moves (many i) c.args.self.now.cost;
     })

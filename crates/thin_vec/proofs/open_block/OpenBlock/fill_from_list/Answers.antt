@@ -1,14 +1,14 @@
 -- `move_run_to` moves all items of the list `other` into the gap directly after the front items of
 -- the open block. So these items become front items.
 use Rattle.thin_block.proofs.BlockLemmas.{then-len}
-use Rattle.thin_block.specs.Block.{seen}
-use Rattle.thin_block.specs.Cost.{moving}
-use Rattle.thin_block.specs.Slots.{full, items_in, laid, run}
+use Rattle.thin_block.specs.Block.{block_view}
+use Rattle.thin_block.specs.Cost.{add_moves}
+use Rattle.thin_block.specs.Slots.{filled_slots, items_in, write_slots, slot_range}
 use Rattle.std.proofs.Common.{◌≡◌, ◌+◌, ◌-◌, ◌++◌, ◌∙◌, List, Option, ap, arith, length, take, rules}
 use Rattle.thin_vec.proofs.OpenBlockLemmas.{Found}
 use Rattle.thin_vec.proofs.open_block.StepLemmas.{fill-view}
-use Rattle.thin_vec.proofs.ListLemmas.{Settled, thin-filled, thin-room, thin_of-keeps}
-use Rattle.thin_vec.proofs.list.AppendSplitLemmas.{front-run, settle-cut}
+use Rattle.thin_vec.proofs.ListLemmas.{RestoresInvariant, thin-filled, thin-room, list_view-keeps}
+use Rattle.thin_vec.proofs.list.AppendSplitLemmas.{front-run, restores-cut}
 use Rattle.thin_vec.proofs.open_block.OpenBlock.fill_from_list.Goals as goal
 
 pub move_run_to-requires-clause-filled : goal.move_run_to-requires-clause-filled
@@ -33,29 +33,29 @@ facts : (g : _) (c : goal.After-self-1 g)
     (record c.args.self.now {
       front = c.args.self.now.front ++ c.args.other.now.items;
       gap = c.args.self.now.gap - length c.args.other.now.items;
-      cost = moving (length c.args.other.now.items) c.args.self.now.cost;
+      cost = add_moves (length c.args.other.now.items) c.args.self.now.cost;
     })
 facts g c =
     let o = c.other.inside.block in
     let h = c.self.inside in
     let items : items_in o.slots ≡ c.args.other.now.items = ap (λ v. v.items) c.other.view_is in
-    let row : run 0 c.len-count.result o.slots ≡ full c.args.other.now.items =
-    ap (λ (r : List (Option g.row.T.Denot)). run 0 c.len-count.result r)
+    let row : slot_range 0 c.len-count.result o.slots ≡ filled_slots c.args.other.now.items =
+    ap (λ (r : List (Option g.row.T.Denot)). slot_range 0 c.len-count.result r)
     c.other.invariant.packed.row
     ∙ (front-run (items_in o.slots) (length o.slots) 0 c.len-count.result (omega arith)
     (thin-room o c.other.inside.alloc c.other.invariant) (omega (arith, count g c))
-    ∙ ap full items) in
+    ∙ ap filled_slots items) in
     fill-view h c.self.invariant c.self.view_is c.move_run_to.new.other c.args.other.now.items _
     (ap (λ n. h.front_end + n) (same g c)) c.requires.room
-    (c.move_run_to.ensures.other_changes ∙ (λ i. record (seen h.block) {
-      slots = laid h.front_end (row i) h.block.slots;
-      cost = moving (same g c i) h.block.cost;
+    (c.move_run_to.ensures.other_changes ∙ (λ i. record (block_view h.block) {
+      slots = write_slots h.front_end (row i) h.block.slots;
+      cost = add_moves (same g c i) h.block.cost;
     }))
 
-cut : (g : _) (c : goal.After-self-1 g) → Settled c.set_len.new.self c.other.inside.alloc
+cut : (g : _) (c : goal.After-self-1 g) → RestoresInvariant c.set_len.new.self c.other.inside.alloc
     (take 0 (items_in c.other.inside.block.slots)) (length c.other.inside.block.slots)
 cut g c =
-    settle-cut c.other.invariant c.set_len.new.self 0 {k = c.len-count.result} (omega arith)
+    restores-cut c.other.invariant c.set_len.new.self 0 {k = c.len-count.result} (omega arith)
     (omega (arith, c.len-count.ensures.value))
     (then-len c.set_len.ensures.changes c.move_run_to.ensures.changes)
 
@@ -67,7 +67,7 @@ invariant_of-other g c = (cut g c).thin
 
 pub returns-clause-other_changes : goal.returns-clause-other_changes
 returns-clause-other_changes g c =
-    thin_of-keeps c.other.view_is c.set_len.new.self (cut g c).cap (cut g c).items (search rules)
+    list_view-keeps c.other.view_is c.set_len.new.self (cut g c).cap (cut g c).items (search rules)
 
 pub returns-clause-changes : goal.returns-clause-changes
 returns-clause-changes g c = (facts g c).view

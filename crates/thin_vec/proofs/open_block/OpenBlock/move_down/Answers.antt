@@ -1,26 +1,26 @@
 -- `close_gap` moves the first `k` middle items into the slots directly after the front items. So
 -- these items become front items.
-use Rattle.thin_block.specs.Block.{seen}
+use Rattle.thin_block.specs.Block.{block_view}
 use Rattle.std.proofs.Common.{◌≡◌, ◌≤◌, ◌+◌, ◌-◌, ◌++◌, ap, sym, subst, ◌∙◌, arith, length, take, drop}
 use Rattle.std.specs.Prelude.{IsSome}
-use Rattle.thin_block.specs.Cost.{moving}
-use Rattle.thin_block.specs.Slots.{moved, slot}
-use Rattle.thin_vec.specs.OpenBlock.{open_of}
+use Rattle.thin_block.specs.Cost.{add_moves}
+use Rattle.thin_block.specs.Slots.{move_slots, slot}
+use Rattle.thin_vec.specs.OpenBlock.{open_view}
 use Rattle.thin_vec.proofs.OpenBlockLemmas.{Found, before-empty, rest-filled}
-use Rattle.thin_vec.proofs.open_block.SiftLemmas.{moved_run, moved_run-seen, move_down-step}
+use Rattle.thin_vec.proofs.open_block.RetainRestLemmas.{moved_run, moved_run-view, move_down-step}
 use Rattle.thin_vec.proofs.open_block.OpenBlock.move_down.Goals as goal
 
 pub close_gap-closed-requires-clause-empty : goal.close_gap-closed-requires-clause-empty
 close_gap-closed-requires-clause-empty g c = λ j low high.
     let o = c.self.invariant in
     ap (λ b. slot b.slots j) c.replace-block.ensures.value
-    ∙ before-empty c.self.inside (open_of c.self.inside) o j low (omega (arith, high, o.gap))
+    ∙ before-empty c.self.inside (open_view c.self.inside) o j low (omega (arith, high, o.gap))
 
 pub close_gap-closed-requires-clause-filled : goal.close_gap-closed-requires-clause-filled
 close_gap-closed-requires-clause-filled g c = λ j low high.
     let o = c.self.invariant in
     subst (λ b. IsSome (slot b.slots j)) (sym c.replace-block.ensures.value)
-    (rest-filled c.self.inside (open_of c.self.inside) o j (omega (arith, low, o.gap)) (omega (
+    (rest-filled c.self.inside (open_view c.self.inside) o j (omega (arith, low, o.gap)) (omega (
       arith,
       high,
       o.gap,
@@ -30,22 +30,22 @@ close_gap-closed-requires-clause-filled g c = λ j low high.
     )))
 
 facts : (g : _) (c : goal.After-self-2-1 g)
-    → let low : c.args.k ≤ length (open_of c.self.inside).rest =
+    → let low : c.args.k ≤ length (open_view c.self.inside).rest =
     omega (arith, c.requires.in_bounds, ap (λ v. length v.rest) c.self.view_is) in
     Found (moved_run c.self.inside c.self.invariant c.args.k low c.replace-none.new.dest)
-    (moved_run-seen c.self.inside c.self.invariant c.args.k low c.replace-none.new.dest)
+    (moved_run-view c.self.inside c.self.invariant c.args.k low c.replace-none.new.dest)
 facts g c =
     let h = c.self.inside in
     let o = c.self.invariant in
-    let low : c.args.k ≤ length (open_of h).rest =
+    let low : c.args.k ≤ length (open_view h).rest =
     omega (arith, c.requires.in_bounds, ap (λ v. length v.rest) c.self.view_is) in
     let same : h.front_end + (h.rest_start - h.front_end) ≡ h.rest_start = omega (arith, o.gap) in
     move_down-step h o c.args.k low c.replace-none.new.dest
-    (ap seen c.replace-none.ensures.after
+    (ap block_view c.replace-none.ensures.after
     ∙ (c.close_gap-closed.ensures.changes
-    ∙ (λ i. let v = seen (c.replace-block.ensures.value i) in record v {
-      slots = moved (same i) h.front_end c.args.k v.slots;
-      cost = moving c.args.k v.cost;
+    ∙ (λ i. let v = block_view (c.replace-block.ensures.value i) in record v {
+      slots = move_slots (same i) h.front_end c.args.k v.slots;
+      cost = add_moves c.args.k v.cost;
     })))
 
 pub invariant_of-self : goal.invariant_of-self
@@ -53,10 +53,10 @@ invariant_of-self g c = (facts g c).lies
 
 pub returns : goal.returns
 returns g c =
-    let spent : c.replace-none.new.dest.cost ≡ moving c.args.k c.args.self.now.cost =
+    let spent : c.replace-none.new.dest.cost ≡ add_moves c.args.k c.args.self.now.cost =
     ap (λ b. b.cost) c.replace-none.ensures.after
     ∙ (ap (λ v. v.cost) c.close_gap-closed.ensures.changes
-    ∙ (ap (λ b. moving c.args.k b.cost) c.replace-block.ensures.value
-    ∙ ap (λ v. moving c.args.k v.cost) c.self.view_is)) in
+    ∙ (ap (λ b. add_moves c.args.k b.cost) c.replace-block.ensures.value
+    ∙ ap (λ v. add_moves c.args.k v.cost) c.self.view_is)) in
     (facts g c).view ∙ (λ i. let v = c.self.view_is i in record v
     { front = v.front ++ take c.args.k v.rest; rest = drop c.args.k v.rest; cost = spent i })

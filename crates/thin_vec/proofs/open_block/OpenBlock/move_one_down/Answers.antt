@@ -1,7 +1,7 @@
 -- `take_first` removes the first middle item, and `append_to_front` puts it directly after the
 -- front items. The first call makes the gap one slot longer, and the second one slot shorter.
 use Rattle.std.proofs.Common.{◌≡◌, ◌+◌, ◌-◌, ◌∷◌, ◌++◌, ◌∙◌, [], arith, drop, sym, take}
-use Rattle.thin_block.specs.Cost.{moving}
+use Rattle.thin_block.specs.Cost.{add_moves}
 use Rattle.thin_vec.proofs.open_block.OpenBlock.move_one_down.Goals as goal
 
 pub returns : goal.returns
@@ -13,11 +13,11 @@ returns g c =
     ∙ ((λ i. let w = taken.ensures.changes i in record w {
       front = w.front ++ taken.result ∷ [];
       gap = w.gap - 1;
-      cost = moving 1 w.cost;
+      cost = add_moves 1 w.cost;
     })
     ∙ (λ i. record v {
       front = v.front ++ take 1 (sym taken.ensures.rest i);
       gap = gap i;
       rest = drop 1 (sym taken.ensures.rest i);
-      cost = moving 1 v.cost;
+      cost = add_moves 1 v.cost;
     }))

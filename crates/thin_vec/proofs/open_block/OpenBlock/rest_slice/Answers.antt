@@ -1,12 +1,12 @@
 -- The slots `rest_start..rest_end` hold the middle items. So none of these slots is empty, and
 -- `rest_slice` can return them as a slice.
 use Rattle.std.proofs.Common.{ap, ◌∙◌}
-use Rattle.thin_vec.specs.OpenBlock.{open_of}
+use Rattle.thin_vec.specs.OpenBlock.{open_view}
 use Rattle.thin_vec.proofs.OpenBlockLemmas.{rest-filled, rest-run}
 use Rattle.thin_vec.proofs.open_block.OpenBlock.rest_slice.Goals as goal
 
 pub slice-requires-clause-filled : goal.slice-requires-clause-filled
-slice-requires-clause-filled g c = λ i low high. rest-filled c.self.inside (open_of c.self.inside)
+slice-requires-clause-filled g c = λ i low high. rest-filled c.self.inside (open_view c.self.inside)
     c.self.invariant i low high
 
 pub returns : goal.returns

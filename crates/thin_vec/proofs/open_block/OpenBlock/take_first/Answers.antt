@@ -1,8 +1,8 @@
 -- The slot at index `rest_start` holds the first middle item. `take_first` empties this slot, so
 -- the slot becomes part of the gap after the front items.
 use Rattle.std.proofs.Common.{◌≡◌, ◌<◌, ◌+◌, ◌∷◌, List, ap, sym, ◌∙◌, arith, length}
-use Rattle.thin_vec.specs.OpenBlock.{open_of}
-use Rattle.thin_vec.proofs.OpenBlockLemmas.{Found, first-left, first-seen, first-step, rest-filled}
+use Rattle.thin_vec.specs.OpenBlock.{open_view}
+use Rattle.thin_vec.proofs.OpenBlockLemmas.{Found, first-left, first-view, first-step, rest-filled}
 use Rattle.thin_vec.proofs.open_block.OpenBlock.take_first.Goals as goal
 
 pub take-requires : goal.take-requires
@@ -10,19 +10,19 @@ take-requires g c =
     let h = c.self.inside in
     let o = c.self.invariant in
     record {
-      filled = rest-filled h (open_of h) o h.rest_start (omega arith)
-          (omega (arith, o.rest, c.requires.some, ap (λ v. length v.rest) c.self.view_is));
+      filled = rest-filled h (open_view h) o h.rest_start (omega arith)
+          (omega (arith, o.rest, c.requires.nonempty, ap (λ v. length v.rest) c.self.view_is));
     }
 
-some : (g : _) (c : goal.After-take g) → 0 < length (open_of c.self.inside).rest
-some g c = omega (arith, c.requires.some, ap (λ v. length v.rest) c.self.view_is)
+some : (g : _) (c : goal.After-take g) → 0 < length (open_view c.self.inside).rest
+some g c = omega (arith, c.requires.nonempty, ap (λ v. length v.rest) c.self.view_is)
 
 -- Before the call, the middle items were the returned item, followed by a list `ys`. After the
 -- call, the middle items are `ys`.
 facts : (g : _) (c : goal.After-take g) → (ys : List g.row.T.Denot)
-    × ((open_of c.self.inside).rest ≡ c.take.result ∷ ys)
+    × ((open_view c.self.inside).rest ≡ c.take.result ∷ ys)
     × Found (first-left c.self.inside c.self.invariant c.take.new.self (some g c))
-    (first-seen c.self.inside c.self.invariant c.take.new.self (some g c) ys)
+    (first-view c.self.inside c.self.invariant c.take.new.self (some g c) ys)
 facts g c = first-step c.self.inside c.self.invariant c.take.new.self (some g c) c.take.result
     c.take.ensures.value c.take.ensures.changes
 

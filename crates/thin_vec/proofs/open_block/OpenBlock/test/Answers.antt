@@ -1,10 +1,10 @@
 -- The slot at index `rest_start + k` holds the item to be tested. The test may change this item,
 -- and changes nothing else.
 use Rattle.std.proofs.Common.{◌<◌, ◌+◌, refl, ap, sym, ◌∙◌, arith, length}
-use Rattle.thin_block.specs.Lends.{with_item}
-use Rattle.thin_vec.specs.OpenBlock.{open_of}
+use Rattle.thin_block.specs.Lends.{set_slot}
+use Rattle.thin_vec.specs.OpenBlock.{open_view}
 use Rattle.thin_vec.proofs.OpenBlockLemmas.{rest-filled}
-use Rattle.thin_vec.proofs.open_block.SiftLemmas.{Written, write-step}
+use Rattle.thin_vec.proofs.open_block.RetainRestLemmas.{Written, write-step}
 use Rattle.thin_vec.proofs.open_block.OpenBlock.test.Goals as goal
 
 pub slot_mut-requires : goal.slot_mut-requires
@@ -12,27 +12,27 @@ slot_mut-requires g c =
     let h = c.self.inside in
     let o = c.self.invariant in
     record {
-      filled = rest-filled h (open_of h) o (h.rest_start + c.args.k) (omega arith)
+      filled = rest-filled h (open_view h) o (h.rest_start + c.args.k) (omega arith)
           (omega (arith, o.rest, c.requires.in_bounds, ap (λ v. length v.rest) c.self.view_is));
     }
 
-low : (g : _) (c : goal.After-self-1 g) → c.args.k < length (open_of c.self.inside).rest
+low : (g : _) (c : goal.After-self-1 g) → c.args.k < length (open_view c.self.inside).rest
 low g c = omega (arith, c.requires.in_bounds, ap (λ v. length v.rest) c.self.view_is)
 
 -- After the test, the slot of the middle item at index `k` holds the item as the test left it, and
 -- nothing else has changed.
 facts : (g : _) (c : goal.After-self-1 g) → Written c.self.inside c.self.invariant
-    (with_item c.self.inside.block (c.self.inside.rest_start + c.args.k) c.test.new.item)
+    (set_slot c.self.inside.block (c.self.inside.rest_start + c.args.k) c.test.new.item)
     c.args.k (low g c) c.slot_mut.result.now c.test.new.item
 facts g c = write-step c.self.inside c.self.invariant
-    (with_item c.self.inside.block (c.self.inside.rest_start + c.args.k) c.test.new.item)
+    (set_slot c.self.inside.block (c.self.inside.rest_start + c.args.k) c.test.new.item)
     c.args.k (low g c) c.slot_mut.result.now c.test.new.item c.slot_mut.ensures.value refl
 
 pub invariant_of-self : goal.invariant_of-self
 invariant_of-self g c = (facts g c).shown.lies
 
-pub returns-clause-asked : goal.returns-clause-asked
-returns-clause-asked g c =
+pub returns-clause-tested : goal.returns-clause-tested
+returns-clause-tested g c =
     let f = facts g c in
     record {
       before = f.pre;
@@ -41,7 +41,7 @@ returns-clause-asked g c =
       after = f.post;
       place = f.place;
       was = sym (ap (λ v. v.rest) c.self.view_is) ∙ f.was;
-      asked = c.test.ensures.asked;
+      asked = c.test.ensures.tested;
       now = ap (λ v. v.rest) f.shown.view;
     }
 

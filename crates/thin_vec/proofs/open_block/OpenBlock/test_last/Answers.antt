@@ -1,7 +1,7 @@
 -- The last front item is the last kept item, and its slot is not empty. After the test, this slot
 -- holds the item as the test left it, and nothing else has changed.
 use Rattle.std.proofs.Common.{◌-◌, refl, ap, sym, ◌∙◌, arith, length}
-use Rattle.thin_block.specs.Lends.{with_item}
+use Rattle.thin_block.specs.Lends.{set_slot}
 use Rattle.thin_vec.proofs.open_block.DedupLemmas.{WrittenLast, last-filled, write-last-step}
 use Rattle.thin_vec.proofs.open_block.OpenBlock.test_last.Goals as goal
 
@@ -9,33 +9,33 @@ pub slot_mut-requires : goal.slot_mut-requires
 slot_mut-requires g c =
     record {
       filled = last-filled c.self.inside c.self.invariant
-          (omega (arith, c.requires.some, ap (λ v. length v.front) c.self.view_is));
+          (omega (arith, c.requires.nonempty, ap (λ v. length v.front) c.self.view_is));
     }
 
 -- After the test, the slot of the last front item holds the item as the test left it, and nothing
 -- else has changed.
 facts : (g : _) (c : goal.After-self-1 g) → WrittenLast c.self.inside
-    (with_item c.self.inside.block (c.self.inside.front_end - 1) c.test.new.kept)
+    (set_slot c.self.inside.block (c.self.inside.front_end - 1) c.test.new.kept)
     c.slot_mut.result.now c.test.new.kept
 facts g c =
     write-last-step c.self.inside c.self.invariant
-    (with_item c.self.inside.block (c.self.inside.front_end - 1) c.test.new.kept)
+    (set_slot c.self.inside.block (c.self.inside.front_end - 1) c.test.new.kept)
     c.test.new.kept
-    (omega (arith, c.requires.some, ap (λ v. length v.front) c.self.view_is))
+    (omega (arith, c.requires.nonempty, ap (λ v. length v.front) c.self.view_is))
     c.slot_mut.ensures.value refl
 
 pub invariant_of-self : goal.invariant_of-self
 invariant_of-self g c = (facts g c).shown.lies
 
-pub returns-clause-asked : goal.returns-clause-asked
-returns-clause-asked g c =
+pub returns-clause-tested : goal.returns-clause-tested
+returns-clause-tested g c =
     let f = facts g c in
     record {
       before = f.pre;
       kept = c.slot_mut.result.now;
       kept_left = c.test.new.kept;
       was = sym (ap (λ v. v.front) c.self.view_is) ∙ f.was;
-      asked = c.test.ensures.asked;
+      asked = c.test.ensures.tested;
       now = ap (λ v. v.front) f.shown.view;
     }
 

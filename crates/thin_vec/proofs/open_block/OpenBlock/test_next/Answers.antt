@@ -2,13 +2,13 @@
 -- test left it, and nothing else has changed.
 use Rattle.thin_block.proofs.BlockLemmas.{slots-are}
 use Rattle.std.proofs.Common.{◌≡◌, ◌<◌, ◌+◌, refl, ap, sym, ◌∙◌, arith, length, ◌++◌, ◌∷◌, Some}
-use Rattle.thin_vec.specs.OpenBlock.{open_of}
+use Rattle.thin_vec.specs.OpenBlock.{open_view}
 use lib.ListN.{set}
-use Rattle.thin_block.specs.Lends.{with_item}
+use Rattle.thin_block.specs.Lends.{set_slot}
 use Rattle.thin_block.specs.Slots.{slot}
 use Rattle.std.proofs.lemmas.List.{nil_from_length}
 use Rattle.thin_vec.proofs.OpenBlockLemmas.{rest-filled}
-use Rattle.thin_vec.proofs.open_block.SiftLemmas.{Written, write-step}
+use Rattle.thin_vec.proofs.open_block.RetainRestLemmas.{Written, write-step}
 use Rattle.thin_vec.proofs.open_block.OpenBlock.test_next.Goals as goal
 
 pub slot_mut-requires : goal.slot_mut-requires
@@ -16,22 +16,22 @@ slot_mut-requires g c =
     let h = c.self.inside in
     let o = c.self.invariant in
     record {
-      filled = rest-filled h (open_of h) o h.rest_start (omega arith)
-          (omega (arith, o.rest, c.requires.some, ap (λ v. length v.rest) c.self.view_is));
+      filled = rest-filled h (open_view h) o h.rest_start (omega arith)
+          (omega (arith, o.rest, c.requires.nonempty, ap (λ v. length v.rest) c.self.view_is));
     }
 
-low : (g : _) (c : goal.After-self-1 g) → 0 < length (open_of c.self.inside).rest
-low g c = omega (arith, c.requires.some, ap (λ v. length v.rest) c.self.view_is)
+low : (g : _) (c : goal.After-self-1 g) → 0 < length (open_view c.self.inside).rest
+low g c = omega (arith, c.requires.nonempty, ap (λ v. length v.rest) c.self.view_is)
 
 -- After the test, the slot of the first middle item holds the item as the test left it, and nothing
 -- else has changed.
 facts : (g : _) (c : goal.After-self-1 g) → Written c.self.inside c.self.invariant
-    (with_item c.self.inside.block c.self.inside.rest_start c.test.new.later) 0 (low g c)
+    (set_slot c.self.inside.block c.self.inside.rest_start c.test.new.later) 0 (low g c)
     c.slot_mut.result.now c.test.new.later
 facts g c =
     let h = c.self.inside in
     let here : h.rest_start ≡ h.rest_start + 0 = omega arith in
-    write-step h c.self.invariant (with_item h.block h.rest_start c.test.new.later) 0 (low g c)
+    write-step h c.self.invariant (set_slot h.block h.rest_start c.test.new.later) 0 (low g c)
     c.slot_mut.result.now c.test.new.later
     (ap (λ n. slot h.block.slots n) (sym here) ∙ c.slot_mut.ensures.value)
     (slots-are refl (ap (λ n. set h.block.slots n (Some c.test.new.later)) here))
@@ -39,8 +39,8 @@ facts g c =
 pub invariant_of-self : goal.invariant_of-self
 invariant_of-self g c = (facts g c).shown.lies
 
-pub returns-clause-asked : goal.returns-clause-asked
-returns-clause-asked g c =
+pub returns-clause-tested : goal.returns-clause-tested
+returns-clause-tested g c =
     let f = facts g c in
     let none = nil_from_length f.pre f.place in
     record {
@@ -49,7 +49,7 @@ returns-clause-asked g c =
       after = f.post;
       was = sym (ap (λ v. v.rest) c.self.view_is)
           ∙ (f.was ∙ ap (λ l. l ++ c.slot_mut.result.now ∷ f.post) none);
-      asked = c.test.ensures.asked;
+      asked = c.test.ensures.tested;
       now = ap (λ v. v.rest) f.shown.view ∙ ap (λ l. l ++ c.test.new.later ∷ f.post) none;
     }
 

@@ -4,8 +4,8 @@
 use Rattle.std.proofs.Common.{◌+◌, ◌-◌, ◌++◌, ◌<◌, ◌≤◌, ap, sym, ◌∙◌, arith, length, refl, rules, suc}
 use Rattle.std.proofs.lemmas.Grind.{common_steps}
 use lib.ListN.{set}
-use Rattle.thin_block.specs.Lends.{with_items}
-use Rattle.thin_vec.specs.OpenBlock.{open_of}
+use Rattle.thin_block.specs.Lends.{set_slots}
+use Rattle.thin_vec.specs.OpenBlock.{open_view}
 use Rattle.thin_vec.proofs.OpenBlockLemmas.{rest-filled}
 use Rattle.thin_vec.proofs.open_block.DedupLemmas.{WrittenTwo, parts-of, write-two-step}
 use Rattle.thin_vec.proofs.open_block.OpenBlock.test_pair.Goals as goal
@@ -13,13 +13,13 @@ use Rattle.thin_vec.proofs.open_block.OpenBlock.test_pair.Goals as goal
 pub slice_mut-requires-clause-filled : goal.slice_mut-requires-clause-filled
 slice_mut-requires-clause-filled g c = λ j low high.
     let o = c.self.invariant in
-    rest-filled c.self.inside (open_of c.self.inside) o j (omega (arith, low))
+    rest-filled c.self.inside (open_view c.self.inside) o j (omega (arith, low))
     (omega (
       arith,
       high,
       o.rest,
       c.requires.in_bounds,
-      c.requires.some,
+      c.requires.nonzero,
       ap (λ v. length v.rest) c.self.view_is,
     ))
 
@@ -32,7 +32,7 @@ bounds-later-0 g c = grind (arith, common_steps)
 -- The test may change the middle items at the indices `k - 1` and `k`, and changes nothing else.
 facts : (g : _) (c : goal.After-self-3-1 g) → WrittenTwo c.self.inside c.self.invariant
     (c.args.k - 1)
-    (with_items c.self.inside.block (c.self.inside.rest_start + (c.args.k - 1))
+    (set_slots c.self.inside.block (c.self.inside.rest_start + (c.args.k - 1))
     (set c.split_at_mut-kept.result.0.now 0 c.test.new.kept
     ++ set c.split_at_mut-kept.result.1.now 0 c.test.new.later)) c.index-kept-0.result
     c.index-later-0.result c.test.new.kept c.test.new.later
@@ -41,8 +41,13 @@ facts g c =
     let o = c.self.invariant in
     let parts = c.split_at_mut-kept in
     let at = h.rest_start + (c.args.k - 1) in
-    let low : suc (c.args.k - 1) < length (open_of h).rest =
-    omega (arith, c.requires.in_bounds, c.requires.some, ap (λ v. length v.rest) c.self.view_is) in
+    let low : suc (c.args.k - 1) < length (open_view h).rest =
+    omega (
+      arith,
+      c.requires.in_bounds,
+      c.requires.nonzero,
+      ap (λ v. length v.rest) c.self.view_is,
+    ) in
     let within : at + 2 ≤ length h.block.slots =
     omega (
       arith,
@@ -51,7 +56,7 @@ facts g c =
       o.tail,
       o.room,
       c.requires.in_bounds,
-      c.requires.some,
+      c.requires.nonzero,
       ap (λ v. length v.rest) c.self.view_is,
     ) in
     let two = parts-of h.block.slots at c.slice_mut.result.now parts.result.0.now
@@ -63,8 +68,8 @@ facts g c =
 pub invariant_of-self : goal.invariant_of-self
 invariant_of-self g c = (facts g c).shown.lies
 
-pub returns-clause-asked : goal.returns-clause-asked
-returns-clause-asked g c =
+pub returns-clause-tested : goal.returns-clause-tested
+returns-clause-tested g c =
     let f = facts g c in
     record {
       before = f.pre;
@@ -73,7 +78,7 @@ returns-clause-asked g c =
       kept_left = c.test.new.kept;
       later_left = c.test.new.later;
       after = f.post;
-      place = omega (arith, f.place, c.requires.some);
+      place = omega (arith, f.place, c.requires.nonzero);
       was = sym (ap (λ v. v.rest) c.self.view_is) ∙ f.was;
       asked = search rules;
       now = ap (λ v. v.rest) f.shown.view;

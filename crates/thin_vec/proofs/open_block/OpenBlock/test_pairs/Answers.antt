@@ -7,13 +7,13 @@ use Rattle.thin_vec.proofs.open_block.OpenBlock.test_pairs.Goals as goal
 
 pub loop-kept-init : goal.loop-kept-init
 loop-kept-init g c = record {
-  stays = pair-start g.J.PairTest.tests c.args.test.now c.args.self.now.rest c.requires.some;
-  ready = c.requires.ready;
+  stays = pair-start g.J.PairTest.tests c.args.test.now c.args.self.now.rest c.requires.nonempty;
+  ready = c.requires.callable;
   same = refl;
 }
 
-pub returns-then-test_pair-clause-asked : goal.returns-then-test_pair-clause-asked
-returns-then-test_pair-clause-asked g c =
+pub returns-then-test_pair-clause-tested : goal.returns-then-test_pair-clause-tested
+returns-then-test_pair-clause-tested g c =
     let l = c.loop-kept in
     pair-goes g.J.PairTest.tests l.kept c.args.test.now c.args.self.now.rest l.test l.self.rest
     l.invariant.stays c.test_pair.new.test c.test_pair.new.self.rest (search rules)
@@ -32,5 +32,5 @@ loop-kept-preserved g c =
 pub loop-kept-smaller : goal.loop-kept-smaller
 loop-kept-smaller g c = grind (arith, common_steps)
 
-pub returns-clause-asked : goal.returns-clause-asked
-returns-clause-asked g c = grind (arith, common_steps)
+pub returns-clause-tested : goal.returns-clause-tested
+returns-clause-tested g c = grind (arith, common_steps)

@@ -8,12 +8,12 @@ use Rattle.thin_vec.proofs.open_block.OpenBlock.test_run.Goals as goal
 pub loop-at-init : goal.loop-at-init
 loop-at-init g c = record {
   stays = stays-start g.J.Test.tests c.args.test.now c.args.self.now.rest;
-  ready = c.requires.ready;
+  ready = c.requires.callable;
   same = refl;
 }
 
-pub returns-then-not-test-clause-asked : goal.returns-then-not-test-clause-asked
-returns-then-not-test-clause-asked g c =
+pub returns-then-not-test-clause-tested : goal.returns-then-not-test-clause-tested
+returns-then-not-test-clause-tested g c =
     let l = c.loop-at in
     stays-goes g.J.Test.tests l.at c.args.test.now c.args.self.now.rest l.test l.self.rest
     l.invariant.stays c.test.new.test c.test.new.self.rest (search rules)
@@ -31,5 +31,5 @@ loop-at-preserved g c =
 pub loop-at-smaller : goal.loop-at-smaller
 loop-at-smaller g c = grind (arith, common_steps)
 
-pub returns-clause-asked : goal.returns-clause-asked
-returns-clause-asked g c = grind (arith, common_steps)
+pub returns-clause-tested : goal.returns-clause-tested
+returns-clause-tested g c = grind (arith, common_steps)

@@ -44,11 +44,11 @@ returns g c =
     let power = one_least_power bytes c.next_power_of_two.result (least_power bytes)
     (told.power, told.lower_bound, told.upper_bound) (least_power_is bytes)
     ∙ ap least_power whole in
-    let value = c.fitting.ensures.value
+    let value = c.checked_capacity.ensures.value
     ∙ power_is R c.args.cap c.args.want size c.item_size-size.ensures.value some c.requires
     small c.next_power_of_two.result power in
     record {
       value = value;
-      fills = each_fills (type_size R) (type_align R) c.args.cap c.args.want
-          c.fitting.result value;
+      capacity = each_fills (type_size R) (type_align R) c.args.cap c.args.want
+          c.checked_capacity.result value;
     }

@@ -3,7 +3,7 @@
 use Rattle.std.proofs.Common.{◌+◌, ◌∙◌, Some, ap, length, refl, sym}
 use Rattle.std.specs.Borrow.{u8}
 use Rattle.thin_block.proofs.CapacityLemmas.{ruled-at}
-use Rattle.thin_block.proofs.Outcomes.{none-some}
+use Rattle.thin_block.proofs.ResultLemmas.{none-some}
 use Rattle.thin_vec.proofs.convert.bytes.ThinVecU8Write.write_all.Goals as goal
 
 -- If `write_all` succeeds, then the new capacity is the capacity that the growth rule chooses for
@@ -12,7 +12,7 @@ pub returns-clause-capacity : goal.returns-clause-capacity
 returns-clause-capacity g c =
     ruled-at u8 _ c.args.self.now.capacity (length c.args.self.now.items + length c.args.buf.now)
     refl refl g.G.Growth.rule
-    ∙ (c.in-Ok.ensures.reserves.ok
+    ∙ (c.in-Ok.ensures.capacity.ok
     ∙ ap (λ n. Some n) (sym c.extend_from_copies_reserved.ensures.capacity))
 
 pub returns-clause-overflow : goal.returns-clause-overflow

@@ -5,25 +5,26 @@ use Rattle.std.proofs.lemmas.Grind.{common_steps}
 use Rattle.std.proofs.Common.{◌++◌, ap, arith, length, sym, ◌∙◌}
 use Rattle.thin_block.proofs.BlockLemmas.{then-len}
 use Rattle.thin_block.specs.Slots.{items_in}
-use Rattle.thin_vec.proofs.list.AppendSplitLemmas.{settle-more}
-use Rattle.thin_vec.proofs.ListLemmas.{Settled}
+use Rattle.thin_vec.proofs.list.AppendSplitLemmas.{restores-more}
+use Rattle.thin_vec.proofs.ListLemmas.{RestoresInvariant}
 use Rattle.thin_vec.proofs.ThinVecLemmas.{within-stays}
 use Rattle.thin_vec.proofs.convert.from.ThinVec+T+A.from_array.Goals as goal
 
-facts : (g : _) (c : goal.After-set_len g) → Settled c.set_len.new.self c.list.inside.alloc
+facts : (g : _) (c : goal.After-set_len g)
+    → RestoresInvariant c.set_len.new.self c.list.inside.alloc
     (items_in c.list.inside.block.slots ++ c.args.items) (length c.list.inside.block.slots)
 facts g c =
     let none = ap length (ap (λ v. v.items) c.list.view_is ∙ c.in-Ok.ensures.items) in
-    settle-more c.list.invariant c.set_len.new.self c.args.items 0
+    restores-more c.list.invariant c.set_len.new.self c.args.items 0
     (sym (c.list.invariant.packed.len ∙ none))
     (omega (
       arith,
       c.count-len.ensures.value,
-      c.count-len.ensures.length,
+      c.count-len.ensures.len,
       c.in-Ok.ensures.capacity,
       ap (λ v. v.capacity) c.list.view_is,
     ))
-    (omega (arith, c.count-len.ensures.length))
+    (omega (arith, c.count-len.ensures.len))
     (then-len c.set_len.ensures.changes c.put_array.ensures.changes)
 
 pub invariant_of-list : goal.invariant_of-list
@@ -36,10 +37,10 @@ returns-in-Ok-clause-items g c = (facts g c).items ∙ ap (λ xs. xs ++ c.args.i
 pub returns-in-Ok-clause-capacity : goal.returns-in-Ok-clause-capacity
 returns-in-Ok-clause-capacity g c = grind (arith, common_steps)
 
-pub returns-in-Ok-clause-made : goal.returns-in-Ok-clause-made
-returns-in-Ok-clause-made g c = record {
+pub returns-in-Ok-clause-new : goal.returns-in-Ok-clause-new
+returns-in-Ok-clause-new g c = record {
   alloc = search (arith, ◌∙◌);
   cheap = search (arith, ◌∙◌);
   within = within-stays _ c.list.inside.block c.list.inside.alloc
-      c.set_len.new.self _ _ c.in-Ok.ensures.made.within c.list.view_is (facts g c);
+      c.set_len.new.self _ _ c.in-Ok.ensures.new.within c.list.view_is (facts g c);
 }

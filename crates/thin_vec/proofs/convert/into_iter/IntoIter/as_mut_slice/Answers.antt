@@ -1,9 +1,9 @@
 -- `as_mut_slice` lends the slots `start..end`. When the borrow ends, the block is still the block
 -- of an iterator, with the items as the borrower left them.
 use Rattle.std.proofs.Common.{ap, refl, ◌∙◌}
-use Rattle.thin_block.specs.Lends.{with_items as block_with_items}
+use Rattle.thin_block.specs.Lends.{set_slots as block_with_items}
 use Rattle.thin_vec.specs.Lends.{with_items}
-use Rattle.thin_vec.proofs.convert.IntoIterLemmas.{settle-written, view-written, walked-filled, walked-run}
+use Rattle.thin_vec.proofs.convert.IntoIterLemmas.{restores-written, view-written, walked-filled, walked-run}
 use Rattle.thin_vec.proofs.convert.into_iter.IntoIter.as_mut_slice.Goals as goal
 
 pub slice_mut-requires-clause-filled : goal.slice_mut-requires-clause-filled
@@ -12,7 +12,8 @@ slice_mut-requires-clause-filled g c = λ i low high. walked-filled c.self.insid
 
 pub invariant_of-self-lent : goal.invariant_of-self-lent
 invariant_of-self-lent g c = λ w.
-    (settle-written c.self.inside.block (block_with_items c.self.inside.block c.self.inside.start w)
+    (restores-written c.self.inside.block
+    (block_with_items c.self.inside.block c.self.inside.start w)
     c.self.inside.alloc c.self.inside.start c.self.inside.end w
     c.self.invariant refl).walked
 

@@ -8,4 +8,4 @@ pub release-requires-clause-empty : goal.release-requires-clause-empty
 release-requires-clause-empty g c =
     walked-empty c.self.inside.block c.self.inside.alloc c.self.inside.start
     c.self.inside.end c.self.invariant
-    (grind (arith, ap (λ v. length v.items) c.self.view_is, ap length c.requires.empty))
+    (grind (arith, ap (λ v. length v.items) c.self.view_is, ap length c.requires.is_empty))

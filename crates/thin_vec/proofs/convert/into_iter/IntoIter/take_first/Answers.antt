@@ -2,15 +2,15 @@
 -- and increases `start` by 1, so all other items remain.
 use Rattle.std.proofs.Common.{◌+◌, ◌<◌, ◌∷◌, ap, sym, ◌∙◌, arith, drop, length, refl, rules}
 use Rattle.thin_block.specs.Slots.{items_in}
-use Rattle.thin_vec.proofs.convert.IntoIterLemmas.{Walking, first-item, settle-first, walked-filled}
-use Rattle.thin_vec.proofs.ListLemmas.{thin_of-keeps}
+use Rattle.thin_vec.proofs.convert.IntoIterLemmas.{Walking, first-item, restores-first, walked-filled}
+use Rattle.thin_vec.proofs.ListLemmas.{list_view-keeps}
 use Rattle.thin_vec.proofs.convert.into_iter.IntoIter.take_first.Goals as goal
 
 some : (g : _) (c : goal.After-take g) → c.self.inside.start < c.self.inside.end
 some g c = omega (
   arith,
   c.self.invariant.len,
-  c.requires.some,
+  c.requires.nonempty,
   ap (λ v. length v.items) c.self.view_is,
 )
 
@@ -22,7 +22,7 @@ take-requires g c =
           (omega (
             arith,
             c.self.invariant.len,
-            c.requires.some,
+            c.requires.nonempty,
             ap (λ v. length v.items) c.self.view_is,
           ));
     }
@@ -31,7 +31,7 @@ facts : (g : _) (c : goal.After-take g) → Walking c.take.new.self c.self.insid
     (drop 1 (items_in c.self.inside.block.slots)) (c.self.inside.start + 1) c.self.inside.end
     (length c.self.inside.block.slots)
 facts g c =
-    settle-first c.self.inside.block c.take.new.self c.self.inside.alloc c.self.inside.start
+    restores-first c.self.inside.block c.take.new.self c.self.inside.alloc c.self.inside.start
     c.self.inside.end c.take.result c.self.invariant (some g c)
     c.take.ensures.value c.take.ensures.changes
 
@@ -47,4 +47,4 @@ returns-clause-items g c =
 
 pub returns-clause-changes : goal.returns-clause-changes
 returns-clause-changes g c =
-    thin_of-keeps c.self.view_is c.take.new.self (facts g c).cap refl (search rules)
+    list_view-keeps c.self.view_is c.take.new.self (facts g c).cap refl (search rules)

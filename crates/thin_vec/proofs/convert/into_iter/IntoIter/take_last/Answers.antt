@@ -2,8 +2,8 @@
 -- and decreases `end` by 1, so all other items remain.
 use Rattle.std.proofs.Common.{◌-◌, ◌<◌, ◌≤◌, ◌∷◌, ◌++◌, [], ap, sym, ◌∙◌, arith, length, take, refl, rules}
 use Rattle.thin_block.specs.Slots.{items_in}
-use Rattle.thin_vec.proofs.convert.IntoIterLemmas.{Walking, last-item, settle-last, walked-filled}
-use Rattle.thin_vec.proofs.ListLemmas.{thin_of-keeps}
+use Rattle.thin_vec.proofs.convert.IntoIterLemmas.{Walking, last-item, restores-last, walked-filled}
+use Rattle.thin_vec.proofs.ListLemmas.{list_view-keeps}
 use Rattle.thin_vec.proofs.convert.into_iter.IntoIter.take_last.Goals as goal
 
 -- Since at least one item remains, `start` is less than `end`.
@@ -11,7 +11,7 @@ some : (g : _) (c : goal.After-take g) → c.self.inside.start < c.self.inside.e
 some g c = omega (
   arith,
   c.self.invariant.len,
-  c.requires.some,
+  c.requires.nonempty,
   ap (λ v. length v.items) c.self.view_is,
 )
 
@@ -22,8 +22,9 @@ take-requires g c =
     let it = c.self.inside in
     let remain = ap (λ v. length v.items) c.self.view_is in
     let from : it.start ≤ it.end - 1 =
-    omega (arith, c.self.invariant.len, c.requires.some, remain) in
-    let to : it.end - 1 < it.end = omega (arith, c.self.invariant.len, c.requires.some, remain) in
+    omega (arith, c.self.invariant.len, c.requires.nonempty, remain) in
+    let to : it.end - 1 < it.end =
+    omega (arith, c.self.invariant.len, c.requires.nonempty, remain) in
     record {
       filled = walked-filled it.block it.alloc it.start it.end (it.end - 1)
           c.self.invariant from to;
@@ -37,7 +38,7 @@ facts : (g : _) (c : goal.After-take g)
     Walking c.take.new.self it.alloc most it.start (it.end - 1) (length it.block.slots)
 facts g c =
     let it = c.self.inside in
-    settle-last it.block c.take.new.self it.alloc it.start it.end c.take.result
+    restores-last it.block c.take.new.self it.alloc it.start it.end c.take.result
     c.self.invariant (some g c) c.take.ensures.changes
 
 pub invariant_of-self : goal.invariant_of-self
@@ -53,4 +54,4 @@ returns-clause-items g c =
 
 pub returns-clause-changes : goal.returns-clause-changes
 returns-clause-changes g c =
-    thin_of-keeps c.self.view_is c.take.new.self (facts g c).cap refl (search rules)
+    list_view-keeps c.self.view_is c.take.new.self (facts g c).cap refl (search rules)

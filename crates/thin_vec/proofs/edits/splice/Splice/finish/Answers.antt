@@ -2,8 +2,8 @@
 -- `finish_at_end`. The contract of `finish` follows from the contracts of these two functions.
 use Rattle.std.proofs.Common.{[], inl, inr, ◌≡◌, ◌+◌, ◌≤◌, ◌∙◌, ap, arith, length, length-append, subst}
 use denote.Param.{param}
-use Rattle.thin_vec.specs.Edits.Finish.{IsFinished}
-use Rattle.thin_vec.specs.Open.{reach}
+use Rattle.thin_vec.specs.Edits.Finish.{FinishesSplice}
+use Rattle.thin_vec.specs.Open.{tail_end}
 use Rattle.thin_vec.specs.Edits.Splice.{splice_alloc, splice_block, splice_iter, splice_replaced}
 use Rattle.thin_vec.proofs.list.ExtendLemmas.{loose-le, run_of_ok}
 use Rattle.thin_block.proofs.CapacityLemmas.{fits-less}
@@ -18,7 +18,7 @@ returns g c =
     let v = splice_block c.args.self in let a = splice_alloc c.args.self in
     let s = splice_iter c.args.self in
     let w = c.if-has_tail.list in let r = c.if-has_tail.answer in
-    let said : IsFinished steps g.I.Iterator.can_next g.I.Iterator.remaining rule T
+    let said : FinishesSplice steps g.I.Iterator.can_next g.I.Iterator.remaining rule T
     c.drop_rest.new.self c.clear.new.self.alloc s w r =
     elim c.if-has_tail.branch [
       | then-has_tail x ↦ rw x.list-is (rw x.answer-is x.finish_before_tail-answer.ensures)
@@ -28,12 +28,13 @@ returns g c =
     ∙ (λ i. let h = c.into_inner-block.ensures.value i in
     record h { gap = h.gap + length h.rest + h.gap_after; rest = []; gap_after = 0 }) in
     let f = subst
-    (λ b. IsFinished steps g.I.Iterator.can_next g.I.Iterator.remaining rule T b a s w r) dropped
+    (λ b. FinishesSplice steps g.I.Iterator.can_next g.I.Iterator.remaining rule T b a s w r)
+    dropped
     (subst
-    (λ o. IsFinished steps g.I.Iterator.can_next g.I.Iterator.remaining rule T
+    (λ o. FinishesSplice steps g.I.Iterator.can_next g.I.Iterator.remaining rule T
     c.drop_rest.new.self o s w r) (ap (λ v. v.alloc) c.clear.ensures.changes) said) in
     let le = loose-le rule T g.met.G.Growth.law v.capacity w.capacity f.taken.capacity in
-    let within = c.len-len.ensures.within in
+    let within = c.len-len.ensures.bounds in
     record {
       items = f.items;
       runs = run_of_ok steps s (λ xs. w.items ≡ splice_replaced c.args.self xs) r f.items;
@@ -42,9 +43,9 @@ returns g c =
         | inr room ↦ f.succeeds_at_end room.0 room.1
       ];
       placed = f.placed;
-      before_tail = if-err r
+      err_full = if-err r
           (λ error is now some. omega (arith, now some, length-append v.front v.tail)) f.range;
-      without_tail = f.at_end;
+      in_hand = f.at_end;
       cause = f.cause;
       capacity = record {
         had_room = f.taken.had_room;
@@ -52,7 +53,7 @@ returns g c =
         ruled = f.ruled;
       };
       cost = (f.taken.cost, f.blocks);
-      keeps = record {
+      preserved = record {
         alloc = f.taken.alloc;
         never_less = le;
         cheap = f.taken.cheap;
@@ -60,7 +61,7 @@ returns g c =
           record {
             room = omega (
               arith,
-              subst (λ b. reach b ≤ b.capacity) dropped c.has_tail.ensures.in_bounds,
+              subst (λ b. tail_end b ≤ b.capacity) dropped c.has_tail.ensures.in_bounds,
               length-append v.front v.tail,
             );
             small = omega (arith, within.small, le);

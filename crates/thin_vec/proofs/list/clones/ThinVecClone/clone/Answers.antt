@@ -12,9 +12,9 @@ returns-in-Ok g c =
         e.items,
         sym (length_all_zip g.T.Clone.is_clone c.args.self.now.items c.in-Ok.other.items e.items),
         e.capacity,
-        e.made.alloc ∙ c.allocator.ensures.value,
+        e.new.alloc ∙ c.allocator.ensures.value,
         e.cost,
-        e.made.cheap,
-        e.made.within.small,
+        e.new.cheap,
+        e.new.within.small,
       );
     }

@@ -5,11 +5,11 @@ use Rattle.std.specs.Option.{option_to_list}
 use Rattle.std.proofs.Common.{Err, None, [], refl, Some, inl, inr, ◌++◌, ◌≡◌, ◌∙◌, ap, arith, length, subst, sym}
 use Rattle.std.proofs.lemmas.Bool.{cases_lt, false≢true}
 use denote.Param.{param}
-use Rattle.thin_block.proofs.Outcomes.{err-same}
+use Rattle.thin_block.proofs.ResultLemmas.{err-same}
 use Rattle.thin_block.specs.Growth.{doubling}
 use Rattle.thin_block.specs.GrowthLaws.{doubling_law}
 use Rattle.thin_block.proofs.CapacityLemmas.{exact-same}
-use Rattle.thin_vec.proofs.ThinVecLemmas.{cost_at-blocks}
+use Rattle.thin_vec.proofs.ThinVecLemmas.{cost_after_resize-blocks}
 use Rattle.thin_vec.proofs.list.ExtendLemmas.{collected-after, exact-new, hand-empty, match-some, run_given, run_of}
 use Rattle.thin_vec.specs.List.Extend.{IsCollectedList}
 use Rattle.thin_vec.proofs.list.extend.ThinVec+T+A.from_iter.Goals.{After-extend_unhinted}
@@ -37,7 +37,7 @@ collected g c =
           ∙ c.new-list.ensures.new.capacity);
       ruled = collected-after doubling (param 0 g.row.T) doubling_law _ _ _
           c.size_hint.ensures.lower
-          (sym (exact-new _ _ _ _ c.new-list.ensures.new) ∙ c.in-Ok.ensures.capacity) e.ruled;
+          (sym (exact-new _ _ _ _ c.new-list.ensures.new) ∙ c.in-Ok.ensures.capacity) e.capacity;
       moves = search (arith, ◌∙◌);
       requests = (
         c.size_hint.result.0,
@@ -46,7 +46,7 @@ collected g c =
           arith,
           e.requests,
           ap (λ k. k.blocks) c.in-Ok.ensures.cost,
-          cost_at-blocks c.new-list.result u.capacity,
+          cost_after_resize-blocks c.new-list.result u.capacity,
           c.in-Ok.ensures.room,
           ap (λ k. k.blocks) c.new-list.ensures.new.cost,
         ),
@@ -54,20 +54,20 @@ collected g c =
       made = record {
         alloc = search (arith, ◌∙◌);
         cheap = search (arith, ◌∙◌);
-        within = e.keeps.within.1;
+        within = e.preserved.within.1;
       };
     }
 
-pub returns-in-Ok-extend_unhinted-clause-list : goal.returns-in-Ok-extend_unhinted-clause-list
-returns-in-Ok-extend_unhinted-clause-list g c =
-    collected g ((goal.at.returns-in-Ok-extend_unhinted-clause-list g c).After-extend_unhinted)
+pub returns-in-Ok-extend_unhinted-clause-new : goal.returns-in-Ok-extend_unhinted-clause-new
+returns-in-Ok-extend_unhinted-clause-new g c =
+    collected g ((goal.at.returns-in-Ok-extend_unhinted-clause-new g c).After-extend_unhinted)
 
-pub returns-in-Err-extend_unhinted-clause-err_list : goal.returns-in-Err-extend_unhinted-clause-err_list
-returns-in-Err-extend_unhinted-clause-err_list g c =
-    collected g ((goal.at.returns-in-Err-extend_unhinted-clause-err_list g c).After-extend_unhinted)
+pub returns-in-Err-extend_unhinted-clause-err_new : goal.returns-in-Err-extend_unhinted-clause-err_new
+returns-in-Err-extend_unhinted-clause-err_new g c =
+    collected g ((goal.at.returns-in-Err-extend_unhinted-clause-err_new g c).After-extend_unhinted)
 
-pub returns-in-Err-clause-err_list : goal.returns-in-Err-clause-err_list
-returns-in-Err-clause-err_list g c =
+pub returns-in-Err-clause-err_new : goal.returns-in-Err-clause-err_new
+returns-in-Err-clause-err_new g c =
     let none = ap (λ v. v.capacity) c.in-Err.ensures.err ∙ c.new-list.ensures.new.capacity in
     let least = exact-same (param 0 g.row.T) 0 0 (omega arith) in
     record {
@@ -86,7 +86,7 @@ returns-in-Err-clause-err_list g c =
       made = record {
         alloc = search (arith, ◌∙◌);
         cheap = search (arith, ◌∙◌);
-        within = c.reserve_exact.ensures.within.1;
+        within = c.reserve_exact.ensures.bounds.1;
       };
     }
 
@@ -124,7 +124,7 @@ returns-in-Err-extend_unhinted-clause-cause g c =
 pub returns-in-Err-extend_unhinted-clause-in_hand : goal.returns-in-Err-extend_unhinted-clause-in_hand
 returns-in-Err-extend_unhinted-clause-in_hand g c =
     match-some _ _ c.in-Err-extend_unhinted.refused.in_hand c.in-Err-extend_unhinted.ensures.in_hand
-    c.in-Err-extend_unhinted.ensures.full
+    c.in-Err-extend_unhinted.ensures.err_full
 
 pub returns-in-Err-extend_unhinted-clause-placed : goal.returns-in-Err-extend_unhinted-clause-placed
 returns-in-Err-extend_unhinted-clause-placed g c =
@@ -150,16 +150,16 @@ returns-in-Ok-extend_unhinted-clause-runs g c =
           (c.reserve_exact.ensures.items ∙ c.new-list.ensures.new.items),
     )
 
-pub returns-in-Err-clause-runs_err : goal.returns-in-Err-clause-runs_err
-returns-in-Err-clause-runs_err g c =
+pub returns-in-Err-clause-err_runs : goal.returns-in-Err-clause-err_runs
+returns-in-Err-clause-err_runs g c =
     let none = c.reserve_exact.ensures.items
     ∙ c.new-list.ensures.new.items in
     run_given g.I.Iterator.next_gives c.args.iter [] None c.args.iter
     (λ l. l ≡ c.reserve_exact.new.self.items ++ []) refl
     (ap (λ l. l ++ []) (sym none))
 
-pub returns-in-Err-extend_unhinted-clause-runs_err : goal.returns-in-Err-extend_unhinted-clause-runs_err
-returns-in-Err-extend_unhinted-clause-runs_err g c =
+pub returns-in-Err-extend_unhinted-clause-err_runs : goal.returns-in-Err-extend_unhinted-clause-err_runs
+returns-in-Err-extend_unhinted-clause-err_runs g c =
     let placed = c.in-Err-extend_unhinted.ensures.placed in
     let items = placed.1 ∙ ap (λ old. old ++ placed.0)
     (c.reserve_exact.ensures.items ∙ c.new-list.ensures.new.items) in

@@ -16,12 +16,12 @@ returns-in-Ok g c =
         (
           e.items.2,
           ap length e.items.2 ∙ length-append old xs,
-          e.keeps.never_less,
+          e.preserved.never_less,
           e.capacity.loose,
           e.cost.adding,
-          e.keeps.alloc,
-          e.keeps.cheap,
-          e.keeps.within.1,
+          e.preserved.alloc,
+          e.preserved.cheap,
+          e.preserved.within.1,
         ),
         e.items.1,
       );
@@ -40,12 +40,12 @@ returns-in-Err g c =
         (
           placed.1,
           ap length placed.1 ∙ length-append old placed.0,
-          e.keeps.never_less,
+          e.preserved.never_less,
           e.capacity.loose,
           e.cost.adding,
-          e.keeps.alloc,
-          e.keeps.cheap,
-          e.keeps.within.1,
+          e.preserved.alloc,
+          e.preserved.cheap,
+          e.preserved.within.1,
         ),
         first,
       );

@@ -14,6 +14,6 @@ returns-in-Ok g c =
         c.in-Ok.list.items,
         c.into_iter.ensures.into_iter_gives,
         (d.1.0, d.1.1, λ _. (d.0, d.1.2)),
-        (refl, refl, e.list.moves, e.list.made.cheap, e.list.made.within),
+        (refl, refl, e.new.moves, e.new.made.cheap, e.new.made.within),
       );
     }

@@ -3,10 +3,10 @@
 use Rattle.std.proofs.Common.{◌<◌, ap, arith, length, refl, sym, ◌∙◌}
 use Rattle.std.specs.List.{slice_get}
 use Rattle.std.proofs.lemmas.Option.{get_or_from_slice_get}
-use Rattle.thin_block.specs.Lends.{with_item as block_with_item}
+use Rattle.thin_block.specs.Lends.{set_slot as block_with_item}
 use Rattle.thin_block.specs.Slots.{items_in}
 use Rattle.thin_vec.specs.Lends.{with_item}
-use Rattle.thin_vec.proofs.LendsLemmas.{settle-set, view-with_item}
+use Rattle.thin_vec.proofs.LendsLemmas.{restores-set, view-with_item}
 use Rattle.thin_vec.proofs.ListLemmas.{thin-filled, thin-get}
 use Rattle.thin_vec.proofs.ThinVecLemmas.{within-of}
 use Rattle.thin_vec.proofs.list.index.ThinVecIndexMutUsize.index_mut.Goals as goal
@@ -24,7 +24,8 @@ pub invariant_of-self-lent : goal.invariant_of-self-lent
 invariant_of-self-lent g c = λ w.
     let within : c.args.index < length (items_in c.self.inside.block.slots) =
     omega (arith, c.requires, ap (λ v. length v.items) c.self.view_is) in
-    (settle-set c.self.invariant (block_with_item c.self.inside.block c.args.index w) c.args.index w
+    (restores-set c.self.invariant
+    (block_with_item c.self.inside.block c.args.index w) c.args.index w
     within refl).thin
 
 pub returns : goal.returns
@@ -44,6 +45,6 @@ returns g c =
         value = sym (get_or_from_slice_get c.args.self.now.items c.args.index c.slot_mut.result.now
             c.slot_mut.result.now item);
         found = item;
-        within = within-of _ _ _ _ c.self.invariant c.self.view_is c.len-len.ensures.slots_fit;
+        bounds = within-of _ _ _ _ c.self.invariant c.self.view_is c.len-len.ensures.slots_fit;
       },
     )

@@ -1,0 +1,117 @@
+-- This file proves the contract of `swap_take`. The proof first follows the proof of `swap`,
+-- and then the proof of `take` for slot `j`.
+use Rattle.std.proofs.Common.{◌≡◌, ℕ, Some, None, ◌+◌, ◌*◌, ◌<◌, List, ◌∷◌, [], ◌++◌, length, refl, sym, ap, ◌∙◌, arith, w64, Option}
+use Rattle.thin_block.proofs.WalkPrelude.{set, length-set, vint, inst_fn, full_share, fat, froom, ‵, ◌$◌, !, move, use1, use2, use3, rewrite, suffices, done, stop, look, load, store, of_opd, assigns, first, blocks, returns, alloc_all, pass_all, free_all, look_at, through, sets, sets_last, get, layout, walk_of, ends_at, proved_at, R, says_all}
+use lib.Seq.{set-set}
+use Rattle.std.specs.Prelude.{◌==◌, if◌then◌else◌}
+use Rattle.core.proofs.slice.Rows.{el_in}
+use Rattle.thin_block.specs.Cost.{add_moves}
+use Rattle.thin_block.specs.Lends.{with_slots}
+use Rattle.thin_block.specs.Ownership.{slot_owns, slots_own}
+use Rattle.thin_block.specs.Slots.{slot}
+use Rattle.thin_block.proofs.SlotsLemmas.{the_item, filled-within}
+use Rattle.thin_block.proofs.HeaderMemory.{args, Br}
+use Rattle.thin_block.proofs.SlotMemory.{sz, slot_in}
+use mathlib.Core.Logic.{inl, inr}
+use Rattle.thin_block.proofs.SlotsLemmas.{same_or_not}
+use Rattle.thin_block.proofs.SlotMemory.{two_slots}
+use Rattle.thin_block.proofs.MethodSignatures.{item, source, others, block_stays, goes, begins, enters, closes_over, leaves_with, ptr_of, opens_self, continues, word}
+use Rattle.thin_block.proofs.Addresses.{near, its_ptr, slot_found, takes_item, takes_two}
+use Rattle.thin_block.specs.contracts.block.Block.swap_take.{ended, clauses}
+use Rattle.thin_block.specs.contracts.block.Block.swap_take.Key.{name as #self}
+use Rattle.thin_block.proofs.block.Block.swap_take.Statement.{statement}
+use Rattle.thin_block.proofs.block.Block.swap_take.Code as compiled
+
+pub swap_take_spec : {M : Type 1} → statement M
+swap_take_spec 𝓤 𝓛 𝓜 𝓡 wired T A LT LA g d dd met md =
+    let E = item LT in let Y = source LA g d dd in let En₀ = ended T A g d dd in
+    let c = clauses T A g d dd 𝓛 𝓜.mem 𝓡.returns in let ss = others En₀.signature.params in
+    let hs = block_stays E Y ss En₀.kept.1 in let fn = inst_fn (args E Y) compiled.function in
+    proved_at 𝓛 En₀ hs c 𝓜 𝓡 (goes E Y ss 𝓛 En₀.kept.1 ((λ κs x f. refl), ((λ κs x f. refl), tt)))
+    (#self (args E Y)) fn (compiled.unfolded 𝓤 𝓛.H 𝓜 𝓡 wired (T, (A, tt)) d dd) (λ z are.
+    let r = z.0.3.0 in let x = r.now in let i : ℕ = z.0.3.1.0 in let j : ℕ = z.0.3.1.1.0 in
+    begins E Y 𝓛 ss z.0 (_ ∷ _ ∷ _ ∷ _ ∷ []) (λ said.
+    let first_filled = said.1.1.0 in let one = the_item (slot x.slots i) first_filled in
+    let second_filled = said.1.1.1 in let two = the_item (slot x.slots j) second_filled in
+    let low : i < length x.slots = filled-within x.slots i first_filled in
+    let low' : j < length x.slots = filled-within x.slots j second_filled in
+    let fi = are.1.0.1 in
+    let fj = are.1.1.0.1 in
+    enters ! fn (ptr_of r ∷ vint w64 i ∷ vint w64 j ∷ [])
+    (λ k. are.0.0 k ++ (are.1.0.0 k ++ (are.1.1.0.0 k ++ []))) $
+    alloc_all ! (λ l. pass_all ! refl ((tt, tt), (word fi, (word fj, tt))) $
+    opens_self E Y ! tt r (λ b o at fits.
+    let here : ℕ = i * sz E + (o + 16) in let there : ℕ = j * sz E + (o + 16) in
+    let near_i = near E x.slots i fits (omega arith) in
+    let near_j = near E x.slots j fits (omega arith) in
+    sets ! (of_opd ! (its_ptr E Y ! refl)) refl (tt, tt) $ first ! $ blocks ! $
+    slot_found E ! b o i near_i refl ((tt, tt), (tt, tt)) $
+    slot_found E ! b o j near_j refl ((tt, tt), (tt, tt)) $
+    let after_it : List (Option T.Denot) = set (set x.slots i (slot x.slots j)) j None in
+    let long : length after_it ≡ length x.slots = length-set (set x.slots i (slot x.slots j)) j None
+    ∙ length-set x.slots i (slot x.slots j) in
+    let y : (Br E Y).Denot = record (with_slots x after_it long)
+    { cost = add_moves (if i == j then 0 else 1) x.cost } in
+    elim (same_or_not i j) [
+      | inr apart ↦
+          let p = two_slots E 𝓛 b (o + 16) x.slots i j apart low low' in
+          takes_two E ! b (o + 16) x.slots i j p (one.1, two.1) (λ v v' good good'.
+          -- The slots `i` and `j` have been separated from the other slots. The proof context now
+          -- holds, in this order: the bytes of the item in slot `j`, and what this item owns; the
+          -- bytes of the item in slot `i`, and what this item owns; the other slots; the header;
+          -- the block's pointer; the right to close the borrow of the block, with the lifetime
+          -- token of this borrow; two ghost resources that record the value of the block; the other
+          -- lifetime tokens.
+          sets ! (of_opd ! (load ! (through ! refl (stop !)) (look ! 2 refl))) refl good $
+          sets ! (of_opd ! (load ! (through ! refl (stop !)) (look ! 0 refl))) refl good' $
+          assigns ! (of_opd ! (get ! refl)) (through ! refl (stop !)) (store ! 2 refl good') $
+          sets_last ! (of_opd ! (get ! refl)) refl good $
+          continues ! 𝓜 𝓡 fn l 2 ((walk_of 𝓛 En₀ hs c).post z) $
+          sets ! (of_opd ! (get ! refl)) refl good $
+          use1 𝓛 (‵ (froom (layout T) b there)) (𝓛.laws.at_room (layout T) b there v') $
+          use1 𝓛 (‵ (slot_owns (R E) None b there)) (𝓛.laws.room-raw (layout T) b there) $
+          move ! (2 ∷ 1 ∷ []) $ use2 𝓛 (‵ (slot_owns (R E) (Some two.0) b here))
+          (el_in E 𝓛 b two.0 here v') $
+          rewrite ! 0 (λ (c : Option T.Denot). ‵ (slot_owns (R E) c b here)) (sym two.1) refl $
+          -- The item from slot `j` is now in slot `i`, and slot `j` is empty. The proof context now
+          -- holds, in this order: slot `i`; slot `j`; the resources of the item that was in slot
+          -- `i` before the call; the other slots; the header; the block's pointer; the right to
+          -- close the borrow of the block, with the lifetime token of this borrow; two ghost
+          -- resources that record the value of the block; the other lifetime tokens.
+          move ! (0 ∷ 1 ∷ 3 ∷ []) $ use3 𝓛 (‵ (slots_own (R E) after_it b (o + 16)))
+          (p.back (slot x.slots j) None) $
+          move ! (0 ∷ 2 ∷ 3 ∷ 4 ∷ 5 ∷ 6 ∷ []) $
+          closes_over E Y ! tt r y b o at long $
+          returns ! (look_at ! 0 refl) $ free_all ! refl $ leaves_with E Y ! r y 2 are.0.0 $
+          suffices ! _ (ends_at 𝓛 En₀ hs c z v one.0 (y, (tt, (tt, tt))) (tt, (tt, (tt, tt)))) $
+          says_all ! (_ ∷ _ ∷ []) (one.1, refl) $ done !)
+      | inl same ↦
+          takes_item E ! b (o + 16) x.slots i low one.1 (λ v good.
+          -- In this case, the slots `i` and `j` are the same slot. This slot has been separated
+          -- from the other slots. The proof context now holds, in this order: the bytes of the
+          -- item; the resources that the item owns; the other slots; the header; the block's
+          -- pointer; the right to close the borrow of the block, with the lifetime token of this
+          -- borrow; two ghost resources that record the value of the block; the other lifetime
+          -- tokens.
+          let Bits = λ (k : ℕ). ‵ (fat full_share (layout T) b (k * sz E + (o + 16)) v) in
+          sets ! (of_opd ! (load ! (through ! refl (stop !)) (look ! 0 refl))) refl good $
+          rewrite ! 0 Bits same refl $
+          sets ! (of_opd ! (load ! (through ! refl (stop !)) (look ! 0 refl))) refl good $
+          rewrite ! 0 Bits (sym same) refl $ assigns ! (of_opd ! (get ! refl))
+          (through ! refl (stop !)) (store ! 0 refl good) $
+          sets_last ! (of_opd ! (get ! refl)) refl good $
+          continues ! 𝓜 𝓡 fn l 2 ((walk_of 𝓛 En₀ hs c).post z) $
+          sets ! (of_opd ! (get ! refl)) refl good $
+          use1 𝓛 (‵ (froom (layout T) b here)) (𝓛.laws.at_room (layout T) b here v) $
+          use1 𝓛 (‵ (slot_owns (R E) None b here)) (𝓛.laws.room-raw (layout T) b here) $
+          move ! (0 ∷ 2 ∷ []) $ use2 𝓛 (‵ (slots_own (R E) (set x.slots i None) b (o + 16)))
+          (slot_in E 𝓛 b (o + 16) x.slots i low None) $
+          rewrite ! 0 (λ (l : List (Option T.Denot)). ‵ (slots_own (R E) l b (o + 16)))
+          (sym (ap (λ (k : ℕ). set (set x.slots i (slot x.slots j)) k None) (sym same)
+          ∙ set-set x.slots i (slot x.slots j) None)) refl $
+          move ! (0 ∷ 2 ∷ 3 ∷ 4 ∷ 5 ∷ 6 ∷ []) $
+          closes_over E Y ! tt r y b o at long $
+          returns ! (look_at ! 0 refl) $ free_all ! refl $ leaves_with E Y ! r y 2 are.0.0 $
+          suffices ! _ (ends_at 𝓛 En₀ hs c z v one.0 (y, (tt, (tt, tt))) (tt, (tt, (tt, tt)))) $
+          says_all ! (_ ∷ _ ∷ []) (one.1, refl) $ done !)
+    ]))))

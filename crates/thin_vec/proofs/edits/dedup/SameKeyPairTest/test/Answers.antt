@@ -1,0 +1,15 @@
+-- To compare an item with the last kept item, `dedup_by_key` calls its closure first for the item
+-- itself, and then for the last kept item. The two items count as equal if the two keys that the
+-- closure returned are equal.
+use Rattle.std.proofs.Common.{rules}
+use Rattle.thin_vec.proofs.edits.dedup.SameKeyPairTest.test.Goals as goal
+
+pub returns-clause-tested : goal.returns-clause-tested
+returns-clause-tested g c = record {
+  between = c.key-key.new.self;
+  key = c.key-key.result;
+  other = c.key.result;
+  first = search rules;
+  second = search rules;
+  compared = search rules;
+}

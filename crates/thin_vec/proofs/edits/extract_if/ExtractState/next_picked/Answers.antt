@@ -1,0 +1,63 @@
+-- `seek_rejected` tests items until it reaches the first item to be extracted. `next_picked`
+-- removes and returns this item, or returns `None` if there is no such item.
+use Rattle.std.proofs.Common.{◌≡◌, ◌∙◌, [], ap, arith, rules, sym, take}
+use Rattle.std.proofs.lemmas.Bool.{false≢true}
+use Rattle.std.specs.Fn.{CalledAtMut}
+use Rattle.thin_vec.proofs.edits.ExtractIfLemmas.{cost-of, picked-count, picked-none, picked-room, picked-some}
+use Rattle.thin_vec.proofs.RetainLemmas.{none-left}
+use Rattle.thin_vec.proofs.edits.extract_if.ExtractState.next_picked.Goals as goal
+
+-- If `seek_rejected` returns true, it has reached an item to be extracted. `next_picked` removes
+-- and returns this item.
+pub returns-then-seek_rejected-clause-steps : goal.returns-then-seek_rejected-clause-steps
+returns-then-seek_rejected-clause-steps g c =
+    let R = CalledAtMut g.F.FnMut in
+    let v = c.args.self.now in
+    let a = c.seek_rejected.ensures.tested in
+    let t = c.seek_rejected.new.test in
+    let z = c.take_first.new.self in
+    let x = c.take_first.result in
+    let asked = picked-some R (λ s. s.pick) a.count v.picks v.block.rest t a.left a.run x z.rest
+    (sym (ap (λ w. w.rest) a.now) ∙ c.take_first.ensures.rest) in
+    record {
+      kept = take a.count a.left;
+      asked = asked;
+      count = picked-count R v.picks.pick v.block.rest _ t.pick (take a.count a.left) z.rest asked;
+      front = search rules;
+      gap = search rules;
+      tail = search rules;
+      capacity = search rules;
+      alloc = search rules;
+      cost = ap (λ w. w.cost) c.take_first.ensures.changes
+          ∙ (ap (λ w. w.cost) a.now ∙ cost-of v.block.gap v.block.cost a.count a.left
+          (picked-room R (λ s. s.pick) a.count v.picks v.block.rest t a.left a.run));
+    }
+
+-- If `seek_rejected` returns false, there is no item to be extracted, and `next_picked` returns
+-- `None`.
+pub returns-else-seek_rejected-clause-steps : goal.returns-else-seek_rejected-clause-steps
+returns-else-seek_rejected-clause-steps g c =
+    let R = CalledAtMut g.F.FnMut in
+    let v = c.args.self.now in
+    let a = c.seek_rejected.ensures.tested in
+    let t = c.seek_rejected.new.test in
+    let w = c.seek_rejected.new.self in
+    let rest = ap (λ u. u.rest) a.now in
+    let none : w.rest ≡ [] =
+    none-left w.rest
+    (λ some. false≢true (sym c.if-seek_rejected.false ∙ c.seek_rejected.ensures.value.1 some)) in
+    let asked = picked-none R (λ s. s.pick) a.count v.picks v.block.rest t a.left a.run
+    (sym rest ∙ none) in
+    record {
+      kept = take a.count a.left;
+      asked = rw rest asked;
+      count = rw rest
+          (picked-count R v.picks.pick v.block.rest _ t.pick (take a.count a.left) _ asked);
+      front = ap (λ u. u.front) a.now;
+      gap = omega (arith, ap (λ u. u.gap) a.now);
+      tail = ap (λ u. u.tail) a.now;
+      capacity = ap (λ u. u.capacity) a.now;
+      alloc = ap (λ u. u.alloc) a.now;
+      cost = ap (λ u. u.cost) a.now ∙ cost-of v.block.gap v.block.cost a.count a.left
+          (picked-room R (λ s. s.pick) a.count v.picks v.block.rest t a.left a.run);
+    }

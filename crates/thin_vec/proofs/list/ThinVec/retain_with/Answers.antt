@@ -1,0 +1,17 @@
+-- `retain_with` calls `retain_rest`, which tests each item and drops the items that are not to be
+-- kept. So the list contains exactly the kept items.
+use Rattle.std.proofs.Common.{◌≡◌, arith, rules}
+use Rattle.thin_vec.proofs.ThinVecLemmas.{within-like}
+use Rattle.std.proofs.lemmas.Grind.{common_steps}
+use Rattle.thin_vec.proofs.list.ThinVec.retain_with.Goals as goal
+
+pub returns-clause-bounds : goal.returns-clause-bounds
+returns-clause-bounds g c =
+    let same : c.close.new.self.capacity ≡ c.args.self.now.capacity = search rules in (
+      c.len-len.ensures.bounds,
+      within-like _ c.close.new.self c.args.self.now
+          c.len-len.ensures.bounds same (omega (arith, c.close.ensures.room, same)),
+    )
+
+pub returns-clause-retained : goal.returns-clause-retained
+returns-clause-retained g c = grind (arith, common_steps)

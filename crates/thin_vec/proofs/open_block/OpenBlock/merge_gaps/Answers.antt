@@ -1,0 +1,18 @@
+-- There are no middle items, as `merge_gaps` requires. So the gap before the middle items and the
+-- gap after them form one gap.
+use Rattle.std.proofs.Common.{◌+◌, ap, sym, ◌∙◌}
+use Rattle.thin_vec.proofs.OpenBlockLemmas.{Found}
+use Rattle.thin_vec.proofs.open_block.StepLemmas.{join-step, joined, joined-view}
+use Rattle.thin_vec.proofs.open_block.OpenBlock.merge_gaps.Goals as goal
+
+facts : (g : _) (c : goal.After-self-2-1 g)
+    → Found (joined c.self.inside c.self.invariant) (joined-view c.self.inside c.self.invariant)
+facts g c = join-step c.self.inside c.self.invariant
+    (ap (λ v. v.rest) c.self.view_is ∙ c.requires.no_rest)
+
+pub invariant_of-self : goal.invariant_of-self
+invariant_of-self g c = (facts g c).lies
+
+pub returns : goal.returns
+returns g c = (facts g c).view ∙ (λ i. let v = c.self.view_is i in record v
+    { gap = v.gap + v.gap_after; rest = sym c.requires.no_rest i; gap_after = 0 })

@@ -1,0 +1,15 @@
+-- `Sifts` describes what all iterations of the loop so far have done: some of the untested items
+-- were tested, and were then either kept or removed. The block still has a gap after its front
+-- items. Each iteration reduces the number of untested items.
+use Rattle.std.proofs.Common.{length}
+use Rattle.thin_vec.specs.OpenBlock.Retain.{RetainsSome}
+use Rattle.thin_vec.proofs.open_block.OpenBlock.retain_rest.Given as goal
+
+abbrev pub invariant-loop-self : goal.invariant-loop-self
+invariant-loop-self g l = record {
+  sifts : RetainsSome g.J.Test.tests l.initial.test l.initial.self l.test l.self;
+  ready : g.J.Test.ready l.test;
+}
+
+abbrev pub decreases-loop-self : goal.decreases-loop-self
+decreases-loop-self g l = length l.self.rest

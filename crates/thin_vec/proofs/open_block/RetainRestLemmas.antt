@@ -1,0 +1,250 @@
+-- An open block is the block of a list during an edit, and its middle items are the items of the
+-- range that were not tested yet. These lemmas state how contracts see an open block `h` after one
+-- middle item was tested, and after the first `k` middle items became front items.
+use Rattle.std.proofs.Common.{◌≡◌, ℕ, zero, suc, ◌+◌, ◌-◌, ◌<◌, ◌≤◌, List, [], ◌∷◌, ◌++◌, Option, Some, None, length, take, drop, refl, sym, ap, ◌∙◌, arith, length-append, append_assoc}
+use Rattle.std.proofs.lemmas.List.{get_or_at, length-drop, length-take-le, set_at, take-append-drop}
+use lib.ListN.{set}
+use Rattle.thin_block.specs.Block.{BlockView, block_view}
+use Rattle.thin_block.specs.Cost.{Cost}
+use Rattle.thin_block.specs.Slots.{empty_slots, filled_slots, move_slots, slot}
+use Rattle.thin_block.specs.declared.block.Block.{Block}
+use Rattle.thin_block.proofs.SlotsLemmas.{moved_left}
+use Rattle.thin_vec.specs.OpenBlock.{IsOpen, IsOpenViewOf, open_view}
+use Rattle.thin_vec.specs.Open.{OpenView, tail_end, slots_of}
+use Rattle.thin_vec.specs.declared.open_block.OpenBlock.TheInside.{Inside}
+use Rattle.thin_vec.proofs.list.InsertRemoveLemmas.{full-append}
+use Rattle.thin_block.proofs.ResultLemmas.{some-same}
+use Rattle.thin_vec.proofs.OpenBlockLemmas.{Found, at_rest, by_rest, found, past_rest, to_rest}
+use Rattle.thin_vec.proofs.ListLemmas.{length-full}
+
+-- A list with more than `k` items consists of its first `k` items, the item at index `k`, and the
+-- items after it.
+pub split-at : {X : Type 0} (xs : List X) (k : ℕ) → k < length xs → (pre : List X) × (x : X)
+    × (post : List X) × (length pre ≡ k) × (xs ≡ pre ++ x ∷ post)
+split-at [] k low = absurd (omega arith)
+split-at (x ∷ xs) zero low = ([], x, xs, refl, refl)
+split-at (x ∷ xs) (suc k) low =
+    let low' : suc k < suc (length xs) = low in
+    let p = split-at xs k (omega arith) in
+    (x ∷ p.0, p.1, p.2, ap suc p.3, ap (λ l. x ∷ l) p.4)
+
+module _ {T : Type 0} where
+  -- Suppose that a row consists of the slots `a`, then slots that hold the items `pre ++ x ∷ post`,
+  -- and then the slots `z`. Then this row can be split into the slots before `x`, the slot of `x`,
+  -- and the slots after `x`.
+  pub row-at : (a : List (Option T)) (pre : List T) (x : T) (post : List T) (z : List (Option T))
+      → a ++ (filled_slots (pre ++ x ∷ post) ++ z)
+      ≡ (a ++ filled_slots pre) ++ (Some x ∷ (filled_slots post ++ z))
+  row-at a pre x post z =
+      ap (λ (r : List (Option T)). a ++ (r ++ z)) (full-append pre (x ∷ post))
+      ∙ (ap (λ (r : List (Option T)). a ++ r)
+      (append_assoc (filled_slots pre) (filled_slots (x ∷ post)) z)
+      ∙ sym (append_assoc a (filled_slots pre) (Some x ∷ (filled_slots post ++ z))))
+
+module _ {T A : Type 0} where
+  -- Suppose that the open blocks `v` and `w` have the same tail items, the same number of empty
+  -- slots directly before the tail items, and the same number of empty slots after them. Then the
+  -- slots after the middle items are equal in both blocks.
+  pub same-past : (v w : OpenView T A) → w.gap_after ≡ v.gap_after → w.tail ≡ v.tail
+      → v.capacity - tail_end v ≡ w.capacity - tail_end w → past_rest v ≡ past_rest w
+  same-past v w b t n = λ i. empty_slots (sym b i) ++ (filled_slots (sym t i) ++ empty_slots (n i))
+
+  module _ (h : Inside T A) (o : IsOpen h) (b : Block T A) (k : ℕ)
+      (low : k < length (open_view h).rest) where
+    -- `v` is the value by which contracts describe the open block `h`, before its middle item at
+    -- index `k` is overwritten.
+    abbrev v : OpenView T A
+    v = open_view h
+
+    -- `written` is the open block `h` after its middle item at index `k` has been overwritten. The
+    -- slots of `written` are those of the block `b`.
+    abbrev pub written : Inside T A
+    written = record h { block = b }
+
+    -- If the middle items of the open block `written` are `ys`, then `written-view ys` is how
+    -- contracts see `written`. This value differs from `v` only in the middle items.
+    abbrev pub written-view : List T → OpenView T A
+    written-view ys = record v { rest = ys }
+
+    -- `Written x y` states that the middle item `x` at index `k` was overwritten with `y`, and that
+    -- nothing else in the open block has changed.
+    pub record Written (x y : T) : Type 0 where
+      pub pre : List T
+      pub post : List T
+      pub place : length pre ≡ k
+      pub was : v.rest ≡ pre ++ x ∷ post
+      pub shown : Found written (written-view (pre ++ y ∷ post))
+
+    -- If the slot of the middle item at index `k` held `x`, and `y` was written into this slot,
+    -- then `Written x y` holds.
+    pub write-step : (x y : T) → slot h.block.slots (h.rest_start + k) ≡ Some x
+        → block_view b ≡ record (block_view h.block)
+        { slots = set h.block.slots (h.rest_start + k) (Some y) } → Written x y
+    write-step x y is now =
+        let p = split-at v.rest k low in
+        let pre : List T = p.0 in
+        let post : List T = p.2 in
+        let row : h.block.slots
+        ≡ (to_rest v ++ filled_slots pre) ++ (Some p.1 ∷ (filled_slots post ++ past_rest v))
+        =
+        by_rest h v o ∙ (ap (λ (r : List T). to_rest v ++ (filled_slots r ++ past_rest v)) p.4
+        ∙ row-at (to_rest v) pre p.1 post (past_rest v)) in
+        let here : length (to_rest v ++ filled_slots pre) ≡ h.rest_start + k =
+        omega (
+          arith,
+          length-append (to_rest v) (filled_slots pre),
+          at_rest h v o,
+          length-full pre,
+          p.3,
+        )
+        in
+        let same : p.1 ≡ x =
+        some-same (sym (get_or_at (to_rest v ++ filled_slots pre) (Some p.1)
+        (filled_slots post ++ past_rest v) None
+        (h.rest_start + k) here) ∙ (ap (λ (r : List (Option T)). slot r (h.rest_start + k))
+        (sym row) ∙ is)) in
+        let count : length (pre ++ y ∷ post) ≡ length v.rest =
+        omega (
+          arith,
+          length-append pre (y ∷ post),
+          ap length p.4,
+          length-append pre (p.1 ∷ post),
+        ) in
+        let w : OpenView T A = written-view (pre ++ y ∷ post) in
+        let left : v.capacity - tail_end v ≡ w.capacity - tail_end w = omega (arith, count) in
+        let after : b.slots ≡ slots_of w =
+        ap (λ (z : BlockView T A). z.slots) now
+        ∙ (ap (λ (r : List (Option T)). set r (h.rest_start + k) (Some y)) row
+        ∙ (set_at (to_rest v ++ filled_slots pre) (Some p.1) (filled_slots post ++ past_rest v)
+        (Some y) (h.rest_start + k) here
+        ∙ (sym (row-at (to_rest v) pre y post (past_rest v))
+        ∙ (append_assoc (filled_slots v.front) (empty_slots v.gap)
+        (filled_slots (pre ++ y ∷ post) ++ past_rest v)
+        ∙ ap (λ (r : List (Option T)). filled_slots v.front
+        ++ (empty_slots v.gap ++ (filled_slots (pre ++ y ∷ post) ++ r)))
+        (same-past v w refl refl left)))))
+        in
+        let shows : IsOpenViewOf written w =
+        record {
+          row = after;
+          front = o.front;
+          gap = o.gap;
+          rest = omega (arith, o.rest, count);
+          gap_after = o.gap_after;
+          tail = o.tail;
+          room = o.room;
+        }
+        in
+        record {
+          pre = pre;
+          post = post;
+          place = p.3;
+          was = p.4 ∙ ap (λ (z : T). pre ++ z ∷ post)
+              same;
+          shown = found written w shows (ap (λ (z : BlockView T A). z.alloc) now)
+              (ap (λ (z : BlockView T A). z.cost) now);
+        }
+
+  -- In this module, the first `k` middle items of the open block `h` become front items.
+  module _ (h : Inside T A) (o : IsOpen h) (k : ℕ) (low : k ≤ length (open_view h).rest) where
+    -- `u` is how contracts see the open block `h` before its first `k` middle items are moved.
+    abbrev u : OpenView T A
+    u = open_view h
+
+    -- `moved_run b` is the open block `h` after the first `k` middle items of `h` have become front
+    -- items. The slots of `moved_run b` are the slots of the block `b`.
+    abbrev pub moved_run : Block T A → Inside T A
+    moved_run b = record h { block = b; front_end = h.front_end + k; rest_start = h.rest_start + k }
+
+    -- `moved_run-view b` is how contracts see the open block `moved_run b`. It differs from `u` in
+    -- two ways: the first `k` middle items have become the last `k` front items, and the cost is
+    -- the cost of the block `b`.
+    abbrev pub moved_run-view : Block T A → OpenView T A
+    moved_run-view b = record u
+        { front = u.front ++ take k u.rest; rest = drop k u.rest; cost = b.cost }
+
+    -- Suppose that the block `b` has the same allocator as before, and that its slots are, in this
+    -- order: the slots of the front items, the slots of the moved items, the gap, and all later
+    -- slots. Then contracts see the open block `moved_run b` as `moved_run-view b`.
+    moved_run-shows : (b : Block T A)
+        → b.slots ≡ filled_slots u.front
+        ++ (filled_slots (take k u.rest)
+        ++ (empty_slots u.gap ++ (filled_slots (drop k u.rest) ++ past_rest u)))
+        → b.alloc ≡ h.block.alloc → Found (moved_run b) (moved_run-view b)
+    moved_run-shows b now alloc =
+        let w : OpenView T A = moved_run-view b in
+        let few : length (take k u.rest) ≡ k = length-take-le k u.rest low in
+        let rest : length (drop k u.rest) ≡ length u.rest - k = length-drop k u.rest in
+        let more : length w.front ≡ length u.front + k =
+        omega (arith, length-append u.front (take k u.rest), few) in
+        let left : u.capacity - tail_end u ≡ w.capacity - tail_end w = omega (arith, more, rest) in
+        let after : b.slots ≡ slots_of w =
+        now ∙ (sym (append_assoc (filled_slots u.front) (filled_slots (take k u.rest))
+        (empty_slots u.gap ++ (filled_slots (drop k u.rest) ++ past_rest u)))
+        ∙ (ap (λ (r : List (Option T)). r
+        ++ (empty_slots u.gap ++ (filled_slots (drop k u.rest) ++ past_rest u)))
+        (sym (full-append u.front (take k u.rest)))
+        ∙ ap (λ (r : List (Option T)). filled_slots w.front
+        ++ (empty_slots u.gap ++ (filled_slots w.rest ++ r)))
+        (same-past u w refl refl left))) in
+        found (moved_run b) w
+        (record {
+          row = after;
+          front = omega (arith, o.front, more);
+          gap = omega (arith, o.gap);
+          rest = omega (arith, o.rest, rest);
+          gap_after = o.gap_after;
+          tail = o.tail;
+          room = o.room;
+        })
+        alloc refl
+
+    -- The slots from the first middle item onward are, in this order: the slots of the first `k`
+    -- middle items, the slots of the other middle items, and `past_rest u` (the slots after the
+    -- middle items).
+    cut : filled_slots u.rest ++ past_rest u ≡ filled_slots
+        (take k u.rest) ++ (filled_slots (drop k u.rest) ++ past_rest u)
+    cut =
+        ap (λ (l : List T). filled_slots l ++ past_rest u) (sym (take-append-drop k u.rest))
+        ∙ (ap (λ (r : List (Option T)). r ++ past_rest u)
+        (full-append (take k u.rest) (drop k u.rest)) ∙ append_assoc (filled_slots (take k u.rest))
+        (filled_slots (drop k u.rest)) (past_rest u))
+
+    -- The slots of the open block `h` are, in this order: the slots of the front items, the gap,
+    -- the slots of the items to be moved, and all later slots.
+    parted : h.block.slots ≡ filled_slots u.front
+        ++ (empty_slots u.gap
+        ++ (filled_slots (take k u.rest) ++ (filled_slots (drop k u.rest) ++ past_rest u)))
+    parted = o.row ∙ ap
+        (λ (r : List (Option T)). filled_slots u.front ++ (empty_slots u.gap ++ r)) cut
+
+    -- If there is no gap after the front items, then the first `k` middle items become front items
+    -- without being moved. Contracts see the resulting open block as `moved_run-view h.block`.
+    pub pass-step : u.gap ≡ 0 → Found (moved_run h.block) (moved_run-view h.block)
+    pass-step none =
+        moved_run-shows h.block
+        (parted ∙ (ap (λ (n : ℕ). filled_slots u.front
+        ++ (empty_slots n
+        ++ (filled_slots (take k u.rest) ++ (filled_slots (drop k u.rest) ++ past_rest u))))
+        none
+        ∙ ap (λ (n : ℕ). filled_slots u.front
+        ++ (filled_slots (take k u.rest)
+        ++ (empty_slots n ++ (filled_slots (drop k u.rest) ++ past_rest u))))
+        (sym none))) refl
+
+    -- If moving the first `k` middle items to the end of the front items results in the block `b`,
+    -- then contracts see the open block `moved_run b` as `moved_run-view b`.
+    pub move_down-step : (b : Block T A) {c : Cost}
+        → block_view b ≡ record (block_view h.block)
+        { slots = move_slots h.rest_start h.front_end k h.block.slots; cost = c }
+        → Found (moved_run b) (moved_run-view b)
+    move_down-step b now =
+        let few : length (filled_slots (take k u.rest)) ≡ k = length-full (take k u.rest)
+        ∙ length-take-le k u.rest low in
+        moved_run-shows b
+        (ap (λ (z : BlockView T A). z.slots) now
+        ∙ (ap (move_slots h.rest_start h.front_end k) parted
+        ∙ moved_left h.rest_start h.front_end k u.gap (filled_slots u.front)
+        (filled_slots (take k u.rest))
+        (filled_slots (drop k u.rest) ++ past_rest u) (sym (length-full u.front ∙ o.front))
+        (sym o.gap) (sym few))) (ap (λ (z : BlockView T A). z.alloc) now)

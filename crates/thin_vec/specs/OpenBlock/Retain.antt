@@ -1,0 +1,91 @@
+-- These definitions describe how items that fail a test are removed from an open block (the block
+-- of a list during an edit), as in `Vec::retain_mut`.
+use Rattle.std.specs.Prelude.{◌≡◌, ℕ, ◌<◌, ◌==◌, List, [], ◌∷◌, ◌++◌, Bool, true, false, drop, if◌then◌else◌, length, take}
+use Rattle.thin_block.specs.Cost.{add_moves}
+use Rattle.thin_vec.specs.Edits.Retain.{TestResults, TestsInTurn, flags_of, items_where, moves_of_retain, all_kept, count_true}
+use Rattle.thin_vec.specs.Open.{OpenView}
+
+-- `R s x b t y` describes one call to a test with the item `x`. The call returns `b` (`true`: keep
+-- the item), changes the state of the test from `s` to `t`, and changes the item from `x` to `y`.
+module _ {S T : Type 0} (R : S → T → Bool → S → T → Type 0) where
+  -- `TestsAt k s xs b t ys` states that the item at index `k` of the list `xs` was tested. `b` is
+  -- true if the item is to be kept. The test changed its state from `s` to `t`, and the list from
+  -- `xs` to `ys`.
+  pub record TestsAt (k : ℕ) (s : S) (xs : List T) (b : Bool) (t : S) (ys : List T) : Type 0 where
+    pub before : List T
+    pub item : T
+    pub left : T
+    pub after : List T
+    pub place : length before ≡ k
+    pub was : xs ≡ before ++ item ∷ after
+    pub asked : R s item b t left
+    pub now : ys ≡ before ++ left ∷ after
+
+  -- `IsRejectedFirst s xs t ys` describes the last step of a series of tests. If the list `xs` of
+  -- untested items is empty, nothing happens. Otherwise its first item fails the test, which
+  -- changes the state from `s` to `t`, and the list from `xs` to `ys`.
+  abbrev pub IsRejectedFirst : S → List T → S → List T → Type 0
+  IsRejectedFirst s [] t ys = (ys ≡ []) × (t ≡ s)
+  IsRejectedFirst s (x ∷ xs) t ys = (y : T) × R s x false t y × (ys ≡ y ∷ xs)
+
+  -- `TestsUpTo m s xs t ys` states that the first `m` items of `xs` were tested and kept, and that
+  -- the item at index `m`, if there is one, failed the test. The tests changed their state from `s`
+  -- to `t`, and the list from `xs` to `ys`.
+  pub record TestsUpTo (m : ℕ) (s : S) (xs : List T) (t : S) (ys : List T) : Type 0 where
+    pub run : List T
+    pub left : List T
+    pub after : List T
+    pub end : List T
+    pub between : S
+    pub reached : length left ≡ m
+    pub was : xs ≡ run ++ after
+    pub asked : TestsInTurn R s run (all_kept left) between
+    pub stops : IsRejectedFirst between after t end
+    pub now : ys ≡ left ++ end
+
+  -- `SeeksRejected s v t w` describes a search in an open block for the next item that fails a
+  -- test. It changes the block from `v` to `w`, and the state of the test from `s` to `t`.
+  --
+  -- The middle items are tested in order, and the kept items are added to the front. An item that
+  -- fails the test becomes the first middle item of `w`.
+  pub record SeeksRejected {A : Type 0} (s : S) (v : OpenView T A) (t : S)
+      (w : OpenView T A) : Type 0 where
+    pub count : ℕ
+    pub left : List T
+    pub run : TestsUpTo count s v.rest t left
+    pub now : w ≡ record v {
+      front = v.front ++ take count left;
+      rest = drop count left;
+      cost = if v.gap == 0 then v.cost else add_moves count v.cost;
+    }
+
+  -- `RetainsSome s v t w` holds if testing some or all middle items of the open block `v` turned
+  -- `v` into `w`. The kept items were appended to the front items, and the other tested items were
+  -- removed. The state of the test changed from `s` to `t`.
+  pub record RetainsSome {A : Type 0} (s : S) (v : OpenView T A) (t : S)
+      (w : OpenView T A) : Type 0 where
+    pub done : List T
+    pub results : TestResults T
+    pub rest : v.rest ≡ done ++ w.rest
+    pub asked : TestsInTurn R s done results t
+    pub gap : 0 < w.gap
+    pub now : w ≡ record v {
+      front = v.front ++ items_where true results;
+      gap = w.gap;
+      rest = w.rest;
+      cost = add_moves (count_true (flags_of results)) v.cost;
+    }
+
+  -- `RetainsRest s v t w` holds if testing all middle items of the open block `v` turned `v` into
+  -- `w`. The kept items were appended to the front items, and the other middle items were removed.
+  -- The state of the test changed from `s` to `t`.
+  pub record RetainsRest {A : Type 0} (s : S) (v : OpenView T A) (t : S)
+      (w : OpenView T A) : Type 0 where
+    pub results : TestResults T
+    pub asked : TestsInTurn R s v.rest results t
+    pub now : w ≡ record v {
+      front = v.front ++ items_where true results;
+      gap = w.gap;
+      rest = [];
+      cost = add_moves (moves_of_retain (flags_of results)) v.cost;
+    }
