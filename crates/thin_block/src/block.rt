@@ -89,7 +89,7 @@ impl<T, A: Allocator> Block<T, A> {
         ensures in_bounds { result ≤ length self.now.slots }
         // This clause follows from the other clauses.
         ensures fits { Fits T.row result }
-        ensures slots_fit { Fits T.row (length self.now.slots) }
+        ensures bounds { Fits T.row (length self.now.slots) }
     {
         let at = self.at;
         unsafe { *at.add(1) }

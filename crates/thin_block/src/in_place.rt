@@ -68,7 +68,7 @@ impl<T, A: Allocator> Block<T, A> {
         requires len { len ≡ self.old.len }
         requires count { len / M * M ≡ len }
         requires room { K ≤ len / M }
-        ensures reallocated { Reallocates self.old self.new alloc.now cap result }
+        ensures changes { Reallocates self.old self.new alloc.now cap result }
     {
         let old = self.cap();
         let held = K + old.div_ceil(M);

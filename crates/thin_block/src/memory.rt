@@ -133,13 +133,13 @@ impl<T, A: Allocator> Block<T, A> {
     #[inline(always)]
     fn resize(&mut self, alloc: &A, len: usize, cap: usize) -> Result<(), ThinVecError>
         requires same_allocator { IsAllocatedBy self.old.alloc alloc.now }
-        requires block { 0 < length self.old.slots }
+        requires nonempty { 0 < length self.old.slots }
         requires nonzero { 0 < cap }
         requires fits { Fits T.row cap }
         requires packed { IsPacked self.old.slots self.old.len }
         requires len_le_cap { self.old.len ≤ cap }
         requires len { len ≡ self.old.len }
-        ensures reallocated { Reallocates self.old self.new alloc.now cap result }
+        ensures changes { Reallocates self.old self.new alloc.now cap result }
     {
         match item_size::<T>() {
             1 if len >= LONG * 8 && len % 8 == 0 => self.resize_in_place::<8, 2>(alloc, len, cap),

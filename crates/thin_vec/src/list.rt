@@ -119,7 +119,7 @@ impl<T, A: Allocator, G: Growth> ThinVec<T, A, G> {
     /// Returns whether the list has no items.
     pub fn is_empty(&self) -> bool
         ensures value { IsTrue result ↔ (self.now.items ≡ []) }
-        ensures test { result ≡ (length self.now.items == 0) }
+        ensures len { result ≡ (length self.now.items == 0) }
         ensures bounds { IsBounded T.row self.now }
     {
         self.len() == 0

@@ -86,7 +86,7 @@ fn take_ends<T: Drop, A: Allocator, G: Growth>(
     requires room { vec_len answers.old + vec_len steps ≤ vec_capacity answers.old }
     ensures items { answers.new.items ≡ answers.old.items ++ ends_taken
         (drain_rest drain.old) steps.items }
-    ensures keeps { DrainKeeps drain.old drain.new }
+    ensures preserved { DrainKeeps drain.old drain.new }
 {
     for step in steps {
         match answers.push(take_end(drain, step)) {
@@ -100,7 +100,7 @@ fn take_ends<T: Drop, A: Allocator, G: Growth>(
 fn take_end<T, A: Allocator, G: Growth>(drain: &mut Drain<'_, T, A, G>, step: Step) -> Option<T>
     ensures value { (steps : List Step) → ends_taken (drain_rest drain.old) (step ∷ steps)
         ≡ result ∷ ends_taken (drain_rest drain.new) steps }
-    ensures keeps { DrainKeeps drain.old drain.new }
+    ensures preserved { DrainKeeps drain.old drain.new }
 {
     match step {
         Step::Front => drain.next(),

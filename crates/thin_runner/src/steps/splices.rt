@@ -67,7 +67,7 @@ fn take_ends<T: Drop, A: Allocator, G: Growth>(
     requires room { vec_len answers.old + vec_len steps ≤ vec_capacity answers.old }
     ensures items { answers.new.items ≡ answers.old.items ++ ends_taken
         (splice_rest splice.old) steps.items }
-    ensures keeps { SpliceKeeps splice.old splice.new }
+    ensures preserved { SpliceKeeps splice.old splice.new }
 {
     for step in steps {
         match answers.push(take_end(splice, step)) {
@@ -84,7 +84,7 @@ fn take_end<T, A: Allocator, G: Growth>(
 ) -> Option<T>
     ensures value { (steps : List Step) → ends_taken (splice_rest splice.old) (step ∷ steps)
         ≡ result ∷ ends_taken (splice_rest splice.new) steps }
-    ensures keeps { SpliceKeeps splice.old splice.new }
+    ensures preserved { SpliceKeeps splice.old splice.new }
 {
     match step {
         Step::Front => splice.next(),

@@ -80,12 +80,12 @@ impl<T: Drop, A: Allocator, G: Growth> ThinVec<T, A, G> {
         ensures runs_back { DrainsInReverse result }
 
         // Until the `Drain` is dropped, and for ever if it is leaked, the list is empty.
-        ensures list { drain_list result
+        ensures changes { drain_list result
             ≡ record self.old { items = []; capacity = 0; cost = no_cost } }
 
         // After the `Drain` is dropped, the list has the following items, capacity, allocator and
         // recorded cost.
-        ensures kept { (drain_block result).front ++ (drain_block result).tail
+        ensures items { (drain_block result).front ++ (drain_block result).tail
             ≡ remove_range self.old.items start end }
         ensures capacity { (drain_block result).capacity ≡ self.old.capacity }
         ensures alloc { (drain_list result).alloc ≡ self.old.alloc }

@@ -151,7 +151,7 @@ impl<T: Drop, A: Allocator, G: Growth> ThinVec<T, A, G> {
         ensures rest { extract_rest result ≡ slice_range self.old.items start end }
         ensures tail { (extract_block result).tail ≡ drop end self.old.items }
         ensures gap { (extract_block result).gap ≡ 0 }
-        ensures callee { extract_callee result ≡ pick }
+        ensures value { extract_callee result ≡ pick }
 
         // The `ExtractIf` borrows this list: its reference to the list has the same ghost name as
         // `self`. The capacity, the allocator and the recorded cost of the `ExtractIf` are those

@@ -274,7 +274,7 @@ fn collect_rest<T, A: Allocator, I: Iterator<Item = T>>(
 ) -> Collected<T, I, A>
     requires can_next { I.can_next iter }
     requires finite { IsFinite (I.remaining iter) }
-    ensures gave { (xs : List T)
+    ensures runs { (xs : List T)
         × (result.held.items ++ option_to_list result.in_hand ≡ first ∷ xs)
         × MatchOption result.in_hand (YieldsThen I.next_gives iter xs None result.rest)
         (λ _. Yields I.next_gives iter xs result.rest) }

@@ -58,7 +58,7 @@ impl<T, A: Allocator, G: Growth> ThinVec<T, A, G> {
         // the iterator `iter`, which yields the new items.
         ensures rest { splice_rest result ≡ slice_range self.old.items start end }
         ensures range { splice_range result ≡ end - start }
-        ensures iter { splice_iter result ≡ iter }
+        ensures value { splice_iter result ≡ iter }
 
         // The `Splice` owns the items before and after the range. Its capacity, allocator and
         // recorded cost are those of the list before the call.

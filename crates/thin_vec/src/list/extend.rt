@@ -118,7 +118,7 @@ impl<T, A: Allocator, G: Growth> ThinVec<T, A, G> {
         ensures capacity { IsKeptOrChosen G.rule T.row self.old.capacity self.new.capacity
             (length self.new.items) }
         ensures cost { CostsInserting self.old self.new 0 }
-        ensures requests { self.new.cost.blocks
+        ensures blocks { self.new.cost.blocks
             ≤ self.old.cost.blocks + (length self.new.items - self.old.capacity) }
         ensures preserved { PreservesList T.row self.old self.new }
     {
@@ -256,7 +256,7 @@ impl<T, A: Allocator> ThinVec<T, A> {
         ensures in_hand { IfErr result (λ error. MatchOption error.in_hand
             (IsNew error.list alloc × (error.rest ≡ iter))
             (λ _. length error.list.items ≡ error.list.capacity)) }
-        ensures err_new { IfErr result
+        ensures err { IfErr result
             (λ error. IsCollectedList doubling T.row alloc error.list (I.remaining iter)) }
         ensures cause { IfErr result
             (λ error. IsCollectCause doubling T.row (I.remaining error.rest) error) }

@@ -182,7 +182,7 @@ impl<T, A: Allocator, G: Growth> ThinVec<T, A, G> {
     /// Rust's `Vec` has a method of this name, but the Rust crate thin-vec does not.
     pub fn pop_if<P: FnOnce(&mut T) -> bool>(&mut self, predicate: P) -> Option<T>
         requires callable { P.IsAlwaysCallable predicate }
-        ensures popped { PopsIf P.FnOnce self.old.items self.new.items predicate result }
+        ensures value { PopsIf P.FnOnce self.old.items self.new.items predicate result }
         ensures changes { self.new ≡ record self.old { items = self.new.items } }
         ensures bounds { IsBounded T.row self.old × IsBounded T.row self.new }
     {

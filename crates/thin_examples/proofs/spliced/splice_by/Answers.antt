@@ -15,6 +15,6 @@ returns g c =
       runs = subst (λ list. OnOk c.finish.result (WholeRun steps c.args.iter
           (λ p. list.items ≡ (take c.args.range.0 old ++ p.items) ++ drop c.args.range.1 old)))
           left
-          (run_between steps c.finish.result c.finish.new.self.0.items c.splice.ensures.iter
+          (run_between steps c.finish.result c.finish.new.self.0.items c.splice.ensures.value
           c.splice.ensures.front c.splice.ensures.tail c.finish.ensures.runs);
     }

@@ -12,4 +12,4 @@ returns-clause-ok g c =
     let larger = c.requires.cap_grows in
     on-ok c.resize.result
     (λ e. slots-are e (packed-grown c.args.self.now.slots c.args.self.now.len c.requires.packed
-    c.args.cap (omega arith))) c.resize.ensures.reallocated.ok
+    c.args.cap (omega arith))) c.resize.ensures.changes.ok

@@ -14,7 +14,7 @@ pub resize-requires-clause-fits : goal.resize-requires-clause-fits
 resize-requires-clause-fits g c =
     let smaller = c.requires.cap_shrinks in
     fits-less (param 0 g.row.T) c.args.cap (length c.args.self.now.slots)
-    c.len-len.ensures.slots_fit (omega arith)
+    c.len-len.ensures.bounds (omega arith)
 
 -- If `shrink` succeeds, the new list of slots consists of the first `cap` slots of the old block.
 pub returns-clause-ok : goal.returns-clause-ok
@@ -22,4 +22,4 @@ returns-clause-ok g c =
     let smaller = c.requires.cap_shrinks in
     on-ok c.resize.result
     (λ e. slots-are e (packed-shrunk c.args.self.now.slots c.args.self.now.len c.requires.packed
-    c.args.cap c.requires.len_le_cap (omega arith))) c.resize.ensures.reallocated.ok
+    c.args.cap c.requires.len_le_cap (omega arith))) c.resize.ensures.changes.ok

@@ -21,7 +21,7 @@ loop-init g c =
     ∙ c.new-answers.ensures.items in
     let same : extract_results ask (extract_callee extract).0 (a.count - 0) (extract_rest extract)
     ≡ results =
-    λ i. extract_results ask (e.callee i).0 (all i) (e.rest i) in
+    λ i. extract_results ask (e.value i).0 (all i) (e.rest i) in
     record {
       room = omega (arith, c.in-Ok.ensures.ok, c.reserve.ensures.len, c.new-answers.ensures.len);
       answers = λ i. none i ++ handed_out (all i) (items_where false (same i));

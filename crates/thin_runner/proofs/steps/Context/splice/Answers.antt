@@ -14,12 +14,12 @@ use Rattle.thin_runner.proofs.steps.Context.splice.Goals as goal
 
 pub returns-in-Ok-finish : goal.returns-in-Ok-finish
 returns-in-Ok-finish g c =
-    let k = c.take_ends.ensures.keeps in
+    let k = c.take_ends.ensures.preserved in
     let s = c.splice-splice.ensures in
     let old = c.args.list.now in
     let start = c.args.start in
     let end = c.args.end in
-    let iter = k.iter ∙ s.iter in
+    let iter = k.iter ∙ s.value in
     let items = ap hinted_items iter ∙ c.new.ensures.items in
     let claim = ap hinted_claim iter ∙ c.new.ensures.lower in
     let drawn = splice_iter c.take_ends.new.splice in
@@ -53,12 +53,12 @@ returns-in-Ok-finish g c =
 
 pub returns-in-Err-finish : goal.returns-in-Err-finish
 returns-in-Err-finish g c =
-    let k = c.take_ends.ensures.keeps in
+    let k = c.take_ends.ensures.preserved in
     let s = c.splice-splice.ensures in
     let old = c.args.list.now in
     let start = c.args.start in
     let end = c.args.end in
-    let iter = k.iter ∙ s.iter in
+    let iter = k.iter ∙ s.value in
     let items = ap hinted_items iter ∙ c.new.ensures.items in
     let claim = ap hinted_claim iter ∙ c.new.ensures.lower in
     let drawn = splice_iter c.take_ends.new.splice in

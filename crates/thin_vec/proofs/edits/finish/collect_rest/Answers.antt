@@ -73,8 +73,8 @@ loop-refused-preserved g c =
       fewer = omega (arith, l.invariant.fewer, goes.2);
     }
 
-pub returns-in-Err-clause-gave : goal.returns-in-Err-clause-gave
-returns-in-Err-clause-gave g c =
+pub returns-in-Err-clause-runs : goal.returns-in-Err-clause-runs
+returns-in-Err-clause-runs g c =
     let before = c.loop-refused.invariant.gave in (
       before.0,
       (λ i. c.in-Err.ensures.items i ++ c.in-Err.ensures.value_returned i ∷ []) ∙ before.1,

@@ -59,11 +59,11 @@ invariant_of-other g c = (cut g c).thin
 
 pub returns-clause-bounds : goal.returns-clause-bounds
 returns-clause-bounds g c =
-    within-kept _ _ _ _ _ _ c.self.invariant c.self.view_is c.len-len.ensures.slots_fit (joined g c)
+    within-kept _ _ _ _ _ _ c.self.invariant c.self.view_is c.len-len.ensures.bounds (joined g c)
 
 pub returns-clause-other_bounds : goal.returns-clause-other_bounds
 returns-clause-other_bounds g c =
-    within-kept _ _ _ _ _ _ c.other.invariant c.other.view_is c.len.ensures.slots_fit (cut g c)
+    within-kept _ _ _ _ _ _ c.other.invariant c.other.view_is c.len.ensures.bounds (cut g c)
 
 pub returns-clause-changes : goal.returns-clause-changes
 returns-clause-changes g c =

@@ -36,6 +36,6 @@ returns g c = (
     writes_back = tt;
     value = lent g c;
     len = ap length (lent g c);
-    bounds = within-of _ _ _ _ c.self.invariant c.self.view_is c.len-len.ensures.slots_fit;
+    bounds = within-of _ _ _ _ c.self.invariant c.self.view_is c.len-len.ensures.bounds;
   },
 )

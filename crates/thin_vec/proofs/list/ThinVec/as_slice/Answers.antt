@@ -16,5 +16,5 @@ returns g c =
       value = thin-run c.self.inside.block c.self.inside.alloc c.slice.result.now c.len.result
           c.self.invariant c.len.ensures.value c.slice.ensures.value
           ∙ ap (λ v. v.items) c.self.view_is;
-      bounds = within-of _ _ _ _ c.self.invariant c.self.view_is c.len.ensures.slots_fit;
+      bounds = within-of _ _ _ _ c.self.invariant c.self.view_is c.len.ensures.bounds;
     }

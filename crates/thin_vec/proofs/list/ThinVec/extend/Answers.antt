@@ -59,7 +59,7 @@ returns-in-Ok-clause-cost g c =
         c.size_hint.ensures.lower,
         omega (
           arith,
-          e.requests,
+          e.blocks,
           ap (λ k. k.blocks) c.in-Ok.ensures.cost,
           cost_after_resize-blocks v u.capacity,
           c.in-Ok.ensures.room,

@@ -39,13 +39,13 @@ returns-then-is_empty-clause-items g c = grind (arith, common_steps)
 
 pub returns-clause-preserved : goal.returns-clause-preserved
 returns-clause-preserved g c =
-    keeps-settled _ _ c.self.invariant c.self.view_is c.len-len.ensures.slots_fit (facts g c)
+    keeps-settled _ _ c.self.invariant c.self.view_is c.len-len.ensures.bounds (facts g c)
     (ap (λ v. v.cost) c.store_len.ensures.changes
     ∙ ap (λ v. v.cost) c.copy_in.ensures.changes) (refl, refl)
 
 pub returns-then-is_empty-clause-preserved : goal.returns-then-is_empty-clause-preserved
 returns-then-is_empty-clause-preserved g c =
-    let same = within-of _ _ _ _ c.self.invariant c.self.view_is c.len-len.ensures.slots_fit in
+    let same = within-of _ _ _ _ c.self.invariant c.self.view_is c.len-len.ensures.bounds in
     record {
       alloc = refl;
       never_less = omega arith;

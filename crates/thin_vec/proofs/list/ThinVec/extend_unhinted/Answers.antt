@@ -190,8 +190,8 @@ returns-in-Err-clause-cost g c =
     rw c.in-Err.ensures.err
     (adding-join 0 0 0 (omega arith) held.cost spare low (omega (arith, kept)) (omega (arith, some)))
 
-pub returns-in_default-clause-requests : goal.returns-in_default-clause-requests
-returns-in_default-clause-requests g c =
+pub returns-in_default-clause-blocks : goal.returns-in_default-clause-blocks
+returns-in_default-clause-blocks g c =
     let now = c.extend_reserved-left.ensures.items in
     omega (
       arith,
@@ -201,8 +201,8 @@ returns-in_default-clause-requests g c =
       length-append c.loop-item.self.items now.0,
     )
 
-pub returns-in-Err-clause-requests : goal.returns-in-Err-clause-requests
-returns-in-Err-clause-requests g c =
+pub returns-in-Err-clause-blocks : goal.returns-in-Err-clause-blocks
+returns-in-Err-clause-blocks g c =
     let now = c.extend_reserved-left.ensures.items in
     omega (
       arith,

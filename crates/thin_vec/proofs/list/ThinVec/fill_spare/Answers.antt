@@ -91,7 +91,7 @@ returns-clause-filled_by g c =
 
 pub returns-clause-bounds : goal.returns-clause-bounds
 returns-clause-bounds g c =
-    within-kept _ _ _ _ _ _ c.self.invariant c.self.view_is c.len-len.ensures.slots_fit (facts g c)
+    within-kept _ _ _ _ _ _ c.self.invariant c.self.view_is c.len-len.ensures.bounds (facts g c)
 
 pub returns-clause-cheap : goal.returns-clause-cheap
 returns-clause-cheap g c = grind (arith, common_steps)

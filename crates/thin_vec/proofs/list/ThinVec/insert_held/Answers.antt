@@ -76,9 +76,9 @@ cost g c =
 pub returns-in-Some-in_hand-clause-placed : goal.returns-in-Some-in_hand-clause-placed
 returns-in-Some-in_hand-clause-placed g c =
     let gave = drawn-after g.I.Iterator.next_gives c.args.iter c.next.new.self
-    c.collect_rest-held.result.rest c.in-Some.first c.collect_rest-held.ensures.gave.0
+    c.collect_rest-held.result.rest c.in-Some.first c.collect_rest-held.ensures.runs.0
     c.collect_rest-held.result.held.items c.collect_rest-held.result.in_hand c.in-Some.ensures.steps
-    c.collect_rest-held.ensures.gave.1 c.collect_rest-held.ensures.gave.2 in
+    c.collect_rest-held.ensures.runs.1 c.collect_rest-held.ensures.runs.2 in
     let asked = c.collect_rest-held.ensures.can_next
     (subst IsSome (sym c.in-Some-in_hand.is) refl) in
     inl (
@@ -114,9 +114,9 @@ pub returns-in-Err-clause-placed : goal.returns-in-Err-clause-placed
 returns-in-Err-clause-placed g c =
     let here = (goal.at.returns-in-Err-clause-placed g c).In-Err in
     let gave = drawn-after g.I.Iterator.next_gives c.args.iter c.next.new.self
-    c.collect_rest-held.result.rest c.in-Some.first c.collect_rest-held.ensures.gave.0
+    c.collect_rest-held.result.rest c.in-Some.first c.collect_rest-held.ensures.runs.0
     c.collect_rest-held.result.held.items c.collect_rest-held.result.in_hand c.in-Some.ensures.steps
-    c.collect_rest-held.ensures.gave.1 c.collect_rest-held.ensures.gave.2 in
+    c.collect_rest-held.ensures.runs.1 c.collect_rest-held.ensures.runs.2 in
     inr (refl, more g here, rw c.in_default-in_hand.is at gave)
 
 pub returns-in-Err-clause-succeeds : goal.returns-in-Err-clause-succeeds
@@ -220,9 +220,9 @@ returns-clause-added g c =
 pub returns-clause-items : goal.returns-clause-items
 returns-clause-items g c =
     let gave = drawn-after g.I.Iterator.next_gives c.args.iter c.next.new.self
-    c.collect_rest-held.result.rest c.in-Some.first c.collect_rest-held.ensures.gave.0
+    c.collect_rest-held.result.rest c.in-Some.first c.collect_rest-held.ensures.runs.0
     c.collect_rest-held.result.held.items c.collect_rest-held.result.in_hand c.in-Some.ensures.steps
-    c.collect_rest-held.ensures.gave.1 c.collect_rest-held.ensures.gave.2 in (
+    c.collect_rest-held.ensures.runs.1 c.collect_rest-held.ensures.runs.2 in (
       c.collect_rest-held.result.held.items,
       (c.collect_rest-held.result.rest, rw c.in_default-in_hand.is at gave),
       items g ((goal.at.returns-clause-items g c).After-close)

@@ -69,6 +69,6 @@ returns-clause-items g c = (facts g c).items
 
 pub returns-clause-preserved : goal.returns-clause-preserved
 returns-clause-preserved g c =
-    keeps-settled _ _ c.self.invariant c.self.view_is c.len-len.ensures.slots_fit (facts g c)
+    keeps-settled _ _ c.self.invariant c.self.view_is c.len-len.ensures.bounds (facts g c)
     (ap (λ v. v.cost) c.put_and_set_len.ensures.changes
     ∙ ap (λ v. add_moves 1 v.cost) c.move_run.ensures.changes) (refl, refl)

@@ -18,8 +18,8 @@ last xs n x y all is = (
       ∙ take-suc-set xs n y (omega (arith, all)),
 )
 
-pub returns-then-predicate-clause-popped : goal.returns-then-predicate-clause-popped
-returns-then-predicate-clause-popped g c =
+pub returns-then-predicate-clause-value : goal.returns-then-predicate-clause-value
+returns-then-predicate-clause-value g c =
     let xs = c.args.self.now.items in
     let n = c.len-len.result - 1 in
     let x = c.index_mut.result.now in
@@ -41,8 +41,8 @@ returns-then-predicate-clause-popped g c =
       same.0,
     )
 
-pub returns-clause-popped : goal.returns-clause-popped
-returns-clause-popped g c =
+pub returns-clause-value : goal.returns-clause-value
+returns-clause-value g c =
     let xs = c.args.self.now.items in
     let n = c.len-len.result - 1 in
     let x = c.index_mut.result.now in

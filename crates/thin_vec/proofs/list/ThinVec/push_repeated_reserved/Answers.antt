@@ -55,7 +55,7 @@ returns-clause-items g c =
 
 pub returns-clause-bounds : goal.returns-clause-bounds
 returns-clause-bounds g c =
-    within-kept _ _ _ _ _ _ c.self.invariant c.self.view_is c.len-len.ensures.slots_fit (facts g c)
+    within-kept _ _ _ _ _ _ c.self.invariant c.self.view_is c.len-len.ensures.bounds (facts g c)
 
 pub returns-clause-changes : goal.returns-clause-changes
 returns-clause-changes g c =

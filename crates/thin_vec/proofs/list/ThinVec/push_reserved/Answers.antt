@@ -34,5 +34,5 @@ returns-clause-len g c = ap length (returns-clause-items g c) ∙ length_push _ 
 
 pub returns-clause-preserved : goal.returns-clause-preserved
 returns-clause-preserved g c =
-    keeps-settled _ _ c.self.invariant c.self.view_is c.len-len.ensures.slots_fit (facts g c)
+    keeps-settled _ _ c.self.invariant c.self.view_is c.len-len.ensures.bounds (facts g c)
     (ap (λ v. v.cost) c.put_and_set_len.ensures.changes) (refl, refl)

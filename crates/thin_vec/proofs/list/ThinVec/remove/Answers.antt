@@ -55,7 +55,7 @@ returns-clause-items g c = (facts g c).items ∙ ap (λ v. remove v.items c.args
 
 pub returns-clause-preserved : goal.returns-clause-preserved
 returns-clause-preserved g c =
-    keeps-settled _ _ c.self.invariant c.self.view_is c.len-len.ensures.slots_fit (facts g c)
+    keeps-settled _ _ c.self.invariant c.self.view_is c.len-len.ensures.bounds (facts g c)
     (ap (λ v. v.cost) c.store_len.ensures.changes
     ∙ (ap (λ v. v.cost) c.move_down.ensures.changes
     ∙ ap (λ v. add_moves (c.len-len.result - (c.args.index + 1)) v.cost)

@@ -69,6 +69,6 @@ returns-clause-cost g c = search (arith, ◌∙◌)
 
 pub returns-clause-preserved : goal.returns-clause-preserved
 returns-clause-preserved g c =
-    keeps-settled _ _ c.self.invariant c.self.view_is c.len-last.ensures.slots_fit (facts g c)
+    keeps-settled _ _ c.self.invariant c.self.view_is c.len-last.ensures.bounds (facts g c)
     (ap (λ v. v.cost) c.store_len.ensures.changes
     ∙ ap (λ v. v.cost) c.swap_take-value.ensures.changes) (refl, refl)

@@ -83,7 +83,7 @@ returns-clause-items g c = (facts g c).items
 
 pub returns-clause-bounds : goal.returns-clause-bounds
 returns-clause-bounds g c =
-    let before = within-of _ _ _ _ c.self.invariant c.self.view_is c.len-old.ensures.slots_fit in (
+    let before = within-of _ _ _ _ c.self.invariant c.self.view_is c.len-old.ensures.bounds in (
       before,
       within-like _ _ _ before (facts g c).cap
           (omega (

@@ -44,7 +44,7 @@ collected g c =
         c.size_hint.ensures.lower,
         omega (
           arith,
-          e.requests,
+          e.blocks,
           ap (λ k. k.blocks) c.in-Ok.ensures.cost,
           cost_after_resize-blocks c.new-list.result u.capacity,
           c.in-Ok.ensures.room,
@@ -62,12 +62,12 @@ pub returns-in-Ok-extend_unhinted-clause-new : goal.returns-in-Ok-extend_unhinte
 returns-in-Ok-extend_unhinted-clause-new g c =
     collected g ((goal.at.returns-in-Ok-extend_unhinted-clause-new g c).After-extend_unhinted)
 
-pub returns-in-Err-extend_unhinted-clause-err_new : goal.returns-in-Err-extend_unhinted-clause-err_new
-returns-in-Err-extend_unhinted-clause-err_new g c =
-    collected g ((goal.at.returns-in-Err-extend_unhinted-clause-err_new g c).After-extend_unhinted)
+pub returns-in-Err-extend_unhinted-clause-err : goal.returns-in-Err-extend_unhinted-clause-err
+returns-in-Err-extend_unhinted-clause-err g c =
+    collected g ((goal.at.returns-in-Err-extend_unhinted-clause-err g c).After-extend_unhinted)
 
-pub returns-in-Err-clause-err_new : goal.returns-in-Err-clause-err_new
-returns-in-Err-clause-err_new g c =
+pub returns-in-Err-clause-err : goal.returns-in-Err-clause-err
+returns-in-Err-clause-err g c =
     let none = ap (λ v. v.capacity) c.in-Err.ensures.err ∙ c.new-list.ensures.new.capacity in
     let least = exact-same (param 0 g.row.T) 0 0 (omega arith) in
     record {

@@ -45,6 +45,6 @@ returns g c =
         value = sym (get_or_from_slice_get c.args.self.now.items c.args.index c.slot_mut.result.now
             c.slot_mut.result.now item);
         found = item;
-        bounds = within-of _ _ _ _ c.self.invariant c.self.view_is c.len-len.ensures.slots_fit;
+        bounds = within-of _ _ _ _ c.self.invariant c.self.view_is c.len-len.ensures.bounds;
       },
     )
