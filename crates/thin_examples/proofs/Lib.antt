@@ -1,7 +1,2 @@
--- These modules contain lemmas for the example functions. The lemmas are about `retain`,
--- `retain_mut`, `dedup_by`, splices, and syntax trees.
-mod MovesLemmas
-mod SpliceLemmas
+-- A lemma about the number of nodes of a tree.
 mod TreeLemmas
-mod KeeperLemmas
-mod DedupLemmas

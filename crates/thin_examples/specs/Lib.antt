@@ -1,8 +1,8 @@
 -- Definitions for the contracts of this crate:
 --
--- - `SyntaxTree`: the nodes of a syntax tree
--- - `LastDigits`: the last decimal digit of a number
--- - `Keepers`: values that decide which items of a list are kept
-pub mod SyntaxTree
-pub mod LastDigits
-pub mod Keepers
+-- - `EverySecond`: every second item of a list
+-- - `ListsByKey`: the items of the lists in a map
+-- - `Tree`: the nodes of a syntax tree
+pub mod EverySecond
+pub mod ListsByKey
+pub mod Tree

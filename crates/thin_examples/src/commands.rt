@@ -1,7 +1,6 @@
-//! Example functions that carry out commands, such as a push of 5, on a list. Their contracts say
-//! which items the list has afterwards. These contracts follow from the main theorem of the crate
-//! `thin_runner`.
-ghost use Rattle.std.specs.Prelude.{◌≡◌, [], ◌∷◌, ◌++◌, All, OnOk, fold};
+//! Examples that carry out commands on a list. Their contracts follow from the main theorem of the
+//! crate `thin_runner`.
+ghost use Rattle.std.specs.Prelude.{◌≡◌, ◌%◌, ◌==◌, [], ◌∷◌, ◌++◌, All, OnOk, fold};
 ghost use Rattle.thin_vec.specs.List.Clones.{ClonesEqual};
 ghost use Rattle.thin_runner.specs.Plain.{items_after};
 ghost use Rattle.thin_runner.specs.Replies.{IsGranted};
@@ -13,9 +12,7 @@ use thin_runner::judge::Judge;
 use thin_runner::runner::run;
 use thin_vec::{Growth, ThinVec, ThinVecError};
 
-/// Carries out four commands on `list`: the first three push 1, 2 and 3, and the last one pops an
-/// item. If the list is empty before the call, and the call succeeds, then the list contains
-/// exactly 1 and 2 afterwards.
+/// Carries out four commands on `list`: three pushes of 1, 2 and 3, and a pop.
 ///
 /// # Errors
 ///
@@ -58,6 +55,41 @@ pub fn carry_out<T: Clone + Eq, A: Allocator + Copy, G: Growth, J: Judge<T>>(
     match run(alloc, list, commands, &mut replies, judge) {
         Ok(()) => all_granted(replies.as_slice()),
         Err(cause) => Err(cause),
+    }
+}
+
+/// A judge decides in place of a closure which items a command keeps or removes. For this one,
+/// the even numbers pass each test, and equal numbers are repeated.
+#[derive(Clone, Copy)]
+pub struct Evens;
+
+impl Judge<u64> for Evens {
+    ghost model = { record {
+      look = λ j x. (x % 2 == 0, j);
+      keep = λ j x. (x % 2 == 0, x, j);
+      same = λ j x y. (x == y, x, y, j);
+      key = λ j x. (x, x, j);
+      take = λ j x. (x % 2 == 0, x, j);
+    } };
+
+    fn look(&mut self, item: &u64) -> bool {
+        *item % 2 == 0
+    }
+
+    fn keep(&mut self, item: &mut u64) -> bool {
+        *item % 2 == 0
+    }
+
+    fn same(&mut self, later: &mut u64, kept: &mut u64) -> bool {
+        *later == *kept
+    }
+
+    fn key(&mut self, item: &mut u64) -> u64 {
+        *item
+    }
+
+    fn take(&mut self, item: &mut u64) -> bool {
+        *item % 2 == 0
     }
 }
 

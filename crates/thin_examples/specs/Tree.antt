@@ -1,0 +1,25 @@
+-- The kind, the children and the node count of a node of a tree. The node count is the number of
+-- nodes of the tree whose root is the node.
+use Rattle.std.specs.Prelude.{ℕ, ◌+◌, sum}
+use Rattle.std.specs.declared.alloc.Global.{Global}
+use Rattle.thin_vec.specs.ThinVec.{ListView}
+use Rattle.thin_examples.specs.declared.tree.Node.{Node, out-Node}
+use Rattle.thin_examples.specs.declared.tree.Node.TheFolds.{fold-Node}
+use Rattle.thin_examples.specs.declared.tree.Node.TheOpen.{Node-F}
+
+-- `kind_of node` is the number that represents the kind of the node.
+abbrev pub kind_of : Node → ℕ
+kind_of node = (out-Node node).kind
+
+-- `children_of node` is the list of the children of the node.
+abbrev pub children_of : Node → ListView Node Global
+children_of node = (out-Node node).children
+
+-- `count_step node` is 1 plus the sum of the children's node counts. In `node`, each child has been
+-- replaced with its node count.
+abbrev pub count_step : Node-F ℕ → ℕ
+count_step node = 1 + sum node.children.items
+
+-- `node_count node` is the number of nodes in the tree whose root is `node`, including the root.
+abbrev pub node_count : Node → ℕ
+node_count = fold-Node ℕ count_step

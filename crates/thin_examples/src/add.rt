@@ -1,0 +1,209 @@
+//! Examples that add items to a list.
+ghost use Rattle.std.specs.Prelude.{◌≡◌, ◌+◌, ◌*◌, ◌<◌, ◌≤◌, ◌++◌, [], ◌∷◌, IfErr, IfNone, IfOk, IfSome, IsErrOf, IsNone, IsOk, IsTrue, None, OnErr, OnOk, OnSome, filter, length, map, nat_lt, take};
+ghost use Rattle.thin_vec.specs.ThinVec.{HasRoomFor, IsCauseOf, capacity_after_reserve};
+
+use std::alloc::Allocator;
+use thin_vec::{Growth, Rejected, ThinVec, ThinVecError};
+
+/// Appends `value`, or returns it if there is no room for it. So no value is lost.
+pub fn push_or_return<T: Drop, A: Allocator, G: Growth>(
+    list: &mut ThinVec<T, A, G>,
+    value: T,
+) -> Option<T>
+    ensures succeeds { HasRoomFor list.old 1 → IsNone result }
+    ensures items { IfNone result (list.new.items ≡ list.old.items ++ value ∷ []) }
+    ensures err { OnSome result (list.new ≡ list.old) }
+    ensures value_returned { IfSome result (λ returned. returned ≡ value) }
+{
+    match list.push(value) {
+        Ok(()) => None,
+        Err(refused) => Some(refused.value),
+    }
+}
+
+/// Appends both `first` and `second`, or neither of them. Requests memory at most once.
+///
+/// # Errors
+///
+/// Fails with `CapacityOverflow` if the growth rule of the list allows no capacity for two more
+/// items, and with `OutOfMemory` if the allocator fails. On failure, the list is unchanged, and
+/// both items are dropped.
+pub fn push_both<T: Drop, A: Allocator, G: Growth>(
+    list: &mut ThinVec<T, A, G>,
+    first: T,
+    second: T,
+) -> Result<(), ThinVecError>
+    ensures succeeds { HasRoomFor list.old 2 → IsOk result }
+    ensures overflow { capacity_after_reserve G.rule T.row list.old 2 ≡ None
+        → IsErrOf result ThinVecError.CapacityOverflow }
+    ensures cause { IfErr result (IsCauseOf (capacity_after_reserve G.rule T.row list.old 2)) }
+    ensures items { OnOk result (list.new.items ≡ list.old.items ++ first ∷ second ∷ []) }
+    ensures err { OnErr result (list.new ≡ list.old) }
+{
+    list.reserve(2)?;
+    list.push_reserved(first);
+    list.push_reserved(second);
+    Ok(())
+}
+
+/// Moves all items of `first`, and then all items of `second`, to the end of `list`.
+///
+/// # Errors
+///
+/// Fails if there is no room for the items of both lists. On failure, all three lists are
+/// unchanged.
+pub fn append_both<T, A: Allocator, G: Growth>(
+    list: &mut ThinVec<T, A, G>,
+    first: &mut ThinVec<T, A, G>,
+    second: &mut ThinVec<T, A, G>,
+) -> Result<(), ThinVecError>
+    ensures items { OnOk result (list.new.items
+        ≡ (list.old.items ++ first.old.items) ++ second.old.items) }
+    ensures first_items { OnOk result (first.new.items ≡ []) }
+    ensures second_items { OnOk result (second.new.items ≡ []) }
+    ensures err { OnErr result (list.new ≡ list.old) }
+    ensures first_err { OnErr result (first.new ≡ first.old) }
+    ensures second_err { OnErr result (second.new ≡ second.old) }
+{
+    list.reserve(first.len() + second.len())?;
+    list.append_reserved(first);
+    list.append_reserved(second);
+    Ok(())
+}
+
+/// Appends `line` and then a newline to `text`. Requests memory at most once.
+///
+/// # Errors
+///
+/// Fails if there is no room for these bytes. On failure, `text` is unchanged.
+pub fn append_line<A: Allocator, G: Growth>(
+    text: &mut ThinVec<u8, A, G>,
+    line: &[u8],
+) -> Result<(), ThinVecError>
+    requires small { length line.now < 9223372036854775808 }
+    ensures succeeds { HasRoomFor text.old (length line.now + 1) → IsOk result }
+    ensures items { OnOk result (text.new.items ≡ text.old.items ++ (line.now ++ 10 ∷ [])) }
+    ensures err { OnErr result (text.new ≡ text.old) }
+{
+    text.reserve(line.len() + 1)?;
+    text.extend_from_copies_reserved(line);
+    text.push_reserved(b'\n');
+    Ok(())
+}
+
+/// Doubles each number of `numbers`, and appends the results to `list`. Requests memory at most
+/// once.
+///
+/// # Errors
+///
+/// Fails if there is no room for the results. On failure, the list is unchanged.
+pub fn append_doubled<A: Allocator, G: Growth>(
+    list: &mut ThinVec<u64, A, G>,
+    numbers: &[u32],
+) -> Result<(), ThinVecError>
+    ensures succeeds { HasRoomFor list.old (length numbers.now) → IsOk result }
+    ensures items { OnOk result (list.new.items
+        ≡ list.old.items ++ map (λ number. 2 * number) numbers.now) }
+    ensures err { OnErr result (list.new ≡ list.old) }
+{
+    list.reserve(numbers.len())?;
+    for number in numbers {
+        list.push_reserved(2 * u64::from(*number));
+    }
+    Ok(())
+}
+
+/// Appends the items of `numbers` that are less than `limit`. Returns whether there was room for
+/// all of them. In either case, `list` keeps its old items.
+pub fn extend_below<A: Allocator, G: Growth>(
+    list: &mut ThinVec<u32, A, G>,
+    numbers: &[u32],
+    limit: u32,
+) -> bool
+    ensures succeeds { length list.old.items + length numbers.now ≤ list.old.capacity
+        → IsTrue result }
+    ensures succeeds_empty { length numbers.now ≡ 0 → IsTrue result }
+    ensures items { IsTrue result → list.new.items ≡ list.old.items ++ filter
+        (λ number. nat_lt number limit) numbers.now }
+    ensures kept { take (length list.old.items) list.new.items ≡ list.old.items }
+{
+    match list.extend(numbers.iter().copied().filter(|number| *number < limit)) {
+        Ok(()) => true,
+        Err(_refused) => false,
+    }
+}
+
+/// Appends as many items of `numbers` as there is room for, and returns how many these are. The old
+/// items are kept.
+pub fn extend_by_number<A: Allocator, G: Growth>(
+    list: &mut ThinVec<u32, A, G>,
+    numbers: &[u32],
+) -> usize
+    ensures grown { length list.new.items ≡ length list.old.items + result }
+    ensures kept { take (length list.old.items) list.new.items ≡ list.old.items }
+    ensures in_bounds { result ≤ length numbers.now }
+    ensures all { length list.old.items + length numbers.now ≤ list.old.capacity
+        → result ≡ length numbers.now }
+{
+    let before = list.len();
+    match list.extend(numbers.iter().copied()) {
+        Ok(()) => numbers.len(),
+        Err(_refused) => list.len() - before,
+    }
+}
+
+/// Appends 0, and writes `number` over it through the reference that `push_mut` returns. This is
+/// useful for large items, which can be filled in their place in the list.
+///
+/// # Errors
+///
+/// Fails if there is no room for one more number. On failure, the list is unchanged.
+pub fn push_set<A: Allocator, G: Growth>(
+    list: &mut ThinVec<u32, A, G>,
+    number: u32,
+) -> Result<(), ThinVecError>
+    ensures succeeds { HasRoomFor list.old 1 → IsOk result }
+    ensures items { OnOk result (list.new.items ≡ list.old.items ++ number ∷ []) }
+    ensures err { OnErr result (list.new ≡ list.old) }
+{
+    let place = list.push_mut(0)?;
+    *place = number;
+    Ok(())
+}
+
+/// Reserves room for eight more numbers in a list of fewer than a thousand numbers.
+///
+/// # Errors
+///
+/// Fails only if the allocator fails: by the lemma `few_more`, the capacity of so short a list
+/// cannot overflow. On failure, the list is unchanged.
+#[tactic(auto, using(thin_vec::proofs::CallerLemmas::few_more))]
+pub fn reserve_eight<A: Allocator>(list: &mut ThinVec<u64, A>) -> Result<(), ThinVecError>
+    requires few { length list.old.items < 1000 }
+    ensures room { OnOk result (HasRoomFor list.new 8) }
+    ensures cause { IfErr result (λ cause. cause ≡ ThinVecError.OutOfMemory) }
+    ensures err { OnErr result (list.new ≡ list.old) }
+{
+    list.reserve(8)
+}
+
+/// Inserts `value` at `index`, removes it again, and returns it. By the lemma `undone`, the list
+/// then has its old items.
+///
+/// # Errors
+///
+/// Fails if there is no room for `value`. On failure, the items of the list are unchanged, and the
+/// error contains `value`.
+#[tactic(auto, using(thin_vec::proofs::CallerLemmas::undone))]
+pub fn insert_and_remove<T: Drop, A: Allocator, G: Growth>(
+    list: &mut ThinVec<T, A, G>,
+    index: usize,
+    value: T,
+) -> Result<T, Rejected<T>>
+    requires in_bounds { index ≤ length list.old.items }
+    ensures items { list.new.items ≡ list.old.items }
+    ensures value { IfOk result (λ back. back ≡ value) }
+{
+    list.insert(index, value)?;
+    Ok(list.remove(index))
+}

@@ -1,0 +1,272 @@
+//! Calls each example of this crate, and prints what it returns or what it does to a list.
+#![tactic(auto)]
+
+mod add;
+mod commands;
+mod costs;
+mod errors;
+mod make;
+mod read;
+mod remove;
+mod replace;
+mod structs;
+mod tables;
+mod threads;
+mod transfer;
+mod tree;
+mod write;
+
+use crate::commands::Evens;
+use crate::structs::{Page, Style};
+use crate::tree::Node;
+use std::alloc::Global;
+use std::collections::BTreeMap;
+use std::io;
+use thin_runner::command::Command;
+use thin_vec::{ThinVec, thin_vec};
+
+fn main(rt: HostRuntime) -> io::Result<()> {
+    show_make(&rt, rt.alloc())?;
+    show_add(&rt, rt.alloc())?;
+    show_remove(&rt, rt.alloc())?;
+    show_replace(&rt, rt.alloc())?;
+    show_transfer(&rt, rt.alloc())?;
+    show_read(&rt, rt.alloc())?;
+    show_write(&rt, rt.alloc())?;
+    show_errors(&rt, rt.alloc())?;
+    show_structs(&rt, rt.alloc())?;
+    show_threads(&rt, rt.alloc())?;
+    show_tree(&rt, rt.alloc())?;
+    show_tables(&rt, rt.alloc())?;
+    show_costs(&rt, rt.alloc())?;
+    show_commands(&rt, rt.alloc())
+}
+
+fn show_make(rt: &impl Print, alloc: Global) -> io::Result<()> {
+    let joined = make::joined(alloc, &[1, 2], &[3])?;
+    println!(rt; "joined: {joined:?}")?;
+    let zeros = make::zeros(alloc, 3)?;
+    println!(rt; "zeros: {zeros:?}")?;
+    let capacity = make::room_for_eight(alloc)?.capacity();
+    println!(rt; "room_for_eight: capacity {capacity}")?;
+    let doubled = make::doubled(alloc, &[1, 2, 3])?;
+    println!(rt; "doubled: {doubled:?}")?;
+    let halves = make::halves(alloc, &[6, 7]);
+    println!(rt; "halves: {halves:?}")?;
+    let chars = make::chars_of(alloc, "list")?;
+    println!(rt; "chars_of: {chars:?}")?;
+    let mut continued = make::continued(alloc, &joined, &[4])?;
+    println!(rt; "continued: {continued:?}")?;
+    let taken = make::take_list(&mut continued)?;
+    println!(rt; "take_list: {taken:?}, left {continued:?}")
+}
+
+fn show_add(rt: &impl Print, alloc: Global) -> io::Result<()> {
+    let mut list: ThinVec<u32> = ThinVec::new(alloc);
+    let returned = add::push_or_return(&mut list, 1);
+    println!(rt; "push_or_return: {list:?}, returned {returned:?}")?;
+    add::push_both(&mut list, 2, 3)?;
+    println!(rt; "push_both: {list:?}")?;
+    let mut first = thin_vec![alloc => 4, 5]?;
+    let mut second = thin_vec![alloc => 6]?;
+    add::append_both(&mut list, &mut first, &mut second)?;
+    println!(rt; "append_both: {list:?}")?;
+    let mut text = ThinVec::new(alloc);
+    add::append_line(&mut text, b"hi")?;
+    println!(rt; "append_line: {text:?}")?;
+    let mut numbers = thin_vec![alloc => 1]?;
+    add::append_doubled(&mut numbers, &[1, 2, 3])?;
+    println!(rt; "append_doubled: {numbers:?}")?;
+    let mut list = thin_vec![alloc => 1]?;
+    let all = add::extend_below(&mut list, &[2, 50, 3], 10);
+    println!(rt; "extend_below: {list:?}, all appended: {all}")?;
+    let count = add::extend_by_number(&mut list, &[4, 5]);
+    println!(rt; "extend_by_number: {list:?}, {count} appended")?;
+    add::push_set(&mut list, 6)?;
+    println!(rt; "push_set: {list:?}")?;
+    let mut roomy = ThinVec::new(alloc);
+    add::reserve_eight(&mut roomy)?;
+    println!(rt; "reserve_eight: capacity {}", roomy.capacity())?;
+    let back = add::insert_and_remove(&mut list, 0, 7)?;
+    println!(rt; "insert_and_remove: {back}")
+}
+
+fn show_remove(rt: &impl Print, alloc: Global) -> io::Result<()> {
+    let mut list = thin_vec![alloc => 1, 2, 3, 4]?;
+    remove::keep_even(&mut list);
+    println!(rt; "keep_even: {list:?}")?;
+    let mut list = thin_vec![alloc => 1, 2, 3, 4]?;
+    remove::keep_every_second(&mut list);
+    println!(rt; "keep_every_second: {list:?}")?;
+    let mut list = thin_vec![alloc => 1, 1, 2, 2]?;
+    remove::keep_distinct(&mut list);
+    println!(rt; "keep_distinct: {list:?}")?;
+    let mut list = thin_vec![alloc => 12, 17, 23]?;
+    remove::keep_tens(&mut list);
+    println!(rt; "keep_tens: {list:?}")?;
+    let mut list = thin_vec![alloc => 12, 22, 23]?;
+    remove::keep_last_digits(&mut list);
+    println!(rt; "keep_last_digits: {list:?}")?;
+    let mut list = thin_vec![alloc => 4, 5, 6]?;
+    remove::keep_halves(&mut list);
+    println!(rt; "keep_halves: {list:?}")?;
+    let mut list = thin_vec![alloc => 1, 2]?;
+    let popped = remove::pop_even(&mut list);
+    println!(rt; "pop_even: {popped:?}, left {list:?}")?;
+    let list = thin_vec![alloc => 5, 3, 4]?;
+    println!(rt; "least: {}", remove::least(list, 9))?;
+    let reversed = remove::reversed_singly(thin_vec![alloc => 1, 2, 3]?, alloc)?;
+    println!(rt; "reversed_singly: {reversed:?}")?;
+    let list: ThinVec<u32> = ThinVec::new(alloc);
+    remove::consume_empty(list);
+    println!(rt; "consume_empty: done")
+}
+
+fn show_replace(rt: &impl Print, alloc: Global) -> io::Result<()> {
+    let mut text = thin_vec![alloc => 1, 2, 3, 4]?;
+    replace::replace_word(&mut text, 1, 3, &[7, 8, 9])?;
+    println!(rt; "replace_word: {text:?}")?;
+    let mut lines = thin_vec![alloc => "a", "b", "c"]?;
+    let mut newer = thin_vec![alloc => "x", "y"]?;
+    replace::replace_lines(&mut lines, 0, 1, &mut newer)?;
+    println!(rt; "replace_lines: {lines:?}")?;
+    let mut names = thin_vec![alloc => 1, 4]?;
+    replace::insert_names(&mut names, 1, &[2, 3])?;
+    println!(rt; "insert_names: {names:?}")?;
+    let mut list = thin_vec![alloc => 1, 2, 3, 4, 5]?;
+    replace::spliced_middle(&mut list, alloc)?;
+    println!(rt; "spliced_middle: {list:?}")?;
+    let mut list = thin_vec![alloc => 1, 2, 3]?;
+    replace::splice_numbers(&mut list, 0, 2, &[8, 9], alloc)?;
+    println!(rt; "splice_numbers: {list:?}")?;
+    let mut list = thin_vec![alloc => 1, 2, 3]?;
+    replace::splice_by(&mut list, (1, 1), 7..9, alloc)?;
+    println!(rt; "splice_by: {list:?}")
+}
+
+fn show_transfer(rt: &impl Print, alloc: Global) -> io::Result<()> {
+    let mut list = thin_vec![alloc => 1, 2, 3, 4]?;
+    let mut other = thin_vec![alloc => 9]?;
+    transfer::hand_over(&mut list, 0, 2, &mut other)?;
+    println!(rt; "hand_over: {list:?} and {other:?}")?;
+    let mut list = thin_vec![alloc => 1, 2, 3, 4]?;
+    transfer::move_range(&mut list, 1, 3, &mut other)?;
+    println!(rt; "move_range: {list:?} and {other:?}")?;
+    let mut odd = ThinVec::new(alloc);
+    let mut even = ThinVec::new(alloc);
+    transfer::divide(thin_vec![alloc => 1, 2, 3]?, &mut odd, &mut even)?;
+    println!(rt; "divide: {odd:?} and {even:?}")?;
+    let mut list = thin_vec![alloc => 4, 5, 6, 7]?;
+    transfer::hand_over_odd(&mut list, &mut odd)?;
+    println!(rt; "hand_over_odd: {list:?} and {odd:?}")?;
+    let vec = transfer::collected(list, alloc)?;
+    println!(rt; "collected: {vec:?}")
+}
+
+fn show_read(rt: &impl Print, alloc: Global) -> io::Result<()> {
+    let list = thin_vec![alloc => 1, 2, 3, 4]?;
+    let neighbours = read::neighbours(&list, 1);
+    println!(rt; "neighbours: {neighbours:?}")?;
+    println!(rt; "run_end: {}", read::run_end(&list, 1, 2))?;
+    println!(rt; "count_even: {}", read::count_even(&list))?;
+    let other = make::joined(alloc, &[1, 2], &[3, 4])?;
+    println!(rt; "same_numbers: {}", read::same_numbers(&list, &other))?;
+    let same = read::hash_of(&list) == read::hash_of(&other);
+    println!(rt; "hash_of: the same: {same}")
+}
+
+fn show_write(rt: &impl Print, alloc: Global) -> io::Result<()> {
+    let mut list = thin_vec![alloc => 12, 20, 40, 8]?;
+    let first = write::lower_first(&mut list, 2);
+    println!(rt; "lower_first: {list:?}, before: {first}")?;
+    write::halve_each(&mut list);
+    println!(rt; "halve_each: {list:?}")?;
+    write::halve_by_index(&mut list);
+    println!(rt; "halve_by_index: {list:?}")?;
+    write::sort(&mut list);
+    println!(rt; "sort: {list:?}")?;
+    let mut list = thin_vec![alloc => 1, 2, 3, 4]?;
+    write::set_first(&mut list, 9);
+    println!(rt; "set_first: {list:?}")?;
+    write::exchange(&mut list, 0, 3);
+    println!(rt; "exchange: {list:?}")?;
+    write::clear_range(&mut list, 1, 3);
+    println!(rt; "clear_range: {list:?}")?;
+    write::mark_halves(&mut list, 2);
+    println!(rt; "mark_halves: {list:?}")
+}
+
+fn show_errors(rt: &impl Print, alloc: Global) -> io::Result<()> {
+    let mut orders = ThinVec::new(alloc);
+    let refused = errors::take_order(&mut orders, 0);
+    println!(rt; "take_order: {refused:?}")?;
+    let mut other = thin_vec![alloc => 6]?;
+    let taken = errors::take_orders(&mut orders, &mut other);
+    println!(rt; "take_orders: {taken:?}, orders {orders:?}")?;
+    let mut bytes = ThinVec::new(alloc);
+    errors::write_line(&mut bytes, b"hi")?;
+    println!(rt; "write_line: {bytes:?}")
+}
+
+fn show_structs(rt: &impl Print, alloc: Global) -> io::Result<()> {
+    let mut style = Style::new(alloc, 1);
+    println!(rt; "Style::new: {style:?}")?;
+    style.add_rule(5)?;
+    println!(rt; "Style::add_rule: {style:?}")?;
+    let renamed = style.renamed(2)?;
+    println!(rt; "Style::renamed: {renamed:?}")?;
+    println!(rt; "Style::is_same: {}", style.is_same(&renamed))?;
+    let page = Page::new(thin_vec![alloc => 10, 20, 30]?);
+    println!(rt; "Page::new: {} lines", page.lines.len())?;
+    println!(rt; "Page::after: {}", page.after(1))
+}
+
+fn show_tree(rt: &impl Print, alloc: Global) -> io::Result<()> {
+    let mut root = Node::leaf(alloc, 1);
+    println!(rt; "Node::leaf: kind {}", root.kind)?;
+    root.add_child(Node::leaf(alloc, 2))?;
+    root.add_child(Node::leaf(alloc, 3))?;
+    println!(rt; "Node::add_child: {} children", root.children.len())?;
+    println!(rt; "Node::count: {}", root.count())
+}
+
+fn show_tables(rt: &impl Print, alloc: Global) -> io::Result<()> {
+    let mut counts = tables::for_a_week(alloc)?;
+    println!(rt; "for_a_week: {} rows", counts.rows())?;
+    tables::add(&mut counts, 2, 9, 5)?;
+    println!(rt; "add: {counts:?}")?;
+    let count = tables::set_and_read(&mut counts, 2, 8, 7)?;
+    println!(rt; "set_and_read: {count:?}")?;
+    let taken = tables::take(&mut counts, 2, 9);
+    println!(rt; "take: {taken}")?;
+    println!(rt; "is_row_empty: {}", tables::is_row_empty(&counts, 0))?;
+    tables::halve(&mut counts, 2, 8);
+    println!(rt; "halve: {counts:?}")?;
+    let mut lists = BTreeMap::new(alloc);
+    tables::append_to(&mut lists, 4, 10)?;
+    tables::append_to(&mut lists, 4, 11)?;
+    println!(rt; "append_to: {lists:?}")
+}
+
+fn show_threads(rt: &impl Print, alloc: Global) -> io::Result<()> {
+    let list = threads::send_list(thin_vec![alloc => 1, 2]?);
+    println!(rt; "send_list: {list:?}")
+}
+
+fn show_costs(rt: &impl Print, alloc: Global) -> io::Result<()> {
+    let mut list = thin_vec![alloc => 1, 2, 3, 4, 5]?;
+    let first = costs::removed_first(&mut list);
+    println!(rt; "removed_first: {first}, left {list:?}")?;
+    let edited = costs::edited(alloc)?;
+    println!(rt; "edited: {edited:?}")
+}
+
+fn show_commands(rt: &impl Print, alloc: Global) -> io::Result<()> {
+    let mut list = ThinVec::new(alloc);
+    commands::one_and_two(alloc, &mut list, &Evens)?;
+    println!(rt; "one_and_two: {list:?}")?;
+    let mut retain = Vec::new(alloc);
+    retain.push(Command::Retain)?;
+    commands::carry_out(alloc, &mut list, retain, &Evens)?;
+    println!(rt; "carry_out: {list:?}")
+}

@@ -1,0 +1,119 @@
+//! Examples that make a list.
+ghost use Rattle.std.specs.Prelude.{◌≡◌, ◌*◌, ◌/◌, ◌++◌, [], IfErr, IfOk, IfSome, IsOk, IsSome, OnErr, OnOk, length, map, replicate};
+ghost use Rattle.std.specs.Str.{chars};
+
+use std::alloc::{AllocError, Allocator};
+use std::mem;
+use thin_vec::{Growth, ThinVec, ThinVecError, thin_vec};
+
+/// Makes a list of the numbers of `first`, followed by the numbers of `second`.
+///
+/// # Errors
+///
+/// Fails if there is not enough memory for the numbers.
+pub fn joined<A: Allocator>(
+    alloc: A,
+    first: &[u32],
+    second: &[u32],
+) -> Result<ThinVec<u32, A>, AllocError>
+    ensures items { IfOk result (λ list. list.items ≡ first.now ++ second.now) }
+    ensures succeeds_empty { first.now ≡ [] → second.now ≡ [] → IsOk result }
+{
+    let mut list = ThinVec::from_copies(alloc, first)?;
+    list.extend_from_copies(second)?;
+    Ok(list)
+}
+
+/// Makes a list of `count` zeros.
+///
+/// # Errors
+///
+/// Fails if the allocator fails, or if the capacity would be too large.
+pub fn zeros<A: Allocator>(alloc: A, count: usize) -> Result<ThinVec<u32, A>, ThinVecError>
+    ensures items { IfOk result (λ list. list.items ≡ replicate count 0) }
+{
+    thin_vec![alloc => 0; count]
+}
+
+/// Makes an empty list with room for eight numbers.
+///
+/// # Errors
+///
+/// Fails only if the allocator fails: by the lemma `few_items`, so small a capacity cannot
+/// overflow.
+pub fn room_for_eight<A: Allocator>(alloc: A) -> Result<ThinVec<u64, A>, ThinVecError>
+    ensures items { IfOk result (λ list. list.items ≡ []) }
+    ensures capacity { IfOk result (λ list. list.capacity ≡ 8) }
+    ensures cause { IfErr result (λ cause. cause ≡ ThinVecError.OutOfMemory) }
+{
+    ThinVec::with_capacity(alloc, 8)
+}
+
+/// Doubles each number, and collects the results.
+///
+/// # Errors
+///
+/// Fails if there is not enough memory for the results.
+pub fn doubled<A: Allocator>(alloc: A, numbers: &[u32]) -> Result<ThinVec<u64, A>, AllocError>
+    ensures items { IfOk result (λ list. list.items ≡ map (λ number. 2 * number) numbers.now) }
+{
+    numbers
+        .iter()
+        .map(|number| 2 * u64::from(*number))
+        .collect(alloc)
+}
+
+/// Halves each number, rounding down. Returns `None` if there is not enough memory for the list.
+pub fn halves<A: Allocator>(alloc: A, numbers: &[u32]) -> Option<ThinVec<u32, A>>
+    ensures items { IfSome result (λ list. list.items ≡ map (λ number. number / 2) numbers.now) }
+    ensures succeeds_empty { length numbers.now ≡ 0 → IsSome result }
+{
+    match ThinVec::from_iter(alloc, numbers.iter().map(|number| number / 2)) {
+        Ok(list) => Some(list),
+        Err(_refused) => None,
+    }
+}
+
+/// Collects the characters of `text`.
+///
+/// # Errors
+///
+/// Fails if there is not enough memory for the characters.
+pub fn chars_of<A: Allocator>(alloc: A, text: &str) -> Result<ThinVec<char, A>, AllocError>
+    ensures items { IfOk result (λ list. list.items ≡ chars text.now) }
+{
+    text.chars().collect(alloc)
+}
+
+/// Copies the numbers of `list` to a new list, and appends `more` to it.
+///
+/// # Errors
+///
+/// Fails if there is not enough memory for the new list.
+pub fn continued<A: Allocator, G: Growth>(
+    alloc: A,
+    list: &ThinVec<u32, A, G>,
+    more: &[u32],
+) -> Result<ThinVec<u32, A, G>, AllocError>
+    ensures items { IfOk result (λ copy. copy.items ≡ list.now.items ++ more.now) }
+    ensures succeeds_empty { list.now.items ≡ [] → more.now ≡ [] → IsOk result }
+{
+    let mut copy = list.clone_copies(alloc)?;
+    copy.extend_from_copies(more)?;
+    Ok(copy)
+}
+
+/// Returns the list, and leaves an empty list in its place.
+///
+/// # Errors
+///
+/// Fails if the allocator cannot be cloned. On failure, the list is unchanged.
+pub fn take_list<T, A: Allocator + Clone, G: Growth>(
+    list: &mut ThinVec<T, A, G>,
+) -> Result<ThinVec<T, A, G>, AllocError>
+    ensures taken { IfOk result (λ taken. taken ≡ list.old) }
+    ensures left { OnOk result (list.new.items ≡ []) }
+    ensures err { OnErr result (list.new ≡ list.old) }
+{
+    mem::try_take(list)
+}

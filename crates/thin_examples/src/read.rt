@@ -1,0 +1,68 @@
+//! Examples that read, compare and hash lists.
+ghost use Rattle.std.specs.Hash as fed;
+ghost use Rattle.std.specs.Hash.DefaultHasher as sip;
+ghost use Rattle.std.specs.Prelude.{◌≡◌, ◌+◌, ◌%◌, ◌<◌, ◌≤◌, ◌==◌, ◌↔◌, IsTrue, filter, fold, length, slice_index};
+ghost use Rattle.thin_vec.specs.ThinVec.{IsBounded};
+
+use std::alloc::Allocator;
+use std::hash::{DefaultHasher, Hash, Hasher};
+use thin_vec::{Growth, ThinVec};
+
+/// Returns the item at `index` and the item after it. The sum `index + 1` cannot overflow, because
+/// it is less than the length of the list.
+pub fn neighbours<A: Allocator, G: Growth>(list: &ThinVec<u32, A, G>, index: usize) -> (u32, u32)
+    requires in_bounds { index + 1 < length list.now.items }
+    ensures first { result.0 ≡ slice_index list.now.items index }
+    ensures second { result.1 ≡ slice_index list.now.items (index + 1) }
+{
+    (list[index], list[index + 1])
+}
+
+/// Returns the index directly after the `count` items that begin at the index `start`. No method of
+/// the list is called, so the caller has to show by `within` that the sum does not overflow.
+pub fn run_end<T, A: Allocator, G: Growth>(
+    list: &ThinVec<T, A, G>,
+    start: usize,
+    count: usize,
+) -> usize
+    requires in_bounds { start + count ≤ length list.now.items }
+    requires within { IsBounded T.row list.now }
+    ensures value { result ≡ start + count }
+{
+    start + count
+}
+
+/// Counts the even numbers. The loop is over `list.as_slice()`, so that its invariant can refer to
+/// the index of the current number.
+pub fn count_even<A: Allocator, G: Growth>(list: &ThinVec<u32, A, G>) -> usize
+    ensures value { result ≡ length (filter (λ number. number % 2 == 0) list.now.items) }
+{
+    let mut count = 0;
+    for number in list.as_slice() {
+        if *number % 2 == 0 {
+            count += 1;
+        }
+    }
+    count
+}
+
+/// Returns whether the lists have the same numbers in the same order. Their capacities do not
+/// matter.
+pub fn same_numbers<A: Allocator, G: Growth>(
+    one: &ThinVec<u32, A, G>,
+    other: &ThinVec<u32, A, G>,
+) -> bool
+    ensures value { IsTrue result ↔ (one.now.items ≡ other.now.items) }
+{
+    one == other
+}
+
+/// Hashes the numbers of the list with std's `DefaultHasher`.
+pub fn hash_of<A: Allocator, G: Growth>(list: &ThinVec<u32, A, G>) -> u64
+    ensures value { result ≡ sip.finish
+        (fold sip.write sip.initial (fed.slice fed.u32 list.now.items)) }
+{
+    let mut hasher = DefaultHasher::new();
+    list.hash(&mut hasher);
+    hasher.finish()
+}

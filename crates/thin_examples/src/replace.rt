@@ -1,0 +1,141 @@
+//! Examples that replace a range of a list.
+ghost use Rattle.std.specs.Iterator.Runs.{WholeRun};
+ghost use Rattle.std.specs.Iterator.{IsFinite};
+ghost use Rattle.std.specs.List.{replace_range};
+ghost use Rattle.std.specs.Prelude.{◌≡◌, ◌+◌, ◌-◌, ◌≤◌, ◌++◌, [], ◌∷◌, IsOk, OnErr, OnOk, drop, length, take};
+ghost use Rattle.thin_vec.specs.Edits.ReplaceRange.{ReplacesByClones};
+ghost use Rattle.thin_vec.specs.ThinVec.{HasRoomFor};
+
+use std::alloc::{AllocError, Allocator};
+use thin_vec::{Growth, SpliceRefused, ThinVec, ThinVecError, thin_vec};
+
+/// Replaces the bytes at the indices `start..end` with `word`.
+///
+/// # Errors
+///
+/// Fails if there is no room for `word`. On failure, the list is unchanged.
+pub fn replace_word<A: Allocator, G: Growth>(
+    text: &mut ThinVec<u8, A, G>,
+    start: usize,
+    end: usize,
+    word: &[u8],
+) -> Result<(), ThinVecError>
+    requires start_le_end { start ≤ end }
+    requires in_bounds { end ≤ length text.old.items }
+    ensures succeeds { HasRoomFor text.old (length word.now - (end - start)) → IsOk result }
+    ensures items { OnOk result (text.new.items ≡ replace_range text.old.items start end word.now) }
+    ensures err { OnErr result (text.new ≡ text.old) }
+{
+    text.replace_range_from_copies(start, end, word)
+}
+
+/// Replaces the lines at the indices `start..end` with the lines of `newer`, and drops the replaced
+/// lines. Afterwards, `newer` is empty.
+///
+/// # Errors
+///
+/// Fails if there is no room for the lines of `newer`. On failure, both lists are unchanged.
+pub fn replace_lines<T: Drop, A: Allocator, G: Growth>(
+    lines: &mut ThinVec<T, A, G>,
+    start: usize,
+    end: usize,
+    newer: &mut ThinVec<T, A, G>,
+) -> Result<(), ThinVecError>
+    requires start_le_end { start ≤ end }
+    requires in_bounds { end ≤ length lines.old.items }
+    ensures items { OnOk result (lines.new.items
+        ≡ replace_range lines.old.items start end newer.old.items) }
+    ensures newer_items { OnOk result (newer.new.items ≡ []) }
+    ensures err { OnErr result (lines.new ≡ lines.old) }
+    ensures newer_err { OnErr result (newer.new ≡ newer.old) }
+{
+    lines.replace_range_from_list(start, end, newer)
+}
+
+/// Inserts clones of `names` at the index `at`.
+///
+/// # Errors
+///
+/// Fails if there is no room for the clones, or if a name cannot be cloned. On failure, the list
+/// keeps its old names, but its capacity may have grown.
+pub fn insert_names<T: Clone, A: Allocator, G: Growth>(
+    list: &mut ThinVec<T, A, G>,
+    at: usize,
+    names: &[T],
+) -> Result<(), ThinVecError>
+    requires in_bounds { at ≤ length list.old.items }
+    ensures items { OnOk result (ReplacesByClones T.is_clone list.old.items at at names.now
+        list.new.items) }
+    ensures err { OnErr result (list.new.items ≡ list.old.items) }
+{
+    list.replace_range(at, at, names)
+}
+
+/// Replaces the third and the fourth of five numbers with three new numbers. Each new number is
+/// moved once, and the fifth number at most twice.
+///
+/// # Errors
+///
+/// Fails if there is not enough memory. On failure, the third and the fourth number may have been
+/// removed, and some of the new numbers may have been inserted.
+pub fn spliced_middle<A: Allocator + Copy, G: Growth>(
+    list: &mut ThinVec<u32, A, G>,
+    alloc: A,
+) -> Result<(), AllocError>
+    requires five { length list.old.items ≡ 5 }
+    ensures items { OnOk result (list.new.items ≡ (take 2 list.old.items ++ 10 ∷ 11 ∷ 12 ∷ [])
+        ++ drop 4 list.old.items) }
+    ensures five_moves { OnOk result (list.new.cost.moves ≤ list.old.cost.moves + 5) }
+{
+    let numbers = thin_vec![alloc => 10, 11, 12]?;
+    list.splice(2, 4, numbers.into_iter()).finish(alloc)?;
+    Ok(())
+}
+
+/// Replaces the numbers at the indices `start..end` with `numbers`.
+///
+/// # Errors
+///
+/// Fails if there is no room for the numbers. On failure, the numbers at the indices `start..end`
+/// are removed, and the first `k` of the new numbers are in their place, for some `k`.
+pub fn splice_numbers<A: Allocator, G: Growth>(
+    list: &mut ThinVec<u32, A, G>,
+    start: usize,
+    end: usize,
+    numbers: &[u32],
+    alloc: A,
+) -> Result<(), AllocError>
+    requires start_le_end { start ≤ end }
+    requires in_bounds { end ≤ length list.old.items }
+    ensures items { OnOk result (list.new.items ≡ (take start list.old.items ++ numbers.now)
+        ++ drop end list.old.items) }
+{
+    splice_by(list, (start, end), numbers.iter().copied(), alloc)?;
+    Ok(())
+}
+
+/// Replaces the items at the indices `range.0..range.1` with the items that `iter` yields.
+///
+/// The type of the iterator is generic here, because a splice with an iterator that borrows, such
+/// as an iterator over a slice, can only be proved through such a function.
+///
+/// # Errors
+///
+/// Fails if there is no room for the items. The error contains the items that were taken from the
+/// iterator but not inserted, and the iterator, which yields the remaining items.
+pub fn splice_by<T: Drop, A: Allocator, G: Growth, I: Iterator<Item = T>>(
+    list: &mut ThinVec<T, A, G>,
+    range: (usize, usize),
+    iter: I,
+    alloc: A,
+) -> Result<(), SpliceRefused<T, I, A>>
+    requires start_le_end { range.0 ≤ range.1 }
+    requires in_bounds { range.1 ≤ length list.old.items }
+    requires can_next { I.can_next iter }
+    requires finite { IsFinite (I.remaining iter) }
+    ensures runs { OnOk result
+        (WholeRun I.next_gives iter (λ p. list.new.items ≡ (take range.0 list.old.items ++ p.items)
+        ++ drop range.1 list.old.items)) }
+{
+    list.splice(range.0, range.1, iter).finish(alloc)
+}

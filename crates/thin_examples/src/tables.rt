@@ -1,0 +1,124 @@
+//! Examples of a sparse table of counts and of a map of lists. In the table, a place without an
+//! entry has the count 0.
+ghost use Rattle.std.specs.FinMap as columns;
+ghost use Rattle.std.specs.Option.{unwrap_or};
+ghost use Rattle.std.specs.Prelude.{◌≡◌, ◌≢◌, ◌↔◌, ◌+◌, ◌-◌, ◌^◌, ◌<◌, ◌/◌, ◌++◌, [], ◌∷◌, ℕ, IfErr, IfOk, IfSome, IsNone, IsOk, IsSome, IsTrue, OnErr, OnOk, Some, length, min, replicate};
+ghost use Rattle.thin_examples.specs.ListsByKey.{items_at};
+ghost use Rattle.thin_rows.specs.Table.{row_at, value_at, with_value, without_value};
+
+use std::alloc::{AllocError, Allocator, Global};
+use std::collections::BTreeMap;
+use thin_rows::Rows;
+use thin_vec::{ThinVec, ThinVecError};
+
+/// Makes a table of seven empty rows, one for each day of the week.
+///
+/// # Errors
+///
+/// Fails only if the allocator fails: by the lemma `few_items`, so small a capacity cannot
+/// overflow.
+pub fn for_a_week(alloc: Global) -> Result<Rows<u32>, ThinVecError>
+    ensures table { IfOk result (λ counts. counts ≡ replicate 7 columns.empty) }
+    ensures cause { IfErr result (λ cause. cause ≡ ThinVecError.OutOfMemory) }
+{
+    Rows::with_rows(alloc, 7)
+}
+
+/// Adds `more` to the count at `row` and `column`. If the sum exceeds `u32::MAX`, the count becomes
+/// `u32::MAX`.
+///
+/// # Errors
+///
+/// Fails if there is no room for a new entry. On failure, the table is unchanged.
+pub fn add<A: Allocator>(
+    counts: &mut Rows<u32, A>,
+    row: usize,
+    column: usize,
+    more: u32,
+) -> Result<(), AllocError>
+    requires in_bounds { row < length counts.old }
+    ensures succeeds { IsSome (value_at counts.old row column) → IsOk result }
+    ensures table { OnOk result
+        (counts.new ≡ with_value counts.old row column
+        (min (unwrap_or (value_at counts.old row column) 0 + more) (2 ^ 32 - 1))) }
+    ensures err { OnErr result (counts.new ≡ counts.old) }
+{
+    let count = counts.get(row, column).copied().unwrap_or(0);
+    counts.set(row, column, count.saturating_add(more))?;
+    Ok(())
+}
+
+/// Sets the count at `row` and `column`, and reads it back. By the lemma `written`, the result is
+/// `Some(count)`.
+///
+/// # Errors
+///
+/// Fails if there is no room for a new entry. On failure, the table is unchanged.
+#[tactic(auto, using(thin_rows::proofs::TableLemmas::written))]
+pub fn set_and_read<A: Allocator>(
+    counts: &mut Rows<u32, A>,
+    row: usize,
+    column: usize,
+    count: u32,
+) -> Result<Option<u32>, AllocError>
+    requires in_bounds { row < length counts.old }
+    ensures value { IfOk result (λ there. there ≡ Some count) }
+    ensures table { OnOk result (counts.new ≡ with_value counts.old row column count) }
+    ensures err { OnErr result (counts.new ≡ counts.old) }
+{
+    counts.set(row, column, count)?;
+    Ok(counts.get(row, column).copied())
+}
+
+/// Removes the count at `row` and `column`, and returns it. If there is no such count, returns 0.
+pub fn take<A: Allocator>(counts: &mut Rows<u32, A>, row: usize, column: usize) -> u32
+    requires in_bounds { row < length counts.old }
+    ensures value { result ≡ unwrap_or (value_at counts.old row column) 0 }
+    ensures table { counts.new ≡ without_value counts.old row column }
+{
+    counts.remove(row, column).unwrap_or(0)
+}
+
+/// Returns whether `row` has no entries.
+pub fn is_row_empty<A: Allocator>(counts: &Rows<u32, A>, row: usize) -> bool
+    requires in_bounds { row < length counts.now }
+    ensures value { IsTrue result ↔ (columns.len (row_at counts.now row) ≡ 0) }
+{
+    !counts.owns_block(row)
+}
+
+/// Halves the count at `row` and `column`, rounding down. If there is no count, nothing changes.
+/// Requests no memory.
+pub fn halve<A: Allocator>(counts: &mut Rows<u32, A>, row: usize, column: usize)
+    requires in_bounds { row < length counts.old }
+    ensures none { IsNone (value_at counts.old row column) → counts.new ≡ counts.old }
+    ensures some { IfSome (value_at counts.old row column)
+        (λ count. counts.new ≡ with_value counts.old row column (count / 2)) }
+{
+    if let Some(count) = counts.get_mut(row, column) {
+        *count /= 2;
+    }
+}
+
+/// Appends `number` to the list at `key`. If the map has no such list, a new one is inserted first.
+///
+/// # Errors
+///
+/// Fails if there is no room for a new list in the map, or for `number` in the list. On failure,
+/// every list has its old items, but an empty list may have been inserted.
+pub fn append_to(
+    lists: &mut BTreeMap<u32, ThinVec<u32>>,
+    key: u32,
+    number: u32,
+) -> Result<(), ThinVecError>
+    ensures items { OnOk result (items_at lists.new key ≡ items_at lists.old key ++ number ∷ []) }
+    ensures others { (other : ℕ) → other ≢ key
+        → items_at lists.new other ≡ items_at lists.old other }
+    ensures err { OnErr result (items_at lists.new key ≡ items_at lists.old key) }
+{
+    let Ok(entry) = lists.entry(key) else {
+        return Err(ThinVecError::OutOfMemory);
+    };
+    entry.or_default().push(number)?;
+    Ok(())
+}

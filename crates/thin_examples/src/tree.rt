@@ -1,0 +1,59 @@
+//! An example of a type that holds a list of its own values: a node of a tree.
+ghost use Rattle.std.specs.Prelude.{◌≡◌, ◌+◌, ◌-◌, ◌^◌, [], ◌∷◌, ◌++◌, IfErr, IsOk, OnErr, OnOk, min};
+ghost use Rattle.thin_vec.specs.ThinVec.{HasRoomFor, IsNew};
+ghost use Rattle.thin_examples.specs.Tree.{children_of, kind_of, node_count};
+
+use std::alloc::Global;
+use thin_vec::{Rejected, ThinVec};
+
+/// A node of a syntax tree: its kind, and its children in order.
+#[derive(Drop)]
+pub struct Node {
+    pub kind: u32,
+    pub children: ThinVec<Node, Global>,
+}
+
+#[tactic(auto, using(crate::proofs::TreeLemmas::node_count_is))]
+impl Node {
+    /// Makes a node without children. This requests no memory.
+    pub fn leaf(alloc: Global, kind: u32) -> Node
+        ensures kind { kind_of result ≡ kind }
+        ensures children { IsNew (children_of result) alloc }
+        ensures count { node_count result ≡ 1 }
+    {
+        Node {
+            kind,
+            children: ThinVec::new(alloc),
+        }
+    }
+
+    /// Appends `child` to the children of this node.
+    ///
+    /// # Errors
+    ///
+    /// Fails if there is no room for one more child. On failure, this node is unchanged, and the
+    /// error contains `child`.
+    pub fn add_child(&mut self, child: Node) -> Result<(), Rejected<Node>>
+        ensures succeeds { HasRoomFor (children_of self.old) 1 → IsOk result }
+        ensures kind { kind_of self.new ≡ kind_of self.old }
+        ensures children { OnOk result ((children_of self.new).items ≡ (children_of self.old).items
+            ++ child ∷ []) }
+        ensures count { OnOk result (node_count self.new ≡ node_count self.old + node_count child) }
+        ensures err { OnErr result (self.new ≡ self.old) }
+        ensures value_returned { IfErr result (λ refused. refused.value ≡ child) }
+    {
+        self.children.push(child)
+    }
+
+    /// Returns the number of nodes in the tree whose root is this node. If there are more than
+    /// `u64::MAX` nodes, returns `u64::MAX`.
+    pub fn count(&self) -> u64
+        ensures value { result ≡ min (node_count self.now) (2 ^ 64 - 1) }
+    {
+        let mut count = 1u64;
+        for child in &self.children {
+            count = count.saturating_add(child.count());
+        }
+        count
+    }
+}

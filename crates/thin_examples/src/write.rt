@@ -1,0 +1,101 @@
+//! Examples that write to the items of a list.
+ghost use Rattle.std.specs.List.{swap};
+ghost use Rattle.std.specs.Prelude.{◌≡◌, ◌-◌, ◌/◌, ◌<◌, ◌≤◌, ◌++◌, IsPermutation, IsSorted, drop, length, map, replicate, slice_index, slice_set, take};
+
+use std::alloc::Allocator;
+use thin_vec::{Growth, ThinVec};
+
+/// Subtracts `less` from the first number, and returns the old first number.
+pub fn lower_first<A: Allocator, G: Growth>(list: &mut ThinVec<u32, A, G>, less: u32) -> u32
+    requires some { 0 < length list.old.items }
+    requires enough { less ≤ slice_index list.old.items 0 }
+    ensures value { result ≡ slice_index list.old.items 0 }
+    ensures items { list.new.items ≡ slice_set list.old.items 0
+        (slice_index list.old.items 0 - less) }
+{
+    let first = list[0];
+    list[0] = first - less;
+    first
+}
+
+/// Halves each number, rounding down, in a loop over the items.
+///
+/// The loop is over the items of the slice: a contract cannot yet say which items a list has after
+/// a loop `for number in &mut list`, only that it has as many as before.
+pub fn halve_each<A: Allocator, G: Growth>(list: &mut ThinVec<u32, A, G>)
+    ensures items { list.new.items ≡ map (λ number. number / 2) list.old.items }
+    ensures capacity { list.new.capacity ≡ list.old.capacity }
+{
+    for number in list.as_mut_slice().iter_mut() {
+        *number /= 2;
+    }
+}
+
+/// Halves each number, rounding down, in a loop over the indices.
+pub fn halve_by_index<A: Allocator, G: Growth>(list: &mut ThinVec<u32, A, G>)
+    ensures items { list.new.items ≡ map (λ number. number / 2) list.old.items }
+    ensures capacity { list.new.capacity ≡ list.old.capacity }
+{
+    for i in 0..list.len() {
+        list[i] /= 2;
+    }
+}
+
+/// Sorts the items in place. This requests no memory, and copies no item to another block.
+pub fn sort<T: Ord, A: Allocator, G: Growth>(list: &mut ThinVec<T, A, G>)
+    ensures sorted { IsSorted T.cmp list.new.items }
+    ensures permutation { IsPermutation list.old.items list.new.items }
+    ensures capacity { list.new.capacity ≡ list.old.capacity }
+    ensures alloc { list.new.alloc ≡ list.old.alloc }
+    ensures cost { list.new.cost ≡ list.old.cost }
+{
+    list.as_mut_slice().sort_unstable();
+}
+
+/// Writes `value` over the first number.
+pub fn set_first<A: Allocator, G: Growth>(list: &mut ThinVec<u32, A, G>, value: u32)
+    requires not_empty { 0 < length list.old.items }
+    ensures items { list.new.items ≡ slice_set list.old.items 0 value }
+    ensures capacity { list.new.capacity ≡ list.old.capacity }
+{
+    if let Some(place) = list.as_mut_slice().first_mut() {
+        *place = value;
+    }
+}
+
+/// Exchanges the items at the indices `first` and `second`.
+pub fn exchange<T, A: Allocator, G: Growth>(
+    list: &mut ThinVec<T, A, G>,
+    first: usize,
+    second: usize,
+)
+    requires first { first < length list.old.items }
+    requires second { second < length list.old.items }
+    ensures items { list.new.items ≡ swap list.old.items first second }
+    ensures capacity { list.new.capacity ≡ list.old.capacity }
+{
+    list.as_mut_slice().swap(first, second);
+}
+
+/// Writes 0 over the numbers at the indices `start..end`.
+pub fn clear_range<A: Allocator, G: Growth>(list: &mut ThinVec<u32, A, G>, start: usize, end: usize)
+    requires start_le_end { start ≤ end }
+    requires in_bounds { end ≤ length list.old.items }
+    ensures items { list.new.items
+        ≡ take start list.old.items ++ (replicate (end - start) 0 ++ drop end list.old.items) }
+    ensures capacity { list.new.capacity ≡ list.old.capacity }
+{
+    list.as_mut_slice()[start..end].fill(0);
+}
+
+/// Writes 0 over the first `middle` numbers, and 1 over the other numbers.
+pub fn mark_halves<A: Allocator, G: Growth>(list: &mut ThinVec<u32, A, G>, middle: usize)
+    requires in_bounds { middle ≤ length list.old.items }
+    ensures items { list.new.items
+        ≡ replicate middle 0 ++ replicate (length list.old.items - middle) 1 }
+    ensures capacity { list.new.capacity ≡ list.old.capacity }
+{
+    let (front, back) = list.as_mut_slice().split_at_mut(middle);
+    front.fill(0);
+    back.fill(1);
+}
