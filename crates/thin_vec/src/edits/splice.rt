@@ -204,9 +204,8 @@ impl<
             → IsOk result }
 
         // On failure, every item that the iterator yielded is in the list or in the error. If items
-        // follow the range, all slots of the range are filled (`before_tail`). If no item follows
-        // the range, the list is full, or the call has taken no item from the iterator
-        // (`without_tail`).
+        // follow the range, all slots of the range are filled (`err_full`). If no item follows the
+        // range, the list is full, or the call has taken no item from the iterator (`in_hand`).
         ensures placed { IfErr result (λ error. (xs : List T)
             × (self.exit.0.now.items ≡ splice_replaced self.entry xs)
             × SpliceErrorAccountsFor I.next_gives I.can_next I.remaining

@@ -1,7 +1,7 @@
 //! The methods `extend` and `from_iter`, which move the items of an iterator into a list.
 //!
 //! `Drains I.next_gives iter xs` states that `iter` yields the items `xs` and then `None`. The clause
-//! `runs` follows from `items`, and `runs_err` from `placed`: they state the same about a *run* of the
+//! `runs` follows from `items`, and `err_runs` from `placed`: they state the same about a *run* of the
 //! iterator, as std's lemmas about adaptors such as `map` expect it.
 ghost use Rattle.std.specs.Prelude.{◌≡◌, ◌+◌, ◌-◌, ◌<◌, ◌≤◌, List, ◌++◌, IfErr, IfOk, IsOk, IsSome, MatchOption, None, OnErr, OnOk, OnSome, length};
 ghost use Rattle.std.specs.Iterator.Runs.{SomeRun, WholeRun};

@@ -75,7 +75,7 @@ impl<T, A: Allocator, G: Growth> IndexMut<usize> for ThinVec<T, A, G> {
         ensures found { slice_get self.old.items index ≡ Some result.now }
         ensures bounds { IsBounded T.row self.old }
     {
-        // This call is needed only for the proof: the clause `within` follows from the contract of
+        // This call is needed only for the proof: the clause `bounds` follows from the contract of
         // `len`.
         let _len = self.block.len();
         self.block.slot_mut(index)

@@ -29,8 +29,8 @@ loop-i-preserved g c =
     (emptying-take (items_in old) 0 c.loop-i.i (length old) (omega arith)
     (omega (arith, c.loop-i-test.true, len)))
 
-pub release-requires-clause-is_empty : goal.release-requires-clause-is_empty
-release-requires-clause-is_empty g c =
+pub release-requires-clause-empty : goal.release-requires-clause-empty
+release-requires-clause-empty g c =
     let old = c.args.block.slots in
     let cap = length old in
     let len = c.len-len.ensures.value ∙ c.requires.packed.len in

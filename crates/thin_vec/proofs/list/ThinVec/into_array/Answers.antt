@@ -36,8 +36,8 @@ take_array-items-requires g c =
       ),
     )
 
-pub release-requires-clause-is_empty : goal.release-requires-clause-is_empty
-release-requires-clause-is_empty g c =
+pub release-requires-clause-empty : goal.release-requires-clause-empty
+release-requires-clause-empty g c =
     let block = c.into_parts-block.result.0 in let parts = c.into_parts-block.ensures in
     let list = c.args.self in let n = g.row.N in
     let is = filled block c.into_parts-block.result.1 list.items list.capacity n parts.slots
