@@ -70,6 +70,15 @@ impl<B: Allocator> Refusing<B> {
         self.counts.refused.set(refused);
     }
 
+    /// Counts a request that asks for no memory, and returns an error if this request is refused. A
+    /// clone that owns no block uses it, so that a test can choose to refuse the clone.
+    pub fn request(&self) -> Result<(), AllocError> {
+        if refuses(&self.counts) {
+            return Err(AllocError);
+        }
+        Ok(())
+    }
+
     /// Returns the number of requests since the last call to `refuse`, or since the allocator was
     /// created if `refuse` has not been called. Refused requests count, too.
     pub fn requests(&self) -> u64 {

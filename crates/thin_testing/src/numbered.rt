@@ -1,0 +1,184 @@
+//! Defines the types of items that tests make from numbers.
+use crate::ledger::{Counted, Ledger};
+
+/// A type of items that a test makes from numbers. Numbers below 251 make different items, except
+/// that all items of 0 bytes are equal.
+pub trait Numbered: Clone + Eq + Drop {
+    /// The size of an item in bytes.
+    const SIZE: usize;
+
+    /// The greatest capacity that a list of such items can have, computed by hand. The block then
+    /// takes at most `isize::MAX` bytes: a header of 16 bytes and the items, rounded up to a
+    /// multiple of 8 bytes, or of 16 bytes if the items are aligned to 16.
+    const LIMIT: usize;
+
+    /// Whether the ledger counts the items and their clones.
+    const IS_COUNTED: bool = false;
+
+    /// Makes an item.
+    fn numbered(ledger: &'static Ledger, number: u64) -> Self;
+}
+
+impl Numbered for () {
+    const SIZE: usize = 0;
+
+    const LIMIT: usize = isize::MAX as usize;
+
+    fn numbered(_ledger: &'static Ledger, _number: u64) -> () {}
+}
+
+impl Numbered for u8 {
+    const SIZE: usize = 1;
+
+    const LIMIT: usize = 9_223_372_036_854_775_784;
+
+    fn numbered(_ledger: &'static Ledger, number: u64) -> u8 {
+        (number % 251) as u8
+    }
+}
+
+impl Numbered for [u8; 3] {
+    const SIZE: usize = 3;
+
+    const LIMIT: usize = 3_074_457_345_618_258_594;
+
+    fn numbered(_ledger: &'static Ledger, number: u64) -> [u8; 3] {
+        [(number % 251) as u8; 3]
+    }
+}
+
+impl Numbered for [u8; 5] {
+    const SIZE: usize = 5;
+
+    const LIMIT: usize = 1_844_674_407_370_955_156;
+
+    fn numbered(_ledger: &'static Ledger, number: u64) -> [u8; 5] {
+        [(number % 251) as u8; 5]
+    }
+}
+
+impl Numbered for [u8; 7] {
+    const SIZE: usize = 7;
+
+    const LIMIT: usize = 1_317_624_576_693_539_397;
+
+    fn numbered(_ledger: &'static Ledger, number: u64) -> [u8; 7] {
+        [(number % 251) as u8; 7]
+    }
+}
+
+impl Numbered for u16 {
+    const SIZE: usize = 2;
+
+    const LIMIT: usize = 4_611_686_018_427_387_892;
+
+    fn numbered(_ledger: &'static Ledger, number: u64) -> u16 {
+        (number % 65521) as u16
+    }
+}
+
+impl Numbered for i32 {
+    const SIZE: usize = 4;
+
+    const LIMIT: usize = 2_305_843_009_213_693_946;
+
+    fn numbered(_ledger: &'static Ledger, number: u64) -> i32 {
+        (number % 2_147_483_647) as i32
+    }
+}
+
+impl Numbered for [u32; 3] {
+    const SIZE: usize = 12;
+
+    const LIMIT: usize = 768_614_336_404_564_648;
+
+    fn numbered(_ledger: &'static Ledger, number: u64) -> [u32; 3] {
+        [(number % 65521) as u32; 3]
+    }
+}
+
+impl Numbered for [u32; 5] {
+    const SIZE: usize = 20;
+
+    const LIMIT: usize = 461_168_601_842_738_789;
+
+    fn numbered(_ledger: &'static Ledger, number: u64) -> [u32; 5] {
+        [(number % 65521) as u32; 5]
+    }
+}
+
+impl Numbered for [u32; 7] {
+    const SIZE: usize = 28;
+
+    const LIMIT: usize = 329_406_144_173_384_849;
+
+    fn numbered(_ledger: &'static Ledger, number: u64) -> [u32; 7] {
+        [(number % 65521) as u32; 7]
+    }
+}
+
+impl Numbered for u64 {
+    const SIZE: usize = 8;
+
+    const LIMIT: usize = 1_152_921_504_606_846_973;
+
+    fn numbered(_ledger: &'static Ledger, number: u64) -> u64 {
+        number
+    }
+}
+
+impl Numbered for [u64; 3] {
+    const SIZE: usize = 24;
+
+    const LIMIT: usize = 384_307_168_202_282_324;
+
+    fn numbered(_ledger: &'static Ledger, number: u64) -> [u64; 3] {
+        [number; 3]
+    }
+}
+
+impl Numbered for u128 {
+    const SIZE: usize = 16;
+
+    const LIMIT: usize = 576_460_752_303_423_486;
+
+    fn numbered(_ledger: &'static Ledger, number: u64) -> u128 {
+        u128::from(number) << 64
+    }
+}
+
+impl Numbered for Counted<'static> {
+    const SIZE: usize = 16;
+
+    const LIMIT: usize = 576_460_752_303_423_486;
+
+    const IS_COUNTED: bool = true;
+
+    fn numbered(ledger: &'static Ledger, number: u64) -> Self {
+        Counted::new(ledger, number, ())
+    }
+}
+
+impl Numbered for Counted<'static, u64> {
+    const SIZE: usize = 24;
+
+    const LIMIT: usize = 384_307_168_202_282_324;
+
+    const IS_COUNTED: bool = true;
+
+    fn numbered(ledger: &'static Ledger, number: u64) -> Self {
+        Counted::new(ledger, number, number)
+    }
+}
+
+impl Numbered for Counted<'static, [u64; 62]> {
+    const SIZE: usize = 512;
+
+    const LIMIT: usize = 18_014_398_509_481_983;
+
+    const IS_COUNTED: bool = true;
+
+    fn numbered(ledger: &'static Ledger, number: u64) -> Self {
+        Counted::new(ledger, number, [number; 62])
+    }
+}
