@@ -18,9 +18,14 @@ pub fn write_help(out: &mut impl Write) -> io::Result<()> {
 }
 
 /// Writes the items of the list, and ends the line.
-pub fn write_list(out: &mut impl Write, list: &List) -> io::Result<()> {
-    let capacity = capacity_of(list);
-    writeln!(out, "; items {list:?}{capacity}")
+pub fn write_items(out: &mut impl Write, list: &List) -> io::Result<()> {
+    writeln!(out, "items {list:?}")
+}
+
+/// Writes the length and the capacity of the list, and ends the line.
+pub fn write_state(out: &mut impl Write, list: &List) -> io::Result<()> {
+    let (length, capacity) = (list.len(), capacity_of(list));
+    writeln!(out, "; length {length}{capacity}")
 }
 
 /// Writes the reply.

@@ -41,6 +41,7 @@ pub enum Command {
 pub enum Line {
     Help,
     New,
+    Items,
     Call(Command),
 }
 
@@ -51,12 +52,14 @@ pub enum LineError {
     NotANumber(&'static str),
     ZeroDivisor,
     BadSteps,
+    NotUtf8,
 }
 
 /// The forms of the lines, each with the name of the command as its first word.
-pub const FORMS: [&str; 27] = [
+pub const FORMS: [&str; 28] = [
     "help",
     "new",
+    "items",
     "push ITEM",
     "pop",
     "insert INDEX ITEM",
@@ -85,12 +88,14 @@ pub const FORMS: [&str; 27] = [
 ];
 
 /// What the words of the forms mean.
-pub const NOTES: [&str; 5] = [
+pub const NOTES: [&str; 7] = [
     "All numbers are from 0 to 18446744073709551615.",
     "STEPS is `-`, or a word of the letters `f` (a call of `next`) and `b` (of `next_back`).",
     "CALLS is the number of calls of `next`.",
     "HINT is the lower bound of the iterator's size hint.",
     "DIVISOR, STRIDE and ADDED describe a closure, as crates/thin_replay/README.md says.",
+    "All lines are read, and kept in memory, before the first command is carried out.",
+    "A reply takes 16 bytes of memory for each call of `next` and `next_back`.",
 ];
 
 impl fmt::Display for LineError {
@@ -104,6 +109,7 @@ impl fmt::Display for LineError {
                 write!(f, "{name} is not a number from 0 to {}", u64::MAX)
             }
             LineError::ZeroDivisor => write!(f, "DIVISOR is 0"),
+            LineError::NotUtf8 => write!(f, "the line is not UTF-8"),
             LineError::BadSteps => {
                 write!(
                     f,
@@ -121,6 +127,7 @@ impl Line {
         match words[..] {
             ["help"] => Ok(Line::Help),
             ["new"] => Ok(Line::New),
+            ["items"] => Ok(Line::Items),
             _ => match command(&words)? {
                 Some(command) => Ok(Line::Call(command)),
                 None => Err(wrong_form(words[0])),

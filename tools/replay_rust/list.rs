@@ -6,12 +6,12 @@ pub type List = Vec<u64>;
 #[cfg(over_crate)]
 pub type List = thin_vec::ThinVec<u64>;
 
-/// Returns the capacity as text, and nothing for a `Vec`, whose capacities are not compared.
+/// Returns the capacity as text. A `Vec` has other capacities, so a `?` stands for them.
 pub fn capacity_of(list: &List) -> String {
     if cfg!(over_crate) {
         format!("; capacity {}", list.capacity())
     } else {
-        String::new()
+        "; capacity ?".to_string()
     }
 }
 

@@ -1,5 +1,6 @@
 //! Does what `crates/thin_replay` does, over Rust's `Vec`: reads commands from standard input, one
-//! on each line, carries them out, and prints the reply and the items after each command.
+//! on each line, carries them out, and prints the reply and the length of the list after each
+//! command. The line `items` prints the items.
 //!
 //! With `--cfg over_crate` it does so over the `ThinVec` of the Rust crate thin-vec, and prints the
 //! capacities too. `build` compiles both forms.
@@ -14,7 +15,7 @@ mod list;
 use crate::carry_out::carry_out;
 use crate::line::{Line, LineError};
 use crate::list::List;
-use std::io::{self, BufRead, BufWriter, Write};
+use std::io::{self, BufRead, BufWriter, ErrorKind, Write};
 use std::process::ExitCode;
 
 /// Why the program ends with the status 1.
@@ -55,13 +56,17 @@ fn replay() -> Result<(), ReplayError> {
 fn read_lines() -> Result<Vec<Line>, ReplayError> {
     let mut lines = Vec::new();
     for (index, text) in io::stdin().lock().lines().enumerate() {
-        let text = text?;
-        if text.trim().is_empty() {
-            continue;
-        }
-        match Line::parse(&text) {
-            Ok(line) => lines.push(line),
-            Err(cause) => return Err(ReplayError::BadLine(index + 1, cause)),
+        let number = index + 1;
+        match text {
+            Ok(text) if text.trim().is_empty() => (),
+            Ok(text) => match Line::parse(&text) {
+                Ok(line) => lines.push(line),
+                Err(cause) => return Err(ReplayError::BadLine(number, cause)),
+            },
+            Err(error) if error.kind() == ErrorKind::InvalidData => {
+                return Err(ReplayError::BadLine(number, LineError::NotUtf8));
+            }
+            Err(error) => return Err(error.into()),
         }
     }
     Ok(lines)
@@ -71,11 +76,12 @@ fn read_lines() -> Result<Vec<Line>, ReplayError> {
 fn answer_line(out: &mut impl Write, list: &mut List, line: Line) -> io::Result<()> {
     match line {
         Line::Help => return answer::write_help(out),
+        Line::Items => return answer::write_items(out, list),
         Line::New => {
             *list = List::new();
             write!(out, "new")?;
         }
         Line::Call(command) => answer::write_reply(out, carry_out(list, command))?,
     }
-    answer::write_list(out, list)
+    answer::write_state(out, list)
 }

@@ -11,7 +11,7 @@ use Rattle.thin_replay.specs.Words.{HasForm, SpellAll, Spells, SpellsSteps, Word
 use Rattle.thin_replay.specs.declared.call.Call.{Call}
 use Rattle.thin_replay.specs.declared.divisor_judge.DivisorJudge.{DivisorJudge}
 use Rattle.thin_replay.specs.declared.line.Line.{Line}
-use Rattle.thin_replay.specs.declared.line.Line.TheVariants.{Carry, Help, New}
+use Rattle.thin_replay.specs.declared.line.Line.TheVariants.{Carry, Help, Items, New}
 
 -- `BeginsForm words name count` holds if there are at least `count` words, and the first word is
 -- `name`.
@@ -104,12 +104,13 @@ IsFilter name command = ⊥
 abbrev pub IsCall : Words → Call → Type 0
 IsCall words call = Says words call.command × SaysJudge words call.command call.judge
 
--- `IsLine words line` holds if the words describe the line. The single word `help` describes the
--- line `Help`, and the single word `new` describes the line `New`. Any other line contains a call,
--- and the words must describe this call.
+-- `IsLine words line` holds if the words describe the line. The single words `help`, `new` and
+-- `items` describe the lines `Help`, `New` and `Items`. Any other line contains a call, and the
+-- words must describe this call.
 abbrev pub IsLine : Words → Line → Type 0
 IsLine words Help = HasForm words (codes "help") 1
 IsLine words New = HasForm words (codes "new") 1
+IsLine words Items = HasForm words (codes "items") 1
 IsLine words (Carry call) = IsCall words call
 
 -- `HasWords text words` holds if splitting the text at white space yields exactly the list `words`.

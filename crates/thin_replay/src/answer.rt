@@ -1,5 +1,5 @@
-//! Functions that write the output of the program: the replies to commands, the list, and the text
-//! of `help`.
+//! Functions that write the output of the program: the replies to commands, the length and the
+//! capacity of the list, its items, and the text of `help`.
 
 use crate::forms::{FORMS, NOTES};
 use std::io::{self, Write};
@@ -20,10 +20,15 @@ pub fn write_help(out: &mut impl Write) -> io::Result<()> {
     Ok(())
 }
 
-/// Writes the items and the capacity of the list, followed by a newline.
-pub fn write_list(out: &mut impl Write, list: &ThinVec<u64>) -> io::Result<()> {
-    let capacity = list.capacity();
-    writeln!(out, "; items {list:?}; capacity {capacity}")
+/// Writes the items of the list, and ends the line.
+pub fn write_items(out: &mut impl Write, list: &ThinVec<u64>) -> io::Result<()> {
+    writeln!(out, "items {list:?}")
+}
+
+/// Writes the length and the capacity of the list, and ends the line.
+pub fn write_state(out: &mut impl Write, list: &ThinVec<u64>) -> io::Result<()> {
+    let (length, capacity) = (list.len(), list.capacity());
+    writeln!(out, "; length {length}; capacity {capacity}")
 }
 
 /// Writes the reply.

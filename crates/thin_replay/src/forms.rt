@@ -2,9 +2,10 @@
 
 /// The forms that a line of the input can have. The first word of each form is the name of the
 /// command.
-pub static FORMS: [&str; 27] = [
+pub static FORMS: [&str; 28] = [
     "help",
     "new",
+    "items",
     "push ITEM",
     "pop",
     "insert INDEX ITEM",
@@ -33,12 +34,14 @@ pub static FORMS: [&str; 27] = [
 ];
 
 /// Notes that explain the words in capital letters in `FORMS`.
-pub static NOTES: [&str; 5] = [
+pub static NOTES: [&str; 7] = [
     "All numbers are from 0 to 18446744073709551615.",
     "STEPS is `-`, or a word of the letters `f` (a call of `next`) and `b` (of `next_back`).",
     "CALLS is the number of calls of `next`.",
     "HINT is the lower bound of the iterator's size hint.",
     "DIVISOR, STRIDE and ADDED describe a closure, as crates/thin_replay/README.md says.",
+    "All lines are read, and kept in memory, before the first command is carried out.",
+    "A reply takes 16 bytes of memory for each call of `next` and `next_back`.",
 ];
 
 /// Returns the form in `FORMS` whose first word is `name`, or `None` if there is no such form.

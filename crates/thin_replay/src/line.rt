@@ -12,6 +12,8 @@ pub enum Line {
     Help,
     /// The line `new`: the program drops the list and starts a new one.
     New,
+    /// The line `items`. It makes the program print the items of the list.
+    Items,
     /// Any other line. Such a line describes a command.
     Carry(Call),
 }
@@ -38,6 +40,7 @@ impl Line {
         match words {
             ["help"] => Ok(Line::Help),
             ["new"] => Ok(Line::New),
+            ["items"] => Ok(Line::Items),
             _ => match Call::parse(alloc, words)? {
                 Some(call) => Ok(Line::Carry(call)),
                 None => Err(wrong_form(words)),

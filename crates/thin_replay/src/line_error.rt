@@ -25,6 +25,9 @@ pub enum LineError {
     /// other than `f` and `b`.
     #[error("STEPS is neither `-` nor a word of the letters `f` and `b`")]
     BadSteps,
+    /// The line contains bytes that are not UTF-8.
+    #[error("the line is not UTF-8")]
+    NotUtf8,
     /// There is not enough memory for the parsed line.
     #[error("out of memory")]
     Memory(#[from(alloc)] AllocError),

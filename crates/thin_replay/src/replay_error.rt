@@ -2,7 +2,6 @@
 
 use crate::line_error::LineError;
 use std::io;
-use thin_vec::ThinVecError;
 use thiserror::Error;
 
 /// The reason why the program could not read, carry out or answer all lines of the input.
@@ -16,12 +15,15 @@ pub enum ReplayError {
         /// The reason why the line is invalid.
         cause: LineError,
     },
-    /// Reading standard input or writing to standard output failed, or there was not enough memory
-    /// for the lines of the input.
+    /// Reading the input or writing the output failed, or there was not enough memory for the
+    /// lines of the input.
     #[error("{0}")]
     Io(#[from] io::Error),
-    /// There was not enough memory to carry out a command: the `Vec` of commands or the `Vec` of
-    /// replies could not be allocated.
-    #[error("{0}")]
-    Memory(#[from] ThinVecError),
+    /// There was not enough memory for the list or for the reply. The commands before this line
+    /// were carried out and answered.
+    #[error("line {number}: out of memory")]
+    Memory {
+        /// The number of the line.
+        number: usize,
+    },
 }
