@@ -1,8 +1,9 @@
-//! Tests of `ThinVec`, of `Block`, of the table `Rows`, of the example functions and worked
-//! examples in `thin_examples`, and of the allocator `Refusing`.
+//! Tests of what contracts do not state, and the tests of the Rust crate thin-vec. The sweeps in the
+//! crate `thin_vec_sweep` look for leaks, for requests that are not needed, and for needless
+//! failures. The tests here look for the rest.
 //!
-//! If a crate contains tests, the checker proves its contracts twice. So the tests are in a crate
-//! of their own, and the contracts of the tested crates are proved only once.
+//! A crate with tests is proved twice, with and without them. So the tests are in a crate of their
+//! own, and the tested crates are proved only once.
 #![tactic(auto)]
 
 #[cfg(test)]

@@ -1,76 +1,75 @@
-//! Tests that methods such as `retain` drop their closure when the call ends, together with the
-//! values that the closure owns. Also tests that an `ExtractIf` drops its closure when the
-//! `ExtractIf` is dropped.
-use crate::tests::support::assertions::{assert_items, assert_len, assert_same};
-use crate::tests::support::counted::Counted;
-use crate::tests::support::items::list_of;
-use std::cell::Cell;
-use std::process::Abort;
+//! Tests that calls drop their closures, and with them what the closures own. Also tests what a
+//! closure leaves in a variable that it borrows.
+use crate::tests::support::{assert_items, assert_len, assert_same, leaked_ledger, list_of};
 use std::rc::Rc;
-use thin_vec::ThinVec;
+use std::test::Fail;
+use thin_testing::Counted;
 
-// Returns true if `item` is not 2, and false otherwise. The parameter `_owned` is a reference to a
-// value that the calling closure owns.
-fn is_not_two(_owned: &Counted<'_>, item: i32) -> bool {
-    item != 2
-}
-
-// Asserts that the list contains 1 and 3, and that `drops` is 1. If `drops` is 1, the value that
-// the closure owned has been dropped exactly once.
-fn assert_without_two(rt: &impl Abort, list: &ThinVec<i32>, drops: &Cell<u32>) {
-    assert_items(rt, list.as_slice(), &[1, 3]);
-    assert_same(rt, drops.get(), 1);
+// Tests an item in a closure that owns a `Counted`.
+fn is_two(_owned: &Counted<'_>, item: i32) -> bool {
+    item == 2
 }
 
 #[test]
-fn retain_drops_its_closure(rt: HostRuntime) {
-    let drops = Cell::new(0);
-    let owned = Counted::new(&drops);
-    let mut list = list_of(&rt, rt.alloc(), &[1, 2, 3]);
-    list.retain(move |item| is_not_two(&owned, *item));
-    assert_without_two(&rt, &list, &drops);
+fn filters_drop_their_closures(rt: HostRuntime) -> Result<(), Fail> {
+    let ledger = leaked_ledger(&rt, rt.alloc());
+    let mut list = list_of(rt.alloc(), &[1, 2, 3, 4, 5, 6])?;
+    let owned = Counted::new(ledger, 7, ());
+    list.retain(move |item| !is_two(&owned, *item));
+    assert_same(&rt, ledger.live.get(), 0);
+    let owned = Counted::new(ledger, 7, ());
+    list.retain_mut(move |item| is_two(&owned, 2) && *item != 3);
+    assert_same(&rt, ledger.live.get(), 0);
+    let owned = Counted::new(ledger, 7, ());
+    list.dedup_by(move |later, _kept| is_two(&owned, 2) && *later == 4);
+    assert_same(&rt, ledger.live.get(), 0);
+    let owned = Counted::new(ledger, 7, ());
+    list.dedup_by_key(move |item| is_two(&owned, 2) && *item == 1);
+    assert_same(&rt, ledger.live.get(), 0);
+    assert_items(&rt, &list, &[1, 5]);
+    Ok(())
 }
 
 #[test]
-fn retain_mut_drops_its_closure(rt: HostRuntime) {
-    let drops = Cell::new(0);
-    let owned = Counted::new(&drops);
-    let mut list = list_of(&rt, rt.alloc(), &[1, 2, 3]);
-    list.retain_mut(move |item| is_not_two(&owned, *item));
-    assert_without_two(&rt, &list, &drops);
+fn pop_if_and_resize_with_drop_their_closures(rt: HostRuntime) -> Result<(), Fail> {
+    let ledger = leaked_ledger(&rt, rt.alloc());
+    let mut list = list_of(rt.alloc(), &[1, 2])?;
+    let owned = Counted::new(ledger, 7, ());
+    assert_same(&rt, list.pop_if(move |item| is_two(&owned, *item)), Some(2));
+    assert_same(&rt, ledger.live.get(), 0);
+    let owned = Counted::new(ledger, 7, ());
+    list.resize_with(3, move || if is_two(&owned, 2) { 8 } else { 9 })?;
+    assert_same(&rt, ledger.live.get(), 0);
+    assert_items(&rt, &list, &[1, 8, 8]);
+    Ok(())
 }
 
+// The closure owns an `Rc`, because the borrow checker accepts no borrow in the closure of an
+// `ExtractIf`, and a `Counted` has one.
 #[test]
-fn dedup_by_drops_its_closure(rt: HostRuntime) {
-    let drops = Cell::new(0);
-    let owned = Counted::new(&drops);
-    let mut list = list_of(&rt, rt.alloc(), &[1, 2, 3]);
-    list.dedup_by(move |later, _kept| !is_not_two(&owned, *later));
-    assert_without_two(&rt, &list, &drops);
-}
-
-#[test]
-fn dedup_by_key_drops_its_closure(rt: HostRuntime) {
-    let drops = Cell::new(0);
-    let owned = Counted::new(&drops);
-    let mut list = list_of(&rt, rt.alloc(), &[1, 2, 3]);
-    list.dedup_by_key(move |item| is_not_two(&owned, *item) && *item == 3);
-    assert_without_two(&rt, &list, &drops);
-}
-
-// Tests when `extract_if` drops its closure. The closure owns an `Rc`, whose reference count shows
-// whether the closure has been dropped. The closures of the other tests own a `Counted`, which
-// contains a borrow. Here, the borrow checker accepts no closure with a borrow.
-#[test]
-fn extract_if_drops_its_closure(rt: HostRuntime) {
-    let kept = Rc::new(rt.alloc(), 2).ok().expect(&rt, "memory");
-    let owned = kept.clone().expect(&rt, "memory");
-    let mut list = list_of(&rt, rt.alloc(), &[1, 2, 3]);
+fn extract_if_drops_its_closure(rt: HostRuntime) -> Result<(), Fail> {
+    let kept = Rc::new(rt.alloc(), 2)?;
+    let owned = kept.clone()?;
+    let mut list = list_of(rt.alloc(), &[1, 2, 3])?;
     assert_len(&rt, &list, 3);
     let mut twos = list.extract_if(0, 3, move |item: &mut i32| *item == *owned.as_ref());
-    assert_same(&rt, twos.next(), Some(2));
-    assert_same(&rt, Rc::strong_count(&kept), 2);
+    assert_same(&rt, (twos.next(), Rc::strong_count(&kept)), (Some(2), 2));
     drop(twos);
     assert_same(&rt, Rc::strong_count(&kept), 1);
-    assert_items(&rt, list.as_slice(), &[1, 3]);
+    assert_items(&rt, &list, &[1, 3]);
+    Ok(())
+}
+
+#[test]
+fn retain_mut_numbers_the_items(rt: HostRuntime) -> Result<(), Fail> {
+    let mut list = list_of(rt.alloc(), &[9, 9, 9, 9])?;
+    let mut number: i32 = 0;
+    list.retain_mut(|item| {
+        number = number.saturating_add(1);
+        *item = number;
+        number != 4
+    });
+    assert_items(&rt, &list, &[1, 2, 3]);
+    assert_same(&rt, number, 4);
+    Ok(())
 }

@@ -1,12 +1,14 @@
-//! Tests of the largest possible capacities for items of several primitive types. The expected
-//! numbers were computed by hand.
+//! Tests of the growth rules: the largest capacities, and the capacities that `PowerBytes` chooses.
+//! The expected numbers were computed by hand.
 ghost use Rattle.std.specs.Prelude.{◌≡◌, IsTrue, IsFalse, ◌^◌, ◌-◌, ◌+◌};
 ghost use Rattle.thin_block.specs.Capacity.{items_offset, fits as fits_at};
 
-use crate::tests::support::assertions::assert_same;
-use std::alloc::AllocError;
+use crate::tests::support::assert_same;
+use std::alloc::Global;
+use std::process::Abort;
+use std::test::Fail;
 use thin_block::{Growth, PowerBytes, first_capacity, fits, next_capacity};
-use thin_vec::ThinVecError;
+use thin_vec::{ThinVec, ThinVecError};
 
 #[test]
 fn fits_accepts_capacities_up_to_the_greatest(rt: HostRuntime) {
@@ -28,19 +30,15 @@ fn next_capacity_follows_doubling(rt: HostRuntime) {
         let answer = (cap, want, next_capacity::<i32>(cap, want));
         assert_same(&rt, answer, (cap, want, Some(next)));
     }
-    assert_same(
-        &rt,
-        [
-            next_capacity::<u8>((1 << 62) - 12, (1 << 62) - 11),
-            next_capacity::<u8>(1 << 62, (1 << 62) + 1),
-            next_capacity::<()>(1 << 62, (1 << 62) + 1),
-        ],
-        [Some((1 << 63) - 24), None, None],
-    );
+    let last = [
+        next_capacity::<u8>((1 << 62) - 12, (1 << 62) - 11),
+        next_capacity::<u8>(1 << 62, (1 << 62) + 1),
+        next_capacity::<()>(1 << 62, (1 << 62) + 1),
+    ];
+    assert_same(&rt, last, [Some((1 << 63) - 24), None, None]);
 }
 
-// Tests that an allocation of 2^62 bytes has room for 2^62 - 16 items of one byte. For one more
-// item, the growth rule `PowerBytes` chooses no capacity, but the growth rule `Doubling` does.
+// A block of 2^62 bytes has room for 2^62 - 16 items of one byte.
 #[test]
 fn power_bytes_has_no_capacity_past_2_to_62_bytes(rt: HostRuntime) {
     let last = (1 << 62) - 16;
@@ -54,22 +52,34 @@ fn power_bytes_has_no_capacity_past_2_to_62_bytes(rt: HostRuntime) {
     }
 }
 
-#[test]
-fn errors_print_their_texts(rt: HostRuntime) {
-    for &(error, wanted) in &[
-        (ThinVecError::CapacityOverflow, "capacity overflow"),
-        (ThinVecError::OutOfMemory, "out of memory"),
-    ] {
-        let text = format!(in rt.alloc(); "{error}").expect(&rt, "memory");
-        assert_same(&rt, text.as_str(), wanted);
+// Pushes items onto a new list. Asserts that its capacity is always the smallest number in
+// `capacities` that is at least its length.
+fn assert_grows<T: Copy + Drop>(
+    rt: &impl Abort,
+    alloc: Global,
+    item: T,
+    capacities: &[usize],
+) -> Result<(), ThinVecError> {
+    let mut list = ThinVec::<T, Global, PowerBytes>::ruled(alloc);
+    for &capacity in capacities {
+        for _ in list.len()..capacity {
+            list.push(item)?;
+            assert_same(rt, list.capacity(), capacity);
+        }
     }
-    let cause = ThinVecError::from(AllocError);
-    assert_same(&rt, cause, ThinVecError::OutOfMemory);
+    Ok(())
 }
 
-// Proves the largest capacity of a list and the offset of its items, for one-byte items with the
-// alignment 32 and for one-byte items with the alignment 256. This can only be proved, and not
-// tested, because no type of Rattle has such an alignment.
+#[test]
+fn power_bytes_fills_blocks_of_power_of_two_sizes(rt: HostRuntime) -> Result<(), Fail> {
+    let alloc = rt.alloc();
+    assert_grows(&rt, alloc, 7_u64, &[2, 6, 14])?;
+    assert_grows(&rt, alloc, [7_u64, 8, 9], &[2, 4, 10])?;
+    assert_grows(&rt, alloc, (), &[4, 8, 16])?;
+    Ok(())
+}
+
+// No type of Rattle has an alignment of 32 or 256, so these numbers can only be proved.
 #[tactic(auto, unfolding(thin_block::specs::Capacity::fits))]
 fn states_limits_at_greater_alignments()
     ensures byte_items { items_offset 1 ≡ 16 }

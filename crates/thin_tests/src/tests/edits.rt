@@ -1,0 +1,51 @@
+//! Tests of what no contract states of a list that another call edits: one that `collect` or
+//! `extend` drains, one whose `Drain` is forgotten, and one over which a loop iterates.
+use crate::tests::support::{assert_items, assert_len, assert_same, list_of};
+use std::mem;
+use std::test::Fail;
+use thin_vec::ThinVec;
+
+#[test]
+fn collect_removes_the_drained_items(rt: HostRuntime) -> Result<(), Fail> {
+    let mut list = list_of(rt.alloc(), &[1, 2, 3, 4, 5, 6])?;
+    assert_len(&rt, &list, 6);
+    let front: Vec<i32> = list.drain(1, 3).collect(rt.alloc())?;
+    assert_items(&rt, &front, &[2, 3]);
+    assert_items(&rt, &list, &[1, 4, 5, 6]);
+    assert_len(&rt, &list, 4);
+    let back: Vec<i32> = list.drain(0, 2).rev().collect(rt.alloc())?;
+    assert_items(&rt, &back, &[4, 1]);
+    assert_items(&rt, &list, &[5, 6]);
+    Ok(())
+}
+
+#[test]
+fn extend_removes_the_drained_items(rt: HostRuntime) -> Result<(), Fail> {
+    let mut list = list_of(rt.alloc(), &[1, 2, 3, 4])?;
+    let mut other = list_of(rt.alloc(), &[9])?;
+    assert_len(&rt, &list, 4);
+    other.extend(list.drain(1, 3))?;
+    assert_items(&rt, &list, &[1, 4]);
+    assert_items(&rt, &other, &[9, 2, 3]);
+    Ok(())
+}
+
+#[test]
+fn list_is_usable_if_its_drain_is_forgotten(rt: HostRuntime) -> Result<(), Fail> {
+    let mut list = list_of(rt.alloc(), &[1, 2, 3])?;
+    assert_len(&rt, &list, 3);
+    mem::forget(list.drain(1, 2));
+    list.push(9)?;
+    assert_same(&rt, list.last(), Some(&9));
+    Ok(())
+}
+
+#[test]
+fn a_loop_writes_to_each_item(rt: HostRuntime) -> Result<(), Fail> {
+    let mut list = list_of(rt.alloc(), &[1_i32, 2, 3])?;
+    for item in &mut list {
+        *item = item.saturating_mul(2);
+    }
+    assert_items(&rt, &list, &[2, 4, 6]);
+    Ok(())
+}

@@ -1,0 +1,144 @@
+//! Tests of lists whose blocks grow and shrink. A block whose items take 256 bytes or more can do so
+//! in place if an item takes 1, 2, 4, 8 or 16 bytes. Each request is refused once and then granted.
+use crate::tests::support::{assert_same, leaked_ledger};
+use std::alloc::{Allocator, Global};
+use std::process::Abort;
+use std::test::Fail;
+use thin_testing::{Ledger, Numbered, Refusing};
+use thin_vec::{Growth, ThinVec, ThinVecError};
+
+// Asserts the length and the capacity of the list, and that each item is made from its index.
+fn assert_numbered<T: Numbered, A: Allocator, G: Growth>(
+    rt: &impl Abort,
+    ledger: &'static Ledger,
+    list: &ThinVec<T, A, G>,
+    len: usize,
+    capacity: usize,
+) {
+    let mut right = 0_usize;
+    for item in list.as_slice() {
+        if *item == T::numbered(ledger, right as u64) {
+            right = right.saturating_add(1);
+        }
+    }
+    assert_same(
+        rt,
+        (right, list.len(), list.capacity()),
+        (len, len, capacity),
+    );
+}
+
+// Pushes items until the list is full.
+fn fill<T: Numbered, A: Allocator, G: Growth>(
+    ledger: &'static Ledger,
+    list: &mut ThinVec<T, A, G>,
+) -> Result<(), ThinVecError> {
+    for index in list.len()..list.capacity() {
+        list.push(T::numbered(ledger, index as u64))?;
+    }
+    Ok(())
+}
+
+// Changes the capacity of the list with one request.
+fn make_capacity<T: Drop, A: Allocator, G: Growth>(
+    list: &mut ThinVec<T, A, G>,
+    capacity: usize,
+) -> Result<(), ThinVecError> {
+    if capacity > list.capacity() {
+        list.reserve_exact(capacity.saturating_sub(list.len()))
+    } else {
+        list.shrink_to(capacity)
+    }
+}
+
+// Makes a full list of `len` items. Changes its capacity to `len + more`, `len + 2 * more`,
+// `len + more` and `len`, each time after a refused attempt.
+fn assert_capacities<T: Numbered>(
+    rt: &impl Abort,
+    ledger: &'static Ledger,
+    len: usize,
+    more: usize,
+) -> Result<(), ThinVecError> {
+    let refusing = &ledger.alloc;
+    refusing.refuse(0);
+    let mut list = ThinVec::<T, &Refusing<Global>>::new(refusing);
+    list.reserve_exact(len)?;
+    fill(ledger, &mut list)?;
+    let larger = len.saturating_add(more);
+    for capacity in [larger, larger.saturating_add(more), larger, len] {
+        let before = list.capacity();
+        refusing.refuse(1);
+        let refused = make_capacity(&mut list, capacity);
+        assert_same(rt, refused, Err(ThinVecError::OutOfMemory));
+        assert_numbered(rt, ledger, &list, len, before);
+        make_capacity(&mut list, capacity)?;
+        assert_numbered(rt, ledger, &list, len, capacity);
+        assert_same(rt, (refusing.requests(), refusing.blocks()), (2, 1));
+    }
+    Ok(())
+}
+
+// Tries lists whose items take about 256 bytes.
+fn assert_type<T: Numbered>(rt: &impl Abort, ledger: &'static Ledger) -> Result<(), ThinVecError> {
+    let long = 256_usize.checked_div(T::SIZE).unwrap_or(0);
+    for len in long.saturating_sub(1)..long.saturating_add(9) {
+        for more in 1..10 {
+            assert_capacities::<T>(rt, ledger, len, more)?;
+        }
+    }
+    Ok(())
+}
+
+#[test]
+fn a_list_of_each_width_grows_and_shrinks_in_place(rt: HostRuntime) -> Result<(), Fail> {
+    let ledger = leaked_ledger(&rt, rt.alloc());
+    assert_type::<u8>(&rt, ledger)?;
+    assert_type::<u16>(&rt, ledger)?;
+    assert_type::<i32>(&rt, ledger)?;
+    assert_type::<u64>(&rt, ledger)?;
+    assert_type::<u128>(&rt, ledger)?;
+    Ok(())
+}
+
+#[test]
+fn a_list_of_items_of_odd_sizes_grows_and_shrinks(rt: HostRuntime) -> Result<(), Fail> {
+    let ledger = leaked_ledger(&rt, rt.alloc());
+    assert_type::<[u8; 3]>(&rt, ledger)?;
+    assert_type::<[u8; 5]>(&rt, ledger)?;
+    assert_type::<[u8; 7]>(&rt, ledger)?;
+    assert_type::<[u32; 3]>(&rt, ledger)?;
+    assert_type::<[u32; 5]>(&rt, ledger)?;
+    assert_type::<[u32; 7]>(&rt, ledger)?;
+    assert_type::<[u64; 3]>(&rt, ledger)?;
+    Ok(())
+}
+
+// Pushes 3000 items onto a list. Each time that the list is full, another list is allocated
+// directly after it, so that it cannot grow in place.
+fn assert_moves<T: Numbered>(
+    rt: &impl Abort,
+    ledger: &'static Ledger,
+    alloc: Global,
+) -> Result<(), ThinVecError> {
+    let mut neighbours = ThinVec::<ThinVec<u8>>::new(alloc);
+    let mut list = ThinVec::<T>::new(alloc);
+    for index in 0..3000 {
+        if list.len() == list.capacity() {
+            neighbours.push(ThinVec::with_capacity(alloc, 40)?)?;
+        }
+        list.push(T::numbered(ledger, index))?;
+    }
+    assert_numbered(rt, ledger, &list, 3000, 4096);
+    Ok(())
+}
+
+#[test]
+fn a_list_moves_if_it_cannot_grow_in_place(rt: HostRuntime) -> Result<(), Fail> {
+    let (ledger, alloc) = (leaked_ledger(&rt, rt.alloc()), rt.alloc());
+    assert_moves::<u8>(&rt, ledger, alloc)?;
+    assert_moves::<u16>(&rt, ledger, alloc)?;
+    assert_moves::<i32>(&rt, ledger, alloc)?;
+    assert_moves::<u64>(&rt, ledger, alloc)?;
+    assert_moves::<u128>(&rt, ledger, alloc)?;
+    Ok(())
+}

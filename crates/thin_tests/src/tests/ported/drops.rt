@@ -1,0 +1,58 @@
+//! When items are dropped: each one once. Dropping an empty list makes no request.
+use crate::tests::support::{assert_same, counted_list, leaked_ledger};
+use std::iter::once;
+use std::test::Fail;
+use thin_testing::{Counted, Refusing};
+use thin_vec::ThinVec;
+
+#[test]
+fn truncate_drops_each_removed_item_once(rt: HostRuntime) -> Result<(), Fail> {
+    let ledger = leaked_ledger(&rt, rt.alloc());
+    let mut list = counted_list(ledger, rt.alloc(), 5)?;
+    for len in [3, 0] {
+        list.truncate(len);
+        assert_same(&rt, ledger.live.get(), len as u64);
+    }
+    drop(list);
+    assert_same(&rt, ledger.live.get(), 0);
+    Ok(())
+}
+
+#[derive(Drop)]
+struct TwoLists {
+    early: ThinVec<Counted<'static>>,
+    late: ThinVec<Counted<'static>>,
+}
+
+#[test]
+fn dropping_a_moved_list_drops_its_item_once(rt: HostRuntime) -> Result<(), Fail> {
+    let ledger = leaked_ledger(&rt, rt.alloc());
+    let lists = TwoLists {
+        early: counted_list(ledger, rt.alloc(), 1)?,
+        late: counted_list(ledger, rt.alloc(), 1)?,
+    };
+    assert_same(&rt, ledger.live.get(), 2);
+    drop(lists.early);
+    assert_same(&rt, ledger.live.get(), 1);
+    drop(lists.late);
+    assert_same(&rt, ledger.live.get(), 0);
+    Ok(())
+}
+
+#[test]
+fn extend_moves_an_item_without_dropping_it(rt: HostRuntime) -> Result<(), Fail> {
+    let ledger = leaked_ledger(&rt, rt.alloc());
+    let mut list: ThinVec<Counted<'static>> = ThinVec::new(rt.alloc());
+    list.extend(once(Counted::new(ledger, 1, ())))?;
+    assert_same(&rt, ledger.live.get(), 1);
+    drop(list);
+    assert_same(&rt, ledger.live.get(), 0);
+    Ok(())
+}
+
+#[test]
+fn dropping_an_empty_list_makes_no_request(rt: HostRuntime) {
+    let refusing = Refusing::new(rt.alloc(), 1);
+    drop(ThinVec::<u64, _>::new(&refusing));
+    assert_same(&rt, refusing.requests(), 0);
+}
