@@ -1,436 +1,367 @@
-//! One test case of a sweep: a call on a list, and its expected result. Each expected item is
-//! represented by the number from which it is made.
-use crate::assertions::{At, assert_live, assert_same, assert_same_item, assert_same_items};
-use crate::ledger::Ledger;
-use crate::samples::Sample;
-use crate::shapes::Shape;
+//! A case of a sweep: a call on a list, and what it must have requested, called and dropped.
 use std::alloc::Global;
+use std::fmt::Debug;
 use std::mem;
 use std::process::Abort;
-use thin_testing::{Refusing, Ruled};
-use thin_vec::{Growth, Rejected, ThinVec, ThinVecError};
+use thin_testing::{Counted, Ledger, Numbered, Refusing};
+use thin_vec::{Growth, ThinVec, ThinVecError};
 
-/// A list under test. Its allocator counts the allocation requests, and can refuse one of them.
-pub type List<T, G> = ThinVec<T, &'static Refusing<Global>, G>;
-
-/// The expected outcome of a call.
-#[derive(Debug, Clone, Copy, PartialEq, Eq)]
-pub enum Verdict {
-    Done,
-    /// The call fails because the capacity would overflow, and not because the allocator refuses a
-    /// request.
-    Overflow,
-    /// The call fails because the allocator refuses to allocate a block, that is, the memory in
-    /// which a list or a `Vec` stores its items.
-    NoRoom,
-    /// The call fails because an item cannot be cloned. The clones that were already made are
-    /// dropped.
-    NoClone,
+/// Returns a ledger that is never freed. The test ends if there is no memory for it.
+pub fn leaked_ledger<R: Abort>(rt: &R, alloc: Global) -> &'static Ledger {
+    Ledger::leaked(alloc).ok().expect(rt, "memory")
 }
 
-impl Verdict {
-    /// Returns the expected return value of a call with this outcome.
-    pub fn answer(self) -> Result<(), ThinVecError> {
-        match self {
-            Verdict::Done => Ok(()),
-            Verdict::Overflow => Err(ThinVecError::CapacityOverflow),
-            Verdict::NoRoom | Verdict::NoClone => Err(ThinVecError::OutOfMemory),
+/// The allocator of the lists under test. It counts the requests, and can refuse one of them.
+pub type Lender = &'static Refusing<Global>;
+
+/// A list under test.
+pub type List<T, G> = ThinVec<T, Lender, G>;
+
+/// Identifies a case. The message of a failed assertion shows it.
+#[derive(Clone, Copy, Debug)]
+pub struct At {
+    pub call: &'static str,
+    /// The number of items before the call.
+    pub length: usize,
+    /// The spare capacity before the call.
+    pub spare: usize,
+    pub argument: usize,
+    /// The number of the refused request, counting from 1, or 0.
+    pub refused: u64,
+}
+
+impl At {
+    /// Returns the pattern that the argument chooses.
+    pub fn pattern(self) -> Pattern {
+        Pattern {
+            number: self.argument as u64,
+            is_short: self.length <= SHORT,
         }
     }
 }
 
-/// A list, and what is expected of a call on it: the items and the capacity afterwards, and the
-/// numbers of allocation requests and clones.
+/// A pattern says which items a closure keeps.
+#[derive(Clone, Copy)]
+pub struct Pattern {
+    number: u64,
+    is_short: bool,
+}
+
+impl Pattern {
+    /// Returns whether the closure keeps the item at `index`. On a list of at most 4 items, each
+    /// pattern is one of those with the numbers below 16.
+    pub fn keeps(self, index: u64) -> bool {
+        if self.is_short {
+            return self.number >> (index % 4) & 1 == 1;
+        }
+        match self.number % 8 {
+            0 => true,
+            1 => false,
+            2 => index % 2 == 0,
+            3 => index % 2 == 1,
+            4 => index % 16 / 2 != 3,
+            5 => index % 50 < 35,
+            _ => (index ^ self.number).wrapping_mul(0x9E37_79B9_7F4A_7C15) >> 40 & 1 == 0,
+        }
+    }
+}
+
+/// What a successful call must have done, beyond at most one request for a new capacity.
+#[derive(Clone, Copy)]
+pub struct Due {
+    /// The number of requests for blocks other than that of the list.
+    pub requests: usize,
+    /// The number of clones of items.
+    pub clones: usize,
+    /// The number of calls to closures.
+    pub calls: usize,
+    /// The number of comparisons of items with `==`.
+    pub comparisons: usize,
+}
+
+/// The answer of a call under test.
+pub type Answer = Result<Due, ThinVecError>;
+
+impl Due {
+    /// The call makes at most one request, for a new capacity, and calls nothing.
+    pub const NOTHING: Due = Due {
+        requests: 0,
+        clones: 0,
+        calls: 0,
+        comparisons: 0,
+    };
+
+    /// The call makes `requests` requests for blocks other than that of the list.
+    pub fn requests(requests: usize) -> Due {
+        Due {
+            requests,
+            ..Due::NOTHING
+        }
+    }
+
+    /// The call makes one request for a block other than that of the list, unless `capacity` is 0.
+    pub fn block_of(capacity: usize) -> Due {
+        Due::requests(capacity.min(1))
+    }
+
+    /// The call clones `clones` items.
+    pub fn clones(self, clones: usize) -> Due {
+        Due { clones, ..self }
+    }
+
+    /// The call calls its closure `calls` times.
+    pub fn calls(calls: usize) -> Due {
+        Due {
+            calls,
+            ..Due::NOTHING
+        }
+    }
+
+    /// The call compares `comparisons` pairs of items.
+    pub fn comparisons(comparisons: usize) -> Due {
+        Due {
+            comparisons,
+            ..Due::NOTHING
+        }
+    }
+}
+
+/// A list, and the case in which a call on it is tested.
 #[derive(Drop)]
-pub struct Case<T: Drop, G: Ruled> {
+pub struct Case<T: Drop, G: Growth> {
     pub at: At,
     pub ledger: &'static Ledger,
     pub list: List<T, G>,
-    /// The expected items of the list after the call. Each item is represented by the number from
-    /// which it is made.
-    pub items: Vec<u64, Global>,
-    /// The expected capacity of the list after the call.
-    pub capacity: usize,
-    /// The number of allocation requests that the call must make.
-    pub requests: u64,
-    /// The number of clones that the ledger must count during the call.
-    pub clones: u64,
-    /// Whether the call was skipped because it would need too much memory.
-    pub is_left_out: bool,
+    // The capacity when `begin` was called.
+    capacity: usize,
 }
 
-impl<T: Sample, G: Ruled> Case<T, G> {
-    /// Returns a test case with a list of the shape `at.shape`. The items of the list are made from
-    /// the numbers 1, 2, 3, and so on.
+impl<T: Numbered, G: Growth> Case<T, G> {
+    /// Makes a list with the length and the spare capacity that `at` states.
     pub fn new<R: Abort>(rt: &R, ledger: &'static Ledger, at: At) -> Case<T, G> {
         ledger.begin(0);
-        let list = filled(rt, ledger, at.shape, 1);
-        ledger.begin(0);
+        let list = filled(rt, ledger, at.length, at.spare);
         Case {
             at,
             ledger,
             list,
-            items: numbers(rt, ledger, 1, at.shape.length),
-            capacity: at.shape.length.saturating_add(at.shape.spare),
-            requests: 0,
-            clones: 0,
-            is_left_out: false,
+            capacity: 0,
         }
     }
 
-    /// Returns the item that `T::nth` makes from `number`.
-    pub fn item<R: Abort>(&self, rt: &R, number: u64) -> T {
-        T::nth(rt, self.ledger, number)
-    }
-
-    /// Resets the counts of requests, of clones, and of calls to `next` and `size_hint`. Must be
-    /// called directly before the call under test. If `at.refused` is not 0, the allocator will
-    /// refuse request number `at.refused`.
-    pub fn begin(&self) {
+    /// Begins to count. Must be called right before the call under test, whose name is `call`.
+    pub fn begin(&mut self, call: &'static str) {
+        self.at.call = call;
+        self.capacity = self.list.capacity();
         self.ledger.begin(self.at.refused);
     }
 
-    /// Returns the expected capacity of the list after a call that makes room for `additional` more
-    /// items by the growth rule. Returns `None` if the capacity overflows.
-    pub fn ruled(&self, additional: usize) -> Option<usize> {
-        let want = self.items.len().checked_add(additional)?;
-        if want <= self.capacity {
-            return Some(self.capacity);
+    /// Makes an item that is not in the list.
+    pub fn item(&self) -> T {
+        T::numbered(self.ledger, FRESH)
+    }
+
+    /// Makes `count` items that are not in the list, of numbers from `FRESH` on.
+    pub fn items<R: Abort>(&self, rt: &R, count: usize) -> Vec<T> {
+        numbered(rt, self.ledger, FRESH, count)
+    }
+
+    /// Returns a list of `length` items, which are not in the list under test.
+    pub fn other<R: Abort>(&self, rt: &R, length: usize, spare: usize) -> List<T, G> {
+        filled(rt, self.ledger, length, spare)
+    }
+
+    /// Takes the list out of the case, and leaves one without a block.
+    pub fn take(&mut self) -> List<T, G> {
+        mem::replace(&mut self.list, ThinVec::ruled(&self.ledger.alloc))
+    }
+
+    /// Returns the closure token of the case: a value that the ledger counts until it is dropped.
+    pub fn token(&self) -> Counted<'static> {
+        Counted::new(self.ledger, 0, ())
+    }
+
+    /// Returns an index that the argument chooses. On a list of at most 4 items, each index and the
+    /// length are chosen by the arguments below 5.
+    pub fn index(&self) -> usize {
+        let length = self.at.length;
+        if length <= SHORT {
+            return length.min(self.at.argument % 5);
         }
-        fitting::<T>(G::expected_capacity(T::SIZE, self.capacity, want))
-    }
-
-    /// Returns the expected capacity of the list after a call such as `reserve_exact(additional)`,
-    /// or `None` if this capacity is too large.
-    pub fn exact(&self, additional: usize) -> Option<usize> {
-        let want = self.items.len().checked_add(additional)?;
-        fitting::<T>(want.max(self.capacity))
-    }
-
-    /// Returns true if the call must be skipped: a list of the given capacity would take too much
-    /// memory, and the first request of the call is not refused. Also stores the result in
-    /// `is_left_out`.
-    pub fn is_too_much(&mut self, capacity: Option<usize>) -> bool {
-        let is_great = capacity.is_some_and(|capacity| capacity > 1_000_000);
-        self.is_left_out = is_great && self.at.refused != 1 && T::LIMIT < isize::MAX as usize;
-        self.is_left_out
-    }
-
-    /// Returns how many requests of the call are to be refused, each in a test case of its own. If
-    /// the call was skipped because it would need too much memory, the result is 1.
-    pub fn requests_in_turn(&self) -> u64 {
-        if self.is_left_out { 1 } else { self.requests }
-    }
-
-    /// Returns the expected outcome of a call that changes the capacity of the list to `capacity`
-    /// and then clones `clones` items. Also updates the expected capacity and the expected numbers
-    /// of requests and clones. `capacity` is `None` if the capacity overflows.
-    pub fn growth(&mut self, capacity: Option<usize>, clones: usize) -> Verdict {
-        let Some(capacity) = capacity else {
-            return Verdict::Overflow;
-        };
-        let blocks = u64::from(capacity != self.capacity && capacity != 0);
-        let verdict = self.verdict(blocks, clones);
-        if verdict != Verdict::NoRoom {
-            self.capacity = capacity;
+        match self.at.argument % 5 {
+            0 => 0,
+            1 => 1,
+            2 => length / 2,
+            3 => length.saturating_sub(1),
+            _ => length,
         }
-        verdict
     }
 
-    /// Returns whether the call must succeed in growing the list to `capacity`. If the capacity
-    /// overflows, `capacity` is `None`, the result is `false`, and nothing is recorded. Otherwise,
-    /// adds 1 to the expected number of requests. If the growth must succeed, the expected capacity
-    /// becomes `capacity`.
-    pub fn grows(&mut self, capacity: Option<usize>) -> bool {
-        let Some(capacity) = capacity else {
-            return false;
-        };
-        if !self.granted() {
-            return false;
+    /// Returns a range that the argument chooses. On a list of at most 4 items, each range is chosen
+    /// by some of the arguments below 25.
+    pub fn range(&self) -> (usize, usize) {
+        let length = self.at.length;
+        let (one, two) = (self.at.argument % 5, self.at.argument / 5 % 5);
+        if length <= SHORT {
+            let (one, two) = (one.min(length), two.min(length));
+            return (one.min(two), one.max(two));
         }
-        self.capacity = capacity;
-        true
+        match one {
+            0 => (0, length),
+            1 => (1, length.saturating_sub(1)),
+            2 => (length / 2, length),
+            3 => (length / 3, length / 2),
+            _ => (length, length),
+        }
     }
 
-    /// Counts one more expected allocation request, and returns whether the allocator grants it.
-    pub fn granted(&mut self) -> bool {
-        self.requests = self.requests.saturating_add(1);
-        self.requests != self.at.refused
+    /// Returns a new length that the argument chooses, and how many items it is above the length.
+    pub fn new_length(&self) -> (usize, usize) {
+        if self.at.argument / 5 % 2 == 0 {
+            return (self.index(), 0);
+        }
+        let more = self.count();
+        (self.at.length.saturating_add(more), more)
     }
 
-    /// Returns the expected outcome of growing the list to `capacity`, for a call that may grow it
-    /// several times. `capacity` is `None` if it overflows. Updates the expected capacity and the
-    /// expected number of requests.
-    ///
-    /// If the expected capacity is already `capacity`, no growth and no request are expected.
-    pub fn further_growth(&mut self, capacity: Option<usize>) -> Verdict {
-        let Some(wanted) = capacity else {
-            return Verdict::Overflow;
-        };
-        if wanted == self.capacity || self.grows(capacity) {
-            Verdict::Done
+    /// Returns a number of new items that the argument chooses, with few on a long list.
+    pub fn count(&self) -> usize {
+        let counts: [usize; 8] = if self.at.length <= SHORT {
+            [0, 1, 2, 3, 5, 9, 17, 45]
+        } else if self.at.length <= 100 {
+            [50, 1, 9, 0, 50, 1, 9, 0]
         } else {
-            Verdict::NoRoom
-        }
-    }
-
-    /// Returns the expected outcome of a call that allocates a new list or `Vec` with the given
-    /// capacity, and then clones `clones` items. The caller passes `None` if the computation of the
-    /// capacity overflows.
-    pub fn fresh(&mut self, capacity: Option<usize>, clones: usize) -> Verdict {
-        match capacity {
-            Some(capacity) => self.verdict(u64::from(capacity != 0), clones),
-            None => Verdict::Overflow,
-        }
-    }
-
-    // Returns the expected outcome of a call that requests `blocks` blocks and then clones `clones`
-    // items. Stores the expected number of requests and, if the call is expected to succeed, the
-    // expected number of clones.
-    fn verdict(&mut self, blocks: u64, clones: usize) -> Verdict {
-        let refused = self.at.refused;
-        let clones = clones as u64;
-        let asking = if T::OWNS_BLOCK { clones } else { 0 };
-        let requests = blocks.saturating_add(asking);
-        if refused == 0 || refused > requests {
-            self.requests = requests;
-            self.clones = if T::IS_COUNTED { clones } else { 0 };
-            return Verdict::Done;
-        }
-        self.requests = refused;
-        if refused <= blocks {
-            Verdict::NoRoom
-        } else {
-            Verdict::NoClone
-        }
-    }
-
-    /// Asserts that `answer`, the return value of the call under test, agrees with `verdict`, the
-    /// expected outcome.
-    pub fn assert_answer<R: Abort>(
-        &self,
-        rt: &R,
-        answer: Result<(), ThinVecError>,
-        verdict: Verdict,
-    ) {
-        assert_same(rt, &self.at, "answer", answer, verdict.answer());
-    }
-
-    /// Checks a call that adds the item made from `number` at `index`. If the call succeeded,
-    /// inserts `number` into the expected items. If it failed, asserts that it returned the item.
-    pub fn put<R: Abort>(
-        &mut self,
-        rt: &R,
-        index: usize,
-        number: u64,
-        verdict: Verdict,
-        answer: Result<(), Rejected<T>>,
-    ) {
-        match answer {
-            Ok(()) => {
-                self.assert_answer(rt, Ok(()), verdict);
-                if index <= self.items.len() {
-                    self.items.insert(index, number).ok().expect(rt, "memory");
-                }
-            }
-            Err(refused) => {
-                self.assert_answer(rt, Err(refused.cause), verdict);
-                self.assert_item(rt, &refused.value, number);
-            }
-        }
-    }
-
-    /// Asserts that `item` is the item that `T::nth` makes from `number`.
-    pub fn assert_item<R: Abort>(&self, rt: &R, item: &T, number: u64) {
-        assert_same(
-            rt,
-            &self.at,
-            "item",
-            item.kept_number(),
-            T::expected_number(number),
-        );
-    }
-
-    /// Asserts that `item` is the item that `T::nth` makes from `number`, or that `item` and
-    /// `number` are both `None`.
-    pub fn assert_item_or_none<R: Abort>(&self, rt: &R, item: Option<T>, number: Option<u64>) {
-        assert_same_item(rt, &self.at, item, number);
-    }
-
-    /// If `verdict` says that the call must succeed, appends `count` consecutive numbers, beginning
-    /// with `first`, to the expected items.
-    pub fn add<R: Abort>(&mut self, rt: &R, first: u64, count: usize, verdict: Verdict) {
-        if verdict == Verdict::Done {
-            let mut new = numbers(rt, self.ledger, first, count);
-            self.items.append(&mut new).expect(rt, "memory");
-        }
-    }
-
-    /// Asserts that `items` consists of the items that `T::nth` makes from `numbers`, in the same
-    /// order.
-    pub fn assert_items<R: Abort>(&self, rt: &R, items: &[T], numbers: &[u64]) {
-        assert_same_items(rt, &self.at, items, numbers);
-    }
-
-    /// Asserts that `list` consists of the items that `T::nth` makes from `numbers`, in the same
-    /// order, and that the capacity of `list` is `capacity`.
-    pub fn assert_list<H: Growth, R: Abort>(
-        &self,
-        rt: &R,
-        list: &List<T, H>,
-        numbers: &[u64],
-        capacity: usize,
-    ) {
-        self.assert_items(rt, list.as_slice(), numbers);
-        assert_same(
-            rt,
-            &self.at,
-            "capacity of the list that was made",
-            list.capacity(),
-            capacity,
-        );
-    }
-
-    /// Checks a list after a call that moves all its items to another list. On success, the list
-    /// must be empty, and its capacity must be unchanged. On failure, the whole list must be
-    /// unchanged. Before the call, the list had the shape `shape`, and its items were made from
-    /// consecutive numbers, beginning with `first`.
-    pub fn assert_moved_from<R: Abort>(
-        &self,
-        rt: &R,
-        list: &List<T, G>,
-        shape: Shape,
-        first: u64,
-        verdict: Verdict,
-    ) {
-        let left = match verdict {
-            Verdict::Done => 0,
-            _ => shape.length,
+            [300, 1, 300, 1, 300, 1, 300, 1]
         };
-        let numbers = numbers(rt, self.ledger, first, left);
-        let capacity = shape.length.saturating_add(shape.spare);
-        self.assert_list(rt, list, numbers.as_slice(), capacity);
+        counts[self.at.argument % 8]
     }
 
-    /// Checks the result of a call that makes a second list. On success, this list must consist of
-    /// the items made from `numbers`, and have the capacity `capacity`.
-    pub fn assert_second_list<H: Growth, R: Abort>(
-        &self,
-        rt: &R,
-        answer: Result<List<T, H>, ThinVecError>,
-        verdict: Verdict,
-        numbers: &[u64],
-        capacity: usize,
-    ) {
-        match answer {
-            Ok(list) => {
-                self.assert_answer(rt, Ok(()), verdict);
-                self.assert_list(rt, &list, numbers, capacity);
-            }
-            Err(cause) => self.assert_answer(rt, Err(cause), verdict),
+    /// Returns a number of items that replace the range of the case.
+    pub fn replacements(&self) -> usize {
+        let (start, end) = self.range();
+        let width = end.saturating_sub(start);
+        match self.at.argument / 5 % 8 {
+            0 => width.saturating_add(45),
+            1 => width.saturating_add(2),
+            2 => width.saturating_add(1),
+            3 => width,
+            4 => width.saturating_sub(1),
+            5 => width.saturating_add(9),
+            6 => 1,
+            _ => 0,
         }
     }
 
-    /// Moves the list and its expected items out of the test case. After the call, the test case
-    /// contains an empty list of capacity 0.
-    pub fn take(&mut self) -> (List<T, G>, Vec<u64, Global>) {
-        self.capacity = 0;
-        let list = mem::replace(&mut self.list, ThinVec::ruled(&self.ledger.alloc));
-        let items = mem::replace(&mut self.items, Vec::new(self.ledger.global));
-        (list, items)
+    /// Returns a number of items that fit into the spare capacity of the list.
+    pub fn spare(&self) -> usize {
+        let spare = self.list.capacity().saturating_sub(self.list.len());
+        spare.saturating_sub(self.at.argument % 5)
     }
 
-    /// Sets the list of the test case, its expected items and its expected capacity.
-    pub fn set(&mut self, list: List<T, G>, items: Vec<u64, Global>, capacity: usize) {
-        self.list = list;
-        self.items = items;
-        self.capacity = capacity;
+    /// Asserts that `found` equals `due`. The message names the case and `what` was compared.
+    pub fn assert_same<D: PartialEq + Debug + Drop, R: Abort>(
+        &self,
+        rt: &R,
+        what: &'static str,
+        found: D,
+        due: D,
+    ) {
+        let at = &self.at;
+        assert_eq!(rt; found, due, "{what}, {at:?}");
     }
 
-    /// Checks the state after the call: the items and the capacity of the list, and the numbers of
-    /// requests and clones. Asserts that no other items and blocks exist.
-    pub fn check<R: Abort>(&self, rt: &R) {
+    /// Asserts that the call did what `answer` announces, and that exactly the items and the block
+    /// of the list exist.
+    pub fn check<R: Abort>(&self, rt: &R, answer: Answer) {
         let requests = self.ledger.alloc.requests();
-        assert_same(rt, &self.at, "requests", requests, self.requests);
-        let clones = self.ledger.clones.get();
-        assert_same(rt, &self.at, "clones", clones, self.clones);
-        self.assert_items(rt, self.list.as_slice(), self.items.as_slice());
-        let capacity = self.list.capacity();
-        assert_same(rt, &self.at, "capacity", capacity, self.capacity);
-        assert_live::<T, R>(rt, &self.at, self.ledger, self.items.len(), self.capacity);
+        match answer {
+            Ok(due) => self.check_success(rt, due),
+            Err(ThinVecError::CapacityOverflow) => {
+                self.assert_same(rt, "requests before an overflow", requests, 0);
+            }
+            Err(ThinVecError::OutOfMemory) => {
+                self.assert_same(rt, "requests", requests, self.at.refused);
+                self.assert_same(rt, "failed with no request", requests == 0, false);
+            }
+        }
+        self.check_live(rt, self.list.len(), self.list.capacity());
     }
 
-    /// Counts the completed test case, and drops it. Then asserts that all items have been dropped
-    /// and all blocks have been freed.
-    pub fn end<R: Abort>(self, rt: &R) {
-        let at = self.at;
+    // Asserts that no request was refused, and that the counts are those that `due` announces.
+    fn check_success<R: Abort>(&self, rt: &R, due: Due) {
         let ledger = self.ledger;
-        ledger.count_case(at.refused, self.requests);
-        drop(self);
-        assert_live::<T, R>(rt, &at, ledger, 0, 0);
+        let requests = ledger.alloc.requests();
+        let refused = self.at.refused;
+        self.assert_same(rt, "succeeded", 0 < refused && refused <= requests, false);
+        let capacity = self.list.capacity();
+        let grown = usize::from(capacity != self.capacity && capacity != 0);
+        let counted = usize::from(T::IS_COUNTED);
+        let clones = due.clones.saturating_mul(counted);
+        let granted = grown.saturating_add(due.requests).saturating_add(clones);
+        self.assert_same(rt, "requests", requests, granted as u64);
+        self.assert_same(rt, "clones", ledger.clones.get(), clones as u64);
+        self.assert_same(rt, "calls", ledger.calls.get(), due.calls as u64);
+        let comparisons = due.comparisons.saturating_mul(counted);
+        self.assert_same(
+            rt,
+            "comparisons",
+            ledger.comparisons.get(),
+            comparisons as u64,
+        );
+    }
+
+    /// Asserts that `items` items exist, and one block if `capacity` is not 0.
+    pub fn check_live<R: Abort>(&self, rt: &R, items: usize, capacity: usize) {
+        let items = if T::IS_COUNTED { items } else { 0 };
+        self.assert_same(rt, "items", self.ledger.live.get(), items as u64);
+        let blocks = u64::from(capacity != 0);
+        self.assert_same(rt, "blocks", self.ledger.alloc.blocks(), blocks);
+    }
+
+    /// Drops the list, and asserts that nothing is left, and that dropping made no request.
+    pub fn end<R: Abort>(mut self, rt: &R) {
+        self.ledger.begin(0);
+        drop(self.take());
+        let requests = self.ledger.alloc.requests();
+        self.check_live(rt, 0, 0);
+        self.assert_same(rt, "requests of the drop", requests, 0);
     }
 }
 
-/// Returns a list with the length and the spare capacity of `shape`. Its items are made from
-/// consecutive numbers, beginning with `first`.
-pub fn filled<T: Sample, G: Ruled, R: Abort>(
-    rt: &R,
-    ledger: &'static Ledger,
-    shape: Shape,
-    first: u64,
-) -> List<T, G> {
-    let mut list = ThinVec::ruled(&ledger.alloc);
-    let capacity = shape.length.saturating_add(shape.spare);
-    list.reserve_exact(capacity).expect(rt, "memory");
-    for index in 0..shape.length {
-        let number = first.saturating_add(index as u64);
-        let item = T::nth(rt, ledger, number);
-        list.push(item).ok().expect(rt, "memory");
-    }
-    list
-}
+// The greatest length of a list on which every index, range and pattern is tried.
+const SHORT: usize = 4;
 
-/// Returns `count` items, which are made from consecutive numbers, beginning with `first`.
-pub fn source<T: Sample, R: Abort>(
+// The number of the first new item. It differs from the numbers of the items of all short lists.
+const FRESH: u64 = 200;
+
+/// Makes `count` items of consecutive numbers.
+pub fn numbered<T: Numbered, R: Abort>(
     rt: &R,
     ledger: &'static Ledger,
     first: u64,
     count: usize,
-) -> Vec<T, Global> {
+) -> Vec<T> {
     let mut items = Vec::new(ledger.global);
     for index in 0..count {
-        let number = first.saturating_add(index as u64);
-        let item = T::nth(rt, ledger, number);
+        let item = T::numbered(ledger, first.saturating_add(index as u64));
         items.push(item).ok().expect(rt, "memory");
     }
     items
 }
 
-/// Appends a number to `numbers`.
-pub fn put<R: Abort>(rt: &R, numbers: &mut Vec<u64, Global>, number: u64) {
-    numbers.push(number).ok().expect(rt, "memory");
-}
-
-/// Returns `count` consecutive numbers, beginning with `first`.
-pub fn numbers<R: Abort>(
+/// Makes a list of `length` items with the given spare capacity.
+pub fn filled<T: Numbered, G: Growth, R: Abort>(
     rt: &R,
     ledger: &'static Ledger,
-    first: u64,
-    count: usize,
-) -> Vec<u64, Global> {
-    let mut numbers = Vec::new(ledger.global);
-    for index in 0..count {
-        let number = first.saturating_add(index as u64);
-        put(rt, &mut numbers, number);
+    length: usize,
+    spare: usize,
+) -> List<T, G> {
+    let mut list = ThinVec::ruled(&ledger.alloc);
+    list.reserve_exact(length.saturating_add(spare))
+        .expect(rt, "memory");
+    for index in 0..length {
+        let item = T::numbered(ledger, index as u64);
+        list.push(item).ok().expect(rt, "memory");
     }
-    numbers
-}
-
-// Returns `capacity` if a list of items of type `T` can have this capacity, and `None` otherwise.
-fn fitting<T: Sample>(capacity: usize) -> Option<usize> {
-    if capacity <= T::LIMIT {
-        Some(capacity)
-    } else {
-        None
-    }
+    list
 }

@@ -1,37 +1,29 @@
-//! Tests of the methods of `ThinVec`. A sweep tests one call on many lists. A run (`runs.rt`)
-//! executes many commands on one list. The rest of this comment is about sweeps.
+//! Tests of what the contracts of `thin_vec` do not say: that a call succeeds if it gets the memory
+//! that it needs, makes no other request and no other call, and drops and frees everything.
 //!
-//! For each list (`shapes.rt`) and each argument, a sweep makes the call with enough memory, and
-//! then once more for each of its allocation requests, with that request refused. At most 49
-//! requests are refused, and only one on a list of more than 40 items. After each call, the sweep
-//! compares the return value, the list, and the numbers of requests, clones, items and blocks with
-//! expected values. The file `checks.rt` tests the sweeps themselves.
+//! A sweep makes each call of a group (`Calls`) on many lists, with several arguments. It makes the
+//! call with enough memory, and then again for each of its requests, with that request refused.
+//! Clones of counted items are requests, too. After the call, the list itself says what is right:
 //!
-//! To add a call, add a struct that implements `Call` (`sweep.rt`) to a file of `calls/`, add a
-//! line to `calls.rt`, and change one line of the expected counts in `checks.rt`. A call that
-//! appends a slice implements `AppendsSlice` (`calls/slices.rt`) instead, and a call that makes a
-//! second list implements `MakesSecond` (`calls/seconds.rt`). The method `run` of `Call` has five
-//! steps:
+//! - Each request was for a new capacity of the list, or is one of those that the call announces
+//!   (`Due`). Closures, clones and comparisons were called as often as the call announces.
+//! - The call succeeded if no request was refused, or its capacity overflowed before any request.
+//!   It failed with `OutOfMemory` if a request was refused, and made no further request.
+//! - As many items exist as the list has, and one block if the list has a capacity.
+//! - Nothing is left once the list is dropped.
 //!
-//! 1. Make the values that are passed to the call.
-//! 2. If the call makes requests, determine the expected outcome. Use the method `growth` of the
-//!    case if the call changes the capacity of the list, `fresh` if it makes another list, and
-//!    `further_growth` and `granted` if it makes several requests.
-//! 3. Call `begin`, which resets the counts and says which request the allocator refuses.
-//! 4. Test the preconditions of the call, and make the call.
-//! 5. Call `assert_answer`, and edit `case.items` as the call edits the list.
+//! Items, capacities and returned values are proved, so a sweep does not compare them. Only the
+//! capacities after `extend`, `from_iter`, `collect` and `finish` have exact values that no contract
+//! states: `fill.rt` computes them. And `twins.rt` makes each call on lists of `u64` and on the kit's
+//! `Vec`, and compares the items, so that a wrongly compiled loop is seen.
 //!
-//! The file `closures.rt` determines what closures return. The file `walks.rt` determines in which
-//! order items are taken from an iterator. An iterator that is passed to a call is a `Claims`
-//! (`claims.rt`).
-//!
-//! To add a growth rule, implement `Ruled` (`thin_testing`), and add a test. To add an item type,
-//! implement `Sample` (`samples.rt`), and add tests. A `Scope` (`sweep.rt`) says which lists a test
-//! uses. Each test finishes within seconds.
+//! To add a call, add an arm to the `match` of a file in `calls/`, and count it in `CALLS`. An arm
+//! makes the arguments, calls `begin` with the name of the call, makes the call, and returns a `Due`.
+//! To add an item type, implement `Numbered` (`thin_testing`), and add a test to `tests.rt`.
 #![tactic(auto)]
 
 #[cfg(test)]
-mod assertions;
+mod arrays;
 #[cfg(test)]
 mod calls;
 #[cfg(test)]
@@ -39,20 +31,18 @@ mod case;
 #[cfg(test)]
 mod checks;
 #[cfg(test)]
-mod claims;
+mod fill;
 #[cfg(test)]
-mod closures;
+mod limits;
 #[cfg(test)]
-mod ledger;
+mod no_size;
 #[cfg(test)]
 mod runs;
 #[cfg(test)]
-mod samples;
-#[cfg(test)]
-mod shapes;
+mod splices;
 #[cfg(test)]
 mod sweep;
 #[cfg(test)]
 mod tests;
 #[cfg(test)]
-mod walks;
+mod twins;

@@ -1,11 +1,350 @@
-//! Random and hand-written runs. A run executes a sequence of commands on a `ThinVec`. Each command
-//! describes a call. Most runs also execute the commands on a model, and compare the results.
-mod commands;
-mod compared;
-mod judges;
-mod long;
-mod model;
-mod orders;
-mod random;
-mod samples;
-mod shown;
+//! Random commands, which `run` of `thin_runner` executes. As in a sweep, the list itself says what
+//! is right.
+ghost use Rattle.std.specs.Prelude.{◌≡◌, ◌==◌, ◌/◌, ◌%◌};
+
+use crate::case::{Lender, List, filled};
+use std::alloc::{AllocError, Allocator};
+use std::mem;
+use std::process::Abort;
+use thin_runner::command::{Command, Reply, Step};
+use thin_runner::judge::Judge;
+use thin_runner::runner::run;
+use thin_testing::{Ledger, Numbered};
+use thin_vec::{Growth, ThinVec, ThinVecError};
+
+/// A judge that takes its answers from the binary digits of a number. A 1 means `true`.
+#[derive(Clone, Copy)]
+pub struct Digits {
+    pub digits: u64,
+}
+
+impl Digits {
+    fn next_digit(&mut self) -> u64
+        ensures value { result ≡ self.old.digits % 2 }
+        ensures digits { self.new.digits ≡ self.old.digits / 2 }
+    {
+        let digit = self.digits % 2;
+        self.digits /= 2;
+        digit
+    }
+}
+
+impl<T> Judge<T> for Digits {
+    ghost model = { record {
+      look = λ j x. (j.digits % 2 == 1, record { digits = j.digits / 2 });
+      keep = λ j x. (j.digits % 2 == 1, x, record { digits = j.digits / 2 });
+      same = λ j x y. (j.digits % 2 == 1, y, x, record { digits = j.digits / 2 });
+      key = λ j x. (j.digits % 2, x, record { digits = j.digits / 2 });
+      take = λ j x. (j.digits % 2 == 1, x, record { digits = j.digits / 2 });
+    } };
+
+    fn look(&mut self, _item: &T) -> bool {
+        self.next_digit() == 1
+    }
+
+    fn keep(&mut self, _item: &mut T) -> bool {
+        self.next_digit() == 1
+    }
+
+    fn same(&mut self, later: &mut T, kept: &mut T) -> bool {
+        mem::swap(later, kept);
+        self.next_digit() == 1
+    }
+
+    fn key(&mut self, _item: &mut T) -> u64 {
+        self.next_digit()
+    }
+
+    fn take(&mut self, _item: &mut T) -> bool {
+        self.next_digit() == 1
+    }
+}
+
+// A generator of pseudorandom numbers.
+#[derive(Drop)]
+struct Dice {
+    state: u64,
+}
+
+impl Dice {
+    // Returns a pseudorandom number below `limit`, or 0 if `limit` is 0.
+    fn below(&mut self, limit: usize) -> usize {
+        self.state = self
+            .state
+            .wrapping_mul(6364136223846793005)
+            .wrapping_add(1442695040888963407);
+        if limit == 0 {
+            return 0;
+        }
+        (self.state >> 33) as usize % limit
+    }
+
+    // Returns a lower bound of a size hint, which is usually small.
+    fn lower(&mut self) -> usize {
+        if self.below(9) == 0 {
+            usize::MAX
+        } else {
+            self.below(12)
+        }
+    }
+
+    // Returns up to four steps over a range.
+    fn steps(&mut self, alloc: Lender) -> Result<Vec<Step, Lender>, AllocError> {
+        let mut steps = Vec::new(alloc);
+        for _ in 0..self.below(5) {
+            let step = if self.below(2) == 0 {
+                Step::Front
+            } else {
+                Step::Back
+            };
+            put(&mut steps, step)?;
+        }
+        Ok(steps)
+    }
+
+    // Returns up to eleven new items.
+    fn items<T: Numbered>(
+        &mut self,
+        ledger: &'static Ledger,
+    ) -> Result<Vec<T, Lender>, AllocError> {
+        let mut items = Vec::new(&ledger.alloc);
+        for number in 0..self.below(12) {
+            put(&mut items, T::numbered(ledger, number as u64 / 2))?;
+        }
+        Ok(items)
+    }
+
+    // Returns a random command for a list of `len` items. Some are out of bounds.
+    fn command<T: Numbered, G: Growth, R: Abort>(
+        &mut self,
+        rt: &R,
+        ledger: &'static Ledger,
+        len: usize,
+    ) -> Result<Command<T, Lender, G>, AllocError> {
+        let alloc = &ledger.alloc;
+        let near = len.min(12).saturating_add(2);
+        let (at, to) = (self.below(near), self.below(near));
+        let item = T::numbered(ledger, 7);
+        Ok(match self.below(25) {
+            0 => Command::Push(item),
+            1 => Command::Pop,
+            2 => Command::Insert(at, item),
+            3 => Command::Remove(at),
+            4 => Command::SwapRemove(at),
+            5 => Command::Set(at, item),
+            6 => Command::Truncate(at),
+            7 => Command::Clear,
+            8 => Command::Reserve(self.lower()),
+            9 => Command::ReserveExact(self.lower()),
+            10 => Command::ShrinkToFit,
+            11 => Command::Resize(self.lower(), item),
+            12 => Command::ExtendFromSlice(self.items(ledger)?),
+            13 => Command::Extend(self.items(ledger)?, self.lower()),
+            14 => Command::Append(filled(rt, ledger, self.below(12), self.below(2))),
+            15 => Command::SplitOff(at),
+            16 => Command::Clone,
+            17 => Command::Retain,
+            18 => Command::RetainMut,
+            19 => Command::Dedup,
+            20 => Command::DedupBy,
+            21 => Command::DedupByKey,
+            22 => Command::Drain(at, to, self.steps(alloc)?),
+            23 => Command::ExtractIf(at, to, self.below(5)),
+            _ => Command::Splice(
+                at,
+                to,
+                self.steps(alloc)?,
+                self.items(ledger)?,
+                self.lower(),
+            ),
+        })
+    }
+}
+
+// Appends an item.
+fn put<T: Drop, A: Allocator>(items: &mut Vec<T, A>, item: T) -> Result<(), AllocError> {
+    match items.push(item) {
+        Ok(()) => Ok(()),
+        Err(_refused) => Err(AllocError),
+    }
+}
+
+// The number of requests that a reply shows: one for each block of a list or a `Vec` in it.
+fn blocks_in<T: Drop, G: Growth>(reply: &Reply<T, Lender, G>) -> u64 {
+    match reply {
+        Reply::List(list) => u64::from(list.has_capacity()),
+        Reply::Answers(answers) => u64::from(!answers.is_empty()),
+        _ => 0,
+    }
+}
+
+// Whether a command makes as many requests as its iterator's hint and items need, which contracts
+// and the sweeps of `fill.rt` and `splices.rt` say.
+fn is_filling<T: Drop, G: Growth>(command: &Command<T, Lender, G>) -> bool {
+    matches!(command, Command::Extend(..) | Command::Splice(..))
+}
+
+// Executes one command by `run`, with request number `refused` refused. Returns whether the requests,
+// the answer, the items and the blocks are right.
+fn is_right<T: Numbered, G: Growth>(
+    ledger: &'static Ledger,
+    list: &mut List<T, G>,
+    command: Command<T, Lender, G>,
+    digits: u64,
+    refused: u64,
+) -> Result<bool, AllocError> {
+    let (alloc, capacity) = (&ledger.alloc, list.capacity());
+    let is_filling = is_filling(&command);
+    let mut commands = Vec::new(alloc);
+    put(&mut commands, command)?;
+    let mut replies = Vec::new(alloc);
+    ledger.begin(refused);
+    let ran = run(alloc, list, commands, &mut replies, &Digits { digits });
+    let requests = alloc.requests();
+    let was_refused = 0 < refused && refused <= requests;
+    let (cause, shown) = match replies.as_slice() {
+        [reply] => (reply.refusal(), blocks_in(reply)),
+        _ => (ran.err(), 0),
+    };
+    let grown = u64::from(list.capacity() != capacity && list.has_capacity());
+    let done = grown
+        .wrapping_add(shown)
+        .wrapping_add(ledger.clones.get())
+        .wrapping_add(1);
+    let is_right = match cause {
+        None => !was_refused && (is_filling || requests == done),
+        Some(ThinVecError::CapacityOverflow) => !was_refused && (is_filling || requests == 1),
+        Some(ThinVecError::OutOfMemory) => was_refused && requests == refused,
+    };
+    drop(replies);
+    Ok(is_right && is_clean::<T>(ledger, list.len(), list.capacity()))
+}
+
+// Returns whether exactly `items` items exist, and one block if `capacity` is not 0.
+fn is_clean<T: Numbered>(ledger: &'static Ledger, items: usize, capacity: usize) -> bool {
+    let items = if T::IS_COUNTED { items as u64 } else { 0 };
+    (ledger.live.get(), ledger.alloc.blocks()) == (items, u64::from(capacity > 0))
+}
+
+// Executes up to 30 random commands. Returns whether each of them is right.
+fn are_right<T: Numbered, G: Growth, R: Abort>(
+    rt: &R,
+    ledger: &'static Ledger,
+    seed: u64,
+) -> Result<bool, AllocError> {
+    let mut dice = Dice { state: seed };
+    let mut list: List<T, G> = ThinVec::ruled(&ledger.alloc);
+    for _ in 0..dice.below(31) {
+        ledger.begin(0);
+        let command = dice.command(rt, ledger, list.len())?;
+        let refused = [0, 0, 1, 2, 3, 4, 5, 9]
+            .get(dice.below(8))
+            .copied()
+            .unwrap_or(0);
+        let digits = dice.state >> 20;
+        if !is_right(ledger, &mut list, command, digits, refused)? {
+            return Ok(false);
+        }
+    }
+    drop(list);
+    Ok(is_clean::<T>(ledger, 0, 0))
+}
+
+/// Executes random commands on lists of `T` with the growth rule `G`, and asserts that each of them
+/// is right.
+pub fn assert_runs_right<T: Numbered, G: Growth, R: Abort>(rt: &R, ledger: &'static Ledger) {
+    for seed in 0..1500 {
+        let right = are_right::<T, G, R>(rt, ledger, seed);
+        assert!(rt; right.unwrap_or(false), "seed {seed}");
+    }
+}
+
+// Returns a command that needs memory for a list of 3,000 items without spare capacity.
+fn long_command<T: Numbered, G: Growth, R: Abort>(
+    rt: &R,
+    ledger: &'static Ledger,
+    number: usize,
+) -> Result<Command<T, Lender, G>, AllocError> {
+    let item = T::numbered(ledger, 7);
+    let mut many = Vec::new(&ledger.alloc);
+    for _ in 0..3000 {
+        put(&mut many, T::numbered(ledger, 7))?;
+    }
+    let mut steps = Vec::new(&ledger.alloc);
+    for _ in 0..1500 {
+        put(&mut steps, Step::Front)?;
+    }
+    Ok(match number {
+        0 => Command::Push(item),
+        1 => Command::Insert(1500, item),
+        2 => Command::Reserve(9000),
+        3 => Command::ReserveExact(9000),
+        4 => Command::Resize(6000, item),
+        5 => Command::ExtendFromSlice(many),
+        6 => Command::Extend(many, 0),
+        7 => Command::Extend(many, 3000),
+        8 => Command::Append(filled(rt, ledger, 3000, 0)),
+        9 => Command::SplitOff(1500),
+        10 => Command::Clone,
+        11 => Command::Drain(0, 1500, steps),
+        12 => Command::ExtractIf(0, 3000, 1500),
+        _ => Command::Splice(1, 1500, steps, many, 0),
+    })
+}
+
+/// Executes commands that need memory on lists of 3,000 items, and asserts that each is right.
+pub fn assert_long_commands_right<T: Numbered, G: Growth, R: Abort>(
+    rt: &R,
+    ledger: &'static Ledger,
+) {
+    for number in 0..14 {
+        for refused in 0..4 {
+            ledger.begin(0);
+            let mut list: List<T, G> = filled(rt, ledger, 3000, 0);
+            let command = long_command(rt, ledger, number).ok().expect(rt, "memory");
+            let right = is_right(ledger, &mut list, command, 0, refused);
+            assert!(rt;
+                right.unwrap_or(false),
+                "command {number}, request {refused}"
+            );
+        }
+    }
+}
+
+// Returns commands that push items.
+fn pushes<T: Numbered, G: Growth>(
+    ledger: &'static Ledger,
+    count: usize,
+) -> Result<Vec<Command<T, Lender, G>, Lender>, AllocError> {
+    let mut commands = Vec::new(&ledger.alloc);
+    for _ in 0..count {
+        put(&mut commands, Command::Push(T::numbered(ledger, 7)))?;
+    }
+    Ok(commands)
+}
+
+/// Runs thousands of commands at once. Then refuses the room for the replies, and asserts that no
+/// command is executed, that all are dropped, and that the earlier replies stay.
+pub fn assert_long_run_right<T: Numbered, G: Growth, R: Abort>(rt: &R, ledger: &'static Ledger) {
+    let alloc = &ledger.alloc;
+    let mut list: List<T, G> = ThinVec::ruled(alloc);
+    let mut replies = Vec::new(alloc);
+    let judge = Digits { digits: 0 };
+    let commands = pushes(ledger, 5000).ok().expect(rt, "memory");
+    let ran = run(alloc, &mut list, commands, &mut replies, &judge);
+    let done = replies
+        .as_slice()
+        .iter()
+        .filter(|reply| matches!(reply, Reply::Done));
+    assert_eq!(rt; (ran.is_ok(), list.len(), done.count()), (true, 5000, 5000));
+    let commands = pushes(ledger, 9000).ok().expect(rt, "memory");
+    ledger.begin(1);
+    let ran = run(alloc, &mut list, commands, &mut replies, &judge);
+    assert!(rt; ran == Err(ThinVecError::OutOfMemory));
+    assert_eq!(rt;
+        (alloc.requests(), list.len(), replies.len()),
+        (1, 5000, 5000)
+    );
+    drop(replies);
+    assert!(rt; is_clean::<T>(ledger, list.len(), list.capacity()));
+}

@@ -1,87 +1,101 @@
-//! This file defines sweeps. A sweep tests one call on many lists, with several choices of its
-//! arguments. Each test is repeated with one of its allocation requests refused, for each request
-//! up to a limit.
-use crate::assertions::At;
-use crate::case::Case;
-use crate::ledger::Ledger;
-use crate::samples::Sample;
-use crate::shapes::Shape;
-use std::ops::Range;
+//! A sweep makes each call of a group on many lists, with several arguments, and with each of its
+//! requests refused in turn.
+use crate::case::{Answer, At, Case};
 use std::process::Abort;
-use thin_testing::Ruled;
+use thin_testing::{Ledger, Numbered};
+use thin_vec::Growth;
 
-/// The lists on which a test makes its calls, and the counters of the test.
-#[derive(Drop)]
-pub struct Scope {
-    /// The allocators and the counters of the test.
-    pub ledger: &'static Ledger,
-    /// The shapes of the lists, as a range of shape numbers.
-    pub shapes: Range<usize>,
+/// A group of calls on a list of `T` with the growth rule `G`.
+pub trait Calls<T: Numbered, G: Growth> {
+    /// The number of calls in the group.
+    const CALLS: usize;
+
+    /// Returns the number of arguments with which the call is tried. `is_short` says whether the list
+    /// has at most 4 items.
+    fn arguments(call: usize, is_short: bool) -> usize;
+
+    /// Makes one of the calls on the list of `case`, with the argument that `case` chooses. Drops
+    /// whatever the call returned. Returns `None` if the call does not suit the case.
+    fn call<R: Abort>(rt: &R, case: &mut Case<T, G>, call: usize) -> Option<Answer>;
 }
 
-/// A call that a sweep tests on lists of `T` with the growth rule `G`.
-pub trait Call<T: Sample, G: Ruled> {
-    /// The name of the call in the message of a failed assertion.
-    const NAME: &'static str;
-
-    /// Returns the number of arguments that are tried on a list of this shape.
-    fn arguments(_shape: Shape) -> usize {
-        1
-    }
-
-    /// Makes the call on the list of `case`, updates the expected values, and checks the return
-    /// value. The caller then compares the list with the expected values.
-    fn run<R: Abort>(rt: &R, case: &mut Case<T, G>, argument: usize);
-}
-
-/// Tests the call `C` on lists of all shapes in `scope`. This function is not inlined, so that the
-/// sweeps do not become one large function that takes a long time to compile.
+/// Makes each call of the group on each list of the given lengths, with at most `most` arguments.
+/// Returns the number of cases, and the number of those in which a request was refused.
 #[inline(never)]
-pub fn sweep<C: Call<T, G>, T: Sample, G: Ruled, R: Abort>(rt: &R, scope: &Scope) {
-    for number in scope.shapes.start..scope.shapes.end {
-        let shape = Shape::nth(number);
-        for argument in 0..C::arguments(shape) {
-            each_refusal::<C, T, G, R>(rt, scope.ledger, shape, argument);
-        }
-    }
-}
-
-// Makes the call once with enough memory. Then makes the call again for each of its allocation
-// requests, with that request refused. `shape.rounds()` limits the number of refused requests.
-fn each_refusal<C: Call<T, G>, T: Sample, G: Ruled, R: Abort>(
+pub fn sweep<C: Calls<T, G>, T: Numbered, G: Growth, R: Abort>(
     rt: &R,
     ledger: &'static Ledger,
-    shape: Shape,
-    argument: usize,
-) {
-    let mut at = At {
-        call: C::NAME,
-        shape,
-        argument,
-        refused: 0,
-        counts: &ledger.counts,
-    };
-    let requests = case::<C, T, G, R>(rt, ledger, at);
-    for refused in 1..shape.rounds() {
-        if refused <= requests {
-            at.refused = refused;
-            let _requests = case::<C, T, G, R>(rt, ledger, at);
+    lengths: &[usize],
+    spares: &[usize],
+    most: usize,
+) -> (u64, u64) {
+    let (mut cases, mut refusals) = (0_u64, 0_u64);
+    for length in lengths {
+        for spare in spares {
+            for call in 0..C::CALLS {
+                for argument in 0..C::arguments(call, *length <= 4).min(most) {
+                    let at = At {
+                        call: "",
+                        length: *length,
+                        spare: *spare,
+                        argument,
+                        refused: 0,
+                    };
+                    let refused = each_refusal::<C, T, G, R>(rt, ledger, at, call);
+                    refusals = refusals.saturating_add(refused);
+                    cases = cases.saturating_add(refused).saturating_add(1);
+                }
+            }
         }
     }
+    (cases, refusals)
 }
 
-// Runs one test case: makes the call, and checks its results. Returns the number of allocation
-// requests of the call, or 1 if the call was skipped.
-#[inline(never)]
-fn case<C: Call<T, G>, T: Sample, G: Ruled, R: Abort>(
+// Makes the call with enough memory, and then with each of its requests refused. If it makes many
+// requests, some of those in the middle are not refused. Returns the number of refusals.
+fn each_refusal<C: Calls<T, G>, T: Numbered, G: Growth, R: Abort>(
     rt: &R,
     ledger: &'static Ledger,
     at: At,
+    call: usize,
+) -> u64 {
+    let requests = case::<C, T, G, R>(rt, ledger, at, call);
+    let mut refusals: u64 = 0;
+    for earlier in 0..requests {
+        if is_refused(at.length, earlier, requests.saturating_sub(earlier)) {
+            let refused = earlier.saturating_add(1);
+            let _requests = case::<C, T, G, R>(rt, ledger, At { refused, ..at }, call);
+            refusals = refusals.saturating_add(1);
+        }
+    }
+    refusals
+}
+
+// Returns whether a request is refused. `earlier` is the number of requests before it, and `left` the
+// number of requests from it on.
+fn is_refused(length: usize, earlier: u64, left: u64) -> bool {
+    match length {
+        0..=50 => earlier < 12 || left < 3 || 40 <= earlier && earlier < 44,
+        51..=9999 => earlier < 3 || left < 2 || earlier == 45,
+        _ => earlier == 0 || left < 2,
+    }
+}
+
+// Makes the call once, checks what it did, and returns the number of its requests.
+#[inline(never)]
+fn case<C: Calls<T, G>, T: Numbered, G: Growth, R: Abort>(
+    rt: &R,
+    ledger: &'static Ledger,
+    at: At,
+    call: usize,
 ) -> u64 {
     let mut case = Case::new(rt, ledger, at);
-    C::run(rt, &mut case, at.argument);
-    case.check(rt);
-    let requests = case.requests_in_turn();
-    case.end(rt);
-    requests
+    let answer = C::call(rt, &mut case, call);
+    let requests = ledger.alloc.requests();
+    if let Some(answer) = answer {
+        case.check(rt, answer);
+        case.end(rt);
+        return requests;
+    }
+    0
 }

@@ -1,355 +1,268 @@
-//! The tests of all calls for all item types. Each test finishes within seconds.
+//! The sweeps of all calls for all item types. Each test finishes within seconds.
 ghost use Rattle.std.specs.Mem.{type_size};
 ghost use Rattle.std.specs.Prelude.{◌*◌, ◌<◌, ◌^◌};
 
-use crate::calls::arrays::every_array;
-use crate::calls::{
-    every_bound, every_call_of_bytes, every_comparing, every_copying, every_edit, every_filter,
-    every_growth, every_making, every_reading, every_replacing, every_replacing_by_copies,
-};
-use crate::ledger::Ledger;
-use crate::samples::{Counted, Inner, Sample};
-use crate::shapes::{ALL, LONGEST, SHAPES, SHORT};
-use crate::sweep::Scope;
+use crate::arrays::arrays;
+use crate::calls::adding::Adding;
+use crate::calls::bytes::Bytes;
+use crate::calls::copying::Copying;
+use crate::calls::filtering::Filtering;
+use crate::calls::making::Making;
+use crate::calls::reading::{Comparing, Reading};
+use crate::calls::removing::Removing;
+use crate::calls::replacing::Replacing;
+use crate::case::leaked_ledger;
+use crate::fill::{Collect, Extend, ExtendOfTrait, FromIter, fill_lists};
+use crate::limits::limits;
+use crate::runs::{assert_long_commands_right, assert_long_run_right, assert_runs_right};
+use crate::splices::splices;
+use crate::sweep::sweep;
+use crate::twins::assert_twins_agree;
 use std::alloc::Global;
 use std::process::Abort;
-use thin_testing::{Fourfold, Ruled, Threefold};
+use thin_testing::{Counted, Fourfold, Ledger, Numbered, Ruled, Threefold};
 use thin_vec::{Doubling, PowerBytes};
 
-// Selects the lists to test. If items own blocks, these are the lists of at most 40 items.
-// Otherwise, these are all lists except the two longest.
-fn all<T: Sample, R: Abort>(rt: &R, alloc: Global) -> Scope {
-    let shapes = if T::OWNS_BLOCK { SHORT } else { SHAPES };
-    Scope {
-        ledger: Ledger::new(rt, alloc),
-        shapes: 0..shapes,
-    }
+// The lengths of lists on which each call is tried with several spare capacities and arguments.
+const SHORT: [usize; 7] = [0, 1, 2, 3, 4, 8, 33];
+
+// The lengths of longer lists. Lists of `u8` fill whole words at 256 and 264 items, and not at 257.
+const LONG: [usize; 5] = [100, 256, 257, 264, 1000];
+
+const LONGER: [usize; 2] = [50, 300];
+
+// More arguments than any call has.
+const ALL: usize = usize::MAX;
+
+// Counted items of 16, 24 and 512 bytes.
+type Small = Counted<'static>;
+
+type ThreeWords = Counted<'static, u64>;
+
+type Large = Counted<'static, [u64; 62]>;
+
+// Makes the calls that exist for every item type, on lists of the given lengths.
+fn sweeps<T: Numbered, G: Ruled, R: Abort>(
+    rt: &R,
+    ledger: &'static Ledger,
+    lengths: &[usize],
+    spares: &[usize],
+    most: usize,
+) {
+    let (_cases, added) = sweep::<Adding, T, G, R>(rt, ledger, lengths, spares, most);
+    sweep::<Removing, T, G, R>(rt, ledger, lengths, spares, most);
+    sweep::<Filtering, T, G, R>(rt, ledger, lengths, spares, most);
+    sweep::<Reading, T, G, R>(rt, ledger, lengths, spares, most);
+    let (_cases, replaced) = sweep::<Replacing, T, G, R>(rt, ledger, lengths, spares, most);
+    sweep::<Making, T, Doubling, R>(rt, ledger, lengths, spares, most);
+    assert!(rt; added > 0 && replaced > 0);
 }
 
-// Selects the lists to test: lists of every length from 0 to 40, with various numbers of empty
-// slots.
-fn short<R: Abort>(rt: &R, alloc: Global) -> Scope {
-    Scope {
-        ledger: Ledger::new(rt, alloc),
-        shapes: 0..SHORT,
-    }
-}
-
-// Selects the lists to test: only the two longest lists, each of which has 100,000 items.
-fn longest<R: Abort>(rt: &R, alloc: Global) -> Scope {
-    Scope {
-        ledger: Ledger::new(rt, alloc),
-        shapes: LONGEST..ALL,
-    }
-}
-
-// Asserts that at least `cases` test cases were run, and that an allocation request was refused in
-// at least `refusals` of them.
-fn assert_swept<R: Abort>(rt: &R, scope: &Scope, cases: u64, refusals: u64) {
-    let counted = scope.ledger.counted();
-    let is_swept = counted.0 >= cases && counted.1 >= refusals;
-    assert!(rt; is_swept, "cases, refusals, comparisons: {counted:?}");
-}
-
-// Tests calls that may grow a list of `T`, with the growth rule `G`.
-fn growths<T: Sample, G: Ruled, R: Abort>(rt: &R, alloc: Global) {
-    let scope = all::<T, R>(rt, alloc);
-    every_growth::<T, G, R>(rt, &scope);
-    assert_swept(rt, &scope, 30_000, 5_000);
-}
-
-// Tests calls that edit a list of `T` without growing it, such as `pop` and `retain`.
-fn edits<T: Sample, G: Ruled, R: Abort>(rt: &R, alloc: Global) {
-    let scope = all::<T, R>(rt, alloc);
-    every_edit::<T, G, R>(rt, &scope);
-    every_filter::<T, G, R>(rt, &scope);
-    assert_swept(rt, &scope, 20_000, 400);
-}
-
-// Tests calls that read or make a list of `T`, and the conversions between arrays and lists.
-fn readings<T: Sample, R: Abort>(rt: &R, alloc: Global)
-    requires small { 6 * type_size T.row < 2 ^ 63 }
-{
-    let scope = all::<T, R>(rt, alloc);
-    every_reading::<T, Doubling, R>(rt, &scope);
-    every_making::<T, R>(rt, &scope);
-    every_array::<T, R>(rt, &scope);
-    assert_swept(rt, &scope, 10_000, 1_000);
-}
-
-// Tests the same calls as `readings`, and also calls that copy items instead of cloning them.
-fn readings_and_copies<T: Sample + Copy, R: Abort>(rt: &R, alloc: Global)
-    requires small { 6 * type_size T.row < 2 ^ 63 }
-{
-    readings::<T, R>(rt, alloc);
-    every_copying::<T, R>(rt, &all::<T, R>(rt, alloc));
-}
-
-// Tests calls that replace a range of a list of `T`, and calls that append items without growing
-// the list.
-fn replacings<T: Sample, G: Ruled, R: Abort>(rt: &R, alloc: Global) {
-    let scope = short(rt, alloc);
-    every_replacing::<T, G, R>(rt, &scope);
-    assert_swept(rt, &scope, 10_000, 2_000);
-}
-
-// Tests `replace_range_from_copies` and `extend_from_copies_reserved`.
-fn replacings_by_copies<T: Sample + Copy, R: Abort>(rt: &R, alloc: Global) {
-    let scope = short(rt, alloc);
-    every_replacing_by_copies::<T, Doubling, R>(rt, &scope);
-    assert_swept(rt, &scope, 3_000, 500);
-}
-
-// Returns the start and the end of `scope.shapes`, which is a range of shape numbers.
-fn ends(scope: &Scope) -> (usize, usize) {
-    (scope.shapes.start, scope.shapes.end)
+// Sweeps all calls of short lists of `T`, and of lists of the given lengths.
+fn sweep_all<T: Numbered, G: Ruled, R: Abort>(rt: &R, alloc: Global, long: &[usize]) {
+    let ledger = leaked_ledger(rt, alloc);
+    sweeps::<T, G, R>(rt, ledger, &SHORT, &[0, 1, 4], ALL);
+    sweeps::<T, G, R>(rt, ledger, long, &[0, 1], 10);
 }
 
 #[test]
-fn each_scope_has_expected_shapes(rt: HostRuntime) {
-    let alloc = rt.alloc();
-    assert_eq!(rt; ends(&all::<u8, _>(&rt, alloc)), (0, 110));
-    assert_eq!(rt; ends(&all::<Inner, _>(&rt, alloc)), (0, 107));
-    assert_eq!(rt; ends(&short(&rt, alloc)), (0, 107));
-    assert_eq!(rt; ends(&longest(&rt, alloc)), (110, 112));
+fn sweeps_units(rt: HostRuntime) {
+    sweep_all::<(), Doubling, _>(&rt, rt.alloc(), &LONG);
 }
 
 #[test]
-fn sweeps_growths_of_units(rt: HostRuntime) {
-    growths::<(), Doubling, _>(&rt, rt.alloc());
+fn sweeps_u8(rt: HostRuntime) {
+    sweep_all::<u8, Doubling, _>(&rt, rt.alloc(), &LONG);
 }
 
 #[test]
-fn sweeps_edits_of_units(rt: HostRuntime) {
-    edits::<(), Doubling, _>(&rt, rt.alloc());
+fn sweeps_u16(rt: HostRuntime) {
+    sweep_all::<u16, Doubling, _>(&rt, rt.alloc(), &LONG);
 }
 
 #[test]
-fn sweeps_reads_and_constructions_of_units(rt: HostRuntime) {
-    readings_and_copies::<(), _>(&rt, rt.alloc());
+fn sweeps_i32(rt: HostRuntime) {
+    sweep_all::<i32, Doubling, _>(&rt, rt.alloc(), &LONG);
 }
 
 #[test]
-fn sweeps_growths_of_u8(rt: HostRuntime) {
-    growths::<u8, Doubling, _>(&rt, rt.alloc());
+fn sweeps_u64(rt: HostRuntime) {
+    sweep_all::<u64, Doubling, _>(&rt, rt.alloc(), &LONG);
 }
 
 #[test]
-fn sweeps_edits_of_u8(rt: HostRuntime) {
-    edits::<u8, Doubling, _>(&rt, rt.alloc());
+fn sweeps_u128(rt: HostRuntime) {
+    sweep_all::<u128, Doubling, _>(&rt, rt.alloc(), &LONG);
 }
 
 #[test]
-fn sweeps_reads_and_constructions_of_u8(rt: HostRuntime) {
-    readings_and_copies::<u8, _>(&rt, rt.alloc());
+fn sweeps_counted_items(rt: HostRuntime) {
+    sweep_all::<Small, Doubling, _>(&rt, rt.alloc(), &LONGER);
 }
 
 #[test]
-fn sweeps_growths_of_i32(rt: HostRuntime) {
-    growths::<i32, Doubling, _>(&rt, rt.alloc());
+fn sweeps_counted_items_of_24_bytes(rt: HostRuntime) {
+    sweep_all::<ThreeWords, Doubling, _>(&rt, rt.alloc(), &LONGER);
 }
 
 #[test]
-fn sweeps_edits_of_i32(rt: HostRuntime) {
-    edits::<i32, Doubling, _>(&rt, rt.alloc());
+fn sweeps_items_of_512_bytes(rt: HostRuntime) {
+    sweep_all::<Large, Doubling, _>(&rt, rt.alloc(), &LONGER);
 }
 
 #[test]
-fn sweeps_reads_and_constructions_of_i32(rt: HostRuntime) {
-    readings_and_copies::<i32, _>(&rt, rt.alloc());
+fn sweeps_items_of_odd_sizes(rt: HostRuntime) {
+    sweep_all::<[u8; 3], Doubling, _>(&rt, rt.alloc(), &LONGER);
+    sweep_all::<[u8; 5], Doubling, _>(&rt, rt.alloc(), &LONGER);
+    sweep_all::<[u8; 7], Doubling, _>(&rt, rt.alloc(), &LONGER);
+    sweep_all::<[u32; 3], Doubling, _>(&rt, rt.alloc(), &LONGER);
+    sweep_all::<[u32; 5], Doubling, _>(&rt, rt.alloc(), &LONGER);
+    sweep_all::<[u32; 7], Doubling, _>(&rt, rt.alloc(), &LONGER);
+}
+
+// Sweeps the calls that may grow a list with the growth rule `G`.
+fn growths<G: Ruled, R: Abort>(rt: &R, ledger: &'static Ledger) {
+    sweep::<Adding, Small, G, R>(rt, ledger, &SHORT, &[0, 1], ALL);
+    sweep::<Replacing, Small, G, R>(rt, ledger, &[1, 4, 33], &[0, 1], ALL);
 }
 
 #[test]
-fn sweeps_growths_of_u64(rt: HostRuntime) {
-    growths::<u64, Doubling, _>(&rt, rt.alloc());
+fn sweeps_counted_items_under_other_rules(rt: HostRuntime) {
+    let ledger = leaked_ledger(&rt, rt.alloc());
+    growths::<PowerBytes, _>(&rt, ledger);
+    growths::<Threefold, _>(&rt, ledger);
+    growths::<Fourfold, _>(&rt, ledger);
 }
 
 #[test]
-fn sweeps_edits_of_u64(rt: HostRuntime) {
-    edits::<u64, Doubling, _>(&rt, rt.alloc());
+fn orders_lists_with_one_comparison_of_each_item(rt: HostRuntime) {
+    let ledger = leaked_ledger(&rt, rt.alloc());
+    sweep::<Comparing, Small, Doubling, _>(&rt, ledger, &SHORT, &[0, 1], ALL);
 }
 
 #[test]
-fn sweeps_reads_and_constructions_of_u64(rt: HostRuntime) {
-    readings_and_copies::<u64, _>(&rt, rt.alloc());
+fn sweeps_counted_items_of_long_lists(rt: HostRuntime) {
+    let ledger = leaked_ledger(&rt, rt.alloc());
+    sweeps::<Small, Doubling, _>(&rt, ledger, &[4000], &[0], 5);
+    sweeps::<Small, Doubling, _>(&rt, ledger, &[41_000], &[0], 1);
+}
+
+// Sweeps the calls that copy items.
+fn copies<T: Numbered + Copy, R: Abort>(rt: &R, alloc: Global) {
+    let ledger = leaked_ledger(rt, alloc);
+    sweep::<Copying, T, Doubling, R>(rt, ledger, &SHORT, &[0, 1, 4], ALL);
+    sweep::<Copying, T, PowerBytes, R>(rt, ledger, &LONG, &[0, 1], ALL);
 }
 
 #[test]
-fn sweeps_growths_of_u128(rt: HostRuntime) {
-    growths::<u128, Doubling, _>(&rt, rt.alloc());
+fn copies_items_of_all_sizes(rt: HostRuntime) {
+    copies::<(), _>(&rt, rt.alloc());
+    copies::<u8, _>(&rt, rt.alloc());
+    copies::<u16, _>(&rt, rt.alloc());
+    copies::<[u8; 5], _>(&rt, rt.alloc());
+    copies::<[u32; 3], _>(&rt, rt.alloc());
+    copies::<u64, _>(&rt, rt.alloc());
+    copies::<[u64; 3], _>(&rt, rt.alloc());
+    copies::<u128, _>(&rt, rt.alloc());
 }
 
 #[test]
-fn sweeps_edits_of_u128(rt: HostRuntime) {
-    edits::<u128, Doubling, _>(&rt, rt.alloc());
+fn writes_and_copies_bytes(rt: HostRuntime) {
+    let ledger = leaked_ledger(&rt, rt.alloc());
+    sweep::<Bytes, u8, Doubling, _>(&rt, ledger, &SHORT, &[0, 1, 60], ALL);
+    sweep::<Bytes, u8, PowerBytes, _>(&rt, ledger, &LONG, &[0, 1, 60], ALL);
+    sweep::<Bytes, u8, Doubling, _>(&rt, ledger, &[41_000], &[0], ALL);
+    sweep::<Copying, u8, Doubling, _>(&rt, ledger, &[41_000], &[0], 2);
 }
 
 #[test]
-fn sweeps_reads_and_constructions_of_u128(rt: HostRuntime) {
-    readings_and_copies::<u128, _>(&rt, rt.alloc());
+fn converts_arrays(rt: HostRuntime) {
+    let ledger = leaked_ledger(&rt, rt.alloc());
+    arrays::<(), _>(&rt, ledger);
+    arrays::<u8, _>(&rt, ledger);
+    arrays::<[u8; 3], _>(&rt, ledger);
+    arrays::<Small, _>(&rt, ledger);
+    arrays::<ThreeWords, _>(&rt, ledger);
+    arrays::<Large, _>(&rt, ledger);
+}
+
+// Tries the calls that fill a list of `T` from an iterator.
+fn fill_all<T: Numbered, G: Ruled, R: Abort>(rt: &R, alloc: Global) {
+    let ledger = leaked_ledger(rt, alloc);
+    fill_lists::<Extend, T, G, R>(rt, ledger, &SHORT, &[0, 4]);
+    fill_lists::<Extend, T, G, R>(rt, ledger, &[300], &[0]);
+    fill_lists::<ExtendOfTrait, T, G, R>(rt, ledger, &[0, 1, 33], &[0, 1]);
+    fill_lists::<FromIter, T, Doubling, R>(rt, ledger, &[0], &[0]);
+    fill_lists::<Collect, T, Doubling, R>(rt, ledger, &[0], &[0]);
 }
 
 #[test]
-fn sweeps_growths_of_items_of_512_bytes(rt: HostRuntime) {
-    growths::<[u64; 64], Doubling, _>(&rt, rt.alloc());
+fn fills_lists_of_units_and_bytes(rt: HostRuntime) {
+    fill_all::<(), Doubling, _>(&rt, rt.alloc());
+    fill_all::<u8, PowerBytes, _>(&rt, rt.alloc());
 }
 
 #[test]
-fn sweeps_edits_of_items_of_512_bytes(rt: HostRuntime) {
-    edits::<[u64; 64], Doubling, _>(&rt, rt.alloc());
+fn fills_lists_of_counted_items(rt: HostRuntime) {
+    fill_all::<Small, Doubling, _>(&rt, rt.alloc());
+    fill_all::<ThreeWords, Threefold, _>(&rt, rt.alloc());
+    fill_all::<Large, Doubling, _>(&rt, rt.alloc());
 }
 
 #[test]
-fn sweeps_reads_and_constructions_of_items_of_512_bytes(rt: HostRuntime) {
-    readings_and_copies::<[u64; 64], _>(&rt, rt.alloc());
+fn splices_units_and_bytes(rt: HostRuntime) {
+    let ledger = leaked_ledger(&rt, rt.alloc());
+    splices::<(), Doubling, _>(&rt, ledger, &[0, 1, 2, 3, 4], &[0, 3]);
+    splices::<u8, PowerBytes, _>(&rt, ledger, &[0, 1, 2, 3, 4], &[0, 3]);
 }
 
 #[test]
-fn sweeps_growths_of_counted_items(rt: HostRuntime) {
-    growths::<Counted, Doubling, _>(&rt, rt.alloc());
+fn splices_counted_items(rt: HostRuntime) {
+    let ledger = leaked_ledger(&rt, rt.alloc());
+    splices::<Small, Doubling, _>(&rt, ledger, &SHORT, &[0, 3]);
+    splices::<ThreeWords, Fourfold, _>(&rt, ledger, &[2, 4], &[0]);
+    splices::<Large, Doubling, _>(&rt, ledger, &[3], &[0, 1]);
 }
 
 #[test]
-fn sweeps_edits_of_counted_items(rt: HostRuntime) {
-    edits::<Counted, Doubling, _>(&rt, rt.alloc());
+fn splices_long_lists(rt: HostRuntime) {
+    let ledger = leaked_ledger(&rt, rt.alloc());
+    splices::<Small, Doubling, _>(&rt, ledger, &[100, 300], &[0]);
 }
 
 #[test]
-fn sweeps_reads_and_constructions_of_counted_items(rt: HostRuntime) {
-    readings::<Counted, _>(&rt, rt.alloc());
+fn capacities_overflow_without_a_request(rt: HostRuntime) {
+    let ledger = leaked_ledger(&rt, rt.alloc());
+    limits::<(), Doubling, _>(&rt, ledger);
+    limits::<u8, Doubling, _>(&rt, ledger);
+    limits::<[u8; 3], Doubling, _>(&rt, ledger);
+    limits::<u16, Doubling, _>(&rt, ledger);
+    limits::<i32, Doubling, _>(&rt, ledger);
+    limits::<[u32; 3], Doubling, _>(&rt, ledger);
+    limits::<u64, Doubling, _>(&rt, ledger);
+    limits::<u128, Doubling, _>(&rt, ledger);
+    limits::<ThreeWords, Doubling, _>(&rt, ledger);
+    limits::<Large, Doubling, _>(&rt, ledger);
 }
 
 #[test]
-fn sweeps_growths_of_lists_of_lists(rt: HostRuntime) {
-    growths::<Inner, Doubling, _>(&rt, rt.alloc());
+fn lists_of_u64_agree_with_vectors(rt: HostRuntime) {
+    assert_twins_agree(&rt, rt.alloc());
 }
 
 #[test]
-fn sweeps_edits_of_lists_of_lists(rt: HostRuntime) {
-    edits::<Inner, Doubling, _>(&rt, rt.alloc());
+fn random_runs_are_right(rt: HostRuntime) {
+    let ledger = leaked_ledger(&rt, rt.alloc());
+    assert_runs_right::<(), Doubling, _>(&rt, ledger);
+    assert_runs_right::<u16, PowerBytes, _>(&rt, ledger);
+    assert_runs_right::<[u8; 3], Threefold, _>(&rt, ledger);
+    assert_runs_right::<Small, Doubling, _>(&rt, ledger);
+    assert_runs_right::<ThreeWords, Fourfold, _>(&rt, ledger);
 }
 
 #[test]
-fn sweeps_reads_and_constructions_of_lists_of_lists(rt: HostRuntime) {
-    readings::<Inner, _>(&rt, rt.alloc());
-}
-
-#[test]
-fn sweeps_growths_of_u8_under_power_bytes(rt: HostRuntime) {
-    growths::<u8, PowerBytes, _>(&rt, rt.alloc());
-}
-
-#[test]
-fn sweeps_growths_of_i32_under_power_bytes(rt: HostRuntime) {
-    growths::<i32, PowerBytes, _>(&rt, rt.alloc());
-}
-
-#[test]
-fn sweeps_growths_of_items_of_512_bytes_under_power_bytes(rt: HostRuntime) {
-    growths::<[u64; 64], PowerBytes, _>(&rt, rt.alloc());
-}
-
-#[test]
-fn sweeps_growths_of_i32_under_threefold(rt: HostRuntime) {
-    growths::<i32, Threefold, _>(&rt, rt.alloc());
-}
-
-#[test]
-fn sweeps_growths_of_i32_under_fourfold(rt: HostRuntime) {
-    growths::<i32, Fourfold, _>(&rt, rt.alloc());
-}
-
-#[test]
-fn sweeps_edits_of_i32_under_power_bytes(rt: HostRuntime) {
-    edits::<i32, PowerBytes, _>(&rt, rt.alloc());
-}
-
-#[test]
-fn sweeps_reads_of_i32_under_power_bytes(rt: HostRuntime) {
-    let scope = all::<i32, _>(&rt, rt.alloc());
-    every_reading::<i32, PowerBytes, _>(&rt, &scope);
-    assert_swept(&rt, &scope, 4_000, 500);
-}
-
-#[test]
-fn sweeps_replaced_ranges_of_units(rt: HostRuntime) {
-    replacings::<(), Doubling, _>(&rt, rt.alloc());
-    replacings_by_copies::<(), _>(&rt, rt.alloc());
-}
-
-#[test]
-fn sweeps_replaced_ranges_of_i32(rt: HostRuntime) {
-    replacings::<i32, PowerBytes, _>(&rt, rt.alloc());
-    replacings_by_copies::<i32, _>(&rt, rt.alloc());
-}
-
-#[test]
-fn sweeps_replaced_ranges_of_counted_items(rt: HostRuntime) {
-    replacings::<Counted, Doubling, _>(&rt, rt.alloc());
-}
-
-#[test]
-fn sweeps_replaced_ranges_of_lists_of_lists(rt: HostRuntime) {
-    replacings::<Inner, Doubling, _>(&rt, rt.alloc());
-}
-
-#[test]
-fn sweeps_replaced_ranges_of_items_of_512_bytes(rt: HostRuntime) {
-    replacings::<[u64; 64], Doubling, _>(&rt, rt.alloc());
-    replacings_by_copies::<[u64; 64], _>(&rt, rt.alloc());
-}
-
-#[test]
-fn sweeps_comparisons_and_texts(rt: HostRuntime) {
-    let scope = all::<i32, _>(&rt, rt.alloc());
-    every_comparing::<(), _>(&rt, &scope);
-    every_comparing::<i32, _>(&rt, &scope);
-    assert_swept(&rt, &scope, 1_000, 0);
-}
-
-#[test]
-fn sweeps_bytes_and_bounds(rt: HostRuntime) {
-    let scope = all::<u8, _>(&rt, rt.alloc());
-    every_call_of_bytes(&rt, &scope);
-    every_bound(&rt, &scope);
-    assert_swept(&rt, &scope, 20_000, 1_000);
-}
-
-#[test]
-fn sweeps_growths_of_a_long_list(rt: HostRuntime) {
-    let scope = longest(&rt, rt.alloc());
-    every_growth::<Counted, Doubling, _>(&rt, &scope);
-    assert_swept(&rt, &scope, 40, 5);
-}
-
-#[test]
-fn sweeps_replaced_ranges_of_a_long_list(rt: HostRuntime) {
-    let scope = longest(&rt, rt.alloc());
-    every_replacing::<Counted, Doubling, _>(&rt, &scope);
-    every_replacing_by_copies::<i32, Doubling, _>(&rt, &scope);
-    assert_swept(&rt, &scope, 30, 5);
-}
-
-#[test]
-fn sweeps_edits_of_a_long_list(rt: HostRuntime) {
-    let scope = longest(&rt, rt.alloc());
-    every_edit::<Counted, Doubling, _>(&rt, &scope);
-    assert_swept(&rt, &scope, 40, 5);
-}
-
-#[test]
-fn sweeps_filters_of_a_long_list(rt: HostRuntime) {
-    let scope = longest(&rt, rt.alloc());
-    every_filter::<Counted, Doubling, _>(&rt, &scope);
-    assert_swept(&rt, &scope, 20, 0);
-}
-
-#[test]
-fn sweeps_reads_and_constructions_of_a_long_list(rt: HostRuntime) {
-    let scope = longest(&rt, rt.alloc());
-    every_reading::<Counted, Doubling, _>(&rt, &scope);
-    every_making::<Counted, _>(&rt, &scope);
-    every_copying::<u64, _>(&rt, &scope);
-    every_call_of_bytes(&rt, &scope);
-    assert_swept(&rt, &scope, 40, 5);
+fn runs_of_long_lists_are_right(rt: HostRuntime) {
+    let ledger = leaked_ledger(&rt, rt.alloc());
+    assert_long_commands_right::<Small, Doubling, _>(&rt, ledger);
+    assert_long_run_right::<Small, Doubling, _>(&rt, ledger);
 }

@@ -1,0 +1,75 @@
+//! Conversions between lists and arrays, whose lengths are parts of types.
+ghost use Rattle.std.specs.Mem.{type_size};
+ghost use Rattle.std.specs.Prelude.{◌*◌, ◌<◌, ◌^◌};
+
+use crate::case::{Answer, At, Case, Due};
+use std::alloc::Allocator;
+use std::process::Abort;
+use thin_testing::{Ledger, Numbered};
+use thin_vec::{Doubling, ThinVec, ThinVecError};
+
+/// Converts lists of several lengths to arrays of 0, 1, 2, 3, 6, 7 and 45 items, and back.
+pub fn arrays<T: Numbered, R: Abort>(rt: &R, ledger: &'static Ledger)
+    requires small { 45 * type_size T.row < 2 ^ 63 }
+{
+    arrays_of::<T, 0, R>(rt, ledger);
+    arrays_of::<T, 1, R>(rt, ledger);
+    arrays_of::<T, 2, R>(rt, ledger);
+    arrays_of::<T, 3, R>(rt, ledger);
+    arrays_of::<T, 6, R>(rt, ledger);
+    arrays_of::<T, 7, R>(rt, ledger);
+    arrays_of::<T, 45, R>(rt, ledger);
+}
+
+// Converts lists to arrays of `N` items, and back. Refuses the request of the conversion back.
+fn arrays_of<T: Numbered, const N: usize, R: Abort>(rt: &R, ledger: &'static Ledger)
+    requires small { N * type_size T.row < 2 ^ 63 }
+{
+    for length in [0, 1, 2, 3, 4, 6, 7, 8, 45] {
+        for spare in 0..2 {
+            for refused in 0..if length == N { 2 } else { 1 } {
+                let at = At {
+                    call: "",
+                    length,
+                    spare,
+                    argument: N,
+                    refused,
+                };
+                if length > 0 || refused == 0 {
+                    array::<T, N, R>(rt, ledger, at);
+                }
+            }
+        }
+    }
+}
+
+fn array<T: Numbered, const N: usize, R: Abort>(rt: &R, ledger: &'static Ledger, at: At)
+    requires small { N * type_size T.row < 2 ^ 63 }
+{
+    let mut case: Case<T, Doubling> = Case::new(rt, ledger, at);
+    let list = case.take();
+    case.begin("into_array, from_array");
+    let answer: Answer = match there_and_back::<T, _, N>(list, &ledger.alloc) {
+        Ok(capacity) => Ok(Due::block_of(capacity)),
+        Err(cause) => Err(cause),
+    };
+    case.check(rt, answer);
+    case.end(rt);
+}
+
+// Converts the list to an array, the array to a list, and drops this list. Returns the number of
+// items for which memory was requested.
+fn there_and_back<T: Numbered, A: Allocator, const N: usize>(
+    list: ThinVec<T, A>,
+    alloc: A,
+) -> Result<usize, ThinVecError>
+    requires small { N * type_size T.row < 2 ^ 63 }
+{
+    match list.into_array::<N>() {
+        Ok(items) => match ThinVec::from_array(alloc, items) {
+            Ok(_list) => Ok(N),
+            Err(refused) => Err(refused.cause),
+        },
+        Err(_list) => Ok(0),
+    }
+}

@@ -1,0 +1,81 @@
+//! Calls that copy items, and do not clone them.
+use crate::case::{Answer, Case, Due};
+use crate::sweep::Calls;
+use std::process::Abort;
+use thin_testing::Numbered;
+use thin_vec::{Growth, ThinVec};
+
+/// Calls that copy items, and do not clone them.
+pub struct Copying {}
+
+impl<T: Numbered + Copy, G: Growth> Calls<T, G> for Copying {
+    const CALLS: usize = 5;
+
+    // 25 ranges, combined with 8 numbers of new items.
+    fn arguments(call: usize, is_short: bool) -> usize {
+        match (call, is_short) {
+            (1, _) => 5,
+            (2, true) => 200,
+            (2, false) => 20,
+            (3, _) => 1,
+            _ => 8,
+        }
+    }
+
+    fn call<R: Abort>(rt: &R, case: &mut Case<T, G>, call: usize) -> Option<Answer> {
+        Some(match call {
+            0 => extend_from_copies(rt, case),
+            1 => extend_from_copies_reserved(rt, case),
+            2 => replace_range_from_copies(rt, case),
+            3 => clone_copies(case),
+            _ => from_copies(rt, case),
+        })
+    }
+}
+
+fn extend_from_copies<T: Numbered + Copy, G: Growth, R: Abort>(
+    rt: &R,
+    case: &mut Case<T, G>,
+) -> Answer {
+    let items = case.items(rt, case.count());
+    case.begin("extend_from_copies");
+    case.list.extend_from_copies(items.as_slice())?;
+    Ok(Due::NOTHING)
+}
+
+fn extend_from_copies_reserved<T: Numbered + Copy, G: Growth, R: Abort>(
+    rt: &R,
+    case: &mut Case<T, G>,
+) -> Answer {
+    let items = case.items(rt, case.spare());
+    case.begin("extend_from_copies_reserved");
+    assert!(rt; items.len() <= case.list.capacity() - case.list.len());
+    case.list.extend_from_copies_reserved(items.as_slice());
+    Ok(Due::NOTHING)
+}
+
+fn replace_range_from_copies<T: Numbered + Copy, G: Growth, R: Abort>(
+    rt: &R,
+    case: &mut Case<T, G>,
+) -> Answer {
+    let (start, end) = case.range();
+    let items = case.items(rt, case.replacements());
+    case.begin("replace_range_from_copies");
+    assert!(rt; start <= end && end <= case.list.len());
+    case.list
+        .replace_range_from_copies(start, end, items.as_slice())?;
+    Ok(Due::NOTHING)
+}
+
+fn clone_copies<T: Numbered + Copy, G: Growth>(case: &mut Case<T, G>) -> Answer {
+    case.begin("clone_copies");
+    let clone = case.list.clone_copies(&case.ledger.alloc)?;
+    Ok(Due::block_of(clone.len()))
+}
+
+fn from_copies<T: Numbered + Copy, G: Growth, R: Abort>(rt: &R, case: &mut Case<T, G>) -> Answer {
+    let items = case.items(rt, case.count());
+    case.begin("from_copies");
+    let list = ThinVec::from_copies(&case.ledger.alloc, items.as_slice())?;
+    Ok(Due::block_of(list.len()))
+}

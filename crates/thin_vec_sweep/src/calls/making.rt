@@ -1,0 +1,105 @@
+//! Calls that make a list. All lists have the growth rule `Doubling`.
+use crate::case::{Answer, Case, Due, List};
+use crate::sweep::Calls;
+use std::default::{Emptied, MadeWith};
+use std::process::Abort;
+use thin_testing::Numbered;
+use thin_vec::{Doubling, ThinVec, thin_vec};
+
+/// Calls that make a list.
+pub struct Making {}
+
+impl<T: Numbered> Calls<T, Doubling> for Making {
+    const CALLS: usize = 9;
+
+    fn arguments(_call: usize, _is_short: bool) -> usize {
+        8
+    }
+
+    fn call<R: Abort>(rt: &R, case: &mut Case<T, Doubling>, call: usize) -> Option<Answer> {
+        Some(match call {
+            0 => make_empty(rt, case),
+            1 => repeat(case),
+            2 => repeat_in(case),
+            3 => list_items(rt, case),
+            4 => list_items_in(rt, case),
+            5 => with_capacity(case),
+            6 => from_slice(rt, case),
+            7 => from_vec(rt, case),
+            _ => from_boxed_slice(rt, case),
+        })
+    }
+}
+
+fn make_empty<T: Numbered, R: Abort>(rt: &R, case: &mut Case<T, Doubling>) -> Answer {
+    let alloc = &case.ledger.alloc;
+    case.begin("new, default_in, made_with, emptied, thin_vec![a =>], thin_vec![in a]");
+    let list: List<T, Doubling> = match case.at.argument % 6 {
+        0 => ThinVec::new(alloc),
+        1 => ThinVec::default_in(alloc),
+        2 => MadeWith::made_with(alloc),
+        3 => Emptied::emptied(&case.list)?,
+        4 => thin_vec![in alloc]?,
+        _ => thin_vec![alloc =>]?,
+    };
+    case.assert_same(rt, "capacity of an empty list", list.capacity(), 0);
+    Ok(Due::NOTHING)
+}
+
+fn repeat<T: Numbered>(case: &mut Case<T, Doubling>) -> Answer {
+    let (item, count) = (case.item(), case.count());
+    case.begin("thin_vec![a => x; k]");
+    let list = thin_vec![&case.ledger.alloc => item; count]?;
+    Ok(Due::block_of(list.len()).clones(count.saturating_sub(1)))
+}
+
+fn repeat_in<T: Numbered>(case: &mut Case<T, Doubling>) -> Answer {
+    let (item, count) = (case.item(), case.count());
+    case.begin("thin_vec![in a; x; k]");
+    let list = thin_vec![in &case.ledger.alloc; item; count]?;
+    Ok(Due::block_of(list.len()).clones(count.saturating_sub(1)))
+}
+
+fn list_items<T: Numbered, R: Abort>(rt: &R, case: &mut Case<T, Doubling>) -> Answer {
+    let (x, y, z) = (case.item(), case.item(), case.item());
+    case.begin("thin_vec![a => x, y, z]");
+    let list = thin_vec![&case.ledger.alloc => x, y, z]?;
+    case.assert_same(rt, "capacity", list.capacity(), 3);
+    Ok(Due::block_of(list.len()))
+}
+
+fn list_items_in<T: Numbered, R: Abort>(rt: &R, case: &mut Case<T, Doubling>) -> Answer {
+    let (x, y) = (case.item(), case.item());
+    case.begin("thin_vec![in a; x, y]");
+    let list = thin_vec![in &case.ledger.alloc; x, y]?;
+    case.assert_same(rt, "capacity", list.capacity(), 2);
+    Ok(Due::block_of(list.len()))
+}
+
+fn with_capacity<T: Numbered>(case: &mut Case<T, Doubling>) -> Answer {
+    let capacity = case.count();
+    case.begin("with_capacity");
+    let list: List<T, Doubling> = ThinVec::with_capacity(&case.ledger.alloc, capacity)?;
+    Ok(Due::block_of(list.capacity()))
+}
+
+fn from_slice<T: Numbered, R: Abort>(rt: &R, case: &mut Case<T, Doubling>) -> Answer {
+    let items = case.items(rt, case.count());
+    case.begin("from_slice");
+    let list = ThinVec::from_slice(&case.ledger.alloc, items.as_slice())?;
+    Ok(Due::block_of(list.len()).clones(list.len()))
+}
+
+fn from_vec<T: Numbered, R: Abort>(rt: &R, case: &mut Case<T, Doubling>) -> Answer {
+    let items = case.items(rt, case.count());
+    case.begin("from_vec");
+    let list = ThinVec::from_vec(&case.ledger.alloc, items)?;
+    Ok(Due::block_of(list.len()))
+}
+
+fn from_boxed_slice<T: Numbered, R: Abort>(rt: &R, case: &mut Case<T, Doubling>) -> Answer {
+    let items = case.items(rt, case.count()).into_boxed_slice();
+    case.begin("from_boxed_slice");
+    let list = ThinVec::from_boxed_slice(&case.ledger.alloc, items)?;
+    Ok(Due::block_of(list.len()))
+}

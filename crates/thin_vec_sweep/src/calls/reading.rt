@@ -1,0 +1,143 @@
+//! Calls that read or overwrite items, and calls that clone a list.
+use crate::case::{Answer, Case, Due, List};
+use crate::sweep::Calls;
+use std::cmp::Ordering;
+use std::mem;
+use std::process::Abort;
+use thin_testing::Numbered;
+use thin_vec::{Growth, ThinVec};
+
+/// Calls that read or overwrite items, and calls that clone a list.
+pub struct Reading {}
+
+impl<T: Numbered, G: Growth> Calls<T, G> for Reading {
+    const CALLS: usize = 8;
+
+    fn arguments(_call: usize, _is_short: bool) -> usize {
+        5
+    }
+
+    fn call<R: Abort>(rt: &R, case: &mut Case<T, G>, call: usize) -> Option<Answer> {
+        Some(match call {
+            0 => read(rt, case),
+            1 => iterate(case),
+            2 => compare(rt, case),
+            3 => write(rt, case)?,
+            4 => get_mut(case),
+            5 => iterate_mut(case),
+            6 => clone(case),
+            _ => clone_of_trait(case),
+        })
+    }
+}
+
+fn read<T: Numbered, G: Growth, R: Abort>(rt: &R, case: &mut Case<T, G>) -> Answer {
+    case.begin("len, is_empty, capacity, has_capacity, allocator, as_slice, [index]");
+    let list = &case.list;
+    case.assert_same(rt, "is_empty", list.is_empty(), list.len() == 0);
+    case.assert_same(
+        rt,
+        "has_capacity",
+        list.has_capacity(),
+        list.capacity() != 0,
+    );
+    case.assert_same(rt, "allocator", list.allocator().requests(), 0);
+    let index = case.index();
+    if index < list.len() {
+        case.assert_same(rt, "[index]", list[index] == list.as_slice()[index], true);
+        return Ok(Due::comparisons(1));
+    }
+    Ok(Due::NOTHING)
+}
+
+fn iterate<T: Numbered, G: Growth>(case: &mut Case<T, G>) -> Answer {
+    case.begin("for loop over &list");
+    for item in &case.list {
+        let _item = item;
+        let _earlier = case.ledger.called();
+    }
+    Ok(Due::calls(case.at.length))
+}
+
+// Compares the list with one of the same length whose last item differs if the argument is not 0.
+fn compare<T: Numbered, G: Growth, R: Abort>(rt: &R, case: &mut Case<T, G>) -> Answer {
+    let mut other = case.other(rt, case.at.length, 1);
+    if case.at.argument > 0
+        && let Some(last) = other.as_mut_slice().last_mut()
+    {
+        *last = case.item();
+    }
+    case.begin("==");
+    let is_equal = case.list == other;
+    let differs = case.at.argument > 0 && case.at.length > 0 && T::SIZE > 0;
+    case.assert_same(rt, "is equal", is_equal, !differs);
+    Ok(Due::comparisons(case.at.length))
+}
+
+fn write<T: Numbered, G: Growth, R: Abort>(rt: &R, case: &mut Case<T, G>) -> Option<Answer> {
+    let index = case.index();
+    if index >= case.list.len() {
+        return None;
+    }
+    let item = case.item();
+    case.begin("list[index] = item");
+    assert!(rt; index < case.list.len());
+    case.list[index] = item;
+    Some(Ok(Due::NOTHING))
+}
+
+fn get_mut<T: Numbered, G: Growth>(case: &mut Case<T, G>) -> Answer {
+    let (index, mut item) = (case.index(), case.item());
+    case.begin("get_mut");
+    if let Some(place) = case.list.get_mut(index) {
+        mem::swap(place, &mut item);
+    }
+    Ok(Due::NOTHING)
+}
+
+// Exchanges each item for the item before it.
+fn iterate_mut<T: Numbered, G: Growth>(case: &mut Case<T, G>) -> Answer {
+    let mut item = case.item();
+    case.begin("for loop over &mut list");
+    for place in &mut case.list {
+        mem::swap(place, &mut item);
+    }
+    Ok(Due::NOTHING)
+}
+
+fn clone<T: Numbered, G: Growth>(case: &mut Case<T, G>) -> Answer {
+    case.begin("clone");
+    let clone = ThinVec::clone(&case.list, &case.ledger.alloc)?;
+    Ok(Due::block_of(clone.len()).clones(clone.len()))
+}
+
+fn clone_of_trait<T: Numbered, G: Growth>(case: &mut Case<T, G>) -> Answer {
+    case.begin("clone of the trait Clone");
+    let clone: List<T, G> = Clone::clone(&case.list)?;
+    Ok(Due::block_of(clone.len()).clones(clone.len()))
+}
+
+/// Calls that order two lists.
+pub struct Comparing {}
+
+impl<T: Numbered + Ord, G: Growth> Calls<T, G> for Comparing {
+    const CALLS: usize = 2;
+
+    fn arguments(_call: usize, _is_short: bool) -> usize {
+        1
+    }
+
+    // The two lists are equal, so each item is compared once.
+    fn call<R: Abort>(rt: &R, case: &mut Case<T, G>, call: usize) -> Option<Answer> {
+        let other = case.other(rt, case.at.length, 0);
+        case.begin("cmp, partial_cmp");
+        let is_equal = if call == 0 {
+            case.list.cmp(&other) == Ordering::Equal
+        } else {
+            case.list.partial_cmp(&other) == Some(Ordering::Equal)
+        };
+        case.assert_same(rt, "is equal", is_equal, true);
+        drop(other);
+        Some(Ok(Due::comparisons(case.at.length)))
+    }
+}

@@ -1,0 +1,262 @@
+//! Calls that remove items, and calls that consume a list. Those that consume it make no request, or
+//! one for the `Vec` that they return.
+ghost use Rattle.std.specs.Prelude.{◌≤◌, length};
+
+use crate::case::{Answer, Case, Due, List};
+use crate::sweep::Calls;
+use std::alloc::Allocator;
+use std::mem;
+use std::process::Abort;
+use thin_testing::Numbered;
+use thin_vec::{Growth, IntoIter, ThinVec};
+
+/// Calls that remove items, and calls that consume a list.
+pub struct Removing {}
+
+impl<T: Numbered, G: Growth> Calls<T, G> for Removing {
+    const CALLS: usize = 14;
+
+    // 25 ranges, combined with 6 numbers of steps.
+    fn arguments(call: usize, is_short: bool) -> usize {
+        match (call, is_short) {
+            (7..=9, true) => 150,
+            (7..=9, false) => 30,
+            (13, _) => 25,
+            (3, _) => 10,
+            (1 | 2 | 6, _) => 5,
+            _ => 1,
+        }
+    }
+
+    fn call<R: Abort>(rt: &R, case: &mut Case<T, G>, call: usize) -> Option<Answer> {
+        Some(match call {
+            0 => pop(case),
+            1 => remove(rt, case)?,
+            2 => swap_remove(rt, case)?,
+            3 => truncate(case),
+            4 => clear(case),
+            5 => push_reserved(rt, case)?,
+            6 => insert_reserved(rt, case)?,
+            7 => drain(rt, case),
+            8 => into_iter(rt, case),
+            9 => into_iter_clone(rt, case),
+            10 => into_vec(case),
+            11 => into_boxed_slice(case),
+            12 => try_take(rt, case),
+            _ => drain_for(rt, case),
+        })
+    }
+}
+
+fn pop<T: Numbered, G: Growth>(case: &mut Case<T, G>) -> Answer {
+    case.begin("pop");
+    drop(case.list.pop());
+    Ok(Due::NOTHING)
+}
+
+fn remove<T: Numbered, G: Growth, R: Abort>(rt: &R, case: &mut Case<T, G>) -> Option<Answer> {
+    let index = case.index();
+    case.begin("remove");
+    if index == case.list.len() {
+        return None;
+    }
+    assert!(rt; index < case.list.len());
+    drop(case.list.remove(index));
+    Some(Ok(Due::NOTHING))
+}
+
+fn swap_remove<T: Numbered, G: Growth, R: Abort>(rt: &R, case: &mut Case<T, G>) -> Option<Answer> {
+    let index = case.index();
+    case.begin("swap_remove");
+    if index == case.list.len() {
+        return None;
+    }
+    assert!(rt; index < case.list.len());
+    drop(case.list.swap_remove(index));
+    Some(Ok(Due::NOTHING))
+}
+
+fn truncate<T: Numbered, G: Growth>(case: &mut Case<T, G>) -> Answer {
+    let len = case.new_length().0;
+    case.begin("truncate");
+    case.list.truncate(len);
+    Ok(Due::NOTHING)
+}
+
+fn clear<T: Numbered, G: Growth>(case: &mut Case<T, G>) -> Answer {
+    case.begin("clear");
+    case.list.clear();
+    Ok(Due::NOTHING)
+}
+
+fn push_reserved<T: Numbered, G: Growth, R: Abort>(
+    rt: &R,
+    case: &mut Case<T, G>,
+) -> Option<Answer> {
+    if case.list.len() >= case.list.capacity() {
+        return None;
+    }
+    let item = case.item();
+    case.begin("push_reserved");
+    assert!(rt; case.list.len() < case.list.capacity());
+    case.list.push_reserved(item);
+    Some(Ok(Due::NOTHING))
+}
+
+fn insert_reserved<T: Numbered, G: Growth, R: Abort>(
+    rt: &R,
+    case: &mut Case<T, G>,
+) -> Option<Answer> {
+    let index = case.index();
+    if case.list.len() >= case.list.capacity() {
+        return None;
+    }
+    let item = case.item();
+    case.begin("insert_reserved");
+    assert!(rt; index <= case.list.len() && case.list.len() < case.list.capacity());
+    case.list.insert_reserved(index, item);
+    Some(Ok(Due::NOTHING))
+}
+
+// A sequence of calls to `next` and `next_back`. On a range of at most 4 items, the arguments choose
+// up to 5 calls, each from the front or from the back.
+#[derive(Clone, Copy)]
+struct Walk {
+    steps: usize,
+    // The bit of each step is 1 if the step is a call to `next_back`.
+    backs: usize,
+}
+
+impl Walk {
+    fn new(argument: usize, width: usize) -> Walk {
+        let (number, backs) = (argument / 25, [0, usize::MAX, 0x5555_5555, 0x3333_3333]);
+        Walk {
+            steps: [
+                0,
+                1,
+                width / 2,
+                width.saturating_sub(1),
+                width,
+                width.saturating_add(1),
+            ][number % 6],
+            backs: backs[argument % 4],
+        }
+    }
+
+    fn is_back(self, step: usize) -> bool {
+        self.backs >> (step % 32) & 1 == 1
+    }
+}
+
+fn drain<T: Numbered, G: Growth, R: Abort>(rt: &R, case: &mut Case<T, G>) -> Answer {
+    let (start, end) = case.range();
+    let walk = Walk::new(case.at.argument, end.saturating_sub(start));
+    case.begin("drain");
+    assert!(rt; start <= end && end <= case.list.len());
+    drain_some(&mut case.list, start, end, walk);
+    Ok(Due::NOTHING)
+}
+
+// Walks a `Drain`, and drops it.
+fn drain_some<T: Numbered, A: Allocator, G: Growth>(
+    list: &mut ThinVec<T, A, G>,
+    start: usize,
+    end: usize,
+    walk: Walk,
+)
+    requires start_le_end { start ≤ end }
+    requires in_bounds { end ≤ length list.old.items }
+{
+    let mut drain = list.drain(start, end);
+    for step in 0..walk.steps {
+        if walk.is_back(step) {
+            drop(drain.next_back());
+        } else {
+            drop(drain.next());
+        }
+    }
+}
+
+// Takes the items of the range by a `for` loop.
+fn drain_for<T: Numbered, G: Growth, R: Abort>(rt: &R, case: &mut Case<T, G>) -> Answer {
+    let (start, end) = case.range();
+    case.begin("for loop over drain");
+    assert!(rt; start <= end && end <= case.list.len());
+    drain_all(&mut case.list, start, end);
+    Ok(Due::NOTHING)
+}
+
+fn drain_all<T: Numbered, A: Allocator, G: Growth>(
+    list: &mut ThinVec<T, A, G>,
+    start: usize,
+    end: usize,
+)
+    requires start_le_end { start ≤ end }
+    requires in_bounds { end ≤ length list.old.items }
+{
+    for item in list.drain(start, end) {
+        drop(item);
+    }
+}
+
+fn into_iter<T: Numbered, G: Growth, R: Abort>(_rt: &R, case: &mut Case<T, G>) -> Answer {
+    let walk = Walk::new(case.at.argument, case.at.length);
+    let list = case.take();
+    case.begin("into_iter");
+    drop(stepped(list, walk));
+    Ok(Due::NOTHING)
+}
+
+// Makes an iterator over the items of the list, and walks it.
+fn stepped<T: Numbered, A: Allocator, G: Growth>(
+    list: ThinVec<T, A, G>,
+    walk: Walk,
+) -> IntoIter<T, A, G> {
+    let mut rest = list.into_iter();
+    for step in 0..walk.steps {
+        if walk.is_back(step) {
+            drop(rest.next_back());
+        } else {
+            drop(rest.next());
+        }
+    }
+    rest
+}
+
+fn into_iter_clone<T: Numbered, G: Growth, R: Abort>(_rt: &R, case: &mut Case<T, G>) -> Answer {
+    let walk = Walk::new(case.at.argument, case.at.length);
+    let rest = stepped(case.take(), walk);
+    case.begin("clone of into_iter");
+    let clone = rest.clone(&case.ledger.alloc)?;
+    Ok(Due::block_of(clone.len()).clones(clone.len()))
+}
+
+fn into_vec<T: Numbered, G: Growth>(case: &mut Case<T, G>) -> Answer {
+    let list = case.take();
+    case.begin("into_vec");
+    let items = list.into_vec(&case.ledger.alloc)?;
+    Ok(Due::block_of(items.len()))
+}
+
+fn into_boxed_slice<T: Numbered, G: Growth>(case: &mut Case<T, G>) -> Answer {
+    let list = case.take();
+    case.begin("into_boxed_slice");
+    let items = list.into_boxed_slice(&case.ledger.alloc)?;
+    Ok(Due::block_of(items.len()))
+}
+
+fn try_take<T: Numbered, G: Growth, R: Abort>(rt: &R, case: &mut Case<T, G>) -> Answer {
+    let capacity = case.list.capacity();
+    case.begin("mem::try_take");
+    let taken = mem::try_take(&mut case.list);
+    let taken: Option<List<T, G>> = taken.ok();
+    let found = taken.map(|list| list.capacity());
+    case.assert_same(
+        rt,
+        "capacity of the list that was taken",
+        found,
+        Some(capacity),
+    );
+    // The list without a block has capacity 0, but this is no request.
+    Ok(Due::NOTHING)
+}

@@ -1,0 +1,79 @@
+//! Calls that replace a range, or that append to the spare capacity.
+use crate::case::{Answer, Case, Due};
+use crate::sweep::Calls;
+use std::process::Abort;
+use thin_testing::Numbered;
+use thin_vec::Growth;
+
+/// Calls that replace a range, or that append to the spare capacity.
+pub struct Replacing {}
+
+impl<T: Numbered, G: Growth> Calls<T, G> for Replacing {
+    const CALLS: usize = 4;
+
+    // 25 ranges, combined with 8 numbers of new items.
+    fn arguments(call: usize, is_short: bool) -> usize {
+        match (call, is_short) {
+            (2 | 3, _) => 5,
+            (_, true) => 200,
+            _ => 20,
+        }
+    }
+
+    fn call<R: Abort>(rt: &R, case: &mut Case<T, G>, call: usize) -> Option<Answer> {
+        Some(match call {
+            0 => replace_range(rt, case),
+            1 => replace_range_from_list(rt, case),
+            2 => append_reserved(rt, case),
+            _ => extend_from_slice_reserved(rt, case),
+        })
+    }
+}
+
+fn replace_range<T: Numbered, G: Growth, R: Abort>(rt: &R, case: &mut Case<T, G>) -> Answer {
+    let (start, end) = case.range();
+    let items = case.items(rt, case.replacements());
+    case.begin("replace_range");
+    assert!(rt; start <= end && end <= case.list.len());
+    let answer = case.list.replace_range(start, end, items.as_slice());
+    let count = items.len();
+    drop(items);
+    answer?;
+    Ok(Due::NOTHING.clones(count))
+}
+
+// The other list keeps its block.
+fn replace_range_from_list<T: Numbered, G: Growth, R: Abort>(
+    rt: &R,
+    case: &mut Case<T, G>,
+) -> Answer {
+    let (start, end) = case.range();
+    let mut other = case.other(rt, case.replacements(), case.at.argument % 2);
+    case.begin("replace_range_from_list");
+    assert!(rt; start <= end && end <= case.list.len());
+    case.list.replace_range_from_list(start, end, &mut other)?;
+    Ok(Due::NOTHING)
+}
+
+fn append_reserved<T: Numbered, G: Growth, R: Abort>(rt: &R, case: &mut Case<T, G>) -> Answer {
+    let count = case.spare();
+    let mut other = case.other(rt, count, case.at.argument % 2);
+    case.begin("append_reserved");
+    assert!(rt; other.len() <= case.list.capacity() - case.list.len());
+    case.list.append_reserved(&mut other);
+    Ok(Due::NOTHING)
+}
+
+fn extend_from_slice_reserved<T: Numbered, G: Growth, R: Abort>(
+    rt: &R,
+    case: &mut Case<T, G>,
+) -> Answer {
+    let count = case.spare();
+    let items = case.items(rt, count);
+    case.begin("extend_from_slice_reserved");
+    assert!(rt; items.len() <= case.list.capacity() - case.list.len());
+    let answer = case.list.extend_from_slice_reserved(items.as_slice());
+    drop(items);
+    answer?;
+    Ok(Due::NOTHING.clones(count))
+}

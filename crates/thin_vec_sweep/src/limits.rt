@@ -1,0 +1,70 @@
+//! Requests for the greatest capacity, and calls whose capacity overflows.
+use crate::case::{At, Case, List};
+use std::process::Abort;
+use thin_testing::{Ledger, Numbered, Ruled};
+use thin_vec::{Doubling, ThinVec, ThinVecError};
+
+// The calls that are tried.
+const CALLS: usize = 4;
+
+/// Asserts that calls which need the capacity `T::LIMIT` make one request, and that calls which need
+/// a greater capacity fail without a request.
+pub fn limits<T: Numbered, G: Ruled, R: Abort>(rt: &R, ledger: &'static Ledger) {
+    for length in 0..3 {
+        for call in 0..CALLS {
+            if T::SIZE > 0 {
+                let answer = limit::<T, G, R>(rt, ledger, length, call, T::LIMIT, 1);
+                assert!(rt;
+                    answer == (Err(ThinVecError::OutOfMemory), 1),
+                    "call {call}"
+                );
+            }
+            for more in [
+                T::LIMIT.saturating_add(1),
+                isize::MAX as usize + 1,
+                usize::MAX,
+            ] {
+                let answer = limit::<T, G, R>(rt, ledger, length, call, more, 0);
+                assert!(rt;
+                    answer == (Err(ThinVecError::CapacityOverflow), 0),
+                    "call {call}"
+                );
+            }
+        }
+    }
+}
+
+// Makes a call that needs the given capacity. Returns its answer, and the number of its requests.
+fn limit<T: Numbered, G: Ruled, R: Abort>(
+    rt: &R,
+    ledger: &'static Ledger,
+    length: usize,
+    call: usize,
+    capacity: usize,
+    refused: u64,
+) -> (Result<(), ThinVecError>, u64) {
+    let at = At {
+        call: "",
+        length,
+        spare: 1,
+        argument: call,
+        refused,
+    };
+    let mut case: Case<T, G> = Case::new(rt, ledger, at);
+    let additional = capacity.saturating_sub(length);
+    case.begin("with_capacity, reserve, reserve_exact, resize");
+    let answer = match call {
+        0 => made::<T>(ledger, capacity),
+        1 => case.list.reserve(additional),
+        2 => case.list.reserve_exact(additional),
+        _ => case.list.resize(capacity, T::numbered(ledger, 7)),
+    };
+    let requests = ledger.alloc.requests();
+    case.end(rt);
+    (answer, requests)
+}
+
+fn made<T: Numbered>(ledger: &'static Ledger, capacity: usize) -> Result<(), ThinVecError> {
+    let _list: List<T, Doubling> = ThinVec::with_capacity(&ledger.alloc, capacity)?;
+    Ok(())
+}

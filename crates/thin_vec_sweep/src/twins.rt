@@ -1,0 +1,302 @@
+//! Makes each call on a list of `u64` and on the kit's `Vec`, and compares the items and the returned
+//! values. The items are proved, so only a wrongly compiled loop makes a difference.
+use std::alloc::{AllocError, Global};
+use std::mem;
+use std::process::Abort;
+use thin_vec::ThinVec;
+
+// A list and a `Vec` of the same items, and the arguments of a call on both.
+#[derive(Drop)]
+struct Twins {
+    alloc: Global,
+    list: ThinVec<u64>,
+    vec: Vec<u64>,
+    start: usize,
+    end: usize,
+    count: u64,
+}
+
+// Whether the two calls returned the same.
+type Same = Result<bool, AllocError>;
+
+/// Compares the two kinds of lists after each call, for several lengths and arguments.
+pub fn assert_twins_agree<R: Abort>(rt: &R, alloc: Global) {
+    for length in [0, 1, 2, 3, 4, 8, 33, 300] {
+        for argument in 0..27 {
+            for call in 0..CALLS {
+                let same = agree(alloc, length, argument, call);
+                assert!(rt;
+                    same.ok() == Some(true),
+                    "call {call} of {length} items, argument {argument}"
+                );
+            }
+        }
+    }
+}
+
+// Makes the call on both, and returns whether they agree.
+fn agree(alloc: Global, length: u64, argument: usize, call: usize) -> Same {
+    let parts = [0, length / 3, length];
+    let (one, two) = (parts[argument % 3], parts[argument / 3 % 3]);
+    let mut twins = Twins {
+        alloc,
+        list: ThinVec::new(alloc),
+        vec: Vec::new(alloc),
+        start: one.min(two) as usize,
+        end: one.max(two) as usize,
+        count: [1, 2, 40][argument / 9 % 3],
+    };
+    for number in 0..length {
+        let item = (number / 2).wrapping_mul(11) % 64;
+        twins.list.push(item)?;
+        twins.vec.push(item)?;
+    }
+    let same = match call {
+        0..12 => twins.add(call)?,
+        12..18 => twins.remove(call),
+        18..25 => twins.filter(call),
+        25..28 => twins.replace(call)?,
+        _ => twins.make(call)?,
+    };
+    Ok(same && twins.list.as_slice() == twins.vec.as_slice())
+}
+
+// The number of calls.
+const CALLS: usize = 34;
+
+impl Twins {
+    // Returns new items.
+    fn items(&self) -> Result<Vec<u64>, AllocError> {
+        let mut items = Vec::new(self.alloc);
+        for item in 0..self.count {
+            items.push(item)?;
+        }
+        Ok(items)
+    }
+
+    // Makes a call that adds items, or changes the capacity.
+    fn add(&mut self, call: usize) -> Same {
+        let (start, end) = (self.start, self.end);
+        if start > end || end > self.list.len() || end > self.vec.len() {
+            return Ok(false);
+        }
+        let len = end.saturating_add(1);
+        let items = self.items()?;
+        match call {
+            0 => {
+                self.list.push(7)?;
+                self.vec.push(7)?;
+            }
+            1 => {
+                *self.list.push_mut(7)? = 8;
+                *self.vec.push_mut(7)? = 8;
+            }
+            2 => {
+                self.list.insert(start, 7)?;
+                self.vec.insert(start, 7)?;
+            }
+            3 => {
+                *self.list.insert_mut(start, 7)? = 8;
+                *self.vec.insert_mut(start, 7)? = 8;
+            }
+            4 => {
+                self.list.resize(len, 7)?;
+                self.vec.resize(len, 7)?;
+            }
+            5 => {
+                let (mut one, mut two) = (0_u64, 0_u64);
+                self.list.resize_with(len, || {
+                    one = one.wrapping_add(3);
+                    one
+                })?;
+                self.vec.resize_with(len, || {
+                    two = two.wrapping_add(3);
+                    two
+                })?;
+            }
+            6 => {
+                self.list.extend_from_slice(items.as_slice())?;
+                self.vec.extend_from_slice(items.as_slice())?;
+            }
+            7 => {
+                self.list.extend_from_copies(items.as_slice())?;
+                self.vec.extend_from_slice(items.as_slice())?;
+            }
+            8 => {
+                self.list.extend_from_within(start, end)?;
+                self.vec.extend_from_within(start..end)?;
+            }
+            9 => {
+                let mut more = self.items()?;
+                self.list.extend(0..self.count)?;
+                self.vec.append(&mut more)?;
+            }
+            10 => {
+                let mut more = self.items()?;
+                let mut other = ThinVec::from_slice(self.alloc, items.as_slice())?;
+                self.list.append(&mut other)?;
+                self.vec.append(&mut more)?;
+                return Ok(other.is_empty());
+            }
+            _ => {
+                self.list.reserve(self.count as usize)?;
+                self.list.shrink_to_fit()?;
+            }
+        }
+        Ok(true)
+    }
+
+    // Makes a call that removes items at given places.
+    fn remove(&mut self, call: usize) -> bool {
+        let start = self.start;
+        if call >= 14 && call < 16 && (start >= self.list.len() || start >= self.vec.len()) {
+            return true;
+        }
+        match call {
+            12 => self.list.pop() == self.vec.pop(),
+            13 => {
+                let one = self.list.pop_if(|item| is_halved(item));
+                one == self.vec.pop_if(|item| is_halved(item))
+            }
+            14 => self.list.remove(start) == self.vec.remove(start),
+            15 => self.list.swap_remove(start) == self.vec.swap_remove(start),
+            16 => {
+                self.list.truncate(start);
+                self.vec.truncate(start);
+                true
+            }
+            _ => {
+                self.list.clear();
+                self.vec.clear();
+                true
+            }
+        }
+    }
+
+    // Makes a call that removes the items that a closure or a comparison chooses.
+    fn filter(&mut self, call: usize) -> bool {
+        match call {
+            18 => {
+                self.list.retain(|item| *item % 3 > 0);
+                self.vec.retain(|item| *item % 3 > 0);
+            }
+            19 => {
+                self.list.retain_mut(|item| is_halved(item));
+                self.vec.retain_mut(|item| is_halved(item));
+            }
+            20 => {
+                self.list.dedup();
+                self.vec.dedup();
+            }
+            21 => {
+                self.list.dedup_by(|later, kept| *later % 8 <= *kept % 8);
+                self.vec.dedup_by(|later, kept| *later % 8 <= *kept % 8);
+            }
+            22 => {
+                self.list.dedup_by_key(|item| *item / 16);
+                self.vec.dedup_by_key(|item| *item / 16);
+            }
+            23 => return self.drain(),
+            _ => return self.extract(),
+        }
+        true
+    }
+
+    // Takes an item from each end of a range, and drops the others.
+    fn drain(&mut self) -> bool {
+        let (start, end) = (self.start, self.end);
+        if start > end || end > self.list.len() || end > self.vec.len() {
+            return false;
+        }
+        let mut one = self.list.drain(start, end);
+        let first = (one.next(), one.next_back());
+        drop(one);
+        let mut two = self.vec.drain(start..end);
+        let second = (two.next(), two.next_back());
+        drop(two);
+        first == second
+    }
+
+    // Takes two items that a closure picks in a range.
+    fn extract(&mut self) -> bool {
+        let (start, end) = (self.start, self.end);
+        if start > end || end > self.list.len() || end > self.vec.len() {
+            return false;
+        }
+        let mut one = self
+            .list
+            .extract_if(start, end, |item: &mut u64| is_halved(item));
+        let first = (one.next(), one.next());
+        drop(one);
+        let mut two = self
+            .vec
+            .extract_if(start..end, |item: &mut u64| is_halved(item));
+        let second = (two.next(), two.next());
+        drop(two);
+        first == second
+    }
+
+    // Makes a call that replaces a range.
+    fn replace(&mut self, call: usize) -> Same {
+        let items = self.items()?;
+        let mut other = ThinVec::from_slice(self.alloc, items.as_slice())?;
+        let (start, end) = (self.start, self.end);
+        if start > end || end > self.list.len() || end > self.vec.len() {
+            return Ok(false);
+        }
+        match call {
+            25 => self.list.replace_range(start, end, items.as_slice())?,
+            26 => self
+                .list
+                .replace_range_from_copies(start, end, items.as_slice())?,
+            _ => self.list.replace_range_from_list(start, end, &mut other)?,
+        }
+        drop(self.vec.splice(start..end, items)?);
+        Ok(true)
+    }
+
+    fn splice(&mut self) -> Same {
+        let items = self.items()?;
+        let (start, end) = (self.start, self.end);
+        if start > end || end > self.list.len() || end > self.vec.len() {
+            return Ok(false);
+        }
+        let splice = self.list.splice(start, end, 0..self.count);
+        splice.finish(self.alloc)?;
+        drop(self.vec.splice(start..end, items)?);
+        Ok(true)
+    }
+
+    // Makes a call that makes another list, which takes the place of the list.
+    fn make(&mut self, call: usize) -> Same {
+        let (alloc, start) = (self.alloc, self.start);
+        match call {
+            28 => return self.splice(),
+            29 => {
+                if start > self.list.len() || start > self.vec.len() {
+                    return Ok(false);
+                }
+                let tail = self.list.split_off(alloc, start)?;
+                return Ok(tail.as_slice() == self.vec.split_off(start)?.as_slice());
+            }
+            30 => self.list = self.list.clone(alloc)?,
+            31 => self.list = self.list.clone_copies(alloc)?,
+            32 => {
+                self.list = ThinVec::from_iter(alloc, 0..self.count)?;
+                self.vec = self.items()?;
+            }
+            _ => {
+                let list = mem::replace(&mut self.list, ThinVec::new(alloc));
+                self.list = ThinVec::from_vec(alloc, list.into_vec(alloc)?)?;
+            }
+        }
+        Ok(true)
+    }
+}
+
+// Halves the item, and returns whether it was even.
+fn is_halved(item: &mut u64) -> bool {
+    let is_even = *item % 2 == 0;
+    *item /= 2;
+    is_even
+}
