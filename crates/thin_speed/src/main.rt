@@ -34,12 +34,12 @@ fn main(rt: HostRuntime) -> io::Result<()> {
 fn asked(alloc: Global, line: &str) -> Option<Outcome> {
     let mut words = line.split_whitespace();
     let list = words.next()?;
-    let workload = workloads::named(words.next()?)?;
+    let workload = words.next()?;
     let size = number(words.next())?;
     let times = number(words.next())?;
     match list {
-        "thin" => Some(workloads::run::<Thin>(alloc, workload, size, times)),
-        "kit" => Some(workloads::run::<Kit>(alloc, workload, size, times)),
+        "thin" => workloads::run::<Thin>(alloc, workload, size, times),
+        "kit" => workloads::run::<Kit>(alloc, workload, size, times),
         _ => None,
     }
 }

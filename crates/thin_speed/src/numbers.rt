@@ -32,18 +32,11 @@ pub fn seen<T: Item>(items: &[T]) -> u64 {
     middle.wrapping_add(items.len() as u64)
 }
 
-/// The sixteen items that the workload `extend_sixteen` appends with each call.
-pub const SIXTEEN: [u64; 16] = [7; 16];
-
-/// An item of 24 bytes.
+/// An item of several words of 8 bytes: one word for its number, and `REST` other words.
 #[derive(Clone, Copy)]
-pub struct Triple(u64, u64, u64);
-
-/// An item of 320 bytes.
-#[derive(Clone, Copy)]
-pub struct Wide {
+pub struct Wide<const REST: usize> {
     number: u64,
-    rest: [u64; 39],
+    rest: [u64; REST],
 }
 
 impl Item for u8 {
@@ -82,14 +75,7 @@ impl Item for u64 {
     }
 }
 
-impl Item for Triple {
-    #[inline(always)]
-    fn number(&self) -> u64 {
-        self.0 ^ self.1 ^ self.2
-    }
-}
-
-impl Item for Wide {
+impl<const REST: usize> Item for Wide<REST> {
     #[inline(always)]
     fn number(&self) -> u64 {
         self.number
@@ -113,8 +99,8 @@ pub trait Source<T: Drop> {
     fn item(alloc: Global, number: usize) -> Result<T, AllocError>;
 }
 
-/// A `Source` that makes the items 0, 1, 2 and so on. Each number is truncated to the width of the
-/// item type.
+/// A `Source` that makes the items 0, 1, 2 and so on. A number is truncated to the width of the item
+/// type. Each word of a `Wide` has the same number, and all strings have the same text.
 pub struct InTurn;
 
 impl Source<u8> for InTurn {
@@ -152,13 +138,21 @@ impl Source<u64> for InTurn {
     }
 }
 
-/// A `Source` that makes the item `i ^ 5` at each index `i`. Here, `^` is the bitwise exclusive or.
-pub struct Turned;
-
-impl Source<u64> for Turned {
+impl<const REST: usize> Source<Wide<REST>> for InTurn {
     #[inline(always)]
-    fn item(_alloc: Global, number: usize) -> Result<u64, AllocError> {
-        Ok(number as u64 ^ 5)
+    fn item(_alloc: Global, number: usize) -> Result<Wide<REST>, AllocError> {
+        let number = number as u64;
+        Ok(Wide {
+            number,
+            rest: [number; REST],
+        })
+    }
+}
+
+impl Source<String> for InTurn {
+    #[inline(always)]
+    fn item(alloc: Global, _number: usize) -> Result<String, AllocError> {
+        String::from_str(alloc, "a word of some length")
     }
 }
 
@@ -169,41 +163,6 @@ impl Source<u64> for Pairs {
     #[inline(always)]
     fn item(_alloc: Global, number: usize) -> Result<u64, AllocError> {
         Ok(number as u64 / 2)
-    }
-}
-
-/// A `Source` that makes items of 24 bytes each.
-pub struct Triples;
-
-impl Source<Triple> for Triples {
-    #[inline(always)]
-    fn item(_alloc: Global, number: usize) -> Result<Triple, AllocError> {
-        let number = number as u64;
-        Ok(Triple(number, number ^ 1, number ^ 2))
-    }
-}
-
-/// A `Source` that makes items of 320 bytes each.
-pub struct Wides;
-
-impl Source<Wide> for Wides {
-    #[inline(always)]
-    fn item(_alloc: Global, number: usize) -> Result<Wide, AllocError> {
-        let number = number as u64;
-        Ok(Wide {
-            number,
-            rest: [number; 39],
-        })
-    }
-}
-
-/// A `Source` that makes a new string for each item. All these strings have the same text.
-pub struct Words;
-
-impl Source<String> for Words {
-    #[inline(always)]
-    fn item(alloc: Global, _number: usize) -> Result<String, AllocError> {
-        String::from_str(alloc, "a word of some length")
     }
 }
 
@@ -243,42 +202,6 @@ impl Iterator for Unhinted {
 /// The four items that the workload `replace_more` inserts with each call.
 pub const FOUR: [u64; 4] = [7; 4];
 
-/// A type that determines how many items the method `splice_few` inserts.
-pub trait Count {
-    /// Returns the number of items to insert.
-    fn count() -> usize;
-}
-
-/// The count 1.
-pub struct One;
-
-impl Count for One {
-    #[inline(always)]
-    fn count() -> usize {
-        1
-    }
-}
-
-/// The count 2.
-pub struct Two;
-
-impl Count for Two {
-    #[inline(always)]
-    fn count() -> usize {
-        2
-    }
-}
-
-/// The count 3.
-pub struct Three;
-
-impl Count for Three {
-    #[inline(always)]
-    fn count() -> usize {
-        3
-    }
-}
-
 /// A predicate that either picks or rejects a number.
 pub trait Pick {
     /// Returns whether the predicate picks `number`.
@@ -313,17 +236,6 @@ impl Pick for NotOne {
     #[inline(always)]
     fn picks(number: u64) -> bool {
         number != 1
-    }
-}
-
-/// A predicate that picks the numbers that are not multiples of 4. Of the numbers 0, 1, 2 and so
-/// on, it picks three out of four.
-pub struct ThreeOfFour;
-
-impl Pick for ThreeOfFour {
-    #[inline(always)]
-    fn picks(number: u64) -> bool {
-        number & 3 != 0
     }
 }
 

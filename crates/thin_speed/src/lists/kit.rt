@@ -1,9 +1,8 @@
 //! Implements the traits of the module `lists` for the `Vec` of Rattle's library. In the input of
 //! this program, this kind of list is called `kit`.
-use crate::lists::{Family, List, Numbers, Table};
-use crate::numbers::{Count, Outcome, Pick, Triple, Unhinted, Wide, mixed};
+use crate::lists::{Family, Filtered, List, Numbers};
+use crate::numbers::{Item, Outcome, Pick, Wide, mixed};
 use std::alloc::{AllocError, Global};
-use std::collections::BTreeMap;
 
 /// A type that selects the `Vec` of Rattle's library as the kind of list on which a workload runs.
 pub struct Kit;
@@ -11,27 +10,27 @@ pub struct Kit;
 impl Family for Kit {
     type Numbers = Vec<u64>;
 
+    type Bytes = Vec<u8>;
+
     type Pairs = Vec<u16>;
+
+    type Style = Vec<u32>;
 
     type Sixteens = Vec<u128>;
 
-    type Triples = Vec<Triple>;
+    type Triples = Vec<Wide<2>>;
 
-    type Wides = Vec<Wide>;
+    type Sixes = Vec<Wide<5>>;
+
+    type Wides = Vec<Wide<39>>;
 
     type Strings = Vec<String>;
 
-    type Bytes = Vec<u8>;
-
     type Lists = Vec<Vec<u64>>;
-
-    type Style = Vec<u32>;
 
     type Styles = Vec<Vec<u32>>;
 
     type Steps = Vec<Vec<u8>>;
-
-    type Cells = BTreeMap<(usize, usize), u64>;
 
     #[inline(always)]
     fn tree(alloc: Global, depth: usize, width: usize) -> Outcome {
@@ -81,13 +80,24 @@ impl<T: Drop> List<T> for Vec<T> {
     }
 }
 
+impl<T: Item> Filtered<T> for Vec<T> {
+    #[inline(always)]
+    fn extract<P: Pick>(&mut self, sum: u64) -> u64 {
+        let mut sum = sum;
+        for item in self.extract_if(.., |item| P::picks(item.number())) {
+            sum = mixed(sum, item.number());
+        }
+        sum
+    }
+}
+
 impl Numbers for Vec<u64> {
     #[inline(always)]
-    fn remove_at(&mut self, index: usize) -> Option<u64> {
-        if index >= self.len() {
+    fn remove_first(&mut self) -> Option<u64> {
+        if self.len() == 0 {
             return None;
         }
-        Some(self.remove(index))
+        Some(self.remove(0))
     }
 
     #[inline(always)]
@@ -100,32 +110,13 @@ impl Numbers for Vec<u64> {
     }
 
     #[inline(always)]
-    fn collected(alloc: Global, end: usize) -> Result<Vec<u64>, AllocError> {
-        let numbers = (0..end).map(|number| number as u64);
-        numbers.collect::<Vec<u64>>(alloc)
+    fn from_iter<I: Iterator<Item = u64>>(alloc: Global, items: I) -> Result<Vec<u64>, AllocError> {
+        items.collect::<Vec<u64>>(alloc)
     }
 
     #[inline(always)]
-    fn extend_hinted(&mut self, end: usize) -> Result<(), AllocError> {
-        Ok(self.extend((0..end).map(|number| number as u64))?)
-    }
-
-    #[inline(always)]
-    fn extend_unhinted(&mut self, end: usize) -> Result<(), AllocError> {
-        Ok(self.extend(Unhinted::below(end))?)
-    }
-
-    #[inline(always)]
-    fn extend_filtered(&mut self, items: &[u64]) -> Result<(), AllocError> {
-        let even = items.iter().copied().filter(|number| *number & 1 == 0);
-        Ok(self.extend(even)?)
-    }
-
-    #[inline(always)]
-    fn extend_twice(&mut self, items: &[u64]) -> Result<(), AllocError> {
-        let (first, second) = items.split_at(items.len() / 2);
-        self.extend(first.iter().copied())?;
-        Ok(self.extend(second.iter().copied())?)
+    fn extend<I: Iterator<Item = u64>>(&mut self, items: I) -> Result<(), AllocError> {
+        Extend::extend(self, items)
     }
 
     #[inline(always)]
@@ -167,18 +158,17 @@ impl Numbers for Vec<u64> {
     }
 
     #[inline(always)]
-    fn splice_few<C: Count>(
+    fn splice<I: Iterator<Item = u64>>(
         &mut self,
         _alloc: Global,
         start: usize,
         end: usize,
-        first: usize,
+        items: I,
     ) -> Result<(), AllocError> {
         if start > end || end > self.len() {
             return Ok(());
         }
-        let numbers = (0..C::count()).map(move |number| number.wrapping_add(first) as u64);
-        drop(self.splice(start..end, numbers)?);
+        drop(Vec::splice(self, start..end, items)?);
         Ok(())
     }
 
@@ -187,24 +177,7 @@ impl Numbers for Vec<u64> {
         if start > end || end > self.len() {
             return Ok(());
         }
-        drop(self.splice(start..end, items.iter().copied())?);
-        Ok(())
-    }
-
-    #[inline(always)]
-    fn splice_hinted(&mut self, _alloc: Global, end: usize) -> Result<(), AllocError> {
-        let start = self.len() / 4;
-        let stop = self.len() - start;
-        let numbers = (0..end).map(|number| number as u64);
-        drop(self.splice(start..stop, numbers)?);
-        Ok(())
-    }
-
-    #[inline(always)]
-    fn splice_unhinted(&mut self, _alloc: Global, end: usize) -> Result<(), AllocError> {
-        let start = self.len() / 4;
-        let stop = self.len() - start;
-        drop(self.splice(start..stop, Unhinted::below(end))?);
+        drop(Vec::splice(self, start..end, items.iter().copied())?);
         Ok(())
     }
 
@@ -219,44 +192,12 @@ impl Numbers for Vec<u64> {
     }
 
     #[inline(always)]
-    fn extract<P: Pick>(&mut self, sum: u64) -> u64 {
-        let mut sum = sum;
-        for number in self.extract_if(.., |number| P::picks(*number)) {
-            sum = mixed(sum, number);
-        }
-        sum
-    }
-
-    #[inline(always)]
     fn walk(self, sum: u64) -> u64 {
         let mut sum = sum;
         for number in self {
             sum = mixed(sum, number);
         }
         sum
-    }
-}
-
-impl Table for BTreeMap<(usize, usize), u64> {
-    #[inline(always)]
-    fn with_rows(alloc: Global, _rows: usize) -> Result<BTreeMap<(usize, usize), u64>, AllocError> {
-        Ok(BTreeMap::new(alloc))
-    }
-
-    #[inline(always)]
-    fn set(&mut self, row: usize, column: usize, value: u64) -> Result<(), AllocError> {
-        match self.insert((row, column), value) {
-            Ok(_old) => Ok(()),
-            Err(_refused) => Err(AllocError),
-        }
-    }
-
-    #[inline(always)]
-    fn get(&self, row: usize, column: usize) -> u64 {
-        match BTreeMap::get(self, &(row, column)) {
-            Some(value) => *value,
-            None => 0,
-        }
     }
 }
 

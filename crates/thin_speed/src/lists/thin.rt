@@ -1,9 +1,8 @@
 //! Implements the traits of the module `lists` for `ThinVec`. In the input of this program, this
 //! kind of list is called `thin`.
-use crate::lists::{Family, List, Numbers, Table};
-use crate::numbers::{Count, Outcome, Pick, Triple, Unhinted, Wide, mixed};
+use crate::lists::{Family, Filtered, List, Numbers};
+use crate::numbers::{Item, Outcome, Pick, Wide, mixed};
 use std::alloc::{AllocError, Global};
-use thin_rows::Rows;
 use thin_vec::ThinVec;
 
 /// A type that selects `ThinVec` as the kind of list on which a workload runs.
@@ -12,27 +11,27 @@ pub struct Thin;
 impl Family for Thin {
     type Numbers = ThinVec<u64>;
 
+    type Bytes = ThinVec<u8>;
+
     type Pairs = ThinVec<u16>;
+
+    type Style = ThinVec<u32>;
 
     type Sixteens = ThinVec<u128>;
 
-    type Triples = ThinVec<Triple>;
+    type Triples = ThinVec<Wide<2>>;
 
-    type Wides = ThinVec<Wide>;
+    type Sixes = ThinVec<Wide<5>>;
+
+    type Wides = ThinVec<Wide<39>>;
 
     type Strings = ThinVec<String>;
 
-    type Bytes = ThinVec<u8>;
-
     type Lists = ThinVec<ThinVec<u64>>;
-
-    type Style = ThinVec<u32>;
 
     type Styles = ThinVec<ThinVec<u32>>;
 
     type Steps = ThinVec<ThinVec<u8>>;
-
-    type Cells = Rows<u64, Global>;
 
     #[inline(always)]
     fn tree(alloc: Global, depth: usize, width: usize) -> Outcome {
@@ -82,13 +81,25 @@ impl<T: Drop> List<T> for ThinVec<T> {
     }
 }
 
+impl<T: Item> Filtered<T> for ThinVec<T> {
+    #[inline(always)]
+    fn extract<P: Pick>(&mut self, sum: u64) -> u64 {
+        let end = self.len();
+        let mut sum = sum;
+        for item in self.extract_if(0, end, |item| P::picks(item.number())) {
+            sum = mixed(sum, item.number());
+        }
+        sum
+    }
+}
+
 impl Numbers for ThinVec<u64> {
     #[inline(always)]
-    fn remove_at(&mut self, index: usize) -> Option<u64> {
-        if index >= self.len() {
+    fn remove_first(&mut self) -> Option<u64> {
+        if self.len() == 0 {
             return None;
         }
-        Some(self.remove(index))
+        Some(self.remove(0))
     }
 
     #[inline(always)]
@@ -101,32 +112,16 @@ impl Numbers for ThinVec<u64> {
     }
 
     #[inline(always)]
-    fn collected(alloc: Global, end: usize) -> Result<ThinVec<u64>, AllocError> {
-        let numbers = (0..end).map(|number| number as u64);
-        Ok(ThinVec::from_iter(alloc, numbers)?)
+    fn from_iter<I: Iterator<Item = u64>>(
+        alloc: Global,
+        items: I,
+    ) -> Result<ThinVec<u64>, AllocError> {
+        Ok(ThinVec::from_iter(alloc, items)?)
     }
 
     #[inline(always)]
-    fn extend_hinted(&mut self, end: usize) -> Result<(), AllocError> {
-        Ok(self.extend((0..end).map(|number| number as u64))?)
-    }
-
-    #[inline(always)]
-    fn extend_unhinted(&mut self, end: usize) -> Result<(), AllocError> {
-        Ok(self.extend(Unhinted::below(end))?)
-    }
-
-    #[inline(always)]
-    fn extend_filtered(&mut self, items: &[u64]) -> Result<(), AllocError> {
-        let even = items.iter().copied().filter(|number| *number & 1 == 0);
-        Ok(self.extend(even)?)
-    }
-
-    #[inline(always)]
-    fn extend_twice(&mut self, items: &[u64]) -> Result<(), AllocError> {
-        let (first, second) = items.split_at(items.len() / 2);
-        self.extend(first.iter().copied())?;
-        Ok(self.extend(second.iter().copied())?)
+    fn extend<I: Iterator<Item = u64>>(&mut self, items: I) -> Result<(), AllocError> {
+        Ok(ThinVec::extend(self, items)?)
     }
 
     #[inline(always)]
@@ -167,18 +162,17 @@ impl Numbers for ThinVec<u64> {
     }
 
     #[inline(always)]
-    fn splice_few<C: Count>(
+    fn splice<I: Iterator<Item = u64>>(
         &mut self,
         alloc: Global,
         start: usize,
         end: usize,
-        first: usize,
+        items: I,
     ) -> Result<(), AllocError> {
         if start > end || end > self.len() {
             return Ok(());
         }
-        let numbers = (0..C::count()).map(move |number| number.wrapping_add(first) as u64);
-        Ok(self.splice(start, end, numbers).finish(alloc)?)
+        Ok(ThinVec::splice(self, start, end, items).finish(alloc)?)
     }
 
     #[inline(never)]
@@ -187,24 +181,6 @@ impl Numbers for ThinVec<u64> {
             return Ok(());
         }
         Ok(self.replace_range_from_copies(start, end, items)?)
-    }
-
-    #[inline(always)]
-    fn splice_hinted(&mut self, alloc: Global, end: usize) -> Result<(), AllocError> {
-        let start = self.len() / 4;
-        let stop = self.len() - start;
-        let numbers = (0..end).map(|number| number as u64);
-        Ok(self.splice(start, stop, numbers).finish(alloc)?)
-    }
-
-    #[inline(always)]
-    fn splice_unhinted(&mut self, alloc: Global, end: usize) -> Result<(), AllocError> {
-        let start = self.len() / 4;
-        let stop = self.len() - start;
-        Ok(
-            self.splice(start, stop, Unhinted::below(end))
-                .finish(alloc)?,
-        )
     }
 
     #[inline(always)]
@@ -218,48 +194,12 @@ impl Numbers for ThinVec<u64> {
     }
 
     #[inline(always)]
-    fn extract<P: Pick>(&mut self, sum: u64) -> u64 {
-        let end = self.len();
-        let mut sum = sum;
-        for number in self.extract_if(0, end, |number| P::picks(*number)) {
-            sum = mixed(sum, number);
-        }
-        sum
-    }
-
-    #[inline(always)]
     fn walk(self, sum: u64) -> u64 {
         let mut sum = sum;
         for number in self {
             sum = mixed(sum, number);
         }
         sum
-    }
-}
-
-impl Table for Rows<u64, Global> {
-    #[inline(always)]
-    fn with_rows(alloc: Global, rows: usize) -> Result<Rows<u64, Global>, AllocError> {
-        Ok(Rows::with_rows(alloc, rows)?)
-    }
-
-    #[inline(always)]
-    fn set(&mut self, row: usize, column: usize, value: u64) -> Result<(), AllocError> {
-        if row < self.rows() {
-            Rows::set(self, row, column, value)?;
-        }
-        Ok(())
-    }
-
-    #[inline(always)]
-    fn get(&self, row: usize, column: usize) -> u64 {
-        if row >= self.rows() {
-            return 0;
-        }
-        match Rows::get(self, row, column) {
-            Some(value) => *value,
-            None => 0,
-        }
     }
 }
 

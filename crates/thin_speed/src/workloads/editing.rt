@@ -1,66 +1,8 @@
 //! Workloads that edit a list at the front or in the middle, and one workload that shrinks a list.
-use crate::lists::{Family, Numbers};
-use crate::numbers::{Count, FOUR, InTurn, One, Outcome, Three, Two, mixed, seen};
-use crate::workloads::shapes::{Work, filled, refill, refilled, repeated};
+use crate::lists::Numbers;
+use crate::numbers::{FOUR, InTurn, Outcome, Unhinted, mixed, seen};
+use crate::workloads::shapes::{Work, filled, refill};
 use std::alloc::Global;
-use std::marker::PhantomData;
-
-/// The workloads that edit a list at the front or in the middle, and the workload `ShrinkPush`,
-/// which shrinks a list.
-#[derive(Clone, Copy)]
-pub enum Editing {
-    InsertFront,
-    RemoveFront,
-    RemoveMiddle,
-    SwapRemove,
-    SplitAppend,
-    Drain,
-    DrainTwo,
-    DrainTen,
-    DrainInner,
-    SpliceTwo,
-    SpliceAway,
-    SpliceMore,
-    SpliceHinted,
-    SpliceUnhinted,
-    ReplaceMore,
-    ShrinkPush,
-}
-
-/// Runs `workload` on lists of the kind `F`.
-///
-/// # Errors
-///
-/// Fails if there is not enough memory.
-pub fn run_editing<F: Family>(
-    alloc: Global,
-    workload: Editing,
-    size: usize,
-    times: usize,
-) -> Outcome {
-    match workload {
-        Editing::InsertFront => repeated::<F::Numbers, InsertFirst>(alloc, size, times),
-        Editing::RemoveFront => repeated::<F::Numbers, Remove<false>>(alloc, size, times),
-        Editing::RemoveMiddle => repeated::<F::Numbers, Remove<true>>(alloc, size, times),
-        Editing::SwapRemove => swap_remove::<F::Numbers>(alloc, size, times),
-        Editing::SplitAppend => split_append::<F::Numbers>(alloc, size, times),
-        Editing::Drain => refilled::<F::Numbers, _, InTurn, Drain>(alloc, size, times),
-        Editing::DrainTwo => repeated::<F::Numbers, DrainFew<0, 2>>(alloc, size, times),
-        Editing::DrainTen => repeated::<F::Numbers, DrainFew<0, 10>>(alloc, size, times),
-        Editing::DrainInner => repeated::<F::Numbers, DrainFew<3, 5>>(alloc, size, times),
-        Editing::SpliceTwo => repeated::<F::Numbers, SpliceFew<Two, 3, 5>>(alloc, size, times),
-        Editing::SpliceAway => repeated::<F::Numbers, SpliceFew<One, 5, 7>>(alloc, size, times),
-        Editing::SpliceMore => repeated::<F::Numbers, SpliceMore>(alloc, size, times),
-        Editing::SpliceHinted => {
-            refilled::<F::Numbers, _, InTurn, SpliceHinted>(alloc, size, times)
-        }
-        Editing::SpliceUnhinted => {
-            refilled::<F::Numbers, _, InTurn, SpliceUnhinted>(alloc, size, times)
-        }
-        Editing::ReplaceMore => repeated::<F::Numbers, ReplaceMore>(alloc, size, times),
-        Editing::ShrinkPush => repeated::<F::Numbers, ShrinkPush>(alloc, size, times),
-    }
-}
 
 /// A workload that inserts a number before the first item, and pops the last item.
 pub struct InsertFirst;
@@ -76,16 +18,13 @@ impl<L: Numbers> Work<L, u64> for InsertFirst {
     }
 }
 
-/// A workload that removes the middle item if `IN_MIDDLE` is true, and the first item otherwise. It
-/// then pushes the removed number plus 1.
-pub struct Remove<const IN_MIDDLE: bool>;
+/// A workload that removes the first item, and pushes the removed number plus 1.
+pub struct RemoveFirst;
 
-impl<L: Numbers, const IN_MIDDLE: bool> Work<L, u64> for Remove<IN_MIDDLE> {
+impl<L: Numbers> Work<L, u64> for RemoveFirst {
     #[inline(always)]
     fn work(list: &mut L, _alloc: Global, _number: usize, sum: u64) -> Outcome {
-        let len = list.as_slice().len();
-        let index = if IN_MIDDLE { len / 2 } else { 0 };
-        match list.remove_at(index) {
+        match list.remove_first() {
             Some(number) => {
                 list.push(number.wrapping_add(1))?;
                 Ok(mixed(sum, number))
@@ -144,36 +83,28 @@ impl<L: Numbers> Work<L, u64> for Drain {
     }
 }
 
-/// A workload that drains the items from `START` up to, but not including, `END`. It then pushes
-/// the same number of items.
-pub struct DrainFew<const START: usize, const END: usize>;
+/// A workload that drains two items in the middle, and then pushes two items.
+pub struct DrainInner;
 
-impl<L: Numbers, const START: usize, const END: usize> Work<L, u64> for DrainFew<START, END> {
+impl<L: Numbers> Work<L, u64> for DrainInner {
     #[inline(always)]
     fn work(list: &mut L, _alloc: Global, number: usize, sum: u64) -> Outcome {
-        let sum = list.drain_range(START, END, sum);
-        for more in START..END {
+        let sum = list.drain_range(3, 5, sum);
+        for more in 3..5usize {
             list.push(number.wrapping_add(more) as u64)?;
         }
         Ok(sum)
     }
 }
 
-/// A workload that replaces the two items at the indices `START..END` with one or two new items.
-/// The type `C` determines the number of new items. If there is only one new item, the workload
-/// also pushes an item. So the length of the list does not change.
-pub struct SpliceFew<C, const START: usize, const END: usize> {
-    count: PhantomData<C>,
-}
+/// A workload that replaces two items with two numbers.
+pub struct SpliceTwo;
 
-impl<L: Numbers, C: Count, const START: usize, const END: usize> Work<L, u64>
-    for SpliceFew<C, START, END> {
+impl<L: Numbers> Work<L, u64> for SpliceTwo {
     #[inline(always)]
     fn work(list: &mut L, alloc: Global, number: usize, sum: u64) -> Outcome {
-        list.splice_few::<C>(alloc, START, END, number)?;
-        for _ in C::count()..2 {
-            list.push(3)?;
-        }
+        let new = (0..2usize).map(move |more| more.wrapping_add(number) as u64);
+        list.splice(alloc, 3, 5, new)?;
         Ok(sum)
     }
 }
@@ -184,7 +115,8 @@ pub struct SpliceMore;
 impl<L: Numbers> Work<L, u64> for SpliceMore {
     #[inline(always)]
     fn work(list: &mut L, alloc: Global, number: usize, sum: u64) -> Outcome {
-        list.splice_few::<Three>(alloc, 0, 1, number)?;
+        let new = (0..3usize).map(move |more| more.wrapping_add(number) as u64);
+        list.splice(alloc, 0, 1, new)?;
         Ok(pop_two(list, sum))
     }
 }
@@ -231,26 +163,29 @@ fn pop_two<L: Numbers>(list: &mut L, sum: u64) -> u64 {
     sum
 }
 
-/// A workload that replaces the middle half of a list of `size` items with `size` numbers. The
-/// numbers are inserted from an iterator whose size hint is exact.
+/// A workload that replaces the middle half of a list of `size` items with `size` numbers. The size
+/// hint of their iterator is exact.
 pub struct SpliceHinted;
 
 impl<L: Numbers> Work<L, u64> for SpliceHinted {
     #[inline(always)]
     fn work(list: &mut L, alloc: Global, size: usize, sum: u64) -> Outcome {
-        list.splice_hinted(alloc, size)?;
+        let len = list.as_slice().len();
+        let numbers = (0..size).map(|number| number as u64);
+        list.splice(alloc, len / 4, len - len / 4, numbers)?;
         Ok(sum)
     }
 }
 
-/// A workload that replaces the middle half of a list with `size` numbers, taken from an iterator
-/// whose size hint has a lower bound of 0. The list has `size` items.
+/// A workload that replaces the middle half of a list of `size` items with `size` numbers. The size
+/// hint of their iterator has a lower bound of 0.
 pub struct SpliceUnhinted;
 
 impl<L: Numbers> Work<L, u64> for SpliceUnhinted {
     #[inline(always)]
     fn work(list: &mut L, alloc: Global, size: usize, sum: u64) -> Outcome {
-        list.splice_unhinted(alloc, size)?;
+        let len = list.as_slice().len();
+        list.splice(alloc, len / 4, len - len / 4, Unhinted::below(size))?;
         Ok(sum)
     }
 }

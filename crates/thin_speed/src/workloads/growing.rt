@@ -1,96 +1,29 @@
 //! Workloads in which a list grows, is refilled, or is read to its end.
-use crate::lists::{Family, List, Numbers};
-use crate::numbers::{
-    InTurn, Item, Outcome, Pairs, SIXTEEN, Source, Triples, Turned, Wides, Words, mixed, seen,
-};
-use crate::workloads::shapes::{Idle, Make, filled, made_anew, refilled};
+use crate::lists::{List, Numbers};
+use crate::numbers::{Item, Outcome, Source, Unhinted, mixed, seen};
+use crate::workloads::shapes::{Make, filled};
 use std::alloc::{AllocError, Global};
 use std::io::Write;
 
-/// The workloads in which a list grows, is refilled, or is read to its end.
-#[derive(Clone, Copy)]
-pub enum Growing {
-    Push,
-    PushFew,
-    PushU8,
-    PushU16,
-    PushU32,
-    PushU128,
-    PushTriples,
-    PushWide,
-    PushStrings,
-    PushReserved,
-    PushPop,
-    ExtendHinted,
-    ExtendUnhinted,
-    ExtendFilter,
-    ExtendTwice,
-    CollectFew,
-    ExtendSlice,
-    ExtendSixteen,
-    Resize,
-    Clone,
-    WriteFive,
-    IntoIter,
-    Refill,
-    RefillPairs,
-    RefillWide,
-}
-
-/// Runs `workload` on lists of the kind `F`.
-///
-/// # Errors
-///
-/// Fails if there is not enough memory.
-pub fn run_growing<F: Family>(
-    alloc: Global,
-    workload: Growing,
-    size: usize,
-    times: usize,
-) -> Outcome {
-    match workload {
-        Growing::Push => push::<F::Numbers, _, InTurn>(alloc, size, times),
-        Growing::PushFew => push::<F::Numbers, _, Turned>(alloc, size, times),
-        Growing::PushU8 => push::<F::Bytes, _, InTurn>(alloc, size, times),
-        Growing::PushU16 => push::<F::Pairs, _, InTurn>(alloc, size, times),
-        Growing::PushU32 => push::<F::Style, _, InTurn>(alloc, size, times),
-        Growing::PushU128 => push::<F::Sixteens, _, InTurn>(alloc, size, times),
-        Growing::PushTriples => push::<F::Triples, _, Triples>(alloc, size, times),
-        Growing::PushWide => push::<F::Wides, _, Wides>(alloc, size, times),
-        Growing::PushStrings => push::<F::Strings, _, Words>(alloc, size, times),
-        Growing::PushReserved => made_anew::<F::Numbers, Reserved>(alloc, size, times),
-        Growing::PushPop => push_pop::<F::Numbers>(alloc, size, times),
-        Growing::ExtendHinted => made_anew::<F::Numbers, ExtendHinted>(alloc, size, times),
-        Growing::ExtendUnhinted => made_anew::<F::Numbers, ExtendUnhinted>(alloc, size, times),
-        Growing::ExtendFilter => made_anew::<F::Numbers, ExtendFilter>(alloc, size, times),
-        Growing::ExtendTwice => made_anew::<F::Numbers, ExtendTwice>(alloc, size, times),
-        Growing::CollectFew => made_anew::<F::Numbers, Collect>(alloc, size, times),
-        Growing::ExtendSlice => made_anew::<F::Numbers, ExtendSlice>(alloc, size, times),
-        Growing::ExtendSixteen => made_anew::<F::Numbers, ExtendSixteen>(alloc, size, times),
-        Growing::Resize => made_anew::<F::Numbers, Resize>(alloc, size, times),
-        Growing::Clone => made_anew::<F::Numbers, Copied>(alloc, size, times),
-        Growing::WriteFive => write_five::<F::Bytes>(alloc, size, times),
-        Growing::IntoIter => into_iter::<F::Numbers>(alloc, size, times),
-        Growing::Refill => refilled::<F::Numbers, _, InTurn, Idle>(alloc, size, times),
-        Growing::RefillPairs => refilled::<F::Numbers, _, Pairs, Idle>(alloc, size, times),
-        Growing::RefillWide => refilled::<F::Wides, _, Wides, Idle>(alloc, size, times),
-    }
-}
-
-/// In each of `times` rounds, makes a new list, and pushes `size` items onto it.
+/// In each of `times` rounds, makes a new list, and pushes `size` items onto it. The list has the
+/// capacity `size` from the start if `RESERVED` is true.
 ///
 /// # Errors
 ///
 /// Fails if there is not enough memory.
 #[inline(never)]
-pub fn push<L: List<T>, T: Item, S: Source<T>>(
+pub fn push<L: List<T>, T: Item, S: Source<T>, const RESERVED: bool>(
     alloc: Global,
     size: usize,
     times: usize,
 ) -> Outcome {
     let mut sum = 0;
     for _ in 0..times {
-        let mut list = L::new(alloc);
+        let mut list = if RESERVED {
+            L::with_capacity(alloc, size)?
+        } else {
+            L::new(alloc)
+        };
         for number in 0..size {
             list.push(S::item(alloc, number)?)?;
         }
@@ -122,17 +55,6 @@ pub fn push_pop<L: Numbers>(alloc: Global, size: usize, times: usize) -> Outcome
     Ok(sum)
 }
 
-/// A workload that makes a list with enough capacity for `size` numbers, and then pushes these
-/// numbers onto it.
-pub struct Reserved;
-
-impl<L: Numbers> Make<L> for Reserved {
-    #[inline(always)]
-    fn make(alloc: Global, size: usize, _source: &L) -> Result<L, AllocError> {
-        filled(alloc, size)
-    }
-}
-
 /// A workload that extends a new list with numbers from an iterator whose size hint is exact.
 pub struct ExtendHinted;
 
@@ -140,7 +62,7 @@ impl<L: Numbers> Make<L> for ExtendHinted {
     #[inline(always)]
     fn make(alloc: Global, size: usize, _source: &L) -> Result<L, AllocError> {
         let mut list = L::new(alloc);
-        list.extend_hinted(size)?;
+        list.extend((0..size).map(|number| number as u64))?;
         Ok(list)
     }
 }
@@ -153,7 +75,7 @@ impl<L: Numbers> Make<L> for ExtendUnhinted {
     #[inline(always)]
     fn make(alloc: Global, size: usize, _source: &L) -> Result<L, AllocError> {
         let mut list = L::new(alloc);
-        list.extend_unhinted(size)?;
+        list.extend(Unhinted::below(size))?;
         Ok(list)
     }
 }
@@ -166,20 +88,8 @@ impl<L: Numbers> Make<L> for ExtendFilter {
     #[inline(always)]
     fn make(alloc: Global, _size: usize, source: &L) -> Result<L, AllocError> {
         let mut list = L::new(alloc);
-        list.extend_filtered(source.as_slice())?;
-        Ok(list)
-    }
-}
-
-/// A workload that makes a list with enough capacity for a slice, and then calls `extend` once for
-/// each half of the slice.
-pub struct ExtendTwice;
-
-impl<L: Numbers> Make<L> for ExtendTwice {
-    #[inline(always)]
-    fn make(alloc: Global, size: usize, source: &L) -> Result<L, AllocError> {
-        let mut list = L::with_capacity(alloc, size)?;
-        list.extend_twice(source.as_slice())?;
+        let numbers = source.as_slice().iter().copied();
+        list.extend(numbers.filter(|number| *number & 1 == 0))?;
         Ok(list)
     }
 }
@@ -190,7 +100,7 @@ pub struct Collect;
 impl<L: Numbers> Make<L> for Collect {
     #[inline(always)]
     fn make(alloc: Global, size: usize, _source: &L) -> Result<L, AllocError> {
-        L::collected(alloc, size)
+        L::from_iter(alloc, (0..size).map(|number| number as u64))
     }
 }
 
@@ -202,20 +112,6 @@ impl<L: Numbers> Make<L> for ExtendSlice {
     fn make(alloc: Global, _size: usize, source: &L) -> Result<L, AllocError> {
         let mut list = L::new(alloc);
         list.extend_from_copies(source.as_slice())?;
-        Ok(list)
-    }
-}
-
-/// A workload that extends a new list several times, each time with copies of sixteen items.
-pub struct ExtendSixteen;
-
-impl<L: Numbers> Make<L> for ExtendSixteen {
-    #[inline(always)]
-    fn make(alloc: Global, size: usize, _source: &L) -> Result<L, AllocError> {
-        let mut list = L::new(alloc);
-        for _ in 0..size / 16 {
-            list.extend_from_copies(&SIXTEEN)?;
-        }
         Ok(list)
     }
 }

@@ -3,35 +3,6 @@ use crate::lists::{Family, List};
 use crate::numbers::{Outcome, mixed};
 use std::alloc::{AllocError, Global};
 
-/// The workloads that use many lists instead of a single one.
-#[derive(Clone, Copy)]
-pub enum Many {
-    EmptyLists,
-    SparseLists,
-    Styles,
-    Undo,
-    Tree,
-    BinaryTree,
-    Leaves,
-}
-
-/// Runs `workload`, which uses many lists of the kind `F`.
-///
-/// # Errors
-///
-/// Fails if there is not enough memory.
-pub fn run_many<F: Family>(alloc: Global, workload: Many, size: usize, times: usize) -> Outcome {
-    match workload {
-        Many::EmptyLists => empty_lists::<F::Lists, F::Numbers>(alloc, size, times),
-        Many::SparseLists => sparse_lists::<F::Lists, F::Numbers>(alloc, size, times),
-        Many::Styles => styles::<F::Styles, F::Style>(alloc, size, times),
-        Many::Undo => undo::<F::Steps, F::Bytes>(alloc, size, times),
-        Many::Tree => tree::<F>(alloc, size, 10, times),
-        Many::BinaryTree => tree::<F>(alloc, size, 2, times),
-        Many::Leaves => tree::<F>(alloc, 1, size, times),
-    }
-}
-
 /// In each of `times` rounds, makes a list of `size` empty lists, and reads all of them.
 ///
 /// # Errors

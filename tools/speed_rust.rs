@@ -1,6 +1,5 @@
 //! The workloads of `crates/thin_speed` over Rust's `Vec`, or over the list of the Rust crate thin-vec if it is compiled with
 //! `--cfg over_crate`. Runs one workload for each line of the input, and prints the sum that it computes.
-use std::collections::BTreeMap;
 use std::io::{Write, stdin};
 #[cfg(over_crate)]
 use thin_vec::ThinVec as Vec;
@@ -25,42 +24,38 @@ fn asked(line: &str) -> Option<u64> {
 
 fn named(workload: &str) -> Option<fn(usize, usize) -> u64> {
     Some(match workload {
-        "push" => |size, times| push(size, times, in_turn),
-        "push_few" => |size, times| push(size, times, |number| number as u64 ^ 5),
-        "push_u8" => |size, times| push(size, times, |number| number as u8),
-        "push_u16" => |size, times| push(size, times, |number| number as u16),
-        "push_u32" => |size, times| push(size, times, |number| number as u32),
-        "push_u128" => |size, times| push(size, times, |number| number as u128),
-        "push_triples" => |size, times| push(size, times, triple),
-        "push_wide" => |size, times| push(size, times, wide),
-        "push_strings" => |size, times| push(size, times, |_number| String::from("a word of some length")),
-        "push_reserved" => push_reserved,
+        "push" => |size, times| push(size, times, Vec::new, in_turn),
+        "push_u8" => |size, times| push(size, times, Vec::new, |number| number as u8),
+        "push_u16" => |size, times| push(size, times, Vec::new, |number| number as u16),
+        "push_u32" => |size, times| push(size, times, Vec::new, |number| number as u32),
+        "push_u128" => |size, times| push(size, times, Vec::new, sixteen),
+        "push_triples" => |size, times| push(size, times, Vec::new, wide::<2>),
+        "push_wide" => |size, times| push(size, times, Vec::new, wide::<39>),
+        "push_strings" => |size, times| push(size, times, Vec::new, word),
+        "push_reserved" => |size, times| push(size, times, || Vec::with_capacity(size), in_turn),
+        "push_reserved_24" => |size, times| push(size, times, || Vec::with_capacity(size), wide::<2>),
+        "push_reserved_48" => |size, times| push(size, times, || Vec::with_capacity(size), wide::<5>),
         "push_pop" => push_pop,
         "extend_hinted" => extend_hinted,
         "extend_unhinted" => extend_unhinted,
         "extend_filter" => extend_filter,
-        "extend_twice" => extend_twice,
         "collect_few" => collect,
         "extend_slice" => extend_slice,
-        "extend_sixteen" => extend_sixteen,
         "resize" => resize,
         "clone" => clone,
         "write_five" => write_five,
         "into_iter" => into_iter,
         "refill" => |size, times| refill_alone(size, times, in_turn),
+        "refill_u128" => |size, times| refill_alone(size, times, sixteen),
         "refill_pairs" => |size, times| refill_alone(size, times, half),
-        "refill_wide" => |size, times| refill_alone(size, times, wide),
+        "refill_wide" => |size, times| refill_alone(size, times, wide::<39>),
         "insert_front" => insert_front,
-        "remove_front" => |size, times| remove(size, times, |_len| 0),
-        "remove_middle" => |size, times| remove(size, times, |len| len / 2),
+        "remove_front" => remove_front,
         "swap_remove" => swap_remove,
         "split_append" => split_append,
         "drain" => drain,
-        "drain_two" => drain_few::<0, 2>,
-        "drain_ten" => drain_few::<0, 10>,
-        "drain_inner" => drain_few::<3, 5>,
-        "splice_two" => splice_few::<3, 5, 2>,
-        "splice_away" => splice_few::<5, 7, 1>,
+        "drain_inner" => drain_inner,
+        "splice_two" => splice_two,
         "splice_more" => splice_more,
         "splice_hinted" => splice_hinted,
         "splice_unhinted" => splice_unhinted,
@@ -68,28 +63,27 @@ fn named(workload: &str) -> Option<fn(usize, usize) -> u64> {
         "shrink_push" => shrink_push,
         "retain_half" => |size, times| retain(size, times, in_turn, is_even),
         "retain_random" => |size, times| retain(size, times, in_turn, is_random),
-        "retain_three" => |size, times| retain(size, times, in_turn, |number| number & 3 != 0),
         "retain_but_one" => |size, times| retain(size, times, in_turn, is_not_one),
-        "retain_runs" => |size, times| retain(size, times, in_turn, is_in_a_run),
-        "retain_all" => |size, times| retain(size, times, in_turn, |number| number < 1_000_000),
+        "retain_all" => |size, times| retain(size, times, in_turn, is_small),
         "retain_none" => |size, times| retain(size, times, in_turn, |number| number > 1_000_000),
-        "wide_half" => |size, times| retain(size, times, wide, is_even),
-        "wide_random" => |size, times| retain(size, times, wide, is_random),
-        "wide_but_one" => |size, times| retain(size, times, wide, is_not_one),
-        "wide_runs" => |size, times| retain(size, times, wide, is_in_a_run),
+        "retain_half_u128" => |size, times| retain(size, times, sixteen, is_even),
+        "retain_all_u128" => |size, times| retain(size, times, sixteen, is_small),
+        "wide_half" => |size, times| retain(size, times, wide::<39>, is_even),
+        "wide_runs" => |size, times| retain(size, times, wide::<39>, is_in_a_run),
+        "wide_all" => |size, times| retain(size, times, wide::<39>, is_small),
         "dedup" => dedup,
         "dedup_by_key" => dedup_by_key,
-        "extract_if" => |size, times| extract(size, times, is_even),
-        "extract_random" => |size, times| extract(size, times, is_random),
+        "extract_if" => |size, times| extract(size, times, in_turn, is_even),
+        "extract_random" => |size, times| extract(size, times, in_turn, is_random),
+        "extract_most" => |size, times| extract(size, times, in_turn, is_not_one),
+        "extract_u128" => |size, times| extract(size, times, sixteen, is_even),
+        "extract_most_u128" => |size, times| extract(size, times, sixteen, is_not_one),
         "empty_lists" => empty_lists,
         "sparse_lists" => sparse_lists,
         "styles" => styles,
         "undo" => undo,
         "tree" => |depth, times| tree(depth, 10, times),
-        "binary_tree" => |depth, times| tree(depth, 2, times),
         "leaves" => |count, times| tree(1, count, times),
-        "table_set" => table_set,
-        "table_get" => table_get,
         _ => return None,
     })
 }
@@ -109,16 +103,12 @@ fn seen<T: Item>(items: &[T]) -> u64 {
     middle.wrapping_add(items.len() as u64)
 }
 
-const SIXTEEN: [u64; 16] = [7; 16];
 const FOUR: [u64; 4] = [7; 4];
 
-// An item of 24 bytes.
-struct Triple(u64, u64, u64);
-
-// An item of 320 bytes.
-struct Wide {
+// An item of several words of 8 bytes.
+struct Wide<const REST: usize> {
     number: u64,
-    _rest: [u64; 39],
+    _rest: [u64; REST],
 }
 
 impl Item for u64 {
@@ -151,13 +141,7 @@ impl Item for u128 {
     }
 }
 
-impl Item for Triple {
-    fn number(&self) -> u64 {
-        self.0 ^ self.1 ^ self.2
-    }
-}
-
-impl Item for Wide {
+impl<const REST: usize> Item for Wide<REST> {
     fn number(&self) -> u64 {
         self.number
     }
@@ -177,14 +161,17 @@ fn half(number: usize) -> u64 {
     number as u64 / 2
 }
 
-fn triple(number: usize) -> Triple {
-    let number = number as u64;
-    Triple(number, number ^ 1, number ^ 2)
+fn sixteen(number: usize) -> u128 {
+    number as u128
 }
 
-fn wide(number: usize) -> Wide {
+fn wide<const REST: usize>(number: usize) -> Wide<REST> {
     let number = number as u64;
-    Wide { number, _rest: [number; 39] }
+    Wide { number, _rest: [number; REST] }
+}
+
+fn word(_number: usize) -> String {
+    String::from("a word of some length")
 }
 
 // The numbers from `next` up to `end`, of which nothing is known beforehand.
@@ -221,6 +208,10 @@ fn is_not_one(number: u64) -> bool {
     number != 1
 }
 
+fn is_small(number: u64) -> bool {
+    number < 1_000_000
+}
+
 fn is_in_a_run(number: u64) -> bool {
     number & 15 != 15
 }
@@ -249,22 +240,11 @@ fn sum_of(times: usize, mut run: impl FnMut() -> u64) -> u64 {
 }
 
 #[inline(always)]
-fn push<T: Item>(size: usize, times: usize, item: impl Fn(usize) -> T) -> u64 {
+fn push<T: Item>(size: usize, times: usize, make: impl Fn() -> Vec<T>, item: impl Fn(usize) -> T) -> u64 {
     sum_of(times, || {
-        let mut list = Vec::new();
+        let mut list = make();
         for number in 0..size {
             list.push(item(number));
-        }
-        seen(&list)
-    })
-}
-
-#[inline(never)]
-fn push_reserved(size: usize, times: usize) -> u64 {
-    sum_of(times, || {
-        let mut list = Vec::with_capacity(size);
-        for number in 0..size {
-            list.push(number as u64);
         }
         seen(&list)
     })
@@ -316,18 +296,6 @@ fn extend_filter(size: usize, times: usize) -> u64 {
 }
 
 #[inline(never)]
-fn extend_twice(size: usize, times: usize) -> u64 {
-    let source = filled(size);
-    sum_of(times, || {
-        let mut list = Vec::with_capacity(size);
-        let (first, second) = source.split_at(size / 2);
-        list.extend(first.iter().copied());
-        list.extend(second.iter().copied());
-        seen(&list)
-    })
-}
-
-#[inline(never)]
 fn collect(size: usize, times: usize) -> u64 {
     sum_of(times, || seen(&(0..size).map(|number| number as u64).collect::<Vec<u64>>()))
 }
@@ -338,17 +306,6 @@ fn extend_slice(size: usize, times: usize) -> u64 {
     sum_of(times, || {
         let mut list = Vec::new();
         list.extend_from_slice(&source);
-        seen(&list)
-    })
-}
-
-#[inline(never)]
-fn extend_sixteen(size: usize, times: usize) -> u64 {
-    sum_of(times, || {
-        let mut list = Vec::new();
-        for _ in 0..size / 16 {
-            list.extend_from_slice(&SIXTEEN);
-        }
         seen(&list)
     })
 }
@@ -426,14 +383,13 @@ fn insert_front(size: usize, times: usize) -> u64 {
     mixed(sum, seen(&list))
 }
 
-#[inline(always)]
-fn remove(size: usize, times: usize, index: impl Fn(usize) -> usize) -> u64 {
+#[inline(never)]
+fn remove_front(size: usize, times: usize) -> u64 {
     let mut list = filled(size);
     let mut sum = 0;
     for _ in 0..times {
-        let index = index(list.len());
-        if index < list.len() {
-            let number = list.remove(index);
+        if !list.is_empty() {
+            let number = list.remove(0);
             sum = mixed(sum, number);
             list.push(number.wrapping_add(1));
         }
@@ -483,16 +439,16 @@ fn drain(size: usize, times: usize) -> u64 {
 }
 
 #[inline(never)]
-fn drain_few<const START: usize, const END: usize>(size: usize, times: usize) -> u64 {
+fn drain_inner(size: usize, times: usize) -> u64 {
     let mut list = filled(size);
     let mut sum = 0;
     for number in 0..times {
-        if END <= list.len() {
-            for number in list.drain(START..END) {
+        if list.len() >= 5 {
+            for number in list.drain(3..5) {
                 sum = mixed(sum, number);
             }
         }
-        for more in START..END {
+        for more in 3..5usize {
             list.push(number.wrapping_add(more) as u64);
         }
     }
@@ -500,14 +456,11 @@ fn drain_few<const START: usize, const END: usize>(size: usize, times: usize) ->
 }
 
 #[inline(never)]
-fn splice_few<const START: usize, const END: usize, const COUNT: usize>(size: usize, times: usize) -> u64 {
+fn splice_two(size: usize, times: usize) -> u64 {
     let mut list = filled(size);
     for first in 0..times {
-        if END <= list.len() {
-            drop(list.splice(START..END, (0..COUNT).map(|number| number.wrapping_add(first) as u64)));
-        }
-        for _ in COUNT..2 {
-            list.push(3);
+        if list.len() >= 5 {
+            drop(list.splice(3..5, (0..2usize).map(|number| number.wrapping_add(first) as u64)));
         }
     }
     seen(&list)
@@ -602,13 +555,13 @@ fn dedup_by_key(size: usize, times: usize) -> u64 {
 }
 
 #[inline(always)]
-fn extract(size: usize, times: usize, take: impl Fn(u64) -> bool) -> u64 {
-    let mut list = filled(size);
+fn extract<T: Item>(size: usize, times: usize, item: impl Fn(usize) -> T, take: impl Fn(u64) -> bool) -> u64 {
+    let mut list = Vec::with_capacity(size);
     let mut sum = 0;
     for _ in 0..times {
-        refill(&mut list, size, in_turn);
-        for number in list.extract_if(.., |number| take(*number)) {
-            sum = mixed(sum, number);
+        refill(&mut list, size, &item);
+        for item in list.extract_if(.., |item| take(item.number())) {
+            sum = mixed(sum, item.number());
         }
         sum = mixed(sum, seen(&list));
     }
@@ -736,32 +689,4 @@ fn depths(node: &Node) -> u64 {
         sum = sum.wrapping_add(depths(child));
     }
     sum
-}
-
-#[inline(never)]
-fn table_set(size: usize, times: usize) -> u64 {
-    sum_of(times, || filled_table(size).get(&(0, 1)).copied().unwrap_or(0))
-}
-
-#[inline(never)]
-fn table_get(size: usize, times: usize) -> u64 {
-    let table = filled_table(size);
-    let mut sum = 0;
-    for _ in 0..times {
-        for number in 0..size {
-            let place = number.wrapping_mul(104_729) % size;
-            sum = mixed(sum, table.get(&(place / 30, place % 30)).copied().unwrap_or(0));
-        }
-    }
-    sum
-}
-
-#[inline(never)]
-fn filled_table(size: usize) -> BTreeMap<(usize, usize), u64> {
-    let mut table = BTreeMap::new();
-    for number in 0..size {
-        let place = number.wrapping_mul(7919) % size;
-        table.insert((place / 30, place % 30), number as u64);
-    }
-    table
 }
