@@ -73,6 +73,7 @@ pub fn exchange<T, A: Allocator, G: Growth>(
     requires second { second < length list.old.items }
     ensures items { list.new.items ≡ swap list.old.items first second }
     ensures capacity { list.new.capacity ≡ list.old.capacity }
+    ensures alloc { list.new.alloc ≡ list.old.alloc }
 {
     list.as_mut_slice().swap(first, second);
 }

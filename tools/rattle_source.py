@@ -1,0 +1,267 @@
+"""Reads Rattle sources: the public items of a crate with their documentation and contracts, and the definitions of its spec files.
+
+The scripts `reference`, `index`, `pages` and `audit` in this folder use it. It is not a program.
+"""
+import pathlib
+import re
+
+TOP = pathlib.Path(__file__).resolve().parent.parent
+CLAUSE = re.compile(r"^\s*(requires|ensures\*?)\s+(?:(\w+)\s+)?\{")
+MEMBER = re.compile(r"^    ghost (\w+) = \{")
+DEFINITION = re.compile(
+    r"^ *(?:(?:pub|abbrev|unfoldable|opaque) )*(?:(record|data) )?(?:pub )?"
+    r"([A-Za-z_◌][^\s:({]*)\s*(?:[({].*)?(?::|$)")
+# Ghost members that only the compiler asks for: laws that every implementation has.
+LAWS = {"laws", "total", "matches_partial_cmp", "matches_eq", "respects_eq", "from"}
+
+
+class Item:
+    """A function, type, macro or implementation of a source file."""
+
+    def __init__(self, kind, name, owner, text, docs, hidden):
+        self.kind = kind        # fn, struct, enum, trait, macro, impl
+        self.name = name
+        self.owner = owner      # the head of the `impl` around a function, or ""
+        self.text = text        # the lines that the reference quotes
+        self.docs = docs
+        self.hidden = hidden
+        self.clauses = []       # (kind, label, text)
+
+    @property
+    def path(self):
+        """The name of the item, after the name of its type."""
+        kind = type_of(self.owner)
+        return f"{kind}::{self.name}" if kind else self.name
+
+    @property
+    def signature(self):
+        """The signature on one line, without the contract."""
+        head = []
+        for line in self.text:
+            if CLAUSE.match(line) or line.strip().startswith("//"):
+                break
+            head.append(line.strip())
+        line = re.sub(r"\s+", " ", " ".join(head)).strip()
+        line = re.sub(r"([(<]) ", r"\1", line)
+        return re.sub(r",? ([)>])", r"\1", line).rstrip(" {;")
+
+
+def type_of(owner):
+    """The name of the type that an `impl` line is about."""
+    if not owner:
+        return ""
+    rest = re.sub(r"^impl\s*", "", owner)
+    rest = after_angle(rest).strip()
+    rest = rest.rpartition(" for ")[2]
+    found = re.match(r"(?:&(?:'\w+ )?(?:mut )?)?((?:io::)?\w+)", rest)
+    return found.group(1) if found else ""
+
+
+def trait_of(owner):
+    """The trait of an `impl` line, or an empty text."""
+    rest = after_angle(re.sub(r"^impl\s*", "", owner)).strip()
+    return rest.rpartition(" for ")[0]
+
+
+def after_angle(text):
+    """What follows the `<..>` at the start of a text."""
+    if not text.startswith("<"):
+        return text
+    depth = 0
+    for at, char in enumerate(text):
+        depth += (char == "<") - (char == ">" and text[at - 1] not in "-=")
+        if depth == 0:
+            return text[at + 1:]
+    return ""
+
+
+def first_sentence(lines):
+    """The first sentence of a comment."""
+    text = " ".join(line.strip() for line in lines).strip()
+    found = re.match(r"(.*?[.!?])(?:\s+[A-Z`'(]|\s*$)", text)
+    return found.group(1) if found else text
+
+
+def head_of(path):
+    """The first sentence of the comment at the head of a file."""
+    mark = "//!" if path.suffix == ".rt" else "--"
+    lines = []
+    for line in path.read_text(encoding="utf-8").splitlines():
+        if not line.startswith(mark):
+            if lines:
+                break
+            continue
+        if line[len(mark):].strip() == "" and lines:
+            break
+        lines.append(line[len(mark):])
+    return first_sentence(lines)
+
+
+def dedent(lines):
+    """The lines without the indentation that all share."""
+    widths = [len(line) - len(line.lstrip()) for line in lines if line.strip()]
+    cut = min(widths, default=0)
+    return [line[cut:].rstrip() for line in lines]
+
+
+def items_of(path):
+    """The items of a source file, in its order: all functions, types, macros and implementations."""
+    lines = path.read_text(encoding="utf-8").splitlines()
+    items, docs, hidden, owner, at = [], [], False, "", 0
+    while at < len(lines):
+        line = lines[at]
+        bare = line.strip()
+        if bare.startswith("///"):
+            docs.append(bare[3:].removeprefix(" "))
+            at += 1
+            continue
+        if bare.startswith("#["):
+            hidden = hidden or "doc(hidden)" in bare
+            while not lines[at].rstrip().endswith("]"):
+                at += 1
+            at += 1
+            continue
+        if line.startswith("impl"):
+            head, at = until_body(lines, at)
+            owner = re.sub(r"\s+", " ", " ".join(head)).strip().rstrip("{} ").strip()
+            item = Item("impl", trait_of(owner), owner, dedent(head), docs, hidden)
+            items.append(item)
+            if lines[at - 1].rstrip().endswith("{}"):
+                owner = ""
+        elif MEMBER.match(line) and items and owner:
+            taken, at = braces(lines, at)
+            last = [item for item in items if item.kind == "impl"][-1]
+            last.clauses.append(("ghost", MEMBER.match(line).group(1), taken))
+        elif re.match(r"(    )?(pub(\(crate\))? )?(const )?(unsafe )?fn \w", line):
+            item, at = function(lines, at, owner if line.startswith("    ") else "", docs, hidden)
+            items.append(item)
+        elif re.match(r"pub (struct|enum|trait) ", line):
+            kind, name = re.match(r"pub (struct|enum|trait) (\w+)", line).groups()
+            start = at
+            while not re.match(r"^(}|.*[;])\s*$|.*\{\}$", lines[at]) and at + 1 < len(lines):
+                at += 1
+            at += 1
+            body = lines[start:at]
+            if kind == "trait":
+                owner = ""
+            items.append(Item(kind, name, "", visible(body) if kind == "struct" else body, docs, hidden))
+        elif line.startswith("macro_rules!"):
+            name = re.match(r"macro_rules! (\w+)", line).group(1)
+            start = at
+            while lines[at] != "}":
+                at += 1
+            at += 1
+            items.append(Item("macro", name, "", lines[start:at], docs, hidden))
+        else:
+            if line == "}":
+                owner = ""
+            at += 1
+            if bare and not bare.startswith("//"):
+                docs, hidden = [], False
+            continue
+        docs, hidden = [], False
+    return items
+
+
+def visible(body):
+    """A struct without its private fields."""
+    opened = next((at for at, line in enumerate(body) if line.rstrip().endswith("{")), None)
+    if opened is None or body[-1] != "}":
+        return body
+    kept, docs, private = body[:opened + 1], [], False
+    for line in body[opened + 1:-1]:
+        if line.strip().startswith("//"):
+            docs.append(line)
+        elif line.startswith("    pub "):
+            kept += docs + [line]
+            docs = []
+        else:
+            private, docs = True, []
+    return kept + (["    // private fields"] if private else []) + ["}"]
+
+
+def until_body(lines, at):
+    """The lines of a head up to the one that opens its body."""
+    taken = []
+    while True:
+        taken.append(lines[at])
+        at += 1
+        if taken[-1].rstrip().endswith(("{", "{}")):
+            return taken, at
+
+
+def braces(lines, at):
+    """The text between the first brace of a line and the one that closes it."""
+    taken, depth, begun = [], 0, False
+    while True:
+        text = lines[at]
+        start = 0
+        if not begun:
+            start = text.index("{")
+            begun = True
+        for place in range(start, len(text)):
+            depth += (text[place] == "{") - (text[place] == "}")
+            if depth == 0 and text[place] == "}":
+                taken.append(text[start:place + 1])
+                whole = re.sub(r"\s+", " ", " ".join(part.strip() for part in taken))
+                return whole[1:-1].strip(), at + 1
+        taken.append(text[start:])
+        at += 1
+
+
+def function(lines, at, owner, docs, hidden):
+    """A function with its contract."""
+    start = at
+    name = re.search(r"fn (\w+)", lines[at]).group(1)
+    clauses = []
+    while True:
+        line = lines[at]
+        found = CLAUSE.match(line)
+        if found:
+            text, at = braces(lines, at)
+            clauses.append((found.group(1), found.group(2) or "", text))
+            continue
+        if line.strip() in ("{", "{}") or line.rstrip().endswith((" {", ";", "}")):
+            break
+        at += 1
+    text = dedent(lines[start:at + (0 if lines[at].strip() in ("{", "{}") else 1)])
+    if text and text[-1].endswith((" {", " {}", ";")):
+        text[-1] = re.sub(r"( \{\}?|;)$", "", text[-1])
+    item = Item("fn", name, owner, text, docs, hidden)
+    item.public = lines[start].lstrip().startswith("pub fn")
+    item.clauses = clauses
+    return item, at + 1
+
+
+def exported(crate):
+    """The names that the root of a crate exports, without those that are hidden from its documentation."""
+    names, hidden = set(), False
+    for line in (TOP / "crates" / crate / "src" / "lib.rt").read_text(encoding="utf-8").splitlines():
+        found = re.match(r"pub use (?:[\w:]+::)?\{?([^};]*)", line)
+        if found and not hidden:
+            names |= {name.strip().split("::")[-1] for name in found.group(1).split(",")}
+        hidden = line.strip() == "#[doc(hidden)]"
+    return names
+
+
+def sources(crate):
+    """The source files of a crate: a module before its submodules."""
+    root = TOP / "crates" / crate / "src"
+    return sorted(root.rglob("*.rt"), key=lambda path: path.relative_to(root).with_suffix("").parts)
+
+
+def definitions(crate):
+    """The definitions of a crate's spec files: name -> (file, comment)."""
+    found = {}
+    for path in sorted((TOP / "crates" / crate / "specs").rglob("*.antt")):
+        comment = []
+        for line in path.read_text(encoding="utf-8").splitlines():
+            bare = line.strip()
+            if bare.startswith("--"):
+                comment.append(bare[2:].strip())
+                continue
+            match = DEFINITION.match(line)
+            if match and re.match(r"^ *(pub|abbrev|unfoldable|opaque|record|data)\b", line) and comment:
+                found.setdefault(match.group(2), (path, " ".join(comment)))
+            comment = []
+    return found
