@@ -68,6 +68,8 @@ impl<T, A: Allocator> Block<T, A> {
         requires len { len ≡ self.old.len }
         requires count { len / M * M ≡ len }
         requires room { K ≤ len / M }
+
+        // In every case.
         ensures changes { Reallocates self.old self.new alloc.now cap result }
     {
         let old = self.cap();

@@ -139,6 +139,8 @@ impl<T, A: Allocator> Block<T, A> {
         requires packed { IsPacked self.old.slots self.old.len }
         requires len_le_cap { self.old.len ≤ cap }
         requires len { len ≡ self.old.len }
+
+        // In every case.
         ensures changes { Reallocates self.old self.new alloc.now cap result }
     {
         match item_size::<T>() {
