@@ -4,7 +4,7 @@ use crate::tests::support::{assert_same, leaked_ledger};
 use std::alloc::{Allocator, Global};
 use std::process::Abort;
 use std::test::Fail;
-use thin_testing::{Ledger, Numbered, Refusing};
+use thin_testing::{Ledger, Numbered};
 use thin_vec::{Growth, ThinVec, ThinVecError};
 
 // Asserts the length and the capacity of the list, and that each item is made from its index.
@@ -52,40 +52,45 @@ fn make_capacity<T: Drop, A: Allocator, G: Growth>(
 }
 
 // Makes a full list of `len` items. Changes its capacity to `len + more`, `len + 2 * more`,
-// `len + more` and `len`, each time after a refused attempt.
-fn assert_capacities<T: Numbered>(
+// `len + more` and `len`. If `is_refused` is true, refuses each request once before it is granted.
+fn assert_capacities<T: Numbered, A: Allocator>(
     rt: &impl Abort,
     ledger: &'static Ledger,
+    alloc: A,
     len: usize,
     more: usize,
+    is_refused: bool,
 ) -> Result<(), ThinVecError> {
-    let refusing = &ledger.alloc;
-    refusing.refuse(0);
-    let mut list = ThinVec::<T, &Refusing<Global>>::new(refusing);
+    let mut list = ThinVec::<T, A>::new(alloc);
     list.reserve_exact(len)?;
     fill(ledger, &mut list)?;
     let larger = len.saturating_add(more);
     for capacity in [larger, larger.saturating_add(more), larger, len] {
-        let before = list.capacity();
-        refusing.refuse(1);
-        let refused = make_capacity(&mut list, capacity);
-        assert_same(rt, refused, Err(ThinVecError::OutOfMemory));
-        assert_numbered(rt, ledger, &list, len, before);
+        if is_refused {
+            let before = list.capacity();
+            ledger.begin(1);
+            let refused = make_capacity(&mut list, capacity);
+            assert_same(rt, refused, Err(ThinVecError::OutOfMemory));
+            assert_numbered(rt, ledger, &list, len, before);
+        }
         make_capacity(&mut list, capacity)?;
         assert_numbered(rt, ledger, &list, len, capacity);
-        assert_same(rt, (refusing.requests(), refusing.blocks()), (2, 1));
     }
     Ok(())
 }
 
-// Tries lists whose items take about 256 bytes.
+// Tries lists whose items take about 256 bytes, once with refused requests and once over the
+// allocator of the program, which can enlarge a block where it is.
 fn assert_type<T: Numbered>(rt: &impl Abort, ledger: &'static Ledger) -> Result<(), ThinVecError> {
     let long = 256_usize.checked_div(T::SIZE).unwrap_or(0);
     for len in long.saturating_sub(1)..long.saturating_add(9) {
         for more in 1..10 {
-            assert_capacities::<T>(rt, ledger, len, more)?;
+            ledger.begin(0);
+            assert_capacities::<T, _>(rt, ledger, &ledger.alloc, len, more, true)?;
+            assert_capacities::<T, _>(rt, ledger, ledger.global, len, more, false)?;
         }
     }
+    assert_same(rt, ledger.alloc.blocks(), 0);
     Ok(())
 }
 
