@@ -227,13 +227,6 @@ impl<T, A: Allocator> OpenBlock<T, A> {
         self.tail_start < self.len
     }
 
-    // Returns whether there is an empty slot before the remaining items of the range.
-    pub(crate) fn has_gap(&self) -> bool
-        ensures value { IsTrue result ↔ (0 < self.now.gap) }
-    {
-        self.front_end < self.rest_start
-    }
-
     // Joins the gaps before and after the middle run into one gap. The middle run must be empty: no
     // item of the range remains.
     pub(crate) fn merge_gaps(&mut self)

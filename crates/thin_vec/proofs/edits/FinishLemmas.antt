@@ -13,12 +13,13 @@ use Rattle.thin_vec.specs.List.Extend.{IsCapacityAfterExtend, IsKeptOrChosen}
 use Rattle.thin_vec.specs.Put.{YieldsThenMayEnd, IsFilledBy}
 use Rattle.thin_vec.specs.declared.put.Filled.{Filled}
 use Rattle.thin_vec.specs.Edits.Splice.{IsSpliceCause, SpliceErrorAccountsFor, without_middle, with_replacement}
-use Rattle.thin_vec.specs.Edits.Finish.{AddsFromIter, IsGapFilled, FinishesSplice}
-use Rattle.thin_vec.specs.Open.{OpenView}
+use Rattle.thin_vec.specs.Edits.Finish.{AddsFromIter, FinishesSplice}
+use Rattle.thin_vec.specs.Open.{OpenView, cost_closed, items_of}
 use Rattle.thin_vec.specs.ThinVec.{ListView}
 use Rattle.thin_vec.specs.declared.errors.SpliceRefused.{SpliceRefused}
 use Rattle.thin_vec.proofs.list.ExtendLemmas.{yields-join}
-use Rattle.thin_vec.proofs.edits.SpliceLemmas.{between-length, between-more, drains-more, run-moves, stopped-more, taken-join, taken-spare}
+use Rattle.thin_vec.proofs.PutLemmas.{filled-fits}
+use Rattle.thin_vec.proofs.edits.SpliceLemmas.{between-length, between-more, closed-moves, drains-more, run-moves, stopped-more, taken-join, taken-spare}
 
 module _ {T A : Type 0} where
   -- `IsWide` holds if the open block `b` results from opening a gap of `count` slots in the list
@@ -29,6 +30,17 @@ module _ {T A : Type 0} where
     pub tail : b.tail ≡ drop at u.items
     pub capacity : b.capacity ≡ u.capacity
     pub cost : b.cost ≡ (if eqb count 0 then u.cost else add_moves (length u.items - at) u.cost)
+
+  -- `IsGapFilled v xs a w` holds if writing the items `xs` into the gap of the open block `v` (a
+  -- block during an edit) results in the list `w` with the allocator `a`.
+  pub record IsGapFilled (v : OpenView T A) (xs : List T) (a : A) (w : ListView T A) : Type 0 where
+    pub items : w.items ≡ with_replacement v xs
+    pub capacity : w.capacity ≡ v.capacity
+    pub alloc : w.alloc ≡ a
+    -- The cost counts one move for each item of `xs`, and `m` moves for the items after the range.
+    -- Each of these items is moved at most once.
+    pub cost : (m : ℕ) × (w.cost ≡ add_moves (length xs + m) v.cost) × (m ≤ length v.tail)
+        × (length xs ≡ v.gap → m ≡ 0)
 
 module _ {S T A : Type 0} (steps : S → Option T → S → Type 0) (can : S → Type 0)
     (remaining : S → Count) where
@@ -56,6 +68,42 @@ module _ {S T A : Type 0} (steps : S → Option T → S → Type 0) (can : S →
 
 module _ {S T A : Type 0} {steps : S → Option T → S → Type 0} {can : S → Type 0}
     {remaining : S → Count} where
+  -- If a part of the gap remains empty, `close` moves each tail item once. Otherwise, it moves no
+  -- item.
+  pub gap-filled : (v u : OpenView T A) (s : S) (z w : ListView T A) (f : Filled S)
+      → ((by : IsFilledBy steps can remaining v.gap s f)
+      × (u ≡ record v {
+        front = v.front ++ by.items;
+        gap = v.gap - length by.items;
+        cost = add_moves (length by.items) v.cost;
+      }) × (f.end ≡ length u.front))
+      → v.rest ≡ []
+      → w ≡ record z { items = items_of u; capacity = u.capacity; cost = cost_closed u }
+      → FillsGap steps can remaining v z.alloc s w f
+  gap-filled v u s z w f filled empty closed =
+      let xs = filled.0.items in
+      let same = filled.1 in
+      let none = ap (λ y. y.rest) same ∙ empty in
+      let tail = ap (λ y. y.tail) same in
+      let gap = ap (λ y. y.gap) same in
+      let many : length xs ≡ v.gap - u.gap = omega (arith, gap, filled-fits filled.0) in
+      let put = closed-moves v u (length xs)
+      (ap (λ y. y.cost) same ∙ ap (λ n. add_moves n v.cost) many) none tail many in (
+        filled.0,
+        record {
+          items = ap (λ y. y.items) closed ∙ (λ i. (same i).front ++ (none i ++ tail i));
+          capacity = ap (λ y. y.capacity) closed ∙ ap (λ y. y.capacity) same;
+          alloc = ap (λ y. y.alloc) closed;
+          cost = (
+            put.0,
+            ap (λ y. y.cost) closed ∙ put.1,
+            put.2,
+            λ full. put.3 (omega (arith, gap, full)),
+          );
+        },
+        omega (arith, filled.2, ap (λ y. length y.front) same, length-append v.front xs),
+      )
+
   module _ {v : OpenView T A} {a : A} {s : S} {w : ListView T A} {f : Filled S}
       (p : FillsGap steps can remaining v a s w f) where
     -- Let `w` be the list that results if items are put into the gap of the open block `v`, and `v`

@@ -12,7 +12,7 @@ use Rattle.thin_block.specs.Slots.{empty_slots, filled_slots, move_slots}
 use Rattle.thin_block.specs.declared.block.Block.{Block}
 use Rattle.thin_block.proofs.SlotsLemmas.{moved_back}
 use Rattle.thin_vec.specs.OpenBlock.{IsOpen, open_view}
-use Rattle.thin_vec.specs.Open.{OpenView, tail_end, slots_of}
+use Rattle.thin_vec.specs.Open.{OpenView, cost_closed, tail_end, slots_of}
 use Rattle.thin_vec.specs.declared.open_block.OpenBlock.TheInside.{Inside}
 use Rattle.thin_vec.specs.Edits.ReplaceRange.{MovesAtMost, ReplacesByClones}
 use Rattle.thin_vec.proofs.list.InsertRemoveLemmas.{full-append}
@@ -55,40 +55,45 @@ module _ {T : Type 0} where
 module _ {T : Type 0} (xs : List T) (i j : ℕ) (order : i ≤ j) (within : j ≤ length xs) where
   -- Let `w` be `xs` with `zs` inserted at index `j` and `ys` appended. Removing the items `i..j` of
   -- `w` and moving `ys` to index `i` yields `xs` with its items `i..j` replaced by `ys ++ zs`.
-  pub brought-in : (ys zs : List T) {w : List T} {n : ℕ} → length ys ≡ n
-      → w ≡ replace_range xs j j zs ++ ys
-      → (take i w ++ drop (length w - n) w) ++ take (length w - n - j) (drop j w)
+  pub brought-in : (ys zs : List T) {w t : List T} {n : ℕ} → length ys ≡ n
+      → w ≡ replace_range xs j j zs ++ ys → t ≡ drop j w
+      → (take i w ++ drop (length t - n) t) ++ take (length t - n) t
       ≡ replace_range xs i j (ys ++ zs)
-  brought-in ys zs {w} {n} count is =
+  brought-in ys zs {w} {t} {n} count is tail =
       let p : List T = take j xs in
       let r : List T = drop j xs in
       let few : length p ≡ j = length-take-le j xs within in
-      let all : length w ≡ j + length zs + length r + n =
-      omega (
-        arith,
-        ap length is,
-        length-append ((p ++ zs) ++ r) ys,
-        length-append (p ++ zs) r,
-        length-append p zs,
-        few,
-        count,
-      ) in
       let parts : w ≡ p ++ ((zs ++ r) ++ ys) =
       is ∙ (ap (λ (l : List T). l ++ ys) (append_assoc p zs r) ∙ append_assoc p (zs ++ r) ys) in
       let front : take i w ≡ take i xs =
       ap (take i) parts
       ∙ (take-append-le i p ((zs ++ r) ++ ys) (omega (arith, few)) ∙ take-less xs i j order) in
-      let last : drop (length w - n) w ≡ ys =
-      ap (drop (length w - n)) is
-      ∙ drop_at ((p ++ zs) ++ r) ys (length w - n)
-      (omega (arith, all, length-append (p ++ zs) r, length-append p zs, few)) in
-      let mid : take (length w - n - j) (drop j w) ≡ zs ++ r =
-      ap (take (length w - n - j))
-      (ap (drop j) parts ∙ drop_at p ((zs ++ r) ++ ys) j few)
-      ∙ take_at (zs ++ r) ys (length w - n - j) (omega (arith, all, length-append zs r)) in
+      let all : t ≡ (zs ++ r) ++ ys =
+      tail ∙ (ap (drop j) parts ∙ drop_at p ((zs ++ r) ++ ys) j few) in
+      let long : length (zs ++ r) ≡ length t - n =
+      omega (arith, ap length all, length-append (zs ++ r) ys, count) in
+      let last : drop (length t - n) t ≡ ys =
+      ap (drop (length t - n)) all ∙ drop_at (zs ++ r) ys (length t - n) long in
+      let mid : take (length t - n) t ≡ zs ++ r =
+      ap (take (length t - n)) all ∙ take_at (zs ++ r) ys (length t - n) long in
       (λ m. (front m ++ last m) ++ mid m)
       ∙ (sym (append_assoc (take i xs ++ ys) zs r)
       ∙ ap (λ (l : List T). l ++ r) (append_assoc (take i xs) ys zs))
+
+-- Suppose that `k` items were moved into a gap of `r` slots of an open block, and that `t` items
+-- follow the gap. Closing the block moves these items if a part of the gap is left.
+pub closed-cost : {T A : Type 0} (b : OpenView T A) (c : Cost) (k r t : ℕ) → k ≤ r
+    → b.gap ≡ r - k → length b.rest + length b.tail ≡ t → b.cost ≡ add_moves k c
+    → cost_closed b ≡ add_moves (k + (if eqb k r then 0 else t)) c
+closed-cost b c k r t few gap after cost =
+    elim (cases_lt k r) [
+      | inl less ↦ let e1 : eqb b.gap 0 ≡ false = grind (arith, nat_tests, gap, less) in
+          let e2 : eqb k r ≡ false = grind (arith, nat_tests, less) in
+          rw (e1, e2, after, cost) (moving-more t k c)
+      | inr all ↦ let e1 : eqb b.gap 0 ≡ true = grind (arith, nat_tests, gap, few, all) in
+          let e2 : eqb k r ≡ true = grind (arith, nat_tests, few, all) in
+          rw (e1, e2, cost) (ap (λ n. add_moves n c) (omega arith))
+    ]
 
 module _ {T A : Type 0} (h : Inside T A) (o : IsOpen h) (b : Block T A) (k : ℕ)
     (few : k ≤ length (open_view h).tail) (room : k ≤ (open_view h).gap) where

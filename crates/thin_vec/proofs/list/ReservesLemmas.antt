@@ -55,6 +55,16 @@ memory-no-overflow : {P : Type 0} (cause : ThinVecError) → cause ≡ OutOfMemo
     → cause ≡ CapacityOverflow → P
 memory-no-overflow cause is over = cc
 
+-- `PreservesList` is transitive.
+pub keeps-join : {T A : Type 0} {R : RattleType} {u v w : ListView T A} → PreservesList R u v
+    → PreservesList R v w → PreservesList R u w
+keeps-join p q = record {
+  alloc = q.alloc ∙ p.alloc;
+  never_less = omega (arith, p.never_less, q.never_less);
+  cheap = λ cheap. q.cheap (p.cheap cheap);
+  within = (p.within.0, q.within.1);
+}
+
 module _ {T A : Type 0} (R : RattleType) (v : ListView T A) where
   -- Suppose that the list `v` became `w`, and that the capacity, the number of requests for memory
   -- and the number of copied items did not change. If `v` satisfies `IsCheap`, which bounds the
