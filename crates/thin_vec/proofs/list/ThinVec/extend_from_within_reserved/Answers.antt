@@ -1,5 +1,4 @@
--- If all items of the range can be cloned, their clones are appended. If every clone equals its
--- original, the appended items are the items of the range.
+-- If every clone equals its original, the appended items are the items of the range.
 use Rattle.std.proofs.Common.{◌++◌, ap, arith, take_all, ◌∙◌}
 use Rattle.std.proofs.lemmas.List.Elements.{same_from_all_zip}
 use Rattle.std.specs.Prelude.{slice_range}

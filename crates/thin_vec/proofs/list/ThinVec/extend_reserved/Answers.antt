@@ -1,5 +1,4 @@
--- `fill_spare` fills the empty slots of the list with items of the iterator. If all slots are full,
--- `extend_reserved` returns the result of one more call to `next`.
+-- `fill_spare` fills the empty slots. If all slots are full, `next` is called once more.
 use Rattle.std.proofs.Common.{◌≡◌, ◌∙◌, ap, arith, length, length-append, subst}
 use Rattle.thin_vec.specs.Put.{YieldsThenMayEnd}
 use Rattle.thin_vec.proofs.list.ExtendLemmas.{spare-kept}

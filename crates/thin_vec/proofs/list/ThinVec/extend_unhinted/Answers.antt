@@ -1,5 +1,4 @@
--- In each iteration of the loop, `extend_reserved` moves items of the iterator into the empty slots
--- of the list. If `extend_reserved` also returns an item, this item is pushed to the list.
+-- Each iteration fills the empty slots with `extend_reserved`, and pushes the item that it returns.
 use Rattle.std.proofs.lemmas.Grind.{common_steps}
 use Rattle.std.proofs.Common.{Err, ◌++◌, ◌∷◌, [], ◌-◌, ◌∙◌, ap, arith, append_assoc, length, length-append, refl, subst, sym, ◌+◌, inr}
 use Rattle.std.proofs.lemmas.List.{length_push}

@@ -1,5 +1,4 @@
--- `fill` moves items of the iterator into the gap before the tail items. If a part of the gap
--- remains empty, `close` moves each tail item once. Otherwise, `close` moves no item.
+-- If a part of the gap remains empty, `close` moves each tail item once, and otherwise no item.
 use Rattle.std.proofs.Common.{◌≡◌, ◌-◌, ◌++◌, ◌∙◌, ap, arith, length, length-append}
 use Rattle.thin_block.specs.Cost.{add_moves}
 use Rattle.thin_vec.proofs.PutLemmas.{filled-fits}

@@ -1,5 +1,4 @@
--- `put_results` writes the results of the closure `make` into the slots directly after the last
--- item, so the results are appended to the list.
+-- `put_results` writes the results of `make` into the slots directly after the last item.
 use Rattle.std.proofs.Common.{◌++◌, ap, arith, length, length-append, ◌∙◌, refl, rules}
 use Rattle.thin_block.proofs.BlockLemmas.{slots-are, then-len}
 use Rattle.thin_block.specs.Slots.{items_in}

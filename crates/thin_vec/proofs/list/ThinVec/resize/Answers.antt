@@ -1,5 +1,4 @@
--- If `len` is at most the old length, `truncate` keeps the first `len` items. Otherwise `reserve`
--- makes room, and `resize_reserved` appends clones of `value` and finally `value` itself.
+-- `truncate` makes the list shorter. `reserve` and `resize_reserved` make it longer.
 use Rattle.std.proofs.lemmas.Grind.{common_steps}
 use Rattle.std.proofs.Common.{◌≡◌, ◌+◌, ◌-◌, ◌++◌, ap, arith, length, replicate, subst, sym, take, take_all, ◌∙◌}
 use Rattle.std.specs.Prelude.{OnOk}

@@ -1,5 +1,4 @@
--- If every clone of `value` equals `value`, then `value` is appended `count` times. If cloning
--- fails, `truncate` drops the clones, and the list contains its old items again.
+-- If cloning fails, `truncate` drops the clones that were made.
 use Rattle.std.proofs.Common.{arith}
 use Rattle.thin_vec.proofs.list.ClonesLemmas.{equal-repeated}
 use Rattle.std.proofs.lemmas.Grind.{common_steps}

@@ -1,5 +1,4 @@
--- If the list does not become longer, its capacity does not change. Otherwise, `reserve` determines
--- the new capacity, and `push_results_reserved` does not change the capacity again.
+-- Only `reserve` changes the capacity, and it is called only if the list becomes longer.
 use Rattle.std.proofs.Common.{Ok, ◌-◌, ap, arith, subst, sym, ◌∙◌}
 use denote.Param.{param}
 use Rattle.thin_vec.specs.List.Capacity.{Reserves}
