@@ -10,7 +10,6 @@ loop-self-init g c = record {
   ready = c.requires.callable;
 }
 
--- If the test decides to remove an item, this item remains in its slot, and the search ends.
 pub returns-then-not-test-clause-tested : goal.returns-then-not-test-clause-tested
 returns-then-not-test-clause-tested g c =
     let l = c.loop-self in

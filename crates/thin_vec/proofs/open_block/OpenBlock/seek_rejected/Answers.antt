@@ -1,11 +1,9 @@
--- If there are no empty slots after the front, then the items before the first item to be removed
--- remain in their slots and become part of the front.
+-- Without a gap after the front items, no item is moved, and no move is counted.
 use Rattle.std.proofs.Common.{◌≡◌, ◌<◌, ◌++◌, ◌∙◌, ap, drop, sym, take}
 use Rattle.std.proofs.lemmas.Bool.{false≢true}
 use Rattle.thin_vec.proofs.RetainLemmas.{moving-before}
 use Rattle.thin_vec.proofs.open_block.OpenBlock.seek_rejected.Goals as goal
 
--- If there is no gap after the kept items, then no item is moved, and no move is counted.
 pub returns-clause-tested : goal.returns-clause-tested
 returns-clause-tested g c =
     let v = c.args.self.now in
