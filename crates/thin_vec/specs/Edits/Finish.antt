@@ -26,14 +26,12 @@ module _ {T A : Type 0} where
     pub alloc : w.alloc ≡ v.alloc
     pub cheap : IsCheap v → IsCheap w
 
-  -- `IsGapFilled v xs a w` holds if writing the items `xs` into the gap of the open block `v` (a
-  -- block during an edit) results in the list `w` with the allocator `a`.
+  -- `IsGapFilled v xs a w` holds if writing the items `xs` into the gap of the open block `v`
+  -- results in the list `w` with the allocator `a`.
   pub record IsGapFilled (v : OpenView T A) (xs : List T) (a : A) (w : ListView T A) : Type 0 where
     pub items : w.items ≡ with_replacement v xs
     pub capacity : w.capacity ≡ v.capacity
     pub alloc : w.alloc ≡ a
-    -- The cost counts one move for each item of `xs`, and `m` moves for the items after the range.
-    -- Each of these items is moved at most once.
     pub cost : (m : ℕ) × (w.cost ≡ add_moves (length xs + m) v.cost) × (m ≤ length v.tail)
         × (length xs ≡ v.gap → m ≡ 0)
 
