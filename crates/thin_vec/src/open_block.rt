@@ -52,9 +52,9 @@ use thin_block::{Block, Growth};
 /// an item is this decision, together with the item as the test left it.
 ///
 /// An `OpenBlock` owns the block and all items in it. It does not implement `Drop`: `close` puts
-/// the block back into the list. Contracts describe an `OpenBlock` as a value of the type `Open`,
-/// which is defined in `specs/OpenView.antt`. Only the proofs of its methods deal with slots. So
-/// each step of an edit is a method, even a step that only one function takes.
+/// the block back into the list. Contracts describe an `OpenBlock` as a value of the type
+/// `OpenView`, which is defined in `specs/Open.antt`. Only the proofs of its methods deal with
+/// slots. So each step of an edit is a method, even a step that only one function takes.
 pub struct OpenBlock<T, A: Allocator> {
     // The block that was taken out of the list. The length that it stores is not used while the
     // block is open.

@@ -13,9 +13,6 @@ use Rattle.thin_vec.specs.declared.edits.holder.IntoInner.{Ghosts as IntoInnerGh
 
 module _ {T A G : Type 0} {g : Ghosts G}
     {h : IntoInnerGhosts (Holder (OpenView T A)) (OpenView T A)} where
-  -- `DrainKeeps a b` states that `a` and `b` borrow the same list, and that dropping `a` would
-  -- result in the same list as dropping `b`. `DrainKeeps` is transitive: if it holds for `a` and
-  -- `b`, and for `b` and `c`, then it holds for `a` and `c`.
   drain_keeps_more : (a b c : Drain T A G (Holder (OpenView T A)) g h) → DrainKeeps a b
       → DrainKeeps b c → DrainKeeps a c
   drain_keeps_more a b c p q =
@@ -28,8 +25,6 @@ module _ {T A G : Type 0} {g : Ghosts G}
         cost = q.cost ∙ p.cost;
       }
 
-  -- Calls to `next` and `next_back` on a `Drain`, in any order, take items from the two ends of the
-  -- range, and do not affect the list that remains after the `Drain` is dropped.
   pub drain_keeps_along : (d : Drain T A G (Holder (OpenView T A)) g h) → DrainKeepsAlong d
   drain_keeps_along d [] later e = subst (λ t. DrainLeaves d [] t) e (record {
     keeps = record { lender = refl; kept = refl; capacity = refl; alloc = refl; cost = refl };
@@ -60,7 +55,6 @@ module _ {T A G : Type 0} {g : Ghosts G}
         count = omega (arith, h.count, length_push h.after x);
       }
 
-  -- Repeated calls to `next` on a `Drain` yield the items that have not been yielded yet, in order.
   pub drains_in_order : YieldsInOrder (DrainSteps {T = T} {A = A} {G = G} {g = g} {h = h})
       drain_rest
   drains_in_order p s =
@@ -68,8 +62,6 @@ module _ {T A G : Type 0} {g : Ghosts G}
       (from_front DrainSteps (λ x. x) drain_rest (λ a b n. ap length n.gave.0)
       (λ a x b n. n.gave) p s)
 
-  -- Repeated calls to `next_back` on a `Drain` yield the items that have not been yielded yet, in
-  -- reverse order.
   pub drains_in_reverse : YieldsInReverse (DrainStepsBack {T = T} {A = A} {G = G} {g = g} {h = h})
       drain_rest
   drains_in_reverse p s =

@@ -46,17 +46,11 @@ module _ {T A : Type 0} where
   -- the result `r`.
   pub record Reserves (rule : GrowthRule) (R : RattleType) (k : ℕ) (v w : ListView T A)
       {X : Type 0} (r : Result X ThinVecError) : Type 0 where
-    -- If `v` has room for `k` more items, the capacity does not change. This follows from the fields
-    -- `ok` and `err`.
+    -- This follows from the fields `ok` and `err`.
     pub had_room : HasRoomFor v k → w.capacity ≡ v.capacity
-    -- On success, the new capacity is `capacity_after_reserve rule R v k`: the old capacity if
-    -- there was enough room, and otherwise the capacity that the growth rule chooses.
     pub ok : OnOk r (capacity_after_reserve rule R v k ≡ Some w.capacity)
-    -- On failure, the list did not change, or its new capacity is the one that
-    -- `capacity_after_reserve` returns for `k` more items.
+    -- A call that fails after it has reserved the room leaves the list with the new capacity.
     pub err : OnErr r ((w ≡ v) ⊎ (capacity_after_reserve rule R v k ≡ Some w.capacity))
-    -- The call returns the error `CapacityOverflow` if and only if `capacity_after_reserve` returns
-    -- `None`, which means that the capacity would be too large.
     pub overflow : IsErrOf r CapacityOverflow ↔ (capacity_after_reserve rule R v k ≡ None)
 
   -- `PreservesList R v w` describes a call that changed the list `v` of items of the type `R` to

@@ -1,5 +1,4 @@
--- `as_slice` returns the first `len` slots as a slice. These slots hold exactly the items of the
--- list, in order.
+-- The first `len` slots, which `as_slice` returns, hold exactly the items of the list.
 use Rattle.std.proofs.Common.{ap, arith, ◌∙◌}
 use Rattle.thin_vec.proofs.ListLemmas.{thin-filled, thin-run}
 use Rattle.thin_vec.proofs.ThinVecLemmas.{within-of}

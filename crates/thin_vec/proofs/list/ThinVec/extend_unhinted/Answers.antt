@@ -17,7 +17,6 @@ use Rattle.thin_block.proofs.ResultLemmas.{err-same, none-some}
 use Rattle.thin_vec.proofs.list.ThinVec.extend_unhinted.Goals.{After-fill_spare-left, Else-ended}
 use Rattle.thin_vec.proofs.list.ThinVec.extend_unhinted.Goals as goal
 
--- The items of all iterations up to this one have been appended.
 appended : (g : _) (c : After-fill_spare-left g) → c.fill_spare-left.new.self.items
     ≡ c.args.self.now.items
     ++ (c.loop-rest.invariant.placed.0 ++ c.fill_spare-left.ensures.filled_by.0.items)
@@ -27,7 +26,6 @@ appended g c =
     ap (λ v. v.items) filled.1 ∙ (ap (λ l. l ++ filled.0.items) before.1
     ∙ append_assoc c.args.self.now.items before.0 filled.0.items)
 
--- Filling the spare slots changes only the items and the cost.
 changed : (g : _) (c : After-fill_spare-left g) → c.fill_spare-left.new.self ≡ record c.loop-rest.self {
   items = c.fill_spare-left.new.self.items;
   cost = add_moves (length c.fill_spare-left.new.self.items - length c.loop-rest.self.items)
@@ -50,7 +48,6 @@ ruled g c =
     (length c.loop-rest.self.items) (length c.fill_spare-left.new.self.items)
     (ap (λ z. z.capacity) (changed g c)) (omega (arith, longer g c)) c.loop-rest.invariant.ruled
 
--- The cost of all iterations up to this one.
 spent : (g : _) (c : After-fill_spare-left g)
     → CostsInserting c.args.self.now c.fill_spare-left.new.self 0
 spent g c =

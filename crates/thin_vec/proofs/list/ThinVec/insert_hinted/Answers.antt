@@ -12,8 +12,6 @@ use Rattle.thin_vec.proofs.edits.FinishLemmas.{FillsGap, IsWide, gap-filled, wid
 use Rattle.thin_vec.proofs.list.ThinVec.insert_hinted.Goals.{After-close}
 use Rattle.thin_vec.proofs.list.ThinVec.insert_hinted.Goals as goal
 
--- After the call to `open_with_gap`, the block has a gap of empty slots at index `at`. The number
--- of these slots is the lower bound of the size hint.
 wide : (g : _) (c : After-close g)
     → IsWide c.open_with_gap-block.result c.reserve.new.self c.args.at c.size_hint-hint.result.0
 wide g c = record {
@@ -32,10 +30,6 @@ fills g c =
     c.open_with_gap-block.new.self c.close.new.self c.fill-filled.result
     c.fill-filled.ensures.filled_by c.open_with_gap-block.ensures.rest c.close.ensures.changes
 
--- `AddsFromIter` describes how adding items of an iterator changed a list, and bounds the number of
--- moves of old items. Suppose that opening and closing the gap takes at most `n` moves. Then
--- `AddsFromIter` holds, with the bound `n`, for the list before the call to `insert_hinted` and the
--- list after this call.
 taken : (g : _) (c : After-close g) (n : _)
     → (fills g c).1.cost.0 + (length c.reserve.new.self.items - c.args.at) ≤ n
     → AddsFromIter g.G.Growth.rule (param 0 g.row.T) c.args.self.now c.close.new.self n
@@ -55,8 +49,6 @@ taken g c n few =
     (wide-taken (fills g c) rule T n left u c.args.at hint (wide g c)
     (ap (λ z. z.alloc) c.open_with_gap-block.ensures.changes) few)
 
--- The items after the gap are the items of the old list from index `at` onward. So their number is
--- the length of the old list minus `at`.
 tail : (g : _) (c : After-close g) → length c.open_with_gap-block.result.tail
     ≡ length c.args.self.now.items - c.args.at
 tail g c = omega (

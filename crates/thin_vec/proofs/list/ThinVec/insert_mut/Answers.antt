@@ -1,5 +1,4 @@
--- `insert_mut` returns a `&mut` reference to the inserted item. When the borrow ends, the item at
--- `index` is the value that was written through the reference.
+-- When the borrow ends, the item at `index` is the value that was written through the reference.
 use Rattle.std.proofs.Common.{◌≡◌, ap, arith, drop, get_or, length, refl, take, ◌∙◌}
 use Rattle.std.proofs.lemmas.List.{get_or_at, length-take-le, set_at}
 use lib.ListN.{length-set, set}

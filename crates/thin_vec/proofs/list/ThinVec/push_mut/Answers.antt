@@ -1,5 +1,4 @@
--- `push_mut` returns a `&mut` reference to the appended item. When the borrow ends, the last item
--- of the list is the final value of this reference.
+-- When the borrow ends, the last item of the list is the final value of the reference.
 use Rattle.std.proofs.Common.{[], ap, arith, get_or, refl, sym, ◌∙◌}
 use Rattle.std.proofs.lemmas.List.{get_or_at, set_at}
 use lib.ListN.{length-set, set}
