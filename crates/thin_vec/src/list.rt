@@ -9,7 +9,7 @@ ghost use Rattle.std.specs.Option.{option_to_list};
 ghost use Rattle.thin_block.specs.Block.{IsAllocatedBy};
 ghost use Rattle.thin_block.specs.Capacity.{Fits};
 ghost use Rattle.thin_block.specs.Cost.{add_moves};
-ghost use Rattle.thin_block.specs.Slots.{IsPacked, empty_slots};
+ghost use Rattle.thin_block.specs.Slots.{IsPacked};
 ghost use Rattle.thin_vec.specs.List.Capacity.{CostsMoves, PreservesList, Reserves, map_cause};
 
 mod append_split;
