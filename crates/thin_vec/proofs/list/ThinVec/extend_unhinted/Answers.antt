@@ -1,6 +1,5 @@
 -- In each iteration of the loop, `fill_spare` moves items of the iterator into the empty slots of
 -- the list. If the iterator has not ended, one more item is pushed.
-use Rattle.std.proofs.lemmas.Grind.{common_steps}
 use Rattle.std.proofs.Common.{◌≡◌, Err, ◌++◌, ◌∷◌, [], ◌+◌, ◌-◌, ◌≤◌, ◌∙◌, ap, arith, append_assoc, length, length-append, refl, subst, sym, inr}
 use Rattle.std.proofs.lemmas.List.{length_push}
 use Rattle.std.specs.Iterator.{Yields}
