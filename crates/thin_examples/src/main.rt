@@ -3,9 +3,11 @@
 
 mod add;
 mod commands;
+mod common;
 mod costs;
 mod errors;
 mod make;
+mod maps;
 mod read;
 mod remove;
 mod replace;
@@ -26,20 +28,29 @@ use thin_runner::command::Command;
 use thin_vec::{ThinVec, thin_vec};
 
 fn main(rt: HostRuntime) -> io::Result<()> {
+    show_common(&rt, rt.alloc())?;
     show_make(&rt, rt.alloc())?;
     show_add(&rt, rt.alloc())?;
     show_remove(&rt, rt.alloc())?;
-    show_replace(&rt, rt.alloc())?;
-    show_transfer(&rt, rt.alloc())?;
     show_read(&rt, rt.alloc())?;
     show_write(&rt, rt.alloc())?;
-    show_errors(&rt, rt.alloc())?;
+    show_replace(&rt, rt.alloc())?;
+    show_transfer(&rt, rt.alloc())?;
     show_structs(&rt, rt.alloc())?;
-    show_threads(&rt, rt.alloc())?;
+    show_maps(&rt, rt.alloc())?;
+    show_errors(&rt, rt.alloc())?;
     show_tree(&rt, rt.alloc())?;
     show_tables(&rt, rt.alloc())?;
+    show_threads(&rt, rt.alloc())?;
     show_costs(&rt, rt.alloc())?;
     show_commands(&rt, rt.alloc())
+}
+
+fn show_common(rt: &impl Print, alloc: Global) -> io::Result<()> {
+    let mut list = common::filled(alloc)?;
+    println!(rt; "filled: {list:?}")?;
+    let odd = common::sifted(alloc, &mut list)?;
+    println!(rt; "sifted: {odd:?}, left {list:?}")
 }
 
 fn show_make(rt: &impl Print, alloc: Global) -> io::Result<()> {
@@ -53,6 +64,9 @@ fn show_make(rt: &impl Print, alloc: Global) -> io::Result<()> {
     println!(rt; "doubled: {doubled:?}")?;
     let halves = make::halves(alloc, &[6, 7]);
     println!(rt; "halves: {halves:?}")?;
+    let (list, in_hand, rest) = make::collect_or_keep(alloc, 1_u32..4);
+    let all = in_hand.is_none() && rest.is_none();
+    println!(rt; "collect_or_keep: {list:?}, all collected: {all}")?;
     let chars = make::chars_of(alloc, "list")?;
     println!(rt; "chars_of: {chars:?}")?;
     let mut continued = make::continued(alloc, &joined, &[4])?;
@@ -122,6 +136,39 @@ fn show_remove(rt: &impl Print, alloc: Global) -> io::Result<()> {
     println!(rt; "consume_empty: done")
 }
 
+fn show_read(rt: &impl Print, alloc: Global) -> io::Result<()> {
+    let list = thin_vec![alloc => 1, 2, 3, 4]?;
+    let neighbours = read::neighbours(&list, 1);
+    println!(rt; "neighbours: {neighbours:?}")?;
+    println!(rt; "run_end: {}", read::run_end(&list, 1, 2))?;
+    println!(rt; "count_even: {}", read::count_even(&list))?;
+    let other = make::joined(alloc, &[1, 2], &[3, 4])?;
+    println!(rt; "same_numbers: {}", read::same_numbers(&list, &other))?;
+    let same = read::hash_of(&list) == read::hash_of(&other);
+    println!(rt; "hash_of: the same: {same}")
+}
+
+fn show_write(rt: &impl Print, alloc: Global) -> io::Result<()> {
+    let mut list = thin_vec![alloc => 12, 20, 40, 8]?;
+    let first = write::lower_first(&mut list, 2);
+    println!(rt; "lower_first: {list:?}, before: {first}")?;
+    write::halve_each(&mut list);
+    println!(rt; "halve_each: {list:?}")?;
+    write::halve_by_index(&mut list);
+    println!(rt; "halve_by_index: {list:?}")?;
+    write::sort(&mut list);
+    println!(rt; "sort: {list:?}")?;
+    let mut list = thin_vec![alloc => 1, 2, 3, 4]?;
+    write::set_first(&mut list, 9);
+    println!(rt; "set_first: {list:?}")?;
+    write::exchange(&mut list, 0, 3);
+    println!(rt; "exchange: {list:?}")?;
+    write::clear_range(&mut list, 1, 3);
+    println!(rt; "clear_range: {list:?}")?;
+    write::mark_halves(&mut list, 2);
+    println!(rt; "mark_halves: {list:?}")
+}
+
 fn show_replace(rt: &impl Print, alloc: Global) -> io::Result<()> {
     let mut text = thin_vec![alloc => 1, 2, 3, 4]?;
     replace::replace_word(&mut text, 1, 3, &[7, 8, 9])?;
@@ -160,37 +207,24 @@ fn show_transfer(rt: &impl Print, alloc: Global) -> io::Result<()> {
     println!(rt; "collected: {vec:?}")
 }
 
-fn show_read(rt: &impl Print, alloc: Global) -> io::Result<()> {
-    let list = thin_vec![alloc => 1, 2, 3, 4]?;
-    let neighbours = read::neighbours(&list, 1);
-    println!(rt; "neighbours: {neighbours:?}")?;
-    println!(rt; "run_end: {}", read::run_end(&list, 1, 2))?;
-    println!(rt; "count_even: {}", read::count_even(&list))?;
-    let other = make::joined(alloc, &[1, 2], &[3, 4])?;
-    println!(rt; "same_numbers: {}", read::same_numbers(&list, &other))?;
-    let same = read::hash_of(&list) == read::hash_of(&other);
-    println!(rt; "hash_of: the same: {same}")
+fn show_structs(rt: &impl Print, alloc: Global) -> io::Result<()> {
+    let mut style = Style::new(alloc, 1);
+    println!(rt; "Style::new: {style:?}")?;
+    style.add_rule(5)?;
+    println!(rt; "Style::add_rule: {style:?}")?;
+    let renamed = style.renamed(2)?;
+    println!(rt; "Style::renamed: {renamed:?}")?;
+    println!(rt; "Style::is_same: {}", style.is_same(&renamed))?;
+    let page = Page::new(thin_vec![alloc => 10, 20, 30]?);
+    println!(rt; "Page::new: {} lines", page.lines.len())?;
+    println!(rt; "Page::after: {}", page.after(1))
 }
 
-fn show_write(rt: &impl Print, alloc: Global) -> io::Result<()> {
-    let mut list = thin_vec![alloc => 12, 20, 40, 8]?;
-    let first = write::lower_first(&mut list, 2);
-    println!(rt; "lower_first: {list:?}, before: {first}")?;
-    write::halve_each(&mut list);
-    println!(rt; "halve_each: {list:?}")?;
-    write::halve_by_index(&mut list);
-    println!(rt; "halve_by_index: {list:?}")?;
-    write::sort(&mut list);
-    println!(rt; "sort: {list:?}")?;
-    let mut list = thin_vec![alloc => 1, 2, 3, 4]?;
-    write::set_first(&mut list, 9);
-    println!(rt; "set_first: {list:?}")?;
-    write::exchange(&mut list, 0, 3);
-    println!(rt; "exchange: {list:?}")?;
-    write::clear_range(&mut list, 1, 3);
-    println!(rt; "clear_range: {list:?}")?;
-    write::mark_halves(&mut list, 2);
-    println!(rt; "mark_halves: {list:?}")
+fn show_maps(rt: &impl Print, alloc: Global) -> io::Result<()> {
+    let mut lists = BTreeMap::new(alloc);
+    maps::append_to(&mut lists, 4, 10)?;
+    maps::append_to(&mut lists, 4, 11)?;
+    println!(rt; "append_to: {lists:?}")
 }
 
 fn show_errors(rt: &impl Print, alloc: Global) -> io::Result<()> {
@@ -203,19 +237,6 @@ fn show_errors(rt: &impl Print, alloc: Global) -> io::Result<()> {
     let mut bytes = ThinVec::new(alloc);
     errors::write_line(&mut bytes, b"hi")?;
     println!(rt; "write_line: {bytes:?}")
-}
-
-fn show_structs(rt: &impl Print, alloc: Global) -> io::Result<()> {
-    let mut style = Style::new(alloc, 1);
-    println!(rt; "Style::new: {style:?}")?;
-    style.add_rule(5)?;
-    println!(rt; "Style::add_rule: {style:?}")?;
-    let renamed = style.renamed(2)?;
-    println!(rt; "Style::renamed: {renamed:?}")?;
-    println!(rt; "Style::is_same: {}", style.is_same(&renamed))?;
-    let page = Page::new(thin_vec![alloc => 10, 20, 30]?);
-    println!(rt; "Page::new: {} lines", page.lines.len())?;
-    println!(rt; "Page::after: {}", page.after(1))
 }
 
 fn show_tree(rt: &impl Print, alloc: Global) -> io::Result<()> {
@@ -238,11 +259,7 @@ fn show_tables(rt: &impl Print, alloc: Global) -> io::Result<()> {
     println!(rt; "take: {taken}")?;
     println!(rt; "is_row_empty: {}", tables::is_row_empty(&counts, 0))?;
     tables::halve(&mut counts, 2, 8);
-    println!(rt; "halve: {counts:?}")?;
-    let mut lists = BTreeMap::new(alloc);
-    tables::append_to(&mut lists, 4, 10)?;
-    tables::append_to(&mut lists, 4, 11)?;
-    println!(rt; "append_to: {lists:?}")
+    println!(rt; "halve: {counts:?}")
 }
 
 fn show_threads(rt: &impl Print, alloc: Global) -> io::Result<()> {
