@@ -194,6 +194,9 @@ fn show_replace(rt: &impl Print, alloc: Global) -> io::Result<()> {
 fn show_transfer(rt: &impl Print, alloc: Global) -> io::Result<()> {
     let mut list = thin_vec![alloc => 1, 2, 3, 4]?;
     let mut other = thin_vec![alloc => 9]?;
+    transfer::hand_over(&mut list, 0, 2, &mut other)?;
+    println!(rt; "hand_over: {list:?} and {other:?}")?;
+    let mut list = thin_vec![alloc => 1, 2, 3, 4]?;
     transfer::move_range(&mut list, 1, 3, &mut other)?;
     println!(rt; "move_range: {list:?} and {other:?}")?;
     let mut odd = ThinVec::new(alloc);
