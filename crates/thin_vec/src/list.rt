@@ -4,7 +4,7 @@
 //! In contracts, `OnOk result P` states that `P` holds if `result` is `Ok`, and `IfOk result P`
 //! states that `P` holds for the value in `Ok`. `OnErr` and `IfErr` do the same for `Err`. `T.row`
 //! describes the type `T`; it determines the size and the alignment of an item.
-ghost use Rattle.std.specs.Prelude.{◌≡◌, ◌↔◌, ◌+◌, ◌-◌, ◌<◌, ◌==◌, [], ◌∷◌, ◌++◌, IfErr, IsOk, IsSome, IsTrue, None, OnErr, OnOk, Some, length, slice_index_or, take};
+ghost use Rattle.std.specs.Prelude.{◌≡◌, ◌↔◌, ◌+◌, ◌-◌, ◌<◌, ◌==◌, [], ◌∷◌, ◌++◌, IfErr, IsOk, IsSome, IsTrue, None, OnErr, OnOk, Some, length, slice_index_or};
 ghost use Rattle.std.specs.Option.{option_to_list};
 ghost use Rattle.thin_block.specs.Block.{IsAllocatedBy};
 ghost use Rattle.thin_block.specs.Capacity.{Fits};
@@ -219,7 +219,6 @@ impl<T, A: Allocator, G: Growth> ThinVec<T, A, G> {
         ensures value { (d : T) → 0 < length self.old.items
             → result ≡ Some (slice_index_or self.old.items (length self.old.items - 1) d) }
         ensures items { self.old.items ≡ self.new.items ++ option_to_list result }
-        ensures rest { self.new.items ≡ take (length self.old.items - 1) self.old.items }
         ensures len { length self.new.items + length (option_to_list result)
             ≡ length self.old.items }
         ensures capacity { self.new.capacity ≡ self.old.capacity }
