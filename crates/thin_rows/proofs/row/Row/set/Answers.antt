@@ -49,7 +49,7 @@ invariant_of-self-in-Err g c =
           gap c.args.value);
       block = (
         λ _. rw (items, longer) (omega arith),
-        λ some. omega (arith, c.in_default.ensures.preserved.within.1.room),
+        λ some. omega (arith, c.in_default.ensures.grows.room),
       );
     }
 
