@@ -13,17 +13,14 @@ use Rattle.thin_block.specs.Ownership.{fits_block, slot_owns as slot_place, slot
 use Rattle.thin_block.proofs.HeaderMemory.{Br, block_val}
 use Rattle.thin_block.proofs.SlotMemory.{Slot, sz, reach, besides, slot_out, Two}
 
--- If a block with the slots `xs` is small enough to be allocated, and `i ≤ length xs`, then `i`
--- items take fewer than `2 ^ 64` bytes in total.
 pub near : (E : El) (xs : List (Slot E)) (i : ℕ) → fits_block (R E) (length xs) ≡ true
     → i ≤ length xs → i * sz E < 2 ^ 64
 near E xs i fits le = let low = reach (R E) i (length xs) fits le in omega arith
 
 module _ (E : El) (Y : Al) {M : Type 1} {𝓤 : Ura M} {𝓛 : Logic 𝓤} {K : Type 0}
     {Γ : List (Item 𝓤)} {h s : Item 𝓤} where
-  -- Symbolically evaluates an operand that reads a block's pointer through the reference in the
-  -- local variable `p`. The reference points into the allocation `rb`, at the offset `ro`. The
-  -- result is the block's pointer, which points into the allocation `b`, at the offset `o`.
+  -- Evaluates an operand that reads a block's pointer through the reference in the local variable
+  -- `p`.
   pub its_ptr : K → {Ev : Env 𝓤 𝓛.H} {p b o rb ro : ℕ} {q : Share}
       → at 𝓛 p (h ∷ s ∷ ‵
       (cell_at full_share (Br E Y).mir (block_val (block_ptr b o) ∷ []) rb ro) ∷ Γ)
@@ -36,13 +33,11 @@ module _ (E : El) (Y : Al) {M : Type 1} {𝓤 : Ura M} {𝓛 : Logic 𝓤} {K : 
 module _ {M : Type 1} {𝓤 : Ura M} (𝓛 : Logic 𝓤) (Ev : Env 𝓤 𝓛.H) where
   open 𝓛 use {H}
 
-  -- `holds p v` is an entry of the proof context. It states that the local variable `p` holds the
-  -- value `v`.
+  -- `holds p v` states that the local variable `p` holds the value `v`.
   abbrev holds : ℕ → Val → Item 𝓤
   holds p v = ‵ (fat full_share (spot_of 𝓤 H Ev p).0 (spot_of 𝓤 H Ev p).1 zero v)
 
-  -- `free p Γ` is the entry of the proof context `Γ` that allows the code to assign a value to the
-  -- local variable `p`.
+  -- `free p Γ` is the entry of `Γ` that allows the code to assign to the local variable `p`.
   abbrev free : ℕ → List (Item 𝓤) → Item 𝓤
   free p Γ = nth 𝓛 0 (free_needs 𝓛 (((spot_of 𝓤 H Ev p).0, (spot_of 𝓤 H Ev p).1) ∷ [])
       (at 𝓛 p Γ ∷ ‵ ftrue ∷ []))
@@ -52,50 +47,38 @@ module _ {M : Type 1} {𝓤 : Ura M} (𝓛 : Logic 𝓤) (Ev : Env 𝓤 𝓛.H) 
   Takes p v = T (has_ty (spot_of 𝓤 H Ev p).0 v)
 
   module _ (Γ : List (Item 𝓤)) (E : El) (b o i p₃ p₄ : ℕ) where
-    -- The computation of `p.add(i)` first stores the product of `i` and the item size in the local
-    -- variable `p₃`. `far` is the proof context `Γ` after this statement.
+    -- The computation of `p.add(i)` stores `i` times the item size in the local variable `p₃`, and
+    -- then the address of item `i` in `p₄`. `far` and `gone` are `Γ` after these two statements.
     abbrev far : List (Item 𝓤)
     far = set 𝓛 p₃ (holds p₃ (vint w64 (i * sz E))) Γ
 
-    -- `gone` is the proof context `Γ` after the computation of `p.add(i)`. The local variable `p₃`
-    -- then holds `i` times the item size, and `p₄` holds the address of item `i`.
     abbrev pub gone : List (Item 𝓤)
     gone = set 𝓛 p₄ (holds p₄ (vptr b (i * sz E + o))) far
 
-    -- `goes_by p pᵢ` lists the entries of the proof context for the local variables that the
-    -- computation of `p.add(i)` uses. The local variable `p` holds the address of the first item,
-    -- and `pᵢ` holds the index `i`.
+    -- `goes_by` lists the context entries that this computation reads or replaces, and `goes_with`
+    -- what they must be. `p` holds the address of the first item, and `pᵢ` holds the index `i`.
     abbrev pub goes_by : ℕ → ℕ → List (Item 𝓤)
     goes_by p pᵢ = at 𝓛 pᵢ Γ ∷ at 𝓛 p₃ Γ ∷ at 𝓛 p far ∷ at 𝓛 p₃ far ∷ at 𝓛 p₄ far ∷ []
 
-    -- `goes_with p pᵢ` lists the entries that the proof context must contain so that `p.add(i)` can
-    -- be computed. The local variable `p` has to hold the address of the first item, and `pᵢ` has
-    -- to hold the index `i`.
     abbrev pub goes_with : ℕ → ℕ → List (Item 𝓤)
     goes_with p pᵢ = holds pᵢ (vint w64 i) ∷ free p₃ Γ ∷ holds p (vptr b o)
         ∷ holds p₃ (vint w64 (i * sz E)) ∷ free p₄ far ∷ []
 
   module _ (Γ : List (Item 𝓤)) (E : El) (b o i p₁ p₂ : ℕ) where
-    -- `first` is the proof context `Γ` after the address of slot 0 has been stored in the local
-    -- variable `p₁`.
+    -- `first` and `turned` are `Γ` after the address of slot 0 has been stored in `p₁`, and then in
+    -- `p₂`.
     abbrev first : List (Item 𝓤)
     first = set 𝓛 p₁ (holds p₁ (vptr b (o + 16))) Γ
 
-    -- `turned` is the proof context `Γ` after the address of slot 0 has been stored in the local
-    -- variables `p₁` and `p₂`.
     abbrev pub turned : List (Item 𝓤)
     turned = set 𝓛 p₂ (holds p₂ (vptr b (o + 16))) first
 
-    -- `meets p₃ p₄ p pᵢ` lists the context entries for the local variables that the computation of
-    -- a slot's address uses. Among them, `p` holds the block's pointer, `pᵢ` the index of the slot,
-    -- `p₃` an intermediate result, and `p₄` the address of the slot.
+    -- `meets` and `needs` are like `goes_by` and `goes_with`, for the address of a slot. Here, `p`
+    -- holds the block's pointer.
     abbrev pub meets : ℕ → ℕ → ℕ → ℕ → List (Item 𝓤)
     meets p₃ p₄ p pᵢ = at 𝓛 p Γ ∷ at 𝓛 p₁ Γ ∷ at 𝓛 p₁ first ∷ at 𝓛 p₂ first
         ∷ goes_by turned E b (o + 16) i p₃ p₄ p₂ pᵢ
 
-    -- `needs p₃ p₄ p pᵢ` lists the context entries that the computation of a slot's address needs.
-    -- The arguments are the numbers of local variables: `p` holds the block's pointer, `pᵢ` holds
-    -- the index of the slot, and the computation assigns to `p₃` and `p₄`.
     abbrev pub needs : ℕ → ℕ → ℕ → ℕ → List (Item 𝓤)
     needs p₃ p₄ p pᵢ = holds p (vptr b o) ∷ free p₁ Γ ∷ holds p₁ (vptr b (o + 16)) ∷ free p₂ first
         ∷ goes_with turned E b (o + 16) i p₃ p₄ p₂ pᵢ
@@ -150,8 +133,6 @@ module _ (E : El) {M : Type 1} {𝓤 : Ura M} {𝓛 : Logic 𝓤} {K : Type 0} {
 
 module _ (E : El) {M : Type 1} {𝓤 : Ura M} {𝓛 : Logic 𝓤} {K : Type 0} {Γ : List (Item 𝓤)}
     {G : Goal 𝓤 𝓛.H} {h : Item 𝓤} where
-  -- Separates the memory of slot `i` from the memory of the other slots of a block. The proof
-  -- context then begins with slot `i`, the other slots and the header.
   pub takes_slot : K → {x : Slot E} (b o : ℕ) (xs : List (Slot E)) (i : ℕ) → i < length xs
       → get_or xs i None ≡ x
       → Step K 𝓛 (‵ (slot_place (R E) x b (i * sz E + o)) ∷ ‵ (besides E 𝓛 b o xs i) ∷ h ∷ Γ) G
@@ -163,8 +144,8 @@ module _ (E : El) {M : Type 1} {𝓤 : Ura M} {𝓛 : Logic 𝓤} {K : Type 0} {
       rewrite k 0 (λ (x : Slot E). ‵ (slot_place (R E) x b (i * sz E + o))) e refl $ rest)
 
 module _ (E : El) {M : Type 1} (𝓤 : Ura M) where
-  -- `Bits b o v` says that the memory at the offset `o` of the allocation `b` holds the value `v`.
-  -- The lemmas use it for the machine values of items.
+  -- `Bits b o v` says that the machine value `v` of an item is at the offset `o` of the allocation
+  -- `b`.
   abbrev Bits : ℕ → ℕ → Val → Item 𝓤
   Bits b o v = ‵ (fat full_share (elτ E) b o v)
 
@@ -174,8 +155,7 @@ module _ (E : El) {M : Type 1} (𝓤 : Ura M) where
 
 module _ (E : El) {M : Type 1} {𝓤 : Ura M} {𝓛 : Logic 𝓤} {K : Type 0} {Γ : List (Item 𝓤)}
     {G : Goal 𝓤 𝓛.H} {h : Item 𝓤} where
-  -- Separates the filled slot `i` from the other slots of a block, and splits it into the bytes of
-  -- its item and the resources that this item owns.
+  -- Splits the filled slot `i` off, into the bytes of its item and the resources of the item.
   pub takes_item : K → {x : el_x E} (b o : ℕ) (xs : List (Slot E)) (i : ℕ) → i < length xs
       → get_or xs i None ≡ Some x
       → ((v : Val) → Good E v → Seq K 𝓛 (Bits E 𝓤 b (i * sz E + o) v ∷ Owned E 𝓤 x v
@@ -186,8 +166,6 @@ module _ (E : El) {M : Type 1} {𝓤 : Ura M} {𝓛 : Logic 𝓤} {K : Type 0} {
       use1 𝓛 (some (λ (v : Val). given (Good E v) (Bits E 𝓤 b (i * sz E + o) v ⊛ Owned E 𝓤 x v)))
       (el_out E 𝓛 b x (i * sz E + o)) $ pick k (λ v. learn k (λ good. split k $ next v good))
 
-  -- Separates the filled slots `i` and `j` from the other slots of a block, and splits each into
-  -- the bytes of its item and the resources that this item owns.
   pub takes_two : K → {x y : el_x E} (b o : ℕ) (xs : List (Slot E)) (i j : ℕ)
       (p : Two E 𝓛 b o xs i j) → (get_or xs i None ≡ Some x) × (get_or xs j None ≡ Some y)
       → ((v w : Val) → Good E v → Good E w → Seq K 𝓛 (Bits E 𝓤 b (j * sz E + o) w ∷ Owned E 𝓤 y w

@@ -24,8 +24,6 @@ module _ (E : El) (Y : Al) {M : Type 1} {𝓤 : Ura M} (𝓛 : Logic 𝓤) (x : 
   Waiting = fsep (Header E Y x b o)
       (cell_at full_share (Br E Y).mir (block_val (block_ptr b o) ∷ []) rb ro)
 
-  -- If `s` has as many slots as the block, then the memory of the slots `s` and the other parts of
-  -- the block (`Waiting`) form a block with the slots `s`.
   pub slots_back : (s : List (Slot E)) (same : length s ≡ length x.slots)
       → ent 𝓤 (sep 𝓤 (sem 𝓛 (slots_own (R E) s b (o + 16))) (sem 𝓛 Waiting))
       (sem 𝓛 ((mem (Br E Y)).own_at (with_slots x s same) rb ro))
@@ -39,8 +37,6 @@ module _ (E : El) (Y : Al) {M : Type 1} {𝓤 : Ura M} (𝓛 : Logic 𝓤) (x : 
       (λ us. fsep (cell_at full_share (Br E Y).mir us rb ro)
       ((Br E Y).own_val (with_slots x s same) us)) (block_val (block_ptr b o) ∷ []) $ done !
 
-  -- After a mutable reference to the item in slot `i` has ended, the parts of the block can be
-  -- joined into a block in which slot `i` holds the new value `w`.
   pub item_back : (i : ℕ) → i < length x.slots → (w : el_x E)
       → ent 𝓤 (sep 𝓤 (sem 𝓛 ((mem (R E)).own_at w b (i * sz E + (o + 16))))
       (sem 𝓛 (fsep (besides E 𝓛 b (o + 16) x.slots i) Waiting)))
@@ -54,8 +50,6 @@ module _ (E : El) (Y : Al) {M : Type 1} {𝓤 : Ura M} (𝓛 : Logic 𝓤) (x : 
       (slot_in E 𝓛 b (o + 16) x.slots i within (Some w)) $
       by ! (slots_back y.slots (length-set x.slots i (Some w)))
 
-  -- After a mutable reference to the items in the slots `i..i + k` has ended, the parts of the
-  -- block can be joined into a block in which these slots hold the new values `ws`.
   pub items_back : (i k : ℕ) → i + k ≤ length x.slots
       → ((n : ℕ) → i ≤ n → n < i + k → IsSome (slot x.slots n))
       → (ws : List (el_x E)) → length ws ≡ k

@@ -15,22 +15,16 @@ use Rattle.thin_block.specs.Capacity.{fits, min_non_zero_cap, Fits}
 use Rattle.thin_block.specs.Growth.{GrowsValidly, GrowthRule, IsLawful, doubling, exact_capacity, checked_capacity, grown_capacity}
 use Rattle.thin_block.proofs.sizes.SizesLemmas.{opened, closed, fits_none, fits_tells, fits_yes, rounded}
 
--- If the old capacity `c` suffices for `w` items, then `grown_capacity` is `Some c`: the capacity
--- does not change.
 pub ruled-same : (rule : GrowthRule) (R : RattleType) (c w : ℕ) → w ≤ c
     → grown_capacity rule R c w ≡ Some c
 unfolding grown_capacity
 ruled-same rule R c w enough = rw (le-leb w c enough) refl
 
--- If the required capacity `w` exceeds both the old capacity `c` and `usize::MAX`, then
--- `grown_capacity` is `None`: there is no new capacity.
 pub ruled-overflow : (rule : GrowthRule) (R : RattleType) (c w : ℕ) → c < w → 2 ^ 64 ≤ w
     → grown_capacity rule R c w ≡ None
 unfolding grown_capacity
 ruled-overflow rule R c w more high = rw (lt-leb w c more) (rw (le-ltb w (2 ^ 64) high) refl)
 
--- If the required capacity `w` exceeds the old capacity `c` and fits into a `usize`, then
--- `grown_capacity` is the result of the growth rule `rule`.
 pub ruled-rule : (rule : GrowthRule) (R : RattleType) (c w : ℕ) → c < w → w < 2 ^ 64
     → grown_capacity rule R c w ≡ rule (type_size R) (type_align R) c w
 unfolding grown_capacity
@@ -39,9 +33,6 @@ ruled-rule rule R c w more word = rw (lt-leb w c more) (rw (lt-ltb w (2 ^ 64) wo
 none_some : {A B : Type 0} (x : A) → None ≡ Some x → B
 none_some x e = cc
 
--- Suppose that `rule` satisfies the law of growth rules (`IsLawful`), and that `c < w`. If
--- `grown_capacity rule R c w` is `Some n`, then `n` is at least `w` and at least `2 * c`, and a
--- block of capacity `n` is small enough to be allocated.
 pub ruled-grows : (rule : GrowthRule) (R : RattleType) (c w n : ℕ) → IsLawful rule → c < w
     → grown_capacity rule R c w ≡ Some n → GrowsValidly R c w n
 ruled-grows rule R c w n law more e = elim (dec_lt w (2 ^ 64)) [
@@ -50,22 +41,15 @@ ruled-grows rule R c w n law more e = elim (dec_lt w (2 ^ 64)) [
   | no high ↦ none_some n (sym (ruled-overflow rule R c w more (omega arith)) ∙ e)
 ]
 
--- If a block of capacity `c` is small enough to be allocated, then `c < 2 ^ 63`.
 pub fits-small : (R : RattleType) (c : ℕ) → Fits R c → c < 2 ^ 63
 fits-small R c e = (fits_tells R c (opened R c e)).few
 
--- If a block of capacity `c` is small enough to be allocated, then `c` items take fewer than
--- `2 ^ 63` bytes in total.
 pub fits-bytes : (R : RattleType) (c : ℕ) → Fits R c → c * type_size R < 2 ^ 63
 fits-bytes R c e = let room = (fits_tells R c (opened R c e)).room in omega arith
 
--- If a block of capacity `c` is small enough to be allocated, and `i ≤ c`, then `i` items take
--- fewer than `2 ^ 63` bytes in total.
 pub fits-part : (R : RattleType) (i c : ℕ) → Fits R c → i ≤ c → i * type_size R < 2 ^ 63
 fits-part R i c e less = times_below i c (type_size R) (2 ^ 63) less (fits-bytes R c e)
 
--- If a block of capacity `d` is small enough to be allocated and `c ≤ d`, then a block of capacity
--- `c` is small enough too.
 pub fits-less : (R : RattleType) (c d : ℕ) → Fits R d → c ≤ d → Fits R c
 fits-less R c d e less =
     let told = fits_tells R d (opened R d e) in
@@ -74,31 +58,24 @@ fits-less R c d e less =
     let under : c * type_size R ≤ d * type_size R = mul-le-mul_right (type_size R) less in
     closed R c (fits_yes R c (omega arith) (omega arith))
 
--- A block of capacity 0 is small enough to be allocated.
 pub fits-none : (R : RattleType) → Fits R 0
 fits-none R = closed R 0 (fits_none R)
 
 -- The next lemmas are about fewer than `2 ^ 31` items of fewer than `2 ^ 31` bytes each. A block
 -- for these items is far below every size limit.
 
--- Fewer than `2 ^ 31` items of fewer than `2 ^ 31` bytes each take fewer than `2 ^ 62` bytes in
--- total.
 pub few_bytes : (c s : ℕ) → c < 2 ^ 31 → s < 2 ^ 31 → c * s < 2 ^ 62
 few_bytes c s few small =
     let wide : c * s ≤ c * (2 ^ 31) =
     mul-le-mul_left c (let less : s ≤ 2 ^ 31 = omega arith in less) in
     omega arith
 
--- If an item takes less than `2 ^ 31` bytes and `c < 2 ^ 31`, then a block of capacity `c` is small
--- enough to be allocated.
 pub small_fits : (R : RattleType) (c : ℕ) → c < 2 ^ 31 → type_size R < 2 ^ 31 → Fits R c
 small_fits R c few small =
     let bytes : c * type_size R < 2 ^ 62 = few_bytes c (type_size R) few small in
     let about = rounded R 0 in
     closed R c (fits_yes R c (omega arith) (omega (arith, about.most)))
 
--- If the old capacity `c` is 0, the required capacity `w` is 1 to 4, and each item takes fewer than
--- `2 ^ 31` bytes, then the rule `doubling` chooses the capacity 4.
 pub doubling_first : (R : RattleType) (c w : ℕ) → c ≡ 0 → 0 < w → w ≤ 4 → type_size R < 2 ^ 31
     → grown_capacity doubling R c w ≡ Some 4
 unfolding doubling checked_capacity min_non_zero_cap
@@ -111,9 +88,6 @@ doubling_first R c w none some few small =
     subst (Fits R) (sym four) (small_fits R 4 (omega arith) small) in
     ruled-rule doubling R c w more (omega arith) ∙ (rw fit (ap Some four))
 
--- Suppose that `0 < c < 2 ^ 30`, and that each item takes fewer than `2 ^ 31` bytes. If the
--- capacity `c` is too small for `w` items, but `2 * c` suffices, then the rule `doubling` chooses
--- the capacity `2 * c`.
 pub doubling_next : (R : RattleType) (c w : ℕ) → 0 < c → c < w → w ≤ 2 * c → c < 2 ^ 30
     → type_size R < 2 ^ 31 → grown_capacity doubling R c w ≡ Some (2 * c)
 unfolding doubling checked_capacity
@@ -125,14 +99,10 @@ doubling_next R c w some more enough few small =
     subst (Fits R) (sym twice) (small_fits R (2 * c) (omega arith) small) in
     ruled-rule doubling R c w more (omega arith) ∙ (rw fit (ap Some twice))
 
--- If the old capacity `c` suffices for `w` items, then `exact_capacity` is `Some c`: the capacity
--- does not change.
 pub exact-same : (R : RattleType) (c w : ℕ) → w ≤ c → exact_capacity R c w ≡ Some c
 unfolding exact_capacity
 exact-same R c w enough = rw (le-leb w c enough) refl
 
--- If the required capacity `w` exceeds the old capacity `c`, and a block of capacity `w` is small
--- enough to be allocated, then `exact_capacity` is `Some w`.
 pub exact-fits : (R : RattleType) (c w : ℕ) → c < w → Fits R w → exact_capacity R c w ≡ Some w
 unfolding exact_capacity checked_capacity
 exact-fits R c w more fit = rw (lt-leb w c more, fit) refl
@@ -141,44 +111,30 @@ no_answer : (b : Bool) (n : ℕ) → (IsTrue b → ⊥) → (if b then Some n el
 no_answer true n never = absurd (never refl)
 no_answer false n never = refl
 
--- If a block of capacity `n` is too large to be allocated, then `checked_capacity` returns `None`
--- for the capacity `n`.
 pub fitting_none : (R : RattleType) (n : ℕ) → (Fits R n → ⊥)
     → checked_capacity (type_size R) (type_align R) n ≡ None
 unfolding checked_capacity
 fitting_none R n never = no_answer (fits (type_size R) (type_align R) n) n never
 
--- If the required capacity `w` exceeds the old capacity `c`, and a block of capacity `w` is too
--- large to be allocated, then `exact_capacity` is `None`.
 pub exact-overflow : (R : RattleType) (c w : ℕ) → c < w → (Fits R w → ⊥)
     → exact_capacity R c w ≡ None
 unfolding exact_capacity
 exact-overflow R c w more never = rw (lt-leb w c more) (fitting_none R w never)
 
--- If the old capacity is 0, and a block of capacity `w` is too large to be allocated, then
--- `exact_capacity` is `None`.
 pub exact-none : (R : RattleType) (w : ℕ) → (Fits R w → ⊥) → exact_capacity R 0 w ≡ None
 exact-none R zero never = absurd (never (fits-none R))
 exact-none R (suc w) never = exact-overflow R 0 (suc w) (omega arith) never
 
--- If the required capacity `w` exceeds both the old capacity `c` and `usize::MAX`, then
--- `exact_capacity` is `None`: there is no new capacity.
 pub exact-past : (R : RattleType) (c w : ℕ) → c < w → 2 ^ 64 ≤ w → exact_capacity R c w ≡ None
 exact-past R c w more high =
     exact-overflow R c w more (λ fit. let small = fits-small R w fit in absurd (omega arith))
 
--- The next two lemmas assume that the item types `R` and `S` have the same size and the same
--- alignment.
 module _ (R S : RattleType) (c w : ℕ) (size : type_size R ≡ type_size S)
     (align : type_align R ≡ type_align S) where
-  -- If the item types `R` and `S` have the same size and the same alignment, then `exact_capacity`
-  -- returns the same result for both types.
   pub exact-at : exact_capacity R c w ≡ exact_capacity S c w
   unfolding exact_capacity checked_capacity
   exact-at = rw (size, align) refl
 
-  -- If the item types `R` and `S` have the same size and the same alignment, then `grown_capacity`
-  -- returns the same result for both types.
   pub ruled-at : (rule : GrowthRule) → grown_capacity rule R c w ≡ grown_capacity rule S c w
   unfolding grown_capacity
   ruled-at rule = rw (size, align) refl

@@ -29,18 +29,14 @@ use Rattle.thin_block.specs.contracts.block.Block as block
 abbrev pub plainly : List RattleType → RattleType
 plainly Rs = Struct (record { name = []; args = []; types = []; fields = Rs })
 
--- `block_val p` is the machine value of a block with the pointer `p`. It is a struct that consists
--- of `p` and of two fields that take no bytes.
+-- `block_val p` is the machine value of a block: the pointer `p`, and two fields without bytes.
 abbrev pub block_val : Ptr → Val
 block_val p = vstruct (vcons (ptr_val p) (vcons (vstruct vnil) (vcons (vstruct vnil) vnil)))
 
--- `block_own p vs` states what the fields of a block own. `p` is the block's pointer, and `vs`
--- lists the machine values of the fields.
+-- `block_own p vs` states what the fields of a block own. `vs` lists their machine values.
 abbrev pub block_own : Ptr → List Val → Fml
 block_own p = (plainly (RawPtr ∷ plainly [] ∷ plainly [] ∷ [])).own_val (p, (tt, (tt, tt)))
 
--- If `vs` is the list of the machine values of a block with the pointer `p`, then `vs` is
--- `block_val p ∷ []`.
 pub block_told : (p : Ptr) (vs : List Val) → shadow (block_own p vs) → vs ≡ block_val p ∷ []
 block_told p vs s = s.1.0
     ∙ (λ i. vstruct (of_list (s.1.1.0 i ++ (s.1.1.1.0.1.0 i ++ (s.1.1.1.1.0.1.0 i ++ [])))) ∷ [])
@@ -54,8 +50,7 @@ block_own_made 𝓛 p =
       (refl, (refl, ((tt, (refl, tt)), ((tt, (refl, tt)), tt)))),
     )
 
--- If `P (bytes w)` holds for every width `w`, then `P (align τ)` holds for every type `τ`, because
--- every alignment is `bytes w` for some width `w`.
+-- Every alignment is `bytes w` for some width `w`.
 by_width : (P : ℕ → Type 0) → ((w : Width) → P (bytes w)) → (τ : Ty) → P (align τ)
 by_width P each τ = subst P (sym (align-bytes τ)) (each (align_w τ))
 
@@ -88,13 +83,9 @@ module _ (R : RattleType) (c : ℕ) where
   abbrev pub items : Ty
   items = raw (ty_array τ c)
 
-  -- A whole block with `c` slots for items of the type `R` has the alignment that `block_align`
-  -- computes.
   pub whole_align : align (block_type R c) ≡ block_align (type_align R)
   whole_align = ap (λ (a : ℕ). max 8 (max 8 (max a 1))) (align-raw τ) ∙ (aligned τ).0
 
-  -- A whole block with `c` slots for items of the type `R` has the size that `block_bytes`
-  -- computes.
   pub whole_size : size (block_type R c) ≡ block_bytes (type_size R) (type_align R) c
   whole_size =
       let ends : up (align items) 16 + size items ≡ max 16 (align τ) + c * size τ =
@@ -104,9 +95,7 @@ module _ (R : RattleType) (c : ℕ) where
 module _ {M : Type 1} {𝓤 : Ura M} (𝓛 : Logic 𝓤) (R : RattleType) where
   open 𝓛 use {H}
 
-  -- Splits the memory of a whole block into memory for the capacity, memory for the length, and
-  -- memory for the slots. The result also contains the right to put these three parts back
-  -- together.
+  -- Splits the memory of a whole block into three parts, with the right to put them back together.
   pub carve : (c b o : ℕ) → ent 𝓤 (H.room (block_type R c) b o)
       (sep 𝓤 (H.room (ty_int w64) b o)
       (sep 𝓤 (H.room (ty_int w64) b (o + 8))
@@ -144,8 +133,6 @@ header t R n c None b o = fsep (lent_at usize (block_ptr b o) 0 [])
     (lent_at usize (block_ptr b (o + 8)) 0 [])
 header t R n c (Some a) b o = header_owns (t a) R n c b o
 
--- Suppose that the option `a` contains an allocator if and only if the list `xs` of slots is not
--- empty. If `xs` has at least one slot, then `a` is `Some h` for some allocator `h`.
 pub alloc_there : {D X : Type 0} (a : Option D) (xs : List X) → is_some a ≡ is_nonempty xs
     → 0 < length xs
     → (h : D) × (a ≡ Some h)
@@ -153,7 +140,6 @@ alloc_there (Some h) xs is some = (h, refl)
 alloc_there None [] is some = absurd (omega arith)
 alloc_there None (x ∷ xs) is some = absurd (clash is)
 
--- If the list `xs` is not empty, then `is_nonempty xs` is `true`.
 pub any_some : {X : Type 0} (xs : List X) → 0 < length xs → true ≡ is_nonempty xs
 any_some [] some = absurd (omega arith)
 any_some (x ∷ xs) some = refl
@@ -179,8 +165,7 @@ module _ {D : Type 0} (t : D → Ty → Ptr → Fml) (R : RattleType) {M : Type 
 
 module _ {D : Type 0} (t : D → Ty → Ptr → Fml) (R : RattleType) {M : Type 1} {𝓤 : Ura M}
     {𝓛 : Logic 𝓤} {K : Type 0} {Γ : List (Item 𝓤)} {G : Goal 𝓤 𝓛.H} where
-  -- Derives from the header of a block that the block is small enough to be allocated, and passes
-  -- this fact to the rest of the proof.
+  -- Learns from the header of a block that the block is small enough to be allocated.
   pub header_fits : K → (n : ℕ) (xs : List (Option R.Denot)) (a : Option D)
       (b o : ℕ) → is_some a ≡ is_nonempty xs
       → (fits_block R (length xs) ≡ true → Seq K 𝓛 (‵ (header t R n (length xs) a b o) ∷ Γ) G)
@@ -193,8 +178,7 @@ module _ {D : Type 0} (t : D → Ty → Ptr → Fml) (R : RattleType) {M : Type 
   header_fits k n (x ∷ xs) None b o is next = absurd (clash is)
 
 module _ (E : El) (Y : Al) where
-  -- `args` contains the type arguments of a block's functions: the item type and the allocator
-  -- type.
+  -- The type arguments of a block's functions.
   abbrev pub args : Args
   args = bounded (a_type ∷ a_type ∷ []) (E.row, (Y.row, tt)) (dcons Y.d (dcons Y.drops dnil))
 
@@ -206,14 +190,11 @@ module _ (E : El) (Y : Al) where
   abbrev pub t : Y.row.Denot → Ty → Ptr → Fml
   t = Y.g.dealloc_token
 
-  -- `Header x b o` states what the block `x` owns besides its slots. If `x` has an allocator, `x`
-  -- owns its header, which begins at the offset `o` of the allocation `b`, and the right to free
-  -- the allocation. Otherwise, `x` owns a share of the static header.
+  -- `Header x b o` is what the block `x` owns besides its slots, with its header at the offset `o`.
   abbrev pub Header : Br.Denot → ℕ → ℕ → Fml
   Header x b o = header t (R E) x.len (length x.slots) x.alloc b o
 
-  -- `Slots x b o` is the memory of the slots of the block `x`. The header of this block begins at
-  -- the offset `o` of the allocation `b`.
+  -- `Slots x b o` is the memory of the slots of the block `x`, with its header at the offset `o`.
   abbrev pub Slots : Br.Denot → ℕ → ℕ → Fml
   Slots x b o = slots_own (R E) x.slots b (o + 16)
 
@@ -248,8 +229,7 @@ module _ (E : El) (Y : Al) {M : Type 1} {𝓤 : Ura M} {𝓛 : Logic 𝓤} {K : 
 
 module _ (E : El) (Y : Al) {M : Type 1} {𝓤 : Ura M} {𝓛 : Logic 𝓤} {K : Type 0}
     {Γ : List (Item 𝓤)} {G : Goal 𝓤 𝓛.H} where
-  -- Splits the block behind a mutable reference into its header, its slots, the memory that holds
-  -- its pointer, and three entries about its open borrow.
+  -- Opens the borrow of a block, and splits the block as `block_had` does.
   pub block_opens : K → Soaks G → {κ : Lft} {q : Share} {γ : GName} (x : (Br E Y).Denot) (rb ro : ℕ)
       → ((b o : ℕ) → x.at ≡ block_ptr b o → fits_block (R E) (length x.slots) ≡ true
       → Seq K 𝓛 (‵ (Header E Y x b o) ∷ ‵ (Slots E Y x b o) ∷ ‵
@@ -264,8 +244,7 @@ module _ (E : El) (Y : Al) {M : Type 1} {𝓤 : Ura M} {𝓛 : Logic 𝓤} {K : 
       rewrite k 2 (λ (us : List Val). ‵ (cell_at full_share (Br E Y).mir us rb ro))
       is refl $ next b o at fits))
 
-  -- Puts the header and the slots of the block behind a `&mut` back together, and closes the borrow
-  -- of the block.
+  -- Puts the block back together as `block_made` does, and closes its borrow.
   pub block_closes : K → Soaks G → {κ : Lft} {q : Share} {u v : Gv} {γ : GName} (x : (Br E Y).Denot)
       (b o rb ro : ℕ) → x.at ≡ block_ptr b o
       → Step K 𝓛 (‵ (fobs γ ((Br E Y).coded.code x)) ∷ ‵

@@ -20,29 +20,23 @@ use Rattle.core.specs.declared.alloc.Allocator.{Ghosts}
 use Rattle.thin_block.specs.Ownership.{fits_block, slots_own}
 use Rattle.thin_block.proofs.HeaderMemory.{Br, Header, Slots, header, t, block_val, block_opens, block_closes}
 
--- `others ss` is the list of all parameters in `ss` except the first.
 abbrev pub others : {n : ℕ} → List (Slot n) → List (Slot n)
 others [] = []
 others (s ∷ ss) = ss
 
 module _ {n : ℕ} where
-  -- `dropped ss ks` is the choice to give none of a function's arguments back to its caller. `ss`
-  -- lists the parameters, and `ks` the lifetimes of references whose final values the contract may
-  -- mention.
+  -- `dropped ss ks` is the choice to give none of a function's arguments back to its caller. `ks`
+  -- lists the lifetimes of references whose final values the contract may mention.
   abbrev pub dropped : (ss : List (Slot n)) (ks : Kepts ss) → Stays ss ks
   dropped [] ks = tt
   dropped (s ∷ ss) ks = (stay_dropped s ks.0, dropped ss ks.1)
 
 module _ {M : Type 1} {𝓤 : Ura M} (𝓛 : Logic 𝓤) {n : ℕ} where
-  -- `AllSilent ss ks` holds if the contract of a function with the parameters `ss` says nothing
-  -- about the arguments after the call. `ks` lists the lifetimes of references whose final values a
-  -- contract may mention.
+  -- `AllSilent ss ks` holds if the contract says nothing about the arguments after the call.
   abbrev pub AllSilent : (ss : List (Slot n)) → Kepts ss → Type 1
   AllSilent [] ks = Unit {1}
   AllSilent (s ∷ ss) ks = Silent 𝓛 n s ks.0 × AllSilent ss ks.1
 
-  -- If the contract says nothing about the values of the arguments after the call (`AllSilent`),
-  -- then the function need not give its arguments back to its caller.
   pub all_go : (ss : List (Slot n)) (ks : Kepts ss) → AllSilent ss ks
       → AllGo 𝓛 n ss ks (dropped ss ks)
   all_go [] ks silent = tt
@@ -51,8 +45,7 @@ module _ {M : Type 1} {𝓤 : Ura M} (𝓛 : Logic 𝓤) {n : ℕ} where
 
 module _ {M : Type 1} {𝓤 : Ura M} {𝓛 : Logic 𝓤} {K : Type 0} {Γ : List (Item 𝓤)}
     {G : Goal 𝓤 𝓛.H} where
-  -- Removes the entry for the facts `φs` from the proof context. The rest of the proof may use each
-  -- of these facts.
+  -- Removes the facts `φs` from the proof context, and lets the rest of the proof use them.
   pub heard_all : K → (φs : List (Type 0)) → (Shown φs → Seq K 𝓛 Γ G)
       → Seq K 𝓛 (raw (Facts 𝓤 φs) ∷ Γ) G
   heard_all k [] next = drop k $ next tt
@@ -65,13 +58,11 @@ module _ {M : Type 1} {𝓤 : Ura M} {𝓛 : Logic 𝓤} {K : Type 0} {Γ : List
 abbrev pub ptr_of : {X : Type 0} → MutBor X → Val
 ptr_of r = vptr r.ref_ptr.0 r.ref_ptr.1
 
--- A number less than `2 ^ 64` is a valid machine value of the 64-bit integer type.
 abbrev pub word : {n : ℕ} → n < 2 ^ 64 → T (has_ty (ty_int w64) (vint w64 n)) × WT (vint w64 n)
 word fits = (tt, record { fits = fits })
 
 module _ {M : Type 1} {𝓤 : Ura M} {𝓛 : Logic 𝓤} {K : Type 0} {Γ : List (Item 𝓤)} where
-  -- Begins the proof about the body of the function `f`. This step replaces the argument list `us`
-  -- with the equal list `vs`, which lists the arguments one by one.
+  -- Begins the proof about the body of `f`, with the arguments `vs` one by one in place of `us`.
   pub enters : K → {C : Calls 𝓤 𝓛.H} {Λ : Loops 𝓤 𝓛.H} (f : Fn) {us : List Val}
       {P : Val → SProp 𝓤} (vs : List Val) → us ≡ vs
       → Step K 𝓛 Γ (allocs f.locals (λ E. params' E vs (runs C Λ E f.body (at_ret E P))))
@@ -80,37 +71,28 @@ module _ {M : Type 1} {𝓤 : Ura M} {𝓛 : Logic 𝓤} {K : Type 0} {Γ : List
       regoal k (λ (us : List Val). prop (WpFn 𝓤 𝓛.H C Λ f us P)) e refl $
       enter k C Λ f vs P $ s)
 
--- Combines the item type `T` and its laws into one record. The lemmas about blocks take this record
--- as an argument.
+-- The item type `T` with its laws, as the lemmas about blocks take it.
 abbrev pub item : {T : RattleType} → Laws T → El
 item {T} L = record { row = T; laws = L }
 
--- Combines the allocator type `A`, its laws and its ghost members (such as `dealloc_token`) into
--- one record. The lemmas about blocks take this record as an argument.
+-- The allocator type `A` with its laws and its ghost members, such as `dealloc_token`.
 abbrev pub source : {A : RattleType} → Laws A → Ghosts A.Denot → Dict → Dict → Al
 source {A} L g d drops = record { row = A; laws = L; g = g; d = d; drops = drops }
 
--- `args_at E Y N` contains the generic arguments of a function: the item type `E`, the allocator
--- type `Y`, and the const argument `N`.
+-- The generic arguments of a function: the item type, the allocator type, and a const argument.
 abbrev pub args_at : El → Al → ℕ → Args
 args_at E Y N = bounded (a_type ∷ a_type ∷ a_number ∷ []) (E.row, (Y.row, (number N, tt)))
     (dcons Y.d (dcons Y.drops dnil))
 
 module _ (E : El) (Y : Al) {n : ℕ} (ss : List (Slot (suc n))) where
-  -- `on_block` lists the parameters of a method that takes `&mut self`: first the `&mut Block`, and
-  -- then the parameters `ss`.
+  -- `on_block` lists the parameters of a method that takes `&mut self`.
   abbrev pub on_block : List (Slot (suc n))
   on_block = mut_ref_to (0 ∷ []) tt (plain (λ _. Br E Y)) ∷ ss
 
-  -- `block_stays ks` is the choice to give only the `&mut Block` back to the caller. `ks` lists,
-  -- for each other parameter, the lifetimes of references whose final values the contract may
-  -- mention.
+  -- `block_stays ks` is the choice to give only the `&mut Block` back to the caller.
   abbrev pub block_stays : (ks : Kepts ss) → Stays on_block (yes, ks)
   block_stays ks = (stay_ref (0 ∷ []) tt (plain (λ _. Br E Y)), dropped ss ks)
 
-  -- The list `ss` contains all parameters of a method except `self`. If the contract says nothing
-  -- about the values of their arguments after the call (`AllSilent`), then the method need not give
-  -- these arguments back to its caller.
   pub goes : {M : Type 1} {𝓤 : Ura M} (𝓛 : Logic 𝓤) (ks : Kepts ss) → AllSilent 𝓛 ss ks
       → AllGo 𝓛 (suc n) on_block (yes, ks) (block_stays ks)
   goes 𝓛 ks silent =
@@ -134,8 +116,7 @@ module _ {n : ℕ} (s : Slot (suc n)) (ss : List (Slot (suc n))) where
   Passed Bd = (κs : Lfts (suc n)) × Shares (suc n) × Bd κs × Denots (types_at (s ∷ ss) κs)
       × Valss (types_at (s ∷ ss) κs)
 
-  -- `Entry 𝓛 x` states what a function owns on entry if `x` is passed to the function. The
-  -- `requires` clauses are not included.
+  -- `Entry 𝓛 x` states what a function owns at the start of a call, without its `requires` clauses.
   abbrev Entry : {M : Type 1} {𝓤 : Ura M} (𝓛 : Logic 𝓤) {Bd : Lfts (suc n) → Type 0} → Passed Bd
       → SProp 𝓤
   Entry {𝓤 = 𝓤} 𝓛 x = sep 𝓤 (toks 𝓛 (suc n) x.0 x.1) (sem 𝓛 (owns (types_at (s ∷ ss) x.0) x.3 x.4))
@@ -153,39 +134,33 @@ module _ {n : ℕ} (s : Slot (suc n)) (ss : List (Slot (suc n))) where
 
 module _ (E : El) (Y : Al) {M : Type 1} {𝓤 : Ura M} (𝓛 : Logic 𝓤) {n : ℕ}
     (ss : List (Slot (suc n))) where
-  -- `lent` is a parameter whose type is a mutable reference to a block.
   abbrev lent : Slot (suc n)
   lent = mut_ref_to (0 ∷ []) tt (plain (λ _. Br E Y))
 
-  -- `shared` is a parameter whose type is a shared reference to a block.
   abbrev shared : Slot (suc n)
   shared = shr_ref_to (0 ∷ []) tt (plain (λ _. Br E Y))
 
-  -- `Entered x Γ` is the proof context at the start of a method that takes `&mut self`: the value
-  -- of the `&mut`, the borrow of the block, the lifetime tokens, what the other arguments own, and
-  -- the entries `Γ`.
+  -- `Entered x Γ` is the proof context at the start of a method that takes `&mut self`: what the
+  -- method owns, and the entries `Γ`.
   abbrev Entered : {Bd : Lfts (suc n) → Type 0} → Passed lent ss Bd → List (Item 𝓤) → List (Item 𝓤)
   Entered x Γ = ‵ (fobs x.3.0.ghost_name ((Br E Y).coded.code x.3.0.now)) ∷ ‵
       (fbor x.0.0 (Body (mem (Br E Y)) x.3.0.ref_ptr.0 x.3.0.ref_ptr.1 x.3.0.ghost_name))
       ∷ ‵ (flft x.0.0 x.1.0) ∷ raw (toks 𝓛 n x.0.1 x.1.1) ∷ ‵
       (owns (types_at ss x.0) x.3.1 x.4.1) ∷ Γ
 
-  -- Begins the proof of a method that takes `&mut self`. After this step, the proof context holds
-  -- what the method owns at the start of a call (`Entered`), followed by the `requires` clauses.
+  -- Begins the proof of a method that takes `&mut self`.
   pub starts : {Bd : Lfts (suc n) → Type 0} {P : SProp 𝓤} (x : Passed lent ss Bd) (Q : SProp 𝓤)
       → Sq 𝓛 (Entered x (raw Q ∷ [])) (prop P) → ent 𝓤 (sep 𝓤 (Entry lent ss 𝓛 x) Q) P
   starts x Q next = arrives lent ss 𝓛 x Q (fsplit3 ! $ drop ! $ next)
 
-  -- Begins the proof of a method that takes `&mut self` and requires the facts `φs`. The rest of
-  -- the proof may use these facts.
+  -- `starts` for a method that requires the facts `φs`.
   pub begins_with : {Bd : Lfts (suc n) → Type 0} {P : SProp 𝓤} (x : Passed lent ss Bd)
       (φs : List (Type 0)) → (Shown φs → Sq 𝓛 (Entered x []) (prop P))
       → ent 𝓤 (sep 𝓤 (Entry lent ss 𝓛 x) (Facts 𝓤 φs)) P
   begins_with x φs next = starts x (Facts 𝓤 φs)
       (move ! (5 ∷ []) $ heard_all ! φs (λ said. next said))
 
-  -- Begins the proof of a method that takes `&mut self` and requires the facts `φs`. Unlike
-  -- `begins_with`, this step discards what the other arguments own.
+  -- `begins_with` for a method that does not need what its other arguments own.
   pub begins : {Bd : Lfts (suc n) → Type 0} {P : SProp 𝓤} (x : Passed lent ss Bd)
       (φs : List (Type 0))
       → (Shown φs → Sq 𝓛 (‵ (fobs x.3.0.ghost_name ((Br E Y).coded.code x.3.0.now)) ∷ ‵
@@ -194,8 +169,7 @@ module _ (E : El) (Y : Al) {M : Type 1} {𝓤 : Ura M} (𝓛 : Logic 𝓤) {n : 
       → ent 𝓤 (sep 𝓤 (Entry lent ss 𝓛 x) (Facts 𝓤 φs)) P
   begins x φs next = begins_with x φs (λ said. keep ! (0 ∷ 1 ∷ 2 ∷ 3 ∷ []) $ next said)
 
-  -- Begins the proof of a method that takes `&self`. The proof context then holds the resources
-  -- behind the `&`, the lifetime tokens, what the other arguments own, and the `requires` clauses.
+  -- Begins the proof of a method that takes `&self`.
   pub seen : {Bd : Lfts (suc n) → Type 0} {P : SProp 𝓤} (x : Passed shared ss Bd) (Q : SProp 𝓤)
       → Sq 𝓛 (‵ (hidden_shr (Br E Y) x.0.0 x.3.0.now x.3.0.ref_ptr.0 x.3.0.ref_ptr.1)
       ∷ ‵ (flft x.0.0 x.1.0) ∷ raw (toks 𝓛 n x.0.1 x.1.1) ∷ ‵
@@ -212,23 +186,19 @@ module _ {M : Type 1} {𝓤 : Ura M} {𝓛 : Logic 𝓤} {K : Type 0} {Γ : List
   token_out k n κs qs = step (λ s.
       use1 𝓛 (‵ (flft κs.0 qs.0) ⊛ raw (toks 𝓛 n κs.1 qs.1)) (id⊢ 𝓤 _) $ split k $ s)
 
--- `blanks m` consists of `m` trivially true formulas, one for each argument that a function does
--- not give back to its caller.
+-- `blanks m` is trivially true. It stands for `m` arguments that are not given back to the caller.
 abbrev pub blanks : ℕ → Fml
 blanks zero = ftrue
 blanks (suc m) = fsep ftrue (blanks m)
 
 module _ {M : Type 1} {𝓤 : Ura M} {𝓛 : Logic 𝓤} {K : Type 0} {Γ : List (Item 𝓤)}
     {G : Goal 𝓤 𝓛.H} where
-  -- Adds the formula `blanks m` to the proof context. The formula is trivially true, so this step
-  -- needs no resource.
   pub blank : K → (m : ℕ) → Step K 𝓛 (‵ (blanks m) ∷ Γ) G Γ G
   blank k zero = nothing k
   blank k (suc m) = step (λ s. blank k m $ nothing k $ fjoin k $ s)
 
 module _ {M : Type 1} {𝓤 : Ura M} {𝓛 : Logic 𝓤} {K : Type 0} {G : Goal 𝓤 𝓛.H} where
-  -- Ends the proof of a function that gives none of its `m` arguments back. The proof has to
-  -- provide only the result and the lifetime tokens.
+  -- Ends the proof of a function that gives none of its `m` arguments back.
   pub leaves : K → {Q F : Fml} {T : Item 𝓤} (m : ℕ)
       → Step K 𝓛 (((‵ Q ⊛ T) ⊛ ‵ (blanks m) ⊛ ‵ F) ∷ []) G (‵ Q ∷ ‵ F ∷ T ∷ []) G
   leaves k m = step (λ s. move k (0 ∷ 2 ∷ []) $ join k $ blank k m $ move k (0 ∷ 2 ∷ []) $ join k $
@@ -236,9 +206,9 @@ module _ {M : Type 1} {𝓤 : Ura M} {𝓛 : Logic 𝓤} {K : Type 0} {G : Goal 
 
 module _ (E : El) (Y : Al) {M : Type 1} {𝓤 : Ura M} {𝓛 : Logic 𝓤} {K : Type 0}
     {G : Goal 𝓤 𝓛.H} where
-  -- Splits the block behind the mutable reference `r`. The proof context then holds six entries in
-  -- place of the block: its header; its slots; the memory that holds its pointer; and three entries
-  -- about the borrow of the block, which is now open.
+  -- Splits the block behind `r` into its header, its slots and four entries that the comments in
+  -- the proofs of the methods call the open borrow: the memory that holds the block's pointer; the
+  -- right to close the borrow, with its lifetime token; two ghost resources that record the value.
   pub opens_self : K → Soaks G → {Γ : List (Item 𝓤)} {κ : Lft} {q : Share}
       (r : MutBor (Br E Y).Denot)
       → ((b o : ℕ) → r.now.at ≡ block_ptr b o → fits_block (R E) (length r.now.slots) ≡ true
@@ -251,10 +221,8 @@ module _ (E : El) (Y : Al) {M : Type 1} {𝓤 : Ura M} {𝓛 : Logic 𝓤} {K : 
       (fbor κ (Body (mem (Br E Y)) r.ref_ptr.0 r.ref_ptr.1 r.ghost_name)) ∷ ‵ (flft κ q) ∷ Γ) G
   opens_self k z r next = block_opens E Y k z r.now r.ref_ptr.0 r.ref_ptr.1 next
 
-  -- Puts the parts of the block behind the mutable reference `r` back together. The result is the
-  -- block `y`. Before this step, the proof context begins with these entries, in this order: the
-  -- slots, which may have changed; the header; the memory that holds the block's pointer; three
-  -- entries about the open borrow of the block.
+  -- Puts the block behind `r` back together as the block `y`. The proof context has to begin with
+  -- the slots, the header and the open borrow, in this order.
   pub closes_over : K → Soaks G → {Γ : List (Item 𝓤)} {κ : Lft} {q : Share} {u v : Gv} {c : ℕ}
       (r : MutBor (Br E Y).Denot) (y : (Br E Y).Denot) (b o : ℕ) → y.at ≡ block_ptr b o
       → length y.slots ≡ c
@@ -268,8 +236,7 @@ module _ (E : El) (Y : Al) {M : Type 1} {𝓤 : Ura M} {𝓛 : Logic 𝓤} {K : 
       rewrite k 1 (λ (c : ℕ). ‵ (header (t E Y) (R E) y.len c y.alloc b o)) (sym long) refl $
       move k (1 ∷ 0 ∷ []) $ block_closes E Y k z y b o r.ref_ptr.0 r.ref_ptr.1 at $ s)
 
-  -- Ends the proof of a method that takes `&mut self` and `m` further parameters. At this point,
-  -- the proof context must hold the block, the result and the lifetime tokens.
+  -- Ends the proof of a method that takes `&mut self` and `m` further parameters.
   pub leaves_with : K → {κ : Lft} {q : Share} {us : List Val} {F : Fml} {T : Item 𝓤}
       (r : MutBor (Br E Y).Denot) (y : (Br E Y).Denot) (m : ℕ) → us ≡ mut_vals r
       → Step K 𝓛 (((‵ (flft κ q) ⊛ T) ⊛ ‵
@@ -281,8 +248,7 @@ module _ (E : El) (Y : Al) {M : Type 1} {𝓤 : Ura M} {𝓛 : Logic 𝓤} {K : 
       feq_i k (List Val) us (mut_vals r) e $ fjoin3 k $ blank k m $ move k (1 ∷ 0 ∷ []) $ fjoin k $
       move k (0 ∷ 2 ∷ []) $ join k $ move k (1 ∷ 2 ∷ []) $ join k $ join k $ s)
 
-  -- Ends the proof of a method that takes `&mut self` and `m` further parameters, and returns `()`.
-  -- The proof has to provide the block and the lifetime tokens.
+  -- `leaves_with` for a method that returns `()`.
   pub leaves_unit : K → {κ : Lft} {q : Share} {us : List Val} {T : Item 𝓤}
       (r : MutBor (Br E Y).Denot) (y : (Br E Y).Denot) (m : ℕ) → us ≡ mut_vals r
       → Step K 𝓛 (((‵ (flft κ q) ⊛ T) ⊛ ‵

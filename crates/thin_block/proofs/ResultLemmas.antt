@@ -3,29 +3,21 @@
 use Rattle.std.proofs.Common.{Err, None, Ok, Option, Result, Some, subst, ◌≡◌}
 use Rattle.std.specs.Prelude.{OnOk, OnSome}
 
--- If `P` holds whenever the result `r` is `Ok`, and `P` implies `Q`, then `Q` holds whenever `r` is
--- `Ok`.
 pub on-ok : {T E P Q : Type 0} (r : Result T E) → (P → Q) → OnOk r P → OnOk r Q
 on-ok (Ok x) h p = h p
 on-ok (Err e) h p = p
 
--- If `P` holds whenever the option `o` is `Some`, and `o` is `Some x`, then `P` holds.
 pub at-some : {X P : Type 0} {o : Option X} {x : X} → o ≡ Some x → OnSome o P → P
 at-some {P = P} e p = subst (λ o. OnSome o P) e p
 
--- No result is both `Ok` and `Err`. So every statement `P` follows from the assumption that `Ok x`
--- equals `Err e`.
 pub ok-err : {X E P : Type 0} (x : X) (e : E) → Ok x ≡ Err e → P
 ok-err x e h = cc
 
--- If two `Err` results are equal, their errors are equal.
 pub err-same : {X E : Type 0} {d e : E} → (let r : Result X E = Err d in r) ≡ Err e → d ≡ e
 err-same h = cc
 
--- If two `Some` options are equal, their values are equal.
 pub some-same : {X : Type 0} {x y : X} → Some x ≡ Some y → x ≡ y
 some-same e = cc
 
--- No option is both `None` and `Some`.
 pub none-some : {X : Type 0} {o : Option X} {x : X} → o ≡ None → o ≡ Some x → ⊥
 none-some e h = cc

@@ -48,7 +48,7 @@ module _ (R : RattleType) {D : Type 0} {M : Type 1} {𝓤 : Ura M} (𝓛 : Logic
   words_lent n (x ∷ xs) None b o is le = absurd (clash is)
 
 module _ (E : El) (Y : Al) {M : Type 1} {𝓤 : Ura M} (𝓛 : Logic 𝓤) (κ : Lft) where
-  -- `Words` is a struct type. Its fields are those fields of a block that exist at run time.
+  -- `Words` is the struct type of those fields of a block that exist at run time.
   abbrev Words : RattleType
   Words = Struct (shape (block.the_type (R E) (param 1 Y.row) Y.g))
 
@@ -70,8 +70,6 @@ module _ (E : El) (Y : Al) {M : Type 1} {𝓤 : Ura M} (𝓛 : Logic 𝓤) (κ :
 
 module _ (E : El) (Y : Al) {M : Type 1} {𝓤 : Ura M} {𝓛 : Logic 𝓤} {K : Type 0}
     {Γ : List (Item 𝓤)} {G : Goal 𝓤 𝓛.H} where
-  -- Splits a shared reference to a block into shared references to the block's pointer, to the
-  -- capacity, to the length and to the slots.
   pub block_seen : K → {κ : Lft} (x : (Br E Y).Denot) (rb ro : ℕ)
       → ((b o : ℕ) → x.at ≡ block_ptr b o → fits_block (R E) (length x.slots) ≡ true
       → Seq K 𝓛 (‵ (hidden_shr RawPtr κ x.at rb (ro + 0)) ∷ ‵
@@ -114,8 +112,6 @@ module _ (E : El) {M : Type 1} {𝓤 : Ura M} (𝓛 : Logic 𝓤) (b : ℕ) (κ 
   up_to (y ∷ ys) rest o = qed 𝓛 (‵ (Seen o (Some y ∷ (filled_slots ys ++ rest))) ∷ []) ∵ fsplit ! $
       fsplit ! $ keep ! (1 ∷ 2 ∷ []) $ frame ! $ by ! (up_to ys rest (o + s))
 
-  -- If the slots `i..i + k` hold the items `ys`, then a shared reference to all slots gives access
-  -- to these items as a slice.
   pub run_seen : (xs : List (Slot E)) (i k o : ℕ) (ys : List (el_x E)) → i ≤ length xs
       → slot_range i k xs ≡ filled_slots ys → ent 𝓤 (sem 𝓛 (Seen o xs))
       (sem 𝓛 (elements_shared (R E) ys b (i * s + o) κ))

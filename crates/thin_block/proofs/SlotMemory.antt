@@ -14,8 +14,6 @@ use Rattle.thin_block.specs.Slots.{filled_slots, empty_slots, slot_range, write_
 use Rattle.thin_block.proofs.sizes.SizesLemmas.{fits_tells}
 use Rattle.core.proofs.ptr.Rows as arrays
 
--- If a block of `c` slots is small enough to be allocated, and `i ≤ c`, then `i` items take fewer
--- than `2 ^ 63` bytes in total.
 pub reach : (Rw : RattleType) (i c : ℕ) → fits_block Rw c ≡ true → i ≤ c → i * type_size Rw < 2 ^ 63
 reach Rw i c fits le =
     let small = (fits_tells Rw c fits).room in
@@ -23,7 +21,6 @@ reach Rw i c fits le =
     times_below i c (type_size Rw) (2 ^ 63) le all
 
 module _ (E : El) where
-  -- `Slot` is the type of a slot. A slot contains either an item or nothing.
   abbrev pub Slot : Type 0
   Slot = Option (el_x E)
 
@@ -40,8 +37,6 @@ module _ (E : El) {M : Type 1} {𝓤 : Ura M} (𝓛 : Logic 𝓤) (b : ℕ) wher
   abbrev Row : ℕ → List (Slot E) → Fml
   Row o xs = slots_own (R E) xs b o
 
-  -- Splits the memory of the slots `xs ++ ys`. The memory of `xs` begins at the offset `o`, and the
-  -- memory of `ys` at the offset `at`.
   pub cut : (xs ys : List (Slot E)) (o at : ℕ) → at ≡ length xs * s + o
       → ent 𝓤 (sem 𝓛 (Row o (xs ++ ys))) (sep 𝓤 (sem 𝓛 (Row o xs)) (sem 𝓛 (Row at ys)))
   cut [] ys o at e = qed 𝓛 (‵ (Row o ys) ∷ []) ∵ rewrite ! 0 (λ (k : ℕ). ‵ (Row k ys)) {x = at}
@@ -53,9 +48,6 @@ module _ (E : El) {M : Type 1} {𝓤 : Ura M} (𝓛 : Logic 𝓤) (b : ℕ) wher
       (cut xs ys (o + s) at (omega (arith, suc-mul (length xs) s))) $ split ! $
       move ! (2 ∷ 0 ∷ []) $ fjoin ! $ done !
 
-  -- Joins the memory of the slots `xs` and the memory of the slots `ys` into the memory of the
-  -- slots `xs ++ ys`. The memory of `xs` begins at the offset `o`. The memory of `ys` must begin
-  -- directly after the memory of `xs`, at the offset `at`.
   pub glue : (xs ys : List (Slot E)) (o at : ℕ) → at ≡ length xs * s + o
       → ent 𝓤 (sep 𝓤 (sem 𝓛 (Row o xs)) (sem 𝓛 (Row at ys))) (sem 𝓛 (Row o (xs ++ ys)))
   glue [] ys o at e = qed 𝓛 (‵ ftrue ∷ ‵ (Row at ys) ∷ []) ∵ skip ! $
@@ -149,21 +141,18 @@ module _ (E : El) {M : Type 1} {𝓤 : Ura M} (𝓛 : Logic 𝓤) (b : ℕ) wher
   of_row [] o = id⊢ 𝓤 (emp 𝓤)
   of_row (x ∷ xs) o = mono_r 𝓤 (sem 𝓛 (part_at (R E) full_share x b o)) (of_row xs (o + s))
 
-  -- Slots that hold the items `xs` can be converted into an array of the items `xs`.
   pub to_items : (k : ℕ) (xs : List (el_x E)) (o : ℕ) → length xs ≡ k
       → ent 𝓤 (sem 𝓛 (Row o (filled_slots xs))) (sem 𝓛 (part_at (Array (R E) k) full_share xs b o))
   to_items k xs o long = qed 𝓛 (‵ (Row o (filled_slots xs)) ∷ []) ∵
       use1 𝓛 (‵ (row (R E) full_share xs b o))
       (to_row xs o) $ by ! (arrays.whole E' 𝓛 full_share k xs b o long)
 
-  -- An array of the items `xs` can be converted into slots that hold `xs`.
   pub of_items : (k : ℕ) (xs : List (el_x E)) (o : ℕ)
       → ent 𝓤 (sem 𝓛 (part_at (Array (R E) k) full_share xs b o)) (sem 𝓛 (Row o (filled_slots xs)))
   of_items k xs o = qed 𝓛 (‵ (part_at (Array (R E) k) full_share xs b o) ∷ []) ∵
       use1 𝓛 (given (length xs ≡ k) (‵ (row (R E) full_share xs b o)))
       (arrays.apart E' 𝓛 full_share k xs b o) $ learn ! (λ _. by ! (of_row xs o))
 
-  -- If the items `xs` are stored in memory as an array of length `k`, then `length xs` is `k`.
   pub counted : (k : ℕ) (xs : List (el_x E)) (o : ℕ)
       → ent 𝓤 (sem 𝓛 (part_at (Array (R E) k) full_share xs b o))
       (guard 𝓤 (length xs ≡ k) (sem 𝓛 (part_at (Array (R E) k) full_share xs b o)))
@@ -172,19 +161,16 @@ module _ (E : El) {M : Type 1} {𝓤 : Ura M} (𝓛 : Logic 𝓤) (b : ℕ) wher
       (arrays.apart E' 𝓛 full_share k xs b o) $
       learn ! (λ long. check ! long $ by ! (arrays.whole E' 𝓛 full_share k xs b o long))
 
-  -- Slots that hold the items `xs` can be converted into a slice with the elements `xs`.
   pub to_cells : (xs : List (el_x E)) (o : ℕ) → ent 𝓤 (sem 𝓛 (Row o (filled_slots xs)))
       (sem 𝓛 (cells (mem (R E)) xs b o))
   to_cells [] o = id⊢ 𝓤 (emp 𝓤)
   to_cells (x ∷ xs) o = mono_r 𝓤 (sem 𝓛 (part_at (R E) full_share x b o)) (to_cells xs (o + s))
 
-  -- A slice with the elements `xs` can be converted into slots that hold the items `xs`.
   pub of_cells : (xs : List (el_x E)) (o : ℕ) → ent 𝓤 (sem 𝓛 (cells (mem (R E)) xs b o))
       (sem 𝓛 (Row o (filled_slots xs)))
   of_cells [] o = id⊢ 𝓤 (emp 𝓤)
   of_cells (x ∷ xs) o = mono_r 𝓤 (sem 𝓛 (part_at (R E) full_share x b o)) (of_cells xs (o + s))
 
-  -- Uninitialized memory for an array of `k` items can be converted into `k` empty slots.
   pub of_room : (k o : ℕ) → ent 𝓤 (H.room (ty_array (elτ E) k) b o) (sem 𝓛 (Row o (empty_slots k)))
   of_room zero o = qed 𝓛 (‵ (froom (ty_array (elτ E) 0) b o) ∷ []) ∵ keep ! [] $ done !
   of_room (suc k) o = qed 𝓛 (‵ (froom (ty_array (elτ E) (suc k)) b o) ∷ []) ∵
@@ -193,8 +179,6 @@ module _ (E : El) {M : Type 1} {𝓤 : Ura M} (𝓛 : Logic 𝓤) (b : ℕ) wher
       use1 𝓛 (‵ (slot_owns (R E) None b o)) (𝓛.laws.room-raw (elτ E) b o) $ keeps ! $
       by ! (of_room k (o + s))
 
-  -- The memory of `k` empty slots can be converted into uninitialized memory for an array of `k`
-  -- items.
   pub to_room : (k o : ℕ) → ent 𝓤 (sem 𝓛 (Row o (empty_slots k))) (H.room (ty_array (elτ E) k) b o)
   to_room zero o = 𝓛.laws.room_nil (elτ E) b o
   to_room (suc k) o = qed 𝓛 (‵ (Row o (empty_slots (suc k))) ∷ []) ∵ fsplit ! $
@@ -202,22 +186,18 @@ module _ (E : El) {M : Type 1} {𝓤 : Ura M} (𝓛 : Logic 𝓤) (b : ℕ) wher
       use1 𝓛 (‵ (froom (ty_array (elτ E) k) b (o + s))) (to_room k (o + s)) $ move ! (1 ∷ []) $
       by ! (𝓛.laws.room_cons (elτ E) k b o)
 
-  -- Uninitialized memory for an array of `k` items can be converted into `k` empty slots, even if
-  -- all field names are erased from the array type.
+  -- `bare` erases the field names from a type.
   pub of_raw : (k o : ℕ)
       → ent 𝓤 (H.room (bare (ty_array (elτ E) k)) b o) (sem 𝓛 (Row o (empty_slots k)))
   of_raw k o = via 𝓤 (H.room (ty_array (elτ E) k) b o)
       (𝓛.laws.raw-room (ty_array (elτ E) k) b o) (of_room k o)
 
-  -- The memory of `k` empty slots can be converted into uninitialized memory for an array of `k`
-  -- items, even if all field names are erased from the array type.
   pub to_raw : (k o : ℕ)
       → ent 𝓤 (sem 𝓛 (Row o (empty_slots k))) (H.room (bare (ty_array (elτ E) k)) b o)
   to_raw k o = via 𝓤 (H.room (ty_array (elτ E) k) b o) (to_room k o)
       (𝓛.laws.room-raw (ty_array (elτ E) k) b o)
 
-  -- If `i < j`, then `Others o xs i j` is the memory of all slots in `xs` except `i` and `j`. Slot
-  -- 0 begins at the offset `o`.
+  -- If `i < j`, then `Others o xs i j` is the memory of all slots except `i` and `j`.
   abbrev Others : ℕ → List (Slot E) → ℕ → ℕ → Fml
   Others o xs i j = fsep (besides o (take j xs) i) (Row (j * s + o + s) (drop (suc j) xs))
 
@@ -292,8 +272,6 @@ module _ (E : El) {M : Type 1} {𝓤 : Ura M} (𝓛 : Logic 𝓤) (b : ℕ) wher
             done !;
       }
 
-  -- If `i` and `j` are different, then the slots `i` and `j` of the list `xs` can be separated from
-  -- the other slots, changed, and put back.
   pub two_slots : (o : ℕ) (xs : List (Slot E)) (i j : ℕ) → (i ≡ j → ⊥) → i < length xs
       → j < length xs → Two o xs i j
   two_slots o xs i j apart low low' = ⊎_elim (λ (p : i < j). in_order o xs i j p low')

@@ -1,6 +1,6 @@
--- These lemmas are about lists of slots. `run` selects adjacent slots, `write_slots` replaces
--- slots, and `moved` moves items. `IsPacked s n` states that exactly the first `n` slots of `s` are
--- filled.
+-- These lemmas are about lists of slots. `slot_range` selects adjacent slots, `write_slots`
+-- replaces slots, and `move_slots` moves items. `IsPacked s n` states that exactly the first `n`
+-- slots of `s` are filled.
 use Rattle.std.proofs.Common.{◌⊎◌, ◌≡◌, ℕ, zero, suc, ◌+◌, ◌-◌, ◌<◌, ◌≤◌, List, [], ◌∷◌, ◌++◌, length, Some, None, refl, sym, ap, subst, ◌∙◌, arith, append_assoc}
 use Rattle.std.proofs.lemmas.List.{take-append-drop, drop-drop, set_at, get_or-append_right, get_or-drop, length-replicate, length-map, length-append, length-take, length-drop, take_at, drop_at, drop-replicate, replicate-append-replicate}
 use mathlib.Core.Logic.{inl, inr, ⊎_elim}
@@ -12,7 +12,6 @@ use Rattle.std.specs.Prelude.{Option, IsSome, take, drop, replicate}
 use Rattle.thin_block.specs.Lends.{overwrite_items}
 use Rattle.thin_block.specs.Slots.{filled_slots, empty_slots, slot, items_in, IsPacked, slot_range, write_slots, clear_slots, move_slots}
 
--- Equality of indices is decidable: two indices are either equal or different.
 pub same_or_not : (i j : ℕ) → (i ≡ j) ⊎ (i ≡ j → ⊥)
 same_or_not i j =
     ⊎_elim (λ (p : i < j). inr (λ (e : i ≡ j). absurd (omega arith)))
@@ -20,19 +19,15 @@ same_or_not i j =
     (λ (q : i ≤ j). inl (let e : i ≡ j = omega arith in e)) (order j i)) (order i j)
 
 module _ {T : Type 0} where
-  -- If the slot `x` is filled, then there is an item `y` with `x ≡ Some y`.
   pub the_item : (x : Option T) → IsSome x → (y : T) × (x ≡ Some y)
   the_item (Some y) is = (y, refl)
   the_item None is = absurd (clash is)
 
-  -- The index of a filled slot is less than the number of slots.
   pub filled-within : (s : List (Option T)) (i : ℕ) → IsSome (slot s i) → i < length s
   filled-within [] i is = absurd (clash is)
   filled-within (x ∷ s) zero is = omega arith
   filled-within (x ∷ s) (suc i) is = let low = filled-within s i is in omega arith
 
-  -- If the slots `i..i + k` of `s` are filled, then these slots (`slot_range i k s`) are
-  -- `filled_slots xs` for some list `xs` of items.
   pub full-run : (s : List (Option T)) (i k : ℕ) → i + k ≤ length s
       → ((j : ℕ) → i ≤ j → j < i + k → IsSome (slot s j))
       → (xs : List T) × (slot_range i k s ≡ filled_slots xs)
@@ -48,8 +43,6 @@ module _ {T : Type 0} where
       (λ j p q. filled (suc j) (omega arith) (omega arith)) in
       (item.0 ∷ rest.0, λ n. item.1 n ∷ rest.1 n)
 
-  -- If the slots `i..i + k` of `s` are empty, then these slots (`slot_range i k s`) are
-  -- `empty_slots k`, a list of `k` empty slots.
   pub empty-run : (s : List (Option T)) (i k : ℕ) → i + k ≤ length s
       → ((j : ℕ) → i ≤ j → j < i + k → slot s j ≡ None) → slot_range i k s ≡ empty_slots k
   empty-run [] zero zero le bare = refl
@@ -62,14 +55,10 @@ module _ {T : Type 0} where
       λ n. bare zero (omega arith) (omega arith) n ∷ empty-run s zero k (omega arith)
       (λ j p q. bare (suc j) (omega arith) (omega arith)) n
 
-  -- If `i + k ≤ length s`, then `slot_range i k s`, the list of the slots `i..i + k` of `s`,
-  -- consists of `k` slots.
   pub length-run : (s : List (Option T)) (i k : ℕ) → i + k ≤ length s
       → length (slot_range i k s) ≡ k
   length-run s i k le = omega (arith, length-take k (drop i s), length-drop i s)
 
-  -- `write_slots i ys s`, which is `s` with the slots `i..i + length ys` replaced with `ys`, is as
-  -- long as `s`.
   pub length-laid : (i : ℕ) (ys s : List (Option T)) → i + length ys ≤ length s
       → length (write_slots i ys s) ≡ length s
   length-laid i ys s le =
@@ -81,8 +70,6 @@ module _ {T : Type 0} where
         length-drop (i + length ys) s,
       )
 
-  -- If the slots `i..i + length ws` of `s` are filled, then `overwrite_items s i ws` and
-  -- `write_slots i (filled_slots ws) s` are equal: they put the items `ws` into these slots.
   pub over-laid : (s : List (Option T)) (i : ℕ) (ws : List T) → i + length ws ≤ length s
       → ((j : ℕ) → i ≤ j → j < i + length ws → IsSome (slot s j))
       → overwrite_items s i ws ≡ write_slots i (filled_slots ws) s
@@ -108,14 +95,10 @@ module _ {T : Type 0} where
       (λ j low high. held (suc j) (omega arith) (omega arith)))
       ∙ ap (λ (k : ℕ). Some w ∷ (filled_slots ws ++ drop k (Some x ∷ s))) more
 
-  -- Replacing no slots changes nothing: `write_slots i [] s` is `s`.
   pub laid-none : (i : ℕ) (s : List (Option T)) → write_slots i [] s ≡ s
   laid-none i s = ap (λ (k : ℕ). take i s ++ drop k s) (let e : i + 0 ≡ i = omega arith in
       e) ∙ take-append-drop i s
 
-  -- `write_slots i ys s` is the list `s` with the slots `i..i + length ys` replaced with `ys`. Let
-  -- `k` be the index directly after these slots. If `k < length s`, and slot `k` of
-  -- `write_slots i ys s` is set to `y`, then the result is `write_slots i (ys ++ y ∷ []) s`.
   pub laid-one : (i : ℕ) (ys s : List (Option T)) (k : ℕ) (y : Option T) → k ≡ i + length ys
       → k < length s → set (write_slots i ys s) k y ≡ write_slots i (ys ++ y ∷ []) s
   laid-one i ys s k y e within =
@@ -133,8 +116,6 @@ module _ {T : Type 0} where
       (sym (append_assoc ys (y ∷ []) (drop (suc k) s)))
       ∙ ap (λ (n : ℕ). take i s ++ ((ys ++ y ∷ []) ++ drop n s)) long))))
 
-  -- `write_slots i ys s` is the list `s` with the slots `i..i + length ys` replaced with `ys`. If
-  -- `i ≤ length s`, then each slot of `s` whose index `k` is at least `i + length ys` is unchanged.
   pub slot-laid : (i : ℕ) (ys s : List (Option T)) (k : ℕ) → i ≤ length s → i + length ys ≤ k
       → slot (write_slots i ys s) k ≡ slot s k
   slot-laid i ys s k low past =
@@ -145,8 +126,6 @@ module _ {T : Type 0} where
       ∙ ap (λ (n : ℕ). slot s n)
       (let e : i + length ys + (k - i - length ys) ≡ k = omega arith in e)))
 
-  -- A list `s` of slots consists of the slots before index `i`, the slots `i..i + k` and the slots
-  -- from index `i + k` onward.
   pub parted-run : (s : List (Option T)) (i k : ℕ)
       → s ≡ take i s ++ (slot_range i k s ++ drop (i + k) s)
   parted-run s i k =
@@ -154,22 +133,17 @@ module _ {T : Type 0} where
       ∙ ap (λ (l : List (Option T)). take i s ++ l) (sym (take-append-drop k (drop i s))
       ∙ ap (λ (l : List (Option T)). slot_range i k s ++ l) (drop-drop k i s))
 
-  -- The `a + k` slots of `s` from index `i` onward are the `a` slots from `i` onward, followed by
-  -- the `k` slots from `i + a` onward.
   pub run-split : (s : List (Option T)) (i a k : ℕ)
       → slot_range i (a + k) s ≡ slot_range i a s ++ slot_range (i + a) k s
   run-split s i a k = take-add a k (drop i s)
       ∙ ap (λ (l : List (Option T)). slot_range i a s ++ take k l) (drop-drop a i s)
 
-  -- If only one slot is replaced, then `write_slots` is `set`.
   pub laid_single : (s : List (Option T)) (i : ℕ) (x : T) → i < length s
       → write_slots i (filled_slots (x ∷ [])) s ≡ set s i (Some x)
   laid_single s i x within =
       ap (λ (k : ℕ). take i s ++ (Some x ∷ drop k s)) (let e : i + 1 ≡ suc i = omega arith in e)
       ∙ sym (set_split s i (Some x) within)
 
-  -- If `i ≡ length pre` and `length ys ≡ length old`, then `write_slots i ys` replaces `old` with
-  -- `ys` in the list `pre ++ (old ++ post)`.
   pub laid-at : (i : ℕ) (pre ys old post : List (Option T)) → i ≡ length pre
       → length ys ≡ length old → write_slots i ys (pre ++ (old ++ post)) ≡ pre ++ (ys ++ post)
   laid-at i pre ys old post e n =
@@ -179,25 +153,18 @@ module _ {T : Type 0} where
       ∙ drop_at (pre ++ old) post (i + length ys) (length-append pre old ∙ omega arith) in
       λ m. take_at pre (old ++ post) i (sym e) m ++ (ys ++ rest m)
 
-  -- If `i` is the length of `pre`, and `k` is the length of `ys`, then the `k` slots of
-  -- `pre ++ (ys ++ post)` from index `i` onward are `ys`.
   pub run-at : (i k : ℕ) (pre ys post : List (Option T)) → i ≡ length pre → k ≡ length ys
       → slot_range i k (pre ++ (ys ++ post)) ≡ ys
   run-at i k pre ys post e n = ap (λ (l : List (Option T)). take k l)
       (drop_at pre (ys ++ post) i (sym e)) ∙ take_at ys post k (sym n)
 
   module _ (from to k : ℕ) where
-    -- If `ys` are the slots `from..from + k` of `s`, `bare` is `s` with these slots emptied, and
-    -- `result` is `bare` with `ys` written from index `to` onward, then `move_slots from to k s` is
-    -- `result`.
     moved-by : (s ys bare result : List (Option T)) → slot_range from k s ≡ ys
         → clear_slots from k s ≡ bare
         → write_slots to ys bare ≡ result → move_slots from to k s ≡ result
     unfolding move_slots
     moved-by s ys bare result e f g = (λ n. write_slots to (e n) (f n)) ∙ g
 
-  -- `move_slots from to k s`, which is `s` with `k` items moved from index `from` to index `to`, is
-  -- as long as `s`.
   pub length-moved : (from to k : ℕ) (s : List (Option T)) → from + k ≤ length s → to + k ≤ length s
       → length (move_slots from to k s) ≡ length s
   unfolding move_slots
@@ -209,8 +176,6 @@ module _ {T : Type 0} where
       length-laid to (slot_range from k s) (clear_slots from k s)
       (omega (arith, left, length-run s from k source)) ∙ left
 
-  -- Two adjacent groups of empty slots may change places: the list
-  -- `empty_slots a ++ (empty_slots k ++ post)` equals `empty_slots k ++ (empty_slots a ++ post)`.
   empty-turn : (a k : ℕ) (post : List (Option T))
       → empty_slots a ++ (empty_slots k ++ post) ≡ empty_slots k ++ (empty_slots a ++ post)
   empty-turn a k post =
@@ -221,8 +186,6 @@ module _ {T : Type 0} where
       ∙ append_assoc (empty_slots k) (empty_slots a) post)
 
   module _ (from to k d : ℕ) where
-    -- If the slots `ys` are moved down, past the `d` empty slots directly before them, then `ys`
-    -- and the empty slots change places.
     pub moved_left : (pre ys post : List (Option T)) → to ≡ length pre → from ≡ to + d
         → k ≡ length ys
         → move_slots from to k (pre ++ (empty_slots d ++ (ys ++ post)))
@@ -249,8 +212,6 @@ module _ {T : Type 0} where
         (laid-at to pre ys (empty_slots k) (empty_slots d ++ post) t (sym m))
 
   module _ (from to k d : ℕ) where
-    -- If the slots `ys` are moved up, past the `d` empty slots directly after them, then `ys` and
-    -- the empty slots change places.
     pub moved_right : (pre ys post : List (Option T)) → from ≡ length pre → to ≡ from + d
         → k ≡ length ys
         → move_slots from to k (pre ++ (ys ++ (empty_slots d ++ post)))
@@ -275,8 +236,6 @@ module _ {T : Type 0} where
         ∙ append_assoc pre (empty_slots d) (ys ++ post))
 
   module _ (from to k : ℕ) where
-    -- If the `k` slots `ys` are moved up, past the slots `mid`, into `k` empty slots, then `ys` and
-    -- the empty slots change places. The slots `mid` do not change.
     pub moved_over : (pre ys mid post : List (Option T)) → from ≡ length pre
         → to ≡ from + k + length mid → k ≡ length ys
         → move_slots from to k (pre ++ (ys ++ (mid ++ (empty_slots k ++ post))))
@@ -303,8 +262,6 @@ module _ {T : Type 0} where
         (laid-at to front ys (empty_slots k) post l (sym m) ∙ joined (ys ++ post))
 
   module _ (from to k : ℕ) where
-    -- If the `k` slots `ys` are moved down, past the slots `mid`, into `k` empty slots, then `ys`
-    -- and the empty slots change places. The slots `mid` do not change.
     pub moved_back : (pre ys mid post : List (Option T)) → to ≡ length pre
         → from ≡ to + k + length mid → k ≡ length ys
         → move_slots from to k (pre ++ (empty_slots k ++ (mid ++ (ys ++ post))))
@@ -332,8 +289,6 @@ module _ {T : Type 0} where
         ∙ (laid-at from front (empty_slots k) ys post l m ∙ joined (empty_slots k ++ post)))
         (laid-at to pre ys (empty_slots k) (mid ++ (empty_slots k ++ post)) t (sym m))
 
-  -- If a list of slots begins with `filled_slots xs`, then each of its first `length xs` slots is
-  -- filled.
   full-filled : (xs : List T) (rest : List (Option T)) (i : ℕ) → i < length xs
       → IsSome (slot (filled_slots xs ++ rest) i)
   full-filled [] rest i low = absurd (omega arith)
@@ -341,8 +296,6 @@ module _ {T : Type 0} where
   full-filled (x ∷ xs) rest (suc i) low =
       full-filled xs rest i (let low' : suc i < suc (length xs) = low in omega arith)
 
-  -- If `c ≡ a + b`, then the `c` empty slots after the items `xs` can be split into `a` empty slots
-  -- and `b` empty slots.
   tail-split : (xs : List T) (a b c : ℕ) → c ≡ a + b
       → filled_slots xs ++ empty_slots c ≡ (filled_slots xs ++ empty_slots a) ++ empty_slots b
   tail-split xs a b c e =
@@ -351,7 +304,6 @@ module _ {T : Type 0} where
       ∙ (ap (λ (l : Row). filled_slots xs ++ l) (sym (replicate-append-replicate a b None))
       ∙ sym (append_assoc (filled_slots xs) (empty_slots a) (empty_slots b)))
 
--- In this module, exactly the first `n` slots of the list `s` are filled.
 module _ {T : Type 0} (s : List (Option T)) (n : ℕ) (packed : IsPacked s n) where
   abbrev xs : List T
   xs = items_in s
@@ -366,7 +318,6 @@ module _ {T : Type 0} (s : List (Option T)) (n : ℕ) (packed : IsPacked s n) wh
   parted = packed.row
       ∙ ap (λ (k : ℕ). filled_slots xs ++ empty_slots (length s - k)) (sym packed.len)
 
-  -- If exactly the first `n` slots of `s` are filled, then `s` has at least `n` slots.
   pub packed-le : n ≤ length s
   packed-le =
       let whole : length s ≡ length (filled_slots xs ++ empty_slots {T = T} (length s - n)) =
@@ -374,16 +325,12 @@ module _ {T : Type 0} (s : List (Option T)) (n : ℕ) (packed : IsPacked s n) wh
       let long = full-long in
       omega (arith, length-append (filled_slots xs) (empty_slots {T = T} (length s - n)))
 
-  -- If exactly the first `n` slots of `s` are filled, then slot `i` of `s` is filled for each index
-  -- `i` less than `n`.
   pub packed-filled : (i : ℕ) → i < n → IsSome (slot s i)
   packed-filled i low =
       let len = packed.len in
       subst (λ (l : Row). IsSome (slot l i)) (sym packed.row)
       (full-filled xs (empty_slots (length s - length xs)) i (omega arith))
 
-  -- If exactly the first `n` slots of `s` are filled, and they hold the items `xs`, then the list
-  -- of these slots, `slot_range 0 n s`, is `filled_slots xs`.
   pub packed-run : slot_range 0 n s ≡ filled_slots xs
   packed-run = ap (λ (l : Row). take n l) parted
       ∙ take_at (filled_slots xs) (empty_slots (length s - n)) n full-long
@@ -392,8 +339,6 @@ module _ {T : Type 0} (s : List (Option T)) (n : ℕ) (packed : IsPacked s n) wh
   packed-rest = ap (λ (l : Row). drop n l) parted
       ∙ drop_at (filled_slots xs) (empty_slots (length s - n)) n full-long
 
-  -- Suppose that exactly the first `n` slots of `s` are filled. If these slots are emptied, then
-  -- all slots of `s` are empty.
   pub packed-emptied : clear_slots 0 n s ≡ empty_slots (length s)
   packed-emptied =
       let le = packed-le in
@@ -404,8 +349,6 @@ module _ {T : Type 0} (s : List (Option T)) (n : ℕ) (packed : IsPacked s n) wh
       ∙ (replicate-append-replicate n (length s - n) None
       ∙ ap (λ (k : ℕ). empty_slots k) (let e : n + (length s - n) ≡ length s = omega arith in e)))
 
-  -- If exactly the first `n` slots of `s` are filled, with the items `xs`, then moving them to the
-  -- start of `c` empty slots results in `filled_slots xs ++ empty_slots (c - n)`.
   pub packed-carried : (c : ℕ)
       → write_slots 0 (slot_range 0 n s) (empty_slots c) ≡ filled_slots xs ++ empty_slots (c - n)
   packed-carried c =
@@ -415,9 +358,6 @@ module _ {T : Type 0} (s : List (Option T)) (n : ℕ) (packed : IsPacked s n) wh
       ∙ ap (λ (l : Row). filled_slots xs ++ l)
       (drop-replicate n c None))
 
-  -- Suppose that the first `n` slots of `s` are filled, that its other slots are empty, and that
-  -- `length s ≤ c`. If the `n` items are moved to the start of `c` empty slots, then the result is
-  -- `s`, followed by `c - length s` empty slots.
   pub packed-grown : (c : ℕ) → length s ≤ c
       → write_slots 0 (slot_range 0 n s) (empty_slots c) ≡ s ++ empty_slots (c - length s)
   packed-grown c more =
@@ -425,9 +365,6 @@ module _ {T : Type 0} (s : List (Option T)) (n : ℕ) (packed : IsPacked s n) wh
       packed-carried c ∙ (tail-split xs (length s - n) (c - length s) (c - n) (omega arith)
       ∙ ap (λ (l : Row). l ++ empty_slots (c - length s)) (sym parted))
 
-  -- Suppose that exactly the first `n` slots of `s` are filled, and that `n ≤ c ≤ length s`. If
-  -- their items are moved to the start of `c` empty slots, then these `c` slots equal the first `c`
-  -- slots of `s`.
   pub packed-shrunk : (c : ℕ) → n ≤ c → c ≤ length s
       → write_slots 0 (slot_range 0 n s) (empty_slots c) ≡ take c s
   packed-shrunk c enough less =

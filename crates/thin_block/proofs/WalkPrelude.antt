@@ -71,8 +71,6 @@ use denote.Laws.{Typed}
 use denote.Struct.Declared as Declared
 use Rattle.core.specs.contracts.alloc.AllocError as AE
 
--- `slot_at k ss` is the parameter with the index `k` in the list `ss`. If the list is too short,
--- `slot_at k ss` is a parameter of type `()`.
 abbrev pub slot_at : {n : ℕ} → ℕ → List (Slot n) → Slot n
 slot_at k [] = plain (λ _. unit)
 slot_at zero (s ∷ ss) = s
@@ -86,20 +84,18 @@ module _ {M : Type 1} {𝓤 : Ura M} (𝓛 : Logic 𝓤) where
   abbrev pub then_runs : Calls 𝓤 H → Loops 𝓤 H → Env 𝓤 H → Body → Post 𝓤 H → Post 𝓤 H
   then_runs C Λ E b q = any_q (after_seq 𝓤 H (Wp 𝓤 H C Λ E b (post 𝓤 H q)) (post 𝓤 H q))
 
-  -- `out_of_block q` is the condition that must hold at the end of an inner block of statements for
-  -- `q` to hold after this block.
+  -- `out_of_block q` must hold at the end of an inner block of statements so that `q` holds after
+  -- it.
   abbrev pub out_of_block : Post 𝓤 H → Post 𝓤 H
   out_of_block q = any_q (after_block 𝓤 H (post 𝓤 H q))
 
--- `Facts 𝓤 φs` states the facts `φs` as one entry of the proof context. The facts are the
--- `requires` clauses or the `ensures` clauses of a function.
+-- `Facts 𝓤 φs` states the facts `φs`, which are clauses, as one entry of the proof context.
 abbrev pub Facts : {M : Type 1} (𝓤 : Ura M) → List (Type 0) → SProp 𝓤
 Facts 𝓤 [] = emp 𝓤
 Facts 𝓤 (φ ∷ []) = fact 𝓤 φ
 Facts 𝓤 (φ ∷ ψ ∷ φs) = sep 𝓤 (fact 𝓤 φ) (Facts 𝓤 (ψ ∷ φs))
 
--- A value of type `Shown φs` is a proof of all facts in the list `φs`. The facts are the `requires`
--- clauses or the `ensures` clauses of a function.
+-- A value of type `Shown φs` is a proof of all facts in the list `φs`.
 abbrev pub Shown : List (Type 0) → Type 0
 Shown [] = Unit {0}
 Shown (φ ∷ []) = φ
@@ -131,16 +127,13 @@ refused_made 𝓛 = qed 𝓛 [] ∵
     (Struct-Makes 𝓛 (Declared.shape AE.the_type) tt) tt (vstruct vnil ∷ []) (tt, (refl, tt)) $
     done !
 
--- If the machine values `vs` have the types `τ ∷ []`, then `vs` consists of a single value, which
--- has the type `τ`.
 pub alone : (τ : Ty) (vs : List Val) → Typed (τ ∷ []) vs → (v : Val)
     × ((vs ≡ v ∷ []) × (T (has_ty τ v) × WT v))
 alone τ [] t = absurd t
 alone τ (v ∷ []) t = (v, (refl, t.0))
 alone τ (v ∷ w ∷ vs) t = absurd t.1
 
--- A function that takes an array by value need not give any resource of the array back to its
--- caller.
+-- A function that takes an array by value need not give anything of it back to its caller.
 pub nothing_left : {M : Type 1} {𝓤 : Ura M} (𝓛 : Logic 𝓤) {X : Type 0} (xs : List X)
     (fs : Entries (λ _. Unit {0}) xs)
     → ent 𝓤 (sem 𝓛 ftrue) (sem 𝓛 (all_last (λ _. Unit {0}) (λ _ _. ftrue) xs fs))

@@ -18,8 +18,6 @@ use Rattle.thin_block.proofs.words.WordsMemory.{word_el}
 abbrev half : Ty
 half = ty_int w64
 
--- The next lemmas are about the size and the alignment of the allocation for a block with `c`
--- slots. The item type is `Rw`.
 module _ (Rw : RattleType) (c : ℕ) where
   abbrev s₀ : ℕ
   s₀ = type_size Rw
@@ -30,8 +28,6 @@ module _ (Rw : RattleType) (c : ℕ) where
   abbrev τ₀ : Ty
   τ₀ = lone Rw.mir
 
-  -- `words_of Rw` says how items of type `Rw` are grouped into words. It depends only on `s₀`, the
-  -- size of `Rw`.
   pub same_words : words_of Rw ≡ in_words s₀
   same_words = ap in_words (size-raw τ₀)
 
@@ -48,37 +44,27 @@ module _ (Rw : RattleType) (c : ℕ) where
   align_for None e = whole_align Rw c
   align_for (Some w) e = ap word_align (align-raw τ₀) ∙ (words_told Rw w.0 w.1 e).align
 
-  -- The type `requested_type Rw c`, which requests memory for a block of `c` items, has the size
-  -- that `block_bytes` computes.
   pub asked_size : size (requested_type Rw c) ≡ block_bytes s₀ a₀ c
   asked_size = size_for (words_of Rw) (sym same_words)
 
-  -- The type `requested_type Rw c`, which requests memory for a block of `c` items, has the
-  -- alignment that `block_align` computes.
   pub asked_align : align (requested_type Rw c) ≡ block_align a₀
   asked_align = align_for (words_of Rw) (sym same_words)
 
--- The next lemmas split the memory of a block into its parts, and put the parts back together. The
--- block has `c` slots for items of type `E`, and begins at the offset `o` of the allocation `b`.
+-- In this module, a block has `c` slots, and begins at the offset `o` of the allocation `b`.
 module _ {M : Type 1} {𝓤 : Ura M} (𝓛 : Logic 𝓤) (E : El) (b c o : ℕ) where
   open 𝓛 use {H}
 
-  -- `Parts w` is the ownership of a block's memory in parts: the two halves of the header and the
-  -- slots, together with the right to join these parts again. Here, `w` is the result of `in_words`
-  -- for the item size.
+  -- `Parts w` is the memory of a block in parts, with the right to join them again. `w` is the
+  -- result of `in_words` for the item size.
   abbrev Parts : Option (ℕ × ℕ) → SProp 𝓤
   Parts w = sep 𝓤 (H.room half b o) (sep 𝓤 (H.room half b (o + 8))
       (sep 𝓤 (H.room (array_of (R E) c) b (o + 16))
       (sem 𝓛 (rejoin_wand w (erased_type (R E)) c b o))))
 
-  -- If `in_words` returns the pair `w` for the item size, then `w.0` items make a word, and the
-  -- header takes as many bytes as `w.1` words.
   known : (w : ℕ × ℕ) → in_words (type_size (R E)) ≡ Some w
       → InWords (size (erased_type (R E))) (align (erased_type (R E))) w.0 w.1
   known w e = nameless (elτ E) w.0 w.1 (words_told (R E) w.0 w.1 e)
 
-  -- Splits the memory of a block into its parts. Here, `w` is the result of `in_words` for the item
-  -- size. If the items cannot be grouped into words, `w` is `None`.
   carve_for : (w : Option (ℕ × ℕ)) → in_words (type_size (R E)) ≡ w
       → ent 𝓤 (H.room (requested_type_of w (erased_type (R E)) c) b o) (Parts w)
   carve_for None e = carve 𝓛 (R E) c b o
@@ -98,13 +84,11 @@ module _ {M : Type 1} {𝓤 : Ura M} (𝓛 : Logic 𝓤) (E : El) (b c o : ℕ) 
       let h = known w e in
       block_in 𝓛 (erased_type (R E)) w.0 w.1 b h (div_ceil c w.0) c o (h.counts.covers c)
 
-  -- Splits the memory of a block into its parts. The last part is the right to put the other parts
-  -- back together.
+  -- Splits the memory of a block into its parts.
   pub carve_asked : ent 𝓤 (H.room (requested_type (R E) c) b o) (Parts (words_of (R E)))
   carve_asked = carve_for (words_of (R E)) (sym (same_words (R E) c))
 
-  -- Joins uninitialized memory for the slots and everything else that a block owns into the memory
-  -- of the whole block and the right to free this memory.
+  -- Joins all that a block with uninitialized slots owns into its memory and the right to free it.
   pub gather : (t : Ty → Ptr → Fml) (n : ℕ)
       → ent 𝓤 (sep 𝓤 (sem 𝓛 (header_owns t (R E) n c b o)) (H.room (array_of (R E) c) b (o + 16)))
       (sep 𝓤 (H.room (requested_type (R E) c) b o)
@@ -119,9 +103,8 @@ module _ {M : Type 1} {𝓤 : Ura M} (𝓛 : Logic 𝓤) (E : El) (b c o : ℕ) 
       (uint_out 𝓛 full_share w64 n b (o + 8)) $
       use1 𝓛 (‵ (froom half b (o + 8))) (𝓛.laws.at_room half b (o + 8) (vint w64 n)) $
       move ! (1 ∷ []) $ fsplit ! $ drop ! $ fsplit ! $
-      -- The previous steps have split the block into its parts. The proof context now holds these
-      -- entries, in this order: the right to put the parts of the block back together; the right to
-      -- free the block; memory for the length; memory for the capacity; memory for the slots.
+      -- The context is now: the right to join the parts of the block; the right to free the block;
+      -- memory for the length; memory for the capacity; memory for the slots.
       move ! (3 ∷ 2 ∷ 4 ∷ 0 ∷ []) $ group ! 4 $
       use1 𝓛 (‵ (froom (requested_type (R E) c) b o))
       (gather_for (words_of (R E)) (sym (same_words (R E) c))) $ done !
@@ -179,8 +162,6 @@ module _ {M : Type 1} {𝓤 : Ura M} (𝓛 : Logic 𝓤) (E : El) (b : ℕ) (k :
     abbrev Last : ℕ → Fml
     Last at = part_at (Array (R E) k) full_share ys b at
 
-    -- Splits the memory of the slots into three parts: the memory of the first items `xs`, the
-    -- memory of the last `k` items `ys`, and the memory of the empty slots.
     pub turn_out : ent 𝓤 (sem 𝓛 (Slots' (o + 16) All))
         (sep 𝓤 (sem 𝓛 (Slots' (o + 16) (filled_slots xs)))
         (sep 𝓤 (sem 𝓛 (Last there)) (sem 𝓛 (Slots' past_all (empty_slots m)))))
@@ -195,8 +176,6 @@ module _ {M : Type 1} {𝓤 : Ura M} (𝓛 : Logic 𝓤) (E : El) (b : ℕ) (k :
         (cut E 𝓛 b (filled_slots ys) (empty_slots m) there past_all at_end) $ split ! $
         use1 𝓛 (‵ (Last there)) (to_items E 𝓛 b k ys there long) $ move ! (2 ∷ 0 ∷ 1 ∷ []) $ done !
 
-    -- Joins the memory of the items `xs`, of the `k` items `ys` directly after them, and of the
-    -- empty slots into the memory of all slots.
     pub turn_back : ent 𝓤 (sep 𝓤 (sem 𝓛 (Slots' (o + 16) (filled_slots xs)))
         (sep 𝓤 (sem 𝓛 (Last there)) (sem 𝓛 (Slots' past_all (empty_slots m)))))
         (sem 𝓛 (Slots' (o + 16) All))
@@ -262,9 +241,7 @@ module _ {M : Type 1} {𝓤 : Ura M} (𝓛 : Logic 𝓤) (E : El) (b : ℕ) (k :
           rewrite ! 0 (λ (j : ℕ). ‵ (froom (array_of (R E) spare) b j)) turned refl $
           move ! (1 ∷ 0 ∷ 2 ∷ []) $ fjoin3 ! $ done !
 
-      -- Splits a block into five parts: the first `k` items, which are in the memory of the header;
-      -- the other items; uninitialized memory for `k` items; `m` empty slots; and the right to free
-      -- the block. Before this step, the items form one array.
+      -- Undoes `turn_up`.
       pub turn_down : ent 𝓤 (sem 𝓛 Whole) (sep 𝓤 (sem 𝓛 (Last o))
           (sep 𝓤 (sem 𝓛 (Slots' (o + 16) (filled_slots xs))) (sep 𝓤 (H.room (ty_array τ' k) b there)
           (sep 𝓤 (sem 𝓛 (Slots' past_all (empty_slots m))) (sem 𝓛 Token)))))
@@ -302,16 +279,12 @@ module _ {M : Type 1} {𝓤 : Ura M} (𝓛 : Logic 𝓤) (T : RattleType) (L : L
   hd : InWords (size (erased_type (R Item))) (align (erased_type (R Item))) m k
   hd = nameless (elτ Item) m k (words_told (R Item) m k is)
 
-  -- Splits uninitialized memory for `k` words into memory for the capacity, memory for the length,
-  -- and the right to convert these two parts back.
   pub units_out : ent 𝓤 (H.room units b o)
       (sep 𝓤 (H.room half b o)
       (sep 𝓤 (H.room half b (o + 8)) (sem 𝓛 (header_wand (erased_type (R Item)) m k b o))))
   units_out = via 𝓤 (H.room (array_of (R W) k) b o) (𝓛.laws.room-raw units b o)
       (header_out 𝓛 (erased_type (R Item)) m k b hd o)
 
-  -- Converts the uninitialized memory of the capacity and the length, which is 16 bytes, into
-  -- uninitialized memory for `k` words. This uses up `header_wand`, the right to do so.
   pub units_in : ent 𝓤 (sep 𝓤 (H.room half b o) (sep 𝓤 (H.room half b (o + 8))
       (sem 𝓛 (header_wand (erased_type (R Item)) m k b o)))) (H.room units b o)
   units_in = via 𝓤 (H.room (array_of (R W) k) b o) (header_in 𝓛 (erased_type (R Item)) m k b hd o)
@@ -327,9 +300,8 @@ module _ {M : Type 1} {𝓤 : Ura M} (𝓛 : Logic 𝓤) (T : RattleType) (L : L
     asked_words : words_of (R Item) ≡ Some (m, k)
     asked_words = same_words (R Item) c ∙ is
 
-    -- Splits what a block owns, apart from its slots, into three parts: the memory of the header,
-    -- which is as large as `k` words; the right to convert the slots into memory for words; and the
-    -- right to free the block.
+    -- Splits what a block owns besides its slots into memory for `k` words, `Rest` (the right to
+    -- convert the slots into words) and the right to free the block.
     pub header_apart : ent 𝓤 (sem 𝓛 (header_owns t (R Item) n c b o))
         (sep 𝓤 (H.room units b o) (sep 𝓤 (sem 𝓛 Rest) (sem 𝓛 Right)))
     header_apart =
@@ -346,18 +318,14 @@ module _ {M : Type 1} {𝓤 : Ura M} (𝓛 : Logic 𝓤) (T : RattleType) (L : L
         asked_words
         refl $
         fsplit ! $ fsplit ! $
-        -- The previous steps have split the block into its parts. The proof context now holds these
-        -- entries, in this order: the right to convert memory for the header into memory for words;
-        -- the same right for the slots; the right to free the block; memory for the length; memory
-        -- for the capacity.
+        -- The context is now: the right to convert the header into words; the same right for the
+        -- slots; the right to free the block; memory for the length; memory for the capacity.
         move ! (4 ∷ 3 ∷ 0 ∷ []) $ use3 𝓛 (‵ (froom units b o)) units_in $ move ! (2 ∷ []) $
         rewrite ! 0 (λ (j : ℕ). ‵ (t (array_of (R W) j) (block_ptr b o))) (sym total) refl $
         move ! (1 ∷ 2 ∷ 0 ∷ []) $ done !
 
-    -- Combines five parts into what a block owns besides its slots. The parts are: the capacity;
-    -- the length; the right to convert memory for the header into memory for words; the right to
-    -- convert memory for the slots into memory for words; the right to free the block. The block
-    -- must be small enough to be allocated.
+    -- Joins the capacity, the length, and the rights to convert both header and slots and to free
+    -- the block into what a block owns besides its slots.
     pub header_whole : fits_block (R Item) c ≡ true
         → ent 𝓤 (sep 𝓤 (sem 𝓛 (lies_at usize full_share (block_ptr b o) c))
         (sep 𝓤 (sem 𝓛 (lies_at usize full_share (block_ptr b (o + 8)) n))

@@ -9,9 +9,8 @@ use Rattle.thin_block.specs.declared.errors.ThinVecError.{ThinVecError}
 use Rattle.thin_block.specs.declared.errors.ThinVecError.TheVariants.{OutOfMemory}
 use Rattle.thin_block.specs.Slots.{empty_slots, write_slots, slot_range}
 
--- `BlockView T A` holds the parts of a block that contracts can mention: the slots, the stored
--- length, the allocator, and the counts of requests for memory, copied items and moves. The items
--- have the type `T`, and the allocator has the type `A`.
+-- `BlockView T A` holds the parts of a block that contracts can mention. The items have the type
+-- `T`, and the allocator has the type `A`.
 pub record BlockView (T A : Type 0) : Type 0 where
   pub slots : List (Option T)
   pub len : ℕ

@@ -14,16 +14,14 @@ use Rattle.thin_block.specs.Capacity.{fits, min_non_zero_cap, items_offset}
 abbrev pub GrowthRule : Type 0
 GrowthRule = ℕ → ℕ → ℕ → ℕ → Option ℕ
 
--- `IsValidGrowth s a c w n` holds if the new capacity `n` is at least the required capacity `w` and
--- at least twice the old capacity `c`, and a block for `n` items of size `s` and alignment `a` is
--- small enough to be allocated.
+-- `IsValidGrowth s a c w n` holds if a block for items of size `s` and alignment `a` may grow from
+-- the capacity `c` to the capacity `n` in order to hold `w` items.
 pub record IsValidGrowth (s a c w n : ℕ) : Type 0 where
   pub enough : w ≤ n
   pub doubled : 2 * c ≤ n
   pub fits : IsTrue (fits s a n)
 
--- `GrowsValidly R c w n` holds if a block of capacity `c` may grow to the capacity `n` in order to
--- hold `w` items of the type `R`.
+-- `GrowsValidly R c w n` is `IsValidGrowth` for items of the type `R`.
 abbrev pub GrowsValidly : RattleType → ℕ → ℕ → ℕ → Type 0
 GrowsValidly R c w n = IsValidGrowth (type_size R) (type_align R) c w n
 

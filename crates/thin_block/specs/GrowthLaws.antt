@@ -6,19 +6,14 @@ use Rattle.std.proofs.lemmas.Bool.Decides.{nat_tests}
 use Rattle.thin_block.specs.Capacity.{fits, min_non_zero_cap}
 use Rattle.thin_block.specs.Growth.{IsLawful, doubling, checked_capacity}
 
--- If `if b then Some m else None` equals `Some n`, then `b` is true, and `m` equals `n`.
 when_some : (b : Bool) (m n : ℕ) → (if b then Some m else None) ≡ Some n → (b ≡ true) × (m ≡ n)
 when_some true m n e = (refl, cc)
 when_some false m n e = cc
 
--- If `checked_capacity s a m` is `Some n`, then `m` equals `n`, and a block for `m` items of size
--- `s` and alignment `a` is small enough to be allocated.
 pub fitting_is : (s a m n : ℕ) → checked_capacity s a m ≡ Some n → IsTrue (fits s a m) × (m ≡ n)
 unfolding checked_capacity
 fitting_is s a m n e = when_some (fits s a m) m n e
 
--- Let `c` be the old capacity, `w` the required capacity, and `s` the size of an item. Then the
--- capacity that the rule `Doubling` computes is at least `2 * c`.
 twice : (s c w : ℕ) → 2 * c ≤ max w (if c == 0 then min_non_zero_cap s else 2 * c)
 twice s c w = grind (arith, nat_tests)
 

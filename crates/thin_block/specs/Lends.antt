@@ -20,7 +20,6 @@ module _ {X : Type 0} where
   overwrite_items (Some x ∷ s) zero [] = Some x ∷ s
   overwrite_items (Some x ∷ s) zero (w ∷ ws) = Some w ∷ overwrite_items s zero ws
 
-  -- Overwriting items with `overwrite_items` does not change the number of slots.
   pub length-over : (s : List (Option X)) (i : ℕ) (ws : List X)
       → length (overwrite_items s i ws) ≡ length s
   length-over [] i ws = refl

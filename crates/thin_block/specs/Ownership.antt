@@ -25,7 +25,6 @@ abbrev pub is_nonempty : {X : Type 0} → List X → Bool
 is_nonempty [] = false
 is_nonempty (x ∷ xs) = true
 
--- Two lists of the same length are both empty or both non-empty.
 pub is_nonempty_same : {X Y : Type 0} (xs : List X) (ys : List Y) → length ys ≡ length xs
     → is_nonempty ys ≡ is_nonempty xs
 is_nonempty_same [] [] e = refl
@@ -81,8 +80,7 @@ abbrev pub requested_type_of : Option (ℕ × ℕ) → Ty → ℕ → Ty
 requested_type_of None τ c = block_type_of τ c
 requested_type_of (Some w) τ c = ty_array (word_of τ w.0) (w.1 + div_ceil c w.0)
 
--- `requested_type R c` is the type whose size and alignment are requested from the allocator for a
--- block of `c` slots for items of the type `R`.
+-- `requested_type R c` is `requested_type_of` for items of the type `R`.
 abbrev pub requested_type : RattleType → ℕ → Ty
 requested_type R c = requested_type_of (words_of R) (erased_type R) c
 
@@ -97,8 +95,7 @@ abbrev pub unjoined_room_of : Ty → ℕ → ℕ → ℕ → Fml
 unjoined_room_of τ c b o = fsep (froom (ty_int w64) b o)
     (fsep (froom (ty_int w64) b (o + 8)) (froom (ty_array τ c) b (o + 16)))
 
--- `unjoined_room R c b o` is uninitialized memory for the capacity, the length, and `c` slots for
--- items of the type `R`. The block is at the offset `o` of the allocation `b`.
+-- `unjoined_room R c b o` is `unjoined_room_of` for items of the type `R`.
 abbrev pub unjoined_room : RattleType → ℕ → ℕ → ℕ → Fml
 unjoined_room R c b o = unjoined_room_of (erased_type R) c b o
 
@@ -144,9 +141,7 @@ abbrev pub dealloc_right_of : (Ty → Ptr → Fml) → Option (ℕ × ℕ) → T
 dealloc_right_of t w τ c b o =
     fsep (rejoin_wand w τ c b o) (t (requested_type_of w τ c) (block_ptr b o))
 
--- `dealloc_right t R c b o` consists of the right to convert the parts of a block back into memory
--- for the whole block, and the right `t` to free this memory. The block has `c` slots for items of
--- the type `R`, and is at the offset `o` of the allocation `b`.
+-- `dealloc_right t R c b o` is `dealloc_right_of` for items of the type `R`.
 abbrev pub dealloc_right : (Ty → Ptr → Fml) → RattleType → ℕ → ℕ → ℕ → Fml
 dealloc_right t R c b o = dealloc_right_of t (words_of R) (erased_type R) c b o
 

@@ -17,21 +17,15 @@ use Rattle.thin_block.specs.GrowthLaws.{doubling_law, fitting_is}
 
 -- The next lemmas are about the least power of two that is at least a given number.
 
--- Each number `n` is less than `2 ^ n`.
 below_power : (n : ℕ) → n < 2 ^ n
 below_power zero = omega arith
 below_power (suc n) = omega (arith, below_power n, pow_more 2 n)
 
--- Suppose that `p` is a power of two with `p / 2 < max 1 n`. Let `b` be the result of the test
--- `n <= p`. If this test fails, let `next` be the least power of two that is at least `n`. Then
--- `if b then p else next` is the least power of two that is at least `n`.
 one_step : (b : Bool) (n p next : ℕ) → nat_le n p ≡ b → IsPowerOfTwo p → p / 2 < max 1 n
     → (p < n → IsNextPowerOfTwo n next) → IsNextPowerOfTwo n (if b then p else next)
 one_step true n p next e power half later = (power, leb-true n p e, half)
 one_step false n p next e power half later = later (leb-false n p e)
 
--- Suppose that `p` is a power of two with `p / 2 < max 1 n` and `n <= 2 ^ k * p`. Then
--- `double_to k n p` is the least power of two that is at least `n`.
 doubled_is : (k n p : ℕ) → IsPowerOfTwo p → p / 2 < max 1 n → n ≤ 2 ^ k * p
     → IsNextPowerOfTwo n (double_to k n p)
 doubled_is zero n p power half enough = (power, omega (arith, enough), half)
@@ -43,13 +37,11 @@ doubled_is (suc k) n p power half enough =
     (λ less. doubled_is k n (2 * p) (power.0 + 1, next) (omega (arith, less))
     (omega (arith, enough, twice)))
 
--- The definition `least_power` is correct: `least_power n` is the least power of two that is at
--- least `n`.
+-- The definition `least_power` is correct.
 pub least_power_is : (n : ℕ) → IsNextPowerOfTwo n (least_power n)
 unfolding least_power
 least_power_is n = doubled_is n n 1 (0, refl) (omega arith) (omega (arith, below_power n))
 
--- If `n ≤ 2 ^ k` and `2 ^ j / 2 < max 1 n`, then `2 ^ j ≤ 2 ^ k`.
 not_more : (n j k : ℕ) → n ≤ 2 ^ k → 2 ^ j / 2 < max 1 n → 2 ^ j ≤ 2 ^ k
 not_more n zero k enough half = pow_pos k
 not_more n (suc j) k enough half = elim (cases_lt j k) [
@@ -58,7 +50,6 @@ not_more n (suc j) k enough half = elim (cases_lt j k) [
       let some = pow_pos j in absurd (omega (arith, half, enough, under, twice, some)))
 ]
 
--- If `p` and `q` are both the least power of two that is at least `n`, then `p` equals `q`.
 pub one_least_power : (n p q : ℕ) → IsNextPowerOfTwo n p → IsNextPowerOfTwo n q → p ≡ q
 one_least_power n p q first second =
     let under = not_more n first.0.0 second.0.0 (subst (λ x. n ≤ x) second.0.1 second.1)
@@ -69,15 +60,10 @@ one_least_power n p q first second =
 
 -- The next lemmas are about the growth rule `PowerBytes`.
 
--- If the size `s` of an item is 0, the rule `power_bytes` chooses the same capacity as `doubling`.
 pub powers_of_none : (s a c w : ℕ) → s ≡ 0 → power_bytes s a c w ≡ doubling s a c w
 unfolding power_bytes
 powers_of_none s a c w none = let test : (s == 0) ≡ true = grind (arith, nat_tests) in rw test refl
 
--- Let `c` be the old capacity, and `w` the required capacity. For items of at least one byte,
--- `power_bytes` rounds the total size of the header and `max w (2 * c)` items up to a power of two,
--- and chooses the greatest capacity for which a block fits into the rounded size. If this capacity
--- is too large, the result is `None`.
 pub powers_of_some : (s a c w : ℕ) → 0 < s → power_bytes s a c w ≡ checked_capacity s a
     ((least_power (items_offset a + max w (2 * c) * s) - items_offset a) / s)
 unfolding power_bytes
@@ -90,22 +76,15 @@ module _ (s a c w n : ℕ) (some : 0 < s) (e : power_bytes s a c w ≡ Some n) w
   abbrev wanted : ℕ
   wanted = max w (2 * c) * s
 
-  -- `power` is the least power of two that is at least the total size of the header and
-  -- `max w (2 * c)` items.
   abbrev power : ℕ
   power = least_power (items_offset a + wanted)
 
-  -- `n` is the greatest number of items that fit into `power` bytes together with the header, and a
-  -- block for `n` items can be allocated.
   named : IsTrue (fits s a ((power - items_offset a) / s)) × ((power - items_offset a) / s ≡ n)
   named = fitting_is s a ((power - items_offset a) / s) n (sym (powers_of_some s a c w some) ∙ e)
 
-  -- The header and `max w (2 * c)` items fit into `power` bytes. These items take `wanted` bytes.
   room : items_offset a + wanted ≤ power
   room = (least_power_is (items_offset a + wanted)).1
 
-  -- The capacity `n` that `power_bytes` chooses is at least `w` and at least `2 * c`, and a block
-  -- of capacity `n` is small enough to be allocated.
   pub powers_grow : IsValidGrowth s a c w n
   powers_grow =
       let more : max w (2 * c) ≤ (power - items_offset a) / s =
@@ -116,8 +95,6 @@ module _ (s a c w n : ℕ) (some : 0 < s) (e : power_bytes s a c w ≡ Some n) w
         fits = subst (λ (k : ℕ). IsTrue (fits s a k)) named.1 named.0;
       }
 
-  -- For the capacity `n` that `power_bytes` chooses, there is a power of two `p` such that `p`
-  -- bytes have room for the header and `n` items, but not for one more item.
   pub powers_filled : FillsPowerOfTwo s a n
   powers_filled =
       let parts = div-add-mod' (power - items_offset a) s in

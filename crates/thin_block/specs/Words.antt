@@ -1,5 +1,5 @@
 -- This file describes how memory for items is converted into memory for words. A word is a value of
--- the struct `Words`, which holds `m` items of the type `T`.
+-- the struct `Word`, which holds `m` items of the type `T`.
 use Rattle.std.specs.Prelude.{ℕ, ◌+◌, List, [], ◌∷◌, map}
 use base.Fraction.{full_share}
 use base.Fml.{Fml, ftrue, ffalse, fsep}
@@ -31,9 +31,7 @@ module _ (T M : RattleType) where
   runs_at (xs ∷ xss) b o = fsep (run_at xs b o)
       (runs_at xss b (o + size (word_of (erased_type T) (value_of M))))
 
-  -- `runs_from xss p` contains the items of adjacent words from the pointer `p` onward, and the
-  -- rights to convert their memory into memory for words. Each list in `xss` contains the items of
-  -- one word.
+  -- `runs_from xss p` is `runs_at` from the pointer `p` onward.
   abbrev pub runs_from : List (List T.Denot) → Ptr → Fml
   runs_from xss null_ptr = ffalse
   runs_from xss (block_ptr b o) = runs_at xss b o

@@ -79,8 +79,6 @@ module _ {S T J : Type 0} (R : S → T → Bool → S → T → Type 0) (judge_o
 
   -- The first of `k + 1` calls to `next` returns `item`, and leaves the closure in the state `t`.
   module _ (t : S) (k : ℕ) (item : Option T) (rest : List T) where
-    -- A call to `next` and `k` more calls cause the results that keep `kept`, the one that
-    -- removes `item`, and those of the `k` calls.
     pub extracts-by : (s : S) (xs kept : List T) → ExtractsNext R s xs item t kept rest
         → extract_results ask (judge_of s) (suc k) xs
         ≡ all_kept kept ++ (goes item ++ extract_results ask (judge_of t) k rest)
@@ -141,7 +139,6 @@ module _ {S T J : Type 0} (R : S → T → Bool → S → T → Type 0) (judge_o
             ∙ ap (items_where false) (none-left (judge_of t) k) in
             subst (λ l. handed_out (suc k) l ≡ None ∷ handed_out k l) (sym empty) refl
 
--- Adding `m` moves, and then `k` more if an item was removed, is adding them at once.
 charged : (gone m k : ℕ) (c : Cost)
     → (if gone == 0 then add_moves m c else add_moves k (add_moves m c))
     ≡ add_moves (m + (if gone == 0 then 0 else k)) c

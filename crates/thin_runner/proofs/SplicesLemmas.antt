@@ -145,7 +145,6 @@ module _ {T A : Type 0} (old : ListView T A) where
   pub without_range-end : without_range old (length old.items) (length old.items) ≡ old
   without_range-end = λ i. record old { items = take-append-drop (length old.items) old.items i }
 
-  -- If `most` items can replace this range without new memory, then `most` is 0, or `old` has room.
   pub places-end : (P : Type 0) (most : ℕ) → (most ≡ 0 → P) → (HasRoomFor old most → P)
       → (most ≤ length old.items - length old.items) ⊎ ((length old.items ≡ length old.items)
       × HasRoomFor (without_range old (length old.items) (length old.items)) most) → P

@@ -22,9 +22,7 @@ pub data ObservedReply (T A G : Type 0) : Type 0 where
   yields : List (Option T) → ObservedReply T A G
 
 module _ {T A G : Type 0} where
-  -- `observed reply` is the part of the reply that the main theorem determines. For the reply
-  -- `Answers`, this part is the list of the results. For any other reply, this part is the whole
-  -- reply.
+  -- `observed reply` is the part of the reply that the main theorem determines.
   abbrev pub observed : Reply T A G → ObservedReply T A G
   observed (Answers answers) = yields answers.items
   observed reply = says reply

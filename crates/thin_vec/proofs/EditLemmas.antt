@@ -22,8 +22,6 @@ use Rattle.thin_vec.specs.declared.edits.holder.IntoInner.{Ghosts as IntoInnerGh
 -- arguments: the state of the closure before the call, the two items, the result of the call, the
 -- state after the call, and the two items as the call left them.
 module _ {S T : Type 0} (R : S → T → T → Bool → S → T → T → Type 0) where
-  -- If a closure compared each item of `xs` with the last item kept before it, beginning with `k`,
-  -- then removing the duplicates from `k ∷ xs` leaves the kept items `ys`.
   dedups_from : (xs : List T) (s : S) (k : T) (stays : List Bool) (ys : List T) (t : S)
       → TestsEachAgainstLast R s k xs stays ys t → DedupsFrom R s k xs ys
   dedups_from [] s k stays ys t h = h.1
@@ -43,22 +41,16 @@ module _ {S T : Type 0} (R : S → T → T → Bool → S → T → T → Type 0
         ]) h.7,
   )
 
-  -- If a closure compared each item of `xs`, except the first, with the last item kept before it,
-  -- then removing the duplicates from `xs` leaves the kept items `ys`.
   dedups_all : (xs : List T) (s : S) (stays : List Bool) (ys : List T) (t : S)
       → TestsAllAgainstLast R s xs stays ys t → DedupsAll R s xs ys
   dedups_all [] s stays ys t h = h.1
   dedups_all (x ∷ xs) s stays ys t h = dedups_from xs s x stays ys t h
 
-  -- If `dedup_by` or `dedup_by_key` turned the list `v` into `w`, then removing the duplicates from
-  -- `v.items` leaves `w.items`.
   pub deduped_deduped : {A : Type 0} (s : S) (v w : ListView T A) → IsDedupedBy R s v w
       → IsDeduped R s v.items w.items
   deduped_deduped s v w h =
       record { told = dedups_all v.items s h.1.stays w.items h.0 h.1.asked }
 
-  -- If `dedup_by`, called with a closure that only computes `same x y`, turned the list `v` into
-  -- the list `w`, then `w.items` is `dedup same v.items`.
   pub deduped_dedup : {A : Type 0} (same : T → T → Bool) {s : S} {v w : ListView T A}
       → ((x y : T) (b : Bool) (t : S) (x' y' : T) → R s x y b t x' y'
       → (b ≡ same x y) × (t ≡ s) × (x' ≡ x) × (y' ≡ y))
@@ -69,7 +61,6 @@ module _ {S T : Type 0} (R : S → T → T → Bool → S → T → T → Type 0
 -- The following definitions and lemmas are about `extract_if`.
 
 module _ {T : Type 0} (test : T → Bool) where
-  -- `others xs` is the list of the items of `xs` that do not pass `test`.
   abbrev pub others : List T → List T
   others xs = filter (λ x. not (test x)) xs
 
@@ -80,15 +71,13 @@ module _ {T : Type 0} (test : T → Bool) where
     pub stay : others xs ≡ kept ++ others rest
     pub ended : item ≡ None → rest ≡ []
 
-  -- `None` is not equal to `Some x`.
   none-some : {x : T} → None ≡ Some x → ⊥
   none-some e = cc
 
   module _ {S : Type 0} (R : S → T → Bool → S → T → Type 0)
       (says : (s : S) (x : T) (b : Bool) (t : S) (y : T) → R s x b t y
       → (b ≡ test x) × (y ≡ x)) where
-    -- This is the induction step of the lemma `parts`, from the list `xs` to `x ∷ xs`. The test of
-    -- `x` returned `b` and left `x` as `y`.
+    -- This is the induction step of `parts`. The test of `x` returned `b` and left `x` as `y`.
     part : (x : T) (xs : List T) (item : Option T) (t u : S) (y : T) (kept rest : List T)
         (b : Bool) → b ≡ test x → y ≡ x
         → ((ks : List T) → ExtractsNext R u xs item t ks rest → Parts xs item ks rest)
@@ -114,8 +103,6 @@ module _ {T : Type 0} (test : T → Bool) where
           ended = then.ended;
         }
 
-    -- If the closure of an `ExtractIf` only computes `test`, then `next` returns the first untested
-    -- item that passes `test`, or `None` if no item passes.
     pub parts : (s : S) (xs : List T) (item : Option T) (t : S) (kept rest : List T)
         → ExtractsNext R s xs item t kept rest → Parts xs item kept rest
     parts s [] item t kept rest e = record {
@@ -128,8 +115,7 @@ module _ {T : Type 0} (test : T → Bool) where
         part x xs item t e.1 e.2 kept rest e.0 answer.0 answer.1
         (λ ks n. parts e.1 xs item t ks rest n) e.4
 
--- This module is about loops over an `ExtractIf`, the iterator that the method `extract_if`
--- returns. The predicate `test` says which items the `ExtractIf` extracts.
+-- This module is about loops over an `ExtractIf` that extracts the items that pass `test`.
 module _ {T F A G : Type 0} {g : Ghosts G}
     {h : IntoInnerGhosts (Holder (ExtractState T F A)) (ExtractState T F A)} (test : T → Bool) where
   -- `IsExtracting` is the invariant of a loop that appends each item yielded by an `ExtractIf` to a
@@ -145,8 +131,6 @@ module _ {T F A G : Type 0} {g : Ghosts G}
     pub count : length held + length (extract_rest now)
         ≤ length old + length (extract_rest start)
 
-  -- `IsExtracting` is the invariant of a loop that appends each item yielded by an `ExtractIf` to a
-  -- list. It holds at the start of the loop, before any item has been yielded.
   pub extract_start : (e : ExtractIf T F A G (Holder (ExtractState T F A)) g h) (old : List T)
       → IsExtracting e e old old
   extract_start e old =
@@ -155,8 +139,6 @@ module _ {T F A G : Type 0} {g : Ghosts G}
   module _ (R : F → T → Bool → F → T → Type 0)
       (says : (s : F) (x : T) (b : Bool) (t : F) (y : T) → R s x b t y
       → (b ≡ test x) × (y ≡ x)) where
-    -- If the loop invariant `IsExtracting` holds and `next` yields the item `x`, then the invariant
-    -- still holds after `x` is appended to the list.
     pub extract_step : {start now new : ExtractIf T F A G (Holder (ExtractState T F A)) g h}
         {old held more : List T} {item : Option T} {x : T} → IsExtracting start now old held
         → ExtractSteps R now item new → item ≡ Some x → more ≡ held ++ x ∷ []
@@ -183,8 +165,7 @@ module _ {T F A G : Type 0} {g : Ghosts G}
           );
         }
 
-    -- If a loop over an `ExtractIf` has ended, then it has appended exactly the items of the range
-    -- that pass `test`. After the `ExtractIf` is dropped, the `ThinVec` contains all other items.
+    -- The second part says what the list contains after the `ExtractIf` is dropped.
     pub extract_end : {start now new : ExtractIf T F A G (Holder (ExtractState T F A)) g h}
         {old held : List T} {item : Option T} → IsExtracting start now old held
         → ExtractSteps R now item new → item ≡ None

@@ -14,8 +14,6 @@ use Rattle.thin_vec.proofs.list.InsertRemoveLemmas.{full-set}
 use Rattle.thin_vec.proofs.ListLemmas.{IsWritten, RestoresInvariant, restores-front, thin-room}
 
 module _ {T : Type 0} where
-  -- The slots `filled_slots xs ++ empty_slots k` hold the items `xs`, followed by `k` empty slots.
-  -- Writing the items `ws` over these slots, from slot 0 onward, replaces the first items of `xs`.
   -- The empty slots stay empty, even if `ws` is longer than `xs`.
   pub over-front : (xs : List T) (k : ℕ) (ws : List T)
       → overwrite_items (filled_slots xs ++ empty_slots k) 0 ws ≡ filled_slots
@@ -26,9 +24,6 @@ module _ {T : Type 0} where
   over-front (x ∷ xs) k (w ∷ ws) = ap (λ l. Some w ∷ l) (over-front xs k ws)
 
 module _ {T A : Type 0} where
-  -- Suppose that the items `ws` are written over the first items in the block `b` of a list. Then
-  -- the new block `b'` is the block of a list with the same length and the same items, except that
-  -- `ws` replaces the first items.
   pub restores-over : {b : Block T A} {a : A} → IsListBlock b a → (b' : Block T A) (ws : List T)
       {k : Cost} → IsWritten b b' (overwrite_items b.slots 0 ws) b.len k
       → RestoresInvariant b' a (refill (length (items_in b.slots)) (items_in b.slots) ws)
@@ -43,17 +38,12 @@ module _ {T A : Type 0} where
       (sym same)))
       (t.packed.len ∙ sym same) (omega (arith, same, thin-room b a t))
 
-  -- If the items `ws` are written over the first items in the block `b` of a list, then contracts
-  -- see the same list as before, except that `ws` replaces the first items.
   pub view-with_items : (b : Block T A) (a : A) (ws : List T) → IsListBlock b a
       → list_view (block_with_items b 0 ws) a ≡ with_items (list_view b a) ws
   view-with_items b a ws t =
       let f = restores-over t (block_with_items b 0 ws) ws refl in
       λ i. record { items = f.items i; capacity = f.cap i; alloc = a; cost = b.cost }
 
-  -- Suppose that `v` is written into the slot of the item at index `i` in the block `b` of a list.
-  -- Then the new block `b'` is the block of a list with the same items, except that `v` is the item
-  -- at index `i`.
   pub restores-set : {b : Block T A} {a : A} → IsListBlock b a → (b' : Block T A) (i : ℕ) (v : T)
       {k : Cost} → i < length (items_in b.slots) → IsWritten b b' (set b.slots i (Some v)) b.len k
       → RestoresInvariant b' a (set (items_in b.slots) i v) (length b.slots)
@@ -66,9 +56,6 @@ module _ {T A : Type 0} where
       ∙ ap (λ n. filled_slots (set xs i v) ++ empty_slots (length b.slots - n)) (sym same)))
       (t.packed.len ∙ sym same) (omega (arith, same, thin-room b a t))
 
-  -- Suppose that `i` is less than the length of a list. If the item `w` is written into slot `i` of
-  -- the block `b` of this list, then contracts see the same list as before, except that `w` is the
-  -- item at index `i`.
   pub view-with_item : (b : Block T A) (a : A) (i : ℕ) (w : T) → IsListBlock b a
       → i < length (items_in b.slots) → list_view (block_with_item b i w)
       a ≡ with_item (list_view b a) i w

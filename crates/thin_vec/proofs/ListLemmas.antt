@@ -11,47 +11,35 @@ use Rattle.thin_block.specs.declared.block.Block.{Block}
 use Rattle.thin_block.specs.Cost.{Cost}
 use Rattle.thin_vec.specs.ThinVec.{IsListBlock, ListView, list_view}
 
--- A list of `k` empty slots has the length `k`.
 pub length-empty : (T : Type 0) (k : ℕ) → length (empty_slots {T = T} k) ≡ k
 length-empty T k = length-replicate {A = Option T} k None
 
 module _ {T : Type 0} where
-  -- If the slots `s` are equal to some number of empty slots, then this number is the length of `s`.
   pub empty-alone : (s : List (Option T)) (n : ℕ) → s ≡ empty_slots n → s ≡ empty_slots (length s)
   empty-alone s n e =
       e ∙ ap (λ (k : ℕ). empty_slots k)
       (sym (ap (λ (r : List (Option T)). length r) e ∙ length-empty T n))
 
-  -- A list of empty slots contains no items.
   pub items-empty : (k : ℕ) → items_in {T = T} (replicate k None) ≡ []
   items-empty zero = refl
   items-empty (suc k) = items-empty k
 
-  -- `filled_slots xs` is a list of slots that hold the items `xs`. The slots `filled_slots xs ++ s`
-  -- contain the items `xs`, followed by the items in the slots `s`.
   pub items-full : (xs : List T) (s : List (Option T))
       → items_in (filled_slots xs ++ s) ≡ xs ++ items_in s
   items-full [] s = refl
   items-full (x ∷ xs) s = ap (λ (ys : List T). x ∷ ys) (items-full xs s)
 
-  -- The items in the slots `filled_slots xs` are exactly `xs`.
   pub items-full-alone : (xs : List T) → items_in (filled_slots xs) ≡ xs
   items-full-alone [] = refl
   items-full-alone (x ∷ xs) = ap (λ (ys : List T). x ∷ ys) (items-full-alone xs)
 
-  -- `packed_slots xs c` is a list of slots that hold the items `xs`, followed by empty slots up to
-  -- the capacity `c`. It contains exactly the items `xs`.
   pub items-front : (xs : List T) (c : ℕ) → items_in (packed_slots xs c) ≡ xs
   items-front xs c = items-full xs (replicate (c - length xs) None)
       ∙ (ap (λ (ys : List T). xs ++ ys) (items-empty (c - length xs)) ∙ append-nil xs)
 
-  -- The list of slots `filled_slots xs` has the same length as the list of items `xs`.
   pub length-full : (xs : List T) → length (filled_slots xs) ≡ length xs
   length-full xs = length-map xs (λ (x : T). Some x)
 
-  -- `packed_slots xs c` is a list of slots: the slots of the items `xs`, followed by empty slots up
-  -- to the capacity `c`. If `xs` has at most `c` items, then `packed_slots xs c` has exactly `c`
-  -- slots.
   pub length-front : (xs : List T) (c : ℕ) → length xs ≤ c → length (packed_slots xs c) ≡ c
   length-front xs c h =
       let e : List (Option T) = replicate (c - length xs) None in
@@ -62,22 +50,15 @@ module _ {T : Type 0} where
         length-replicate {A = Option T} (c - length xs) None,
       )
 
-  -- If the slots `filled_slots xs` and `filled_slots ys` are equal, then the lists `xs` and `ys`
-  -- are equal.
   pub full-same : (xs ys : List T) → filled_slots xs ≡ filled_slots ys → xs ≡ ys
   full-same xs ys e = sym (items-full-alone xs) ∙ (ap items_in e ∙ items-full-alone ys)
 
-  -- If `i < length xs`, then slot `i` of `filled_slots xs ++ s` holds the item at index `i` of
-  -- `xs`, whatever the default `d` is.
   pub slot-full : (xs : List T) (s : List (Option T)) (i : ℕ) (d : T) → i < length xs
       → slot (filled_slots xs ++ s) i ≡ Some (get_or xs i d)
   slot-full xs s i d h =
       let n : i < length (filled_slots xs) = omega (arith, length-full xs) in
       get_or_append_left (filled_slots xs) s None i n ∙ get_or-map (λ (x : T). Some x) xs i d None h
 
-  -- Suppose that a list of `c` slots begins with the items `xs`, and that all other slots are
-  -- empty. If there is at least one empty slot, then writing `v` into the first empty slot appends
-  -- `v` to the items.
   pub front-push : (xs : List T) (c : ℕ) (v : T) → length xs < c
       → set (packed_slots xs c) (length xs)
       (Some v) ≡ packed_slots (xs ++ v ∷ []) c
@@ -92,8 +73,6 @@ module _ {T : Type 0} where
       (sym (map_push (λ (x : T). Some x) xs v))
       ∙ ap (λ (n : ℕ). filled_slots (xs ++ v ∷ []) ++ replicate n None) m)))
 
-  -- If slot `i` of `filled_slots xs ++ s` is emptied, and `i < length xs`, then only this slot
-  -- changes: the other items of `xs` and the slots `s` stay in place.
   pub full-take : (xs : List T) (s : List (Option T)) (i : ℕ) (d : T) → i < length xs
       → set (filled_slots xs ++ s) i None ≡ filled_slots
       (take i xs) ++ (None ∷ (filled_slots (drop (suc i) xs) ++ s))
@@ -102,8 +81,6 @@ module _ {T : Type 0} where
   full-take (x ∷ xs) s (suc i) d h = let l : i < length xs = omega arith in
       ap (λ (r : List (Option T)). Some x ∷ r) (full-take xs s i d l)
 
-  -- If a list of `c` slots holds the items `xs`, then `v`, and then only empty slots, emptying the
-  -- slot of `v` leaves the items `xs`.
   pub front-pop : (xs : List T) (c : ℕ) (v : T) → length (xs ++ v ∷ []) ≤ c
       → set (packed_slots (xs ++ v ∷ []) c) (length xs) None ≡ packed_slots xs c
   front-pop xs c v h =
@@ -117,9 +94,6 @@ module _ {T : Type 0} where
       ∙ (set_at (filled_slots xs) (Some v) (replicate k None) None (length xs) (length-full xs)
       ∙ ap (λ (q : ℕ). filled_slots xs ++ replicate q None) m))
 
-  -- `packed_slots xs c` is the list of the slots of the items `xs`, followed by empty slots up to
-  -- the capacity `c`. If `length xs ≤ c` and `c ≤ d`, then appending `d - c` empty slots to
-  -- `packed_slots xs c` yields `packed_slots xs d`.
   pub front-grow : (xs : List T) (c d : ℕ) → length xs ≤ c → c ≤ d
       → packed_slots xs c ++ replicate (d - c) None ≡ packed_slots xs d
   front-grow xs c d h l =
@@ -129,15 +103,12 @@ module _ {T : Type 0} where
       (replicate-append-replicate (c - length xs) (d - c) None
       ∙ ap (λ (q : ℕ). replicate q None) m)
 
-  -- If `i < length xs`, then slot `i` of `filled_slots xs ++ s` holds the item at index `i` of
-  -- `xs`.
   pub slot-get : (xs : List T) (s : List (Option T)) (i : ℕ) → i < length xs
       → slot (filled_slots xs ++ s) i ≡ slice_get xs i
   slot-get [] s i h = absurd (omega arith)
   slot-get (x ∷ xs) s zero h = refl
   slot-get (x ∷ xs) s (suc i) h = slot-get xs s i (omega arith)
 
-  -- A list has an item at each index that is less than its length.
   pub get-some : (xs : List T) (i : ℕ) → i < length xs → IsSome (slice_get xs i)
   get-some [] i h = absurd (omega arith)
   get-some (x ∷ xs) zero h = refl
@@ -151,8 +122,6 @@ module _ {T A : Type 0} where
     pub items : items_in b.slots ≡ xs
     pub cap : length b.slots ≡ c
 
-  -- If the slots of the block `b` hold the items `xs`, followed by empty slots, and `b` stores the
-  -- length of `xs`, then `b` is the block of a list with the items `xs`.
   pub settled : (b : Block T A) (a : A) (xs : List T) (c : ℕ) → b.slots ≡ packed_slots xs c
       → b.len ≡ length xs → length xs ≤ c → IsAllocatedBy b.alloc a → RestoresInvariant b a xs c
   settled b a xs c e n h f =
@@ -171,8 +140,6 @@ module _ {T A : Type 0} where
         cap = l;
       }
 
-  -- If a new block `b'` with the items `xs`, `c` slots and the cost `k` replaces the block of the
-  -- list `v`, then contracts see a list with these values and the allocator of `v`.
   pub list_view-becomes : {w v : ListView T A} → w ≡ v
       → (b' : Block T A) {xs : List T} {c : ℕ} {k : Cost}
       → length b'.slots ≡ c → items_in b'.slots ≡ xs → b'.cost ≡ k
@@ -184,16 +151,12 @@ module _ {T A : Type 0} where
     cost = cost i;
   }
 
-  -- If a new block `b'` with the items `xs`, the cost `k` and as many slots as the old block
-  -- replaces the block of the list `v`, then contracts see a list with these items, this cost, and
-  -- the capacity and the allocator of `v`.
   pub list_view-keeps : {w v : ListView T A} → w ≡ v → (b' : Block T A) {xs : List T} {k : Cost}
       → length b'.slots ≡ w.capacity → items_in b'.slots ≡ xs → b'.cost ≡ k
       → list_view b' w.alloc ≡ record v { items = xs; cost = k }
   list_view-keeps is b' slots items cost =
       list_view-becomes is b' (slots ∙ ap (λ (u : ListView T A). u.capacity) is) items cost
 
-  -- The block of a list does not contain more items than slots.
   pub thin-room : (b : Block T A) (a : A) → IsListBlock b a
       → length (items_in b.slots) ≤ length b.slots
   thin-room b a t =
@@ -201,14 +164,10 @@ module _ {T A : Type 0} where
       let e : List (Option T) = replicate (length b.slots - length xs) None in
       omega (arith, ap length t.packed.row, length-append (filled_slots xs) e, length-full xs)
 
-  -- If a list has `n` items, then the first `n` slots of its block are filled, and all other slots
-  -- are empty.
   pub thin-packed : (b : Block T A) (a : A) (n : ℕ) → IsListBlock b a
       → length (items_in b.slots) ≡ n → IsPacked b.slots n
   thin-packed b a n t long = record { row = t.packed.row; len = sym long }
 
-  -- If the memory of the block `b` came from the allocator `a`, and `b'` has the same allocator as
-  -- `b`, then the memory of `b'` also came from `a`.
   pub from-same : (b b' : Block T A) (a : A) → IsAllocatedBy b.alloc a → b'.alloc ≡ b.alloc
       → IsAllocatedBy b'.alloc a
   from-same b b' a f e = λ x h. f x (sym e ∙ h)
@@ -218,9 +177,7 @@ module _ {T A : Type 0} where
   abbrev pub IsWritten : Block T A → Block T A → List (Option T) → ℕ → Cost → Type 0
   IsWritten b b' s n k = block_view b' ≡ record (block_view b) { slots = s; len = n; cost = k }
 
-  -- If an operation on the block `b` of a list leaves the items `xs` in the first slots, leaves all
-  -- other slots empty, and stores the length of `xs`, then the new block `b'` is the block of a
-  -- list with the items `xs`.
+  -- The lemmas `restores-..` say that a step leaves the block of a list, and with which items.
   pub restores-front : {b : Block T A} {a : A} → IsListBlock b a
       → (b' : Block T A) (xs : List T) (c : ℕ)
       {s : List (Option T)} {n : ℕ} {k : Cost} → IsWritten b b' s n k → s ≡ packed_slots xs c
@@ -228,8 +185,6 @@ module _ {T A : Type 0} where
   restores-front {b} {a} t b' xs c w e n h = settled b' a xs c (ap (λ v. v.slots) w ∙ e)
       (ap (λ v. v.len) w ∙ n) h (from-same b b' a t.from (ap (λ v. v.alloc) w))
 
-  -- If `v` is written into the slot after the last item, and the stored length is incremented, then
-  -- the new block `b'` is the block of the list with `v` appended.
   pub restores-push : {b : Block T A} {a : A} → IsListBlock b a → (b' : Block T A) (v : T) (i : ℕ)
       {k : Cost} → i ≡ b.len → i < length b.slots
       → IsWritten b b' (set b.slots i (Some v)) (i + 1) k
@@ -244,8 +199,6 @@ module _ {T A : Type 0} where
       ∙ front-push xs c v l))
       (omega (arith, t.packed.len, length_push xs v)) (omega (arith, length_push xs v))
 
-  -- If slot `j` is the last filled slot in the block of a list and holds `v`, then the list
-  -- consists of its first `j` items, followed by `v`.
   pub last-item : (b : Block T A) (a : A) (v : T) (j : ℕ) → IsListBlock b a → j + 1 ≡ b.len
       → slot b.slots j ≡ Some v → items_in b.slots ≡ take j (items_in b.slots) ++ v ∷ []
   last-item b a v j t o w =
@@ -263,8 +216,6 @@ module _ {T A : Type 0} where
       (drop_more xs j v l
       ∙ (ap (λ (r : List T). get_or xs j v ∷ r) z ∙ ap (λ (r : T). r ∷ []) (sym y)))
 
-  -- If the slot of the last item is emptied, and the stored length is decremented, then the new
-  -- block `b'` is the block of the list without its last item.
   pub restores-pop : {b : Block T A} {a : A} → IsListBlock b a → (b' : Block T A) (v : T) (j : ℕ)
       {k : Cost} → j + 1 ≡ b.len → slot b.slots j ≡ Some v
       → IsWritten b b' (set b.slots j None) j k
@@ -283,22 +234,17 @@ module _ {T A : Type 0} where
       ∙ (ap (λ (q : ℕ). set (packed_slots (ys ++ v ∷ []) c) q None) (sym m) ∙ front-pop ys c v k))
       (sym m) (omega (arith, length_push ys v))
 
-  -- If `i` is less than the length of a list, then slot `i` of the block of the list holds the item
-  -- at index `i`.
   thin-slot : (b : Block T A) (a : A) (i : ℕ) → IsListBlock b a → i < length (items_in b.slots)
       → slot b.slots i ≡ slice_get (items_in b.slots) i
   thin-slot b a i t h =
       ap (λ (r : List (Option T)). slot r i) t.packed.row ∙ slot-get (items_in b.slots)
       (replicate (length b.slots - length (items_in b.slots)) None) i h
 
-  -- If `i` is less than the length of a list, then slot `i` of the block of the list is filled.
   pub thin-filled : (b : Block T A) (a : A) (i : ℕ) → IsListBlock b a
       → i < length (items_in b.slots)
       → IsSome (slot b.slots i)
   thin-filled b a i t h = rw (thin-slot b a i t h) (get-some (items_in b.slots) i h)
 
-  -- If the block `b` of a list stores the length `n`, and its first `n` slots hold the items `xs`,
-  -- then `xs` is the list of the items in `b`.
   pub thin-run : (b : Block T A) (a : A) (xs : List T) (n : ℕ) → IsListBlock b a → n ≡ b.len
       → filled_slots xs ≡ slice_range b.slots 0 n → xs ≡ items_in b.slots
   thin-run b a xs n t len run =
@@ -310,15 +256,11 @@ module _ {T A : Type 0} where
       ∙ take-append_seam (filled_slots ys)
       (empty_slots (length b.slots - length ys)))))
 
-  -- If `i` is less than the length of a list, and slot `i` of its block holds `v`, then the item at
-  -- index `i` is `v`.
   pub thin-get : (b : Block T A) (a : A) (i : ℕ) (v : T) → IsListBlock b a
       → i < length (items_in b.slots) → slot b.slots i ≡ Some v
       → slice_get (items_in b.slots) i ≡ Some v
   thin-get b a i v t h e = sym (thin-slot b a i t h) ∙ e
 
-  -- If slot `i` of the block of a list is emptied, then the slot of each item at an index `j > i`
-  -- is still filled.
   pub kept-filled : (b : Block T A) (a : A) (i j : ℕ) (s : List (Option T)) → IsListBlock b a
       → i < j
       → j < length (items_in b.slots) → s ≡ set b.slots i None → IsSome (slot s j)

@@ -6,7 +6,7 @@ use Rattle.std.proofs.lemmas.List.{drop_at, get_or-append_right, get_or-replicat
 use Rattle.std.specs.Prelude.{IsSome, slice_range}
 use lib.ListN.{set}
 use Rattle.thin_block.specs.Block.{BlockView, block_view}
-use Rattle.thin_block.specs.Slots.{empty_slots, packed_slots, filled_slots, items_in, slot}
+use Rattle.thin_block.specs.Slots.{empty_slots, filled_slots, items_in, slot}
 use Rattle.thin_block.specs.declared.block.Block.{Block}
 use Rattle.thin_block.proofs.ResultLemmas.{some-same}
 use Rattle.thin_vec.specs.OpenBlock.{IsOpen, IsOpenViewOf, open_view}
@@ -14,12 +14,10 @@ use Rattle.thin_vec.specs.Open.{OpenView, tail_end, slots_of}
 use Rattle.thin_vec.specs.declared.open_block.OpenBlock.TheInside.{Inside}
 use Rattle.thin_vec.proofs.ListLemmas.{get-some, items-front, items-full-alone, length-empty, length-full, slot-get}
 
--- A non-empty list `xs` consists of its first item `x`, followed by a list `ys`.
 pub first-of : {X : Type 0} (xs : List X) → 0 < length xs → (x : X) × (ys : List X) × (xs ≡ x ∷ ys)
 first-of [] h = absurd (omega arith)
 first-of (x ∷ ys) h = (x, ys, refl)
 
--- Every non-empty list `xs` can be split into a list `ys` and its last item.
 pub last-of : {X : Type 0} (xs : List X) → 0 < length xs → (ys : List X)
     × (x : X) × (xs ≡ ys ++ x ∷ [])
 last-of [] h = absurd (omega arith)
@@ -28,8 +26,6 @@ last-of (x ∷ z ∷ zs) h = let p = last-of (z ∷ zs) (omega arith) in
     (x ∷ p.0, p.1, ap (λ q. x ∷ q) p.2)
 
 module _ {T : Type 0} where
-  -- If `j` is the index of a slot in the part `filled_slots xs` of
-  -- `pre ++ (filled_slots xs ++ post)`, then slot `j` holds an item.
   pub slot-in-full : (pre : List (Option T)) (xs : List T) (post : List (Option T)) (j : ℕ)
       → length pre ≤ j → j < length pre + length xs
       → IsSome (slot (pre ++ (filled_slots xs ++ post)) j)
@@ -38,8 +34,6 @@ module _ {T : Type 0} where
       ∙ slot-get xs post (j - length pre) (omega arith))
       (get-some xs (j - length pre) (omega arith))
 
-  -- If `j` is the index of a slot in the part `empty_slots k` of `pre ++ (empty_slots k ++ post)`,
-  -- then slot `j` is empty.
   pub slot-in-empty : (pre : List (Option T)) (k : ℕ) (post : List (Option T)) (j : ℕ) → length pre ≤ j
       → j < length pre + k → slot (pre ++ (empty_slots k ++ post)) j ≡ None
   slot-in-empty pre k post j low high =
@@ -49,8 +43,6 @@ module _ {T : Type 0} where
       (omega (arith, length-empty T k))
       ∙ get_or-replicate k (j - length pre) None None n)
 
-  -- `g` empty slots, followed by one more empty slot and the slots `z`, are `g + 1` empty slots,
-  -- followed by `z`.
   pub empty-more : (g : ℕ) (z : List (Option T))
       → empty_slots g ++ (None ∷ z) ≡ empty_slots (g + 1) ++ z
   empty-more g z = sym (append_assoc (empty_slots g) (None ∷ []) z)
@@ -58,59 +50,45 @@ module _ {T : Type 0} where
       (replicate-append-replicate g 1 None)
 
 module _ {T A : Type 0} where
-  -- `Found h v` holds if `h` is a valid open block (the block of a list during an edit), and `v` is
-  -- how contracts see `h`.
+  -- `Found h v` holds if `h` is a valid open block, and `v` is how contracts see `h`.
   pub record Found (h : Inside T A) (v : OpenView T A) : Type 0 where
     pub lies : IsOpen h
     pub view : open_view h ≡ v
 
-  -- `to_rest v` is the list of the slots before the middle items of the open block `v`.
+  -- The slots of an open block before the middle items (`to_rest`), up to the end of the middle
+  -- items (`to_after`), and before the tail items (`to_tail`).
   abbrev pub to_rest : OpenView T A → List (Option T)
   to_rest v = filled_slots v.front ++ empty_slots v.gap
 
-  -- `to_after v` is the list of the slots of the open block `v` up to the end of its middle items.
   abbrev pub to_after : OpenView T A → List (Option T)
   to_after v = to_rest v ++ filled_slots v.rest
 
-  -- `to_tail v` is the list of all slots before the tail items of the open block `v`.
   abbrev pub to_tail : OpenView T A → List (Option T)
   to_tail v = to_after v ++ empty_slots v.gap_after
 
-  -- `past_tail v` is the list of the slots after the tail items of the open block `v`. All of these
-  -- slots are empty.
+  -- The slots after the tail items (`past_tail`), from the first tail item onward (`past_after`),
+  -- and after the middle items (`past_rest`).
   abbrev pub past_tail : OpenView T A → List (Option T)
   past_tail v = empty_slots (v.capacity - tail_end v)
 
-  -- `past_after v` is the list of the slots of the open block `v` from the first tail item onward.
   abbrev pub past_after : OpenView T A → List (Option T)
   past_after v = filled_slots v.tail ++ past_tail v
 
-  -- `past_rest v` is the list of the slots after the middle items of the open block `v`.
   abbrev pub past_rest : OpenView T A → List (Option T)
   past_rest v = empty_slots v.gap_after ++ past_after v
 
   module _ (h : Inside T A) (v : OpenView T A) (s : IsOpenViewOf h v) where
-    -- If `v` describes the layout of the open block `h`, then the slots of `h` are, in order: the
-    -- slots before the middle items, the slots of the middle items, and the slots after them.
     pub by_rest : h.block.slots ≡ to_rest v ++ (filled_slots v.rest ++ past_rest v)
     by_rest = s.row ∙ sym
         (append_assoc (filled_slots v.front) (empty_slots v.gap)
         (filled_slots v.rest ++ past_rest v))
 
-    -- Suppose that `v` describes the layout of the open block `h`. Then the slots of `h` are
-    -- `to_after v` (the slots up to the end of the middle items), followed by `past_rest v` (the
-    -- slots after the middle items).
     by_after : h.block.slots ≡ to_after v ++ past_rest v
     by_after = by_rest ∙ sym (append_assoc (to_rest v) (filled_slots v.rest) (past_rest v))
 
-    -- Suppose that `v` describes the layout of the open block `h`. Then the slots of `h` are
-    -- `to_tail v` (the slots before the tail items), followed by `past_after v` (the slots from the
-    -- first tail item onward).
     pub by_tail : h.block.slots ≡ to_tail v ++ past_after v
     by_tail = by_after ∙ sym (append_assoc (to_after v) (empty_slots v.gap_after) (past_after v))
 
-    -- Suppose that `v` describes the layout of the open block `h`. Then `to_rest v`, the list of
-    -- the slots before the middle items, has the length `h.rest_start`.
     pub at_rest : length (to_rest v) ≡ h.rest_start
     at_rest = omega (
       arith,
@@ -121,7 +99,6 @@ module _ {T A : Type 0} where
       s.gap,
     )
 
-    -- `h.rest_end` is the number of slots of the open block `h` up to the end of its middle items.
     at_after : length (to_after v) ≡ h.rest_end
     at_after = omega (
       arith,
@@ -131,8 +108,6 @@ module _ {T A : Type 0} where
       s.rest,
     )
 
-    -- `h.tail_start` is the number of slots before the tail items of the open block `h`. (The tail
-    -- items are the items after the edited range.)
     pub at_tail : length (to_tail v) ≡ h.tail_start
     at_tail = omega (
       arith,
@@ -142,13 +117,9 @@ module _ {T A : Type 0} where
       s.gap_after,
     )
 
-    -- If `v` describes the layout of the open block `h`, then `h.len` is `tail_end v`, the index
-    -- directly after the slots of the tail items.
     pub reached : tail_end v ≡ h.len
     reached = omega (arith, s.front, s.gap, s.rest, s.gap_after, s.tail)
 
-    -- If `v` describes the layout of the open block `h`, then the number of slots of `h` is
-    -- `v.capacity`.
     shown-cap : length h.block.slots ≡ v.capacity
     shown-cap =
         omega (
@@ -164,7 +135,6 @@ module _ {T A : Type 0} where
           s.room,
         )
 
-    -- The items in the slots `0..front_end` of the open block `h` are its front items `v.front`.
     shown-front : items_in (take h.front_end h.block.slots) ≡ v.front
     shown-front =
         ap items_in (ap (take h.front_end) s.row
@@ -173,8 +143,6 @@ module _ {T A : Type 0} where
         (length-full v.front ∙ s.front))
         ∙ items-full-alone v.front
 
-    -- The items in the slots `rest_start..rest_end` of the open block `h` are `v.rest`, the middle
-    -- items.
     shown-rest : items_in (slice_range h.block.slots h.rest_start h.rest_end) ≡ v.rest
     shown-rest =
         let count : length (filled_slots v.rest) ≡ h.rest_end - h.rest_start =
@@ -186,8 +154,6 @@ module _ {T A : Type 0} where
         ∙ take_at (filled_slots v.rest) (past_rest v) (h.rest_end - h.rest_start) count))
         ∙ items-full-alone v.rest
 
-    -- The items in the slots of the open block `h` from index `tail_start` onward are its tail
-    -- items `v.tail`.
     shown-tail : items_in (drop h.tail_start h.block.slots) ≡ v.tail
     shown-tail =
         let some : length v.tail + (v.capacity - tail_end v) - length v.tail
@@ -198,8 +164,6 @@ module _ {T A : Type 0} where
         ∙ ap (λ (k : ℕ). filled_slots v.tail ++ empty_slots k) (sym some)))
         ∙ items-front v.tail (length v.tail + (v.capacity - tail_end v))
 
-    -- If `v` describes the layout of the open block `h`, and has the same allocator and cost as
-    -- `h`, then `h` is a valid open block, and `v` is how contracts see `h`.
     pub found : h.block.alloc ≡ v.alloc → h.block.cost ≡ v.cost → Found h v
     found alloc cost =
         let gap : h.rest_start - h.front_end ≡ v.gap = omega (arith, s.gap) in
@@ -218,23 +182,18 @@ module _ {T A : Type 0} where
         } in
         record { lies = subst (IsOpenViewOf h) (sym view) s; view = view }
 
-    -- Each slot in the range `rest_start..rest_end` of the open block `h` is filled: it holds one
-    -- of the middle items.
     pub rest-filled : (j : ℕ) → h.rest_start ≤ j → j < h.rest_end → IsSome (slot h.block.slots j)
     rest-filled j low high =
         rw (ap (λ (r : List (Option T)). slot r j) by_rest)
         (slot-in-full (to_rest v) v.rest (past_rest v) j (omega (arith, at_rest))
         (omega (arith, at_rest, s.rest)))
 
-    -- Each slot in the range `tail_start..len` of the open block `h` is filled: it holds one of the
-    -- tail items.
     pub tail-filled : (j : ℕ) → h.tail_start ≤ j → j < h.len → IsSome (slot h.block.slots j)
     tail-filled j low high =
         rw (ap (λ (r : List (Option T)). slot r j) by_tail)
         (slot-in-full (to_tail v) v.tail (past_tail v) j (omega (arith, at_tail))
         (omega (arith, at_tail, s.tail)))
 
-    -- Each slot between the front items and the middle items of the open block `h` is empty.
     pub before-empty : (j : ℕ) → h.front_end ≤ j → j < h.rest_start → slot h.block.slots j ≡ None
     before-empty j low high =
         ap (λ (r : List (Option T)). slot r j) s.row
@@ -242,8 +201,6 @@ module _ {T A : Type 0} where
         (omega (arith, length-full v.front, s.front))
         (omega (arith, length-full v.front, s.front, s.gap))
 
-  -- If the slots `rest_start..rest_end` of the open block `h` hold exactly the items `xs`, then
-  -- `xs` is the list of the middle items of `h`.
   pub rest-run : (h : Inside T A) (xs : List T) → filled_slots xs
       ≡ slice_range h.block.slots h.rest_start h.rest_end
       → xs ≡ (open_view h).rest
@@ -254,21 +211,17 @@ module _ {T A : Type 0} where
 
   module _ (h : Inside T A) (o : IsOpen h) (b : Block T A)
       (some : 0 < length (open_view h).rest) where
-    -- `v` is how contracts see the open block `h` before one of the middle items of `h` is removed.
     abbrev v : OpenView T A
     v = open_view h
 
-    -- `first-left` is the open block `h` after its first middle item has been removed.
+    -- `first-left` is `h` without its first middle item. `first-view ys` is how contracts see it if
+    -- `ys` are the other middle items.
     abbrev pub first-left : Inside T A
     first-left = record h { block = b; rest_start = h.rest_start + 1 }
 
-    -- `first-view ys` is how contracts see the open block `first-left` if `ys` is the list of the
-    -- remaining middle items. The gap before these items is one slot longer than in `h`.
     abbrev pub first-view : List T → OpenView T A
     first-view ys = record v { gap = v.gap + 1; rest = ys }
 
-    -- If the first middle item `x` of the open block `h` is removed, then `first-view ys` is how
-    -- contracts see the resulting open block. The list `ys` contains the remaining middle items.
     pub first-step : (x : T) → slot h.block.slots h.rest_start ≡ Some x
         → block_view b ≡ record (block_view h.block) { slots = set h.block.slots h.rest_start None }
         → (ys : List T) × (v.rest ≡ x ∷ ys) × Found first-left (first-view ys)
@@ -315,18 +268,13 @@ module _ {T A : Type 0} where
               (ap (λ (z : BlockView T A). z.cost) now),
         )
 
-    -- `last-left` is the open block `h` after its last middle item has been removed.
+    -- `last-left` and `last-view` are the same for the last middle item.
     abbrev pub last-left : Inside T A
     last-left = record h { block = b; rest_end = h.rest_end - 1 }
 
-    -- `last-view ys` is how contracts see the open block `last-left` if `ys` is the list of the
-    -- remaining middle items. The gap after these items is one slot longer than in the open block
-    -- `h`.
     abbrev pub last-view : List T → OpenView T A
     last-view ys = record v { rest = ys; gap_after = v.gap_after + 1 }
 
-    -- If the last middle item `x` of the open block `h` was removed, then contracts see the new
-    -- open block as `last-view ys`, where `ys` are the other middle items.
     pub last-step : (x : T) → slot h.block.slots (h.rest_end - 1) ≡ Some x
         → block_view b ≡ record
         (block_view h.block) { slots = set h.block.slots (h.rest_end - 1) None }

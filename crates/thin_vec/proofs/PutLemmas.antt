@@ -12,8 +12,6 @@ use Rattle.thin_vec.specs.declared.put.Filled.{Filled}
 
 module _ {S X : Type 0} {steps : S → Option X → S → Type 0} {can : S → Type 0}
     {remaining : S → Count} {s : S} {f : Filled S} where
-  -- `IsFilledBy` describes a loop that moves items of an iterator into `room` empty slots. Such a
-  -- loop moves at most `room` items.
   pub filled-fits : {room : ℕ} (by : IsFilledBy steps can remaining room s f)
       → length by.items ≤ room
   filled-fits {room} by = go f.ended by.full by.short
@@ -23,8 +21,6 @@ module _ {S X : Type 0} {steps : S → Option X → S → Type 0} {can : S → T
       go true filled_slots short = omega (arith, short refl)
       go false filled_slots short = omega (arith, filled_slots refl)
 
-  -- If `IsFilledBy`, which describes a loop that moves items into empty slots, holds for `m` slots,
-  -- and `m` equals `n`, then it holds for `n` slots.
   abbrev pub filled-room : {m n : ℕ} → m ≡ n → IsFilledBy steps can remaining m s f
       → IsFilledBy steps can remaining n s f
   filled-room same by = record {
@@ -37,8 +33,6 @@ module _ {S X : Type 0} {steps : S → Option X → S → Type 0} {can : S → T
   }
 
 module _ {T : Type 0} where
-  -- If `i` is the index of a slot in `s`, then writing `ys` from index `i + 1` onward, and then `y`
-  -- at index `i`, is the same as writing `y ∷ ys` from index `i` onward.
   laid-before : (i k : ℕ) (y : Option T) (ys s : List (Option T)) → k ≡ i + 1 → i < length s
       → set (write_slots k ys s) i y ≡ write_slots i (y ∷ ys) s
   laid-before i k y ys s next low =
@@ -60,8 +54,6 @@ module _ {T : Type 0} where
     pub parts : xs ≡ left ++ rest
     pub row : s ≡ write_slots (start + length left) (filled_slots rest) r
 
-  -- `IsMoving`, the invariant of a loop that moves the items `xs` into slots, holds before the
-  -- first item is moved.
   pub moving-first : (xs : List T) (start : ℕ) (s : List (Option T)) → IsMoving xs xs start s s
   moving-first xs start s =
       record {
@@ -70,8 +62,6 @@ module _ {T : Type 0} where
         row = sym (laid-none (start + length xs) s);
       }
 
-  -- `IsMoving`, the invariant of a loop that moves the items `xs` into slots, still holds after the
-  -- next item `v` is moved into slot `i`. The items `left` remain.
   pub moving-next : {xs : List T} (left : List T) {start : ℕ} (i : ℕ) (v : T)
       {r s : List (Option T)} → IsMoving xs (left ++ v ∷ []) start r s → i ≡ start + length left
       → start + length xs ≤ length r → IsMoving xs left start r (set s i (Some v))

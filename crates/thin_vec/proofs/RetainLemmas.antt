@@ -11,111 +11,83 @@ use Rattle.thin_block.specs.Cost.{Cost, add_moves}
 use Rattle.thin_vec.specs.Edits.Retain.{TestResults, TestsInTurn, IsRetained, IsRetainedTo, ReadsOnly, flags_of, items_where, moves_of_retain, all_kept, count_true}
 use Rattle.thin_vec.specs.ThinVec.{ListView}
 
--- A cost counts moves of items, among other things. Adding `b` moves and then `a` moves to a cost
--- is the same as adding `b + a` moves.
 pub moving-more : (a b : ℕ) (c : Cost) → add_moves a (add_moves b c) ≡ add_moves (b + a) c
 moving-more a b c = let e : c.moves + b + a ≡ c.moves + (b + a) = omega arith in
     λ i. record { blocks = c.blocks; grown = c.grown; moves = e i }
 
--- A cost counts moves of items, among other things. Adding zero moves to a cost does not change the
--- cost.
 pub moving-none : (c : Cost) → add_moves 0 c ≡ c
 moving-none c = let e : c.moves + 0 ≡ c.moves = omega arith in
     λ i. record { blocks = c.blocks; grown = c.grown; moves = e i }
 
--- If a gap of empty slots lies before `k` items, then moving these items across the gap costs `k`
--- moves.
 pub moving-after : (gap k : ℕ) (c : Cost) → 0 < gap
     → (if gap == 0 then c else add_moves k c) ≡ add_moves k c
 moving-after gap k c some =
     ap (λ (b : Bool). if b then c else add_moves k c)
     (ne_eqb gap 0 (λ (e : gap ≡ 0). omega (arith, e)))
 
--- If there is no gap of empty slots, then no item has to be moved, and the cost does not change.
 pub moving-before : (gap k : ℕ) (c : Cost) → (0 < gap → ⊥)
     → (if gap == 0 then c else add_moves k c) ≡ c
 moving-before zero k c none = refl
 moving-before (suc gap) k c none = absurd (none (omega arith))
 
--- If the lists `x ∷ xs` and `y ∷ ys` are equal, then their first items `x` and `y` are equal.
 pub cons-head : {X : Type 0} {x y : X} {xs ys : List X} → x ∷ xs ≡ y ∷ ys → x ≡ y
 cons-head e = cc
 
--- If the lists `x ∷ xs` and `y ∷ ys` are equal, then the lists `xs` and `ys` are equal.
 pub cons-tail : {X : Type 0} {x y : X} {xs ys : List X} → x ∷ xs ≡ y ∷ ys → xs ≡ ys
 cons-tail e = ap (drop 1) e
 
--- The list `x ∷ xs` is not empty.
 pub cons-not-nil : {X : Type 0} {x : X} {xs : List X} → x ∷ xs ≡ [] → ⊥
 cons-not-nil e = let n = ap length e in omega (arith, n)
 
--- A list of length 1 consists of a single item.
 pub single : {X : Type 0} (xs : List X) → length xs ≡ 1 → (x : X) × (xs ≡ x ∷ [])
 single [] e = absurd (omega (arith, e))
 single (x ∷ []) e = (x, refl)
 single (x ∷ y ∷ xs) e = absurd (omega (arith, e))
 
--- A list whose length is not greater than 0 is empty.
 pub none-left : {X : Type 0} (xs : List X) → (0 < length xs → ⊥) → xs ≡ []
 none-left [] none = refl
 none-left (x ∷ xs) none = absurd (none (omega arith))
 
 module _ {T : Type 0} where
-  -- The items that the results `a ++ b` keep are the items that `a` keeps, followed by the items
-  -- that `b` keeps. (A result says whether an item is kept.)
   pub items_where-append : (a b : TestResults T)
       → items_where true (a ++ b) ≡ items_where true a ++ items_where true b
   items_where-append [] b = refl
   items_where-append ((true, x) ∷ a) b = ap (λ (l : List T). x ∷ l) (items_where-append a b)
   items_where-append ((false, x) ∷ a) b = items_where-append a b
 
-  -- A result says whether an item is kept. The number of items that the results `a ++ b` keep is
-  -- the number of items that `a` keeps, plus the number of items that `b` keeps.
   pub count_true-append : (a b : TestResults T) → count_true (flags_of (a ++ b)) ≡ count_true
       (flags_of a) + count_true (flags_of b)
   count_true-append [] b = omega arith
   count_true-append ((true, x) ∷ a) b = let e = count_true-append a b in omega arith
   count_true-append ((false, x) ∷ a) b = count_true-append a b
 
-  -- If the tests keep all items and leave them as `xs`, then the list of the kept items is `xs`.
   pub items_where-stay : (xs : List T) → items_where true (all_kept xs) ≡ xs
   items_where-stay [] = refl
   items_where-stay (x ∷ xs) = ap (λ (l : List T). x ∷ l) (items_where-stay xs)
 
-  -- `all_kept xs` is a list of results that keep all items `xs`. So the number of items that these
-  -- results keep is the length of `xs`.
   pub count_true-stay : (xs : List T) → count_true (flags_of (all_kept xs)) ≡ length xs
   count_true-stay [] = refl
   count_true-stay (x ∷ xs) = ap suc (count_true-stay xs)
 
-  -- `moves_of_retain` counts the kept items after the first removed item. The results `all_kept xs`
-  -- keep all items `xs`. Putting them in front of the results `a` does not change this number.
   pub moves_of_retain-stay : (xs : List T) (a : TestResults T)
       → moves_of_retain (flags_of (all_kept xs ++ a))
       ≡ moves_of_retain (flags_of a)
   moves_of_retain-stay [] a = refl
   moves_of_retain-stay (x ∷ xs) a = moves_of_retain-stay xs a
 
--- In this module, `J` is the type of a wrapper around a closure. A call to the wrapper returns what
--- the closure returns. `inside` maps each state of the wrapper to the state of the closure inside
--- it.
+-- In this module, `J` is the type of a wrapper around a closure that returns what the closure
+-- returns. `inside` maps each state of the wrapper to the state of the closure inside it.
 module _ {J S T : Type 0} (R : S → T → Bool → S → T → Type 0) (inside : J → S) where
-  -- `through` describes the calls to a wrapper of a closure. Each state of the wrapper contains a
-  -- state of the closure. `through` applies `R`, the relation that describes the calls to the
-  -- closure, to these inner states.
+  -- `through` describes the calls to the wrapper.
   abbrev through : J → T → Bool → J → T → Type 0
   through s x b t y = R (inside s) x b (inside t) y
 
-  -- If a wrapper of a closure returned the results `a` for the items `xs`, then the closure itself
-  -- returned the same results for them.
   pub asked-through : (xs : List T) (s t : J) (a : TestResults T) → TestsInTurn through s xs a t
       → TestsInTurn R (inside s) xs a (inside t)
   asked-through [] s t a h = (h.0, ap inside h.1)
   asked-through (x ∷ xs) s t a h =
       (h.0, h.1, inside h.2, h.3, h.4, asked-through xs h.2 t h.3 h.5, h.6)
 
-  -- If `retain` with a wrapper of a closure turns the list `v` into `w`, then `retain` with the
-  -- closure itself also turns `v` into `w`.
   pub retained-through : {A : Type 0} (s : J) (v w : ListView T A) (t : J)
       → IsRetainedTo through s v w t → IsRetained R (inside s) v w
   retained-through s v w t h = (
@@ -132,8 +104,6 @@ module _ {J S T : Type 0} (R : S → T → Bool → S → T → Type 0) (inside 
 
 -- In this module, `R` describes the calls to a closure that only reads the item.
 module _ {S T : Type 0} (R : S → T → Bool → S → Type 0) where
-  -- If a closure that cannot change the items tests the items `xs`, then it returns one flag for
-  -- each of them, and the kept items are those whose flag is true.
   told : (xs : List T) (s t : S) (a : TestResults T) → TestsInTurn (ReadsOnly R) s xs a t
       → (length (flags_of a) ≡ length xs) × ReturnsInTurn R s (flags_of a) xs t
       × (items_where true a ≡ items_where_true (flags_of a) xs)
@@ -150,17 +120,13 @@ module _ {S T : Type 0} (R : S → T → Bool → S → Type 0) where
       let left : y ≡ x = ap (λ (p : Bool × T). p.1) same ∙ h.4.1 in
       (ap suc rest.0, (h.2, answer, rest.1), first b y x a xs left rest.2)
     where
-      -- This is the induction step of the lemma `told`, from the list `xs` to the list `x ∷ xs`.
-      -- Here, `b` is the flag for the item `x`, and `y` is this item after the test, which left it
-      -- unchanged.
+      -- In this induction step of `told`, `b` is the flag for `x`, and `y` is `x` after the test.
       first : (b : Bool) (y x : T) (a : TestResults T) (xs : List T) → y ≡ x
           → items_where true a ≡ items_where_true (flags_of a) xs
           → items_where true ((b, y) ∷ a) ≡ items_where_true (b ∷ flags_of a) (x ∷ xs)
       first true y x a xs e f = λ i. e i ∷ f i
       first false y x a xs e f = f
 
-  -- If `retain`, called with a closure that only reads the items, turned the list `v` into `w`,
-  -- then `w` contains the items of `v` for which the closure returned true.
   pub retained_filtered : {A : Type 0} (s : S) (v w : ListView T A) → IsRetained (ReadsOnly R) s v w
       → IsFiltered R s v.items w.items
   retained_filtered s v w h =
@@ -168,8 +134,6 @@ module _ {S T : Type 0} (R : S → T → Bool → S → Type 0) where
       let t = told v.items s h.0 r.results r.asked in
       (flags_of r.results, h.0, t.0, t.1, r.items ∙ t.2)
 
-  -- If the closure does not change its state and returns `test x` for each item `x`, then `retain`
-  -- keeps exactly the items that pass `test`.
   pub retained_filter : {A : Type 0} (test : T → Bool) {s : S} {v w : ListView T A}
       → ((x : T) (b : Bool) (t : S) → R s x b t → (b ≡ test x) × (t ≡ s))
       → IsRetained (ReadsOnly R) s v w → w.items ≡ filter test v.items
@@ -177,8 +141,6 @@ module _ {S T : Type 0} (R : S → T → Bool → S → Type 0) where
       (retained_filtered s v w h)
 
 module _ {S T : Type 0} (R : S → T → Bool → S → T → Type 0) where
-  -- Suppose that a closure tested all items of the list `xs`. Then the number of kept items is at
-  -- most the length of `xs`.
   pub few-left : (xs : List T) (s t : S) (a : TestResults T) → TestsInTurn R s xs a t
       → length (items_where true a) ≤ length xs
   few-left [] s t a h =
@@ -188,14 +150,12 @@ module _ {S T : Type 0} (R : S → T → Bool → S → T → Type 0) where
       subst (λ (b : TestResults T). length (items_where true b) ≤ suc (length xs)) (sym h.6)
       (one h.0 h.1 h.3 xs rest)
     where
-      -- The test of one more item increases the number of kept items by at most 1.
       one : (b : Bool) (y : T) (a : TestResults T) (xs : List T)
           → length (items_where true a) ≤ length xs
           → length (items_where true ((b, y) ∷ a)) ≤ suc (length xs)
       one true y a xs few = omega (arith, few)
       one false y a xs few = omega (arith, few)
 
-  -- `retain` does not increase the number of items.
   pub few-retained : {A : Type 0} (s : S) (v w : ListView T A) → IsRetained R s v w
       → length w.items ≤ length v.items
   few-retained s v w h =

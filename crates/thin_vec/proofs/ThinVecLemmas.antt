@@ -16,8 +16,6 @@ use Rattle.thin_vec.specs.Cheap.{IsCheap, IsCheapAt}
 use Rattle.thin_vec.specs.ThinVec.{IsListBlock, IsBounded, ListView, capacity_after_reserve, cost_after_resize, list_view}
 
 module _ {T A : Type 0} (R : RattleType) (b : Block T A) (a : A) where
-  -- If the block `b` of the list `v` is small enough to be allocated, then `v` satisfies
-  -- `IsBounded`: its length and its capacity are within their bounds.
   pub within-of : (v : ListView T A) → IsListBlock b a → list_view b a ≡ v
       → Fits R (length b.slots) → IsBounded R v
   within-of v thin is fits =
@@ -26,16 +24,11 @@ module _ {T A : Type 0} (R : RattleType) (b : Block T A) (a : A) where
       in
       subst (IsBounded R) is here
 
-  -- If an operation leaves a list with the items `xs` and the capacity `c`, and a block of capacity
-  -- `c` can be allocated, then the length and the capacity are within their bounds (`IsBounded`).
   pub within-settled : (xs : List T) (c : ℕ) → Fits R c → RestoresInvariant b a xs c
       → IsBounded R (list_view b a)
   within-settled xs c fits after =
       within-of (list_view b a) after.thin refl (subst (Fits R) (sym after.cap) fits)
 
-  -- `IsBounded` states that the length and the capacity of a list are within their bounds. If it
-  -- holds for the list `v`, then it still holds after an operation that changes the items to `xs`
-  -- but does not change the capacity.
   pub within-stays : (b' : Block T A) (v : ListView T A) (xs : List T) → IsBounded R v
       → list_view b a ≡ v
       → RestoresInvariant b' a xs (length b.slots) → IsBounded R (list_view b' a)
@@ -45,8 +38,6 @@ module _ {T A : Type 0} (R : RattleType) (b : Block T A) (a : A) where
     fits = subst (Fits R) (sym (after.cap ∙ ap (λ (w : ListView T A). w.capacity) is)) kept.fits;
   }
 
-  -- If the block `b` of the list `v` is small enough to be allocated, then `IsBounded` (length and
-  -- capacity are in bounds) holds before and after an operation that keeps the capacity.
   pub within-kept : (b' : Block T A) (v : ListView T A) (xs : List T) → IsListBlock b a
       → list_view b a ≡ v
       → Fits R (length b.slots) → RestoresInvariant b' a xs (length b.slots) → IsBounded R v
@@ -61,8 +52,6 @@ module _ {T A : Type 0} (R : RattleType) (b : Block T A) (a : A) where
   )
 
 module _ {T A : Type 0} (R : RattleType) (w : ListView T A) where
-  -- If a list `w` has no items and a capacity of 0, then its length and its capacity are within
-  -- their bounds (`IsBounded`).
   pub within-none : w.items ≡ [] → w.capacity ≡ 0 → IsBounded R w
   within-none none nothing = record {
     room = omega (arith, ap length none);
@@ -70,9 +59,6 @@ module _ {T A : Type 0} (R : RattleType) (w : ListView T A) where
     fits = subst (Fits R) (sym nothing) (fits-none R);
   }
 
-  -- `IsBounded` states that the length and the capacity of a list are within their bounds. If it
-  -- holds for the list `v`, then it also holds for each list `w` whose capacity is that of `v` and
-  -- whose length is at most this capacity.
   pub within-like : (v : ListView T A) → IsBounded R v → w.capacity ≡ v.capacity
       → length w.items ≤ v.capacity → IsBounded R w
   within-like v kept same room =
@@ -84,18 +70,14 @@ module _ {T A : Type 0} (R : RattleType) (w : ListView T A) where
 
 -- In this module, the capacity of the list `v` changes to `c`.
 module _ {T A : Type 0} (v : ListView T A) (c : ℕ) where
-  -- If the new capacity `c` is equal to the old capacity, then the cost does not change.
   pub cost_after_resize-same : c ≡ v.capacity → cost_after_resize v c ≡ v.cost
   cost_after_resize-same e = let t : eqb c v.capacity ≡ true = grind (arith, nat_tests) in rw t refl
 
-  -- If the capacity grew to `c`, then the new cost is the old cost plus one request for memory and
-  -- `length v.items` copied items.
   pub cost_after_resize-more : v.capacity < c
       → cost_after_resize v c ≡ add_realloc (length v.items) v.cost
   cost_after_resize-more e = let t : eqb c v.capacity ≡ false = grind (arith, nat_tests) in
       rw t refl
 
-  -- A change of the capacity does not change the number of moves in the recorded cost.
   pub cost_after_resize-moves : (cost_after_resize v c).moves ≡ v.cost.moves
   cost_after_resize-moves = go (eqb c v.capacity)
     where
@@ -104,7 +86,6 @@ module _ {T A : Type 0} (v : ListView T A) (c : ℕ) where
       go true = refl
       go false = refl
 
-  -- A change of the capacity takes at most one request for memory.
   pub cost_after_resize-blocks : (cost_after_resize v c).blocks ≤ v.cost.blocks + 1
   cost_after_resize-blocks = go (eqb c v.capacity)
     where
@@ -113,13 +94,10 @@ module _ {T A : Type 0} (v : ListView T A) (c : ℕ) where
       go true = omega arith
       go false = omega arith
 
--- These rewrite rules compute the cost of growing a list. They are for proofs that can compare the
--- capacities before and after the growth.
+-- These rules are for proofs that can compare the capacities before and after the growth.
 pub ruleset costs = (cost_after_resize-same, cost_after_resize-more)
 
--- `IsCheapAt c k` bounds the cost `k` of a list with the capacity `c`. Suppose that this bound
--- holds, and that `n` items are copied into a larger block of capacity `c'`. If `n ≤ c` and
--- `2 * c ≤ c'`, then the cost after copying satisfies the bound for the capacity `c'`.
+-- A growth that at least doubles the capacity keeps the bound `IsCheapAt`.
 cheap-growing : {c : ℕ} {k : Cost} (n c' : ℕ) → IsCheapAt c k → n ≤ c → c < c' → 2 * c ≤ c'
     → IsCheapAt c' (add_realloc n k)
 cheap-growing {c = zero} {k} n c' h le larger doubled =
@@ -143,27 +121,19 @@ cheap-growing {c = suc c} {k} n c' h le larger doubled =
 
 module _ {T A : Type 0} (rule : GrowthRule) (R : RattleType) (law : IsLawful rule)
     (v : ListView T A) (k c : ℕ) where
-  -- If the list `v` has room for `k` more items, then reserving room for these items does not
-  -- change the capacity of `v`.
   pub cap-kept : length v.items + k ≤ v.capacity → capacity_after_reserve rule R v k ≡ Some c
       → c ≡ v.capacity
   cap-kept room e = some-same (sym e ∙ ruled-same rule R v.capacity (length v.items + k) room)
 
-  -- If the list `v` has room for `k` more items, then reserving this room does not change the
-  -- recorded cost of the list.
   pub cost_after_resize-kept : length v.items + k ≤ v.capacity
       → capacity_after_reserve rule R v k ≡ Some c → cost_after_resize v c ≡ v.cost
   cost_after_resize-kept room e = cost_after_resize-same v c (cap-kept room e)
 
-  -- If the list `v` has no room for `k` more items, then the capacity `c` that the growth rule
-  -- chooses is at least `2 * v.capacity` and at least `length v.items + k`.
   pub cap-grown : v.capacity < length v.items + k → capacity_after_reserve rule R v k ≡ Some c
       → (length v.items + k ≤ c) × (2 * v.capacity ≤ c)
   cap-grown more e = let g = ruled-grows rule R v.capacity (length v.items + k) c law more e in
       (g.enough, g.doubled)
 
-  -- If the list `v` grows because it has no room for `k` more items, then its cost increases by one
-  -- request for memory and `length v.items` copied items.
   pub cost_after_resize-grown : v.capacity < length v.items + k
       → capacity_after_reserve rule R v k ≡ Some c
       → cost_after_resize v c ≡ add_realloc (length v.items) v.cost
@@ -171,8 +141,6 @@ module _ {T A : Type 0} (rule : GrowthRule) (R : RattleType) (law : IsLawful rul
       let g = cap-grown more e in
       cost_after_resize-more v c (omega (arith, g.0))
 
-  -- If a list grows to the capacity that the growth rule chooses, then the number of copied items
-  -- is at most the number of added slots.
   pub cost_after_resize-copied : length v.items ≤ v.capacity
       → capacity_after_reserve rule R v k ≡ Some c
       → (cost_after_resize v c).grown + v.capacity ≤ v.cost.grown + c
@@ -186,8 +154,6 @@ module _ {T A : Type 0} (rule : GrowthRule) (R : RattleType) (law : IsLawful rul
             omega (arith, paid, cap-kept spare e)
       ]
 
-  -- `IsCheap` bounds the cost of a list. If it holds for `v`, then it still holds after `v` has
-  -- grown to the capacity `c` that the growth rule chooses.
   pub cheap-regrown : IsCheap v → length v.items ≤ v.capacity
       → capacity_after_reserve rule R v k ≡ Some c
       → IsCheapAt c (cost_after_resize v c)

@@ -5,19 +5,16 @@ use Rattle.std.specs.Coded.{Coded, code_by, coded×, coded_ℕ, coded_list, code
 use Rattle.thin_block.specs.Cost.{Cost, cost_code, add_moves}
 use Rattle.thin_block.specs.Slots.{empty_slots, filled_slots}
 
--- A value of `OpenView T A` describes an open block: the block of a list during an edit such as
--- `retain`. The item type is `T`, and the allocator type is `A`.
+-- `OpenView T A` describes an open block with the item type `T` and the allocator type `A`.
 pub record OpenView (T A : Type 0) : Type 0 where
   -- The front items: the items before the edited range, and the items that have been kept or
   -- inserted so far.
   pub front : List T
-  -- The number of empty slots between the first part of the block (the front) and the second part
-  -- (the middle run).
+  -- The number of empty slots between the front and the middle run.
   pub gap : ℕ
   -- The middle items: the items of the edited range that have not been yielded or tested yet.
   pub rest : List T
-  -- The number of empty slots between the second part of the block (the middle run) and the third
-  -- part (the tail).
+  -- The number of empty slots between the middle run and the tail.
   pub gap_after : ℕ
   -- The tail items: the items after the edited range.
   pub tail : List T
@@ -50,23 +47,19 @@ open_view_code {T} {A} t a =
     (λ _. refl)
 
 module _ {T A : Type 0} where
-  -- `tail_start v` is the index of the first slot of the tail, which is the last part of the open
-  -- block `v`.
+  -- `tail_start v` is the index of the first slot of the tail of the open block `v`.
   abbrev pub tail_start : OpenView T A → ℕ
   tail_start v = length v.front + v.gap + length v.rest + v.gap_after
 
-  -- `tail_end v` is the index directly after the tail, which is the last part of the open block
-  -- `v`.
+  -- `tail_end v` is the index directly after the tail of the open block `v`.
   abbrev pub tail_end : OpenView T A → ℕ
   tail_end v = tail_start v + length v.tail
 
-  -- `range_len v` is the number of slots between the first part (the front) and the last part (the
-  -- tail) of the open block `v`.
+  -- `range_len v` is the number of slots between the front and the tail of the open block `v`.
   abbrev pub range_len : OpenView T A → ℕ
   range_len v = v.gap + length v.rest + v.gap_after
 
-  -- `slots_of v` contains all slots of the open block `v`, in order: the filled slots of its three
-  -- parts, and the empty slots after each part.
+  -- `slots_of v` contains all slots of the open block `v`, in order.
   abbrev pub slots_of : OpenView T A → List (Option T)
   slots_of v = filled_slots v.front
       ++ (empty_slots v.gap

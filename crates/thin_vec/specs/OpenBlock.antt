@@ -1,5 +1,4 @@
--- These definitions state which slots of an open block (the block of a list during an edit) contain
--- items, and which are empty.
+-- These definitions state which slots of an open block contain items, and which are empty.
 pub mod Dedup
 pub mod Retain
 use Rattle.std.specs.Prelude.{◌≡◌, ◌+◌, ◌-◌, ◌≤◌, drop, length, slice_range, take}
@@ -8,7 +7,7 @@ use Rattle.thin_vec.specs.Open.{OpenView, slots_of}
 use Rattle.thin_vec.specs.declared.open_block.OpenBlock.TheInside.{Inside}
 
 module _ {T A : Type 0} where
-  -- `open_view h` is how contracts see the open block `h`: as a value of the type `Open`.
+  -- `open_view h` is how contracts see the open block `h`: as a value of the type `OpenView`.
   abbrev pub open_view : Inside T A → OpenView T A
   open_view h =
       record {
@@ -33,7 +32,6 @@ module _ {T A : Type 0} where
     pub tail : h.tail_start + length v.tail ≡ h.len
     pub room : h.len ≤ v.capacity
 
-  -- `IsOpen h`, the invariant of the type `OpenBlock`, states that exactly the slots in the front,
-  -- the middle run and the tail of the open block `h` contain items.
+  -- `IsOpen h` is the invariant of the type `OpenBlock`.
   abbrev pub IsOpen : Inside T A → Type 0
   IsOpen h = IsOpenViewOf h (open_view h)

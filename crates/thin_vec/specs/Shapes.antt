@@ -11,41 +11,31 @@ use Rattle.thin_block.specs.Slots.{empty_slots, filled_slots, items_in}
 abbrev pub shape : ℕ → ℕ → List Bool
 shape n m = replicate n true ++ replicate m false
 
--- `head_of bs` encodes the first flag of the list `bs` as a number: 1 for true, 2 for false, and 0
--- if `bs` is empty.
+-- `head_of bs` encodes the first flag of the list `bs` as a number, which `omega` can compare.
 head_of : List Bool → ℕ
 head_of [] = 0
 head_of (true ∷ bs) = 1
 head_of (false ∷ bs) = 2
 
--- `tail_of bs` is the list of flags `bs` without its first flag, or the empty list if `bs` is
--- empty.
 abbrev tail_of : List Bool → List Bool
 tail_of [] = []
 tail_of (b ∷ bs) = bs
 
--- Applied to each of `m` empty slots, the function `is_some` returns false.
 none_shape : (X : Type 0) (m : ℕ) → map is_some (let none : List (Option X) = empty_slots m in
     none) ≡ replicate m false
 none_shape X zero = refl
 none_shape X (suc m) = ap (λ l. false ∷ l) (none_shape X m)
 
--- The row of slots `filled_slots ys ++ empty_slots m` consists of filled slots, which contain the
--- items `ys`, and `m` empty slots. The list `shape (length ys) m` says which slots of this row are
--- filled.
 front_shape : {X : Type 0} (ys : List X) (m : ℕ)
     → map is_some (filled_slots ys ++ empty_slots m) ≡ shape (length ys) m
 front_shape {X} [] m = none_shape X m
 front_shape (y ∷ ys) m = ap (λ l. true ∷ l) (front_shape ys m)
 
--- If the row of slots `s` consists of `n` filled slots, followed by `m` empty slots, then
--- `map is_some s` consists of `n` copies of `true`, followed by `m` copies of `false`.
 pub to_shape : {X : Type 0} (s : List (Option X)) (m : ℕ)
     → s ≡ filled_slots (items_in s) ++ empty_slots m
     → map is_some s ≡ shape (length (items_in s)) m
 to_shape s m e = ap (map is_some) e ∙ front_shape (items_in s) m
 
--- If `map is_some s` is `replicate m false`, then the row of slots `s` consists of `m` empty slots.
 all_none : {X : Type 0} (s : List (Option X)) (m : ℕ)
     → map is_some s ≡ replicate m false → s ≡ empty_slots m
 unfolding head_of
@@ -55,16 +45,12 @@ all_none (x ∷ s) zero e = let n = ap length e in absurd (omega (arith, n))
 all_none (Some x ∷ s) (suc m) e = let n : 1 ≡ 2 = ap head_of e in absurd (omega (arith, n))
 all_none (None ∷ s) (suc m) e = ap (λ l. None ∷ l) (all_none s m (ap tail_of e))
 
--- If the rows `None ∷ s` and `filled_slots ys ++ empty_slots m` have the same length, and the same
--- slots are filled in both rows, then `ys` is empty, and the two rows are equal.
 none_first : {X : Type 0} (s : List (Option X)) (ys : List X) (m : ℕ)
     → false ∷ map is_some s ≡ shape (length ys) m → None ∷ s ≡ filled_slots ys ++ empty_slots m
 unfolding head_of
 none_first s [] m e = all_none (None ∷ s) m e
 none_first s (y ∷ ys) m e = let n : 2 ≡ 1 = ap head_of e in absurd (omega (arith, n))
 
--- If `map is_some s` consists of `n` times `true`, followed by `m` times `false`, then the row `s`
--- consists of `n` filled slots, followed by `m` empty slots.
 pub from_shape : {X : Type 0} (s : List (Option X)) (m : ℕ)
     → map is_some s ≡ shape (length (items_in s)) m → s ≡ filled_slots (items_in s) ++ empty_slots m
 unfolding head_of

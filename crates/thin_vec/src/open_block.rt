@@ -52,9 +52,9 @@ use thin_block::{Block, Growth};
 /// an item is this decision, together with the item as the test left it.
 ///
 /// An `OpenBlock` owns the block and all items in it. It does not implement `Drop`: `close` puts
-/// the block back into the list. Contracts describe an `OpenBlock` as a value of the type `Open`,
-/// which is defined in `specs/OpenView.antt`. Only the proofs of its methods deal with slots. So
-/// each step of an edit is a method, even a step that only one function takes.
+/// the block back into the list. Contracts describe an `OpenBlock` as a value of the type
+/// `OpenView`, which is defined in `specs/Open.antt`. Only the proofs of its methods deal with
+/// slots. So each step of an edit is a method, even a step that only one function takes.
 pub struct OpenBlock<T, A: Allocator> {
     // The block that was taken out of the list. The length that it stores is not used while the
     // block is open.
@@ -225,13 +225,6 @@ impl<T, A: Allocator> OpenBlock<T, A> {
         ensures in_bounds { tail_end self.now ≤ self.now.capacity }
     {
         self.tail_start < self.len
-    }
-
-    // Returns whether there is an empty slot before the remaining items of the range.
-    pub(crate) fn has_gap(&self) -> bool
-        ensures value { IsTrue result ↔ (0 < self.now.gap) }
-    {
-        self.front_end < self.rest_start
     }
 
     // Joins the gaps before and after the middle run into one gap. The middle run must be empty: no

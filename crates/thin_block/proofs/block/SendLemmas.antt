@@ -11,50 +11,37 @@ use Rattle.std_alloc.proofs.SendSync.{quiet, lies, seen}
 use Rattle.thin_block.specs.Ownership.{erased_type, word_of, words_of, slot_owns, slots_own, word_wands, rejoin_wand, block_owns, slot_shares, slots_share, block_shares}
 use Rattle.thin_block.specs.contracts.block.Block as C
 
--- Numbers may be sent to another thread.
 number_send : IsSend usize
 number_send = search sendable
 
--- Numbers may be shared between threads.
 number_sync : IsSync usize
 number_sync = search sendable
 
--- `word_wands τ m w b o` consists of `w` rights. Each of them allows the memory of `m` items of the
--- type `τ` to be converted into the memory of one word. These rights do not depend on the thread
--- that owns them.
+-- What is `Keyless` does not depend on the thread that owns it. What is `Common` does not depend on
+-- the thread that uses the shared reference.
 ways_Keyless : (τ : Ty) (m w b o : ℕ) → Keyless (word_wands τ m w b o)
 ways_Keyless τ m zero b o = tt
 ways_Keyless τ m (suc w) b o = ((tt, tt), ways_Keyless τ m w b (o + size (word_of τ m)))
 
--- The right to convert the parts of a block back into its whole allocation does not depend on the
--- thread that owns this right.
 way_back_Keyless : (w : Option (ℕ × ℕ)) (τ : Ty) (c b o : ℕ) → Keyless (rejoin_wand w τ c b o)
 way_back_Keyless None τ c b o = ((tt, (tt, tt)), tt)
 way_back_Keyless (Some w) τ c b o =
     (((tt, tt), tt), (ways_Keyless τ w.0 (div_ceil c w.0) b (o + 16), tt))
 
 module _ (R : RattleType) where
-  -- If items may be sent to another thread, then the resource `slot_owns R x b o`, which describes
-  -- the memory of one slot, is the same for every thread.
   place_Keyless : IsSend R → (x : Option R.Denot) (b o : ℕ) → Keyless (slot_owns R x b o)
   place_Keyless s (Some x) b o = lies R s (block_ptr b o) x
   place_Keyless s None b o = tt
 
-  -- If items may be sent to another thread, then the memory of several slots does not depend on the
-  -- thread that owns this memory.
   places_Keyless : IsSend R → (xs : List (Option R.Denot)) (b o : ℕ) → Keyless (slots_own R xs b o)
   places_Keyless s [] b o = tt
   places_Keyless s (x ∷ xs) b o =
       (place_Keyless s x b o, places_Keyless s xs b (o + type_size R))
 
-  -- If items may be shared between threads, then the resources behind a shared reference to a slot
-  -- do not depend on the thread that uses the reference.
   place_Common : IsSync R → (x : Option R.Denot) (p : Ptr) → Common (slot_shares R x p)
   place_Common y (Some x) p κ = seen R y p x κ
   place_Common y None p κ = tt
 
-  -- If items may be shared between threads, then the resources behind a shared reference to several
-  -- slots do not depend on the thread that uses the reference.
   places_Common : IsSync R → (xs : List (Option R.Denot)) (b o : ℕ)
       → Common (slots_share R xs b o)
   places_Common y [] b o κ = tt
@@ -62,9 +49,6 @@ module _ (R : RattleType) where
       (place_Common y x (block_ptr b o) κ, places_Common y xs b (o + type_size R) κ)
 
   module _ (Z : RattleType) (g : Ghosts Z.Denot) where
-    -- Suppose that items may be sent to another thread, and that the right to free memory does not
-    -- depend on the thread that owns this right. Then the resources of a block do not depend on the
-    -- thread that owns the block.
     block_Keyless : IsSend R → Frees g g.dealloc_token → (p : Ptr) (n : ℕ)
         (xs : List (Option R.Denot)) (a : Option Z.Denot)
         → Keyless (block_owns g.dealloc_token R p n xs a)
@@ -90,8 +74,6 @@ module _ (R : RattleType) where
       places_Keyless s xs b (o + 16),
     )
 
-    -- If items may be shared between threads, then the resources behind a shared reference to a
-    -- block do not depend on the thread that uses the reference.
     block_Common : IsSync R → (p : Ptr) (n : ℕ) (xs : List (Option R.Denot)) (a : Option Z.Denot)
         → Common (block_shares R p n xs a)
     block_Common y null_ptr n xs a κ = tt
@@ -107,8 +89,6 @@ module _ (R : RattleType) where
       places_Common y xs b (o + 16) κ,
     )
 
-    -- If the items, the allocator and the right to free memory may be sent to another thread, then
-    -- a block may be sent too.
     pub block_send : IsSend R → IsSend Z → Frees g g.dealloc_token → IsSend (C.the_row R Z g)
     block_send s z f =
         let O = C.the_type R Z g in
@@ -117,7 +97,6 @@ module _ (R : RattleType) where
         owning_send O all (λ d. block_Keyless s f d.at d.len d.slots d.alloc)
         (λ k. quiet (to O) (exits_of k (fields O)) ((struct_send (shape O) all).leaving k))
 
-    -- If the items and the allocator may be shared between threads, then a block may be shared too.
     pub block_sync : IsSync R → IsSync Z → IsSync (C.the_row R Z g)
     block_sync y z =
         let O = C.the_type R Z g in

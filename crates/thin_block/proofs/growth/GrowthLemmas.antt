@@ -5,8 +5,6 @@ use Rattle.std.proofs.Common.{arith}
 use Rattle.thin_block.specs.Capacity.{fits}
 use Rattle.thin_block.specs.Growth.{IsLawful, checked_capacity}
 
--- The rule that always chooses the wanted capacity breaks the law of growth rules, which demands
--- that the capacity at least doubles.
 pub want_alone_breaks : IsLawful (λ s a c w. checked_capacity s a w) → ⊥
 unfolding checked_capacity fits
 want_alone_breaks law =

@@ -16,8 +16,7 @@ use Rattle.thin_block.specs.PowerLaws.{least_power_is, powers_filled, powers_of_
 use Rattle.thin_block.proofs.CapacityLemmas.{fitting_none}
 use Rattle.thin_block.proofs.sizes.SizesLemmas.{fits_tells, opened, rounded}
 
--- The code of the growth rule `PowerBytes` uses the item size `size`, which is `s` capped at
--- `usize::MAX`. If `size` is 0, then `s` is 0.
+-- The code uses the item size `size`, which is `s` capped at `usize::MAX`.
 pub takes_none : (s size : ℕ) → size ≡ capped s → size ≡ 0 → s ≡ 0
 takes_none s size is none =
     let low : s < 2 ^ 63 = capped_small s (omega (arith, is, none)) in
@@ -32,9 +31,6 @@ capped_le s = elim (cases_lt s (2 ^ 64)) [
 takes_some : (s size : ℕ) → size ≡ capped s → 0 < size → 0 < s
 takes_some s size is some = omega (arith, is, some, capped_le s)
 
--- Suppose that an item takes `s` bytes, that `s` is positive, and that `power_bytes` chooses the
--- capacity `n`. Then there is a power of two `p` such that the header and `n` items fit into `p`
--- bytes, but the header and `n + 1` items do not.
 pub each_fills : (s a c w : ℕ) (r : Option ℕ) → r ≡ power_bytes s a c w → 0 < s
     → IfSome r (FillsPowerOfTwo s a)
 each_fills s a c w None e some = tt
@@ -48,8 +44,7 @@ module _ (R : RattleType) (c w size : ℕ) (is : size ≡ capped (type_size R))
   abbrev a : ℕ
   a = type_align R
 
-  -- `items` is the greater of the required capacity `w` and `2 * c`, where `c` is the old capacity
-  -- and `2 * c` is capped at `usize::MAX`.
+  -- `items` is the number of items that the code asks for. It caps `2 * c` at `usize::MAX`.
   abbrev items : ℕ
   items = max w (min (c * 2) (2 ^ 64 - 1))
 
@@ -83,8 +78,6 @@ module _ (R : RattleType) (c w size : ℕ) (is : size ≡ capped (type_size R))
         λ i. ((e ∙ ap least_power bytes) i - offset i) / sym size_is i in
         ap (checked_capacity s a) next ∙ sym (powers_of_some s a c w (omega (arith, size_is, some)))
 
-  -- If a header and `items` items take more than `2 ^ 63` bytes in total, then the result of
-  -- `power_bytes` is `None`.
   pub power_past : 2 ^ 63 < 16 + items * size → None ≡ power_bytes s a c w
   power_past large =
       let offset = (rounded R 0).offset in

@@ -19,14 +19,12 @@ module _ (E : El) (Y : Al) {M : Type 1} {𝓤 : Ura M} (𝓛 : Logic 𝓤) (at_m
     (run : Routine → Fun 𝓤) where
   open 𝓛 use {H, A}
 
-  -- `Resizing` is the contract of the function `grow_or_shrink`.
   abbrev pub Resizing : Contract 𝓤
   Resizing = triple_of 𝓛 (F.signature E.row Y.row) (F.spec E.row Y.row Y.g Y.d Y.drops 𝓛 at_mem run)
 
   module _ (κ κT κA : Lft) (q qT qA : Share) (out : κ ⊑ κA) (p : ℕ × ℕ) (a : Y.row.Denot)
       (b o len held wanted : ℕ) (xs : List (el_x E)) where
-    -- `at_resizing` contains the ghost arguments of a call of `grow_or_shrink`: lifetimes, shares
-    -- of lifetime tokens, the arguments with their machine values, and the items `xs`.
+    -- `at_resizing` contains the ghost arguments of a call of `grow_or_shrink`.
     abbrev pub at_resizing : Resizing.Ghost
     at_resizing = (
       (
@@ -72,9 +70,8 @@ module _ (E : El) (Y : Al) {M : Type 1} {𝓤 : Ura M} (𝓛 : Logic 𝓤) (at_m
         feq_i ! (List Val) (vint w64 len ∷ []) (vint w64 len ∷ []) refl $ fjoin ! $ fjoin ! $
         feq_i ! (List Val) (vptr b o ∷ []) (vptr b o ∷ []) refl $ fjoin ! $ move ! (2 ∷ []) $
         feq_i ! (List Val) (vptr p.0 p.1 ∷ []) (vptr p.0 p.1 ∷ []) refl $ fjoin ! $ fjoin ! $
-        -- The previous steps have joined the arguments of the call into one entry of the proof
-        -- context. The proof context now holds these entries, in this order: the arguments; one
-        -- entry for the required facts and the memory of the block; three lifetime tokens.
+        -- The context is now: the arguments; one entry for the required facts and the memory of the
+        -- block; three lifetime tokens.
         nothing ! $ move ! (5 ∷ 0 ∷ []) $ join ! $ move ! (4 ∷ 0 ∷ []) $ join ! $
         move ! (3 ∷ 0 ∷ []) $ join ! $ join ! $ join ! $ done !
 

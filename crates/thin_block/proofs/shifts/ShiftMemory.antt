@@ -12,14 +12,10 @@ use Rattle.thin_block.specs.Shifts.{IsShifted}
 use Rattle.thin_block.proofs.SlotsLemmas.{empty-run, parted-run, run-split, length-run, moved_left, moved_right, moved_over, moved_back}
 use Rattle.thin_block.proofs.SlotMemory.{Slot, sz, cut, glue, around, run_out, run_in, to_items, of_items, to_room, of_room}
 
--- If slot 0 begins at the offset `o`, each slot takes `s` bytes, and `c ≡ d + a`, then slot `c`
--- begins `d * s` bytes after the beginning of slot `a`.
 pub further : (a d c s o : ℕ) → c ≡ d + a → c * s + o ≡ d * s + (a * s + o)
 further a d c s o e = let sum = add_times d a s in
     let same : c * s ≡ (d + a) * s = ap (λ (k : ℕ). k * s) e in omega arith
 
--- If `new` has `n` slots, then `write_slots i new s` consists of the first `i` slots of `s`, then
--- `new`, and then the slots of `s` from index `i + n` onward.
 laid-over : {T : Type 0} (s new : List (Option T)) (i n : ℕ) → length new ≡ n
     → write_slots i new s ≡ take i s ++ (new ++ drop (i + n) s)
 laid-over s new i n long = ap (λ (k : ℕ). take i s ++ (new ++ drop (i + k) s)) long
@@ -61,9 +57,8 @@ module _ (E : El) {M : Type 1} {𝓤 : Ura M} (𝓛 : Logic 𝓤) (b o : ℕ) (s
   empty-long : (n : ℕ) → length (empty_slots {T = el_x E} n) ≡ n
   empty-long n = length-replicate n None
 
-  -- Suppose that the slots `i..i + n` are `old`, and that the move turns them into `new`. If the
-  -- memory of `old` can be split into `Was` and `Kept`, and `Is` and `Kept` can be joined into the
-  -- memory of `new`, then `Moves Was Is` holds.
+  -- Proves `Moves Was Is` from the slots `i..i + n` alone, which the move turns from `old` into
+  -- `new`. `Kept` is the part of their memory that the move leaves alone.
   moves_by : (i n : ℕ) (old new : S) (Was Is Kept : Fml) → i + n ≤ length slots
       → slot_range i n slots ≡ old → length new ≡ n
       → move_slots from to k (take i slots ++ (old ++ drop (i + n) slots))
@@ -88,10 +83,7 @@ module _ (E : El) {M : Type 1} {𝓤 : Ura M} (𝓛 : Logic 𝓤) (b o : ℕ) (s
             rewrite ! 0 (λ (l : S). ‵ (Row o l)) result refl $ done !;
       }
 
-  -- Suppose that the slots `from..from + k` hold items, and that the `d` slots directly before them
-  -- are empty. Then the memory of the items and of the `d` empty slots can be separated from the
-  -- memory of the other slots. After the items have been moved down by `d` slots, the memory of all
-  -- slots can be put back together.
+  -- The items move down into the `d` empty slots directly before them.
   pub slides_down : (d : ℕ) → from ≡ to + d → from + k ≤ length slots
       → slot_range to d slots ≡ empty_slots d
       → Moves (memory_before_copy (R E) false d k (block_ptr b src) (block_ptr b dst) xs)
@@ -128,10 +120,7 @@ module _ (E : El) {M : Type 1} {𝓤 : Ura M} (𝓛 : Logic 𝓤) (b o : ℕ) (s
       by ! (glue E 𝓛 b (filled_slots xs) (empty_slots d) dst (k * s + dst)
       (ap (λ (m : ℕ). m * s + dst) (sym full-long))))
 
-  -- Suppose that the slots `from..from + k` hold items, and that the `d` slots directly after them
-  -- are empty. Then the memory of the items and of the `d` empty slots can be separated from the
-  -- memory of the other slots. After the items have been moved up by `d` slots, the memory of all
-  -- slots can be put back together.
+  -- The items move up into the `d` empty slots directly after them.
   pub slides_up : (d : ℕ) → to ≡ from + d → to + k ≤ length slots
       → slot_range (from + k) d slots ≡ empty_slots d
       → Moves (memory_before_copy (R E) true d k (block_ptr b src) (block_ptr b dst) xs)
@@ -166,9 +155,6 @@ module _ (E : El) {M : Type 1} {𝓤 : Ura M} (𝓛 : Logic 𝓤) (b o : ℕ) (s
       use1 𝓛 (‵ (Row src (empty_slots d))) (of_room E 𝓛 b d src) $
       by ! (glue E 𝓛 b (empty_slots d) (filled_slots xs) src dst at))
 
-  -- Splits the memory of the slots `ys ++ (mid ++ zs)` into the memory of `ys`, the memory of `zs`
-  -- and the memory of `mid`. The list `ys` consists of `k` slots. The memory of `ys` begins at the
-  -- offset `lo`, and the memory of `zs` begins at the offset `hi`.
   cut3 : (ys mid zs : S) (lo hi : ℕ) → length ys ≡ k → hi ≡ length mid * s + (k * s + lo)
       → ent 𝓤 (sem 𝓛 (Row lo (ys ++ (mid ++ zs))))
       (sep 𝓤 (sem 𝓛 (Row lo ys)) (sep 𝓤 (sem 𝓛 (Row hi zs)) (sem 𝓛 (Row (k * s + lo) mid))))
@@ -189,13 +175,11 @@ module _ (E : El) {M : Type 1} {𝓤 : Ura M} (𝓛 : Logic 𝓤) (b o : ℕ) (s
       $ move ! (1 ∷ 0 ∷ []) $
       by ! (glue E 𝓛 b ys (mid ++ zs) lo (k * s + lo) (ap (λ (n : ℕ). n * s + lo) (sym count)))
 
-  -- `Was` is the memory before the move: the items at their old address, and empty slots at the new
-  -- address.
+  -- `Was` and `Is` are the memory before and after the move: the items at one address, and empty
+  -- slots at the other.
   abbrev pub Was : Fml
   Was = fsep (Items src) (Room k dst)
 
-  -- The formula `Is` describes the memory after the move: the items are at their new address, and
-  -- the slots that they left are empty.
   abbrev pub Is : Fml
   Is = fsep (Items dst) (Room k src)
 
@@ -212,8 +196,7 @@ module _ (E : El) {M : Type 1} {𝓤 : Ura M} (𝓛 : Logic 𝓤) (b o : ℕ) (s
   flat ys mid zs post = append_assoc ys (mid ++ zs) post
       ∙ ap (λ (l : S). ys ++ l) (append_assoc mid zs post)
 
-  -- Items in the slots `from..from + k` can be moved up, past `m` slots, into the empty slots
-  -- `to..to + k`. Their old and new slots can be separated before the move, and rejoined after it.
+  -- The items move up, past `m` slots, into empty slots.
   goes_over : (m : ℕ) → to ≡ from + k + m → to + k ≤ length slots
       → slot_range to k slots ≡ empty_slots k → Moves Was Is
   goes_over m apart within gap =
@@ -256,8 +239,7 @@ module _ (E : El) {M : Type 1} {𝓤 : Ura M} (𝓛 : Logic 𝓤) (b o : ℕ) (s
       use1 𝓛 (‵ (Row src (empty_slots k))) (of_room E 𝓛 b k src) $
       by ! (glue3 (empty_slots k) mid (filled_slots xs) src dst (empty-long k) at))
 
-  -- Items in the slots `from..from + k` can be moved down, past `m` slots, into the empty slots
-  -- `to..to + k`. Their old and new slots can be separated before the move, and rejoined after it.
+  -- The items move down, past `m` slots, into empty slots.
   goes_back : (m : ℕ) → from ≡ to + k + m → from + k ≤ length slots
       → slot_range to k slots ≡ empty_slots k → Moves Was Is
   goes_back m apart within gap =
@@ -305,8 +287,6 @@ module _ (E : El) {M : Type 1} {𝓤 : Ura M} (𝓛 : Logic 𝓤) (b o : ℕ) (s
   abbrev pub Bare : Type 0
   Bare = (i : ℕ) → to ≤ i → i < to + k → (i < from) ⊎ (from + k ≤ i) → slot slots i ≡ None
 
-  -- If the old slots of the moved items and their empty new slots do not overlap, then all these
-  -- slots can be separated from the other slots before the move, and rejoined after it.
   pub apart : from + k ≤ length slots → to + k ≤ length slots → Bare → (from + k ≤ to)
       ⊎ (to + k ≤ from) → Moves Was Is
   apart source target bare far =
@@ -317,8 +297,7 @@ module _ (E : El) {M : Type 1} {𝓤 : Ura M} (𝓛 : Logic 𝓤) (b o : ℕ) (s
       (empty-run slots to k target
       (λ i h j. bare i h j (inl (let q : i < from = omega arith in q))))) far
 
-  -- `distance up` is the number of slots by which the items are moved. The items are moved up if
-  -- `up` is true, and down otherwise.
+  -- `distance up` is the number of slots by which the items are moved.
   abbrev pub distance : Bool → ℕ
   distance true = to - from
   distance false = from - to
@@ -327,22 +306,14 @@ module _ (E : El) {M : Type 1} {𝓤 : Ura M} (𝓛 : Logic 𝓤) (b o : ℕ) (s
   Way up = Moves (memory_before_copy (R E) up (distance up) k (block_ptr b src) (block_ptr b dst)
       xs) (memory_after_copy (R E) up (distance up) k (block_ptr b src) (block_ptr b dst) xs)
 
-  -- `GapAbove up` is about a move of items from the slots `from..from + k` to the slots
-  -- `to..to + k`. If `up` is true, the items are moved up, and `GapAbove up` states that
-  -- `from ≤ to` and that the slots `from + k..to + k` are empty. If `up` is false, `GapAbove up`
-  -- states nothing.
+  -- `GapAbove up` states, if the items move up, that the slots above them up to `to + k` are empty.
   abbrev pub GapAbove : Bool → Type 0
   GapAbove up = up ≡ true → (from ≤ to) × AreEmpty slots (from + k) (to - from)
 
-  -- `GapBelow up` is about a move of items from the slots `from..from + k` to the slots
-  -- `to..to + k`. If `up` is false, the items are moved down, and `GapBelow up` states that
-  -- `to ≤ from` and that the slots `to..from` are empty. If `up` is true, `GapBelow up` states
-  -- nothing.
+  -- `GapBelow up` states, if the items move down, that the slots below them from `to` on are empty.
   abbrev pub GapBelow : Bool → Type 0
   GapBelow up = up ≡ false → (to ≤ from) × AreEmpty slots to (from - to)
 
-  -- If adjacent items are moved only through empty slots, then the items and these slots can be
-  -- separated from the other slots before the move, and rejoined after it.
   pub slides : from + k ≤ length slots → to + k ≤ length slots → (up : Bool) → GapAbove up
       → GapBelow up → Way up
   slides source target true above below =
@@ -356,8 +327,6 @@ module _ (E : El) {M : Type 1} {𝓤 : Ura M} (𝓛 : Logic 𝓤) (b o : ℕ) (s
       slides_down (from - to) (omega arith) source
       (empty-run slots to (from - to) within gap.1)
 
-  -- If items are moved only through empty slots, then their new address is `distance up` slots
-  -- above their old address if `up` is true, and `distance up` slots below it otherwise.
   pub shifted : (up : Bool) → GapAbove up → GapBelow up → IsShifted (R E) up (distance up)
       (block_ptr b src) (block_ptr b dst)
   shifted true above below = let le : from ≤ to = (above refl).0 in

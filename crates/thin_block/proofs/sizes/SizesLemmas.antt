@@ -83,26 +83,18 @@ rounded_to w128 x = record {
 abbrev pub IsAlign : ℕ → Type 0
 IsAlign a = (w : Width) × (a ≡ bytes w)
 
--- The alignment of every type is 1, 2, 4, 8 or 16.
 align_known : (R : RattleType) → IsAlign (type_align R)
 align_known R = (align_w (layout R), align-bytes (layout R))
 
--- `Rounded a x` collects bounds on the alignment and the size of a block whose items have the
--- alignment `a` and take `x` bytes in total. If `a` is 1, 2, 4, 8 or 16 (`IsAlign a`), then
--- `Rounded a x` holds for every `x`.
 pub rounded_at : (a x : ℕ) → IsAlign a → Rounded a x
 rounded_at a x is = subst (λ (k : ℕ). Rounded k x) (sym is.1) (rounded_to is.0 x)
 
--- The bounds `Rounded a x` on the alignment and the size of a block hold if `a` is the alignment of
--- the item type `R`. Here, `x` is the total size of the items in bytes.
 pub rounded : (R : RattleType) (x : ℕ) → Rounded (type_align R) x
 rounded R x = rounded_at (type_align R) x (align_known R)
 
 -- The next lemmas are about sizes that exceed `usize::MAX`. The code replaces each such size with
 -- `usize::MAX`.
 
--- If `c * capped s < 2 ^ 63`, then `c * s` is `c * capped s`. Here `capped s` is the lesser of `s`
--- and `usize::MAX`.
 pub whole_product : (c s : ℕ) → c * capped s < 2 ^ 63 → c * s ≡ c * capped s
 whole_product zero s h = zero-mul s ∙ sym (zero-mul (capped s))
 whole_product (suc c) s h =
@@ -110,14 +102,10 @@ whole_product (suc c) s h =
     let low : s < 2 ^ 63 = capped_small s (omega arith) in
     ap (λ (k : ℕ). suc c * k) (sym (capped_is s (omega arith)))
 
--- If `c * s < 2 ^ 63`, then `c * capped s` is `c * s`. Here `capped s` is the lesser of `s` and
--- `usize::MAX`.
 pub capped_product : (c s : ℕ) → c * s < 2 ^ 63 → c * capped s ≡ c * s
 capped_product zero s h = zero-mul (capped s) ∙ sym (zero-mul s)
 capped_product (suc c) s h = let more = suc-mul c s in
     ap (λ (k : ℕ). suc c * k) (capped_is s (omega arith))
-
--- The next lemmas are about boolean conditions and comparisons of numbers.
 
 both_true : (x y : Bool) → x ≡ true → y ≡ true → (x && y) ≡ true
 both_true true y e f = f
@@ -131,7 +119,6 @@ tells_second : (x y : Bool) → (x && y) ≡ true → y ≡ true
 tells_second true y f = f
 tells_second false y f = cc
 
--- A number that is not 0 is positive.
 pub positive : (n : ℕ) → (n ≡ 0 → ⊥) → 0 < n
 positive zero never = absurd (never refl)
 positive (suc n) never = omega arith
@@ -146,24 +133,19 @@ lt_of_not a b never = omega arith
 abbrev pub Small : ℕ → ℕ → ℕ → Type 0
 Small s a c = c * s + 16 + block_align a ≤ 2 ^ 63
 
--- `Told s a c` collects the facts that hold if a block for `c` items is small enough to be
--- allocated. Each item has the size `s` and the alignment `a`.
+-- `Told s a c` is what holds if a block for `c` items is small enough to be allocated.
 pub record Told (s a c : ℕ) : Type 0 where
   pub few : c < 2 ^ 63
   pub room : Small s a c
   pub short : block_bytes s a c < 2 ^ 63
 
 module _ (s a c : ℕ) (is : IsAlign a) where
-  -- If `c < 2 ^ 63` and `Small s a c` holds, then a block for `c` items of size `s` and alignment
-  -- `a` is small enough to be allocated.
   pub small_yes : c < 2 ^ 63 → Small s a c → fits_isize s a c ≡ true
   small_yes few room =
       let whole : block_bytes s a c < 2 ^ 63 = (rounded_at a (c * s) is).short room in
       both_true (ltb c (2 ^ 63)) (ltb (block_bytes s a c) (2 ^ 63)) (lt-ltb c (2 ^ 63) few)
       (lt-ltb (block_bytes s a c) (2 ^ 63) whole)
 
-  -- If a block for `c` items of size `s` and alignment `a` is small enough to be allocated, then
-  -- `Told s a c` holds: `c` and the block's size are less than `2 ^ 63`, and `Small s a c` holds.
   pub small_tells : fits_isize s a c ≡ true → Told s a c
   small_tells e =
       let few : c < 2 ^ 63 =
@@ -177,31 +159,23 @@ module _ (R : RattleType) (c : ℕ) where
   abbrev IsSmall : Type 0
   IsSmall = fits_isize (type_size R) (type_align R) c ≡ true
 
-  -- If `c < 2 ^ 63`, and `Small` holds for `c` items of type `R`, then a block for these items is
-  -- small enough to be allocated.
   pub fits_yes : c < 2 ^ 63 → Small (type_size R) (type_align R) c → IsSmall
   fits_yes few room = small_yes (type_size R) (type_align R) c (align_known R) few room
 
-  -- If a block for `c` items of the type `R` is small enough to be allocated, then `Told` holds:
-  -- `c` is less than `2 ^ 63`, the block takes fewer than `2 ^ 63` bytes, and the inequality
-  -- `Small` holds for the size of the block.
   pub fits_tells : IsSmall → Told (type_size R) (type_align R) c
   fits_tells e = small_tells (type_size R) (type_align R) c (align_known R) e
 
-  -- If `Fits R c` holds, then `is_small` is true for `c` items of type `R`. Both say that a block
-  -- for these items is small enough to be allocated.
+  -- `opened` and `closed` convert between `Fits R c` and `IsSmall`, which differ by an unfolding.
   pub opened : Fits R c → IsSmall
   unfolding fits
   opened e = e
 
-  -- If `is_small` is true for `c` items of type `R`, then `Fits R c` holds.
   pub closed : IsSmall → Fits R c
   unfolding fits
   closed e = e
 
-  -- The code of `fits` divides the number of bytes that are available for items by `size`, which is
-  -- the size of an item, capped at `usize::MAX`. If the capacity `c` is at most this quotient, then
-  -- `Small` holds for `c` items of type `R`.
+  -- The code of `fits` compares `c` with this quotient. `size` is the size of an item, capped at
+  -- `usize::MAX`.
   pub divided : (size : ℕ) → size ≡ capped (type_size R) → 0 < size
       → c ≤ (2 ^ 63 - block_align (type_align R) - 16) / size → Small (type_size R) (type_align R) c
   divided size is some few =
@@ -215,9 +189,6 @@ module _ (R : RattleType) (c : ℕ) where
       ∙ ap (λ (k : ℕ). c * k) (sym is) in
       omega arith
 
-  -- The code of `fits` divides the number of bytes that are available for items by `size`, which is
-  -- the size of an item, capped at `usize::MAX`. If `Small` holds for `c` items of type `R`, then
-  -- the capacity `c` is at most this quotient.
   pub dividing : (size : ℕ) → size ≡ capped (type_size R) → 0 < size
       → Small (type_size R) (type_align R) c → c ≤ (2 ^ 63 - block_align (type_align R) - 16) / size
   dividing size is some room =
@@ -227,18 +198,12 @@ module _ (R : RattleType) (c : ℕ) where
       let same' : c * size ≡ c * type_size R = ap (λ (k : ℕ). c * k) is ∙ same in
       le-div c (2 ^ 63 - block_align (type_align R) - 16) size some (omega arith)
 
--- For the capacity 0 and every item type `R`, `is_small` is true: an empty block is never too large
--- to be allocated.
 pub fits_none : (R : RattleType) → fits_isize (type_size R) (type_align R) 0 ≡ true
 fits_none R =
     let about = rounded R 0 in
     let nothing = zero-mul (type_size R) in
     fits_yes R 0 (omega arith) (omega arith)
 
--- The next lemmas are about the capacity that a growth rule chooses for the first block of a list.
-
--- If the item size `s` exceeds `2 ^ 61 - 1`, then `min_non_zero_cap s`, the least capacity that the
--- rule `doubling` chooses for a first allocation, is 1.
 pub first_one : (s : ℕ) → 2 ^ 61 - 1 < capped s → 1 ≡ min_non_zero_cap s
 unfolding min_non_zero_cap
 first_one s large =
@@ -247,8 +212,6 @@ first_one s large =
     absurd (omega arith)) in
     rw (lt-ltb (2 ^ 61 - 1) s above) refl
 
--- If the item size `s` is at most `2 ^ 61 - 1`, then `min_non_zero_cap s`, the least capacity that
--- the rule `doubling` chooses for a first allocation, is 4.
 pub first_many : (s : ℕ) → capped s ≤ 2 ^ 61 - 1 → 4 ≡ min_non_zero_cap s
 unfolding min_non_zero_cap
 first_many s small =
@@ -267,24 +230,16 @@ unfolding fits
 fits_no s a c many = first_false (ltb c (2 ^ 63)) (ltb (block_bytes s a c) (2 ^ 63))
     (le-ltb c (2 ^ 63) many)
 
--- `tried s c w` is the capacity that the rule `doubling` computes from the item size `s`, the old
--- capacity `c` and the required capacity `w`. The rule chooses this capacity unless a block of this
--- capacity is too large to be allocated.
+-- `tried s c w` is what the rule `doubling` chooses unless a block of this capacity is too large.
 abbrev pub tried : ℕ → ℕ → ℕ → ℕ
 tried s c w = max w (if c == 0 then min_non_zero_cap s else 2 * c)
 
--- If the old capacity `c` is 0, and `d` is `min_non_zero_cap s`, then the capacity `tried s c w`
--- that the rule `doubling` computes is the greater of `w` and `d`.
 pub tried_first : (s c w d : ℕ) → c ≡ 0 → d ≡ min_non_zero_cap s → max w d ≡ tried s c w
 tried_first s c w d none is = grind (arith, nat_tests)
 
--- If the old capacity `c` is not 0, and `d` is `2 * c`, then the capacity `tried s c w` that the
--- rule `doubling` computes is the greater of `w` and `d`.
 pub tried_twice : (s c w d : ℕ) → (c ≡ 0 → ⊥) → d ≡ 2 * c → max w d ≡ tried s c w
 tried_twice s c w d some is = grind (arith, nat_tests)
 
--- A block with a capacity of `2 ^ 63` or more is too large to be allocated, so `checked_capacity`
--- returns `None` for such a capacity.
 pub fitting_past : (s a n : ℕ) → 2 ^ 63 ≤ n → checked_capacity s a n ≡ None
 unfolding checked_capacity
 fitting_past s a n many = λ i. if fits_no s a n many i then Some n else None

@@ -20,7 +20,6 @@ module _ (E : El) (g : Ghosts (el_x E)) (d : Dict) {M : Type 1} {𝓤 : Ura M} (
     (at_mem : Memory → SProp 𝓤) (run : Routine → Fun 𝓤) where
   open 𝓛 use {H, A}
 
-  -- `Copied` is the contract of the function `fill_from`.
   abbrev pub Copied : Contract 𝓤
   Copied = triple_of 𝓛 (C.signature E.row) (C.spec E.row g d 𝓛 at_mem run)
 
@@ -57,13 +56,10 @@ module _ (E : El) (g : Ghosts (el_x E)) (d : Dict) {M : Type 1} {𝓤 : Ura M} (
         use0 𝓛 (raw (fact 𝓤 (slots_len r ≡ length s.now)))
         (fact_i 𝓤 (slots_len r ≡ length s.now) (emp 𝓤) long) $
         use0 𝓛 (raw (fact 𝓤 (κ₁ ⊑ E.row.lives))) (fact_i 𝓤 (κ₁ ⊑ E.row.lives) (emp 𝓤) le) $ join ! $
-        -- The previous steps have joined the facts that the call requires into one entry. The proof
-        -- context now holds these entries, in this order: the facts; the lifetime tokens; the value
-        -- of type `Slots`; the slice.
+        -- The context is now: the required facts; the lifetime tokens; the value of type `Slots`;
+        -- the slice.
         nothing ! $ move ! (5 ∷ 0 ∷ []) $ fjoin ! $ move ! (4 ∷ 0 ∷ []) $ fjoin ! $
-        -- The previous steps have joined the arguments of the call into one entry. The proof
-        -- context now holds these entries, in this order: the arguments; the required facts; the
-        -- lifetime tokens.
+        -- The context is now: the arguments; the required facts; the lifetime tokens.
         nothing ! $ move ! (4 ∷ 0 ∷ []) $ join ! $ move ! (3 ∷ 0 ∷ []) $ join ! $ join ! $ done !
 
     pub Copied-gives : (v : Val) → slots_ptr r ≡ block_ptr b o

@@ -9,8 +9,6 @@ use denote.RawPtr.Room.{past, room_cut, room_glue}
 use Rattle.thin_block.specs.Ownership.{word_of, word_wand, word_wands, header_room, header_wand, slots_wand}
 use Rattle.thin_block.proofs.words.WordsLemmas.{InWords}
 
--- An array of `n` values of type `τ` that begins at the offset `o` ends at the offset `past τ n o`,
--- which is `o` plus `n` times the size of a value.
 past-place : (τ : Ty) (n o : ℕ) → past τ n o ≡ place (size τ) o n
 past-place τ zero o = refl
 past-place τ (suc n) o = past-place τ n (o + size τ)
@@ -41,17 +39,13 @@ module _ {M : Type 1} {𝓤 : Ura M} (𝓛 : Logic 𝓤) (τ : Ty) (m k b : ℕ)
   abbrev units : Ty
   units = ty_array ω k
 
-  -- `m` items that begin at the offset `o` end at `past τ m o`, which is `o + u`. Here, `u` is the
-  -- size of a word of `m` items.
   after_run : (o : ℕ) → past τ m o ≡ o + u
   after_run o = past_is τ m o ∙ ap (λ (n : ℕ). o + n) (sym hd.size)
 
-  -- If `m` items make a word, then `w + 1` words hold `m` more items than `w` words.
   one_more : (w : ℕ) → m + w * m ≡ suc w * m
   one_more w = omega (arith, suc-mul w m)
 
-  -- Splits memory for `w` words into two parts: memory for the items of these words, and the rights
-  -- (`word_wands`) to convert the first part back into memory for words.
+  -- Splits memory for `w` words into memory for their items, and the rights to convert it back.
   pub ways_out : (w o : ℕ) → ent 𝓤 (H.room (ty_array ω w) b o)
       (sep 𝓤 (H.room (ty_array τ (w * m)) b o) (sem 𝓛 (word_wands τ m w b o)))
   ways_out zero o =
@@ -67,18 +61,15 @@ module _ {M : Type 1} {𝓤 : Ura M} (𝓛 : Logic 𝓤) (τ : Ty) (m k b : ℕ)
       split ! $ move ! (2 ∷ []) $
       use1 𝓛 (‵ (froom (ty_array τ (w * m)) b (o + u)) ⊛ ‵ (word_wands τ m w b (o + u)))
       (ways_out w (o + u)) $ split ! $
-      -- The previous steps have split the memory for the words into memory for their items, and the
-      -- rights to convert this memory back. The proof context now holds these entries, in this
-      -- order: memory for the items of all words except the first; the rights for these words;
-      -- memory for the items of the first word; the right for the first word.
+      -- The context is now: memory for the items of all words except the first; the rights for
+      -- these words; memory for the items of the first word; the right for the first word.
       rewrite ! 0 (λ (n : ℕ). ‵ (froom (ty_array τ (w * m)) b n)) (sym (after_run o)) refl $
       move ! (2 ∷ 0 ∷ []) $ use2 𝓛 (‵ (froom (ty_array τ (m + w * m)) b o))
       (room_glue 𝓛 τ m (w * m) b o) $
       rewrite ! 0 (λ (n : ℕ). ‵ (froom (ty_array τ n) b o)) (one_more w) refl $
       move ! (2 ∷ 1 ∷ 0 ∷ []) $ fjoin ! $ move ! (1 ∷ 0 ∷ []) $ done !
 
-  -- Converts memory for the items of `w` words into memory for these words. The lemma uses up
-  -- `word_wands`, the rights to do this.
+  -- Undoes `ways_out`.
   pub ways_in : (w o : ℕ)
       → ent 𝓤 (sep 𝓤 (H.room (ty_array τ (w * m)) b o) (sem 𝓛 (word_wands τ m w b o)))
       (H.room (ty_array ω w) b o)
@@ -89,26 +80,21 @@ module _ {M : Type 1} {𝓤 : Ura M} (𝓛 : Logic 𝓤) (τ : Ty) (m k b : ℕ)
       rewrite ! 0 (λ (n : ℕ). ‵ (froom (ty_array τ n) b o)) (sym (one_more w)) refl $
       use1 𝓛 (‵ (froom run b o) ⊛ ‵ (froom (ty_array τ (w * m)) b (past τ m o)))
       (room_cut 𝓛 τ m (w * m) b o) $ split ! $ move ! (2 ∷ []) $ fsplit ! $
-      -- The previous steps have separated the memory for the items of the first word from the
-      -- memory for the other items. The proof context now holds these entries, in this order: the
-      -- right to convert memory for the items of the first word into memory for a word; the same
-      -- right for the other words; memory for the items of the first word; memory for the items of
-      -- the other words.
+      -- The context is now: the right to convert the first word back; the rights for the other
+      -- words; memory for the items of the first word; memory for the items of the other words.
       move ! (2 ∷ 0 ∷ []) $ use2 𝓛 (‵ (froom ω b o)) (apply∗ 𝓤 (H.room run b o) (H.room ω b o)) $
       move ! (2 ∷ 1 ∷ []) $
       rewrite ! 0 (λ (n : ℕ). ‵ (froom (ty_array τ (w * m)) b n)) (after_run o) refl $
       use2 𝓛 (‵ (froom (ty_array ω w) b (o + u))) (ways_in w (o + u)) $ move ! (1 ∷ 0 ∷ []) $
       by ! (𝓛.laws.room_cons ω w b o)
 
-  -- `k` words of the size `u` take 16 bytes in total, as many as the header.
   header_bytes : k * u ≡ 16
   header_bytes = ap (λ (n : ℕ). k * n) hd.size ∙ hd.room
 
   after_header : (o : ℕ) → past ω k o ≡ o + 16
   after_header o = past_is ω k o ∙ ap (λ (n : ℕ). o + n) header_bytes
 
-  -- Splits memory for `k` words into memory for the capacity, memory for the length, and
-  -- `header_wand`, the right to convert these two parts back.
+  -- Splits memory for `k` words into the halves of the header, and the right to convert them back.
   pub header_out : (o : ℕ) → ent 𝓤 (H.room units b o)
       (sep 𝓤 (H.room half b o) (sep 𝓤 (H.room half b (o + 8)) (sem 𝓛 (header_wand τ m k b o))))
   header_out o =
@@ -127,17 +113,14 @@ module _ {M : Type 1} {𝓤 : Ura M} (𝓛 : Logic 𝓤) (τ : Ty) (m k b : ℕ)
       move ! (1 ∷ 0 ∷ []) $ use2 𝓛 (‵ (froom two b o)) (𝓛.laws.room_cons half 1 b o) $
       by ! (apply∗ 𝓤 (H.room two b o) (H.room units b o))
 
-  -- Converts memory for the capacity and the length into memory for `k` words. The lemma uses up
-  -- `header_wand`, the right to do this.
+  -- Undoes `header_out`.
   pub header_in : (o : ℕ) → ent 𝓤 (sep 𝓤 (H.room half b o) (sep 𝓤 (H.room half b (o + 8))
       (sem 𝓛 (header_wand τ m k b o)))) (H.room units b o)
   header_in o =
       qed 𝓛 (‵ (froom half b o) ∷ ‵ (froom half b (o + 8)) ∷ ‵ (header_wand τ m k b o) ∷ []) ∵
       fjoin ! $ by ! (apply∗ 𝓤 (sem 𝓛 (header_room b o)) (H.room units b o))
 
-  -- If `c` slots fit into `w` words, then memory for these words can be split into memory for the
-  -- slots and `slots_wand`, the right to convert the memory for the slots back into memory for
-  -- words.
+  -- Splits memory for `w` words into memory for `c` slots, and the right to convert it back.
   slots_out : (w c o : ℕ) → c ≤ w * m → ent 𝓤 (H.room (ty_array ω w) b o)
       (sep 𝓤 (H.room (ty_array τ c) b o) (sem 𝓛 (slots_wand τ m w c b o)))
   slots_out w c o le =
@@ -152,8 +135,7 @@ module _ {M : Type 1} {𝓤 : Ura M} (𝓛 : Logic 𝓤) (τ : Ty) (m k b : ℕ)
       rewrite ! 0 (λ (n : ℕ). ‵ (froom (ty_array τ pad) b n)) (past_is τ c o) refl $
       move ! (2 ∷ 0 ∷ []) $ fjoin ! $ move ! (1 ∷ 0 ∷ []) $ done !
 
-  -- If `w` words have room for `c` slots, then the memory of the slots and `slots_wand` (conversion
-  -- rights and unused memory) can be converted into memory for the words.
+  -- Undoes `slots_out`.
   slots_in : (w c o : ℕ) → c ≤ w * m → ent 𝓤 (sep 𝓤 (H.room (ty_array τ c) b o)
       (sem 𝓛 (slots_wand τ m w c b o))) (H.room (ty_array ω w) b o)
   slots_in w c o le =
@@ -170,9 +152,8 @@ module _ {M : Type 1} {𝓤 : Ura M} (𝓛 : Logic 𝓤) (τ : Ty) (m k b : ℕ)
     abbrev Back : Fml
     Back = fsep (header_wand τ m k b o) (slots_wand τ m w c b (o + 16))
 
-    -- Splits memory for a block of words into three pieces: memory for the capacity, for the
-    -- length, and for the slots. Also yields `Back`, the right to convert these three pieces back
-    -- into memory for words.
+    -- Splits memory for a block of words into its header and its slots, with `Back`, the right to
+    -- convert them back.
     pub block_out : ent 𝓤 (H.room (ty_array ω (k + w)) b o)
         (sep 𝓤 (H.room half b o) (sep 𝓤 (H.room half b (o + 8))
         (sep 𝓤 (H.room (ty_array τ c) b (o + 16)) (sem 𝓛 Back))))
@@ -187,8 +168,7 @@ module _ {M : Type 1} {𝓤 : Ura M} (𝓛 : Logic 𝓤) (τ : Ty) (m k b : ℕ)
         (slots_out w c (o + 16) le) $ split ! $ move ! (4 ∷ 1 ∷ []) $ fjoin ! $
         move ! (2 ∷ 3 ∷ 1 ∷ 0 ∷ []) $ done !
 
-    -- Converts memory for the capacity, the length and the slots into memory for a block of words.
-    -- This uses up `Back`, the right to do so.
+    -- Undoes `block_out`.
     pub block_in : ent 𝓤 (sep 𝓤 (H.room half b o) (sep 𝓤 (H.room half b (o + 8))
         (sep 𝓤 (H.room (ty_array τ c) b (o + 16)) (sem 𝓛 Back)))) (H.room (ty_array ω (k + w)) b o)
     block_in =

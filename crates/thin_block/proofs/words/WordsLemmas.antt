@@ -37,8 +37,6 @@ pub record Counts (m : ℕ) : Type 0 where
   pub least : (n : ℕ) → n ≤ n * m
   pub few : (c : ℕ) → div_ceil c m ≤ c
 
--- `Counts m` collects facts about words that hold `m` items each. This lemma and the next three
--- lemmas prove `Counts 1`, `Counts 2`, `Counts 4` and `Counts 8`.
 counts_1 : Counts 1
 counts_1 = record {
   some = omega arith;
@@ -79,16 +77,13 @@ counts_8 = record {
   few = λ c. omega arith;
 }
 
--- `Laid s a m k` collects facts about the layout of words and of blocks of words. A word consists
--- of `m` items with the size `s` and the alignment `a`, and the header takes as many bytes as `k`
--- words.
+-- `Laid s a m k` collects facts about the layout of words of `m` items with the size `s` and the
+-- alignment `a`. The header is as large as `k` words.
 abbrev Laid : ℕ → ℕ → ℕ → ℕ → Type 0
 Laid s a m k = (word_size s a m ≡ m * s) × ((word_align a ≡ block_align a)
     × (Dv 8 (word_align a) × (Dv a (word_align a)
     × ((c : ℕ) → (k + div_ceil c m) * (m * s) ≡ block_bytes s a c))))
 
--- `Laid` holds for items of the size 1 whose alignment `bytes w` divides this size: 8 items make a
--- word, and the header takes as many bytes as 2 words.
 laid_1 : (w : Width) → Dv (bytes w) 1 → Laid 1 (bytes w) 8 2
 laid_1 w8 d = (refl, (refl, (tt, (tt, λ c. omega arith))))
 laid_1 w16 d = absurd d
@@ -136,9 +131,6 @@ pub record InWords (s a m k : ℕ) : Type 0 where
   pub room : k * (m * s) ≡ 16
   pub any : 0 < k
 
--- `InWords s a m k` states that `m` items of the size `s` and the alignment `a` make a word, and
--- that the header takes as many bytes as `k` words. If `Counts m` and `Laid s a m k` hold, `k` is
--- positive, and `k` words take 16 bytes in total, then `InWords s a m k` holds.
 in_words_by : (s a m k : ℕ) → Counts m → 0 < k → k * (m * s) ≡ 16 → Laid s a m k → InWords s a m k
 in_words_by s a m k c any room l = record {
   counts = c;
@@ -151,34 +143,25 @@ in_words_by s a m k c any room l = record {
   any = any;
 }
 
--- `AtAny s m k` states that `InWords s a m k` holds for every alignment `a` that divides the item
--- size `s`: `m` items make a word, and the header takes as many bytes as `k` words.
+-- `AtAny s m k` states that `InWords` holds for every alignment that divides the item size `s`.
 abbrev AtAny : ℕ → ℕ → ℕ → Type 0
 AtAny s m k = (w : Width) → Dv (bytes w) s → InWords s (bytes w) m k
 
--- `pair o` is the pair that the option `o` contains, or `(0, 0)` if `o` is `None`.
 abbrev pair : Option (ℕ × ℕ) → ℕ × ℕ
 pair None = (0, 0)
 pair (Some p) = p
 
--- `AtAny` states that items of a given size can be grouped into words. Suppose that the item sizes
--- `s` and `t` are equal, and that the pairs `p` and `q` are equal. If `AtAny` holds for `t` and the
--- two numbers in `p`, then it also holds for `s` and the two numbers in `q`.
 at_size : (s t : ℕ) (p q : ℕ × ℕ) → s ≡ t → ◌≡◌ {A = Option (ℕ × ℕ)} (Some p) (Some q)
     → AtAny t p.0 p.1 → AtAny s q.0 q.1
 at_size s t p q es e all =
     subst (λ (x : ℕ × (ℕ × ℕ)). AtAny x.0 x.1.0 x.1.1) (λ i. (sym es i, pair (e i))) all
 
--- `tested x y z u v` is the result of `in_words` for an item size. The five booleans say whether
--- this size is 1, 2, 4, 8 or 16, in this order. If the result is `Some (m, k)`, then `m` items make
--- a word, and the header takes as many bytes as `k` words.
+-- `tested x y z u v` is the result of `in_words` for an item size. The booleans say whether this
+-- size is 1, 2, 4, 8 or 16, in this order.
 abbrev tested : Bool → Bool → Bool → Bool → Bool → Option (ℕ × ℕ)
 tested x y z u v = if x then Some (8, 2) else (if y then Some (4, 2) else
     (if z then Some (2, 2) else (if u then Some (1, 2) else (if v then Some (1, 1) else None))))
 
--- Suppose that the booleans `x`, `y`, `z`, `u` and `v` say whether the item size `s` is 1, 2, 4, 8
--- or 16, in this order. If `tested x y z u v` is the pair `q`, then `AtAny s q.0 q.1` holds: `q.0`
--- items make a word, and the header takes as many bytes as `q.1` words.
 by_test : (x y z u v : Bool) (s : ℕ) (q : ℕ × ℕ) → (s == 1) ≡ x → (s == 2) ≡ y → (s == 4) ≡ z
     → (s == 8) ≡ u → (s == 16) ≡ v → tested x y z u v ≡ Some q → AtAny s q.0 q.1
 by_test true y z u v s q ex ey ez eu ev e =
@@ -198,8 +181,6 @@ by_test false false false false true s q ex ey ez eu ev e =
     (λ w d. in_words_by 16 (bytes w) 1 1 counts_1 (omega arith) refl (laid_16 w d))
 by_test false false false false false s q ex ey ez eu ev e = absurd (clash (ap is_some e))
 
--- Suppose that `in_words` returns `Some (m, k)` for the size of the type `R`. Then a word consists
--- of `m` items of the type `R`, and the header takes as many bytes as `k` words.
 pub words_told : (R : RattleType) (m k : ℕ) → in_words (type_size R) ≡ Some (m, k)
     → InWords (type_size R) (type_align R) m k
 words_told R m k e =
@@ -210,8 +191,6 @@ words_told R m k e =
     subst (λ (a : ℕ). InWords s a m k) (sym known)
     (at_width (align_w (layout R)) (subst (λ (a : ℕ). Dv a s) known (align_size (layout R))))
 
--- If `m` items of the type `τ` make a word (`InWords`), then so do `m` items of `τ` with all field
--- names erased.
 pub nameless : (τ : Ty) (m k : ℕ) → InWords (size τ) (align τ) m k
     → InWords (size (raw τ)) (align (raw τ)) m k
 nameless τ m k h = subst (λ (p : ℕ × ℕ). InWords p.0 p.1 m k)

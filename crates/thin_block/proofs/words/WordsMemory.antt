@@ -24,8 +24,7 @@ use Rattle.thin_block.proofs.SlotMemory.{cut, glue, to_items, of_items, to_raw, 
 use Rattle.thin_block.proofs.words.WordsLemmas.{InWords, nameless}
 use Rattle.thin_block.proofs.words.Word.TheLaws.{the_row_laws}
 
--- `number_of_items m` is the const argument of the type `Words` for words of `m` items. This
--- argument is the number of items in a word.
+-- `number_of_items m` is the const argument of the type `Word`: the number of items in a word.
 abbrev pub number_of_items : ℕ → RattleType
 number_of_items m = param 1 (number m)
 
@@ -33,15 +32,13 @@ number_of_items m = param 1 (number m)
 abbrev pub word_row : RattleType → ℕ → RattleType
 word_row T m = the_row (param 0 T) (number_of_items m)
 
--- `word_el T L m` combines the type of words of `m` items of type `T` with the laws of this type.
--- `L` contains the laws of `T`.
+-- `word_el T L m` combines the type of words of `m` items with the laws of this type.
 abbrev pub word_el : (T : RattleType) → Laws T → ℕ → El
 word_el T L m = record {
   row = word_row T m;
   laws = the_row_laws (param 0 T) (number_of_items m) (param_laws 0 T L) refl;
 }
 
--- Rounding 0 up to a multiple of an alignment yields 0.
 zero_at : (w : Width) → up (bytes w) 0 ≡ 0
 zero_at w8 = refl
 zero_at w16 = refl
@@ -49,25 +46,18 @@ zero_at w32 = refl
 zero_at w64 = refl
 zero_at w128 = refl
 
--- Rounding 0 up to a multiple of the alignment of a type `τ` yields 0. So the first field of a
--- struct has the offset 0.
+-- The first field of a struct has the offset 0.
 zero_up : (τ : Ty) → up (align τ) 0 ≡ 0
 zero_up τ = subst (λ (a : ℕ). up a 0 ≡ 0) (sym (align-bytes τ)) (zero_at (align_w τ))
 
--- `words_made T m n xs` is the list of the first `n` words that are made from the items `xs`. Each
--- word consists of `m` items.
+-- `words_made T m n xs` is the list of the first `n` words of `m` items that are made from `xs`.
 abbrev pub words_made : (T : RattleType) (m n : ℕ) → List T.Denot → List (word_row T m).Denot
 words_made T m n xs = map (word (param 0 T) (number_of_items m)) (first_chunks m n xs)
 
--- `first_chunks m n xs` is the list of the first `n` chunks of `m` items in `xs`. The length of
--- this list is `n`, even if `xs` contains fewer than `n * m` items.
 pub chunks_long : {X : Type 0} (m n : ℕ) (xs : List X) → length (first_chunks m n xs) ≡ n
 chunks_long m zero xs = refl
 chunks_long m (suc n) xs = ap suc (chunks_long m n (rest m xs))
 
--- `words_made T m n xs` is the list of the first `n` words that are made from the items `xs`, with
--- `m` items in each word. The length of this list is `n`, even if `xs` contains fewer than `n * m`
--- items.
 pub words_long : (T : RattleType) (m n : ℕ) (xs : List T.Denot)
     → length (words_made T m n xs) ≡ n
 words_long T m n xs = length-map (first_chunks m n xs) (word (param 0 T) (number_of_items m))
@@ -104,8 +94,6 @@ module _ {M : Type 1} {𝓤 : Ura M} (𝓛 : Logic 𝓤) (T : RattleType) (L : L
   hd' : InWords (size τ') (align τ') m k
   hd' = nameless σ m k hd
 
-  -- If all field names of the item type are erased, then the size `u'` of a word of `m` items is
-  -- `m` times the item size `s`.
   wide : u' ≡ m * s
   wide = hd'.size ∙ ap (λ (n : ℕ). m * n) (size-raw σ)
 
@@ -140,9 +128,8 @@ module _ {M : Type 1} {𝓤 : Ura M} (𝓛 : Logic 𝓤) (T : RattleType) (L : L
     abbrev Rooms : SProp 𝓤
     Rooms = rooms_for 𝓤 H fields zero b o
 
-    -- Suppose that memory for all fields of a word can be converted into memory for the word. Then
-    -- memory for the items alone can also be converted into memory for the word, because the array
-    -- of items is the only field that takes any bytes.
+    -- Memory for the items alone can be converted into memory for the word, because the array of
+    -- items is the only field that takes any bytes.
     way_out : ent 𝓤 (RoomBack 𝓤 H (the_type (R E) N).name fields b o) (sem 𝓛 (word_wand τ' m b o))
     way_out =
         qed 𝓛 (raw (RoomBack 𝓤 H (the_type (R E) N).name fields b o) ∷ []) ∵
@@ -154,8 +141,7 @@ module _ {M : Type 1} {𝓤 : Ura M} (𝓛 : Logic 𝓤) (T : RattleType) (L : L
         use2 𝓛 (‵ (froom (layout W.row) b o)) (apply∗ 𝓤 Rooms (H.room (layout W.row) b o)) $
         by ! (𝓛.laws.room-raw (layout W.row) b o)
 
-    -- Splits a word in memory into its items and a right (`word_wand`). With this right, the memory
-    -- of the items can be converted back into memory for the word.
+    -- Splits a word in memory into its items and the right to convert their memory back.
     pub word_out : (xs : List X) → ent 𝓤 (sem 𝓛 (part_at (R W) full_share (word (R E) N xs) b o))
         (sep 𝓤 (sem 𝓛 (part_at (Array (R E) m) full_share xs b o)) (sem 𝓛 (word_wand τ' m b o)))
     word_out xs =
@@ -175,16 +161,12 @@ module _ {M : Type 1} {𝓤 : Ura M} (𝓛 : Logic 𝓤) (T : RattleType) (L : L
         rewrite ! 0 (λ (n : ℕ). ‵ (part_at (Array (R E) m) full_share xs b n)) at_start refl $
         done !
 
-  -- `chunks n xs` is the list of the first `n` chunks of `m` items in `xs`. The next lemmas are
-  -- about the memory of several adjacent words.
   abbrev chunks : ℕ → List X → List (List X)
   chunks n xs = first_chunks m n xs
 
   abbrev words : ℕ → List X → List W.row.Denot
   words n xs = words_made T m n xs
 
-  -- The filled slots `filled_slots xs` are the slots of the first word, `filled_slots (take m xs)`,
-  -- followed by the slots of the other words, `filled_slots (rest m xs)`.
   parted : (xs : List X) → filled_slots xs ≡ filled_slots (take m xs) ++ filled_slots (rest m xs)
   parted xs = ap filled_slots (sym (take-append-drop m xs))
       ∙ map-append Some (take m xs) (rest m xs)
@@ -202,8 +184,8 @@ module _ {M : Type 1} {𝓤 : Ura M} (𝓛 : Logic 𝓤) (T : RattleType) (L : L
         ap (λ (n : ℕ). n * s) (length-map (take m xs) Some ∙ first_long) in
         let e = wide in omega arith
 
-  -- Groups the slots of the items `xs` into `n` words. Each group is paired with one of the `w`
-  -- rights to convert the memory of the group into memory for a word. `j` rights are left over.
+  -- Groups the slots of `xs` into `n` words, each with one of the `w` rights. `j` rights are left
+  -- over.
   to_runs : (n w j : ℕ) (xs : List X) (o at : ℕ) → length xs ≡ n * m → w ≡ j + n → at ≡ n * u' + o
       → ent 𝓤 (sep 𝓤 (sem 𝓛 (slots_own (R E) (filled_slots xs) b o))
       (sem 𝓛 (word_wands τ' m w b o)))
@@ -228,18 +210,15 @@ module _ {M : Type 1} {𝓤 : Ura M} (𝓛 : Logic 𝓤) (T : RattleType) (L : L
       rewrite ! 0 (λ (n : ℕ). ‵ (word_wands τ' m n b o)) {x = suc (j + n)}
       (omega (arith, ew)) refl $
       fsplit ! $
-      -- The previous steps have split the slots and the rights (`word_wands`). The proof context
-      -- now holds these entries, in this order: the right (`word_wand`) to convert memory for the
-      -- items of the first word into memory for this word; the rights (`word_wands`) for all later
-      -- words; the items of the first word; the slots with the items of the other words.
+      -- The context is now: the right to convert the first word; the rights for all later words;
+      -- the items of the first word; the slots with the items of the other words.
       move ! (2 ∷ 0 ∷ []) $ fjoin ! $ move ! (2 ∷ 1 ∷ []) $
       use2 𝓛 (‵ (runs_at (R E) N (chunks n (rest m xs)) b far) ⊛ ‵ (word_wands τ' m j b at))
       (to_runs n (j + n) j (rest m xs) far at (rest_long n xs o long) refl
       (omega (arith, ea, suc-mul n u'))) $ split ! $ move ! (2 ∷ 0 ∷ []) $ fjoin ! $ done !
 
-  -- Converts `n` adjacent words into slots that hold the items `xs`, and into `n` rights to convert
-  -- these slots back. Together with the rights (`word_wands`) for the `j` words after them, these
-  -- are the rights for all `w` words.
+  -- Converts `n` words into slots that hold `xs`, and adds their rights to the `j` rights after
+  -- them.
   of_runs : (n w j : ℕ) (xs : List X) (o at : ℕ) → length xs ≡ n * m → w ≡ j + n → at ≡ n * u' + o
       → ent 𝓤 (sep 𝓤 (sem 𝓛 (slots_own (R W) (filled_slots (words n xs)) b o))
       (sem 𝓛 (word_wands τ' m j b at)))
@@ -267,11 +246,8 @@ module _ {M : Type 1} {𝓤 : Ura M} (𝓛 : Logic 𝓤) (T : RattleType) (L : L
       ‵ (word_wands τ' m (j + n) b far))
       (of_runs n (j + n) j (rest m xs) far at (rest_long n xs o long) refl
       (omega (arith, ea, suc-mul n u'))) $ split ! $
-      -- The previous steps have converted the words of the items `xs` into slots. They have also
-      -- produced a right (`word_wands`) for each of these words, to convert its slots back. The
-      -- proof context now holds these entries, in this order: the slots of the words after the
-      -- first; the rights for these words, together with the `j` rights from before; the slots of
-      -- the first word; the right for the first word.
+      -- The context is now: the slots of the words after the first; the rights for these words,
+      -- with the `j` rights from before; the slots of the first word; the right for the first word.
       move ! (2 ∷ 0 ∷ []) $
       use2 𝓛 (‵ (slots_own (R E) (filled_slots c ++ filled_slots (rest m xs)) b o))
       (glue E 𝓛 b (filled_slots c) (filled_slots (rest m xs)) o far (next n xs o long)) $
@@ -288,8 +264,7 @@ module _ {M : Type 1} {𝓤 : Ura M} (𝓛 : Logic 𝓤) (T : RattleType) (L : L
     end_at : far ≡ past τ' j at
     end_at = end ∙ sym (past_is τ' j at)
 
-    -- Converts `j` empty slots, the rights (`word_wands`) to convert items into words, and the
-    -- spare memory after the last slot into `v` empty words.
+    -- Converts `j` empty slots and the spare memory after the last slot into `v` empty words.
     spare_words : ent 𝓤 (sep 𝓤 (sem 𝓛 (slots_own (R E) (empty_slots j) b at))
         (sep 𝓤 (sem 𝓛 (word_wands τ' m v b at)) (sem 𝓛 Spare)))
         (sem 𝓛 (slots_own (R W) (empty_slots v) b at))
@@ -304,8 +279,7 @@ module _ {M : Type 1} {𝓤 : Ura M} (𝓛 : Logic 𝓤) (T : RattleType) (L : L
         use2 𝓛 (‵ (froom (ty_array (word_of τ' m) v) b at)) (ways_in 𝓛 τ' m k b hd' v at) $
         by ! (of_raw W 𝓛 b v at)
 
-    -- Converts `v` empty words into `j` empty slots, the rights to convert these slots back into
-    -- words, and the unused memory after the last slot.
+    -- Undoes `spare_words`.
     spare_slots : ent 𝓤 (sem 𝓛 (slots_own (R W) (empty_slots v) b at))
         (sep 𝓤 (sem 𝓛 (slots_own (R E) (empty_slots j) b at))
         (sep 𝓤 (sem 𝓛 (word_wands τ' m v b at)) (sem 𝓛 Spare)))
@@ -356,8 +330,7 @@ module _ {M : Type 1} {𝓤 : Ura M} (𝓛 : Logic 𝓤) (T : RattleType) (L : L
         ap (λ (x : ℕ). length xs * x) (size-raw σ) in
         let e = same_bytes in let a = at_after in omega arith
 
-    -- Groups the filled slots by word, and converts the empty slots into empty words. This step
-    -- uses `slots_wand`, the right to convert slots into words.
+    -- Groups the filled slots by word, and converts the empty slots into empty words.
     pub words_in : ent 𝓤 (sep 𝓤 (sem 𝓛 (slots_own (R E) (filled_slots xs ++ empty_slots j) b o))
         (sem 𝓛 (slots_wand τ' m w c b o)))
         (sep 𝓤 (sem 𝓛 (runs_at (R E) N (chunks n xs) b o))
@@ -369,11 +342,8 @@ module _ {M : Type 1} {𝓤 : Ura M} (𝓛 : Logic 𝓤) (T : RattleType) (L : L
         ‵ (slots_own (R E) (empty_slots j) b after))
         (cut E 𝓛 b (filled_slots xs) (empty_slots j) o after last) $ split ! $ move ! (2 ∷ []) $
         fsplit ! $
-        -- The previous steps have separated the filled slots from the empty slots. They have also
-        -- split `slots_wand` into its two parts: the unused memory after the last slot, and the
-        -- rights (`word_wands`) to convert memory for items into memory for words. The proof
-        -- context now holds, in this order: the rights; the unused memory; the filled slots; the
-        -- empty slots.
+        -- The context is now: the rights (`word_wands`); the unused memory after the last slot; the
+        -- filled slots; the empty slots.
         move ! (2 ∷ 0 ∷ []) $
         use2 𝓛 (‵ (runs_at (R E) N (chunks n xs) b o) ⊛ ‵ (word_wands τ' m v b after))
         (to_runs n w v xs o after long total at_after) $ split ! $ move ! (3 ∷ 1 ∷ 2 ∷ []) $
@@ -384,15 +354,13 @@ module _ {M : Type 1} {𝓤 : Ura M} (𝓛 : Logic 𝓤) (T : RattleType) (L : L
     last_word = ap (λ (x : ℕ). x * type_size (R W) + o)
         (sym (length-map (words n xs) Some ∙ words_long T m n xs))
 
-    -- Joins the memory of `n` filled words with the memory of the `v` empty words directly after
-    -- them.
     pub words_joined : ent 𝓤 (sep 𝓤 (sem 𝓛 (slots_own (R W) (filled_slots (words n xs)) b o))
         (sem 𝓛 (slots_own (R W) (empty_slots v) b after)))
         (sem 𝓛 (slots_own (R W) (filled_slots (words n xs) ++ empty_slots v) b o))
     words_joined = glue W 𝓛 b (filled_slots (words n xs)) (empty_slots v) o after last_word
 
-    -- Converts the words that hold items into filled slots, and the empty words into empty slots.
-    -- The result also contains the right (`slots_wand`) to convert the slots back into words.
+    -- Converts words into slots, with the right (`slots_wand`) to convert the slots back into
+    -- words.
     pub words_back : ent 𝓤
         (sem 𝓛 (slots_own (R W) (filled_slots (words n xs) ++ empty_slots v) b o))
         (sep 𝓤 (sem 𝓛 (slots_own (R E) (filled_slots xs ++ empty_slots j) b o))
@@ -406,10 +374,8 @@ module _ {M : Type 1} {𝓤 : Ura M} (𝓛 : Logic 𝓤) (T : RattleType) (L : L
         use1 𝓛 (‵ (slots_own (R E) (empty_slots j) b after) ⊛ ‵ (word_wands τ' m v b after) ⊛ ‵
         (froom (ty_array τ' pad') b (o + c * size τ')))
         (spare_slots j v pad' after (o + c * size τ') whole end) $ split3 ! $
-        -- The previous steps have converted the empty words into empty slots. The proof context now
-        -- holds these entries, in this order: the empty slots; the rights (`word_wands`) to convert
-        -- these slots back into words; the memory after the last slot, which belongs to no slot;
-        -- the words that hold items.
+        -- The context is now: the empty slots; the rights (`word_wands`) to convert them back; the
+        -- memory after the last slot; the words that hold items.
         move ! (3 ∷ 1 ∷ []) $
         use2 𝓛 (‵ (slots_own (R E) (filled_slots xs) b o) ⊛ ‵ (word_wands τ' m w b o))
         (of_runs n w v xs o after long total at_after) $ split ! $ move ! (0 ∷ 2 ∷ []) $

@@ -58,17 +58,16 @@ module _ {T : Type 0} where
   abbrev pub keep_outside : List T → ℕ → ℕ → TestResults T → TestResults T
   keep_outside xs a b results = all_kept (take a xs) ++ (results ++ all_kept (drop b xs))
 
-  -- `filtered_list old results` is the list `old` after all its items were tested, and some of
-  -- them were removed. For each item, `results` says whether the item is kept, and contains the
-  -- item as it is after its test. Each kept item that is moved to another index counts as one move.
+  -- `filtered_list old results` is the list `old` after all its items were tested, and some of them
+  -- were removed. Each kept item that is moved to another index counts as one move.
   abbrev pub filtered_list : {A : Type 0} → ListView T A → TestResults T → ListView T A
   filtered_list old results =
       set_items old (items_where true results) (moves_of_retain (flags_of results))
 
 module _ {T A G J : Type 0} (here : Env T A J) where
   -- If the command is `Retain`, `RetainMut`, `Dedup`, `DedupBy` or `DedupByKey`, then
-  -- `filter_results xs command` is the list of its results for the items `xs`. A result says
-  -- whether an item is kept. For any other command, `filter_results xs command` is `None`.
+  -- `filter_results xs command` is the list of its results for the items `xs`. For any other
+  -- command, it is `None`.
   abbrev pub filter_results : List T → Command T A G → Option (TestResults T)
   filter_results xs Retain =
       Some (test_each (λ j x. let a = here.model.look j x in (a.0, x, a.1)) here.judge xs)

@@ -20,13 +20,10 @@ use Rattle.thin_vec.proofs.LendsLemmas.{over-front}
 use Rattle.thin_vec.proofs.ListLemmas.{from-same, full-same, get-some, items-empty, items-full, length-empty, length-full, slot-get}
 
 module _ {T : Type 0} where
-  -- Adding empty slots before the slots `s` does not change which items the slots contain.
   items-after : (k : ℕ) (s : List (Option T)) → items_in (empty_slots k ++ s) ≡ items_in s
   items-after zero s = refl
   items-after (suc k) s = items-after k s
 
-  -- If `start` empty slots precede the items `x ∷ xs`, and the slot of `x` is emptied, then
-  -- `start + 1` empty slots precede the items `xs`.
   set-first : (start k : ℕ) (x : T) (xs : List T)
       → set (empty_slots start ++ (filled_slots (x ∷ xs) ++ empty_slots k))
       start None ≡ empty_slots (start + 1) ++ (filled_slots xs ++ empty_slots k)
@@ -37,9 +34,6 @@ module _ {T : Type 0} where
       ∙ ap (λ (s : List (Option T)). s ++ (filled_slots xs ++ empty_slots k))
       (replicate-append-replicate start 1 None))
 
-  -- Suppose that the slots are, in this order: `start` empty slots, the slots of the items `xs`,
-  -- the slot of the item `x`, and `k` empty slots. Then this list of slots can be split directly
-  -- before the slot of `x`.
   row-last : (start k : ℕ) (xs : List T) (x : T)
       → empty_slots start ++ (filled_slots (xs ++ x ∷ []) ++ empty_slots k)
       ≡ (empty_slots start ++ filled_slots xs) ++ (Some x ∷ empty_slots k)
@@ -49,7 +43,6 @@ module _ {T : Type 0} where
       (append_assoc (filled_slots xs) (Some x ∷ []) (empty_slots k))
       ∙ sym (append_assoc (empty_slots start) (filled_slots xs) (Some x ∷ empty_slots k)))
 
-  -- The list of slots `empty_slots start ++ filled_slots xs` consists of `start + length xs` slots.
   before-last : (start : ℕ) (xs : List T)
       → length (empty_slots start ++ filled_slots xs) ≡ start + length xs
   before-last start xs =
@@ -60,8 +53,6 @@ module _ {T : Type 0} where
         length-full xs,
       )
 
-  -- Suppose that the slots are, in this order: `start` empty slots, the items `xs`, the item `x`,
-  -- and `k` empty slots. Then slot `start + length xs` holds `x`.
   slot-last : (start k : ℕ) (xs : List T) (x : T)
       → slot (empty_slots start ++ (filled_slots (xs ++ x ∷ []) ++ empty_slots k))
       (start + length xs) ≡ Some x
@@ -70,8 +61,6 @@ module _ {T : Type 0} where
       ∙ get_or_at (empty_slots start ++ filled_slots xs) (Some x) (empty_slots k) None
       (start + length xs) (before-last start xs)
 
-  -- If `k` empty slots follow the items `xs ++ x ∷ []`, and the slot of `x` is emptied, then
-  -- `k + 1` empty slots follow the items `xs`.
   set-last : (start k : ℕ) (xs : List T) (x : T)
       → set (empty_slots start ++ (filled_slots (xs ++ x ∷ []) ++ empty_slots k))
       (start + length xs) None ≡ empty_slots start
@@ -84,18 +73,13 @@ module _ {T : Type 0} where
       ∙ ap (λ (n : ℕ). empty_slots start ++ (filled_slots xs ++ empty_slots n))
       (let e : suc k ≡ k + 1 = omega arith in e)))
 
-  -- A list of `j + 1` items consists of its first `j` items and its last item.
   split-last : (xs : List T) (j : ℕ) (d : T) → j + 1 ≡ length xs
       → xs ≡ take j xs ++ get_or xs j d ∷ []
   split-last xs j d e = sym (all xs (j + 1) e) ∙ (take_at_read xs j d (omega arith)).1
     where
-      -- The first `n` items of a list of length `n` are all its items.
       all : (ys : List T) (n : ℕ) → n ≡ length ys → take n ys ≡ ys
       all ys n same = ap (take n) (sym (append-nil ys)) ∙ take_at ys [] n (sym same)
 
-  -- Suppose that `start` empty slots precede the slots `s`. If the items `ws` are written from
-  -- index `start` onward, then the empty slots do not change, and `ws` is written over the items in
-  -- `s`.
   over-after : (start : ℕ) (s : List (Option T)) (ws : List T)
       → overwrite_items (empty_slots start ++ s) start ws
       ≡ empty_slots start ++ overwrite_items s 0 ws
@@ -110,10 +94,6 @@ module _ {T A : Type 0} where
     pub items : items_in b.slots ≡ xs
     pub cap : length b.slots ≡ c
 
-  -- Suppose that the slots of the block `b` are `start` empty slots, the slots of the items `xs`,
-  -- and `c - end` empty slots. If the memory of `b` came from the allocator `a`, then
-  -- `Walking b a xs start end c` holds: `b` is the block of an iterator with the items `xs` in the
-  -- slots `start..end`.
   walking : (b : Block T A) {a : A} (xs : List T) (start end : ℕ) {c : ℕ}
       → b.slots ≡ empty_slots start ++ (filled_slots xs ++ empty_slots (c - end))
       → start + length xs ≡ end → end ≤ c
@@ -147,8 +127,6 @@ module _ {T A : Type 0} where
         cap = l;
       }
 
-  -- In the block of an iterator, `end` is the index directly after the slots of the items that have
-  -- not been yielded yet. This index is at most the number of slots.
   pub walked-room : (b : Block T A) (a : A) (start end : ℕ)
       → IsIntoIterBlock b a start end → end ≤ length b.slots
   walked-room b a start end t =
@@ -164,8 +142,6 @@ module _ {T A : Type 0} where
         length-full xs,
       )
 
-  -- In the block of an iterator, each slot in the range `start..end` holds an item that has not
-  -- been yielded yet.
   pub walked-filled : (b : Block T A) (a : A) (start end i : ℕ) → IsIntoIterBlock b a start end
       → start ≤ i
       → i < end → IsSome (slot b.slots i)
@@ -179,8 +155,6 @@ module _ {T A : Type 0} where
       low ∙ slot-get xs after (i - start) within))
       (get-some xs (i - start) within)
 
-  -- If the slots `start..end` of the block `b` of an iterator hold exactly the items `ys`, then
-  -- `ys` is the list of the items that have not been yielded yet.
   pub walked-run : (b : Block T A) (a : A) (start end : ℕ) (ys : List T)
       → IsIntoIterBlock b a start end
       → filled_slots ys ≡ slice_range b.slots start end → ys ≡ items_in b.slots
@@ -203,8 +177,6 @@ module _ {T A : Type 0} where
     abbrev gap : ℕ
     gap = length b.slots - end
 
-    -- If `start` empty slots precede the items `ys`, then slot `start` holds the first item of
-    -- `ys`. Emptying this slot leaves `start + 1` empty slots before the other items.
     first-of : (ys : List T) (k : ℕ) → 0 < length ys
         → slot (empty_slots start ++ (filled_slots ys ++ empty_slots k)) start ≡ Some v
         → (ys ≡ v ∷ drop 1 ys)
@@ -219,8 +191,6 @@ module _ {T A : Type 0} where
         let same : y ≡ v = cc in
         (ap (λ (x : T). x ∷ ys) same, set-first start k y ys)
 
-    -- If slot `start` of the block `b` holds `v`, then `v` is the first item of the iterator.
-    -- Emptying this slot leaves `start + 1` empty slots before the other items.
     first : slot b.slots start ≡ Some v → (xs ≡ v ∷ drop 1 xs)
         × (set b.slots start None ≡ empty_slots
         (start + 1) ++ (filled_slots (drop 1 xs) ++ empty_slots gap))
@@ -229,12 +199,9 @@ module _ {T A : Type 0} where
         (ap (λ (s : List (Option T)). slot s start) (sym t.row) ∙ e) in
         (h.0, ap (λ (s : List (Option T)). set s start None) t.row ∙ h.1)
 
-    -- If slot `start` holds `v`, then `v` is the first item that has not been yielded yet.
     pub first-item : slot b.slots start ≡ Some v → xs ≡ v ∷ drop 1 xs
     first-item e = (first e).0
 
-    -- If slot `start` of the block `b` held `v` and was emptied, then the new block `b'` is the
-    -- block of the iterator without its first item.
     pub restores-first : slot b.slots start ≡ Some v
         → block_view b' ≡ record (block_view b) { slots = set b.slots start None }
         → Walking b' a (drop 1 xs) (start + 1) end (length b.slots)
@@ -243,30 +210,21 @@ module _ {T A : Type 0} where
         (omega (arith, t.len, ap length (first e).0)) (walked-room b a start end t)
         (from-same b b' a t.from (ap (λ v. v.alloc) w))
 
-    -- `most` is the list of all items that have not been yielded yet, except the last of these
-    -- items.
+    -- `most` is `xs` without its last item.
     abbrev most : List T
     most = take (end - 1 - start) xs
 
-    -- The list `xs` contains the items that have not been yielded yet. It consists of the list
-    -- `most`, followed by the last item of `xs`.
     whole : xs ≡ most ++ get_or xs (end - 1 - start) v ∷ []
     whole = split-last xs (end - 1 - start) v (omega (arith, t.len))
 
-    -- The last item that has not been yielded yet is in slot `end - 1`, directly after the items
-    -- `most`.
     place : start + length most ≡ end - 1
     place = omega (arith, t.len, length-take-le (end - 1 - start) xs (omega (arith, t.len)))
 
-    -- The slots of the block `b` are `start` empty slots, the slots of the items `most`, the slot
-    -- of the last item, and `gap` empty slots.
     row : b.slots ≡ empty_slots start
         ++ (filled_slots (most ++ get_or xs (end - 1 - start) v ∷ []) ++ empty_slots gap)
     row = t.row ∙ ap (λ (ys : List T). empty_slots start ++ (filled_slots ys ++ empty_slots gap))
         whole
 
-    -- If slot `end - 1` of the block `b` holds `v`, then `v` is the last item that has not been
-    -- yielded yet.
     pub last-item : slot b.slots (end - 1) ≡ Some v → xs ≡ most ++ v ∷ []
     last-item e =
         let is : Some (get_or xs (end - 1 - start) v) ≡ Some v =
@@ -276,8 +234,6 @@ module _ {T A : Type 0} where
         let same : get_or xs (end - 1 - start) v ≡ v = cc in
         whole ∙ ap (λ (x : T). most ++ x ∷ []) same
 
-    -- If slot `end - 1` of the block `b` was emptied, then the new block `b'` is the block of the
-    -- iterator without its last item.
     pub restores-last : block_view b' ≡ record (block_view b) { slots = set b.slots (end - 1) None }
         → Walking b' a most start (end - 1) (length b.slots)
     restores-last w =
@@ -290,8 +246,6 @@ module _ {T A : Type 0} where
         place (omega (arith, walked-room b a start end t))
         (from-same b b' a t.from (ap (λ v. v.alloc) w))
 
-  -- If the items `ws` were written into the block `b` of an iterator from slot `start` onward, then
-  -- the new block `b'` is the block of an iterator, in which `ws` replaces the first items.
   pub restores-written : (b b' : Block T A) (a : A) (start end : ℕ) (ws : List T)
       → IsIntoIterBlock b a start end
       → block_view b' ≡ record (block_view b) { slots = overwrite_items b.slots start ws }
@@ -307,8 +261,6 @@ module _ {T A : Type 0} where
       (omega (arith, t.len, length_refill (length xs) xs ws refl)) (walked-room b a start end t)
       (from-same b b' a t.from (ap (λ v. v.alloc) w))
 
-  -- If the items `ws` are written into the block `b` of an iterator from slot `start` onward, then
-  -- contracts see the same iterator with its first items replaced by `ws`.
   pub view-written : (b : Block T A) (a : A) (start end : ℕ) (ws : List T)
       → IsIntoIterBlock b a start end
       → list_view (block_with_items b start ws) a ≡ with_items (list_view b a) ws
@@ -316,7 +268,6 @@ module _ {T A : Type 0} where
       let f = restores-written b (block_with_items b start ws) a start end ws t refl in
       λ i. record { items = f.items i; capacity = f.cap i; alloc = a; cost = b.cost }
 
-  -- If all items of an iterator have been yielded, then every slot of its block is empty.
   pub walked-empty : (b : Block T A) (a : A) (start end : ℕ) → IsIntoIterBlock b a start end
       → length (items_in b.slots) ≡ 0 → b.slots ≡ empty_slots (length b.slots)
   walked-empty b a start end t none =
@@ -329,17 +280,12 @@ module _ {T A : Type 0} where
       ∙ (replicate-append-replicate start (length b.slots - end) None
       ∙ ap (λ (n : ℕ). empty_slots n) all))
 
--- In this module, `T` is the item type and `A` is the allocator type of an `IntoIter`.
 module _ (T A : Type 0) where
-  -- Repeated calls to `next` on an `IntoIter` yield the items that have not been yielded yet, in
-  -- order.
   pub rest_in_order : RestInOrder T A
   rest_in_order p s =
       as_is p (rest p.from)
       (from_front (YieldsFirst rest) (λ x. x) rest (λ s t h. ap length h.0) (λ s x t h. h) p s)
 
-  -- Repeated calls to `next_back` on an `IntoIter` yield the items that have not been yielded yet,
-  -- in reverse order.
   pub rest_in_reverse : RestInReverse T A
   rest_in_reverse p s =
       as_is_back p (rest p.from)

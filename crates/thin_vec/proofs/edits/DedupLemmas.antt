@@ -15,8 +15,7 @@ use Rattle.thin_vec.proofs.OpenBlockLemmas.{last-of}
 use Rattle.thin_vec.proofs.open_block.PairTestLemmas.{OnPairs, all-stay, last-append, last-goes, last-same, last-some, last-stays, map-answer, moved-all, run-ends, run-goes, run-left, count_true-join}
 
 module _ {S T : Type 0} (R : OnPairs S T) where
-  -- The following definitions and lemmas are about open blocks. An open block is the block of a
-  -- list during an edit.
+  -- The following definitions and lemmas are about open blocks.
 
   module _ {A : Type 0} (v w : OpenView T A) where
     -- `Moved front cost` holds if `w` is the open block `v` with the front items `front` and the
@@ -25,17 +24,12 @@ module _ {S T : Type 0} (R : OnPairs S T) where
     Moved front cost = w ≡ record v
         { front = front; gap = w.gap; rest = w.rest; cost = cost }
 
-    -- If `f` equals `f'` and `k` equals `k'`, then the open block with the front items `f` and the
-    -- cost `k` is equal to the open block with the front items `f'` and the cost `k'`.
     moved : {f f' : List T} {k k' : Cost} → f ≡ f' → k ≡ k'
         → record v { front = f; gap = w.gap; rest = w.rest; cost = k }
         ≡ record v { front = f'; gap = w.gap; rest = w.rest; cost = k' }
     moved e n = λ i. record v { front = e i; gap = w.gap; rest = w.rest; cost = n i }
 
     module _ (s t : S) where
-      -- If the middle items `done` of the open block `v` were tested, and each was moved to the
-      -- front items or removed, then `Dedups` (the effect of tests for duplicates) relates `v` to
-      -- the result `w`.
       dedups-of : (before : List T) (first : T) (done : List T) (stays : List Bool) (kept : List T)
           → v.front ≡ before ++ first ∷ [] → v.rest ≡ done ++ w.rest
           → TestsEachAgainstLast R s first done stays kept t → 0 < w.gap
@@ -54,9 +48,7 @@ module _ {S T : Type 0} (R : OnPairs S T) where
             now = now;
           }
 
-    -- `Dedups` relates an open block before tests for duplicates to the open block after them. If
-    -- the first middle item `x` of the open block `v` was tested and removed, which turned `v` into
-    -- `w`, then `Dedups` relates `v` to `w`.
+    -- The lemmas `dedups-goes`, `-stays`, `-two` and `-run` are the cases of `dedup_next`.
     pub dedups-goes : {s t : S} (x y : T) (front : List T)
         → TestsLast R s x v.front true t y front → v.rest ≡ x ∷ w.rest → 0 < w.gap
         → Moved front v.cost → DedupsSome R s v t w
@@ -65,8 +57,6 @@ module _ {S T : Type 0} (R : OnPairs S T) where
         (last-goes R s t a.kept x y a.kept_left a.asked) gap
         (now ∙ moved (λ i. a.now i) (sym (moving-none v.cost)))
 
-    -- If the first middle item `x` of the open block `v` was kept and moved to the front items,
-    -- then `Dedups` (the effect of tests for duplicates) relates `v` to the new open block `w`.
     pub dedups-stays : {s t : S} (x y : T) (front : List T)
         → TestsLast R s x v.front false t y front → v.rest ≡ x ∷ w.rest
         → 0 < w.gap → Moved (front ++ y ∷ []) (add_moves 1 v.cost) → DedupsSome R s v t w
@@ -79,16 +69,10 @@ module _ {S T : Type 0} (R : OnPairs S T) where
     module _ (s t u : S) (x y z : T) (front ys zs : List T)
         (a : TestsLast R s x v.front false t y front) (b : Bool)
         (n : TestsNext R t y ys b u z zs) (whole : v.rest ≡ x ∷ ys) where
-      -- Suppose that the first middle item was kept and appended to the front items, and that the
-      -- second middle item was tested afterwards. Then the last two front items are `a.kept_left`
-      -- and `z`, where `z` is the appended item.
       two-front : (front ++ z ∷ [] ≡ a.before ++ a.kept_left ∷ z ∷ [])
       two-front = ap (λ (l : List T). l ++ z ∷ []) a.now
           ∙ append_assoc a.before (a.kept_left ∷ []) (z ∷ [])
 
-      -- If the first middle item of the open block `v` was kept and moved to the front items, and
-      -- the second, `value`, was removed, then `Dedups` (the effect of these tests) relates `v` to
-      -- the result `w`.
       pub dedups-two : b ≡ true → (value : T) → zs ≡ value ∷ w.rest → 0 < w.gap
           → Moved (front ++ z ∷ []) (add_moves 1 v.cost) → DedupsSome R s v u w
       dedups-two e value rest gap now =
@@ -102,9 +86,6 @@ module _ {S T : Type 0} (R : OnPairs S T) where
           (a.kept_left ∷ z ∷ []) a.was (whole ∙ ap (λ (l : List T). x ∷ l)
           (n.was ∙ ap (λ (l : List T). n.later ∷ l) same)) asked gap (now ∙ moved two-front refl)
 
-      -- If the first `m + 1` middle items of the open block `v` were kept and moved to the front
-      -- items, and the next one, if any, was removed, then `Dedups` (the effect of these tests)
-      -- relates `v` to the result `w`.
       pub dedups-run : b ≡ false → (m : ℕ) (q : S) (ws : List T) (r : TestsPairsUpTo R m u zs q ws)
           → r.after ≡ w.rest → suc (count_true r.stays) ≡ m
           → 0 < w.gap → Moved ((front ++ z ∷ []) ++ take m ws) (add_moves m (add_moves 1 v.cost))
@@ -133,8 +114,6 @@ module _ {S T : Type 0} (R : OnPairs S T) where
           ∙ append_assoc a.before (a.kept_left ∷ z ∷ []) r.left)
           (moving-more m 1 v.cost ∙ ap (λ (k : ℕ). add_moves k v.cost) paid))
 
-  -- Before the first test, `Dedups` (the effect of tests for duplicates) relates the open block `v`
-  -- to itself, if `v` has a front item and a gap before its middle items.
   pub dedups-start : {A : Type 0} (s : S) (v : OpenView T A) → 0 < length v.front
       → 0 < v.gap → DedupsSome R s v s v
   dedups-start s v some gap =
@@ -152,8 +131,6 @@ module _ {S T : Type 0} (R : OnPairs S T) where
         now = λ i. record v { front = p.2 i; cost = sym (moving-none v.cost) i };
       }
 
-  -- `Dedups`, the effect of tests for duplicates, is transitive: if it relates the open block `v`
-  -- to `w`, and `w` to `z`, then it relates `v` to `z`.
   pub dedups-then : {A : Type 0} {s t u : S} {v w z : OpenView T A} → DedupsSome R s v t w
       → DedupsSome R t w u z → DedupsSome R s v u z
   dedups-then {s = s} {t} {u} {v} {w} {z} h k =
@@ -193,15 +170,12 @@ module _ {S T : Type 0} (R : OnPairs S T) where
 
   module _ {A : Type 0} (v w : OpenView T A) (m : ℕ) (s t : S) (ys : List T)
       (r : TestsPairsUpTo R m s v.rest t ys) where
-    -- `RunPassed` holds if the front items of the open block `w` are the `m` kept items, if its
-    -- cost is that of the open block `v`, and if, apart from this, `w` differs from `v` at most in
-    -- its first gap and its middle items.
+    -- `RunPassed` holds if the front items of `w` are the `m` kept items, and the cost is that of
+    -- `v`. The first gap and the middle items may differ from those of `v`.
     abbrev RunPassed : Type 0
     RunPassed = Moved v w (take m ys) v.cost
 
-    -- If the first `m` middle items of the open block `v` were kept, and removing `value` and all
-    -- later duplicates leads to `z`, then `IsDeduped` (the removal of all duplicates) relates `v`
-    -- to `z`.
+    -- The lemmas `deduped-goes` and `deduped-ends` are the cases of `dedup_rest`.
     pub deduped-goes : (value : T) (u : S) (z : OpenView T A) → RunPassed
         → drop m ys ≡ value ∷ w.rest
         → DedupsSome R t w u z → z.rest ≡ [] → DedupsRest R s v u z
@@ -237,8 +211,6 @@ module _ {S T : Type 0} (R : OnPairs S T) where
           });
         }
 
-    -- If the tests found no duplicate, then `IsDeduped` (the removal of all duplicates) relates the
-    -- open block `v` before them to the open block `w` after them.
     pub deduped-ends : RunPassed → drop m ys ≡ [] → w.rest ≡ [] → DedupsRest R s v t w
     deduped-ends p k none =
         let g = run-ends R m s v.rest t ys r k in
@@ -260,17 +232,13 @@ module _ {S T : Type 0} (R : OnPairs S T) where
           });
         }
 
--- In this module, `J` is the type of a struct that wraps a closure and returns its results.
--- `inside` maps each state of this wrapper to the state of the closure.
+-- In this module, `J` is the type of a wrapper around a closure that returns what the closure
+-- returns. `inside` maps each state of the wrapper to the state of the closure inside it.
 module _ {J S T : Type 0} (R : OnPairs S T) (inside : J → S) where
-  -- `through` describes the calls to a wrapper of a closure. Each state of the wrapper contains a
-  -- state of the closure. `through` applies `R`, the relation that describes the calls to the
-  -- closure, to these inner states.
+  -- `through` describes the calls to the wrapper.
   abbrev through : OnPairs J T
   through s x k b t y l = R (inside s) x k b (inside t) y l
 
-  -- If a wrapper of a closure tested the items `xs` after the kept item `k`, then the closure
-  -- itself returned the same results for the same items.
   last-through : (xs : List T) (s t : J) (k : T) (f : List Bool) (ys : List T)
       → TestsEachAgainstLast through s k xs f ys t
       → TestsEachAgainstLast R (inside s) k xs f ys (inside t)
@@ -287,16 +255,12 @@ module _ {J S T : Type 0} (R : OnPairs S T) (inside : J → S) where
         (λ q. (q.0, last-through xs h.3 t h.1 h.4 q.0 q.1, q.2)) h.7,
   )
 
-  -- If a wrapper of a closure tested the items `xs`, then the closure itself was called with the
-  -- same items and returned the same results.
   pairs-through : (xs : List T) (s t : J) (f : List Bool) (ys : List T)
       → TestsAllAgainstLast through s xs f ys t
       → TestsAllAgainstLast R (inside s) xs f ys (inside t)
   pairs-through [] s t f ys h = (h.0, h.1, ap inside h.2)
   pairs-through (x ∷ xs) s t f ys h = last-through xs s t x f ys h
 
-  -- If `dedup_by` with a wrapper of a closure turns the list `v` into `w`, then `dedup_by` with the
-  -- closure itself also turns `v` into `w`.
   pub deduped-through : {A : Type 0} (s : J) (v w : ListView T A) (t : J)
       → IsDedupedTo through s v w t
       → IsDedupedBy R (inside s) v w
@@ -312,9 +276,6 @@ module _ {J S T : Type 0} (R : OnPairs S T) (inside : J → S) where
 
 -- In this module, the function `E` says whether an item is a duplicate of the last kept item.
 module _ {S T : Type 0} (E : T → T → Bool) where
-  -- If the function `E` compared each item of `xs` with the last item kept before it, beginning
-  -- with `k`, then the flags `f` are `dedup_flags_from E k xs`, and the kept items `ys` are
-  -- `dedup_from E k xs`.
   last-compares : (xs : List T) (s t : S) (k : T) (f : List Bool) (ys : List T)
       → TestsEachAgainstLast (Compares E) s k xs f ys t
       → (f ≡ dedup_flags_from E k xs) × (ys ≡ dedup_from E k xs)
@@ -343,24 +304,18 @@ module _ {S T : Type 0} (E : T → T → Bool) where
       ]
       h.5.0 h.6 h.7
 
-  -- Suppose that each item of `xs` after the first was compared by `E` with the last item kept
-  -- before it. Then the flags `f`, which say which of these items are kept, are `dedup_flags E xs`.
-  -- The list `ys` of the kept items, including the first item, is `dedup E xs`.
   pub pairs-compare : (xs : List T) (s t : S) (f : List Bool) (ys : List T)
       → TestsAllAgainstLast (Compares E) s xs f ys t → (f ≡ dedup_flags E xs) × (ys ≡ dedup E xs)
   pairs-compare [] s t f ys h = (h.0, h.1)
   pairs-compare (x ∷ xs) s t f ys h = last-compares xs s t x f ys h
 
 module _ {S T : Type 0} (R : OnPairs S T) where
-  -- If the items `xs` were tested after the kept item `k`, then at most `1 + length xs` items are
-  -- kept, including `k`.
   few-last : (xs : List T) (s t : S) (k : T) (stays : List Bool) (ys : List T)
       → TestsEachAgainstLast R s k xs stays ys t → length ys ≤ suc (length xs)
   few-last [] s t k stays ys h = omega (arith, ap length h.1)
   few-last (x ∷ xs) s t k stays ys h =
       one h.0 h.7 (λ l zs m. few-last xs h.3 t l h.4 zs m)
     where
-      -- Testing one more item increases the number of kept items by at most 1.
       one : (b : Bool) → MatchBool b (TestsEachAgainstLast R h.3 h.2 xs h.4 ys t)
           ((zs : List T) × TestsEachAgainstLast R h.3 h.1 xs h.4 zs t × (ys ≡ h.2 ∷ zs))
           → ((l : T) (zs : List T) → TestsEachAgainstLast R h.3 l xs h.4 zs t
@@ -369,13 +324,11 @@ module _ {S T : Type 0} (R : OnPairs S T) where
       one true m few = let f = few h.2 ys m in omega (arith, f)
       one false m few = let f = few h.1 m.0 m.1 in omega (arith, f, ap length m.2)
 
-  -- The number of kept items is at most the length of the tested list `xs`.
   few-pairs : (xs : List T) (s t : S) (stays : List Bool) (ys : List T)
       → TestsAllAgainstLast R s xs stays ys t → length ys ≤ length xs
   few-pairs [] s t stays ys h = omega (arith, ap length h.1)
   few-pairs (x ∷ xs) s t stays ys h = few-last xs s t x stays ys h
 
-  -- `dedup_by` does not increase the number of items of the list.
   pub few-deduped : {A : Type 0} (s : S) (v w : ListView T A) → IsDedupedBy R s v w
       → length w.items ≤ length v.items
   few-deduped s v w h = few-pairs v.items s h.0 h.1.stays w.items h.1.asked

@@ -16,15 +16,11 @@ use Rattle.thin_vec.specs.declared.edits.holder.Holder.{Holder}
 use Rattle.thin_vec.specs.declared.edits.holder.IntoInner.{Ghosts as IntoInnerGhosts}
 use Rattle.thin_vec.proofs.RetainLemmas.{cons-head, cons-not-nil, cons-tail}
 
--- Negating a Boolean flag twice yields the same flag.
 pub not-not : (b : Bool) → not (not b) ≡ b
 not-not true = refl
 not-not false = refl
 
 module _ {F T : Type 0} (R : F → T → Bool → F → T → Type 0) where
-  -- Suppose that a call to `next` tests items of the list `xs`. Then the length of `xs` is the
-  -- number of kept items, plus 1 if an item was extracted, plus the number of items that are still
-  -- untested.
   pub picked-count : (s : F) (xs : List T) (item : Option T) (t : F) (kept rest : List T)
       → ExtractsNext R s xs item t kept rest → length xs ≡ length kept + length
       (option_to_list item) + length rest
@@ -36,8 +32,7 @@ module _ {F T : Type 0} (R : F → T → Bool → F → T → Type 0) where
   picked-count s (x ∷ xs) item t kept rest e =
       answered e.0 (λ ks m. picked-count e.1 xs item t ks rest m) e.4
     where
-      -- This is the induction step of the lemma `picked-count`, from the list `xs` to the list
-      -- `x ∷ xs`.
+      -- This is the induction step of `picked-count`.
       answered : (b : Bool)
           → ((ks : List T) → ExtractsNext R e.1 xs item t ks rest
           → length xs ≡ length ks + length (option_to_list item) + length rest)
@@ -60,8 +55,6 @@ module _ {F T : Type 0} (R : F → T → Bool → F → T → Type 0) where
     -- is `None`.
     module _ (between : S) (after : List T) (item : Option T) (t : F) (rest : List T)
         (e : ExtractsNext R (of between) after item t [] rest) where
-      -- If no item of `run` is to be extracted, then a call to `next` that tests `run ++ after`
-      -- extracts the first item of `after`, or no item if `after` is empty.
       picked-after : (s : S) (run left : List T) → TestsInTurn J s run (all_kept left) between
           → ExtractsNext R (of s) (run ++ after) item t left rest
       picked-after s [] [] a =
@@ -80,14 +73,12 @@ module _ {F T : Type 0} (R : F → T → Bool → F → T → Type 0) where
           (sym (cons-tail a.6)) a.5 in
           (false, of a.2, z, called, (left, picked-after a.2 run left on, refl))
 
-    -- If the tests stopped because no item remained, then no item is extracted.
     stops-at-end : (between t : S) (after ys : List T) → IsRejectedFirst J between after t ys
         → ys ≡ []
         → ExtractsNext R (of between) after None (of t) [] ys
     stops-at-end between t [] ys a none = (refl, ap of a.1, refl, none)
     stops-at-end between t (x ∷ xs) ys a none = absurd (cons-not-nil (sym a.2 ∙ none))
 
-    -- If the tests stopped at an item and left it as `v`, then `v` is the extracted item.
     stops-at-item : (between t : S) (after ys : List T) (v : T) (zs : List T)
         → IsRejectedFirst J between after t ys → ys ≡ v ∷ zs → ExtractsNext R (of between)
         after (Some v) (of t) [] zs
@@ -98,23 +89,15 @@ module _ {F T : Type 0} (R : F → T → Bool → F → T → Type 0) where
 
     module _ (m : ℕ) (s : S) (xs : List T) (t : S) (ys : List T)
         (h : TestsUpTo J m s xs t ys) where
-      -- After the tests, the first `m` items of the list `ys` are `h.left`, the list of the kept
-      -- items.
       left-is : take m ys ≡ h.left
       left-is = ap (take m) h.now ∙ take_at h.left h.end m h.reached
 
-      -- From index `m` onward, the list `ys` consists of the items `h.end`: the item to be
-      -- extracted, if there is one, and the untested items.
       end-is : drop m ys ≡ h.end
       end-is = ap (drop m) h.now ∙ drop_at h.left h.end m h.reached
 
-      -- If the tests kept the first `m` items, then the list `ys` after the tests contains at least
-      -- `m` items.
       pub picked-room : m ≤ length ys
       picked-room = omega (arith, h.reached, ap length h.now, length-append h.left h.end)
 
-      -- If the first `m` items of the list `xs` were kept, and the search through the items after
-      -- them yields `item`, then the search through `xs` yields `item`.
       whole : (item : Option T) (rest : List T) → ExtractsNext R (of h.between) h.after item (of t)
           [] rest → ExtractsNext R (of s) xs item (of t) (take m ys) rest
       whole item rest e =
@@ -123,7 +106,6 @@ module _ {F T : Type 0} (R : F → T → Bool → F → T → Type 0) where
           (sym left-is)
           (picked-after h.between h.after item (of t) rest e s h.run h.left h.asked))
 
-      -- If no item follows the kept items, then no item is extracted.
       pub picked-none : drop m ys ≡ [] → ExtractsNext R (of s) xs None (of t)
           (take m ys) (drop m ys)
       picked-none none =
@@ -131,15 +113,12 @@ module _ {F T : Type 0} (R : F → T → Bool → F → T → Type 0) where
           (subst (λ (l : List T). ExtractsNext R (of h.between) h.after None (of t) [] l)
           (sym end-is) (stops-at-end h.between t h.after h.end h.stops (sym end-is ∙ none)))
 
-      -- If the first item after the kept items is `v`, then `v` is the extracted item.
       pub picked-some : (v : T) (zs : List T) → drop m ys ≡ v ∷ zs
           → ExtractsNext R (of s) xs (Some v) (of t) (take m ys) zs
       picked-some v zs some =
           whole (Some v) zs (stops-at-item h.between t h.after h.end v zs
           h.stops (sym end-is ∙ some))
 
--- If `k ≤ length xs`, then moving `k` items and moving the items `take k xs` lead to the same cost.
--- (If `gap` is 0, no item is moved.)
 pub cost-of : {T : Type 0} (gap : ℕ) (cost : Cost) (k : ℕ) (xs : List T) → k ≤ length xs
     → (if gap == 0 then cost else add_moves k cost)
     ≡ (if gap == 0 then cost else add_moves (length (take k xs)) cost)
@@ -149,8 +128,6 @@ cost-of gap cost k xs room =
 module _ {T F A G : Type 0} {g : Ghosts G}
     {h : IntoInnerGhosts (Holder (ExtractState T F A)) (ExtractState T F A)}
     (R : F → T → Bool → F → T → Type 0) where
-  -- After any number of calls to `next` on an `ExtractIf`, each item of the range has been yielded,
-  -- kept or not been tested yet.
   pub extract_keeps_along : (d : ExtractIf T F A G (Holder (ExtractState T F A)) g h)
       → ExtractKeepsAlong R d
   extract_keeps_along d [] later e = subst (λ t. ExtractLeaves d [] t) e (record {

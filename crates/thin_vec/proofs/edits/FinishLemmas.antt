@@ -13,12 +13,13 @@ use Rattle.thin_vec.specs.List.Extend.{IsCapacityAfterExtend, IsKeptOrChosen}
 use Rattle.thin_vec.specs.Put.{YieldsThenMayEnd, IsFilledBy}
 use Rattle.thin_vec.specs.declared.put.Filled.{Filled}
 use Rattle.thin_vec.specs.Edits.Splice.{IsSpliceCause, SpliceErrorAccountsFor, without_middle, with_replacement}
-use Rattle.thin_vec.specs.Edits.Finish.{AddsFromIter, IsGapFilled, FinishesSplice}
-use Rattle.thin_vec.specs.Open.{OpenView}
+use Rattle.thin_vec.specs.Edits.Finish.{AddsFromIter, FinishesSplice}
+use Rattle.thin_vec.specs.Open.{OpenView, cost_closed, items_of}
 use Rattle.thin_vec.specs.ThinVec.{ListView}
 use Rattle.thin_vec.specs.declared.errors.SpliceRefused.{SpliceRefused}
 use Rattle.thin_vec.proofs.list.ExtendLemmas.{yields-join}
-use Rattle.thin_vec.proofs.edits.SpliceLemmas.{between-length, between-more, drains-more, run-moves, stopped-more, taken-join, taken-spare}
+use Rattle.thin_vec.proofs.PutLemmas.{filled-fits}
+use Rattle.thin_vec.proofs.edits.SpliceLemmas.{between-length, between-more, closed-moves, drains-more, run-moves, stopped-more, taken-join, taken-spare}
 
 module _ {T A : Type 0} where
   -- `IsWide` holds if the open block `b` results from opening a gap of `count` slots in the list
@@ -29,6 +30,17 @@ module _ {T A : Type 0} where
     pub tail : b.tail ≡ drop at u.items
     pub capacity : b.capacity ≡ u.capacity
     pub cost : b.cost ≡ (if eqb count 0 then u.cost else add_moves (length u.items - at) u.cost)
+
+  -- `IsGapFilled v xs a w` holds if writing the items `xs` into the gap of the open block `v` (a
+  -- block during an edit) results in the list `w` with the allocator `a`.
+  pub record IsGapFilled (v : OpenView T A) (xs : List T) (a : A) (w : ListView T A) : Type 0 where
+    pub items : w.items ≡ with_replacement v xs
+    pub capacity : w.capacity ≡ v.capacity
+    pub alloc : w.alloc ≡ a
+    -- The cost counts one move for each item of `xs`, and `m` moves for the items after the range.
+    -- Each of these items is moved at most once.
+    pub cost : (m : ℕ) × (w.cost ≡ add_moves (length xs + m) v.cost) × (m ≤ length v.tail)
+        × (length xs ≡ v.gap → m ≡ 0)
 
 module _ {S T A : Type 0} (steps : S → Option T → S → Type 0) (can : S → Type 0)
     (remaining : S → Count) where
@@ -56,17 +68,48 @@ module _ {S T A : Type 0} (steps : S → Option T → S → Type 0) (can : S →
 
 module _ {S T A : Type 0} {steps : S → Option T → S → Type 0} {can : S → Type 0}
     {remaining : S → Count} where
+  -- If a part of the gap remains empty, `close` moves each tail item once. Otherwise, it moves no
+  -- item.
+  pub gap-filled : (v u : OpenView T A) (s : S) (z w : ListView T A) (f : Filled S)
+      → ((by : IsFilledBy steps can remaining v.gap s f)
+      × (u ≡ record v {
+        front = v.front ++ by.items;
+        gap = v.gap - length by.items;
+        cost = add_moves (length by.items) v.cost;
+      }) × (f.end ≡ length u.front))
+      → v.rest ≡ []
+      → w ≡ record z { items = items_of u; capacity = u.capacity; cost = cost_closed u }
+      → FillsGap steps can remaining v z.alloc s w f
+  gap-filled v u s z w f filled empty closed =
+      let xs = filled.0.items in
+      let same = filled.1 in
+      let none = ap (λ y. y.rest) same ∙ empty in
+      let tail = ap (λ y. y.tail) same in
+      let gap = ap (λ y. y.gap) same in
+      let many : length xs ≡ v.gap - u.gap = omega (arith, gap, filled-fits filled.0) in
+      let put = closed-moves v u (length xs)
+      (ap (λ y. y.cost) same ∙ ap (λ n. add_moves n v.cost) many) none tail many in (
+        filled.0,
+        record {
+          items = ap (λ y. y.items) closed ∙ (λ i. (same i).front ++ (none i ++ tail i));
+          capacity = ap (λ y. y.capacity) closed ∙ ap (λ y. y.capacity) same;
+          alloc = ap (λ y. y.alloc) closed;
+          cost = (
+            put.0,
+            ap (λ y. y.cost) closed ∙ put.1,
+            put.2,
+            λ full. put.3 (omega (arith, gap, full)),
+          );
+        },
+        omega (arith, filled.2, ap (λ y. length y.front) same, length-append v.front xs),
+      )
+
   module _ {v : OpenView T A} {a : A} {s : S} {w : ListView T A} {f : Filled S}
       (p : FillsGap steps can remaining v a s w f) where
-    -- Let `w` be the list that results if items are put into the gap of the open block `v`, and `v`
-    -- is then closed. The length of `w` is the number of front items, plus the number of tail
-    -- items, plus the number of inserted items.
+    -- The lemmas `filled-..` are about the state after items were put into the gap of `v`.
     pub filled-long : length w.items ≡ length v.front + length v.tail + length p.0.items
     filled-long = omega (arith, ap length p.1.items, between-length v p.0.items)
 
-    -- `IsReached` describes a state during a call to `finish`. If items of an iterator were put
-    -- into the gap, and the iterator has not ended yet, then the gap is full, and `IsReached` holds
-    -- for the new list `w`.
     pub filled-reached : f.ended ≡ false
         → IsReached steps can remaining v s w p.0.items f.end f.rest
     filled-reached more = record {
@@ -79,22 +122,16 @@ module _ {S T A : Type 0} {steps : S → Option T → S → Type 0} {can : S →
       nearer = p.0.nearer more;
     }
 
-    -- If the iterator has ended, then it yielded exactly the inserted items, and no item remains.
     pub filled-drains : f.ended ≡ true → Drains steps s p.0.items
     filled-drains done =
         (f.rest, subst (λ b. YieldsThenMayEnd steps s p.0.items b f.rest) done p.0.gave)
 
     module _ (rule : GrowthRule) (R : RattleType) (n : ℕ) (left : Count) where
-      -- `AddsFromIter` describes how adding items changed a list, and bounds the moves of old
-      -- items. If items were put into the gap of the open block `v`, and closing `v` took at most
-      -- `n` moves of old items, then `AddsFromIter` holds with the bound `n`.
       pub filled-taken : p.1.cost.0 ≤ n → AddsFromIter rule R (without_middle v a) w n left
       filled-taken few =
           taken-spare rule R (without_middle v a) w (length p.0.items) p.1.cost.0 n left p.1.cost.1
           p.1.capacity (omega (arith, filled-long, length-append v.front v.tail)) few p.1.alloc
 
-      -- Suppose that opening a gap in the list `u`, filling it and closing it took at most `n`
-      -- moves of old items. Then `AddsFromIter` relates `u` to the new list `w` with this bound.
       pub wide-taken : (u : ListView T A) (at count : ℕ) → IsWide v u at count → a ≡ u.alloc
           → p.1.cost.0 + (length u.items - at) ≤ n → AddsFromIter rule R u w n left
       wide-taken u at count wide from few =
@@ -115,13 +152,10 @@ module _ {S T A : Type 0} {steps : S → Option T → S → Type 0} {can : S →
 
   module _ {v : OpenView T A} {s t : S} {u : ListView T A} {xs : List T} {end : ℕ}
       (p : IsReached steps can remaining v s u xs end t) where
-    -- `end` is the index directly after the inserted items. So the length of the list `u` is `end`
-    -- plus the number of tail items.
+    -- The lemmas `reached-..` are about later steps, which start from the state `IsReached`.
     pub reached-long : length u.items ≡ end + length v.tail
     reached-long = omega (arith, ap length p.items, between-length v xs, p.ends)
 
-    -- If the two parts of a call to `finish` satisfy `AddsFromIter` with the bounds `m` and `n` on
-    -- moves of old items, then the whole call satisfies it with each bound `k ≥ m + n`.
     pub reached-taken : (rule : GrowthRule) (R : RattleType) → IsLawful rule
         → (a : A) (w : ListView T A)
         (m n k : ℕ) → m + n ≤ k → AddsFromIter rule R (without_middle v a) u m (remaining s)
@@ -134,8 +168,6 @@ module _ {S T A : Type 0} {steps : S → Option T → S → Type 0} {can : S →
         (λ fit same. omega (arith, fit, same, ap length p.items, long, left, p.nearer))
         before now
 
-    -- If the first part of a call to `finish` kept the capacity, and `IsCapacityAfterExtend` allows
-    -- the capacity `d` after the second part, then it also allows `d` after the whole call.
     pub reached-extended : (rule : GrowthRule) (R : RattleType) (a : A) (d n : ℕ)
         → u.capacity ≡ v.capacity → IsCapacityAfterExtend rule R u d n (remaining t)
         → IsCapacityAfterExtend rule R (without_middle v a) d n (remaining s)
@@ -152,9 +184,6 @@ module _ {S T A : Type 0} {steps : S → Option T → S → Type 0} {can : S →
               ((ap (λ n. n + (length xs + e.0)) (length-append v.front v.tail) ∙ want) i)) ∙ e.2,
         )
 
-    -- `IsReached` describes an intermediate state of `finish`. Suppose that it holds for the list
-    -- `u`, and that inserting more items at index `end` turns `u` into `w`. If the iterator has not
-    -- ended yet, then `IsReached` also holds for `w`.
     pub reached-more : {w : ListView T A} {room : ℕ} {f : Filled S}
         (by : IsFilledBy steps can remaining room t f)
         → w.items ≡ (take end u.items ++ by.items) ++ drop end u.items
@@ -176,9 +205,6 @@ module _ {S T A : Type 0} {steps : S → Option T → S → Type 0} {can : S →
 
   module _ {rule : GrowthRule} {R : RattleType} (v : OpenView T A) (a : A) (s : S)
       (w : ListView T A) where
-    -- If a call to `finish` inserted all items of the iterator, and the new list `w` satisfies
-    -- `AddsFromIter` (which describes the change of the list) and `IsCapacityAfterExtend` (which
-    -- restricts the capacity), then `FinishesSplice` holds with the result `Ok`.
     pub finished-ok : (x : Unit {0})
         → (xs : List T) × Drains steps s xs × (w.items ≡ with_replacement v xs)
         → AddsFromIter rule R (without_middle v a) w (2 * length v.tail) (remaining s)
@@ -199,9 +225,6 @@ module _ {S T A : Type 0} {steps : S → Option T → S → Type 0} {can : S →
       cause = tt;
     }
 
-    -- If a call to `finish` inserted the items `xs` before the tail items, and the rest of the call
-    -- meets the conditions of `FinishesSplice`, then the whole call also meets them, with the same
-    -- result `r`.
     pub finished-from : {t : S} {u : ListView T A} {xs : List T} {end : ℕ}
         (r : Result (Unit {0}) (SpliceRefused T S A))
         → IsReached steps can remaining v s u xs end t → 0 < length v.tail

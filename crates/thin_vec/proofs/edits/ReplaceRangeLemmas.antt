@@ -12,7 +12,7 @@ use Rattle.thin_block.specs.Slots.{empty_slots, filled_slots, move_slots}
 use Rattle.thin_block.specs.declared.block.Block.{Block}
 use Rattle.thin_block.proofs.SlotsLemmas.{moved_back}
 use Rattle.thin_vec.specs.OpenBlock.{IsOpen, open_view}
-use Rattle.thin_vec.specs.Open.{OpenView, tail_end, slots_of}
+use Rattle.thin_vec.specs.Open.{OpenView, cost_closed, tail_end, slots_of}
 use Rattle.thin_vec.specs.declared.open_block.OpenBlock.TheInside.{Inside}
 use Rattle.thin_vec.specs.Edits.ReplaceRange.{MovesAtMost, ReplacesByClones}
 use Rattle.thin_vec.proofs.list.InsertRemoveLemmas.{full-append}
@@ -20,8 +20,6 @@ use Rattle.thin_vec.proofs.RetainLemmas.{moving-more, moving-none}
 use Rattle.thin_vec.proofs.OpenBlockLemmas.{Found, found, past_tail, reached}
 use Rattle.thin_vec.proofs.ListLemmas.{length-empty, length-full}
 
--- If the items `xs` are clones of the items `ss`, and `ys` are clones of `ts`, then `xs ++ ys` are
--- clones of `ss ++ ts`. `R` says which items are clones of each other.
 pub all_zip-append : {X : Type 0} (R : X → X → Type 0) (ss ts xs ys : List X) → AllZip R ss xs
     → AllZip R ts ys → AllZip R (ss ++ ts) (xs ++ ys)
 all_zip-append R [] ts [] ys e h = h
@@ -30,7 +28,6 @@ all_zip-append R (a ∷ ss) ts [] ys e h = absurd e
 all_zip-append R (a ∷ ss) ts (x ∷ xs) ys e h = (e.0, all_zip-append R ss ts xs ys e.1 h)
 
 module _ {T : Type 0} where
-  -- If `i ≤ j`, then `take i (take j xs)` is `take i xs`.
   take-less : (xs : List T) (i j : ℕ) → i ≤ j → take i (take j xs) ≡ take i xs
   take-less xs zero j h = refl
   take-less xs (suc i) zero h = absurd (omega arith)
@@ -38,8 +35,6 @@ module _ {T : Type 0} where
   take-less (x ∷ xs) (suc i) (suc j) h = ap (λ (l : List T). x ∷ l)
       (take-less xs i j (omega arith))
 
-  -- If the `n` items `ys` were inserted into the list `xs` at index `i`, then removing the `n`
-  -- items from index `i` onward results in `xs`.
   pub put-and-gone : (xs ys : List T) {zs : List T} (i : ℕ) {n : ℕ} → i ≤ length xs
       → length ys ≡ n → zs ≡ replace_range xs i i ys → take i zs ++ drop (i + n) zs ≡ xs
   put-and-gone xs ys {zs} i {n} within count is =
@@ -55,55 +50,56 @@ module _ {T : Type 0} where
 module _ {T : Type 0} (xs : List T) (i j : ℕ) (order : i ≤ j) (within : j ≤ length xs) where
   -- Let `w` be `xs` with `zs` inserted at index `j` and `ys` appended. Removing the items `i..j` of
   -- `w` and moving `ys` to index `i` yields `xs` with its items `i..j` replaced by `ys ++ zs`.
-  pub brought-in : (ys zs : List T) {w : List T} {n : ℕ} → length ys ≡ n
-      → w ≡ replace_range xs j j zs ++ ys
-      → (take i w ++ drop (length w - n) w) ++ take (length w - n - j) (drop j w)
+  pub brought-in : (ys zs : List T) {w t : List T} {n : ℕ} → length ys ≡ n
+      → w ≡ replace_range xs j j zs ++ ys → t ≡ drop j w
+      → (take i w ++ drop (length t - n) t) ++ take (length t - n) t
       ≡ replace_range xs i j (ys ++ zs)
-  brought-in ys zs {w} {n} count is =
+  brought-in ys zs {w} {t} {n} count is tail =
       let p : List T = take j xs in
       let r : List T = drop j xs in
       let few : length p ≡ j = length-take-le j xs within in
-      let all : length w ≡ j + length zs + length r + n =
-      omega (
-        arith,
-        ap length is,
-        length-append ((p ++ zs) ++ r) ys,
-        length-append (p ++ zs) r,
-        length-append p zs,
-        few,
-        count,
-      ) in
       let parts : w ≡ p ++ ((zs ++ r) ++ ys) =
       is ∙ (ap (λ (l : List T). l ++ ys) (append_assoc p zs r) ∙ append_assoc p (zs ++ r) ys) in
       let front : take i w ≡ take i xs =
       ap (take i) parts
       ∙ (take-append-le i p ((zs ++ r) ++ ys) (omega (arith, few)) ∙ take-less xs i j order) in
-      let last : drop (length w - n) w ≡ ys =
-      ap (drop (length w - n)) is
-      ∙ drop_at ((p ++ zs) ++ r) ys (length w - n)
-      (omega (arith, all, length-append (p ++ zs) r, length-append p zs, few)) in
-      let mid : take (length w - n - j) (drop j w) ≡ zs ++ r =
-      ap (take (length w - n - j))
-      (ap (drop j) parts ∙ drop_at p ((zs ++ r) ++ ys) j few)
-      ∙ take_at (zs ++ r) ys (length w - n - j) (omega (arith, all, length-append zs r)) in
+      let all : t ≡ (zs ++ r) ++ ys =
+      tail ∙ (ap (drop j) parts ∙ drop_at p ((zs ++ r) ++ ys) j few) in
+      let long : length (zs ++ r) ≡ length t - n =
+      omega (arith, ap length all, length-append (zs ++ r) ys, count) in
+      let last : drop (length t - n) t ≡ ys =
+      ap (drop (length t - n)) all ∙ drop_at (zs ++ r) ys (length t - n) long in
+      let mid : take (length t - n) t ≡ zs ++ r =
+      ap (take (length t - n)) all ∙ take_at (zs ++ r) ys (length t - n) long in
       (λ m. (front m ++ last m) ++ mid m)
       ∙ (sym (append_assoc (take i xs ++ ys) zs r)
       ∙ ap (λ (l : List T). l ++ r) (append_assoc (take i xs) ys zs))
 
+-- Suppose that `k` items were moved into a gap of `r` slots of an open block, and that `t` items
+-- follow the gap. Closing the block moves these items if a part of the gap is left.
+pub closed-cost : {T A : Type 0} (b : OpenView T A) (c : Cost) (k r t : ℕ) → k ≤ r
+    → b.gap ≡ r - k → length b.rest + length b.tail ≡ t → b.cost ≡ add_moves k c
+    → cost_closed b ≡ add_moves (k + (if eqb k r then 0 else t)) c
+closed-cost b c k r t few gap after cost =
+    elim (cases_lt k r) [
+      | inl less ↦ let e1 : eqb b.gap 0 ≡ false = grind (arith, nat_tests, gap, less) in
+          let e2 : eqb k r ≡ false = grind (arith, nat_tests, less) in
+          rw (e1, e2, after, cost) (moving-more t k c)
+      | inr all ↦ let e1 : eqb b.gap 0 ≡ true = grind (arith, nat_tests, gap, few, all) in
+          let e2 : eqb k r ≡ true = grind (arith, nat_tests, few, all) in
+          rw (e1, e2, cost) (ap (λ n. add_moves n c) (omega arith))
+    ]
+
 module _ {T A : Type 0} (h : Inside T A) (o : IsOpen h) (b : Block T A) (k : ℕ)
     (few : k ≤ length (open_view h).tail) (room : k ≤ (open_view h).gap) where
-  -- `v` is how contracts see the open block `h` before the last `k` tail items of `h` are moved.
   abbrev v : OpenView T A
   v = open_view h
 
   -- `brought` is the open block `h` after its last `k` tail items have been moved to the end of its
-  -- front items.
+  -- front items. `brought-view` is how contracts see it.
   abbrev pub brought : Inside T A
   brought = record h { block = b; front_end = h.front_end + k; len = h.len - k }
 
-  -- `brought-view` is how contracts see the open block `brought`. Compared with the view `v` of
-  -- `h`, the last `k` tail items have been moved to the end of the front items. The allocator and
-  -- the cost are those of the block `b`.
   abbrev pub brought-view : OpenView T A
   brought-view = record v {
     front = v.front ++ drop (length v.tail - k) v.tail;
@@ -113,8 +109,6 @@ module _ {T A : Type 0} (h : Inside T A) (o : IsOpen h) (b : Block T A) (k : ℕ
     cost = b.cost;
   }
 
-  -- If the last `k` tail items were moved directly after the front items, then `brought` is a valid
-  -- open block, and contracts see it as `brought-view`.
   pub bring-step : b.slots ≡ move_slots (h.len - k) h.front_end k h.block.slots
       → Found brought brought-view
   bring-step now =
@@ -224,8 +218,6 @@ module _ {T A : Type 0} (h : Inside T A) (o : IsOpen h) (b : Block T A) (k : ℕ
         room = omega (arith, o.room);
       }) refl refl
 
--- If clones of the items `sources` were inserted into the list `xs`, then the new length is the
--- length of `xs` plus the length of `sources`.
 pub replaced-length : {T : Type 0} (clones : T → T → Type 0) (xs : List T) (i : ℕ)
     (sources ys : List T) → i ≤ length xs → ReplacesByClones clones xs i i sources ys
     → length ys ≡ length xs + length sources
@@ -241,8 +233,6 @@ replaced-length clones xs i sources ys within is =
       length_all_zip clones sources zs is.cloned,
     )
 
--- Suppose that at most `n` moves turn the cost `c` into `d`, and that `m` more moves turn `d` into
--- `e`. If `m ≤ k`, then at most `n + k` moves turn `c` into `e`.
 pub at-most-more : {n m k : ℕ} {c d e : Cost} → MovesAtMost n c d → (few : m ≤ k)
     → e ≡ add_moves m d → MovesAtMost (n + k) c e
 at-most-more {n} {m} {k} {c} {d} {e} h few is = record {
@@ -251,8 +241,6 @@ at-most-more {n} {m} {k} {c} {d} {e} h few is = record {
   cost = is ∙ (ap (λ q. add_moves m q) h.cost ∙ moving-more m h.moves c);
 }
 
--- If at most `n` moves turn the cost `c` into `d`, and `n ≤ m`, then at most `m` moves turn `c`
--- into `d`.
 pub at-most-le : {n m : ℕ} {c d : Cost} → MovesAtMost n c d → n ≤ m → MovesAtMost m c d
 at-most-le {n} {m} {c} {d} h le = record {
   moves = h.moves;
@@ -260,14 +248,11 @@ at-most-le {n} {m} {c} {d} h le = record {
   cost = h.cost;
 }
 
--- Suppose that the cost `d` is the cost `c` if the flag `b` is true, and otherwise the cost `c`
--- plus `n` moves. Then at most `n` moves turn `c` into `d`.
 pub at-most-if : (b : Bool) (n : ℕ) (c d : Cost) → d ≡ (if b then c else add_moves n c)
     → MovesAtMost n c d
 at-most-if true n c d is = record { moves = 0; few = omega arith; cost = is ∙ sym (moving-none c) }
 at-most-if false n c d is = record { moves = n; few = omega arith; cost = is }
 
--- The number `k + (if b then 0 else n)` is at most `k + n`.
 pub if-le : (b : Bool) (k n : ℕ) → k + (if b then 0 else n) ≤ k + n
 if-le true k n = omega arith
 if-le false k n = omega arith
@@ -275,14 +260,11 @@ if-le false k n = omega arith
 -- `IsParted k r k1 k2` describes how `k` clones replace a range of `r` items. The first `k1` clones
 -- take the places of old items of the range, and the other `k2` clones need additional slots.
 pub record IsParted (k r k1 k2 : ℕ) : Type 0 where
-  -- `k1` is the smaller of the number of clones and the length of the range.
   pub first : k1 ≡ min k r
-  -- The number of all clones is `k1 + k2`.
   pub all : k1 + k2 ≡ k
 
--- Suppose that `k` clones replace a range of `r` items before `t` other items: `k1` clones go into
--- the range, and `k2` clones after it. This takes `min k r` more moves than replacing the range
--- with `k` items that already exist.
+-- Replacing a range with `k` clones takes `min k r` more moves than replacing it with `k` items
+-- that already exist. `t` items follow the range.
 pub cloning-moves : {k r k1 k2 : ℕ} → IsParted k r k1 k2 → (t : ℕ) {z u : ℕ} → z ≡ 0 → u ≡ t + k2
     → ((k2 + (if eqb k2 z then 0 else t)) + k1) + (k1 + (if eqb k1 r then 0 else u))
     ≡ (k + (if eqb k r then 0 else t)) + min k r

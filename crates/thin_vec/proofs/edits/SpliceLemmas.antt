@@ -25,16 +25,13 @@ use Rattle.thin_vec.proofs.list.ExtendLemmas.{adding-join, filled-reserved, loos
 use Rattle.thin_vec.proofs.RetainLemmas.{moving-more, moving-none}
 use Rattle.thin_vec.proofs.ThinVecLemmas.{cap-kept, cost_after_resize-copied}
 
--- Suppose that `n` items were put into the gap of the open block `v`, with one move each, and that
--- the resulting open block `w` has no middle items. Then closing `w` takes at most one move for
--- each tail item, and no move at all if `w` has no gap.
+-- Closing `w` takes at most one move for each tail item, and none if `w` has no gap.
 pub closed-moves : {T A : Type 0} (v w : OpenView T A) (n : ℕ) → w.cost ≡ add_moves (v.gap - w.gap)
     v.cost → w.rest ≡ [] → w.tail ≡ v.tail → n ≡ v.gap - w.gap
     → (m : ℕ) × (cost_closed w ≡ add_moves (n + m) v.cost) × (m ≤ length v.tail)
     × (w.gap ≡ 0 → m ≡ 0)
 closed-moves v w n paid none same count = go (eqb w.gap 0) refl
   where
-    -- The cost of the open block `w` is the cost of `v` plus `n` moves.
     filled : w.cost ≡ add_moves n v.cost
     filled = paid ∙ ap (λ k. add_moves k v.cost) (sym count)
 
@@ -60,13 +57,10 @@ closed-moves v w n paid none same count = go (eqb w.gap 0) refl
               absurd (false-true (sym e ∙ t)),
         )
       where
-        -- The Boolean value `false` is not equal to `true`.
         false-true : false ≡ true → ⊥
         false-true h = cc
 
--- Suppose that a step changes the cost from `c` to `d`. The step makes no move if `count` is 0, and
--- `n` moves otherwise. If `k + m` more moves follow this step, then the total number of moves is
--- `k + x`, for some number `x ≤ n + m`.
+-- A first step makes `n` moves, or none if `count` is 0. `k + m` more moves follow it.
 pub run-moves : (count n k m : ℕ) (c d : Cost) → d ≡ (if eqb count 0 then c else add_moves n c)
     → (x : ℕ) × (add_moves (k + m) d ≡ add_moves (k + x) c) × (x ≤ n + m)
 run-moves count n k m c d e = go (eqb count 0) e
@@ -82,20 +76,13 @@ run-moves count n k m c d e = go (eqb count 0) e
       omega arith,
     )
 
--- A reallocation counts as one granted request for memory. So the cost `d`, which is the cost `c`
--- with or without one reallocation, counts at most one request more than `c`.
 pub blocks-if : (b : Bool) (n : ℕ) (c d : Cost) → d ≡ (if b then c else add_realloc n c)
     → d.blocks ≤ c.blocks + 1
 blocks-if true n c d is = omega (arith, ap (λ q. q.blocks) is)
 blocks-if false n c d is = omega (arith, ap (λ q. q.blocks) is)
 
 module _ {S X : Type 0} (steps : S → Option X → S → Type 0) where
-  -- A call to `next` yields `x`, and further calls yield `xs`. The list `x ∷ xs` is `held`,
-  -- followed by the item in `o`, if there is one.
-  --
-  -- - If `o` is `Some y`, then all these calls yield `held ++ y ∷ []`.
-  -- - If `o` is `None`, and one more call returns `None`, then the calls yield `held` and end with
-  --   `None`.
+  -- The item in `o`, if there is one, was yielded last. If there is none, the iterator has ended.
   pub drawn-after : (s t u : S) (x : X) (xs held : List X) (o : Option X) → steps s (Some x) t
       → held ++ option_to_list o ≡ x ∷ xs
       → MatchOption o (YieldsThen steps t xs None u) (λ _. Yields steps t xs u)
@@ -109,10 +96,6 @@ module _ {S X : Type 0} (steps : S → Option X → S → Type 0) where
       subst (λ l. Yields steps s l u) (sym parts) (t, one, now)
 
 module _ {T A : Type 0} where
-  -- Suppose that adding `k` items turned the list `v` into `w`, and that the capacity did not
-  -- change. Suppose also that the cost increased by `k + m` moves: one move for each added item,
-  -- and `m` moves of old items. If `m ≤ n`, then `CostsInserting v w n` holds: the old items were
-  -- moved at most `n` times in total.
   pub adding-run : (v w : ListView T A) (k m n : ℕ) → w.cost ≡ add_moves (k + m) v.cost
       → w.capacity ≡ v.capacity → length w.items ≡ length v.items + k → m ≤ n → CostsInserting v w n
   adding-run v w k m n e same long few = record {
@@ -123,20 +106,15 @@ module _ {T A : Type 0} where
     grown = λ more. absurd (omega (arith, more, same));
   }
 
--- If `P` holds for the error in `r`, and `P` implies `Q` for this error, then `Q` holds for the
--- error. If `r` is `Ok`, nothing is claimed.
 pub if-err : {X E : Type 0} {P Q : E → Type 0} (r : Result X E) → ((e : E) → r ≡ Err e → P e → Q e)
     → IfErr r P → IfErr r Q
 if-err (Ok _) h p = p
 if-err (Err e) h p = h e refl p
 
--- If `Q` holds for every error, then `Q` holds for the error in the result `r`, if there is one.
 pub any-err : {X E : Type 0} {Q : E → Type 0} (r : Result X E) → ((e : E) → Q e) → IfErr r Q
 any-err (Ok _) h = tt
 any-err (Err e) h = h e
 
--- If `at` is at most the length of the list `xs`, then inserting the list `ys` into `xs` at index
--- `at` results in a list of length `length xs + length ys`.
 pub inserted-long : {T : Type 0} (xs ys : List T) (at : ℕ) → at ≤ length xs
     → length ((take at xs ++ ys) ++ drop at xs) ≡ length xs + length ys
 inserted-long xs ys at in_bounds =
@@ -150,8 +128,6 @@ inserted-long xs ys at in_bounds =
     )
 
 module _ {S X : Type 0} (steps : S → Option X → S → Type 0) where
-  -- If calls to `next` yield the items `xs`, and further calls yield `ys` and then return `None`,
-  -- then all these calls yield `xs ++ ys` and then return `None`.
   pub drains-more : (s t : S) (xs ys : List X) → Yields steps s xs t → Drains steps t ys
       → Drains steps s (xs ++ ys)
   drains-more s t xs ys before now =
@@ -159,9 +135,7 @@ module _ {S X : Type 0} (steps : S → Option X → S → Type 0) where
 
 module _ {S X A : Type 0} (steps : S → Option X → S → Type 0) (can : S → Type 0)
     (remaining : S → Count) where
-  -- `Stopped` describes a call to `finish` that failed with `error`. If calls to `next` yield `xs`
-  -- and change the iterator from `s` to `t`, then `Stopped` for `t` and no inserted items implies
-  -- `Stopped` for `s` and the inserted items `xs`.
+  -- The items `xs` that the iterator yielded before count as inserted items.
   pub stopped-more : (s t : S) (xs : List X) (error : SpliceRefused X S A) → Yields steps s xs t
       → SpliceErrorAccountsFor steps can remaining t [] error
       → SpliceErrorAccountsFor steps can remaining s xs error
@@ -183,10 +157,6 @@ module _ {S X A : Type 0} (steps : S → Option X → S → Type 0) (can : S →
         (now.2.0, yields-join steps s t now.2.0 xs error.held.items before now.2.1, now.2.2),
       )
 
-  -- `Stopped` describes a call to `finish` that failed with `error` after it had inserted the items
-  -- `xs`. Suppose that calls to `next` on the iterator `s` yielded exactly `xs` and then the item
-  -- in `error.in_hand`, if there is one. Suppose also that `next` may be called again after these
-  -- calls. If `error.held` contains no items, then `Stopped` holds.
   pub stopped-now : (s : S) (xs : List X) (error : SpliceRefused X S A) → error.held.items ≡ []
       → YieldsAndCanContinue steps can remaining s (xs ++ option_to_list error.in_hand) error.rest
       → SpliceErrorAccountsFor steps can remaining s xs error
@@ -206,9 +176,8 @@ module _ {S X A : Type 0} (steps : S → Option X → S → Type 0) (can : S →
 -- the items after the replaced range. After the call, the iterator can yield at most `left` items.
 module _ {S T A : Type 0} (rule : GrowthRule) (R : RattleType) (v : ListView T A) (tail : List T)
     (left : Count) (error : SpliceRefused T S A) where
-  -- `IsSpliceCause` states why `finish` failed with `error`. It holds if there are items after the
-  -- range (`tail`), `error` contains no items, and the list could not reserve room for the lower
-  -- bound of the iterator's size hint (`FailsAtHint`).
+  -- `finish` can fail at three steps: the reservation for the size hint, the collection and
+  -- insertion of the held items, and, if no item follows the range, the call to `extend`.
   pub stop-at-hint : 0 < length tail → error.held.items ≡ [] → error.in_hand ≡ None
       → FailsAtHint rule R v left error.cause → IsSpliceCause rule R v tail left error
   stop-at-hint some none empty fails = record {
@@ -218,12 +187,6 @@ module _ {S T A : Type 0} (rule : GrowthRule) (R : RattleType) (v : ListView T A
     by_push = λ no_tail. absurd (omega (arith, some, ap length no_tail));
   }
 
-  -- `IsSpliceCause` states why `finish` failed with `error`. It holds if there are items after the
-  -- range (`tail`), and one of these cases applies:
-  --
-  -- - `error.in_hand` is `None`, and `error.held` is not empty. The cause is `CapacityOverflow` if
-  --   and only if the growth rule chooses no capacity for these items.
-  -- - `error.in_hand` is `Some`, and the cause is `OutOfMemory`.
   pub stop-at-held : 0 < length tail → (error.in_hand ≡ None → 0 < length error.held.items)
       → (error.in_hand ≡ None → (error.cause ≡ CapacityOverflow)
       ↔ (capacity_after_reserve rule R v (length error.held.items) ≡ None))
@@ -236,10 +199,6 @@ module _ {S T A : Type 0} (rule : GrowthRule) (R : RattleType) (v : ListView T A
     by_push = λ no_tail. absurd (omega (arith, some, ap length no_tail));
   }
 
-  -- `IsExtendCause` states why `extend` failed, and `IsSpliceCause` states why `finish` failed.
-  -- Suppose that no item follows the range (`tail` is empty), that `error.held` is empty, and that
-  -- `error` has the same `cause` and the same `in_hand` as the error `e` of `extend`. Then
-  -- `IsExtendCause` for `e` implies `IsSpliceCause` for `error`.
   pub stop-at-end : (e : ExtendRefused T S) → tail ≡ [] → error.held.items ≡ []
       → error.cause ≡ e.cause → error.in_hand ≡ e.in_hand → IsExtendCause rule R v left e
       → IsSpliceCause rule R v tail left error
@@ -256,10 +215,6 @@ module _ {S T A : Type 0} (rule : GrowthRule) (R : RattleType) (v : ListView T A
   }
 
 module _ (rule : GrowthRule) (R : RattleType) where
-  -- Suppose that `d` is the capacity of the list `v` after room for `k` more items was reserved.
-  -- Suppose also that `length v.items + k` is at most `n`. Then `IsKeptOrChosen` holds: `d` is the
-  -- old capacity, or a capacity that the growth rule may choose when a list needs room for at most
-  -- `n` items.
   pub kept-or-ruled : IsLawful rule → {T A : Type 0} (v : ListView T A) (k d n : ℕ)
       → capacity_after_reserve rule R v k ≡ Some d → length v.items + k ≤ n
       → IsKeptOrChosen rule R v.capacity d n
@@ -269,16 +224,11 @@ module _ (rule : GrowthRule) (R : RattleType) where
         | inr spare ↦ inl (cap-kept rule R law v k d spare e)
       ]
 
--- If `b` is true, no moves are added to the cost `c`. If `b` is false, `n` moves are added. If `n`
--- is 0, then the result is `c` in both cases.
 unmoved : (b : Bool) (c : Cost) (n : ℕ) → n ≡ 0 → (if b then c else add_moves n c) ≡ c
 unmoved true c n none = refl
 unmoved false c n none = ap (λ k. add_moves k c) none ∙ moving-none c
 
 module _ {T A : Type 0} where
-  -- Suppose that the open block `v` has no middle items and no tail items. Then closing `v` moves
-  -- no item. The result is the list `without_middle v u.alloc`, which contains the front items of
-  -- `v` and has the allocator of the list `u`.
   pub closed-left : (v : OpenView T A) (u : ListView T A) → v.rest ≡ [] → v.tail ≡ []
       → record u { items = items_of v; capacity = v.capacity; cost = cost_closed v }
       ≡ without_middle v u.alloc
@@ -293,9 +243,6 @@ module _ {T A : Type 0} where
         cost = free i;
       }
 
-  -- `with_replacement v xs` is the list of the front items of the open block `v`, followed by `xs`
-  -- and by the tail items of `v`. Inserting `ys` directly after `xs` results in
-  -- `with_replacement v (xs ++ ys)`.
   pub between-more : (v : OpenView T A) (us xs ys : List T) (end : ℕ) → us ≡ with_replacement v xs
       → end ≡ length v.front + length xs
       → (take end us ++ ys) ++ drop end us ≡ with_replacement v (xs ++ ys)
@@ -306,15 +253,11 @@ module _ {T A : Type 0} where
       ∙ ((λ i. (take_at pre v.tail end here i ++ ys) ++ drop_at pre v.tail end here i)
       ∙ ap (λ l. l ++ v.tail) (append_assoc v.front xs ys))
 
-  -- `with_replacement v xs` consists of the front items of the open block `v`, the items `xs`, and
-  -- the tail items of `v`. Its length is the sum of the three lengths.
   pub between-length : (v : OpenView T A) (xs : List T)
       → length (with_replacement v xs) ≡ length v.front + length xs + length v.tail
   between-length v xs =
       omega (arith, length-append (v.front ++ xs) v.tail, length-append v.front xs)
 
-  -- If the open block `v` has no tail items, then `with_replacement v xs` consists of the front
-  -- items of `v`, followed by `xs`.
   pub after-items : (v : OpenView T A) (xs : List T) → v.tail ≡ []
       → (v.front ++ v.tail) ++ xs ≡ with_replacement v xs
   after-items v xs none =
@@ -322,13 +265,7 @@ module _ {T A : Type 0} where
       ∙ (ap (λ l. l ++ xs) (append-nil v.front)
       ∙ (sym (append-nil (v.front ++ xs)) ∙ (λ i. (v.front ++ xs) ++ sym none i)))
 
--- In this module, `rule` is the growth rule, `R` is the item type in Rattle, `T` is the item type
--- in contracts, and `A` is the allocator type.
 module _ (rule : GrowthRule) (R : RattleType) {T A : Type 0} where
-  -- `AddsFromIter rule R v w n left` states that adding items from an iterator turned the list `v`
-  -- into `w`, that the old items were moved at most `n` times in total, and that the iterator could
-  -- yield at most `left` items. It holds if neither the capacity nor the allocator changed, and if
-  -- adding `k` items took `k + m` moves, where `m ≤ n`.
   pub taken-spare : (v w : ListView T A) (k m n : ℕ) (left : Count)
       → w.cost ≡ add_moves (k + m) v.cost
       → w.capacity ≡ v.capacity → length w.items ≡ length v.items + k → m ≤ n → w.alloc ≡ v.alloc
@@ -353,9 +290,6 @@ module _ (rule : GrowthRule) (R : RattleType) {T A : Type 0} where
     };
   }
 
-  -- `AddsFromIter rule R v w n left` describes how adding items of an iterator changed the list `v`
-  -- to `w`. If `v` and `w` are equal, then `AddsFromIter` holds for every `n` and every `left`,
-  -- because no item was added.
   pub taken-none : (v w : ListView T A) (n : ℕ) (left : Count) → w ≡ v
       → AddsFromIter rule R v w n left
   taken-none v w n left e =
@@ -364,10 +298,6 @@ module _ (rule : GrowthRule) (R : RattleType) {T A : Type 0} where
       (ap (λ z. z.alloc) e)
 
   module _ (law : IsLawful rule) where
-    -- `AddsFromIter rule R v w n left` describes how adding at most `left` items of an iterator
-    -- changed the list `v` to `w`, with at most `n` moves of old items. If reserving room for `h`
-    -- more items changes `v` to `w`, and `h ≤ size left`, then `AddsFromIter rule R v w 0 left`
-    -- holds.
     pub taken-reserved : (v w : ListView T A) (h : ℕ) (left : Count)
         → capacity_after_reserve rule R v h ≡ Some w.capacity → w.items ≡ v.items
         → w.alloc ≡ v.alloc
@@ -382,10 +312,7 @@ module _ (rule : GrowthRule) (R : RattleType) {T A : Type 0} where
       cheap = cheap;
     }
 
-    -- `AddsFromIter` describes how a list changed when items from an iterator were added to it, and
-    -- bounds the number of moves of old items. Suppose that `AddsFromIter` holds with the bound `m`
-    -- for a step from the list `v` to `u`, and with the bound `n` for a step from `u` to `w`. If
-    -- `m + n ≤ k`, then `AddsFromIter` holds with the bound `k` for both steps together.
+    -- The bounds on the moves of two steps add up.
     pub taken-join : (v u w : ListView T A) (m n k : ℕ) (left more : Count) → m + n ≤ k
         → length v.items ≤ length u.items
         → (HasRoomFor v (size left) → u.capacity ≡ v.capacity → HasRoomFor u (size more))

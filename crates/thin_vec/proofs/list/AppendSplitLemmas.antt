@@ -12,9 +12,6 @@ use Rattle.thin_vec.proofs.list.InsertRemoveLemmas.{full-append}
 use Rattle.thin_vec.proofs.ListLemmas.{IsWritten, RestoresInvariant, length-full, restores-front, thin-room}
 
 module _ {T : Type 0} where
-  -- The row of slots `packed_slots xs c` has `c` slots: the first slots hold the items `xs`, and
-  -- all other slots are empty. If there is room, writing the items `ys` directly after `xs` turns
-  -- this row into `packed_slots (xs ++ ys) c`.
   pub front-more : (xs ys : List T) (c : ℕ) → length xs + length ys ≤ c
       → write_slots (length xs) (filled_slots ys)
       (packed_slots xs c) ≡ packed_slots (xs ++ ys) c
@@ -35,8 +32,6 @@ module _ {T : Type 0} where
 
   module _ (ys : List T) (c i k : ℕ) (order : i ≤ length ys) (room : length ys ≤ c)
       (count : k ≡ length ys - i) where
-    -- The row of slots `packed_slots ys c` consists of three parts: slots with the first `i` items
-    -- of `ys`, slots with the other items of `ys`, and empty slots.
     parted : packed_slots ys c ≡ filled_slots
         (take i ys) ++ (filled_slots (drop i ys) ++ empty_slots (c - length ys))
     parted =
@@ -47,25 +42,17 @@ module _ {T : Type 0} where
         ∙ append_assoc (filled_slots (take i ys)) (filled_slots (drop i ys))
         (empty_slots (c - length ys)))
 
-    -- Because `i` is at most the length of `ys`, the first `i` items of `ys` fill exactly `i`
-    -- slots.
     before : i ≡ length (filled_slots (take i ys))
     before = omega (arith, length-full (take i ys), length-take-le i ys order)
 
-    -- The items of `ys` from index `i` onward fill exactly `k` slots, where `k` is `length ys - i`.
     within : k ≡ length (filled_slots (drop i ys))
     within = omega (arith, count, length-full (drop i ys), length-drop i ys)
 
-    -- The row of slots `packed_slots ys c` begins with the items `ys`. Its `k` slots from index `i`
-    -- onward hold the items `drop i ys`, where `k` is `length ys - i`.
     pub front-run : slot_range i k (packed_slots ys c) ≡ filled_slots (drop i ys)
     front-run = ap (λ (s : List (Option T)). slot_range i k s) parted
         ∙ run-at i k (filled_slots (take i ys))
         (filled_slots (drop i ys)) (empty_slots (c - length ys)) before within
 
-    -- The row of slots `packed_slots ys c` begins with the items `ys`. If the `k` slots from index
-    -- `i` onward are emptied, the row becomes `packed_slots (take i ys) c`. Here, `k` is
-    -- `length ys - i`.
     pub front-cut : clear_slots i k (packed_slots ys c) ≡ packed_slots (take i ys) c
     front-cut =
         let long : length (empty_slots {T = T} k) ≡ length (filled_slots (drop i ys)) =
@@ -79,9 +66,6 @@ module _ {T : Type 0} where
         (replicate-append-replicate k (c - length ys) None ∙ ap (λ (m : ℕ). empty_slots m) bare))
 
 module _ {T A : Type 0} where
-  -- If the items `xs` are written directly after the last item of the block `b` of a list, and the
-  -- stored length grows by `length xs`, then the new block `b'` is the block of the list with `xs`
-  -- appended.
   pub restores-more : {b : Block T A} {a : A} → IsListBlock b a
       → (b' : Block T A) (xs : List T) (n : ℕ)
       → n ≡ b.len → n + length xs ≤ length b.slots → {l : ℕ} {k : Cost} → l ≡ n + length xs
@@ -96,10 +80,6 @@ module _ {T A : Type 0} where
       (omega (arith, new, end, length-append ys xs)) (omega (arith, room, end, length-append ys xs))
 
   module _ {b o : Block T A} {a p : A} (t : IsListBlock b a) (u : IsListBlock o p) where
-    -- Suppose that `b` and `o` are the blocks of two lists. Suppose also that the items of the
-    -- second list from index `i` onward are written directly after the last item in `b`, and that
-    -- the stored length of `b` grows by the number of these items. Then the new block `b'` is the
-    -- block of the first list with these items appended.
     pub restores-joined : (b' : Block T A) (i : ℕ) {k n : ℕ} → i ≤ length (items_in o.slots)
         → k ≡ o.len - i → n ≡ b.len → n + k ≤ length b.slots
         → {m : Cost} → IsWritten b b' (write_slots n (slot_range i k o.slots) b.slots) (n + k) m
@@ -114,8 +94,6 @@ module _ {T A : Type 0} where
         restores-more t b' (drop i ys) n len (omega (arith, room, more)) (omega (arith, more))
         (slots-are w (ap (λ (r : List (Option T)). write_slots n r b.slots) same))
 
-  -- If all items of the block `o` from index `i` onward are removed, the new block `o'` is the
-  -- block of a list that contains only the first `i` items.
   pub restores-cut : {o : Block T A} {p : A} → IsListBlock o p → (o' : Block T A) (i : ℕ) {k : ℕ}
       {m : Cost} → i ≤ length (items_in o.slots) → k ≡ o.len - i
       → IsWritten o o' (clear_slots i k o.slots) i m

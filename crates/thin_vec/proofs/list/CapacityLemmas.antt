@@ -12,15 +12,10 @@ use Rattle.thin_vec.specs.ThinVec.{IsListBlock}
 use Rattle.thin_vec.proofs.ListLemmas.{RestoresInvariant, settled, length-front, thin-room, front-grow}
 
 module _ {T : Type 0} where
-  -- `empty_slots c` is a row of `c` empty slots. It is equal to `packed_slots [] c`, the slots of
-  -- an empty list of capacity `c`.
   pub front-none : (c : ℕ) → empty_slots {T = T} c ≡ packed_slots [] c
   front-none c = let same : c ≡ c - 0 = omega arith in ap (λ (m : ℕ). empty_slots m) same
 
 module _ {T A : Type 0} {b : Block T A} {a : A} (t : IsListBlock b a) where
-  -- If a block `b'` of capacity `c` holds the items of the block `b` in its first slots, and all
-  -- its other slots are empty, then `b'` is the block of a list with the same items and the
-  -- capacity `c`.
   restores-remade : (b' : Block T A) (c : ℕ) {s : List (Option T)} {k : Cost}
       → block_view b' ≡ record (block_view b) { slots = s; alloc = Some a; cost = k }
       → s ≡ packed_slots (items_in b.slots) c → length (items_in b.slots) ≤ c
@@ -29,8 +24,6 @@ module _ {T A : Type 0} {b : Block T A} {a : A} (t : IsListBlock b a) where
       settled b' a (items_in b.slots) c (ap (λ v. v.slots) w ∙ e) (ap (λ v. v.len) w ∙ t.packed.len)
       room (λ x h. some-same (sym h ∙ ap (λ v. v.alloc) w))
 
-  -- If a call tries to grow a block to `c` slots, the block `b'` after the call holds the same
-  -- items and has at most `c` slots, even if the call fails.
   pub restores-tried : {X E : Type 0} (r : Result X E) (b' : Block T A) (c : ℕ)
       → length b.slots < c
       → OnOk r (block_view b' ≡ record (block_view b) {
@@ -52,8 +45,6 @@ module _ {T A : Type 0} {b : Block T A} {a : A} (t : IsListBlock b a) where
     omega (arith, ap (λ (q : Block T A). length q.slots) same),
   )
 
-  -- If the block of a list shrinks to its first `k` slots, which hold all items, then the new block
-  -- `b'` is the block of a list with the same items and the capacity `k`.
   pub restores-shrink : (b' : Block T A) (k : ℕ) {m : Cost} → length (items_in b.slots) ≤ k
       → k ≤ length b.slots
       → block_view b' ≡ record (block_view b) { slots = take k b.slots; alloc = Some a; cost = m }
@@ -67,8 +58,6 @@ module _ {T A : Type 0} {b : Block T A} {a : A} (t : IsListBlock b a) where
       ∙ (ap (λ (m : ℕ). take m (packed_slots xs k ++ rest)) (sym (length-front xs k room))
       ∙ take-append_seam (packed_slots xs k) rest)) room
 
--- If `b` is a new block of `c` empty slots with the allocator `a`, then `b` is the block of an
--- empty list of capacity `c`.
 pub restores-new : {T A : Type 0} (b : Block T A) (a : A) (c : ℕ) {k : Cost}
     → block_view b ≡ record { slots = empty_slots c; len = 0; alloc = Some a; cost = k }
     → RestoresInvariant b a [] c

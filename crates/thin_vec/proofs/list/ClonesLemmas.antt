@@ -16,14 +16,10 @@ use Rattle.thin_vec.proofs.ListLemmas.{length-full}
 
 module _ {T : Type 0} {clones : T → T → Type 0} {sources : List T} {n i : ℕ}
     {s s' : List (Option T)} (lays : WritesClones clones sources n i s s') where
-  -- If the list `sources` has at least `n` items, and its first `n` items were cloned, then
-  -- `copies`, the list of the clones, contains exactly `n` items.
   pub length-copies : n ≤ length sources → length lays.copies ≡ n
   length-copies few = sym (length_all_zip clones (take n sources) lays.copies lays.cloned)
       ∙ length-take-le n sources few
 
-  -- Suppose that the slots from index `i` onward hold clones of the first `n` items of `sources`.
-  -- Writing a clone of the next item into slot `i + n` makes them hold `n + 1` clones.
   pub lays-more : (y : T) {x : T} {s'' : List (Option T)} → n < length sources
       → i + length sources ≤ length s → x ≡ get_or sources n x → clones x y
       → s'' ≡ set s' (i + n) (Some y) → WritesClones clones sources (n + 1) i s s''
@@ -39,14 +35,10 @@ module _ {T : Type 0} {clones : T → T → Type 0} {sources : List T} {n i : �
             ∙ ap (λ r. write_slots i r s) (sym (map_push Some ys y))));
       }
 
--- If `ys` consists of clones of the first `n` items of `replicate m x`, then every item of `ys` is
--- a clone of `x`.
 pub all-repeated : {T : Type 0} (clones : T → T → Type 0) (x : T) (n m : ℕ) (ys : List T)
     → AllZip clones (take n (replicate m x)) ys → All (clones x) ys
 all-repeated {T} clones x n m ys cloned = All-from_recursion (clones x) ys (each n m ys cloned)
   where
-    -- If `ys` consists of clones of the first `n` items of `replicate m x`, then every item of `ys`
-    -- is a clone of `x`. The proof is by recursion.
     each : (n m : ℕ) (ys : List T) → AllZip clones (take n (replicate m x)) ys
         → AllByRecursion (clones x) ys
     each zero m [] e = tt
@@ -57,8 +49,6 @@ all-repeated {T} clones x n m ys cloned = All-from_recursion (clones x) ys (each
     each (suc n) (suc m) (y ∷ ys) e = (e.0, each n m ys e.1)
 
 module _ {T : Type 0} (clones : T → T → Type 0) where
-  -- If every clone of `x` equals `x`, then `xs`, followed by `n` clones of `x` and by `x` itself,
-  -- is `xs ++ replicate (n + 1) x`.
   pub equal-repeated : (n m : ℕ) {x : T} {xs ys zs : List T} → CloneEquals clones x
       → AppendsRepeats clones x n xs ys → zs ≡ ys ++ x ∷ [] → m ≡ n + 1 → zs ≡ xs ++ replicate m x
   equal-repeated n m {x} {xs} equal repeats last one =
@@ -71,15 +61,10 @@ module _ {T : Type 0} (clones : T → T → Type 0) where
       ∙ (append_assoc xs (replicate n x) (x ∷ []) ∙ ap (λ (l : List T). xs ++ l)
       (replicate-append-replicate n 1 x ∙ ap (λ k. replicate k x) (sym one))))
     where
-      -- If every clone of `x` equals `x`, and `ys` consists of clones of `x`, then `ys` is
-      -- `replicate (length ys) x`.
       each : (ys : List T) → AllByRecursion (clones x) ys → ys ≡ replicate (length ys) x
       each [] e = refl
       each (y ∷ ys) e = λ i. equal y e.0 i ∷ each ys e.1 i
 
--- If room for `k` items is reserved in the new list `v`, its capacity becomes
--- `grown_capacity rule R 0 k`: 0 if `k` is 0, and otherwise the capacity that the growth rule
--- chooses.
 pub capacity-new : {T A : Type 0} (rule : GrowthRule) (R : RattleType) (v : ListView T A) (a : A)
     (k : ℕ)
     → IsNew v a → capacity_after_reserve rule R v (k - length v.items) ≡ grown_capacity rule R 0 k
@@ -89,24 +74,17 @@ capacity-new rule R v a k new =
     (let e : length v.items + (k - length v.items) ≡ k = omega (arith, ap length new.items) in
     e)
 
--- If the item of `xs` at index `i` does not satisfy the predicate `P`, then `All P xs` is false:
--- not all items of `xs` satisfy `P`.
 pub not-all : {X : Type 0} (P : X → Type 0) (xs : List X) (i : ℕ) → i < length xs
     → HoldsAt (λ x. ¬ (P x)) xs i → All P xs → ⊥
 not-all P [] i low never all = absurd (omega arith)
 not-all P (x ∷ xs) i low never all = never x (all i x low)
 
--- This rule set, a list of lemmas for the prover, contains only `capacity-new`, the lemma about the
--- capacity of a new list.
 pub ruleset new_lists = (capacity-new)
 
 module _ {T : Type 0} (xs : List T) (a b : ℕ) (within : b ≤ length xs) where
-  -- If `b` is at most the length of `xs`, the range `a..b` of `xs` contains `b - a` items.
   pub length-range : length (slice_range xs a b) ≡ b - a
   length-range = length-take-le (b - a) (drop a xs) (omega (arith, length-drop a xs))
 
-  -- If `i < b - a`, the item of `xs ++ ys` at index `a + i` is the item at index `i` of the range
-  -- `a..b` of `xs`.
   pub get-range : (ys : List T) (i : ℕ) (x : T) → i < b - a → x ≡ get_or (xs ++ ys) (a + i) x
       → x ≡ get_or (slice_range xs a b) i x
   get-range ys i x less is = is ∙ (get_or_append_left xs ys x (a + i) (omega arith)

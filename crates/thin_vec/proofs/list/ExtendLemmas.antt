@@ -28,37 +28,26 @@ use Rattle.thin_vec.proofs.ListLemmas.{length-full}
 use Rattle.thin_vec.proofs.ThinVecLemmas.{cap-kept, cost_after_resize-more, cost_after_resize-moves, cost_after_resize-same}
 
 module _ {S X : Type 0} (steps : S → Option X → S → Type 0) where
-  -- If calls to `next` yielded the items `xs`, and one more call yielded `x`, then the whole
-  -- sequence of calls yielded `xs ++ x ∷ []`.
   pub yields-more : (s t u : S) (xs : List X) (x : X) → Yields steps s xs t → steps t (Some x) u
       → Yields steps s (xs ++ x ∷ []) u
   yields-more s t u [] x e now = (u, subst (λ r. steps r (Some x) u) (sym e) now, λ _. u)
   yields-more s t u (y ∷ ys) x e now = (e.0, e.1, yields-more e.0 t u ys x e.2 now)
 
-  -- If calls to `next` yielded the items `xs`, and the following calls yielded the items `ys`, then
-  -- the whole sequence of calls yielded `xs ++ ys`.
   pub yields-join : (s t u : S) (xs ys : List X) → Yields steps s xs t → Yields steps t ys u
       → Yields steps s (xs ++ ys) u
   yields-join s t u [] ys e more = subst (λ r. Yields steps r ys u) (sym e) more
   yields-join s t u (x ∷ xs) ys e more = (e.0, e.1, yields-join e.0 t u xs ys e.2 more)
 
-  -- If calls to `next` yielded the items `xs ++ ys`, then the first `length xs` calls yielded `xs`.
   pub yields-first : (s u : S) (xs ys : List X) → Yields steps s (xs ++ ys) u
       → (t : S) × Yields steps s xs t
   yields-first s u [] ys e = (s, refl)
   yields-first s u (x ∷ xs) ys e =
       let rest = yields-first e.0 u xs ys e.2 in (rest.0, (e.0, e.1, rest.1))
 
-  -- Suppose that calls to `next` yielded the items `xs` and then returned `None`, and that `xs`
-  -- satisfies the predicate `P`. Then `WholeRun` holds: these calls form a complete run of the
-  -- iterator, and the items of this run satisfy `P`.
   pub run_of : (s : S) (P : List X → Type 0) → (xs : List X) × Drains steps s xs × P xs
       → WholeRun steps s (λ p. P p.items)
   run_of s P all = (run steps s all.0 true (to_end steps s all.0 all.1), refl, refl, all.2)
 
-  -- Suppose that a method that calls `next` returned `r`. If `r` is `Ok`, and these calls yielded a
-  -- list of items that satisfies `P` and then returned `None`, then `WholeRun` holds: the calls
-  -- form a complete run of the iterator, and the list of its items satisfies `P`.
   pub run_of_ok : {E : Type 0} (s : S) (P : List X → Type 0) (r : Result (Unit {0}) E)
       → OnOk r ((xs : List X) × Drains steps s xs × P xs)
       → OnOk r (WholeRun steps s (λ p. P p.items))
@@ -66,22 +55,13 @@ module _ {S X : Type 0} (steps : S → Option X → S → Type 0) where
   run_of_ok s P (Err _) all = tt
 
 module _ {S X : Type 0} (steps : S → Option X → S → Type 0) (s : S) where
-  -- Suppose that calls to `next` yielded the items `xs` and then, if `o` is `Some`, the item in
-  -- `o`. If the list of all these items satisfies `P`, then `SomeRun` holds: the calls form a run
-  -- of the iterator, which may be incomplete, and the items of this run satisfy `P`.
   pub run_given : (xs : List X) (o : Option X) (t : S) (P : List X → Type 0)
       → Yields steps s (xs ++ option_to_list o) t → P (xs ++ option_to_list o)
       → SomeRun steps s (λ p. P p.items)
   run_given xs o t P gave h =
       (run steps s (xs ++ option_to_list o) false (t, gave, λ e. absurd (false≢true e)), refl, h)
 
-  -- Suppose that a method consumed an iterator and failed with the error `e`. Suppose also that its
-  -- calls to `next` first yielded a list that satisfies `P`, and then the item in `hand e`, if
-  -- there is one. Then `SomeRun` holds: these calls form a complete or incomplete run of the
-  -- iterator.
-  --
-  -- The parameter `can` says when `next` may be called again, and `remaining` bounds the number of
-  -- items that the iterator may still yield.
+  -- `can` says when `next` may be called again, and `remaining` bounds how many items are left.
   pub run_given_err : {E : Type 0} (can : S → Type 0) (remaining : S → Count)
       (hand : E → Option X) (rest : E → S) (P : List X → Type 0) (r : Result (Unit {0}) E)
       → IfErr r (λ e. (xs : List X) × P xs
@@ -94,20 +74,14 @@ module _ {S X : Type 0} (steps : S → Option X → S → Type 0) (s : S) where
       (λ l. (xs : List X) × P xs × (l ≡ xs ++ option_to_list (hand e)))
       all.2.gave (all.0, all.1, refl)
 
--- `MatchOption o Q (λ _. P)` is the statement `Q` if the option `o` is `None`, and the statement
--- `P` if `o` is `Some`. So it holds if `o` is `Some` and `P` holds.
 pub match-some : {X : Type 0} (P Q : Type 0) (o : Option X) → IsSome o → P
     → MatchOption o Q (λ _. P)
 match-some P Q (Some x) some p = p
 match-some P Q None some p = absurd (false≢true some)
 
--- An option cannot be both `Some` and `None`.
 pub hand-empty : {X : Type 0} {o : Option X} → IsSome o → o ≡ None → ⊥
 hand-empty some none = false≢true (subst IsSome none some)
 
--- Suppose that the result `r` is `Err error`, and that `error.in_hand` is `Some`. If `P` holds,
--- then `MatchOption error.in_hand (Q error) (λ _. P)` holds, because `Q error` is needed only for
--- `None`.
 pub full-in-hand : {T S : Type 0} (P : Type 0) (Q : ExtendRefused T S → Type 0)
     (r : Result (Unit {0}) (ExtendRefused T S)) → IfErr r (λ error. IsSome error.in_hand)
     → OnErr r P → IfErr r (λ error. MatchOption error.in_hand (Q error) (λ _. P))
@@ -117,9 +91,6 @@ full-in-hand P Q (Err error) some at_capacity =
 
 module _ {T : Type 0} where
   module _ (s s' r : List (Option T)) where
-    -- Suppose that the items `xs` are written into adjacent slots, starting at index `i`, and that
-    -- the item `x` is then written into slot `k`, directly after them. Then the slots `i` to `k`
-    -- hold `xs ++ x ∷ []`, and all other slots are unchanged.
     pub laid-more : (i k : ℕ) (xs : List T) (x : T) → s ≡ write_slots i (filled_slots xs) r
         → k ≡ i + length xs
         → k < length r → s' ≡ set s k (Some x) → s' ≡ write_slots i (filled_slots (xs ++ x ∷ [])) r
@@ -131,14 +102,10 @@ module _ {T : Type 0} where
         (sym (map-append (λ (y : T). Some y) xs (x ∷ [])))))
 
 module _ {T A : Type 0} where
-  -- If `n` is 0, adding `n` moves to the cost of a block changes nothing.
   pub put-none : (v : BlockView T A) (n : ℕ) → n ≡ 0 → v ≡ record v { cost = add_moves n v.cost }
   put-none v n none = λ i. record v
       { cost = (sym (moving-none v.cost) ∙ ap (λ (k : ℕ). add_moves k v.cost) (sym none)) i }
 
-  -- Suppose that the block `v` is the block `u` with other slots and `n` more moves. If one more
-  -- item is put into a slot of `v`, the resulting block `w` is `u` with other slots and `n + 1`
-  -- more moves.
   pub put-more : (u : BlockView T A) {v w : BlockView T A} {s : List (Option T)} (n k : ℕ)
       → k ≡ n + 1
       → w ≡ record v { slots = s; cost = add_moves 1 v.cost }
@@ -153,8 +120,6 @@ module _ {T A : Type 0} where
         ∙ (moving-more 1 n u.cost ∙ ap (λ (m : ℕ). add_moves m u.cost) (sym one)))) i;
   }
 
--- If appending the items `xs` to the list `v` results in `w`, with one move per item, then `w`
--- differs from `v` only in its items and its cost.
 pub spare-kept : {T A : Type 0} (v w : ListView T A) (xs : List T)
     → w ≡ record v { items = v.items ++ xs; cost = add_moves (length xs) v.cost }
     → w ≡ record v
@@ -168,48 +133,33 @@ spare-kept v w xs is =
 -- The following lemmas are about how the capacity of a list grows over several calls.
 
 module _ (rule : GrowthRule) (R : RattleType) (law : IsLawful rule) where
-  -- `IsKeptOrGrown rule R c d` states that a list may grow from the capacity `c` to the capacity
-  -- `d`. It implies `c ≤ d`.
   pub loose-le : (c d : ℕ) → IsKeptOrGrown rule R c d → c ≤ d
   loose-le c d (inl e) = omega arith
   loose-le c d (inr p) = let g = ruled-grows rule R c p.0 p.1 law p.2 p.3 in
       omega (arith, g.doubled, p.4)
 
-  -- `IsKeptOrGrown rule R c d` states that a list may grow from the capacity `c` to the capacity
-  -- `d`. This relation is transitive.
   pub loose-join : (c d e : ℕ) → IsKeptOrGrown rule R c d → IsKeptOrGrown rule R d e
       → IsKeptOrGrown rule R c e
   loose-join c d e (inl p) q = subst (λ n. IsKeptOrGrown rule R n e) p q
   loose-join c d e (inr p) q = inr (p.0, p.1, p.2, p.3, omega (arith, p.4, loose-le d e q))
 
-  -- `IsKeptOrChosen rule R c d n` states that `d` is the old capacity `c`, or a capacity that the
-  -- growth rule may choose for at most `n` items. If it holds for `n`, it holds for every `m ≥ n`.
   pub ruled-more : (c n m : ℕ) {d d' : ℕ} → d' ≡ d → n ≤ m → IsKeptOrChosen rule R c d n
       → IsKeptOrChosen rule R c d' m
   ruled-more c n m same more (inl e) = inl (same ∙ e)
   ruled-more c n m same more (inr p) =
       inr (p.0, p.1, p.2, omega (arith, p.3, more), p.4 ∙ ap Some (sym same))
 
-  -- Suppose that `IsKeptOrChosen rule R d e n` holds: the new capacity `e` is the old capacity `d`,
-  -- or a capacity that the growth rule may choose for at most `n` items. Suppose also that `P`
-  -- holds if `e` is equal to `d`. Then `P` holds, or `IsKeptOrChosen rule R c e n` holds for every
-  -- `c`.
   pub ruled-after : (c d e n : ℕ) (P : Type 0) → IsKeptOrChosen rule R d e n → (e ≡ d → P)
       → IsKeptOrChosen rule R c e n ⊎ P
   ruled-after c d e n P (inl same) f = inr (f same)
   ruled-after c d e n P (inr p) f = inl (inr p)
 
-  -- `IsCapacityAfterCollect rule R d n left` states that a list of `n` collected items may have the
-  -- capacity `d`. It holds if the list was made for `h` items, a possible lower bound of the size
-  -- hint, and then changed its capacity as `IsKeptOrChosen` allows.
   pub collected-after : {c d : ℕ} (n h : ℕ) (left : Count) → IsWithinCount h left
       → exact_capacity R 0 h ≡ Some c → IsKeptOrChosen rule R c d n
       → IsCapacityAfterCollect rule R d n left
   collected-after n h left hint e (inl same) = inr (h, hint, e ∙ ap Some (sym same))
   collected-after n h left hint e (inr p) = inl p
 
-  -- If the list `v` has the capacity `d` after a call that reserves room for `k` more items, then
-  -- the growth rule allows the change from the old capacity to `d`, as `IsKeptOrGrown` states.
   pub loose-ruled : {T A : Type 0} (v : ListView T A) (k d : ℕ)
       → capacity_after_reserve rule R v k ≡ Some d
       → IsKeptOrGrown rule R v.capacity d
@@ -219,8 +169,6 @@ module _ (rule : GrowthRule) (R : RattleType) (law : IsLawful rule) where
         | inr spare ↦ inl (cap-kept rule R law v k d spare e)
       ]
 
--- A new list has no items and the capacity 0. So reserving room for exactly `h` more items needs the
--- same capacity as making a new list with room for `h` items.
 pub exact-new : {T A : Type 0} (R : RattleType) (v : ListView T A) (a : A) (h : ℕ) → IsNew v a
     → capacity_after_reserve_exact R v h ≡ exact_capacity R 0 h
 exact-new R v a h new =
@@ -229,9 +177,6 @@ exact-new R v a h new =
     ∙ ap (λ (n : ℕ). exact_capacity R 0 n) all
 
 module _ {T A : Type 0} where
-  -- Suppose that appending `k` items to the list `v` takes `k` moves and at most one reallocation,
-  -- which copies at most as many items as it adds slots. Then `CostsInserting v w 0` holds: no old
-  -- item was moved apart from the reallocation.
   pub filled-at : (v w : ListView T A) (k : ℕ)
       → w.cost ≡ add_moves k (cost_after_resize v w.capacity)
       → length w.items ≡ length v.items + k
@@ -250,9 +195,6 @@ module _ {T A : Type 0} where
         (omega (arith, ap (λ c. c.blocks) f), omega (arith, ap (λ c. c.grown) f));
   }
 
-  -- Suppose that reserving room in the list `v` keeps the items and takes at most one reallocation,
-  -- which copies at most as many items as it adds slots. Then `CostsInserting v w 0` holds: no old
-  -- item was moved apart from the reallocation.
   pub filled-reserved : (v w : ListView T A) → w.cost ≡ cost_after_resize v w.capacity
       → w.items ≡ v.items
       → (cost_after_resize v w.capacity).grown + v.capacity ≤ v.cost.grown + w.capacity
@@ -268,8 +210,6 @@ module _ {T A : Type 0} where
             z) i;
       })) (omega (arith, ap length n)) few
 
-  -- If appending `k` items to the list `v` takes `k` moves and keeps the capacity, then
-  -- `CostsInserting v w 0` holds: no old item was moved.
   pub filled-spare : (v w : ListView T A) (k : ℕ)
       → w ≡ record v { items = w.items; cost = add_moves k v.cost }
       → length w.items ≡ length v.items + k → CostsInserting v w 0
@@ -280,10 +220,6 @@ module _ {T A : Type 0} where
       filled-at v w k (ap (λ u. u.cost) e ∙ ap (λ c. add_moves k c) (sym kept)) n
       (omega (arith, ap (λ c. c.grown) kept, same))
 
-  -- `CostsInserting v w k` states that adding items to the list `v`, which became `w`, moved old
-  -- items at most `k` times in total. Suppose that `CostsInserting v u m` and
-  -- `CostsInserting u w n` hold, that neither step made the capacity smaller, and that `u` is not
-  -- shorter than `v`. If `m + n ≤ k`, then `CostsInserting v w k` holds.
   pub adding-join : {v u w : ListView T A} (m n k : ℕ) → m + n ≤ k → CostsInserting v u m
       → CostsInserting u w n → v.capacity ≤ u.capacity → u.capacity ≤ w.capacity
       → length v.items ≤ length u.items → CostsInserting v w k
@@ -306,8 +242,6 @@ module _ {T A : Type 0} where
     ];
   }
 
-  -- `CostsInserting v w n` states that adding items to the list `v` moved old items at most `n`
-  -- times in total. If it holds for 0, it holds for every `n`.
   pub adding-more : (v w : ListView T A) (n : ℕ) → CostsInserting v w 0 → CostsInserting v w n
   adding-more v w n p = record {
     copied = p.copied;

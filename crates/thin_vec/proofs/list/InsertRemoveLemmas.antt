@@ -20,8 +20,6 @@ use mathlib.Core.Logic.{⊎_elim}
 -- The following lemmas are about moving adjacent items by one slot.
 
 module _ {T : Type 0} where
-  -- The row of slots `packed_slots xs c` begins with the items `xs`. Removing the item in slot `i`
-  -- and moving all later items down by one slot turns the row into `packed_slots (remove xs i) c`.
   pub front-remove : (xs : List T) (c i : ℕ) {j k : ℕ} → i < length xs → length xs ≤ c → j ≡ i + 1
       → k ≡ length xs - j
       → move_slots j i k (set (packed_slots xs c) i None) ≡ packed_slots (remove xs i) c
@@ -43,24 +41,16 @@ module _ {T : Type 0} where
       ∙ ap (λ (z : ℕ). replicate z None) m))))
 
   -- In this module, a row of `c` slots begins with the items `xs`. The `k` items from index `i`
-  -- onward are moved up by one slot, to make room for a new item at index `i`. Here, `j` is
-  -- `i + 1`.
+  -- onward are moved up by one slot, to make room for a new item at index `i`.
   module _ (xs : List T) (c i : ℕ) {j k : ℕ} (h : i ≤ length xs) (l : length xs < c) (e : j ≡ i + 1)
       (n : k ≡ length xs - i) where
-    -- Suppose that the items of `xs` from index `i` onward have been moved up by one slot. Then
-    -- `after` is the row of slots that follow slot `i`: first the slots of the moved items, and
-    -- then empty slots.
+    -- `after` is the row after slot `i` once the items from index `i` onward have been moved up.
     after : List (Option T)
     after = filled_slots (drop i xs) ++ replicate (c - length xs - 1) None
 
-    -- Because `i` is at most the length of `xs`, the first `i` items of `xs` fill exactly `i`
-    -- slots.
     before : i ≡ length (filled_slots (take i xs))
     before = omega (arith, length-full (take i xs), length-take i xs)
 
-    -- After the items from index `i` onward have been moved up by one slot, slot `i` is empty. The
-    -- first `i` items are in the slots before it, and the moved items are in the slots directly
-    -- after it.
     apart : move_slots i j k (packed_slots xs c) ≡ filled_slots (take i xs) ++ (None ∷ after)
     unfolding after
     apart =
@@ -78,8 +68,6 @@ module _ {T : Type 0} where
         ap (λ (ys : List (Option T)). move_slots i j k ys) s
         ∙ moved_right i j k 1 (filled_slots a) (filled_slots b) r before e q
 
-    -- If the items of `xs` from index `i` onward are moved up by one slot, and `v` is then written
-    -- into slot `i`, the first slots hold `insert xs i v`, and all other slots are empty.
     pub front-insert : (v : T)
         → set (move_slots i j k (packed_slots xs c)) i (Some v) ≡ packed_slots (insert xs i v) c
     unfolding after
@@ -93,16 +81,12 @@ module _ {T : Type 0} where
         ∙ (ap (λ (ys : List (Option T)). ys ++ r) (sym (map-append (λ (y : T). Some y) a (v ∷ b)))
         ∙ ap (λ (z : ℕ). filled_slots (insert xs i v) ++ replicate z None) m)))
 
-    -- If the items from index `i` onward are moved up by one slot, then slot `i` is empty.
     front-gap : slot (move_slots i j k (packed_slots xs c)) i ≡ None
     front-gap =
         ap (λ (ys : List (Option T)). slot ys i) apart
         ∙ get_or_at (filled_slots (take i xs)) None after None i (sym before)
 
 module _ {T A : Type 0} {b : Block T A} {a : A} (t : IsListBlock b a) where
-  -- Suppose that `b` is the block of a list. If the item in slot `i` is removed, all later items
-  -- are moved down by one slot, and the stored length is decremented, then the new block `b'` is
-  -- the block of the list without the item at index `i`.
   pub restores-remove : (b' : Block T A) (i : ℕ) {j k : ℕ} → i < length (items_in b.slots)
       → j ≡ i + 1 → k ≡ b.len - j → {l : ℕ} {m : Cost} → l ≡ b.len
       → IsWritten b b' (move_slots j i k (set b.slots i None)) (l - 1) m
@@ -115,9 +99,6 @@ module _ {T A : Type 0} {b : Block T A} {a : A} (t : IsListBlock b a) where
       (omega (arith, len, t.packed.len, length-remove xs i h))
       (omega (arith, thin-room b a t, length-remove xs i h))
 
-  -- Suppose that `b` is the block of a list. If the items from index `i` onward are moved up by one
-  -- slot, `v` is written into slot `i`, and the stored length is incremented, then the new block
-  -- `b'` is the block of the list with `v` inserted at index `i`.
   pub restores-insert : (b' : Block T A) (i : ℕ) (v : T) {j k : ℕ} → i ≤ length (items_in b.slots)
       → b.len < length b.slots → j ≡ i + 1 → k ≡ b.len - i → {l : ℕ} {m : Cost} → l ≡ b.len
       → IsWritten b b' (set (move_slots i j k b.slots) i (Some v)) (l + 1) m
@@ -130,8 +111,6 @@ module _ {T A : Type 0} {b : Block T A} {a : A} (t : IsListBlock b a) where
       (omega (arith, len, t.packed.len, length-insert xs i v h))
       (omega (arith, o, t.packed.len, length-insert xs i v h))
 
-  -- If the block `b` has an empty slot after its last item, then moving each item whose index is at
-  -- least `i` up by one slot makes slot `i` empty.
   pub thin-gap : (i : ℕ) {j k : ℕ} → i ≤ length (items_in b.slots) → b.len < length b.slots
       → j ≡ i + 1 → k ≡ b.len - i → slot (move_slots i j k b.slots) i ≡ None
   thin-gap i {j} {k} h o e n =
@@ -149,8 +128,6 @@ module _ {T : Type 0} where
       filled_slots (take k xs)
       ++ (empty_slots (i - k) ++ (filled_slots (drop i xs) ++ empty_slots (c - length xs)))
 
-  -- If `i` is less than the length of `xs`, then `drop i xs` is `x ∷ drop (i + 1) xs` for some item
-  -- `x`.
   item-at : (xs : List T) (i : ℕ) → i < length xs → (x : T) × (drop i xs ≡ x ∷ drop (i + 1) xs)
   item-at [] i h = absurd (omega arith)
   item-at (x ∷ xs) zero h = (x, refl)
@@ -162,13 +139,9 @@ module _ {T : Type 0} where
             e),
       )
 
-  -- `filled_slots (xs ++ ys)` is `filled_slots xs ++ filled_slots ys`, where `filled_slots xs` is a
-  -- row of slots that hold the items `xs`.
   pub full-append : (xs ys : List T) → filled_slots (xs ++ ys) ≡ filled_slots xs ++ filled_slots ys
   full-append xs ys = map-append (λ (x : T). Some x) xs ys
 
-  -- `emptying xs k i c` is the row `packed_slots xs c` after the slots `k..i` have been emptied. If
-  -- `i` is `k`, no slot has been emptied.
   pub emptying-none : (xs : List T) (k c : ℕ) → emptying xs k k c ≡ packed_slots xs c
   emptying-none xs k c =
       let r : List (Option T) = empty_slots (c - length xs) in
@@ -180,17 +153,13 @@ module _ {T : Type 0} where
       ∙ ap filled_slots (take-append-drop k xs)))
 
   module _ (xs : List T) (k i c : ℕ) (order : k ≤ i) (bound : i < length xs) where
-    -- `pre` contains the slots before slot `i` of the row `emptying xs k i c`, in which the slots
-    -- `k..i` are empty.
+    -- `pre` and `post` are the slots of `emptying xs k i c` before and after slot `i`.
     pre : List (Option T)
     pre = filled_slots (take k xs) ++ empty_slots (i - k)
 
-    -- `post` contains the slots after slot `i` of the row `emptying xs k i c`, in which the slots
-    -- `k..i` are empty.
     post : List (Option T)
     post = filled_slots (drop (i + 1) xs) ++ empty_slots (c - length xs)
 
-    -- The list `pre`, which contains all slots before slot `i`, has length `i`.
     length-pre : length pre ≡ i
     unfolding pre
     length-pre =
@@ -202,8 +171,6 @@ module _ {T : Type 0} where
           length-replicate {A = Option T} (i - k) None,
         )
 
-    -- The row of slots `emptying xs k i c` consists of the slots before slot `i`, slot `i` with the
-    -- item of `xs` at index `i`, and the slots after slot `i`.
     split : emptying xs k i c ≡ pre ++ (Some (item-at xs i bound).0 ∷ post)
     unfolding pre post
     split =
@@ -213,14 +180,10 @@ module _ {T : Type 0} where
         ∙ sym (append_assoc (filled_slots (take k xs)) (empty_slots (i - k))
         (Some r.0 ∷ (filled_slots (drop (i + 1) xs) ++ empty_slots (c - length xs))))
 
-    -- If `i` is less than the length of `xs`, slot `i` still holds an item after the slots `k..i`
-    -- have been emptied.
     pub emptying-filled : IsSome (slot (emptying xs k i c) i)
     emptying-filled = rw (ap (λ (s : List (Option T)). slot s i) split
         ∙ get_or_at pre (Some (item-at xs i bound).0) post None i length-pre) refl
 
-    -- Emptying slot `i` turns the row of slots `emptying xs k i c`, whose slots `k..i` are empty,
-    -- into `emptying xs k (i + 1) c`.
     pub emptying-take : set (emptying xs k i c) i None ≡ emptying xs k (i + 1) c
     unfolding pre post
     emptying-take =
@@ -233,8 +196,6 @@ module _ {T : Type 0} where
         ∙ ap (λ (s : List (Option T)). s ++ post)
         (replicate-append-replicate (i - k) 1 None ∙ ap empty_slots more))))
 
-  -- The row of slots `packed_slots xs c` begins with the items `xs`. If its slots from index `k`
-  -- onward are emptied, it becomes `packed_slots (take k xs) c`.
   pub emptying-all : (xs : List T) (k c : ℕ) → k ≤ length xs → length xs ≤ c
       → emptying xs k (length xs) c ≡ packed_slots (take k xs) c
   emptying-all xs k c order room =
@@ -246,8 +207,6 @@ module _ {T : Type 0} where
       ∙ ap (λ (s : List (Option T)). filled_slots (take k xs) ++ s)
       (replicate-append-replicate (length xs - k) (c - length xs) None ∙ ap empty_slots many)
 
-  -- The row of slots `filled_slots xs ++ s` begins with the items `xs`. If `i` is less than the
-  -- length of `xs`, then writing `m` into slot `i` replaces the item of `xs` at index `i` with `m`.
   pub full-set : (xs : List T) (s : List (Option T)) (i : ℕ) (m : T) → i < length xs
       → set (filled_slots xs ++ s) i (Some m) ≡ filled_slots (set xs i m) ++ s
   full-set [] s i m h = absurd (omega arith)
@@ -255,9 +214,7 @@ module _ {T : Type 0} where
   full-set (x ∷ xs) s (suc i) m h = ap (λ (r : List (Option T)). Some x ∷ r)
       (full-set xs s i m (omega arith))
 
-  -- In a row of `c` slots that begins with the items `ys ++ m ∷ []`, moving the last item `m` into
-  -- slot `i` leaves the items `swap_remove (ys ++ m ∷ []) i v`. (`swap_remove` uses `v` only for an
-  -- empty list.)
+  -- `swap_remove` uses `v` only for an empty list.
   front-swap_remove : (ys : List T) (c i : ℕ) (v m : T) → i < length ys → length (ys ++ m ∷ []) ≤ c
       → set (set (set (packed_slots (ys ++ m ∷ []) c) i None) (length ys) None) i (Some m)
       ≡ packed_slots
@@ -285,9 +242,6 @@ module _ {T : Type 0} where
 
 module _ {T A : Type 0} where
   module _ {b : Block T A} {a : A} (t : IsListBlock b a) (b' : Block T A) (i last : ℕ) where
-    -- If the last item `m` is moved into slot `i` in place of the item there, then `b'` is the
-    -- block of the list after `swap_remove` at index `i`. (`swap_remove` uses `v` only for an empty
-    -- list.)
     restores-swap_remove : (v : T) {m : T} → i < last → last + 1 ≡ b.len
         → slot b.slots last ≡ Some m
         → {k : Cost} → IsWritten b b' (set (set (set b.slots i None) last None) i (Some m)) last k
@@ -313,8 +267,6 @@ module _ {T A : Type 0} where
         (omega (arith, cut, room, length_push ys m, long)) in
         subst (λ (l : List T). RestoresInvariant b' a (swap_remove l i v) c) (sym at_end) done
       where
-        -- If the list `ys` has `k` items and `i < k`, then `swap_remove (ys ++ m ∷ []) i v` has `k`
-        -- items. (`swap_remove` uses `v` only for an empty list.)
         length-swap_remove : (ys : List T) (i : ℕ) (v m : T) {k : ℕ} → length ys ≡ k → i < k
             → length (swap_remove (ys ++ m ∷ []) i v) ≡ k
         length-swap_remove ys i v m {k} long lt =
@@ -328,8 +280,6 @@ module _ {T A : Type 0} where
               long,
             )
 
-    -- If the last item of a block replaces the item `v` in slot `i`, then the new block `b'` is the
-    -- block of the list after `swap_remove` at index `i`. Slot `i` may be the last filled slot.
     pub restores-replaced : (v : T) → i ≤ last → last + 1 ≡ b.len → slot b.slots i ≡ Some v
         → {k : Cost} → IsWritten b b' (set (set b.slots i (slot b.slots last)) last None) last k
         → RestoresInvariant b' a (swap_remove (items_in b.slots) i v) (length b.slots)

@@ -1,4 +1,4 @@
--- These lemmas prove that calls satisfy `Keeps`, `Reserves` and `OverflowsIff`. These three
+-- These lemmas prove that calls satisfy `PreservesList`, `Reserves` and `OverflowsIff`. These three
 -- definitions say how a call may change the capacity of a list, and which error the call returns.
 use Rattle.std.proofs.Common.{◌≡◌, ℕ, ◌+◌, Err, List, Ok, Option, Result, Some, ap, arith, inl, inr, length, sym, ◌∙◌}
 use Rattle.std.specs.Borrow.{RattleType}
@@ -17,17 +17,12 @@ use Rattle.thin_vec.specs.ThinVec.{HasRoomFor, IsListBlock, IsBounded, ListView,
 use Rattle.thin_vec.proofs.ListLemmas.{RestoresInvariant}
 use Rattle.thin_vec.proofs.ThinVecLemmas.{within-kept}
 
--- `OverflowsIff named r` states that the result `r` is the error `CapacityOverflow` if and only if
--- `named` is `None`. This lemma proves it if `r` is `Ok x` and `named` is `Some n`.
 pub tells-ok : {X : Type 0} (x : X) (named : Option ℕ) (n : ℕ) → named ≡ Some n
     → OverflowsIff named (Ok x)
 tells-ok x named n is = record {
   overflow = (λ e. ok-err x CapacityOverflow e, λ none. absurd (none-some none is));
 }
 
--- `OverflowsIffTooLarge R m r` states that `r` is `CapacityOverflow` if and only if the capacity
--- for `m` items of type `R` is too large. It carries over from `Ok x` to `Ok y`, if `n` items of
--- type `S` need the same capacity.
 pub tells-made : {X : Type 0} {x y : X} (R S : RattleType) (m n : ℕ)
     → exact_capacity R 0 m ≡ exact_capacity S 0 n
     → OverflowsIffTooLarge R m (let r : Result X ThinVecError = Ok x in r)
@@ -39,9 +34,6 @@ tells-made {x = x} {y} R S m n e told = record {
   );
 }
 
--- `OverflowsIffTooLarge R m r` states that `r` is `CapacityOverflow` if and only if the capacity
--- for `m` items of type `R` is too large. It implies `OverflowsIffTooLarge S n r` if `n` items of
--- type `S` need the same capacity.
 pub tells-same : {X : Type 0} {r : Result X ThinVecError} (R S : RattleType) (m n : ℕ)
     → exact_capacity R 0 m ≡ exact_capacity S 0 n → OverflowsIffTooLarge R m r
     → OverflowsIffTooLarge S n r
@@ -49,16 +41,21 @@ tells-same R S m n e told = record {
   overflow = (λ over. sym e ∙ told.overflow.0 over, λ none. told.overflow.1 (e ∙ none));
 }
 
--- An error cannot be both `OutOfMemory` and `CapacityOverflow`. So every statement `P` follows from
--- the assumption that `cause` is both.
 memory-no-overflow : {P : Type 0} (cause : ThinVecError) → cause ≡ OutOfMemory
     → cause ≡ CapacityOverflow → P
 memory-no-overflow cause is over = cc
 
+-- `PreservesList` is transitive.
+pub keeps-join : {T A : Type 0} {R : RattleType} {u v w : ListView T A} → PreservesList R u v
+    → PreservesList R v w → PreservesList R u w
+keeps-join p q = record {
+  alloc = q.alloc ∙ p.alloc;
+  never_less = omega (arith, p.never_less, q.never_less);
+  cheap = λ cheap. q.cheap (p.cheap cheap);
+  within = (p.within.0, q.within.1);
+}
+
 module _ {T A : Type 0} (R : RattleType) (v : ListView T A) where
-  -- Suppose that the list `v` became `w`, and that the capacity, the number of requests for memory
-  -- and the number of copied items did not change. If `v` satisfies `IsCheap`, which bounds the
-  -- cost of growth, then `w` satisfies `IsCheap` too.
   cheap-kept : (w : ListView T A) → w.capacity ≡ v.capacity
       → (w.cost.blocks ≡ v.cost.blocks) × (w.cost.grown ≡ v.cost.grown) → IsCheap v → IsCheap w
   cheap-kept w capacity (blocks, grown) cheap = record {
@@ -70,10 +67,6 @@ module _ {T A : Type 0} (R : RattleType) (v : ListView T A) where
         rw (blocks, capacity) old;
   }
 
-  -- Suppose that the lists `v` and `w` have the same allocator, the same capacity, and the same
-  -- counts of requests for memory and of copied items. If both lists satisfy `IsBounded`, which
-  -- limits their length and capacity, then `PreservesList R v w` holds. Every call that may grow a
-  -- list guarantees `Keeps`.
   pub keeps-kept : (w : ListView T A) → w.alloc ≡ v.alloc → w.capacity ≡ v.capacity
       → (w.cost.blocks ≡ v.cost.blocks) × (w.cost.grown ≡ v.cost.grown)
       → IsBounded R v × IsBounded R w → PreservesList R v w
@@ -84,9 +77,6 @@ module _ {T A : Type 0} (R : RattleType) (v : ListView T A) where
     within = within;
   }
 
-  -- Suppose that a call changed the block `b` of the list `v` to the block `b'` of a list with the
-  -- items `xs` and the same capacity, and that it only added moves to the recorded cost. Then
-  -- `Keeps` holds for the list before and after the call.
   pub keeps-settled : {b b' : Block T A} {a : A} {xs : List T} {k : Cost} → IsListBlock b a
       → list_view b a ≡ v → Fits R (length b.slots) → RestoresInvariant b' a xs (length b.slots)
       → b'.cost ≡ k → (k.blocks ≡ b.cost.blocks) × (k.grown ≡ b.cost.grown)
@@ -100,9 +90,6 @@ module _ {T A : Type 0} (R : RattleType) (v : ListView T A) where
       (within-kept R b a b' v xs thin is fits after)
 
   module _ (rule : GrowthRule) where
-    -- `Reserves` states how a call that needs room for `k` more items may change the capacity, and
-    -- when the call fails. It holds if the list `v` already has room for `k` more items, the call
-    -- returns `Ok`, and the capacity does not change.
     pub reserves-room : {X : Type 0} {x : X} (k : ℕ) (w : ListView T A) → HasRoomFor v k
         → w.capacity ≡ v.capacity → Reserves rule R k v w (Ok x)
     reserves-room {x = x} k w room capacity =
@@ -115,9 +102,6 @@ module _ {T A : Type 0} (R : RattleType) (v : ListView T A) where
           overflow = (λ e. ok-err x CapacityOverflow e, λ none. absurd (none-some none named));
         }
 
-    -- `Reserves` states how a call that needs room for more items may change the capacity, and when
-    -- it fails. A call of two steps satisfies it if the first step does, and if the second step
-    -- keeps the capacity and fails only with `OutOfMemory`.
     pub reserves-then : {X Y : Type 0} {x : X} (S : RattleType) (k l : ℕ) (u w : ListView T A)
         (r : Result Y ThinVecError) → l ≡ k
         → capacity_after_reserve rule S v l ≡ capacity_after_reserve rule R v k
@@ -144,9 +128,6 @@ module _ {T A : Type 0} (R : RattleType) (v : ListView T A) where
           );
         }
 
-    -- `Reserves` states how a call that needs room for more items may change the capacity, and when
-    -- it fails. If it holds for a failed call for `k` items of type `R`, it holds for `k` items of
-    -- type `S` that need the same capacity.
     pub reserves-failed : {X Y : Type 0} (S : RattleType) (k l : ℕ) (w : ListView T A)
         (cause : ThinVecError) → l ≡ k
         → capacity_after_reserve rule S v l ≡ capacity_after_reserve rule R v k

@@ -1,5 +1,5 @@
--- These lemmas are for the `dedup` methods. They say how contracts see an open block (the block of
--- a list during an edit) after items were written into one or two of its slots.
+-- These lemmas are for the `dedup` methods. They say how contracts see an open block after items
+-- were written into one or two of its slots.
 use Rattle.std.proofs.Common.{◌≡◌, ◌≢◌, ℕ, zero, suc, ◌+◌, ◌-◌, ◌<◌, ◌≤◌, List, [], ◌∷◌, ◌++◌, Option, Some, None, length, take, drop, refl, sym, ap, ◌∙◌, arith, length-append, append_assoc, get_or}
 use Rattle.std.proofs.lemmas.List.{drop_at, get_or_at, get_or-set_other, length-drop, length-take-le, length_push, set_at, take_at}
 use Rattle.std.specs.Prelude.{IsSome, slice_range}
@@ -21,8 +21,6 @@ use Rattle.thin_vec.proofs.open_block.RetainRestLemmas.{row-at, same-past, write
 module _ {T : Type 0} where
   -- The following lemmas are about two items in neighboring slots.
 
-  -- `overwrite_items s 0 ws` is the row of slots `s` after the items `ws` have been written into
-  -- its first slots. So `overwrite_items s 0 []` is `s`.
   over-none : (s : List (Option T)) → overwrite_items s 0 [] ≡ s
   over-none [] = refl
   over-none (None ∷ s) = refl
@@ -36,8 +34,6 @@ module _ {T : Type 0} where
     pub second : slot s (suc i) ≡ Some x
     pub now : overwrite_items s i (k' ∷ x' ∷ []) ≡ set (set s i (Some k')) (suc i) (Some x')
 
-  -- If the slots `i` and `i + 1` hold the items `k` and `x`, then `Neighbours` holds for these
-  -- items and any new items `k'` and `x'`.
   pub neighbours : (s : List (Option T)) (i : ℕ) (k x k' x' : T) → Some k ∷ Some x ∷ [] ≡ take 2
       (drop i s) → Neighbours s i k x k' x'
   neighbours [] zero k x k' x' e = absurd (cons-not-nil e)
@@ -61,9 +57,6 @@ module _ {T : Type 0} where
   module _ (s : List (Option T)) (i : ℕ) (all a b : List T) (within : i + 2 ≤ length s)
       (lent : filled_slots all ≡ slice_range s i (i + 2)) (cut : all ≡ a ++ b)
       (one : length a ≡ 1) where
-    -- Suppose that the slice `a` consists of the item `k`, and the slice `b` of the item `x`. Then
-    -- `Neighbours` holds, so the slots `i` and `i + 1` hold `k` and `x`. Moreover, writing `k'`
-    -- into `a` and `x'` into `b` puts them into these two slots, and changes no other slot.
     pub parts-of : {k x : T} (k' x' : T) → k ≡ get_or a 0 k → x ≡ get_or b 0 x
         → Neighbours s i k x k' x'
         × (overwrite_items s i (set a 0 k' ++ set b 0 x') ≡ set (set s i (Some k')) (suc i)
@@ -93,14 +86,10 @@ module _ {T : Type 0} where
         (h, (λ j. overwrite_items s i (set (p.1 j) 0 k' ++ set (q.1 j) 0 x')) ∙ h.now)
 
 module _ {T A : Type 0} where
-  -- The following lemmas are about open blocks. An open block is the block of a list during an
-  -- edit. Its items are in three parts: the front items (the items before the edited range, and the
-  -- items that were kept so far), the middle items (the items of the range that were not tested
-  -- yet), and the tail items (the items after the range).
+  -- The following lemmas are about open blocks.
 
   -- `WrittenTwo h o k b x y x' y'` holds if the block `b` is the open block `h`, but with `x'` and
-  -- `y'` in place of the middle items `x` and `y` at the indices `k` and `k + 1`. `o` proves
-  -- `IsOpen h`.
+  -- `y'` in place of the middle items `x` and `y` at the indices `k` and `k + 1`.
   pub record WrittenTwo (h : Inside T A) (o : IsOpen h) (k : ℕ) (b : Block T A)
       (x y x' y' : T) : Type 0 where
     pub pre : List T
@@ -112,8 +101,6 @@ module _ {T A : Type 0} where
 
   module _ (h : Inside T A) (o : IsOpen h) (b : Block T A)
       (kept : block_view b ≡ record (block_view h.block) { slots = b.slots }) where
-    -- If the middle items of the open block `h` at the indices `k` and `k + 1` are overwritten with
-    -- `x'` and `y'`, then `WrittenTwo` holds for the resulting block `b`.
     pub write-two-step : (k : ℕ) {x y : T} (x' y' : T) → suc k < length (open_view h).rest
         → slot h.block.slots (h.rest_start + k) ≡ Some x
         → slot h.block.slots (suc (h.rest_start + k)) ≡ Some y
@@ -177,8 +164,6 @@ module _ {T A : Type 0} where
     pub was : (open_view h).front ≡ pre ++ x ∷ []
     pub shown : Found (record h { block = b }) (record (open_view h) { front = pre ++ y ∷ [] })
 
-  -- If the last front item of the open block `h` has been overwritten with `y`, and nothing else
-  -- has changed, then `WrittenLast` holds for the resulting block `b`.
   pub write-last-step : (h : Inside T A) (o : IsOpen h) (b : Block T A) {x : T} (y : T)
       → 0 < length (open_view h).front → slot h.block.slots (h.front_end - 1) ≡ Some x
       → block_view b ≡ record
@@ -225,8 +210,6 @@ module _ {T A : Type 0} where
             (ap (λ (z : BlockView T A). z.cost) now);
       }
 
-  -- If the open block `h` has front items, then the slot at index `front_end - 1` holds the last
-  -- front item.
   pub last-filled : (h : Inside T A) (o : IsOpen h) → 0 < length (open_view h).front
       → IsSome (slot h.block.slots (h.front_end - 1))
   last-filled h o some =

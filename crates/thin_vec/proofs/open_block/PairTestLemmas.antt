@@ -13,8 +13,6 @@ use Rattle.thin_vec.proofs.RetainLemmas.{cons-head, cons-not-nil, cons-tail, sin
 abbrev pub OnPairs : Type 0 → Type 0 → Type 1
 OnPairs S T = S → T → T → Bool → S → T → T → Type 0
 
--- If `a ++ x ∷ []` and `b ++ y ∷ []` are equal, then the last items `x` and `y` are equal, and so
--- are the lists `a` and `b`.
 pub last-same : {X : Type 0} (a b : List X) (x y : X) → a ++ x ∷ [] ≡ b ++ y ∷ [] → (a ≡ b) × (x ≡ y)
 last-same [] [] x y e = (refl, cons-head e)
 last-same [] (z ∷ b) x y e = let n = ap length e in absurd (omega (arith, n, length_push b y))
@@ -27,48 +25,35 @@ last-same (z ∷ a) (q ∷ b) x y e =
 abbrev pub all-stay : ℕ → List Bool
 all-stay n = replicate n true
 
--- The number of true flags in `a ++ b` is the sum of the numbers of true flags in `a` and in `b`.
 pub count_true-join : (a b : List Bool) → count_true (a ++ b) ≡ count_true a + count_true b
 count_true-join [] b = omega arith
 count_true-join (true ∷ a) b = let e = count_true-join a b in omega arith
 count_true-join (false ∷ a) b = count_true-join a b
 
--- `replicate n true` is a list of `n` true flags, and `count_true` returns the number of true flags
--- in a list. So `count_true (replicate n true)` is `n`.
 count_true-all : (n : ℕ) → count_true (replicate n true) ≡ n
 count_true-all zero = refl
 count_true-all (suc n) = ap suc (count_true-all n)
 
--- `moves_of_retain` counts the kept items after the first removed item. So `n` true flags (kept
--- items) at the start of the flags do not change this number.
 pub moved-all : (n : ℕ) (b : List Bool)
     → moves_of_retain (replicate n true ++ b) ≡ moves_of_retain b
 moved-all zero b = refl
 moved-all (suc n) b = moved-all n b
 
--- `MatchBool b P Q` is `P` if `b` is true, and `Q` otherwise. If `P` implies `G` and `Q` implies
--- `G`, then `MatchBool b P Q` implies `G`.
 by-answer : (b : Bool) (P Q G : Type 0) → (P → G) → (Q → G) → MatchBool b P Q → G
 by-answer true P Q G f g m = f m
 by-answer false P Q G f g m = g m
 
--- `MatchBool b P Q` is `P` if `b` is true, and `Q` otherwise. If `P` implies `P'`, and `Q` implies
--- `Q'`, then `MatchBool b P Q` implies `MatchBool b P' Q'`.
 pub map-answer : (b : Bool) {P Q P' Q' : Type 0} → (P → P') → (Q → Q') → MatchBool b P Q
     → MatchBool b P' Q'
 map-answer true f g m = f m
 map-answer false f g m = g m
 
--- If `pre ++ l ∷ []` equals `k ∷ zs`, and `zs` is not empty, then there is a list `p` such that
--- `pre` is `k ∷ p` and `zs` is `p ++ l ∷ []`.
 after-first : {X : Type 0} (pre zs : List X) (k l : X) → pre ++ l ∷ [] ≡ k ∷ zs → 0 < length zs
     → (p : List X) × (zs ≡ p ++ l ∷ []) × (pre ≡ k ∷ p)
 after-first [] zs k l e some = let n = ap length e in absurd (omega (arith, n, some))
 after-first (a ∷ p) zs k l e some = (p, sym (cons-tail e), ap (λ z. z ∷ p) (cons-head e))
 
 module _ {S T : Type 0} (R : OnPairs S T) where
-  -- If the items `xs` were tested after the kept item `k`, then the list `ys` of the kept items is
-  -- not empty, because `k` is kept.
   pub last-some : (xs : List T) (s t : S) (k : T) (stays : List Bool) (ys : List T)
       → TestsEachAgainstLast R s k xs stays ys t → 0 < length ys
   last-some [] s t k stays ys h = omega (arith, ap length h.1)
@@ -76,26 +61,18 @@ module _ {S T : Type 0} (R : OnPairs S T) where
       by-answer h.0 _ _ (0 < length ys) (λ m. last-some xs h.3 t h.2 h.4 ys m)
       (λ m. omega (arith, ap length m.2)) h.7
 
-  -- Suppose that the item `x` is tested against the kept item `k`, and that the test changes `k` to
-  -- `k'`. If `x` is removed, then `k'` is the only item that is kept.
   pub last-goes : (s t : S) (k x x' k' : T) → R s x k true t x' k'
       → TestsEachAgainstLast R s k (x ∷ []) (false ∷ []) (k' ∷ []) t
   last-goes s t k x x' k' h = (true, x', k', t, [], h, refl, (refl, refl, refl))
 
-  -- If testing the item `x` against the kept item `k` keeps `x` and leaves the items as `k'` and
-  -- `x'`, then the list of the kept items is `k' ∷ x' ∷ []`.
   pub last-stays : (s t : S) (k x x' k' : T) → R s x k false t x' k'
       → TestsEachAgainstLast R s k (x ∷ []) (true ∷ []) (k' ∷ x' ∷ []) t
   last-stays s t k x x' k' h = (false, x', k', t, [], h, refl, (x' ∷ [], (refl, refl, refl), refl))
 
   -- In this module, the items `zs` were tested after the kept item `l`. The flags `g` say which of
-  -- the items `zs` were kept, and `ws` is the list of the kept items, including `l`. The tests
-  -- changed the state of the closure from `t` to `u`.
+  -- the items `zs` were kept, and `ws` is the list of the kept items, including `l`.
   module _ (t u : S) (l : T) (g : List Bool) (ws zs : List T)
       (m : TestsEachAgainstLast R t l zs g ws u) where
-    -- Suppose that testing `xs` after the kept item `k` results in the kept items `pre ++ l ∷ []`,
-    -- and that testing `zs` after `l` results in the kept items `ws`, including `l`. Then testing
-    -- `xs ++ zs` after `k` results in `pre ++ ws`.
     pub last-append : (xs : List T) (s : S) (k : T) (f : List Bool) (pre : List T)
         → TestsEachAgainstLast R s k xs f (pre ++ l ∷ []) t
         → TestsEachAgainstLast R s k (xs ++ zs) (f ++ g) (pre ++ ws) u
@@ -140,8 +117,6 @@ module _ {S T : Type 0} (R : OnPairs S T) where
     pub kept : suc (length pre) ≡ m
     pub now : ys ≡ pre ++ last ∷ after
 
-  -- Before any test, `PairStays` holds for the first item of a non-empty list, because this item is
-  -- kept without a test.
   pub pair-start : (s : S) (xs : List T) → 0 < length xs → PairStays 1 s xs s xs
   pair-start s [] some = absurd (omega arith)
   pair-start s (x ∷ xs) some =
@@ -166,8 +141,6 @@ module _ {S T : Type 0} (R : OnPairs S T) where
       pub last : a.kept ≡ h.last
       pub after : h.after ≡ a.later ∷ a.after
 
-    -- Suppose that the next test, `a`, compared the item at index `m` with the item before it. Then
-    -- `NextPair` holds: `a` compared the first untested item with the last kept item.
     next-pair : (b : Bool) (u : S) (zs : List T) (a : TestsPairAt R m t ys b u zs)
         → NextPair b u zs a
     next-pair b u zs a =
@@ -184,23 +157,17 @@ module _ {S T : Type 0} (R : OnPairs S T) where
         ∙ drop_at a.before (a.kept ∷ a.later ∷ a.after) (length h.pre) n) in
         record { front = sym fronts; last = sym (cons-head rests); after = cons-tail rests }
 
-    -- The next test, `a`, called the closure with the first untested item `a.later` and the last
-    -- kept item `h.last`.
     next-asked : (b : Bool) (u : S) (zs : List T) (a : TestsPairAt R m t ys b u zs)
         → R t a.later h.last b u a.later_left a.kept_left
     next-asked b u zs a = subst (λ (k : T). R t a.later k b u a.later_left a.kept_left)
         (next-pair b u zs a).last a.asked
 
-    -- The list `xs` consists of its first item, the items tested before the next test `a`, the item
-    -- that `a` tested, and the untested items.
     next-was : (b : Bool) (u : S) (zs : List T) (a : TestsPairAt R m t ys b u zs)
         → xs ≡ h.first ∷ ((h.done ++ a.later ∷ []) ++ a.after)
     next-was b u zs a = h.was ∙ ap (λ (l : List T). h.first ∷ l)
         (ap (λ (l : List T). h.done ++ l) (next-pair b u zs a).after
         ∙ sym (append_assoc h.done (a.later ∷ []) a.after))
 
-    -- After the test `a`, the list `zs` contains the two items that `a` compared, as `a` left them.
-    -- All other items are unchanged.
     next-now : (b : Bool) (u : S) (zs : List T) (a : TestsPairAt R m t ys b u zs)
         → zs ≡ (h.pre ++ a.kept_left ∷ []) ++ a.later_left ∷ a.after
     next-now b u zs a =
@@ -208,9 +175,6 @@ module _ {S T : Type 0} (R : OnPairs S T) where
         (next-pair b u zs a).front
         ∙ sym (append_assoc h.pre (a.kept_left ∷ []) (a.later_left ∷ a.after)))
 
-    -- `PairStays` states that the first items of a list were kept. If it holds for the first `m`
-    -- items, and the item at index `m` was then tested and kept, then it also holds for the first
-    -- `m + 1` items.
     pub pair-more : (u : S) (zs : List T) → TestsPairAt R m t ys false u zs
         → PairStays (m + 1) s xs u zs
     pair-more u zs a =
@@ -238,8 +202,6 @@ module _ {S T : Type 0} (R : OnPairs S T) where
           now = next-now false u zs a;
         }
 
-    -- If the first `m` items were kept, and the test of the item at index `m` removes this item,
-    -- then `TestsPairsUpTo` holds: the tests stopped at index `m`.
     pub pair-goes : (u : S) (zs : List T) → TestsPairAt R m t ys true u zs
         → TestsPairsUpTo R m s xs u zs
     pair-goes u zs a =
@@ -261,22 +223,16 @@ module _ {S T : Type 0} (R : OnPairs S T) where
           stops = inl (refl, refl);
         }
 
-  -- The following lemmas are about tests that stop at the first item to be removed. They describe
-  -- the kept items before this item.
+  -- The following lemmas are about tests that stop at the first item to be removed.
 
   module _ (m : ℕ) (s : S) (xs : List T) (t : S) (ys : List T)
       (r : TestsPairsUpTo R m s xs t ys) where
-    -- The first `m` items of the list `ys` are the kept items, as the tests left them.
     pub run-left : take m ys ≡ r.left
     run-left = ap (take m) r.now ∙ take_at r.left (r.over ++ r.after) m r.long
 
-    -- From index `m` onward, the list `ys` consists of `r.over` (the item to be removed, if any)
-    -- and the untested items `r.after`.
     pub run-over : drop m ys ≡ r.over ++ r.after
     run-over = ap (drop m) r.now ∙ drop_at r.left (r.over ++ r.after) m r.long
 
-    -- If the `m` kept items at the start of `ys` are followed by `value` and then by `rest`, then
-    -- `value` is to be removed, and the items `rest` have not been tested.
     pub run-goes : (value : T) (rest : List T) → drop m ys ≡ value ∷ rest → (r.after ≡ rest)
         × (r.stays ≡ all-stay r.more ++ false ∷ [])
     run-goes value rest k =
@@ -286,8 +242,6 @@ module _ {S T : Type 0} (R : OnPairs S T) where
           | inr q ↦ absurd (cons-not-nil (sym k ∙ (run-over ∙ (λ i. q.0 i ++ q.1.0 i))))
         ]
 
-    -- If no item follows the `m` kept items, then no untested item remains, and all items were
-    -- kept.
     pub run-ends : drop m ys ≡ [] → (r.after ≡ []) × (r.stays ≡ all-stay r.more)
     run-ends k =
         elim r.stops [
@@ -297,10 +251,7 @@ module _ {S T : Type 0} (R : OnPairs S T) where
           | inr q ↦ (q.1.0, q.1.1)
         ]
 
-    -- Suppose that `r.stays` consists of the flags `all-stay r.more`, followed by flags `f` that
-    -- are all false. Then the number `m` of kept items is 1 plus the number of true flags in
-    -- `r.stays`. (A true flag means that a tested item is kept. The first item is kept without a
-    -- test.)
+    -- The first item is kept without a test, so `r.stays` has no flag for it.
     pub run-count : (f : List Bool) → count_true f ≡ 0 → r.stays ≡ all-stay r.more ++ f
         → suc (count_true r.stays) ≡ m
     run-count f none e =

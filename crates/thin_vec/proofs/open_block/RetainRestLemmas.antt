@@ -1,6 +1,5 @@
--- An open block is the block of a list during an edit, and its middle items are the items of the
--- range that were not tested yet. These lemmas state how contracts see an open block `h` after one
--- middle item was tested, and after the first `k` middle items became front items.
+-- These lemmas state how contracts see an open block `h` after one middle item was tested, and
+-- after the first `k` middle items became front items.
 use Rattle.std.proofs.Common.{◌≡◌, ℕ, zero, suc, ◌+◌, ◌-◌, ◌<◌, ◌≤◌, List, [], ◌∷◌, ◌++◌, Option, Some, None, length, take, drop, refl, sym, ap, ◌∙◌, arith, length-append, append_assoc}
 use Rattle.std.proofs.lemmas.List.{get_or_at, length-drop, length-take-le, set_at, take-append-drop}
 use lib.ListN.{set}
@@ -17,8 +16,6 @@ use Rattle.thin_block.proofs.ResultLemmas.{some-same}
 use Rattle.thin_vec.proofs.OpenBlockLemmas.{Found, at_rest, by_rest, found, past_rest, to_rest}
 use Rattle.thin_vec.proofs.ListLemmas.{length-full}
 
--- A list with more than `k` items consists of its first `k` items, the item at index `k`, and the
--- items after it.
 pub split-at : {X : Type 0} (xs : List X) (k : ℕ) → k < length xs → (pre : List X) × (x : X)
     × (post : List X) × (length pre ≡ k) × (xs ≡ pre ++ x ∷ post)
 split-at [] k low = absurd (omega arith)
@@ -29,9 +26,6 @@ split-at (x ∷ xs) (suc k) low =
     (x ∷ p.0, p.1, p.2, ap suc p.3, ap (λ l. x ∷ l) p.4)
 
 module _ {T : Type 0} where
-  -- Suppose that a row consists of the slots `a`, then slots that hold the items `pre ++ x ∷ post`,
-  -- and then the slots `z`. Then this row can be split into the slots before `x`, the slot of `x`,
-  -- and the slots after `x`.
   pub row-at : (a : List (Option T)) (pre : List T) (x : T) (post : List T) (z : List (Option T))
       → a ++ (filled_slots (pre ++ x ∷ post) ++ z)
       ≡ (a ++ filled_slots pre) ++ (Some x ∷ (filled_slots post ++ z))
@@ -42,27 +36,20 @@ module _ {T : Type 0} where
       ∙ sym (append_assoc a (filled_slots pre) (Some x ∷ (filled_slots post ++ z))))
 
 module _ {T A : Type 0} where
-  -- Suppose that the open blocks `v` and `w` have the same tail items, the same number of empty
-  -- slots directly before the tail items, and the same number of empty slots after them. Then the
-  -- slots after the middle items are equal in both blocks.
   pub same-past : (v w : OpenView T A) → w.gap_after ≡ v.gap_after → w.tail ≡ v.tail
       → v.capacity - tail_end v ≡ w.capacity - tail_end w → past_rest v ≡ past_rest w
   same-past v w b t n = λ i. empty_slots (sym b i) ++ (filled_slots (sym t i) ++ empty_slots (n i))
 
   module _ (h : Inside T A) (o : IsOpen h) (b : Block T A) (k : ℕ)
       (low : k < length (open_view h).rest) where
-    -- `v` is the value by which contracts describe the open block `h`, before its middle item at
-    -- index `k` is overwritten.
     abbrev v : OpenView T A
     v = open_view h
 
-    -- `written` is the open block `h` after its middle item at index `k` has been overwritten. The
-    -- slots of `written` are those of the block `b`.
+    -- `written` is the open block `h` after its middle item at index `k` was overwritten.
+    -- `written-view ys` is how contracts see it if `ys` are its middle items.
     abbrev pub written : Inside T A
     written = record h { block = b }
 
-    -- If the middle items of the open block `written` are `ys`, then `written-view ys` is how
-    -- contracts see `written`. This value differs from `v` only in the middle items.
     abbrev pub written-view : List T → OpenView T A
     written-view ys = record v { rest = ys }
 
@@ -75,8 +62,6 @@ module _ {T A : Type 0} where
       pub was : v.rest ≡ pre ++ x ∷ post
       pub shown : Found written (written-view (pre ++ y ∷ post))
 
-    -- If the slot of the middle item at index `k` held `x`, and `y` was written into this slot,
-    -- then `Written x y` holds.
     pub write-step : (x y : T) → slot h.block.slots (h.rest_start + k) ≡ Some x
         → block_view b ≡ record (block_view h.block)
         { slots = set h.block.slots (h.rest_start + k) (Some y) } → Written x y
@@ -147,25 +132,18 @@ module _ {T A : Type 0} where
 
   -- In this module, the first `k` middle items of the open block `h` become front items.
   module _ (h : Inside T A) (o : IsOpen h) (k : ℕ) (low : k ≤ length (open_view h).rest) where
-    -- `u` is how contracts see the open block `h` before its first `k` middle items are moved.
     abbrev u : OpenView T A
     u = open_view h
 
-    -- `moved_run b` is the open block `h` after the first `k` middle items of `h` have become front
-    -- items. The slots of `moved_run b` are the slots of the block `b`.
+    -- `moved_run b` is the open block `h` after its first `k` middle items became front items, with
+    -- the slots of the block `b`. `moved_run-view b` is how contracts see it.
     abbrev pub moved_run : Block T A → Inside T A
     moved_run b = record h { block = b; front_end = h.front_end + k; rest_start = h.rest_start + k }
 
-    -- `moved_run-view b` is how contracts see the open block `moved_run b`. It differs from `u` in
-    -- two ways: the first `k` middle items have become the last `k` front items, and the cost is
-    -- the cost of the block `b`.
     abbrev pub moved_run-view : Block T A → OpenView T A
     moved_run-view b = record u
         { front = u.front ++ take k u.rest; rest = drop k u.rest; cost = b.cost }
 
-    -- Suppose that the block `b` has the same allocator as before, and that its slots are, in this
-    -- order: the slots of the front items, the slots of the moved items, the gap, and all later
-    -- slots. Then contracts see the open block `moved_run b` as `moved_run-view b`.
     moved_run-shows : (b : Block T A)
         → b.slots ≡ filled_slots u.front
         ++ (filled_slots (take k u.rest)
@@ -199,9 +177,6 @@ module _ {T A : Type 0} where
         })
         alloc refl
 
-    -- The slots from the first middle item onward are, in this order: the slots of the first `k`
-    -- middle items, the slots of the other middle items, and `past_rest u` (the slots after the
-    -- middle items).
     cut : filled_slots u.rest ++ past_rest u ≡ filled_slots
         (take k u.rest) ++ (filled_slots (drop k u.rest) ++ past_rest u)
     cut =
@@ -210,16 +185,12 @@ module _ {T A : Type 0} where
         (full-append (take k u.rest) (drop k u.rest)) ∙ append_assoc (filled_slots (take k u.rest))
         (filled_slots (drop k u.rest)) (past_rest u))
 
-    -- The slots of the open block `h` are, in this order: the slots of the front items, the gap,
-    -- the slots of the items to be moved, and all later slots.
     parted : h.block.slots ≡ filled_slots u.front
         ++ (empty_slots u.gap
         ++ (filled_slots (take k u.rest) ++ (filled_slots (drop k u.rest) ++ past_rest u)))
     parted = o.row ∙ ap
         (λ (r : List (Option T)). filled_slots u.front ++ (empty_slots u.gap ++ r)) cut
 
-    -- If there is no gap after the front items, then the first `k` middle items become front items
-    -- without being moved. Contracts see the resulting open block as `moved_run-view h.block`.
     pub pass-step : u.gap ≡ 0 → Found (moved_run h.block) (moved_run-view h.block)
     pass-step none =
         moved_run-shows h.block
@@ -232,8 +203,6 @@ module _ {T A : Type 0} where
         ++ (empty_slots n ++ (filled_slots (drop k u.rest) ++ past_rest u))))
         (sym none))) refl
 
-    -- If moving the first `k` middle items to the end of the front items results in the block `b`,
-    -- then contracts see the open block `moved_run b` as `moved_run-view b`.
     pub move_down-step : (b : Block T A) {c : Cost}
         → block_view b ≡ record (block_view h.block)
         { slots = move_slots h.rest_start h.front_end k h.block.slots; cost = c }

@@ -1,5 +1,5 @@
--- These lemmas state what an open block (the block of a list during an edit) contains after a
--- closure tested some of its middle items, and the items were kept or removed.
+-- These lemmas state what an open block contains after a closure tested some of its middle items,
+-- and the items were kept or removed.
 use Rattle.std.proofs.Common.{◌≡◌, ℕ, ◌+◌, ◌<◌, ◌≤◌, Bool, true, false, List, [], ◌∷◌, ◌++◌, length, take, drop, refl, sym, ap, subst, ◌∙◌, arith, length-append, append_assoc}
 use Rattle.std.proofs.Math.Seq.{take-add}
 use Rattle.std.proofs.lemmas.List.{append-nil, drop-drop, drop_at, length-drop, length-take-le, nil_from_length, take-append-drop, take_at}
@@ -11,13 +11,7 @@ use Rattle.thin_vec.proofs.RetainLemmas.{items_where-append, items_where-stay, m
 use Rattle.thin_vec.proofs.open_block.TestLemmas.{Part, Stays, asked-append, part-ends, part-goes, runs-count, stays-goes, stays-more, stays-start}
 
 module _ {S T : Type 0} (R : S → T → Bool → S → T → Type 0) where
-  -- The following definitions and lemmas are about open blocks. An open block is the block of a
-  -- list during an edit.
-
   module _ {A : Type 0} (v w : OpenView T A) where
-    -- Suppose that some or all middle items of the open block `v` were tested, and that each tested
-    -- item was moved to the front items or removed. If the result `w` has a gap before its middle
-    -- items, then `Sifts` (the effect of tests and removals) relates `v` to `w`.
     pub sifts-of : (m : ℕ) (s t : S) (kept : List T) → Part R m s v.rest t kept w.rest
         → 0 < w.gap → w ≡ record v {
           front = v.front ++ kept;
@@ -49,12 +43,10 @@ module _ {S T : Type 0} (R : S → T → Bool → S → T → Type 0) where
     abbrev kept : List T
     kept = take h.count h.left
 
-    -- The cost has increased by one move for each kept item.
     moved : w.cost ≡ add_moves h.count v.cost
     moved = ap (λ u. u.cost) h.now ∙ moving-after v.gap h.count v.cost gap
 
-    -- If tests turned the open block `v` into `w`, and removing the item `value` turned `w` into
-    -- `z`, then `Sifts` (the effect of tests and removals) relates `v` to `z`.
+    -- The lemmas `advanced-..` and `keeps-sifts` are for the cases of `retain_next`.
     pub advanced-goes : (value : T) (z : OpenView T A) → w.rest ≡ value ∷ z.rest
         → z ≡ record w { rest = z.rest; gap = w.gap + 1 } → RetainsSome R s v t z
     advanced-goes value z rest same =
@@ -65,8 +57,6 @@ module _ {S T : Type 0} (R : S → T → Bool → S → T → Type 0) where
         (same ∙ (λ i. record (h.now i)
         { gap = sym (ap (λ u. u.gap) same) i; rest = z.rest; cost = moved i }))
 
-    -- If tests turned the open block `v` into `w`, and `w` has no middle items, then `Sifts` (the
-    -- effect of tests and removals) relates `v` to `w`.
     pub advanced-ends : w.rest ≡ [] → RetainsSome R s v t w
     advanced-ends none =
         sifts-of v w h.count s t kept
@@ -75,7 +65,6 @@ module _ {S T : Type 0} (R : S → T → Bool → S → T → Type 0) where
         (omega (arith, ap (λ u. u.gap) h.now, gap))
         (λ i. record (h.now i) { gap = w.gap; rest = w.rest; cost = moved i })
 
-    -- The tests do not increase the number of middle items.
     pub advanced-count : length w.rest ≤ length v.rest
     advanced-count = omega (
       arith,
@@ -84,8 +73,6 @@ module _ {S T : Type 0} (R : S → T → Bool → S → T → Type 0) where
       runs-count R h.count s v.rest t h.left h.run,
     )
 
-  -- Let `TestsAt` hold for the first item of `drop n ys`. Then it holds for the item at index `n`
-  -- of `ys`.
   asked-later : (n : ℕ) (t : S) (ys : List T) (b : Bool) (u : S) (zs : List T) → n ≤ length ys
       → TestsAt R 0 t (drop n ys) b u zs → TestsAt R n t ys b u (take n ys ++ zs)
   asked-later n t ys b u zs low a =
@@ -104,9 +91,8 @@ module _ {S T : Type 0} (R : S → T → Bool → S → T → Type 0) where
       }
 
   -- `Keeps s v t w` states that the first `count` middle items of the open block `v` were tested
-  -- and kept, and that each of them was moved to the end of the front items. This changed the block
-  -- from `v` to `w`, and the state of the test from `s` to `t`. The list `left` contains all middle
-  -- items of `v`, as the tests left them.
+  -- and kept, and moved to the end of the front items. The list `left` contains all middle items of
+  -- `v`, as the tests left them.
   pub record Keeps {A : Type 0} (s : S) (v : OpenView T A) (t : S) (w : OpenView T A) : Type 0 where
     pub count : ℕ
     pub left : List T
@@ -117,7 +103,6 @@ module _ {S T : Type 0} (R : S → T → Bool → S → T → Type 0) where
       cost = add_moves count v.cost;
     }
 
-  -- Before the first test, `Keeps` holds for no items.
   pub keeps-start : {A : Type 0} (s : S) (v : OpenView T A) → Keeps s v s v
   keeps-start s v =
       record {
@@ -130,7 +115,6 @@ module _ {S T : Type 0} (R : S → T → Bool → S → T → Type 0) where
 
   module _ {A : Type 0} (s : S) (v : OpenView T A) (t : S) (w : OpenView T A)
       (h : Keeps s v t w) where
-    -- The number of kept items is at most the number of all middle items of `v`.
     room : h.count ≤ length h.left
     room = omega
         (arith, ap length h.run.now, length-append h.run.left h.run.more, h.run.reached)
@@ -143,21 +127,16 @@ module _ {S T : Type 0} (R : S → T → Bool → S → T → Type 0) where
       abbrev all : List T
       all = take h.count h.left ++ zs
 
-      -- The test was a test of the item at index `count` of the middle items of `v`.
       asked-all : TestsAt R h.count t h.left b u all
       asked-all = asked-later h.count t h.left b u zs room
           (subst (λ (l : List T). TestsAt R 0 t l b u zs) (ap (λ x. x.rest) h.now) a)
 
-      -- The test did not change the items that were kept before it.
       before-is : take h.count all ≡ take h.count h.left
       before-is = take_at (take h.count h.left) zs h.count (length-take-le h.count h.left room)
 
-      -- From index `count` onward, the items are `zs`.
       after-is : drop h.count all ≡ zs
       after-is = drop_at (take h.count h.left) zs h.count (length-take-le h.count h.left room)
 
-      -- If the test keeps the item, and the item is moved to the end of the front items, then
-      -- `Keeps` holds for one more item.
       pub keeps-more : b ≡ true → (y : OpenView T A) → y ≡ record z {
         front = z.front ++ take 1 z.rest;
         rest = drop 1 z.rest;
@@ -191,8 +170,6 @@ module _ {S T : Type 0} (R : S → T → Bool → S → T → Type 0) where
                 })));
           }
 
-      -- If the test does not keep the item, then the search for the next item to be removed ends at
-      -- this item.
       pub keeps-goes : b ≡ false → 0 < v.gap → SeeksRejected R s v u z
       keeps-goes goes gap =
           let n = h.count in
@@ -210,7 +187,6 @@ module _ {S T : Type 0} (R : S → T → Bool → S → T → Type 0) where
                 }));
           }
 
-    -- `Sifts`, the effect of tests and removals, holds for tests that keep all tested items.
     pub keeps-sifts : 0 < v.gap → RetainsSome R s v t w
     keeps-sifts gap =
         let n = h.count in
@@ -235,8 +211,6 @@ module _ {S T : Type 0} (R : S → T → Bool → S → T → Type 0) where
           cost = add_moves n v.cost;
         }))
 
-  -- `Sifts` (the effect of tests and removals) relates the open block `v` to itself before the
-  -- first test, if `v` has a gap before its middle items.
   pub sifts-start : {A : Type 0} (s : S) (v : OpenView T A) → 0 < v.gap → RetainsSome R s v s v
   sifts-start s v gap =
       record {
@@ -249,8 +223,6 @@ module _ {S T : Type 0} (R : S → T → Bool → S → T → Type 0) where
             { front = sym (append-nil v.front) i; cost = sym (moving-none v.cost) i };
       }
 
-  -- `Sifts`, the effect of tests and removals, is transitive: if it relates the open block `v` to
-  -- `w`, and `w` to `z`, then it relates `v` to `z`.
   pub sifts-then : {A : Type 0} {s t u : S} {v w z : OpenView T A} → RetainsSome R s v t w
       → RetainsSome R t w u z → RetainsSome R s v u z
   sifts-then {s = s} {t} {u} {v} {w} {z} h k =
@@ -290,9 +262,7 @@ module _ {S T : Type 0} (R : S → T → Bool → S → T → Type 0) where
     Passed = w ≡ record v
         { front = v.front ++ take m ys; gap = w.gap; rest = w.rest }
 
-    -- Let `value` be the first item to be removed. If the open block `v` becomes `z` when `value`
-    -- is removed and all later middle items are tested, then `RetainsRest` relates `v` to `z`.
-    -- `RetainsRest` describes the effect of all these tests together.
+    -- The lemmas `sifted-goes` and `sifted-ends` are the cases of `retain_rest`.
     pub sifted-goes : (value : T) (u : S) (z : OpenView T A) → Passed → drop m ys ≡ value ∷ w.rest
         → RetainsSome R t w u z → z.rest ≡ [] → RetainsRest R s v u z
     unfolding part-goes
@@ -330,8 +300,6 @@ module _ {S T : Type 0} (R : S → T → Bool → S → T → Type 0) where
               }));
         }
 
-    -- If the tests found no item to be removed, then `RetainsRest` (the effect of all tests)
-    -- relates the open block `v` before them to the open block `w` after them.
     pub sifted-ends : Passed → drop m ys ≡ [] → w.rest ≡ [] → RetainsRest R s v t w
     unfolding part-ends
     sifted-ends p k none =

@@ -1,5 +1,5 @@
--- These lemmas state what an open block (the block of a list during an edit) contains after it was
--- opened, filled or closed, or after its gaps or its tail items were moved.
+-- These lemmas state what an open block contains after it was opened, filled or closed, or after
+-- its gaps or its tail items were moved.
 use Rattle.std.proofs.Common.{◌≡◌, ℕ, zero, suc, ◌+◌, ◌-◌, ◌<◌, ◌≤◌, List, [], ◌∷◌, ◌++◌, Option, None, length, take, drop, refl, sym, ap, ◌∙◌, arith, length-append, append_assoc}
 use Rattle.std.proofs.lemmas.List.{length-drop, length-take, length-take-le, replicate-append-replicate}
 use Rattle.std.proofs.lemmas.List.Edits.{split_between}
@@ -18,7 +18,6 @@ use Rattle.thin_vec.proofs.list.InsertRemoveLemmas.{full-append}
 use Rattle.thin_vec.proofs.ListLemmas.{length-empty, length-full, thin-room}
 use Rattle.thin_vec.proofs.OpenBlockLemmas.{Found, at_rest, at_tail, by_tail, found, past_after, past_rest, past_tail, reached, slot-in-empty, slot-in-full, to_after, to_rest, to_tail}
 
--- Writing `y` into slot `i` of the row `s` is the same as replacing the row of this one slot.
 pub set-laid : {T : Type 0} (s : List (Option T)) (i : ℕ) (y : Option T) → i < length s
     → set s i y ≡ write_slots i (y ∷ []) s
 set-laid [] i y low = absurd (omega arith)
@@ -30,22 +29,16 @@ set-laid (x ∷ s) (suc i) y low =
     ∙ ap (λ (n : ℕ). x ∷ (take i s ++ (y ∷ drop n (x ∷ s)))) next
 
 module _ {T A : Type 0} where
-  -- This module is about two steps of an edit of the open block `h`: joining the two gaps of `h`,
-  -- and closing `h`.
+  -- This module is about joining the two gaps of the open block `h`, and about closing `h`.
   module _ (h : Inside T A) (o : IsOpen h) where
-    -- `joined` is the open block `h` after its two gaps have been joined. The joined gap lies
-    -- between the front items and the tail items.
+    -- `joined` is `h` after its two gaps became one. `joined-view` is how contracts see it.
     abbrev pub joined : Inside T A
     joined = record h { rest_start = h.tail_start; rest_end = h.tail_start }
 
-    -- `joined-view` is how contracts see the open block `joined`. Its first gap contains the slots
-    -- of both gaps of `h`, and its second gap is empty.
     abbrev pub joined-view : OpenView T A
     joined-view = let w : OpenView T A = open_view h in
         record w { gap = w.gap + w.gap_after; rest = []; gap_after = 0 }
 
-    -- If the open block `h` has no middle items, then `joined` is a valid open block, and
-    -- `joined-view` is how contracts see it.
     pub join-step : (open_view h).rest ≡ [] → Found joined joined-view
     join-step none =
         let w : OpenView T A = open_view h in
@@ -74,12 +67,9 @@ module _ {T A : Type 0} where
         } in
         found joined joined-view shows refl refl
 
-    -- `all-after` is the list of the middle items of `h`, followed by the tail items of `h`.
     abbrev all-after : List T
     all-after = (open_view h).rest ++ (open_view h).tail
 
-    -- If there is no gap before the tail items, then the block holds, in order: the front items,
-    -- the first gap, the middle and tail items (`all-after`), and empty slots.
     side-by-side : (open_view h).gap_after ≡ 0 → h.block.slots ≡ filled_slots (open_view h).front
         ++ (empty_slots (open_view h).gap ++ (filled_slots all-after ++ past_tail (open_view h)))
     side-by-side none =
@@ -90,8 +80,6 @@ module _ {T A : Type 0} where
         (sym (append_assoc (filled_slots w.rest) (filled_slots w.tail) (past_tail w))
         ∙ ap (λ (r : List (Option T)). r ++ past_tail w) (sym (full-append w.rest w.tail))))
 
-    -- If there is no gap before the tail items of the open block `h`, then `all-after`, the list of
-    -- its middle items and tail items, has the length `h.len - h.rest_start`.
     count-after : (open_view h).gap_after ≡ 0 → length all-after ≡ h.len - h.rest_start
     count-after none =
         omega (
@@ -102,8 +90,6 @@ module _ {T A : Type 0} where
           o.tail,
         )
 
-    -- If there is no gap before the tail items, then each slot in the range `rest_start..len` is
-    -- filled: it holds a middle item or a tail item.
     pub after-filled : (open_view h).gap_after ≡ 0 → (j : ℕ) → h.rest_start ≤ j → j < h.len
         → IsSome (slot h.block.slots j)
     after-filled none j low high =
@@ -117,13 +103,9 @@ module _ {T A : Type 0} where
         (slot-in-full pre all-after (past_tail w) j (omega (arith, start))
         (omega (arith, start, count-after none)))
 
-    -- The number of all items is the number of front items plus the length of `all-after`, the list
-    -- of the middle items and the tail items.
     count-all : length (items_of (open_view h)) ≡ h.front_end + length all-after
     count-all = omega (arith, length-append (open_view h).front all-after, o.front)
 
-    -- If there is no gap before the tail items, then moving the middle items and the tail items to
-    -- the slots directly after the front items puts all items into the first slots of the block.
     pub close-row : (open_view h).gap_after ≡ 0
         → move_slots h.rest_start h.front_end (h.len - h.rest_start) h.block.slots ≡ packed_slots
         (items_of (open_view h)) (length h.block.slots)
@@ -154,8 +136,6 @@ module _ {T A : Type 0} where
         (replicate-append-replicate w.gap (w.capacity - tail_end w) None
         ∙ ap (λ (k : ℕ). empty_slots k) left))))
 
-    -- Suppose that there is no gap before the middle items and no gap before the tail items. Then
-    -- the slots of the open block are the slots of all its items, followed by empty slots.
     pub closed-row : (open_view h).gap_after ≡ 0 → h.front_end ≡ h.rest_start
         → h.block.slots ≡ packed_slots (items_of (open_view h)) (length h.block.slots)
     closed-row none here =
@@ -180,13 +160,10 @@ module _ {T A : Type 0} where
         ∙ (ap (λ (r : List (Option T)). r ++ past_tail w) (sym (full-append w.front all-after))
         ∙ ap (λ (k : ℕ). filled_slots (items_of w) ++ empty_slots k) left)))
 
-  -- An open block is the block of a list during an edit. In this module, the block `b` of a list
-  -- becomes an open block. The items `start..end` of the list become the middle items of this open
-  -- block.
+  -- In this module, the block `b` becomes an open block with the middle items `start..end`.
   module _ (b : Block T A) (a : A) (start end : ℕ) (t : IsListBlock b a) (order : start ≤ end)
       (within : end ≤ length (items_in b.slots)) where
-    -- `opened len` is the block `b` as an open block without gaps. Its middle items are in the
-    -- slots `start..end`, and its tail items are in the slots `end..len`.
+    -- `opened len` is `b` as an open block without gaps. `opened-view` is how contracts see it.
     abbrev pub opened : ℕ → Inside T A
     opened len =
         record {
@@ -198,8 +175,6 @@ module _ {T A : Type 0} where
           len = len;
         }
 
-    -- `opened-view` is how contracts see the open block `opened len`. Its middle items are the
-    -- items `start..end` of the list.
     abbrev pub opened-view : OpenView T A
     opened-view = let xs : List T = items_in b.slots in
         record {
@@ -213,8 +188,6 @@ module _ {T A : Type 0} where
           cost = b.cost;
         }
 
-    -- If `len` is the number of items in the block `b`, then `opened len` is a valid open block,
-    -- and `opened-view` is how contracts see this open block.
     pub open-step : (len : ℕ) → len ≡ length (items_in b.slots) → Found (opened len) opened-view
     open-step len all =
         let xs : List T = items_in b.slots in
@@ -255,8 +228,6 @@ module _ {T A : Type 0} where
   -- slot before index `end`.
   module _ (h : Inside T A) (o : IsOpen h) (b : Block T A) (xs : List T) (end : ℕ)
       (ends : end ≡ h.front_end + length xs) (fits : end ≤ h.rest_start) where
-    -- If the items `xs` were written directly after the front items, then they are front items, and
-    -- the gap after them is `length xs` slots shorter.
     fill-step : b.slots ≡ write_slots h.front_end (filled_slots xs) h.block.slots
         → Found (record h { block = b; front_end = end }) (record (open_view h) {
           front = (open_view h).front ++ xs;
@@ -310,9 +281,6 @@ module _ {T A : Type 0} where
         } in
         found filled w shows refl refl
 
-  -- Suppose that contracts see the open block `h` as `v`, and that the items `xs` were put directly
-  -- after its front items, at the cost of one move each. Then the result is a valid open block, and
-  -- contracts see it as `v` with these items at the end of the front.
   pub fill-view : (h : Inside T A) (o : IsOpen h) {v : OpenView T A} → open_view h ≡ v
       → (b : Block T A)
       (xs : List T) (end : ℕ) → end ≡ h.front_end + length xs → length xs ≤ v.gap
@@ -347,19 +315,15 @@ module _ {T A : Type 0} where
   -- move, at least `count` empty slots follow the tail items.
   module _ (h : Inside T A) (o : IsOpen h) (b : Block T A) (count : ℕ)
       (room : h.len + count ≤ (open_view h).capacity) where
-    -- `widened` is the open block `h` after its tail items have been moved up by `count` slots.
+    -- `widened` is `h` after its tail items were moved up. `widened-view` is how contracts see it.
     abbrev pub widened : Inside T A
     widened = record h { block = b; tail_start = h.tail_start + count; len = h.len + count }
 
-    -- `widened-view` is how contracts see the open block `widened`. In `widened`, the gap before
-    -- the tail items is `count` slots longer than in the open block `h`.
     abbrev pub widened-view : OpenView T A
     widened-view =
         let v : OpenView T A = open_view h in
         record v { gap_after = v.gap_after + count; alloc = b.alloc; cost = b.cost }
 
-    -- The slots of the open block `h` are, in order: the slots before the tail items, the tail
-    -- items, `count` empty slots, and any further empty slots.
     spare : h.block.slots ≡ to_tail (open_view h)
         ++ (filled_slots (open_view h).tail
         ++ (empty_slots count ++ empty_slots
@@ -372,7 +336,6 @@ module _ {T A : Type 0} where
         (ap (λ (k : ℕ). empty_slots k) (sym all)
         ∙ sym (replicate-append-replicate count (v.capacity - tail_end v - count) None))
 
-    -- The `count` slots directly after the tail items of the open block `h` are empty.
     pub spare-empty : (j : ℕ) → h.len ≤ j → j < h.len + count → slot h.block.slots j ≡ None
     spare-empty j low high =
         let v : OpenView T A = open_view h in
@@ -390,8 +353,6 @@ module _ {T A : Type 0} where
         (spare ∙ sym (append_assoc (to_tail v) (filled_slots v.tail) (empty_slots count ++ end)))
         ∙ slot-in-empty before count end j (omega (arith, long)) (omega (arith, long))
 
-    -- If the tail items were moved up by `count` slots, then `widened` is a valid open block, and
-    -- `widened-view` is how contracts see this open block.
     pub widen-step : b.slots ≡ move_slots h.tail_start (h.tail_start + count)
         (h.len - h.tail_start) h.block.slots
         → Found widened widened-view

@@ -7,12 +7,7 @@ use Rattle.thin_vec.specs.OpenBlock.Retain.{TestsAt, TestsUpTo, IsRejectedFirst}
 use Rattle.thin_vec.proofs.RetainLemmas.{cons-head, cons-not-nil, cons-tail, items_where-append, items_where-stay, count_true-append, count_true-stay}
 
 module _ {S T : Type 0} (R : S → T → Bool → S → T → Type 0) where
-  -- In this module, the items `ys` were tested with the results `b`. The tests changed the state of
-  -- the closure from `t` to `u`.
   module _ (t u : S) (ys : List T) (b : TestResults T) (k : TestsInTurn R t ys b u) where
-    -- If testing `xs` takes the closure from the state `s` to `t` with the results `a`, and
-    -- testing `ys` takes it from `t` to `u` with the results `b`, then testing `xs ++ ys` takes it
-    -- from `s` to `u` with the results `a ++ b`.
     pub asked-append : (xs : List T) (s : S) (a : TestResults T) → TestsInTurn R s xs a t
         → TestsInTurn R s (xs ++ ys) (a ++ b) u
     asked-append [] s a h = subst (λ (c : TestResults T). TestsInTurn R s ys (c ++ b) u) (sym h.0)
@@ -27,8 +22,6 @@ module _ {S T : Type 0} (R : S → T → Bool → S → T → Type 0) where
       ap (λ (c : TestResults T). c ++ b) h.6,
     )
 
-  -- If testing the item `x` returned `b` and changed `x` to `y`, then `Asked` holds for the list
-  -- `x ∷ []`: all its items were tested.
   pub asked-one : (s t : S) (x y : T) (b : Bool) → R s x b t y
       → TestsInTurn R s (x ∷ []) ((b, y) ∷ []) t
   asked-one s t x y b h = (b, y, t, [], h, (refl, refl), refl)
@@ -46,8 +39,6 @@ module _ {S T : Type 0} (R : S → T → Bool → S → T → Type 0) where
     pub asked : TestsInTurn R s run (all_kept left) t
     pub now : ys ≡ left ++ more
 
-  -- `Stays` states that the first items were tested and kept. Before the first test, it holds for
-  -- no items: the state `s` and the list `xs` have not changed.
   pub stays-start : (s : S) (xs : List T) → Stays 0 s xs s xs
   stays-start s xs =
       record {
@@ -61,8 +52,6 @@ module _ {S T : Type 0} (R : S → T → Bool → S → T → Type 0) where
       }
 
   module _ (m : ℕ) (s : S) (xs : List T) (t : S) (ys : List T) (h : Stays m s xs t ys) where
-    -- If `a` is the test of the item at index `m`, then `h.left` contains the items before it, and
-    -- `h.more` is this item, followed by `a.after`.
     next-parts : (b : Bool) (u : S) (zs : List T) (a : TestsAt R m t ys b u zs)
         → (a.before ≡ h.left) × (h.more ≡ a.item ∷ a.after)
     next-parts b u zs a =
@@ -73,13 +62,10 @@ module _ {S T : Type 0} (R : S → T → Bool → S → T → Type 0) where
               ∙ (ap (drop m) e ∙ drop_at a.before (a.item ∷ a.after) m a.place),
         )
 
-    -- The test `a` of the item at index `m` changes no other item of the list.
     next-now : (b : Bool) (u : S) (zs : List T) (a : TestsAt R m t ys b u zs)
         → zs ≡ h.left ++ a.left ∷ a.after
     next-now b u zs a = a.now ∙ ap (λ (l : List T). l ++ a.left ∷ a.after) (next-parts b u zs a).0
 
-    -- If `Stays` holds for the first `m` items, and the test of the item at index `m` keeps it,
-    -- then `Stays` holds for the first `m + 1` items.
     pub stays-more : (u : S) (zs : List T) → TestsAt R m t ys true u zs
         → Stays (m + 1) s xs u zs
     stays-more u zs a =
@@ -98,8 +84,6 @@ module _ {S T : Type 0} (R : S → T → Bool → S → T → Type 0) where
           now = next-now true u zs a ∙ sym (append_assoc h.left (a.left ∷ []) a.after);
         }
 
-    -- If the closure keeps the first `m` items and removes the item at index `m`, then the tests
-    -- stop at index `m`, as `TestsUpTo` states.
     pub stays-goes : (u : S) (zs : List T) → TestsAt R m t ys false u zs
         → TestsUpTo R m s xs u zs
     stays-goes u zs a =
@@ -116,8 +100,6 @@ module _ {S T : Type 0} (R : S → T → Bool → S → T → Type 0) where
           now = next-now false u zs a;
         }
 
-  -- Suppose that a closure has tested and kept all items of `xs`. Then `ys`, the list of these
-  -- items as the tests left them, has the same length as `xs`.
   stay-count : (xs : List T) (s t : S) (ys : List T) → TestsInTurn R s xs (all_kept ys) t
       → length xs ≡ length ys
   stay-count [] s t [] h = refl
@@ -127,15 +109,11 @@ module _ {S T : Type 0} (R : S → T → Bool → S → T → Type 0) where
       ap suc (stay-count xs h.2 t ys
       (subst (λ (a : TestResults T). TestsInTurn R h.2 xs a t) (sym (cons-tail h.6)) h.5))
 
-  -- The test that ends a sequence of tests does not change the number of items: the list `b` of the
-  -- items after the kept items is as long as the resulting list `e`.
   stop-count : (u : S) (b : List T) (t : S) (e : List T) → IsRejectedFirst R u b t e
       → length e ≡ length b
   stop-count u [] t e h = ap length h.0
   stop-count u (x ∷ b) t e h = ap length h.2
 
-  -- If a closure tested the items of `xs` up to the first item to be removed, then the resulting
-  -- list `ys` has the same length as `xs`.
   pub runs-count : (m : ℕ) (s : S) (xs : List T) (t : S) (ys : List T) → TestsUpTo R m s xs t ys
       → length ys ≡ length xs
   runs-count m s xs t ys r =
@@ -150,7 +128,6 @@ module _ {S T : Type 0} (R : S → T → Bool → S → T → Type 0) where
       )
 
   -- The following definition and lemmas are about tests that stop at the first item to be removed.
-  -- They state which items were kept before this item.
 
   -- `Part m s xs t kept rest` states that all items of the list `xs` were tested, except the items
   -- `rest` at its end. `kept` is the list of the `m` kept items, as the closure left them. The
@@ -164,17 +141,12 @@ module _ {S T : Type 0} (R : S → T → Bool → S → T → Type 0) where
     pub count : count_true (flags_of results) ≡ m
 
   module _ (m : ℕ) (s : S) (xs : List T) (t : S) (ys : List T) (r : TestsUpTo R m s xs t ys) where
-    -- The first `m` items of the list `ys` are the kept items, as the closure left them.
     pub run-kept : take m ys ≡ r.left
     run-kept = ap (take m) r.now ∙ take_at r.left r.end m r.reached
 
-    -- From index `m` onward, the list `ys` consists of the items `r.end`: the item to be removed,
-    -- if there is one, and the untested items.
     pub run-end : drop m ys ≡ r.end
     run-end = ap (drop m) r.now ∙ drop_at r.left r.end m r.reached
 
-    -- If the last test turned the list `b` into `v ∷ rest`, then `b` was `x ∷ rest` for some item
-    -- `x`, and the test returned false for `x` and left it as `v`.
     pub stop-goes : (u : S) (b e : List T) (v : T) (rest : List T) → IsRejectedFirst R u b t e
         → e ≡ v ∷ rest
         → (x : T) × (b ≡ x ∷ rest) × R u x false t v
@@ -186,8 +158,6 @@ module _ {S T : Type 0} (R : S → T → Bool → S → T → Type 0) where
           subst (λ (y : T). R u x false t y) (cons-head same) h.1,
         )
 
-    -- If the `m` kept items at the start of `ys` are followed by `v` and then by `rest`, then `v`
-    -- is to be removed, and the items `rest` have not been tested.
     unfoldable pub part-goes : (v : T) (rest : List T) → drop m ys ≡ v ∷ rest → Part m s xs t (take m ys) rest
     part-goes v rest k =
         let g = stop-goes r.between r.after r.end v rest r.stops (sym run-end ∙ k) in
@@ -212,14 +182,10 @@ module _ {S T : Type 0} (R : S → T → Bool → S → T → Type 0) where
               );
         }
 
-    -- `IsRejectedFirst R u b t e` describes the end of a sequence of tests, which left the items
-    -- `b` after the kept items as `e`. If `e` is empty, then `b` is also empty, and the state of
-    -- the closure did not change: `t` is `u`.
     pub stop-ends : (u : S) (b e : List T) → IsRejectedFirst R u b t e → e ≡ [] → (b ≡ []) × (t ≡ u)
     stop-ends u [] e h k = (refl, h.1)
     stop-ends u (x ∷ b) e h k = absurd (cons-not-nil (sym h.2 ∙ k))
 
-    -- If no item follows the kept items, then all items were tested and kept.
     unfoldable pub part-ends : drop m ys ≡ [] → Part m s xs t (take m ys) []
     part-ends k =
         let g = stop-ends r.between r.after r.end r.stops (sym run-end ∙ k) in

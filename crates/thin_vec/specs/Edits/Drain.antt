@@ -30,9 +30,8 @@ module _ {T A G : Type 0} {g : Ghosts G}
   abbrev pub drain_list : Drain T A G (Holder (OpenView T A)) g h → ListView T A
   drain_list d = d.list.now
 
-  -- `drain_lender d` identifies the list that the `Drain` borrows. It is the ghost name of the
-  -- reference to this list, and exists only in contracts and proofs. References with equal ghost
-  -- names borrow the same list.
+  -- `drain_lender d` is the ghost name of the reference to the list that the `Drain` borrows.
+  -- References with equal ghost names borrow the same list.
   abbrev pub drain_lender : Drain T A G (Holder (OpenView T A)) g h → GName
   drain_lender d = d.list.ghost_name
 
@@ -77,21 +76,18 @@ module _ {T A G : Type 0} {g : Ghosts G}
     pub rest : drain_rest first ≡ before ++ (drain_rest later ++ after)
     pub count : length items ≡ length before + length after
 
-  -- `DrainKeepsAlong d` states what calls to `next` and `next_back` on the `Drain` `d` leave, in
-  -- whatever order and however many there are: they do not change the list that will remain after
-  -- `d` is dropped, and take items from the two ends of `drain_rest d`.
+  -- `DrainKeepsAlong d` states that calls to `next` on the `Drain` `d`, however many there are, do
+  -- not change the list that will remain after `d` is dropped.
   abbrev pub DrainKeepsAlong : Drain T A G (Holder (OpenView T A)) g h → Type 0
   DrainKeepsAlong first = (items : List T) (later : Drain T A G (Holder (OpenView T A)) g h)
-      → Yields DrainStepsEither first items later → DrainLeaves first items later
+      → Yields DrainSteps first items later → DrainKeeps first later
 
-  -- `DrainsInOrder d` states that calls to `next` yield the remaining items of the range
-  -- (`drain_rest`) in order. It states this for every `Drain` of the type of `d`. The value `d`
-  -- only names this type.
+  -- `DrainsInOrder d` states that calls to `next` on any `Drain` yield the remaining items of the
+  -- range in order. The value `d` only names the type of the `Drain`.
   abbrev pub DrainsInOrder : Drain T A G (Holder (OpenView T A)) g h → Type 0
   DrainsInOrder d = YieldsInOrder DrainSteps drain_rest
 
-  -- `DrainsInReverse d` states that calls to `next_back` yield the remaining items of the range
-  -- (`drain_rest`) in reverse order. It states this for every `Drain` of the type of `d`. The value
-  -- `d` only names this type.
+  -- `DrainsInReverse d` states that calls to `next_back` on any `Drain` yield the remaining items
+  -- of the range in reverse order. The value `d` only names the type of the `Drain`.
   abbrev pub DrainsInReverse : Drain T A G (Holder (OpenView T A)) g h → Type 0
   DrainsInReverse d = YieldsInReverse DrainStepsBack drain_rest

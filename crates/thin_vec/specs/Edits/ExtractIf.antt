@@ -56,9 +56,8 @@ module _ {T F A G : Type 0} {g : Ghosts G}
   abbrev pub extract_alloc : ExtractIf T F A G (Holder (ExtractState T F A)) g h → A
   extract_alloc e = e.list.now.alloc
 
-  -- `extract_lender e` identifies the list that the `ExtractIf` borrows. It is the ghost name of
-  -- the reference to this list, and exists only in contracts and proofs. References with equal
-  -- ghost names borrow the same list.
+  -- `extract_lender e` is the ghost name of the reference to the list that the `ExtractIf` borrows.
+  -- References with equal ghost names borrow the same list.
   abbrev pub extract_lender : ExtractIf T F A G (Holder (ExtractState T F A)) g h → GName
   extract_lender e = e.list.ghost_name
 

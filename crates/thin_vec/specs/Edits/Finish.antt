@@ -4,7 +4,6 @@ use Rattle.std.specs.Prelude.{◌≡◌, ℕ, ◌+◌, ◌*◌, ◌<◌, ◌≤�
 use Rattle.std.specs.Iterator.{Count, Drains, size}
 use Rattle.std.specs.declared.result.Result.{Result}
 use Rattle.std.specs.Borrow.{RattleType}
-use Rattle.thin_block.specs.Cost.{add_moves}
 use Rattle.thin_block.specs.Growth.{GrowthRule}
 use Rattle.thin_vec.specs.Cheap.{IsCheap}
 use Rattle.thin_vec.specs.List.Extend.{CostsInserting, IsCapacityAfterExtend, IsKeptOrGrown}
@@ -25,17 +24,6 @@ module _ {T A : Type 0} where
     pub cost : CostsInserting v w n
     pub alloc : w.alloc ≡ v.alloc
     pub cheap : IsCheap v → IsCheap w
-
-  -- `IsGapFilled v xs a w` holds if writing the items `xs` into the gap of the open block `v` (a
-  -- block during an edit) results in the list `w` with the allocator `a`.
-  pub record IsGapFilled (v : OpenView T A) (xs : List T) (a : A) (w : ListView T A) : Type 0 where
-    pub items : w.items ≡ with_replacement v xs
-    pub capacity : w.capacity ≡ v.capacity
-    pub alloc : w.alloc ≡ a
-    -- The cost counts one move for each item of `xs`, and `m` moves for the items after the range.
-    -- Each of these items is moved at most once.
-    pub cost : (m : ℕ) × (w.cost ≡ add_moves (length xs + m) v.cost) × (m ≤ length v.tail)
-        × (length xs ≡ v.gap → m ≡ 0)
 
 module _ {S T A : Type 0} (steps : S → Option T → S → Type 0) (can : S → Type 0)
     (remaining : S → Count) where

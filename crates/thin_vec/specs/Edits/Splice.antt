@@ -19,9 +19,6 @@ module _ {S T A : Type 0} (steps : S → Option T → S → Type 0) where
   -- `SpliceErrorAccountsFor can remaining s placed error` describes a call to `finish` that
   -- inserted the items `placed` and then failed with `error`. The iterator `s` yielded first the
   -- items `placed`, and then the items that `error` contains.
-  --
-  -- `can` says when `next` may be called on an iterator, and `remaining` bounds the number of items
-  -- that an iterator can still yield.
   abbrev pub SpliceErrorAccountsFor : (S → Type 0) → (S → Count) → S → List T → SpliceRefused T S A
       → Type 0
   SpliceErrorAccountsFor can remaining s placed error =
@@ -38,22 +35,16 @@ module _ {T A : Type 0} where
   pub record IsSpliceCause {S : Type 0} (rule : GrowthRule) (R : RattleType) (w : ListView T A)
       (tail : List T)
       (left : Count) (error : SpliceRefused T S A) : Type 0 where
-    -- If the error contains no items, then the call failed to reserve room for `h` more items,
-    -- where `h` is a lower bound that the size hint may report. In this case, the cause is
-    -- `CapacityOverflow` if and only if the growth rule chooses no capacity for `h` more items.
+    -- If the error contains no item, the call could not reserve room for the size hint.
     pub by_hint : error.held.items ≡ [] → error.in_hand ≡ None
         → FailsAtHint rule R w left error.cause
-    -- If the vector `held` is not empty, and `in_hand` is `None`, the cause is `CapacityOverflow`
-    -- if and only if the growth rule chooses no capacity with room for the items in `held`.
+    -- If the error contains only the vector `held`, there was no room for the items in `held`.
     pub by_held : 0 < length error.held.items → error.in_hand ≡ None
         → (error.cause ≡ CapacityOverflow)
         ↔ (capacity_after_reserve rule R w (length error.held.items) ≡ None)
-    -- If items follow the range, and `in_hand` is `Some`, the cause is `OutOfMemory`, because the
-    -- vector `held` could not get memory for the item in `in_hand`.
+    -- The vector `held` could not get memory for the item in `in_hand`.
     pub by_in_hand : 0 < length tail → IsSome error.in_hand → error.cause ≡ OutOfMemory
-    -- Suppose that no item follows the range, and that `in_hand` is `Some`. Then the cause is
-    -- `CapacityOverflow` if and only if the growth rule chooses no capacity with room for one more
-    -- item.
+    -- There was no room for the item in `in_hand`.
     pub by_push : tail ≡ [] → IsSome error.in_hand
         → (error.cause ≡ CapacityOverflow) ↔ (capacity_after_reserve rule R w 1 ≡ None)
 
@@ -63,14 +54,11 @@ module _ {T A : Type 0} where
   pub record FailsAsExtend {S : Type 0} (v w : ListView T A) (s : S) (error : SpliceRefused T S A)
       : Type 0 where
     pub held : error.held.items ≡ []
-    -- If `in_hand` is `None`, the iterator has yielded no item, and `w` is equal to `v`, the list
-    -- without the items of the range. If `in_hand` is `Some`, it contains the last item that the
-    -- iterator yielded, and the list `w` is full.
     pub in_hand : MatchOption error.in_hand ((w ≡ v) × (error.rest ≡ s))
         (λ _. length w.items ≡ w.capacity)
 
-  -- `without_middle v a` is the list of the front items and the tail items of the open block `v` (a
-  -- block during an edit), with the allocator `a`.
+  -- `without_middle v a` is the list of the front items and the tail items of the open block `v`,
+  -- with the allocator `a`.
   abbrev pub without_middle : OpenView T A → A → ListView T A
   without_middle v a = record {
     items = v.front ++ v.tail;
@@ -102,9 +90,8 @@ module _ {I T A G H : Type 0} {g : Ghosts G} {h : IntoInnerGhosts H (OpenView T 
   abbrev pub splice_alloc : Splice I T A G H g h → A
   splice_alloc s = s.list.now.alloc
 
-  -- `splice_lender s` identifies the list that the `Splice` borrows. It is the ghost name of the
-  -- reference to this list, and exists only in contracts and proofs. References with equal ghost
-  -- names borrow the same list.
+  -- `splice_lender s` is the ghost name of the reference to the list that the `Splice` borrows.
+  -- References with equal ghost names borrow the same list.
   abbrev pub splice_lender : Splice I T A G H g h → GName
   splice_lender s = s.list.ghost_name
 

@@ -3,12 +3,13 @@
 --
 -- The list before the call is `v`, the list after the call is `w`, and the result is `r`. If the
 -- list must grow, the default growth rule chooses at least twice the old capacity.
-use Rattle.std.specs.Prelude.{◌≡◌, ◌↔◌, ◌⊎◌, ℕ, ◌≤◌, IsErrOf, OnErr, OnOk, Option, Result}
+use Rattle.std.specs.Prelude.{◌≡◌, ◌↔◌, ◌⊎◌, ℕ, ◌^◌, ◌<◌, ◌≤◌, IsErrOf, OnErr, OnOk, Option, Result, length}
 use Rattle.std.specs.declared.option.Option.TheVariants.{None, Some}
 use Rattle.std.specs.declared.result.Result.TheVariants.{Ok, Err}
 use Rattle.std.specs.Borrow.{RattleType}
 use Rattle.thin_block.specs.declared.errors.ThinVecError.{ThinVecError}
 use Rattle.thin_block.specs.declared.errors.ThinVecError.TheVariants.{CapacityOverflow}
+use Rattle.thin_block.specs.Capacity.{Fits}
 use Rattle.thin_block.specs.Cost.{add_moves}
 use Rattle.thin_block.specs.Growth.{GrowthRule, exact_capacity}
 use Rattle.thin_vec.specs.Cheap.{IsCheap}
@@ -46,17 +47,11 @@ module _ {T A : Type 0} where
   -- the result `r`.
   pub record Reserves (rule : GrowthRule) (R : RattleType) (k : ℕ) (v w : ListView T A)
       {X : Type 0} (r : Result X ThinVecError) : Type 0 where
-    -- If `v` has room for `k` more items, the capacity does not change. This follows from the fields
-    -- `ok` and `err`.
+    -- This follows from the fields `ok` and `err`.
     pub had_room : HasRoomFor v k → w.capacity ≡ v.capacity
-    -- On success, the new capacity is `capacity_after_reserve rule R v k`: the old capacity if
-    -- there was enough room, and otherwise the capacity that the growth rule chooses.
     pub ok : OnOk r (capacity_after_reserve rule R v k ≡ Some w.capacity)
-    -- On failure, the list did not change, or its new capacity is the one that
-    -- `capacity_after_reserve` returns for `k` more items.
+    -- A call that fails after it has reserved the room leaves the list with the new capacity.
     pub err : OnErr r ((w ≡ v) ⊎ (capacity_after_reserve rule R v k ≡ Some w.capacity))
-    -- The call returns the error `CapacityOverflow` if and only if `capacity_after_reserve` returns
-    -- `None`, which means that the capacity would be too large.
     pub overflow : IsErrOf r CapacityOverflow ↔ (capacity_after_reserve rule R v k ≡ None)
 
   -- `PreservesList R v w` describes a call that changed the list `v` of items of the type `R` to
@@ -67,6 +62,23 @@ module _ {T A : Type 0} where
     pub never_less : v.capacity ≤ w.capacity
     pub cheap : IsCheap v → IsCheap w
     pub within : IsBounded R v × IsBounded R w
+
+  -- `Grows rule R k v w r` says in one record, which has no records in it, what `Reserves` and
+  -- `PreservesList` say of a call that leaves the list as it was if it fails. A proof by search
+  -- reads each record of each call before it, and so gets through more calls. The lemmas
+  -- `grows-reserves` and `grows-preserved` make the two records of it.
+  pub record Grows (rule : GrowthRule) (R : RattleType) (k : ℕ) (v w : ListView T A)
+      {X : Type 0} (r : Result X ThinVecError) : Type 0 where
+    pub had_room : HasRoomFor v k → w.capacity ≡ v.capacity
+    pub ok : OnOk r (capacity_after_reserve rule R v k ≡ Some w.capacity)
+    pub overflow : IsErrOf r CapacityOverflow ↔ (capacity_after_reserve rule R v k ≡ None)
+    pub alloc : w.alloc ≡ v.alloc
+    pub never_less : v.capacity ≤ w.capacity
+    pub cheap : IsCheap v → IsCheap w
+    pub was_room : length v.items ≤ v.capacity
+    pub room : length w.items ≤ w.capacity
+    pub small : w.capacity < 2 ^ 63
+    pub fits : Fits R w.capacity
 
   -- `IsFreshList R a w` holds if the new list `w` of items of the type `R` has the allocator `a`, a
   -- low recorded cost (`IsCheap`), and a capacity that can be allocated (`IsBounded`).

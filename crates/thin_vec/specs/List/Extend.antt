@@ -63,10 +63,10 @@ abbrev pub IsCapacityAfterCollect : GrowthRule → RattleType → ℕ → ℕ �
 IsCapacityAfterCollect rule R d n left =
     IsChosenByRule rule R d n ⊎ ((h : ℕ) × IsWithinCount h left × (exact_capacity R 0 h ≡ Some d))
 
--- `RequestsAtMost b n left` bounds the number `b` of requests for memory of a call that appended `n`
--- items of an iterator: there was at most one request for the first `h` items, and at most one for
--- each item after them. Here, `h` is a possible lower bound in the size hint of the iterator, which
--- could yield at most `left` items.
+-- `RequestsAtMost b n left` bounds the number `b` of requests for memory of a call that appended
+-- `n` items of an iterator: there was at most one request for the first `h` items, and at most one
+-- for each item after them. Here, `h` is a possible lower bound in the size hint of the iterator,
+-- which could yield at most `left` items.
 abbrev pub RequestsAtMost : ℕ → ℕ → Count → Type 0
 RequestsAtMost b n left = (h : ℕ) × IsWithinCount h left × (b ≤ 1 + (n - h))
 
@@ -76,19 +76,12 @@ module _ {T A : Type 0} where
   -- iterator could yield at most `left` items.
   pub record ExtendsCapacity (rule : GrowthRule) (R : RattleType) (v w : ListView T A)
       (left : Count) : Type 0 where
-    -- If `v` has room for all items that the iterator may yield, the capacity does not change. In
-    -- particular, nothing is allocated if the iterator cannot yield any item.
+    -- In particular, nothing is allocated if the iterator cannot yield any item.
     pub had_room : HasRoomFor v (size left) → w.capacity ≡ v.capacity
-    -- The capacity does not change, or the new capacity is at least a capacity that the growth rule
-    -- chooses when a block of the old capacity grows.
     pub loose : IsKeptOrGrown rule R v.capacity w.capacity
-    -- The new capacity is one of the following:
-    --
-    -- - the old capacity,
-    -- - a capacity that the growth rule may choose for a list that needs room for at most
-    --   `length w.items` items,
-    -- - the capacity of `v` after the call `reserve(h)`, where `h` is a possible lower bound in the
-    --   size hint of the iterator.
+    -- The new capacity is the old one, one that the growth rule may choose for at most
+    -- `length w.items` items, or the one after `reserve(h)`, where `h` is a possible lower bound in
+    -- the size hint of the iterator.
     pub ruled : IsCapacityAfterExtend rule R v w.capacity (length w.items) left
 
   -- `CostsInserting v w n` bounds the recorded cost of a call that added items to a list, and
@@ -97,16 +90,13 @@ module _ {T A : Type 0} where
   pub record CostsInserting (v w : ListView T A) (n : ℕ) : Type 0 where
     pub least : v.cost.moves + length w.items ≤ w.cost.moves + length v.items
     pub moves : w.cost.moves + length v.items ≤ v.cost.moves + n + length w.items
-    -- If the capacity did not change, the call requested no memory, and no reallocation copied any
-    -- item.
+    -- Without growth, the call requested no memory and copied no item.
     pub kept : w.capacity ≡ v.capacity → (w.cost.blocks ≡ v.cost.blocks)
         × (w.cost.grown ≡ v.cost.grown)
-    -- If the capacity grew, the cost counts at least one further request for memory, and at least
-    -- one copy of each item of `v`.
+    -- Growth requested memory at least once, and copied each item of `v` at least once.
     pub grown : v.capacity < w.capacity → (v.cost.blocks < w.cost.blocks)
         × (v.cost.grown + length v.items ≤ w.cost.grown)
-    -- The number of items that were copied while the list grew is at most the number of slots by
-    -- which the capacity grew.
+    -- Growth copied at most as many items as it added slots.
     pub copied : w.cost.grown + v.capacity ≤ v.cost.grown + w.capacity
 
   -- `CostsExtending v w left` bounds the recorded cost of a call that appended the items of an
@@ -122,17 +112,13 @@ module _ {T A : Type 0} where
   pub record IsCollectedList (rule : GrowthRule) (R : RattleType) (a : A) (w : ListView T A)
       (left : Count)
       : Type 0 where
-    -- If the iterator cannot yield any items, the list has the capacity 0 after the call, so nothing
-    -- was allocated.
+    -- In this case, nothing was allocated.
     pub none : size left ≡ 0 → w.capacity ≡ 0
     -- The capacity of `w` is either one that the growth rule may choose for at most
     -- `length w.items` items, or a possible lower bound in the size hint of the iterator.
     pub ruled : IsCapacityAfterCollect rule R w.capacity (length w.items) left
-    -- Each item was moved exactly once.
     pub moves : w.cost.moves ≡ length w.items
     pub requests : RequestsAtMost w.cost.blocks (length w.items) left
-    -- `w` is a valid new list with the allocator `a`. Its cost is bounded in terms of its capacity,
-    -- and its length is at most its capacity.
     pub made : IsFreshList R a w
 
   -- `ExtendsList rule R v xs w` describes a call that appended the items `xs` to a list, and
@@ -154,8 +140,8 @@ module _ {T A : Type 0} where
 
   -- `FailsAtHint rule R w left cause` states that a call failed with `cause` because the list `w`
   -- has no room for `h` more items of the type `R`. Here, `h` is a possible lower bound in the size
-  -- hint of an iterator with at most `left` items. The growth rule is `rule`. The contract cannot say
-  -- which `h` it was: std's contract of `size_hint` bounds the result, but gives it no name.
+  -- hint of an iterator with at most `left` items. The growth rule is `rule`. The contract cannot
+  -- say which `h` it was: std's contract of `size_hint` bounds the result, but gives it no name.
   abbrev pub FailsAtHint : GrowthRule → RattleType → ListView T A → Count → ThinVecError → Type 0
   FailsAtHint rule R w left cause =
       (h : ℕ) × IsWithinCount h left × ¬ (HasRoomFor w h)
@@ -166,12 +152,10 @@ module _ {T A : Type 0} where
   -- the iterator may yield at most `left` items.
   pub record IsExtendCause {S : Type 0} (rule : GrowthRule) (R : RattleType) (w : ListView T A)
       (left : Count) (error : ExtendRefused T S) : Type 0 where
-    -- If the error contains an item in `in_hand`, the list had no room for this item. The cause is
-    -- `CapacityOverflow` if and only if the growth rule chooses no capacity for one more item.
+    -- The list had no room for the item in `in_hand`.
     pub by_push : IsSome error.in_hand
         → (error.cause ≡ CapacityOverflow) ↔ (capacity_after_reserve rule R w 1 ≡ None)
-    -- If the field `in_hand` of the error is `None`, the call could not reserve room for `h` more
-    -- items, where `h` is a possible lower bound in the size hint of the iterator.
+    -- The call could not reserve room for a possible lower bound in the size hint.
     pub by_hint : error.in_hand ≡ None → FailsAtHint rule R w left error.cause
 
   -- `IsCollectCause rule R left error` states why a call to `from_iter` failed with `error`. The
@@ -179,14 +163,10 @@ module _ {T A : Type 0} where
   -- `left` items.
   pub record IsCollectCause {S : Type 0} (rule : GrowthRule) (R : RattleType) (left : Count)
       (error : CollectRefused T S A) : Type 0 where
-    -- If `error.in_hand` contains an item, then the list had no room for this item. In this case,
-    -- the cause is `CapacityOverflow` if and only if the growth rule chooses no capacity with room
-    -- for one more item.
+    -- The list had no room for the item in `in_hand`.
     pub by_push : IsSome error.in_hand
         → (error.cause ≡ CapacityOverflow) ↔ (capacity_after_reserve rule R error.list 1 ≡ None)
-    -- If the field `in_hand` of the error is `None`, the call could not allocate a block of
-    -- capacity `h`, where `h` is a possible lower bound in the size hint of the iterator. The cause
-    -- is `CapacityOverflow` if and only if this block would be too large.
+    -- The call could not allocate a block of capacity `h`, a possible lower bound in the size hint.
     pub by_hint : error.in_hand ≡ None
         → (h : ℕ) × IsWithinCount h left × (0 < h)
         × ((error.cause ≡ CapacityOverflow) ↔ (exact_capacity R 0 h ≡ None))

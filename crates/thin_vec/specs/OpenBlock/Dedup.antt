@@ -6,14 +6,13 @@ use Rattle.thin_vec.specs.Edits.Retain.{moves_of_retain, count_true}
 use Rattle.thin_vec.specs.Edits.Dedup.{TestsEachAgainstLast, TestsAllAgainstLast}
 use Rattle.thin_vec.specs.Open.{OpenView}
 
--- `R s x k b t y l` describes one call to a predicate. The predicate decides whether the item `x`
--- is a duplicate of `k`, which is the last kept item. The result `b` is true if `x` is to be
--- removed. The call changes the state of the predicate from `s` to `t`, the item from `x` to `y`,
--- and the kept item from `k` to `l`.
+-- `R s x k b t y l` describes one call of a test that compares the item `x` with the last kept item
+-- `k`. The result `b` is true if `x` is to be removed. The call changes the state of the test from
+-- `s` to `t`, the item from `x` to `y`, and the kept item from `k` to `l`. In the
+-- definitions below, the tests also change the list from `xs` to `ys`.
 module _ {S T : Type 0} (R : S → T → T → Bool → S → T → T → Type 0) where
   -- `TestsPairAt k s xs b t ys` states that the item at index `k` of `xs` was tested against the
-  -- item directly before it. `b` is true if the tested item is to be removed. The test changed its
-  -- state from `s` to `t`, and the list from `xs` to `ys`.
+  -- item directly before it.
   pub record TestsPairAt (k : ℕ) (s : S) (xs : List T) (b : Bool) (t : S)
       (ys : List T) : Type 0 where
     pub before : List T
@@ -28,8 +27,7 @@ module _ {S T : Type 0} (R : S → T → T → Bool → S → T → T → Type 0
     pub now : ys ≡ before ++ kept_left ∷ later_left ∷ after
 
   -- `TestsLast s x xs b t y ys` states that the item `x` was tested against the last item of the
-  -- list `xs`. `b` is true if `x` is to be removed. The test changed its state from `s` to `t`, the
-  -- item from `x` to `y`, and the list from `xs` to `ys`.
+  -- list `xs`.
   pub record TestsLast (s : S) (x : T) (xs : List T) (b : Bool) (t : S) (y : T)
       (ys : List T) : Type 0 where
     pub before : List T
@@ -39,9 +37,8 @@ module _ {S T : Type 0} (R : S → T → T → Bool → S → T → T → Type 0
     pub asked : R s x kept b t y kept_left
     pub now : ys ≡ before ++ kept_left ∷ []
 
-  -- `TestsNext s k xs b t l ys` states that the first item of the list `xs` was tested against
-  -- the kept item `k`. `b` is true if the first item is to be removed. The test changed its state
-  -- from `s` to `t`, the kept item from `k` to `l`, and the list from `xs` to `ys`.
+  -- `TestsNext s k xs b t l ys` states that the first item of the list `xs` was tested against the
+  -- kept item `k`.
   pub record TestsNext (s : S) (k : T) (xs : List T) (b : Bool) (t : S) (l : T)
       (ys : List T) : Type 0 where
     pub later : T
@@ -54,8 +51,7 @@ module _ {S T : Type 0} (R : S → T → T → Bool → S → T → T → Type 0
   -- `TestsPairsUpTo m s xs t ys` describes a search for the first item of the list `xs` that is to
   -- be removed. The items were tested in order, from the second item onward, each against the item
   -- directly before it. `m` is the index of the item that the search found, or the length of `xs`
-  -- if the search found no such item. The search changed the state of the test from `s` to `t`, and
-  -- the list from `xs` to `ys`.
+  -- if it found none. `over` contains this item, if there is one, and `after` the untested items.
   pub record TestsPairsUpTo (m : ℕ) (s : S) (xs : List T) (t : S) (ys : List T) : Type 0 where
     pub first : T
     pub done : List T
@@ -74,7 +70,7 @@ module _ {S T : Type 0} (R : S → T → T → Bool → S → T → T → Type 0
 
   -- `DedupsSome s v t w` holds if testing some or all middle items of the open block `v` for
   -- duplicates turned `v` into `w`. The kept items were appended to the front items, and the other
-  -- tested items were removed. The state of the test changed from `s` to `t`.
+  -- tested items were removed.
   pub record DedupsSome {A : Type 0} (s : S) (v : OpenView T A) (t : S)
       (w : OpenView T A) : Type 0 where
     pub before : List T
@@ -94,8 +90,7 @@ module _ {S T : Type 0} (R : S → T → T → Bool → S → T → T → Type 0
     }
 
   -- `DedupsRest s v t w` holds if removing all duplicates among the middle items of an open block
-  -- turned the block `v` into `w`. The kept items form the front of `w`. The state of the test
-  -- changed from `s` to `t`.
+  -- turned the block `v` into `w`. The kept items form the front of `w`.
   pub record DedupsRest {A : Type 0} (s : S) (v : OpenView T A) (t : S)
       (w : OpenView T A) : Type 0 where
     pub stays : List Bool

@@ -1,5 +1,5 @@
--- These definitions describe how items that fail a test are removed from an open block (the block
--- of a list during an edit), as in `Vec::retain_mut`.
+-- These definitions describe how items that fail a test are removed from an open block, as in std's
+-- `Vec::retain_mut`.
 use Rattle.std.specs.Prelude.{◌≡◌, ℕ, ◌<◌, ◌==◌, List, [], ◌∷◌, ◌++◌, Bool, true, false, drop, if◌then◌else◌, length, take}
 use Rattle.thin_block.specs.Cost.{add_moves}
 use Rattle.thin_vec.specs.Edits.Retain.{TestResults, TestsInTurn, flags_of, items_where, moves_of_retain, all_kept, count_true}
@@ -7,10 +7,9 @@ use Rattle.thin_vec.specs.Open.{OpenView}
 
 -- `R s x b t y` describes one call to a test with the item `x`. The call returns `b` (`true`: keep
 -- the item), changes the state of the test from `s` to `t`, and changes the item from `x` to `y`.
+-- In the definitions below, the tests also change the list from `xs` to `ys`.
 module _ {S T : Type 0} (R : S → T → Bool → S → T → Type 0) where
-  -- `TestsAt k s xs b t ys` states that the item at index `k` of the list `xs` was tested. `b` is
-  -- true if the item is to be kept. The test changed its state from `s` to `t`, and the list from
-  -- `xs` to `ys`.
+  -- `TestsAt k s xs b t ys` states that the item at index `k` of the list `xs` was tested.
   pub record TestsAt (k : ℕ) (s : S) (xs : List T) (b : Bool) (t : S) (ys : List T) : Type 0 where
     pub before : List T
     pub item : T
@@ -29,8 +28,7 @@ module _ {S T : Type 0} (R : S → T → Bool → S → T → Type 0) where
   IsRejectedFirst s (x ∷ xs) t ys = (y : T) × R s x false t y × (ys ≡ y ∷ xs)
 
   -- `TestsUpTo m s xs t ys` states that the first `m` items of `xs` were tested and kept, and that
-  -- the item at index `m`, if there is one, failed the test. The tests changed their state from `s`
-  -- to `t`, and the list from `xs` to `ys`.
+  -- the item at index `m`, if there is one, failed the test.
   pub record TestsUpTo (m : ℕ) (s : S) (xs : List T) (t : S) (ys : List T) : Type 0 where
     pub run : List T
     pub left : List T
@@ -43,11 +41,9 @@ module _ {S T : Type 0} (R : S → T → Bool → S → T → Type 0) where
     pub stops : IsRejectedFirst between after t end
     pub now : ys ≡ left ++ end
 
-  -- `SeeksRejected s v t w` describes a search in an open block for the next item that fails a
-  -- test. It changes the block from `v` to `w`, and the state of the test from `s` to `t`.
-  --
-  -- The middle items are tested in order, and the kept items are added to the front. An item that
-  -- fails the test becomes the first middle item of `w`.
+  -- `SeeksRejected s v t w` describes a search in the open block `v` for the next item that fails a
+  -- test. The kept items are added to the front. An item that fails the test becomes the first
+  -- middle item of `w`.
   pub record SeeksRejected {A : Type 0} (s : S) (v : OpenView T A) (t : S)
       (w : OpenView T A) : Type 0 where
     pub count : ℕ
@@ -60,8 +56,7 @@ module _ {S T : Type 0} (R : S → T → Bool → S → T → Type 0) where
     }
 
   -- `RetainsSome s v t w` holds if testing some or all middle items of the open block `v` turned
-  -- `v` into `w`. The kept items were appended to the front items, and the other tested items were
-  -- removed. The state of the test changed from `s` to `t`.
+  -- `v` into `w`. The kept items were appended to the front items, and the others were removed.
   pub record RetainsSome {A : Type 0} (s : S) (v : OpenView T A) (t : S)
       (w : OpenView T A) : Type 0 where
     pub done : List T
@@ -77,8 +72,7 @@ module _ {S T : Type 0} (R : S → T → Bool → S → T → Type 0) where
     }
 
   -- `RetainsRest s v t w` holds if testing all middle items of the open block `v` turned `v` into
-  -- `w`. The kept items were appended to the front items, and the other middle items were removed.
-  -- The state of the test changed from `s` to `t`.
+  -- `w`. The kept items were appended to the front items, and the others were removed.
   pub record RetainsRest {A : Type 0} (s : S) (v : OpenView T A) (t : S)
       (w : OpenView T A) : Type 0 where
     pub results : TestResults T

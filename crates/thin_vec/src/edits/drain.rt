@@ -83,20 +83,18 @@ impl<T: Drop, A: Allocator, G: Growth> ThinVec<T, A, G> {
         ensures changes { drain_list result
             ≡ record self.old { items = []; capacity = 0; cost = no_cost } }
 
-        // After the `Drain` is dropped, the list has the following items, capacity, allocator and
-        // recorded cost.
+        // After the `Drain` is dropped, the list has the following items, capacity and recorded
+        // cost.
         ensures items { (drain_block result).front ++ (drain_block result).tail
             ≡ remove_range self.old.items start end }
         ensures capacity { (drain_block result).capacity ≡ self.old.capacity }
-        ensures alloc { (drain_list result).alloc ≡ self.old.alloc }
         ensures cost { cost_drained (drain_block result)
             ≡ (if start == end then self.old.cost else add_moves
             (length self.old.items - end) self.old.cost) }
 
         // The `Drain` borrows this list: its reference to the list has the same ghost name as
-        // `self`. Calls to `next` and `next_back`, in any order, take items from the two ends of
-        // the range. They do not change the value that the list will have after the `Drain` is
-        // dropped.
+        // `self`. Calls to `next` do not change the value that the list will have after the `Drain`
+        // is dropped. For calls from both ends, the lemma `drain_leaves` states the same.
         ensures same_reference { drain_lender result ≡ self.entry.ghost_name }
         ensures stays { DrainKeepsAlong result }
     {

@@ -1,7 +1,7 @@
 //! The functions that `Splice::finish` calls to put the items of an iterator in place of a removed
 //! range. If items follow the range, there are up to three steps:
 //!
-//! - `fill_gap` fills the empty slots of the range.
+//! - `fill` fills the empty slots of the range.
 //! - `insert_hinted` reserves room for the lower bound of the size hint, and fills this room.
 //! - `insert_held` collects the remaining items in a vector, and moves them into the list.
 ghost use Rattle.std.specs.Prelude.{◌≡◌, ◌+◌, ◌-◌, ◌*◌, ◌<◌, ◌≤◌, [], ◌++◌, ◌∷◌, IfErr, IfOk, IsOk, IsSome, List, MatchOption, None, OnErr, OnOk, Some, drop, false, length, take, ℕ};
@@ -12,7 +12,7 @@ ghost use Rattle.thin_vec.specs.List.Extend.{FailsAtHint, IsKeptOrChosen};
 ghost use Rattle.thin_block.specs.Block.{IsAllocatedBy};
 ghost use Rattle.thin_vec.specs.Open.{tail_end};
 ghost use Rattle.thin_vec.specs.Edits.Splice.{IsSpliceCause, SpliceErrorAccountsFor};
-ghost use Rattle.thin_vec.specs.Edits.Finish.{AddsFromIter, IsGapFilled, FinishesSplice};
+ghost use Rattle.thin_vec.specs.Edits.Finish.{AddsFromIter, FinishesSplice};
 ghost use Rattle.thin_vec.specs.Put.{IsFilledBy};
 ghost use Rattle.thin_vec.specs.ThinVec.{capacity_after_reserve};
 
@@ -23,28 +23,6 @@ use crate::put::Filled;
 use std::alloc::{AllocFailed, Allocator};
 use std::iter::Iterator;
 use thin_block::{Growth, ThinVecError};
-
-impl<T, A: Allocator, G: Growth> ThinVec<T, A, G> {
-    // Moves items of `iter` into the empty slots between the front and the tail of `block`, until
-    // the slots are full or `iter` ends. Then puts the block back into the list. The result
-    // contains the rest of `iter`, and says whether `iter` has ended.
-    #[inline(always)]
-    fn fill_gap<I: Iterator<Item = T>>(&mut self, mut block: OpenBlock<T, A>, iter: I) -> Filled<I>
-        requires is_empty { self.old.items ≡ [] }
-        requires no_rest { block.rest ≡ [] }
-        requires gap_after { block.gap_after ≡ 0 }
-        requires same_allocator { IsAllocatedBy block.alloc self.old.alloc }
-        requires can_next { I.can_next iter }
-        requires finite { IsFinite (I.remaining iter) }
-        ensures filled_by { (by : IsFilledBy I.next_gives I.can_next I.remaining block.gap iter result)
-            × IsGapFilled block by.items self.old.alloc self.new
-            × (result.end ≡ length block.front + length by.items) }
-    {
-        let filled = block.fill(iter);
-        self.close(block);
-        filled
-    }
-}
 
 impl<T: Drop, A: Allocator, G: Growth> ThinVec<T, A, G> {
     // Makes a gap of empty slots before the item at index `at`, and moves items of `iter` into the
@@ -90,8 +68,10 @@ impl<T: Drop, A: Allocator, G: Growth> ThinVec<T, A, G> {
         if let Err(cause) = self.reserve(hint) {
             return Err(Rejected { value: iter, cause });
         }
-        let block = self.open_with_gap(at, at, hint);
-        Ok(self.fill_gap(block, iter))
+        let mut block = self.open_with_gap(at, at, hint);
+        let filled = block.fill(iter);
+        self.close(block);
+        Ok(filled)
     }
 
     // Collects the items of `iter` in a vector that uses `alloc`, and then inserts the items into
@@ -165,7 +145,7 @@ impl<T: Drop, A: Allocator, G: Growth> ThinVec<T, A, G> {
     #[inline(always)]
     pub(crate) fn finish_before_tail<I: Iterator<Item = T>>(
         &mut self,
-        block: OpenBlock<T, A>,
+        mut block: OpenBlock<T, A>,
         iter: I,
         alloc: A,
     ) -> Result<(), SpliceRefused<T, I, A>>
@@ -187,7 +167,8 @@ impl<T: Drop, A: Allocator, G: Growth> ThinVec<T, A, G> {
             self.old.alloc
             iter self.new result }
     {
-        let Filled { rest, end, ended } = self.fill_gap(block, iter);
+        let Filled { rest, end, ended } = block.fill(iter);
+        self.close(block);
         if ended {
             return Ok(());
         }

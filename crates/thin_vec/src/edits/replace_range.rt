@@ -1,6 +1,6 @@
 //! The method `replace_range`, which replaces the items of a range with clones of given items. If
 //! the call fails, the list keeps its old items.
-ghost use Rattle.std.specs.Prelude.{◌≡◌, ◌+◌, ◌-◌, ◌*◌, ◌==◌, ◌<◌, ◌≤◌, ◌++◌, All, IfErr, IsOk, OnErr, OnOk, drop, if◌then◌else◌, length, take};
+ghost use Rattle.std.specs.Prelude.{◌≡◌, ◌+◌, ◌-◌, ◌*◌, ◌<◌, ◌≤◌, ◌++◌, All, IfErr, IsOk, OnErr, OnOk, drop, length, take};
 ghost use Rattle.std.specs.List.{replace_range};
 ghost use Rattle.thin_block.specs.Cost.{add_moves};
 ghost use Rattle.thin_vec.specs.List.Clones.{ClonesEqual};
@@ -113,7 +113,10 @@ impl<T: Clone, A: Allocator, G: Growth> ThinVec<T, A, G> {
             self.drop_range(end, end + beyond.len());
             return Err(cause);
         }
-        self.replace_by_last(start, end, inside.len());
+        let mut block = self.open(start, end);
+        block.drop_rest();
+        block.move_last_down(inside.len());
+        self.close(block);
         Ok(())
     }
 
@@ -172,29 +175,6 @@ impl<T: Drop, A: Allocator, G: Growth> ThinVec<T, A, G> {
     {
         let mut block = self.open(start, end);
         block.drop_rest();
-        self.close(block);
-    }
-
-    // Drops the items `start..end`, and fills the first slots of this range with the last `count`
-    // items of the list. `count` must be at most the length of the range. If it is less, the items
-    // between the range and these last items are moved down to close the gap.
-    fn replace_by_last(&mut self, start: usize, end: usize, count: usize)
-        requires start_le_end { start ≤ end }
-        requires room { count ≤ end - start }
-        requires in_bounds { end + count ≤ length self.old.items }
-        requires bounds { IsBounded T.row self.old }
-        ensures changes { self.new ≡ record self.old {
-          items = (take start self.old.items ++ drop (length self.old.items - count) self.old.items)
-              ++ take (length self.old.items - count - end) (drop end self.old.items);
-          cost = add_moves
-              (count + (if count == end - start then 0 else length self.old.items - count - end))
-              self.old.cost;
-        } }
-        ensures bounds { IsBounded T.row self.new }
-    {
-        let mut block = self.open(start, end);
-        block.drop_rest();
-        block.move_last_down(count);
         self.close(block);
     }
 }

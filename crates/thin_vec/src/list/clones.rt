@@ -212,41 +212,6 @@ impl<T: Clone, A: Allocator, G: Growth> ThinVec<T, A, G> {
         ensures preserved { PreservesList T.row self.old self.new }
     {
         self.reserve(end - start)?;
-        self.extend_from_within_reserved(start, end)
-    }
-
-    // Appends clones of the items `start..end`, in order. The list must have room for them. If
-    // cloning fails, all clones that this call made are dropped.
-    fn extend_from_within_reserved(&mut self, start: usize, end: usize) -> Result<(), ThinVecError>
-        requires start_le_end { start ≤ end }
-        requires in_bounds { end ≤ length self.old.items }
-        requires room { HasRoomFor self.old (end - start) }
-
-        // If cloning cannot fail for any item of the range, the call succeeds. On success, the
-        // clones are appended.
-        ensures succeeds { All T.is_infallible (slice_range self.old.items start end)
-            → IsOk result }
-        ensures items { OnOk result (AppendsClones T.is_clone self.old.items self.new.items
-            (slice_range self.old.items start end)) }
-        ensures items_if_clones_equal { OnOk result (ClonesEqual T.is_clone
-            → self.new.items ≡ self.old.items ++ slice_range self.old.items start end) }
-        ensures cost { OnOk result (self.new.cost ≡ add_moves (end - start) self.old.cost) }
-
-        // Only the fields `items` and `cost` of the list may change.
-        ensures changes { self.new ≡ record self.old {
-          items = self.new.items;
-          cost = self.new.cost;
-        } }
-
-        // On failure, the items are unchanged.
-        ensures err_items { OnErr result (self.new.items ≡ self.old.items) }
-        ensures err_cost { OnErr result (FailsAtClone T.is_infallible
-            (slice_range self.old.items start end) self.old.cost self.new.cost) }
-        ensures cause { IfErr result (λ cause. cause ≡ ThinVecError.OutOfMemory) }
-
-        // In every case.
-        ensures bounds { IsBounded T.row self.old × IsBounded T.row self.new }
-    {
         let len = self.len();
         if self.push_clones_within(start, end) < end - start {
             self.truncate(len);

@@ -3,9 +3,9 @@
 //! `Drains I.next_gives iter xs` states that `iter` yields the items `xs` and then `None`. The clause
 //! `runs` follows from `items`, and `err_runs` from `placed`: they state the same about a *run* of the
 //! iterator, as std's lemmas about adaptors such as `map` expect it.
-ghost use Rattle.std.specs.Prelude.{◌≡◌, ◌+◌, ◌-◌, ◌<◌, ◌≤◌, List, ◌++◌, IfErr, IfOk, IsOk, IsSome, MatchOption, None, OnErr, OnOk, OnSome, length};
+ghost use Rattle.std.specs.Prelude.{◌≡◌, ◌+◌, ◌-◌, ◌<◌, ◌≤◌, List, ◌++◌, IfErr, IfOk, IsOk, IsSome, MatchOption, None, OnErr, OnOk, length};
 ghost use Rattle.std.specs.Iterator.Runs.{SomeRun, WholeRun};
-ghost use Rattle.std.specs.Iterator.{Drains, IsFinite, YieldsThen, size};
+ghost use Rattle.std.specs.Iterator.{Drains, IsFinite, size};
 ghost use Rattle.std.specs.Option.{option_to_list};
 ghost use Rattle.thin_block.specs.Cost.{add_moves};
 ghost use Rattle.thin_block.specs.Growth.{doubling};
@@ -124,9 +124,16 @@ impl<T, A: Allocator, G: Growth> ThinVec<T, A, G> {
     {
         let mut rest = iter;
         loop {
-            let (left, extra) = self.extend_reserved(rest);
+            let Filled {
+                rest: left,
+                end: _,
+                ended,
+            } = self.fill_spare(rest);
             rest = left;
-            let Some(item) = extra else {
+            if ended {
+                return Ok(());
+            }
+            let Some(item) = rest.next() else {
                 return Ok(());
             };
             match self.push(item) {
@@ -141,48 +148,6 @@ impl<T, A: Allocator, G: Growth> ThinVec<T, A, G> {
                 }
             }
         }
-    }
-
-    // Appends items of `iter` until the list is full or `iter` ends. If the list is full, takes one
-    // more item from `iter`. Returns the rest of the iterator and this item, if any.
-    fn extend_reserved<I: Iterator<Item = T>>(&mut self, iter: I) -> (I, Option<T>)
-        requires can_next { I.can_next iter }
-        requires finite { IsFinite (I.remaining iter) }
-
-        // The call appends the items `xs`, which it takes from the iterator. Each of these items
-        // counts as one move.
-        ensures items { (xs : List T) × (self.new.items ≡ self.old.items ++ xs)
-            × YieldsThen I.next_gives iter xs result.1 result.0 }
-        ensures changes { self.new ≡ record self.old {
-          items = self.new.items;
-          cost = add_moves (length self.new.items - length self.old.items) self.old.cost;
-        } }
-
-        // Suppose that the call returns an item. Then the list is full, and `next` may be called on
-        // the returned iterator. For this iterator, `I.remaining`, an upper bound on the number of
-        // items that it may still yield, is finite. The call has decreased this bound by more than
-        // the number of appended items.
-        ensures err_full { OnSome result.1 (length self.new.items ≡ self.new.capacity) }
-        ensures can_next { OnSome result.1 (I.can_next result.0 × IsFinite (I.remaining result.0)) }
-        ensures decreases { OnSome result.1
-            (length self.new.items + size (I.remaining result.0) < length self.old.items + size
-            (I.remaining iter)) }
-
-        // In every case.
-        ensures room { length self.new.items ≤ self.new.capacity }
-        ensures cheap { IsCheap self.old → IsCheap self.new }
-        ensures bounds { IsBounded T.row self.old × IsBounded T.row self.new }
-    {
-        let Filled {
-            mut rest,
-            end: _,
-            ended,
-        } = self.fill_spare(iter);
-        if ended {
-            return (rest, None);
-        }
-        let extra = rest.next();
-        (rest, extra)
     }
 
     // Moves items of `iter` into the spare capacity until the list is full or `iter` ends. The

@@ -2,10 +2,10 @@
 //!
 //! The clause `items_if_clones_equal` follows from `items`, and `err` follows from `err_cost`. With
 //! them, a caller needs no lemma about clones.
-ghost use Rattle.std.specs.Prelude.{◌≡◌, ◌⊎◌, ◌+◌, ◌-◌, ◌<◌, ◌≤◌, ◌++◌, IfErr, IsOk, OnErr, OnOk, length, replicate, take};
+ghost use Rattle.std.specs.Prelude.{◌≡◌, ◌⊎◌, ◌+◌, ◌-◌, ◌<◌, ◌≤◌, ◌++◌, IsOk, OnErr, OnOk, length, replicate, take};
 ghost use Rattle.std.specs.List.{AppendsResults};
 ghost use Rattle.thin_block.specs.Cost.{add_moves};
-ghost use Rattle.thin_vec.specs.List.Clones.{AppendsRepeats, CloneEquals, IsResized, FailsAtClone, CostsFailedClone};
+ghost use Rattle.thin_vec.specs.List.Clones.{AppendsRepeats, CloneEquals, IsResized, CostsFailedClone};
 ghost use Rattle.thin_vec.specs.List.Capacity.{CostsMoves, PreservesList, Reserves};
 
 use crate::list::ThinVec;
@@ -14,7 +14,6 @@ use std::alloc::Allocator;
 use thin_block::{Growth, ThinVecError};
 
 impl<T: Clone, A: Allocator, G: Growth> ThinVec<T, A, G> {
-    ghost use Rattle.thin_vec.specs.Cheap.{IsCheap};
     ghost use Rattle.thin_vec.specs.ThinVec.{HasRoomFor, IsBounded};
 
     /// Changes the length to `len`. If the list is longer, the items from index `len` onward are
@@ -57,45 +56,9 @@ impl<T: Clone, A: Allocator, G: Growth> ThinVec<T, A, G> {
             return Ok(());
         }
         self.reserve(len - old)?;
-        self.resize_reserved(value, len - old)
-    }
-
-    // Appends `count - 1` clones of `value`, and then `value` itself. The list must have room for
-    // them. If cloning fails, `value` and all new clones are dropped.
-    fn resize_reserved(&mut self, value: T, count: usize) -> Result<(), ThinVecError>
-        requires nonzero { 0 < count }
-        requires room { HasRoomFor self.old count }
-
-        // The call succeeds if cloning `value` cannot fail. It also succeeds if `count` is 1,
-        // because then only `value` itself is appended. On success, the items are appended.
-        ensures succeeds { T.is_infallible value → IsOk result }
-        ensures succeeds_by_one { count ≡ 1 → IsOk result }
-        ensures items { OnOk result
-            (IsResized T.is_clone self.old.items (length self.old.items + count) value
-            self.new.items) }
-        ensures items_if_clones_equal { OnOk result (CloneEquals T.is_clone value
-            → self.new.items ≡ self.old.items ++ replicate count value) }
-        ensures cost { OnOk result (self.new.cost ≡ add_moves count self.old.cost) }
-
-        // In every case, only the fields `items` and `cost` of the list may change.
-        ensures changes { self.new ≡ record self.old {
-          items = self.new.items;
-          cost = self.new.cost;
-        } }
-
-        // On failure, the items are unchanged.
-        ensures err_items { OnErr result (self.new.items ≡ self.old.items) }
-        ensures err_cost { OnErr result
-            (FailsAtClone T.is_infallible (replicate (count - 1) value) self.old.cost
-            self.new.cost) }
-        ensures cause { IfErr result (λ cause. cause ≡ ThinVecError.OutOfMemory) }
-
-        // In every case.
-        ensures bounds { IsBounded T.row self.old × IsBounded T.row self.new }
-    {
-        let len = self.len();
-        if self.push_repeated_reserved(&value, count - 1) < count - 1 {
-            self.truncate(len);
+        let count = len - old - 1;
+        if self.push_repeated_reserved(&value, count) < count {
+            self.truncate(old);
             return Err(ThinVecError::OutOfMemory);
         }
         self.push_reserved(value);
@@ -123,9 +86,6 @@ impl<T: Clone, A: Allocator, G: Growth> ThinVec<T, A, G> {
 }
 
 impl<T: Drop, A: Allocator, G: Growth> ThinVec<T, A, G> {
-    ghost use Rattle.thin_vec.specs.Cheap.{IsCheap};
-    ghost use Rattle.thin_vec.specs.ThinVec.{HasRoomFor, IsBounded};
-
     /// Changes the length to `len`. If the list is longer, the items from index `len` onward are
     /// dropped. If the list is shorter, the results of `make` are appended: `make` is called once
     /// for each new item, in order. If there is not enough spare capacity, the list first grows to
@@ -163,26 +123,8 @@ impl<T: Drop, A: Allocator, G: Growth> ThinVec<T, A, G> {
             return Ok(());
         }
         self.reserve(len - old)?;
-        self.push_results_reserved(len - old, make);
+        put_results(&mut self.block, old, len - old, make);
+        self.block.set_len(len);
         Ok(())
-    }
-
-    // Appends the results of `count` calls to `make`, in order. The list must have room for `count`
-    // more items.
-    fn push_results_reserved<F: FnMut() -> T>(&mut self, count: usize, make: F)
-        requires room { HasRoomFor self.old count }
-        requires callable { F.IsAlwaysCallable make }
-        ensures items { AppendsResults F.step self.old.items self.new.items make }
-        ensures len { length self.new.items ≡ length self.old.items + count }
-        ensures changes { self.new ≡ record self.old {
-          items = self.new.items;
-          cost = add_moves count self.old.cost;
-        } }
-        ensures cheap { IsCheap self.old → IsCheap self.new }
-        ensures bounds { IsBounded T.row self.old × IsBounded T.row self.new }
-    {
-        let len = self.block.len();
-        put_results(&mut self.block, len, count, make);
-        self.block.set_len(len + count);
     }
 }

@@ -18,6 +18,7 @@ impl<T, A: Allocator> OpenBlock<T, A> {
     // Moves items of `iter` into the gap (the empty slots after the front), in order, until the gap
     // is full or `iter` returns `None`. Returns a `Filled`, whose field `end` is the new length of
     // the front.
+    #[inline(always)]
     pub(crate) fn fill<I: Iterator<Item = T>>(&mut self, iter: I) -> Filled<I>
         requires can_next { I.can_next iter }
         requires finite { IsFinite (I.remaining iter) }

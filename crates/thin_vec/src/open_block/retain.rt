@@ -133,24 +133,11 @@ impl<T, A: Allocator> OpenBlock<T, A> {
         ensures value { IsTrue result ↔ (0 < length self.new.rest) }
         ensures callable { J.ready test.new }
     {
-        if self.has_gap() {
-            return self.seek_past_gap(test);
+        if self.front_end == self.rest_start {
+            let count = self.test_run(test);
+            self.keep_in_place(count);
+            return self.rest_len() > 0;
         }
-        let count = self.test_run(test);
-        self.keep_in_place(count);
-        self.rest_len() > 0
-    }
-
-    // Does the same as `seek_rejected`: tests the remaining items up to the first item that is to
-    // be removed, and returns whether there is such an item. There must be empty slots after the
-    // kept items.
-    fn seek_past_gap<J: Test<T>>(&mut self, test: &mut J) -> bool
-        requires has_gap { 0 < self.old.gap }
-        requires callable { J.ready test.old }
-        ensures tested { SeeksRejected J.tests test.old self.old test.new self.new }
-        ensures value { IsTrue result ↔ (0 < length self.new.rest) }
-        ensures callable { J.ready test.new }
-    {
         if item_size::<T>() >= LARGE {
             let count = self.test_run(test);
             self.move_down(count);
@@ -167,7 +154,7 @@ impl<T, A: Allocator> OpenBlock<T, A> {
 }
 
 impl<T: Drop, A: Allocator> OpenBlock<T, A> {
-    ghost use Rattle.thin_vec.specs.OpenBlock.Retain.{RetainsRest, RetainsSome};
+    ghost use Rattle.thin_vec.specs.OpenBlock.Retain.{RetainsRest};
 
     // Tests the remaining items, in order. Drops the items that are not kept, and appends the
     // others to the front.
@@ -181,32 +168,16 @@ impl<T: Drop, A: Allocator> OpenBlock<T, A> {
         if self.rest_len() > 0 {
             drop(self.take_first());
             while self.rest_len() > 0 {
-                self.retain_next(test);
+                if item_size::<T>() >= LARGE {
+                    if self.seek_rejected(test) {
+                        drop(self.take_first());
+                    }
+                } else if self.test(0, test) {
+                    self.move_one_down();
+                } else {
+                    drop(self.take_first());
+                }
             }
-        }
-    }
-
-    // Tests the first remaining item. Appends it to the kept items, or drops it. If the items are
-    // large, tests the remaining items up to the first item that is to be removed. Then appends the
-    // items before it to the kept items, and drops it.
-    fn retain_next<J: Test<T>>(&mut self, test: &mut J)
-        requires nonempty { 0 < length self.old.rest }
-        requires has_gap { 0 < self.old.gap }
-        requires callable { J.ready test.old }
-        ensures retained { RetainsSome J.tests test.old self.old test.new self.new }
-        ensures decreases { length self.new.rest < length self.old.rest }
-        ensures callable { J.ready test.new }
-    {
-        if item_size::<T>() >= LARGE {
-            if self.seek_past_gap(test) {
-                drop(self.take_first());
-            }
-            return;
-        }
-        if self.test(0, test) {
-            self.move_one_down();
-        } else {
-            drop(self.take_first());
         }
     }
 }

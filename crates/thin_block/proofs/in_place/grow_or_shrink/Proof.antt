@@ -21,8 +21,7 @@ use Rattle.thin_block.specs.contracts.in_place.grow_or_shrink.Key as key
 use Rattle.thin_block.proofs.in_place.grow_or_shrink.Statement as stated
 use Rattle.thin_block.proofs.in_place.grow_or_shrink.Code as code
 
--- `gives k` is the code that assigns the local variable with the index `k` to the result variable,
--- and then returns.
+-- `gives k` is the code that returns the local variable with the index `k`.
 abbrev gives : ℕ → Body
 gives k = seq (assign (place 0 []) (rv_opd (copy (place k [])))) return
 
@@ -90,9 +89,8 @@ module _ (E : El) (Y : Al) {M : Type 1} {𝓤 : Ura M} (𝓛 : Logic 𝓤) (at_m
   abbrev left : Ptr → Bool → ℕ → ℕ → Fml
   left x y b o = resized_if_ok (token Y r.now) (R E) x len held wanted xs (result_of y b o)
 
-  -- The postcondition of `grow_or_shrink` holds after the call to `grow` or `shrink`. `x` is the
-  -- address of the old block, and `y` says whether the call has succeeded. If so, the new block is
-  -- at the offset `o` of the allocation `b`.
+  -- `x` is the address of the old block, and `y` says whether the call to `grow` or `shrink` has
+  -- succeeded. If so, the new block is at the offset `o` of the allocation `b`.
   exits : (x : Ptr) (y : Bool) (b o : ℕ)
       → ent 𝓤 (⋆ 𝓛 (‵ (left x y b o) ∷ ‵ (flft κ q) ∷ ‵ (flft κT qT) ∷ (‵ (flft κA qA) ⊛ ‵ ftrue)
       ∷ [])) (Post x (answer_val y b o))
@@ -105,9 +103,8 @@ module _ (E : El) (Y : Al) {M : Type 1} {𝓤 : Ura M} (𝓛 : Logic 𝓤) (at_m
       fjoin ! $ nothing ! $ fjoin ! $ join ! $ move ! (3 ∷ 4 ∷ []) $ join ! $
       move ! (3 ∷ 0 ∷ []) $ join ! $ join ! $ done !
 
-  -- `from Ev x k` says that the postcondition holds after the statements from index `k` to the end
-  -- of the function have run. `Ev` contains the local variables, and `x` is the address of the old
-  -- block.
+  -- `from Ev x k` says that the postcondition holds after the statements from index `k` on have
+  -- run.
   abbrev from : Env 𝓤 H → Ptr → ℕ → After 𝓤 H
   from Ev x k = then_runs 𝓛 C Λ Ev (after k (here E Y).body) (at_ret Ev (Post x))
 
@@ -115,8 +112,7 @@ module _ (E : El) (Y : Al) {M : Type 1} {𝓤 : Ura M} (𝓛 : Logic 𝓤) (at_m
   entry x = (‵ (flft κ q) ⊛ ‵ (flft κT qT) ⊛ ‵ (flft κA qA) ⊛ ‵ ftrue) ⊛ ‵
       (owns (types_at (ended E Y).signature.params (bound x).0.0) (bound x).0.3 (bound x).0.4)
 
-  -- `Given x v` consists of the resources that the call to `grow` or `shrink` returns. `x` is the
-  -- old address of the block, and `v` is the returned value.
+  -- `Given x v` is what the call to `grow` or `shrink` gives back if it returns the value `v`.
   abbrev Given : Ptr → Val → Item 𝓤
   Given x v = exists (λ (c : Bool × (ℕ × ℕ)). given (v ≡ answer_val c.0 c.1.0 c.1.1)
       (‵ (left x c.0 c.1.0 c.1.1)))
@@ -140,9 +136,8 @@ module _ (E : El) (Y : Al) {M : Type 1} {𝓤 : Ura M} (𝓛 : Logic 𝓤) (at_m
       let live : κ ⊑ Y.row.lives = ⊑_trans κ κA Y.row.lives out leA in
       move ! (1 ∷ []) $ split ! $ split3 ! $ move ! (3 ∷ []) $ fsplit ! $ fsplit ! $
       keep ! (6 ∷ 1 ∷ 3 ∷ 4 ∷ 5 ∷ []) $
-      -- From here on, the `requires` clauses are available as facts. The proof context now holds,
-      -- in this order: the block; the shared reference to the allocator; the lifetime tokens of
-      -- this reference, of `T` and of `A`.
+      -- The context is now: the block; the shared reference to the allocator; the lifetime tokens
+      -- of this reference, of `T` and of `A`.
       enter ! C Λ (here E Y) (vs x) _ $ alloc_all ! (λ l. pass_all ! refl (
         (tt, tt),
         (

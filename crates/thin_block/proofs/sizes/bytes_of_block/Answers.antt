@@ -11,8 +11,6 @@ use denote.Param.{param}
 use denote.RattleType.{RattleType}
 use Rattle.thin_block.proofs.sizes.bytes_of_block.Goals as goal
 
--- If a block for `c` items of the type `R` can be allocated, then the header and `c` items take
--- `16 + c * size` bytes, where `size` is the item size, capped at `usize::MAX`.
 summed : (R : RattleType) (c size : ℕ) → Fits R c → size ≡ capped (type_size R)
     → 16 + c * size ≡ items_offset (type_align R) + c * type_size R
 summed R c size fits is =

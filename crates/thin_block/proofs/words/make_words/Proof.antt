@@ -59,8 +59,7 @@ module _ (E : El) (m : ℕ) where
   abbrev Wr : RattleType
   Wr = word_row E.row m
 
-  -- `word_val v` is the machine value of a word. `v` is the machine value of the array of the items
-  -- that form this word.
+  -- `word_val v` is the machine value of a word whose array of items has the machine value `v`.
   abbrev word_val : Val → Val
   word_val v = vstruct (vcons v (vcons (vstruct vnil) vnil))
 
@@ -70,8 +69,6 @@ module _ (E : El) (m : ℕ) where
   word_fits : (v : Val) → Fits (ty_array (layout E.row) m) v → Fits (layout Wr) (word_val v)
   word_fits v fits = (both (has_ty (ty_array (layout E.row) m) v) _ fits.0 tt, (fits.1, (tt, tt)))
 
-  -- If `v` is the machine value of an array of the items `xs`, then the resources of this array can
-  -- be converted into the resources of the word with the items `xs`.
   word_made : {M : Type 1} {𝓤 : Ura M} (𝓛 : Logic 𝓤) (xs : List (el_x E)) (v : Val)
       → ent 𝓤 (sem 𝓛 (Arr.own_val xs (v ∷ [])))
       (sem 𝓛 (Wr.own_val (word (R E) N xs) (word_val v ∷ [])))
@@ -129,9 +126,8 @@ module _ (E : El) (m : ℕ) {M : Type 1} {𝓤 : Ura M} (𝓛 : Logic 𝓤) (at_
     abbrev To : Fml
     To = Made g o
 
-    -- `Then xss at` is the right to join the words from the offset `at` onward with all words
-    -- before this offset. The list `xss` contains, for each word from the offset `at` onward, the
-    -- list of its items.
+    -- `Then xss at` is the right to join the words from the offset `at` onward, which hold the
+    -- items `xss`, with all words before them.
     abbrev Then : Runs E m → ℕ → SProp 𝓤
     Then xss at = wand 𝓤 (sem 𝓛 (Made xss at)) (sem 𝓛 To)
 
@@ -145,9 +141,8 @@ module _ (E : El) (m : ℕ) {M : Type 1} {𝓤 : Ura M} (𝓛 : Logic 𝓤) (at_
         feq_i ! (List Val) (vunit ∷ []) (vunit ∷ []) refl $ nothing ! $ nothing ! $ fjoin ! $
         nothing ! $ fjoin ! $ join ! $ move ! (2 ∷ 0 ∷ []) $ join ! $ join ! $ done !
 
-    -- `Left` is the type of the states of the loop. A state consists of the number `i` of words
-    -- that have been made, the items `xss` of the words that have not been made yet, and a proof
-    -- that `i + length xss` equals the total number `n` of words.
+    -- A state of the loop: the number `i` of words that have been made, the items `xss` of the
+    -- other words, and a proof that these are all `n` words.
     abbrev Left : Type 0
     Left = (i : ℕ) × ((xss : Runs E m) × (i + length xss ≡ n))
 
@@ -212,10 +207,9 @@ module _ (E : El) (m : ℕ) {M : Type 1} {𝓤 : Ura M} (𝓛 : Logic 𝓤) (at_
           sets ! (bin ! (get ! refl) (size_lit ! (record { fits = fs })) (record { fits = fm }))
           refl (tt, record { fits = fm }) $
           sets ! (bin ! (get ! refl) (get ! refl) tt) refl (tt, tt) $ fsplit ! $ fsplit ! $
-          -- The proof has separated the items of the next word from the items after them. The proof
-          -- context now holds, in this order: the items of the next word; the right to convert the
-          -- memory of these items into memory for the word; the items of the later words; the right
-          -- to join the later words with the words before them; the lifetime tokens.
+          -- The context is now: the items of the next word; the right to convert their memory into
+          -- memory for the word; the items of the later words; the right `Then` for the later
+          -- words; the lifetime tokens.
           use1 𝓛 (exists (λ (v : Val). ‵ (fat full_share σ b at v) ⊛ ‵
           ((Arr E m).own_val xs (v ∷ [])))) (part_out 𝓛 (Arr E m) refl full_share xs b at) $
           pick ! (λ v. split ! $ move ! (1 ∷ []) $

@@ -66,15 +66,13 @@ module _ (g : Former {0}) where
   slot_get X None n v = (None, v)
   slot_get X (Some a) n v = let r : g.Of X × Row X n = g.get X a n v in (Some r.0, r.1)
 
-  -- Suppose that the values in the slot `o` are prepended to the row `t`. Then splitting the
-  -- resulting row with `slot_get` returns `o` and `t` again.
+  -- The next three lemmas are laws of type formers: `slot_get` undoes `slot_put`, `slot_put` undoes
+  -- `slot_get`, and it does not matter whether a map comes before or after `slot_get`.
   pub slot_get-put : (X : Type 0) (o : Option (g.Of X)) (n : Count) (t : Row X n)
       → slot_get X (on_slot (g.shape X) o) n (slot_put X o n t) ≡ (o, t)
   slot_get-put X None n t = refl
   slot_get-put X (Some y) n t = λ i. (Some (g.get-put X y n t i).0, (g.get-put X y n t i).1)
 
-  -- `slot_get` splits the row `v` of values into the values of the first slot and the remaining
-  -- row. Putting both parts back together with `slot_put` restores `v`.
   pub slot_put-get : (X : Type 0) (a : Option g.Shape) (n : Count) (v : Row X (slot_count a n))
       → ◌≡◌ {A = (b : Option g.Shape) × Row X (slot_count b n)} (
         on_slot (g.shape X) (slot_get X a n v).0,
@@ -84,8 +82,6 @@ module _ (g : Former {0}) where
   slot_put-get X None n v = refl
   slot_put-get X (Some a) n v = λ i. (Some (g.put-get X a n v i).0, (g.put-get X a n v i).1)
 
-  -- Splitting a row of values with `slot_get` and then applying the function `h` to all values has
-  -- the same result as applying `h` first and then splitting the row.
   pub slot_get-map : (X Y : Type 0) (h : X → Y) (a : Option g.Shape) (n : Count)
       (v : Row X (slot_count a n))
       → slot_get Y a n (over h (slot_count a n) v) ≡ (
@@ -118,18 +114,14 @@ module _ {g : Former {0}} (w : Weighed g) where
   slot_weight X μ None = 0
   slot_weight X μ (Some y) = w.weight X μ y
 
-  -- Suppose that the values in the slot `o` are prepended to the row `t`. Then the depth of the new
-  -- row is the maximum of the depth of `o` and the depth of `t`. The depth of a row is the greatest
-  -- depth of a value in the row, or 0 if the row is empty.
+  -- The depth of a row is the greatest depth of a value in the row, or 0 if the row is empty.
   pub slot_puts : (X : Type 0) (μ : X → ℕ) (o : Option (g.Of X)) (n : Count) (t : Row X n)
       → deepest μ (slot_count g (on_slot (g.shape X) o) n) (slot_put g X o n t) ≡ max
       (slot_weight X μ o) (deepest μ n t)
   slot_puts X μ None n t = none_max (deepest μ n t)
   slot_puts X μ (Some y) n t = w.puts X μ y n t
 
-  -- `weighed_slot` adds depths to the type former of slots. It consists of the function
-  -- `slot_weight`, which computes the depth of a slot, and the lemma `slot_puts` about this
-  -- function.
+  -- `weighed_slot` adds depths to the type former of slots.
   abbrev pub weighed_slot : Weighed (slot_former g)
   weighed_slot = record { weight = slot_weight; puts = slot_puts }
 
@@ -154,8 +146,6 @@ module _ {X Y Z : Type 0} (d : Block X Z) where
     sound = sound;
   }
 
-  -- If the length of `ys` is the number of slots of the block `d`, then `CanHold ys` holds: the
-  -- slots of `d` may be replaced with `ys`.
   pub can_hold_as_many : (ys : List (Option Y)) → length ys ≡ length d.slots → CanHold ys
   can_hold_as_many ys e = (
     let le = d.sound.0 in omega (arith, e, le),
@@ -163,16 +153,12 @@ module _ {X Y Z : Type 0} (d : Block X Z) where
     let small = d.sound.2 in omega (arith, e, small),
   )
 
-  -- `CanHold ys` states that the block `d` of this module may have the slots `ys`. If the lists
-  -- `ys` and `zs` are equal, then each proof `p` of `CanHold ys` equals each proof `q` of
-  -- `CanHold zs`.
+  -- If the lists `ys` and `zs` are equal, then the proofs of `CanHold` for them are equal.
   pub CanHold-along : (ys zs : List (Option Y)) (e : ys ≡ zs) (p : CanHold ys) (q : CanHold zs)
       → PathP (λ i. CanHold (e i)) p q
   CanHold-along ys zs e = is_prop→PathP (λ i. CanHold (e i))
       (λ i p q j. (le_prop p.0 q.0 j, Coded-set coded_bool _ _ p.1 q.1 j, le_prop p.2 q.2 j))
 
-  -- If the lists of slots `ys` and `zs` are equal, then the block `d` with the slots `ys` equals
-  -- the block `d` with the slots `zs`. `p` and `q` are proofs that `d` may have these slots.
   abbrev pub holding_along : (ys zs : List (Option Y)) (e : ys ≡ zs) (p : CanHold ys)
       (q : CanHold zs)
       → holding ys p ≡ holding zs q
@@ -184,8 +170,6 @@ mapped h d = holding d (map (on_slot h) d.slots)
     (can_hold_as_many d (map (on_slot h) d.slots) (length-map d.slots (on_slot h)))
 
 module _ (g : Former {0}) (Z : Type 0) where
-  -- If `list_get` splits the row `v` into a list of slots with the shapes `a` and a row of `n`
-  -- values, then there are as many slots as shapes.
   pub length_got : (X : Type 0) (a : List (Option g.Shape)) (n : Count)
       (v : Row X (list_count (slot_former g) a n))
       → length (list_get (slot_former g) X a n v).0 ≡ length a
@@ -200,8 +184,7 @@ module _ (g : Former {0}) (Z : Type 0) where
   got X a n v = let r : List (Option (g.Of X)) × Row X n = list_get (slot_former g) X a.slots n v in
       (holding a r.0 (can_hold_as_many a r.0 (length_got X a.slots n v)), r.1)
 
-  -- Suppose that the values in the block `d` are prepended to the row `t`. Then splitting the
-  -- resulting row with `got` returns `d` and `t` again.
+  -- The next three lemmas are the same laws for blocks.
   pub got-put : (X : Type 0) (d : Block (g.Of X) Z) (n : Count) (t : Row X n)
       → got X (mapped (g.shape X) d) n ((list (slot_former g)).put X d.slots n t) ≡ (d, t)
   got-put X d n t = λ i. (
@@ -211,8 +194,6 @@ module _ (g : Former {0}) (Z : Type 0) where
     ((list (slot_former g)).get-put X d.slots n t i).1,
   )
 
-  -- Suppose that `got` splits the row `v` of values into a block and a shorter row. Then prepending
-  -- the values in the block to the shorter row restores `v`.
   pub put-got : (X : Type 0) (a : Block g.Shape Z) (n : Count)
       (v : Row X (list_count (slot_former g) a.slots n))
       → ◌≡◌ {A = (b : Block g.Shape Z) × Row X (list_count (slot_former g) b.slots n)} (
@@ -226,8 +207,6 @@ module _ (g : Former {0}) (Z : Type 0) where
     ((list (slot_former g)).put-get X a.slots n v i).1,
   )
 
-  -- Splitting a row of values with `got` and then applying the function `h` to all values has the
-  -- same result as applying `h` first and then splitting the row.
   pub got-map : (X Y : Type 0) (h : X → Y) (a : Block g.Shape Z) (n : Count)
       (v : Row X (list_count (slot_former g) a.slots n))
       → got Y a n (over h (list_count (slot_former g) a.slots n) v)
@@ -295,36 +274,26 @@ pub the_items_listed : (Z X : Type 0) (d : Block X Z)
     → listed _ (children (the_former this Z) X d) ≡ the_items Z X d
 the_items_listed Z X d = items_listed X d.slots
 
--- If `h` does not change the encoding of any item, then mapping `h` over the list `xs` does not
--- change the encoding of `xs`.
 pub codes_of : {X Y : Type 0} (c : X → Gv) (c' : Y → Gv) (h : X → Y) → ((x : X) → c' (h x) ≡ c x)
     → (xs : List X) → code_l c' (map h xs) ≡ code_l c xs
 codes_of = codes_placed
 
--- If the encodings `a` and `b` are equal, then the pair of `a` and `c` equals the pair of `b` and
--- `c`.
 first : {a b c : Gv} → a ≡ b → gcons a c ≡ gcons b c
 first {c = c} e = λ i. gcons (e i) c
 
--- If the encodings `a` and `b` are equal, then the pair of `c` and `a` equals the pair of `c` and
--- `b`.
 second : {a b c : Gv} → a ≡ b → gcons c a ≡ gcons c b
 second {c = c} e = λ i. gcons c (e i)
 
 module _ (R R' : RattleType) (h : R.Denot → R'.Denot) (a : Alike R R' h) where
-  -- `width` is a proof that the item types `R` and `R'` have the same size. It follows from the
-  -- assumption `Alike R R' h` of this module.
   abbrev width : type_size R' ≡ type_size R
   width = λ i. size (lone (a.mir_same i))
 
-  -- If each item `y` has the same layout and owns the same memory as `h y`, then applying `h` to
-  -- the slot `x` does not change the memory that the slot owns.
+  -- The next lemmas assume that each item `y` has the same layout and owns the same memory as
+  -- `h y`.
   place_placed : (x : Option R.Denot) (b o : ℕ) → slot_owns R' (on_slot h x) b o ≡ slot_owns R x b o
   place_placed None b o = λ i. room_for (raw (lone (a.mir_same i))) (block_ptr b o)
   place_placed (Some x) b o = lies_placed R R' h a full_share (block_ptr b o) x
 
-  -- If each item `y` has the same layout and owns the same memory as `h y`, then applying `h` to
-  -- the slots `xs` does not change the memory that they own.
   places_placed : (xs : List (Option R.Denot)) (b o : ℕ)
       → slots_own R' (map (on_slot h) xs) b o ≡ slots_own R xs b o
   places_placed [] b o = refl
@@ -332,8 +301,6 @@ module _ (R R' : RattleType) (h : R.Denot → R'.Denot) (a : Alike R R' h) where
       (λ i. fsep (place_placed x b o i) (slots_own R' (map (on_slot h) xs) b (o + width i)))
       ∙ ap (fsep (slot_owns R x b o)) (places_placed xs b (o + type_size R))
 
-  -- If each item `y` has the same layout and owns the same memory as `h y`, then applying `h` to
-  -- all items of a block does not change the memory that the block owns.
   pub block_placed : {D : Type 0} (t : D → Ty → Ptr → Fml) (p : Ptr) (n : ℕ)
       (xs : List (Option R.Denot)) (w : Option D) → block_owns t R' p n (map (on_slot h) xs)
       w ≡ block_owns t R p n xs w
@@ -344,17 +311,12 @@ module _ (R R' : RattleType) (h : R.Denot → R'.Denot) (a : Alike R R' h) where
       (length-map xs (on_slot h) i) b o)
       (places_placed xs b (o + 16) i)
 
-  -- Suppose that for every item `y`, shared references to `y` and to `h y` lend the same memory.
-  -- Then applying `h` to the item in the slot `x` does not change what a shared reference to the
-  -- slot lends.
+  -- The next lemmas assume that shared references to `y` and to `h y` lend the same memory.
   place_lent_placed : (x : Option R.Denot) (p : Ptr)
       → slot_shares R' (on_slot h x) p ≡ slot_shares R x p
   place_lent_placed None p = refl
   place_lent_placed (Some x) p = lent_at_placed R R' h a p x
 
-  -- Suppose that for every item `y`, shared references to `y` and to `h y` lend the same memory.
-  -- Then applying `h` to the items in the slots `xs` does not change what shared references to
-  -- these slots lend.
   places_lent_placed : (xs : List (Option R.Denot)) (b o : ℕ) → slots_share R' (map (on_slot h) xs)
       b o ≡ slots_share R xs b o
   places_lent_placed [] b o = refl
@@ -363,9 +325,6 @@ module _ (R R' : RattleType) (h : R.Denot → R'.Denot) (a : Alike R R' h) where
       (slots_share R' (map (on_slot h) xs) b (o + width i)))
       ∙ ap (beside (slot_shares R x (block_ptr b o))) (places_lent_placed xs b (o + type_size R))
 
-  -- Suppose that for every item `y`, shared references to `y` and to `h y` lend the same memory.
-  -- Then applying `h` to the items of a block does not change what a shared reference to the block
-  -- lends.
   pub block_lent_placed : {D : Type 0} (p : Ptr) (n : ℕ) (xs : List (Option R.Denot)) (w : Option D)
       → block_shares R' p n (map (on_slot h) xs) w ≡ block_shares R p n xs w
   block_lent_placed null_ptr n xs w = refl
@@ -390,15 +349,12 @@ module _ (A : RattleType) (G : Ghosts A.Denot) (R R' : RattleType) (h : R.Denot 
         (block_lent_placed R R' h a d.at d.len d.slots d.alloc i) κ;
   }
 
-  -- If the function `h` does not change the encoding of any item, then applying `h` to the item in
-  -- a slot does not change the encoding of the slot.
   slot_recoded : Recodes R R' h → (x : Option R.Denot) → (coded_option R'.coded).code (on_slot h x)
       ≡ (coded_option R.coded).code x
   slot_recoded e None = refl
   slot_recoded e (Some x) = second (e x)
 
-  -- If the function `h` does not change the encoding of any item, then applying `h` to each item of
-  -- a block does not change the encoding of the block.
+  -- If `h` does not change the encoding of any item, it does not change the encoding of a block.
   pub the_codes_placed : Recodes R R' h → Recodes (C.the_row R A G) (C.the_row R' A G)
       ((the_former this A.Denot).map R.Denot R'.Denot h)
   the_codes_placed e d =

@@ -1,5 +1,4 @@
--- The loop moves the items out of their slots, one by one, and drops them. After the last
--- iteration, every slot is empty, so the block can be freed.
+-- After the last iteration, every slot is empty, so the block can be freed.
 use Rattle.thin_block.proofs.BlockLemmas.{slots-are}
 use Rattle.std.proofs.Common.{◌≡◌, ◌≤◌, ◌-◌, ap, ◌∙◌, length, arith, None}
 use lib.ListN.{set}

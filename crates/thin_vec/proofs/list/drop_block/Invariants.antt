@@ -1,5 +1,4 @@
--- When the loop variable is `i`, the slots before index `i` are empty, and all other slots are
--- unchanged.
+-- When the loop variable is `i`, the slots before index `i` are empty, and the others unchanged.
 use Rattle.std.proofs.Common.{◌≡◌, length}
 use Rattle.thin_block.specs.Block.{block_view}
 use Rattle.thin_block.specs.Slots.{items_in}

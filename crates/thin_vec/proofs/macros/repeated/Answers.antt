@@ -1,5 +1,4 @@
--- `repeated` resizes an empty list. The new capacity is what the growth rule chooses for `count`
--- items. The call fails with `CapacityOverflow` if and only if the rule chooses no capacity.
+-- `repeated` resizes an empty list, so the growth rule chooses the capacity for `count` items.
 use Rattle.std.proofs.Common.{arith, ◌∙◌}
 use Rattle.thin_vec.proofs.list.ClonesLemmas.{new_lists}
 use Rattle.thin_vec.proofs.macros.repeated.Goals as goal

@@ -1,5 +1,4 @@
--- Each iteration puts a clone of the next item into the next slot. The loop can end early only if
--- an item cannot be cloned.
+-- The loop can end early only if an item cannot be cloned.
 use Rattle.thin_block.specs.Block.{block_view}
 use Rattle.thin_vec.proofs.list.ExtendLemmas.{put-more}
 use Rattle.std.proofs.lemmas.Grind.{common_steps}
@@ -7,8 +6,6 @@ use Rattle.std.proofs.Common.{ap, arith, ◌∙◌, refl, ◌+◌}
 use Rattle.thin_vec.proofs.list.ClonesLemmas.{lays-more}
 use Rattle.thin_vec.proofs.put.put_clones.Goals as goal
 
--- If the slots hold clones of the first `i` items before an iteration of the loop, then they hold
--- clones of the first `i + 1` items after this iteration.
 pub loop-i-preserved : goal.loop-i-preserved
 loop-i-preserved g c =
     let was = c.loop-i.invariant in

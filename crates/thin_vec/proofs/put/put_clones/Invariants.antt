@@ -1,13 +1,10 @@
--- The loop of `put_clones` puts clones of the items, in order, into the slots from index `start`
--- onward.
+-- The loop puts clones of the items, in order, into the slots from index `start` onward.
 use Rattle.std.proofs.Common.{◌≡◌}
 use Rattle.thin_block.specs.Block.{block_view}
 use Rattle.thin_block.specs.Cost.{add_moves}
 use Rattle.thin_vec.specs.List.Clones.{WritesClones}
 use Rattle.thin_vec.proofs.put.put_clones.Given as goal
 
--- When the loop variable is `i`, clones of the first `i` items are in the slots from index `start`
--- onward, and `i` moves have been counted.
 abbrev pub invariant-loop-i : goal.invariant-loop-i
 invariant-loop-i g l =
     record {

@@ -1,5 +1,4 @@
--- Each iteration of the loop puts the next item of the iterator into the next slot. The loop ends
--- when the iterator returns `None` or all slots are full.
+-- The loop ends when the iterator returns `None` or all slots are full.
 use Rattle.thin_block.specs.Block.{block_view}
 use Rattle.std.proofs.Common.{◌∷◌, ◌++◌, [], ◌∙◌, arith, ap, sym, ◌+◌, ◌-◌}
 use Rattle.std.proofs.lemmas.Bool.{false≢true}

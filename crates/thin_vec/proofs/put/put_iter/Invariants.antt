@@ -1,5 +1,4 @@
--- When the loop variable is `i`, the slots `start..i` hold the items that the iterator has yielded,
--- in order. One move has been counted for each of these items.
+-- The slots `start..i` hold the items that the iterator has yielded, at the cost of one move each.
 use Rattle.std.proofs.Common.{◌≡◌, ◌+◌, ◌-◌, ◌≤◌, List, length}
 use Rattle.std.specs.Iterator.{IsFinite, Yields, size}
 use Rattle.thin_block.specs.Block.{block_view}

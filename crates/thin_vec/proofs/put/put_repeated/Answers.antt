@@ -6,8 +6,6 @@ use Rattle.std.proofs.lemmas.List.{get_or-replicate, length-replicate}
 use Rattle.thin_vec.proofs.list.ClonesLemmas.{lays-more}
 use Rattle.thin_vec.proofs.put.put_repeated.Goals as goal
 
--- If `i` slots hold clones of `value` before an iteration of the loop, then `i + 1` slots hold
--- clones of `value` after this iteration.
 pub loop-i-preserved : goal.loop-i-preserved
 loop-i-preserved g c =
     let was = c.loop-i.invariant in

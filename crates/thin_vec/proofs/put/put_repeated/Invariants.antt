@@ -1,13 +1,10 @@
--- The loop of `put_repeated` puts `count` clones of `value` into the slots from index `start`
--- onward.
+-- The loop puts `count` clones of `value` into the slots from index `start` onward.
 use Rattle.std.proofs.Common.{◌≡◌, replicate}
 use Rattle.thin_block.specs.Block.{block_view}
 use Rattle.thin_block.specs.Cost.{add_moves}
 use Rattle.thin_vec.specs.List.Clones.{WritesClones}
 use Rattle.thin_vec.proofs.put.put_repeated.Given as goal
 
--- When the loop variable is `i`, the first `i` slots from index `start` onward hold clones of
--- `value`, and `i` moves have been counted.
 abbrev pub invariant-loop-i : goal.invariant-loop-i
 invariant-loop-i g l =
     record {

@@ -1,5 +1,4 @@
--- The loop of `put_results` calls the closure `make` `count` times. It puts the results into the
--- slots from index `start` onward.
+-- The loop puts the results of `count` calls to `make` into the slots from index `start` onward.
 use Rattle.std.proofs.Common.{◌≡◌, List, length}
 use Rattle.std.specs.Fn.{Called}
 use Rattle.std.specs.List.{FoldsTo}
@@ -8,8 +7,6 @@ use Rattle.thin_block.specs.Cost.{add_moves}
 use Rattle.thin_block.specs.Slots.{filled_slots, write_slots}
 use Rattle.thin_vec.proofs.put.put_results.Given as goal
 
--- When the loop variable is `i`, the first `i` slots from index `start` onward hold the results of
--- `i` calls to `make`, in order, and `i` moves have been counted.
 abbrev pub invariant-loop-i : goal.invariant-loop-i
 invariant-loop-i g l = record {
   placed : (xs : List g.row.T.Denot)

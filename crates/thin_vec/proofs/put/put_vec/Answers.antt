@@ -1,6 +1,4 @@
--- Each iteration of the loop removes the last item of the vector and puts it directly before the
--- items that earlier iterations put into slots. When the vector is empty, all items are in slots,
--- in order.
+-- Each iteration moves the last item of the vector into the slot before the items moved so far.
 use Rattle.std.proofs.lemmas.Grind.{common_steps}
 use Rattle.thin_block.specs.Cost.{add_moves}
 use Rattle.thin_block.specs.Slots.{filled_slots, write_slots}

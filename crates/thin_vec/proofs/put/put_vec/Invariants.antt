@@ -1,5 +1,4 @@
--- Before each iteration of the loop, each item that was removed from the vector is in its final
--- slot. Each iteration removes one more item.
+-- Each item that was removed from the vector is in its final slot.
 use Rattle.std.proofs.Common.{◌≡◌, ◌-◌, length}
 use Rattle.thin_block.specs.Block.{block_view}
 use Rattle.thin_block.specs.Cost.{add_moves}

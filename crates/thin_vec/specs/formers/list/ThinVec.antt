@@ -1,5 +1,4 @@
--- This file defines the type former of `ThinVec`, which says that a list contains exactly its
--- items. With it, the prover accepts types that contain lists of themselves, such as trees.
+-- This file defines the type former of `ThinVec`, by which a list contains exactly its items.
 use Rattle.std.specs.Prelude.{◌≡◌, ℕ, ◌-◌, List, [], ◌∷◌, Option, length, map}
 use Rattle.std.specs.declared.option.Option.TheVariants.{Some, None}
 use mathlib.Core.Path.{refl, sym, ap, ◌∙◌}
@@ -76,33 +75,23 @@ fields Z Q =
 -- These lemmas are about applying a function `h` to each item in a row of slots. Empty slots stay
 -- empty.
 module _ {X Y : Type 0} (h : X → Y) where
-  -- If the function `h` is applied to each item in a row of slots `s`, the items of the new row are
-  -- `map h (items_in s)`.
   items_in-map : (s : List (Option X)) → items_in (map (on_slot h) s) ≡ map h (items_in s)
   items_in-map [] = refl
   items_in-map (None ∷ s) = items_in-map s
   items_in-map (Some x ∷ s) = ap (λ l. h x ∷ l) (items_in-map s)
 
-  -- Applying the function `h` to each item in a row of slots `s` does not change which slots are
-  -- filled.
   is_some-map : (s : List (Option X)) → map is_some (map (on_slot h) s) ≡ map is_some s
   is_some-map [] = refl
   is_some-map (None ∷ s) = ap (λ l. is_some {T = X} None ∷ l) (is_some-map s)
   is_some-map (Some x ∷ s) = ap (λ l. is_some (Some x) ∷ l) (is_some-map s)
 
-  -- Applying the function `h` to each item in a row of slots `s` does not change the number of
-  -- items.
   count-map : (s : List (Option X)) → length (items_in (map (on_slot h) s)) ≡ length (items_in s)
   count-map s = ap length (items_in-map s) ∙ length-map (items_in s) h
 
-  -- Applying the function `h` to each item in a row of slots `s` does not change the number of
-  -- empty slots.
   left-map : (s : List (Option X)) → length (map (on_slot h) s) - length
       (items_in (map (on_slot h) s)) ≡ length s - length (items_in s)
   left-map s = λ i. length-map s (on_slot h) i - count-map s i
 
-  -- If exactly the first `n` slots of the row `s` are filled, this remains true if the function `h`
-  -- is applied to each item.
   packed_to : (s : List (Option X)) (n : ℕ) → IsPacked s n → IsPacked (map (on_slot h) s) n
   packed_to s n p = record {
     row = from_shape (map (on_slot h) s) _
@@ -110,8 +99,6 @@ module _ {X Y : Type 0} (h : X → Y) where
     len = p.len ∙ sym (count-map s);
   }
 
-  -- If exactly the first `n` slots of a row are filled after `h` is applied to each item, then
-  -- exactly these slots were filled before.
   packed_from : (s : List (Option X)) (n : ℕ) → IsPacked (map (on_slot h) s) n → IsPacked s n
   packed_from s n p = record {
     row = from_shape s _
@@ -121,33 +108,24 @@ module _ {X Y : Type 0} (h : X → Y) where
   }
 
   module _ {Z : Type 0} (b : Block X Z) (a : Z) where
-    -- Let `block.mapped h b` be the block `b` after the function `h` has been applied to each of
-    -- its items. If `b` is the block of a list with the allocator `a`, then so is
-    -- `block.mapped h b`.
+    -- `block.mapped h b` is the block `b` after `h` has been applied to each of its items.
     thin_to : IsListBlock b a → IsListBlock (block.mapped h b) a
     thin_to t = record { packed = packed_to b.slots b.len t.packed; from = t.from }
 
-    -- Let `block.mapped h b` be the block `b` after the function `h` has been applied to each of
-    -- its items. If `block.mapped h b` is the block of a list with the allocator `a`, then so is
-    -- `b`.
     thin_from : IsListBlock (block.mapped h b) a → IsListBlock b a
     thin_from t = record { packed = packed_from b.slots b.len t.packed; from = t.from }
 
--- According to the type formers of lists and rows, the list `items_in s` and the row of slots `s`
--- contain the same values in the same order.
 items_in-held : (X : Type 0) (s : List (Option X))
     → held (list this) X (items_in s) ≡ held (list (slot_former this)) X s
 items_in-held X [] = refl
 items_in-held X (None ∷ s) = items_in-held X s
 items_in-held X (Some x ∷ s) = λ i. (one_more (items_in-held X s i).0, (x, (items_in-held X s i).1))
 
--- `gcons a c` is the encoding of a pair whose parts have the encodings `a` and `c`. If the
--- encodings `a` and `b` are equal, then so are `gcons a c` and `gcons b c`.
+-- `gcons a c` is the encoding of a pair whose parts have the encodings `a` and `c`.
 first : {a b c : Gv} → a ≡ b → gcons a c ≡ gcons b c
 first {c = c} e = λ i. gcons (e i) c
 
 module _ (Z Q : RattleType) (G : AllocatorGhosts Z.Denot) (K : GrowthGhosts Q.Denot) where
-  -- Any two proofs of `IsListBlock` for the same block and the same allocator are equal.
   IsListBlock-prop : {X : Type 0} (code : Coded X) (b : Block X Z.Denot)
       (a : Z.Denot) → IsProp (IsListBlock b a)
   IsListBlock-prop code b a p q = λ i. record {

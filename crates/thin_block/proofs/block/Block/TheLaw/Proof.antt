@@ -59,10 +59,9 @@ module _ (R : RattleType) (L : RowLaws R) where
 module _ {M : Type 1} {𝓤 : Ura M} (𝓛 : Logic 𝓤) where
   open 𝓛 use {H, A}
 
-  -- Let `t κ` be what a shared reference with the lifetime `κ` lends. If `t` satisfies the laws of
-  -- shared references (`ShrLaws`), then a borrow of `t []` for a lifetime `κ` can be converted into
-  -- `t κ`. Here, `[]` is the lifetime `'static`. The conversion needs lifetime tokens, which show
-  -- that neither `κ` nor `l` has ended.
+  -- `t κ` is what a shared reference with the lifetime `κ` lends. If `t` satisfies the laws of
+  -- shared references, then a borrow of `t []` can be converted into `t κ`. Here, `[]` is
+  -- `'static`.
   Lends-kept : (t : Lft → Fml) → ShrLaws t → (l : Lft) → Lends 𝓛 (t []) t l
   Lends-kept t L l κ ts inc sp =
       let P : Fml = t [] in

@@ -60,9 +60,8 @@ allocate_block_spec 𝓤 𝓛 𝓜 𝓡 wired T A LT LA g d dd met md =
     let bytes_are : bytes ≡ size_of_block = said.1.1.1.1.0 in
     let align_is : al ≡ align_of_block = said.1.1.1.1.1 in
     fsplit ! $ drop ! $ keep ! (0 ∷ 1 ∷ 2 ∷ []) $
-    -- From here on, the `requires` clauses are available as facts. The proof context now holds, in
-    -- this order: the shared reference to the allocator; the lifetime token of this reference; the
-    -- other lifetime tokens.
+    -- The context is now: the shared reference to the allocator; its lifetime token; the other
+    -- tokens.
     let fits : fits_block Rt cap ≡ true = opened Rt cap small in
     let short = (fits_tells Rt cap fits).short in
     let sixteen = (rounded Rt 0).most in
@@ -126,10 +125,8 @@ allocate_block_spec 𝓤 𝓛 𝓜 𝓡 wired T A LT LA g d dd met md =
     use1 𝓛 (‵ (froom (ty_int w64) b o) ⊛ ‵ (froom (ty_int w64) b (o + 8)) ⊛ ‵
     (froom (items Rt cap) b (o + 16)) ⊛ ‵ (rejoin_wand (words_of Rt) (erased_type Rt) cap b o))
     (carve_asked 𝓛 E b cap o) $ split3 ! $ move ! (2 ∷ []) $ split ! $ move ! (2 ∷ 3 ∷ []) $
-    -- The proof has split the new memory into the parts of a block. The proof context now holds, in
-    -- this order: memory for the capacity; memory for the length; memory for the slots; the right
-    -- to convert these three parts back into memory for the whole block; the right to free the
-    -- block; the lifetime tokens.
+    -- The context is now: memory for the capacity; memory for the length; memory for the slots; the
+    -- right to join these three parts; the right to free the block; the lifetime tokens.
     rewrite ! 1 (λ (k : ℕ). ‵ (froom (ty_int w64) b k))
     (let turned : o + 8 ≡ 8 + o = omega arith in turned) refl $
     first ! $ blocks ! $

@@ -84,11 +84,8 @@ copy_in_spec 𝓤 𝓛 𝓜 𝓡 wired T A LT LA copies gc dc g d dd metc met md
     use1 𝓛 (‵ (all V b here xs (replicate n false))) (of_space E 𝓛 b here n xs refl) $
     move ! (7 ∷ []) $ token_out ! 2 z.0.0.1 z.0.1.1 $ move ! (1 ∷ []) $
     token_out ! 1 z.0.0.1.1 z.0.1.1.1 $ move ! (3 ∷ 0 ∷ 2 ∷ 1 ∷ []) $
-    -- The empty slots for the copies have been separated from the other slots. The proof context
-    -- now holds, in this order: the empty slots for the copies; the lifetime tokens of `T`, of
-    -- `items` and of `A`; the other slots; the header; the block's pointer; the right to close the
-    -- borrow of the block; two ghost resources that record the value of the block; the slice
-    -- `items`.
+    -- The context is now: the empty slots for the copies; the lifetime tokens of `T`, of `items`
+    -- and of `A`; the other slots; the header; the open borrow (4 entries); the slice `items`.
     let y₁ = at_from V 𝓛 𝓜.mem 𝓡.returns κ₂ q₂ b here n xs (replicate n false) in
     use2 𝓛 (raw ((From V 𝓛 𝓜.mem 𝓡.returns).pre y₁))
     (from_goes V 𝓛 𝓜.mem 𝓡.returns κ₂ q₂ b here n xs (replicate n false) lives refl
@@ -105,11 +102,7 @@ copy_in_spec 𝓤 𝓛 𝓜 𝓡 wired T A LT LA copies gc dc g d dd metc met md
     let words : WT (row_val b here n) = (tt, (record { fits = fk }, tt)) in
     lands_as ! made.0 refl (tt, words) $
     sets ! (of_opd ! (get ! refl)) refl (tt, words) $
-    -- The call to `from_raw_parts` has converted the empty slots into a value of the type
-    -- `core::slots::Slots`. The proof context now holds, in this order: this value; the lifetime
-    -- tokens of `T`, of `items` and of `A`; the other slots; the header; the block's pointer; the
-    -- right to close the borrow of the block; two ghost resources that record the value of the
-    -- block; the slice `items`.
+    -- `from_raw_parts` has converted the empty slots for the copies into a `core::slots::Slots`.
     move ! (2 ∷ 1 ∷ []) $ join ! $ move ! (1 ∷ 9 ∷ 0 ∷ []) $
     let Cp = Copied V gc dc 𝓛 𝓜.mem 𝓡.returns in
     let y₂ : Cp.Ghost = at_copied V gc dc 𝓛 𝓜.mem 𝓡.returns κ₁ κ₂ q₁ q₂
@@ -131,10 +124,8 @@ copy_in_spec 𝓤 𝓛 𝓜 𝓡 wired T A LT LA copies gc dc g d dd metc met md
     let copy = is_copy.2 in
     let fz : slots_len f < 2 ^ 64 = slots_small f in
     lands_as ! is_copy.0 refl (tt, (tt, (record { fits = fz }, tt))) $
-    -- The call to `fill_from` has copied the items into the value of the type `core::slots::Slots`.
-    -- The proof context now holds, in this order: this value; the lifetime tokens of `items`, of
-    -- `T` and of `A`; the other slots; the header; the block's pointer; the right to close the
-    -- borrow of the block; two ghost resources that record the value of the block.
+    -- `fill_from` has copied the items, and has used up the slice. The context now begins with the
+    -- `Slots` and the lifetime tokens of `items`, of `T` and of `A`.
     let y₃ = at_into V 𝓛 𝓜.mem 𝓡.returns κ₂ q₂ f b here in
     move ! (0 ∷ 2 ∷ []) $
     use2 𝓛 (raw ((Into V 𝓛 𝓜.mem 𝓡.returns).pre y₃))
@@ -149,11 +140,8 @@ copy_in_spec 𝓤 𝓛 𝓜 𝓡 wired T A LT LA copies gc dc g d dd metc met md
     lands_last ! refl (parts_typed v₃ b here (slots_len f) e₃ fz) $
     continues ! 𝓜 𝓡 fn l 2 ((walk_of 𝓛 En₀ hs c).post z) $
     sets ! (of_opd ! (unit_lit !)) refl (tt, tt) $
-    -- The call to `into_raw_parts` has converted the value of the type `core::slots::Slots` back
-    -- into slots of the block. The proof context now holds, in this order: these slots; the
-    -- lifetime tokens of `T`, of `items` and of `A`; the other slots; the header; the block's
-    -- pointer; the right to close the borrow of the block; two ghost resources that record the
-    -- value of the block.
+    -- `into_raw_parts` has converted the `Slots` back into slots of the block. The context now
+    -- begins with these slots and the lifetime tokens of `T`, of `items` and of `A`.
     let many : slots_len f ≡ n = copy.same.count ∙ made.1.1 in
     let flags : length (slots_filled f) ≡ n = sym (slots_counts f).1 ∙ many in
     let filled : Filled (slots_filled f) 0 n =
@@ -170,15 +158,12 @@ copy_in_spec 𝓤 𝓛 𝓜 𝓡 wired T A LT LA copies gc dc g d dd metc met md
     move ! (0 ∷ 4 ∷ []) $
     use2 𝓛 (‵ (slots_own (R E) laid_in b (o + 16)))
     (run_in E 𝓛 b (o + 16) x.slots i n within (filled_slots xs) long_full) $
-    -- The filled slots have been joined with the other slots. The proof context now holds, in this
-    -- order: all slots; the lifetime tokens of `T`, of `items` and of `A`; the header; the block's
-    -- pointer; the right to close the borrow of the block; two ghost resources that record the
-    -- value of the block.
+    -- The context is now: all slots; the lifetime tokens of `T`, of `items` and of `A`; the header;
+    -- the open borrow (4 entries).
     move ! (0 ∷ 4 ∷ 5 ∷ 6 ∷ 7 ∷ 8 ∷ []) $
     closes_over E Y ! tt self y b o at long $
-    -- The borrow of the block has been closed. The proof context now holds, in this order: a ghost
-    -- resource that records the current value of the block; the borrow of the block; the lifetime
-    -- tokens of this borrow, of `T`, of `items` and of `A`.
+    -- The context is now: a ghost resource that records the current value of the block; the borrow
+    -- of the block; the lifetime tokens of this borrow, of `T`, of `items` and of `A`.
     returns ! (look_at ! 0 refl) $ free_all ! refl $
     move ! (3 ∷ 5 ∷ []) $ join ! $ move ! (4 ∷ 0 ∷ []) $ join ! $
     move ! (1 ∷ 2 ∷ 3 ∷ 0 ∷ []) $ leaves_unit E Y ! self y 2 are.0.0 $

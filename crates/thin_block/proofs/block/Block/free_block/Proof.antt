@@ -51,9 +51,8 @@ free_block_spec 𝓤 𝓛 𝓜 𝓡 wired T A LT LA g d dd met md =
     let bytes_are : bytes ≡ size_of_block = said.1.1.1.1.0 in
     let align_is : al ≡ align_of_block = said.1.1.1.1.1 in
     move ! (0 ∷ 3 ∷ []) $ block_had E Y ! x z.0.4.0 (λ b o at told fits.
-    -- The block has been split into its header and its slots. The proof context now holds, in this
-    -- order: the header; the slots; what the other arguments own; the lifetime token of the shared
-    -- reference to the allocator; the other lifetime tokens.
+    -- The context is now: the header; the slots; what the other arguments own; the lifetime token
+    -- of the shared reference to the allocator; the other lifetime tokens.
     rewrite ! 0 (λ (u : Option A.Denot). ‵ (header (t E Y) Rt x.len cap u b o))
     from refl $ move ! (1 ∷ []) $
     rewrite ! 0 (λ (ys : List (Option T.Denot)). ‵ (slots_own Rt ys b (o + 16))) bare refl $
@@ -62,9 +61,8 @@ free_block_spec 𝓤 𝓛 𝓜 𝓡 wired T A LT LA g d dd met md =
     use2 𝓛 (‵ (froom τ b o) ⊛ ‵ (token Y h τ (block_ptr b o)))
     (gather 𝓛 E b cap o (token Y h) x.len) $ split ! $ move ! (2 ∷ []) $ fsplit ! $ fsplit ! $
     drop ! $ keep ! (2 ∷ 3 ∷ 0 ∷ 4 ∷ 5 ∷ []) $
-    -- The parts of the block have been joined. The proof context now holds, in this order: the
-    -- memory of the whole block; the right to free it; the reference to the allocator; the lifetime
-    -- token of this reference; the other lifetime tokens.
+    -- The context is now: the memory of the whole block; the right to free it; the reference to the
+    -- allocator; the lifetime token of this reference; the other lifetime tokens.
     let short = (fits_tells Rt cap fits).short in
     let sixteen = (rounded Rt 0).most in
     let sized : capped (size τ) ≡ bytes = ap capped (asked_size Rt cap)

@@ -5,8 +5,6 @@ use Rattle.thin_block.proofs.SlotsLemmas.{packed-grown}
 use Rattle.thin_block.proofs.ResultLemmas.{on-ok}
 use Rattle.thin_block.proofs.block.Block.grow.Goals as goal
 
--- If `grow` succeeds, the list of slots after the call consists of the slots before the call,
--- followed by empty slots.
 pub returns-clause-ok : goal.returns-clause-ok
 returns-clause-ok g c =
     let larger = c.requires.cap_grows in

@@ -24,9 +24,8 @@ len_spec 𝓤 𝓛 𝓜 𝓡 wired T A LT LA g d dd met md =
     let rb : ℕ = z.0.3.0.ref_ptr.0 in let ro : ℕ = z.0.3.0.ref_ptr.1 in
     seen E Y 𝓛 (others ps) z.0 ((c z.0.0 z.0.3).requires z.1) (
     block_seen E Y ! x rb ro (λ b o at small. keep ! (0 ∷ 4 ∷ 2 ∷ 5 ∷ []) $
-    -- The shared reference to the block has been split into shared references to its parts. The
-    -- proof context now holds, in this order: the reference to the pointer; the lifetime token of
-    -- the reference to the block; the reference to the length; the other lifetime tokens.
+    -- The context is now: the reference to the pointer; the lifetime token of the reference to the
+    -- block; the reference to the length; the other lifetime tokens.
     enters ! fn (vptr rb ro ∷ []) (λ k. are.0.0 k ++ []) $
     alloc_all ! (λ l. pass_all ! refl ((tt, tt), tt) $
     pointer_in ! tt x.at b o at rb (ro + 0) (λ q₀.

@@ -59,11 +59,8 @@ move_disjoint_spec 𝓤 𝓛 𝓜 𝓡 wired T A LT LA g d dd met md =
     let Before : Fml = Was E 𝓛 b (o + 16) x.slots from to k xs items.1 long in
     move ! (1 ∷ []) $ use1 𝓛 (‵ Before ⊛ ‵ p.Rest) p.out $ split ! $ fsplit ! $ move ! (8 ∷ []) $
     token_out ! 1 z.0.0.1 z.0.1.1 $ move ! (2 ∷ 3 ∷ 0 ∷ []) $
-    -- The old slots and the new slots of the items have been separated from the other slots. The
-    -- proof context now holds, in this order: the items in their old slots; the empty new slots;
-    -- the lifetime tokens of `T` and `A`; the other slots; the header; the block's pointer; the
-    -- right to close the borrow of the block; two ghost resources that record the value of the
-    -- block.
+    -- The context is now: the items in their old slots; the empty new slots; the lifetime tokens of
+    -- `T` and `A`; the other slots; the header; the open borrow (4 entries).
     let G = Copies T 𝓛 𝓜.mem 𝓡.returns in
     let y₀ : G.Ghost = at_copies T 𝓛 𝓜.mem 𝓡.returns κ₁ q₁ b src b dst k xs in
     use3 𝓛 (raw (G.pre y₀)) (Copies-goes T 𝓛 𝓜.mem 𝓡.returns κ₁ q₁ b src b dst k xs lives fk light)

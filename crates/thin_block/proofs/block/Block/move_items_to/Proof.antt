@@ -123,10 +123,8 @@ move_items_to_spec 𝓤 𝓛 𝓜 𝓡 wired T A LT LA g d dd met md =
     let En : Env 𝓤 H = env fn.locals l in
     block_opens E Y ! tt x rb ro (λ b o at fits. move ! (6 ∷ 7 ∷ 8 ∷ []) $
     block_opens E Y ! tt y sb so (λ b' o' at' fits'.
-    -- The proof has split both blocks into their parts. The proof context now holds, in this order:
-    -- the header, the slots, the memory that stores the pointer, the right to close the borrow, and
-    -- two ghost resources of `other`; the same six entries for `self`; the lifetime tokens of
-    -- `T` and `A`.
+    -- The context is now: the header, the slots and the open borrow (4 entries) of `other`; the
+    -- same six entries for `self`; the lifetime tokens of `T` and `A`.
     let src : ℕ = from * s + (o + 16) in
     let dst : ℕ = to * s + (o' + 16) in
     let light : k * s < 2 ^ 63 = reach (R E) k (length x.slots) fits (omega arith) in
@@ -147,11 +145,9 @@ move_items_to_spec 𝓤 𝓛 𝓜 𝓡 wired T A LT LA g d dd met md =
     (run_out E 𝓛 b (o + 16) x.slots from k source (filled_slots xs) items.1) $ split ! $
     use1 𝓛 (‵ (part_at (Array (R E) k) full_share xs b src)) (to_items E 𝓛 b k xs src long) $
     move ! (0 ∷ 2 ∷ []) $ move ! (14 ∷ []) $ split ! $ move ! (2 ∷ 3 ∷ 0 ∷ []) $
-    -- The proof has separated the items in `self` and their new slots in `other` from all other
-    -- slots. The proof context now holds, in this order: the items; the empty new slots; the
-    -- lifetime tokens of `T` and `A`; the other slots of `self`; the other slots of `other`;
-    -- five entries for `other` (its header, the memory that stores its pointer, the right to
-    -- close its borrow, and two ghost resources); the same five entries for `self`.
+    -- The context is now: the items; their empty new slots; the lifetime tokens of `T` and `A`; the
+    -- other slots of `self`; the other slots of `other`; the header and the open borrow of `other`
+    -- (5 entries); the same for `self`.
     let G = Copies T 𝓛 𝓜.mem 𝓡.returns in
     let y₀ : G.Ghost = at_copies T 𝓛 𝓜.mem 𝓡.returns κ₂ q₂ b src b' dst k xs in
     use3 𝓛 (raw (G.pre y₀)) (Copies-goes T 𝓛 𝓜.mem 𝓡.returns κ₂ q₂ b src b' dst k xs lives fk light)
@@ -167,11 +163,8 @@ move_items_to_spec 𝓤 𝓛 𝓜 𝓡 wired T A LT LA g d dd met md =
     lands_last ! refl (subst (λ (u : Val). Holds (has_ty ty_unit u) × WT u) (sym e) (tt, tt)) $
     exec ! 𝓣.C 𝓣.Λ En (after 3 fn.body) (at_ret En Post) $
     sets ! (of_opd ! (unit_lit !)) refl (tt, tt) $
-    -- The function has copied the items to their new address. The proof context now holds, in this
-    -- order: the items at their new address; the memory at their old address; the lifetime tokens
-    -- of `T` and `A`; the other slots of `self`; the other slots of `other`; the header, the
-    -- memory that stores the pointer, the right to close the borrow, and two ghost resources of
-    -- `other`; the same five entries for `self`.
+    -- The context now begins with the items at their new address and the memory at their old
+    -- address.
     let laid_to : List (Option T.Denot) = write_slots to (filled_slots xs) y.slots in
     let long_full : length (filled_slots xs) ≡ k = length-map xs Some ∙ long in
     let long_to : length laid_to ≡ length y.slots =
@@ -184,11 +177,9 @@ move_items_to_spec 𝓤 𝓛 𝓜 𝓡 wired T A LT LA g d dd met md =
     move ! (5 ∷ 0 ∷ 6 ∷ 7 ∷ 8 ∷ 9 ∷ []) $
     rewrite ! 0 (λ (n : ℕ). ‵ (header (t E Y) (R E) y.len n y.alloc b' o')) (sym long_to) refl $
     block_closes E Y ! tt y' b' o' sb so at' $
-    -- The borrow of `other` has been closed. The proof context now holds, in this order: a ghost
-    -- resource that records the value of `other`; the borrow of `other`; the lifetime token
-    -- of this borrow; the memory at the old address of the items; the lifetime tokens of `T` and
-    -- `A`; the other slots of `self`; and five entries that together describe the header and the
-    -- open borrow of `self`.
+    -- The context is now: a ghost resource that records the value of `other`; the borrow of `other`
+    -- and its lifetime token; the memory at the old address of the items; the lifetime tokens of
+    -- `T` and `A`; the other slots of `self`; the header and the open borrow of `self` (5 entries).
     let left : List (Option T.Denot) = clear_slots from k x.slots in
     let long_empty : length (empty_slots {T = T.Denot} k) ≡ k = length-replicate k None in
     let long_left : length left ≡ length x.slots =
@@ -200,10 +191,9 @@ move_items_to_spec 𝓤 𝓛 𝓜 𝓡 wired T A LT LA g d dd met md =
     move ! (6 ∷ 0 ∷ 7 ∷ 8 ∷ 9 ∷ 10 ∷ []) $
     rewrite ! 0 (λ (n : ℕ). ‵ (header (t E Y) (R E) x.len n x.alloc b o)) (sym long_left) refl $
     block_closes E Y ! tt x' b o rb ro at $
-    -- The borrows of `other` and of `self` are now closed. The proof context now holds, in this
-    -- order: a ghost resource that records the current value of `self`; the borrow of `self`; the
-    -- lifetime token of this borrow; the same three entries for `other`; the lifetime tokens of
-    -- `T` and `A`.
+    -- The context is now: a ghost resource that records the value of `self`; the borrow of `self`
+    -- and its lifetime token; the same three entries for `other`; the lifetime tokens of `T` and
+    -- `A`.
     returns ! (look_at ! 0 refl) $ free_all ! refl $
     feq_i ! (List Val) vss.0 (vptr rb ro ∷ []) are.0.0 $ fjoin3 ! $ move ! (2 ∷ 3 ∷ []) $
     feq_i ! (List Val) vss.1.1.0 (vptr sb so ∷ []) are.1.1.0.0 $ fjoin3 ! $

@@ -90,10 +90,8 @@ move_within_spec 𝓤 𝓛 𝓜 𝓡 wired T A LT LA g d dd met md =
     let fits_k : Fits = omega arith in
     move ! (1 ∷ []) $ use1 𝓛 (‵ Before ⊛ ‵ p.Rest) p.out $ split ! $ move ! (7 ∷ []) $
     token_out ! 1 z.0.0.1 z.0.1.1 $ move ! (2 ∷ 0 ∷ []) $
-    -- The items and the empty slots next to them have been separated from the other slots. The
-    -- proof context now holds, in this order: the items and the empty slots; the lifetime tokens of
-    -- `T` and `A`; the other slots; the header; the block's pointer; the right to close the borrow
-    -- of the block; two ghost resources that record the value of the block.
+    -- The context is now: the items with the empty slots next to them; the lifetime tokens of `T`
+    -- and `A`; the other slots; the header; the open borrow (4 entries).
     let G = triple_of 𝓛 (slide.signature T) (slide.spec T 𝓛 𝓜.mem 𝓡.returns) in
     let y₀ : G.Ghost = (
       (
@@ -125,8 +123,7 @@ move_within_spec 𝓤 𝓛 𝓜 𝓡 wired T A LT LA g d dd met md =
     feq_l ! (λ e. move ! (1 ∷ []) $
     pick ! (λ ws. split ! $ drop ! $ move ! (1 ∷ []) $ split ! $ move ! (1 ∷ []) $
     drop ! $ move ! (1 ∷ 0 ∷ []) $
-    -- The call to `copy_overlapping` has moved the items. The proof context now begins with the
-    -- moved items and the slots that are now empty, followed by the lifetime tokens of `T` and `A`.
+    -- The context now begins with the moved items and the empty slots that they left.
     lands_last ! refl (subst (λ (u : Val). Holds (has_ty ty_unit u) × WT u)
     (sym (ap only e)) (tt, tt)) $
     continues ! 𝓜 𝓡 fn l 2 ((walk_of 𝓛 En₀ hs c).post z) $

@@ -46,11 +46,8 @@ put_and_set_len_spec 𝓤 𝓛 𝓜 𝓡 wired T A LT LA g d dd met md =
     slot_found E ! b o i fm refl ((tt, tt), (tt, tt)) $
     takes_slot E ! b (o + 16) x.slots i within said.1.1.1.0 $
     use1 𝓛 (‵ (froom (layout T) b here)) (𝓛.laws.raw-room (layout T) b here) $
-    -- The empty slot has been separated from the other slots. The proof context now holds, in this
-    -- order: memory for the item; the other slots; the header; the block's pointer; the right to
-    -- close the borrow of the block, with the lifetime token of this borrow; two ghost resources
-    -- that record the value of the block; the other lifetime tokens; the resources that the item
-    -- owns.
+    -- The context is now: memory for the item; the other slots; the header; the open borrow (4
+    -- entries); the other lifetime tokens; the resources that the item owns.
     sets ! (of_opd ! (get ! refl)) refl good $
     assigns ! (of_opd ! (get ! refl)) (through ! refl (stop !)) (init ! 0 refl good) $
     move ! (0 ∷ 8 ∷ []) $
@@ -65,11 +62,8 @@ put_and_set_len_spec 𝓤 𝓛 𝓜 𝓡 wired T A LT LA g d dd met md =
     (uint_out 𝓛 full_share w64 x.len b (o + 8)) $
     rewrite ! 0 (λ (k : ℕ). ‵ (fat full_share (ty_int w64) b k (vint w64 x.len)))
     (let turned : o + 8 ≡ 8 + o = omega arith in turned) refl $
-    -- The filled slot has been joined with the other slots, and the header has been split. The
-    -- proof context now holds, in this order: the length; the rest of the header, which includes
-    -- the right to free the block; the capacity; the slots; the block's pointer; the right to close
-    -- the borrow of the block, with the lifetime token of this borrow; two ghost resources that
-    -- record the value of the block; the other lifetime tokens.
+    -- The context is now: the length; the rest of the header, which includes the right to free the
+    -- block; the capacity; the slots; the open borrow (4 entries); the other lifetime tokens.
     sets ! (bin ! (get ! refl) (lit ! tt) tt) refl (tt, tt) $
     assigns_last ! (of_opd ! (get ! refl)) (through ! refl (stop !))
     (store ! 0 refl (tt, record { fits = fl })) $

@@ -60,11 +60,8 @@ put_array_spec 𝓤 𝓛 𝓜 𝓡 wired T A N LT LA fits_N g d dd met md =
     (empty-run x.slots i N within bare)) $
     split ! $
     use1 𝓛 (‵ (froom (ty_array (layout T) N) b here)) (to_room E 𝓛 b N here) $
-    -- The empty slots have been separated from the other slots, and serve as the memory for the
-    -- array. The proof context now holds, in this order: the memory for the array; the other slots;
-    -- the header; the block's pointer; the right to close the borrow of the block, with the
-    -- lifetime token of this borrow; two ghost resources that record the value of the block; the
-    -- other lifetime tokens; the resources that the array owns.
+    -- The context is now: memory for the array; the other slots; the header; the open borrow (4
+    -- entries); the other lifetime tokens; the resources that the array owns.
     sets ! (of_opd ! (get ! refl)) refl good $
     assigns_last ! (of_opd ! (get ! refl)) (through ! refl (stop !)) (init ! 0 refl good) $
     continues ! 𝓜 𝓡 fn l 2 ((walk_of 𝓛 En₀ hs c).post z) $

@@ -7,14 +7,12 @@ use Rattle.thin_block.specs.Slots.{empty_slots, clear_slots}
 use Rattle.thin_block.proofs.SlotsLemmas.{packed-filled, packed-emptied}
 use Rattle.thin_block.proofs.block.Block.resize.Goals as goal
 
--- The items fill the first slots of the old block.
 pub move_items_to-requires-clause-filled : goal.move_items_to-requires-clause-filled
 move_items_to-requires-clause-filled g c =
     let len = c.requires.len in
     λ i p q. packed-filled c.args.self.now.slots c.args.self.now.len c.requires.packed i
     (omega arith)
 
--- When `free_block` frees the old block, all slots of the block are empty.
 pub free_block-requires-clause-empty : goal.free_block-requires-clause-empty
 free_block-requires-clause-empty g c =
     let old = c.args.self.now.slots in

@@ -45,8 +45,8 @@ resize_words_spec 𝓤 𝓛 𝓜 𝓡 wired T A m k LT LA fits_m fits_k g d dd m
     let H = 𝓛.H in
     let E : El = record { row = T; laws = LT } in
     let W : El = word_el T LT m in
-    -- `X` is the type of a word, together with its memory layout. The function calls
-    -- `grow_or_shrink` with `X` as the type argument.
+    -- `X` is the type argument of the call to `grow_or_shrink`: the type of a word, with its
+    -- layout.
     let X : RattleType = arg (word_of (layout T) m) yes W.row in
     let EX : El = record {
       row = X;
@@ -126,8 +126,7 @@ resize_words_spec 𝓤 𝓛 𝓜 𝓡 wired T A m k LT LA fits_m fits_k g d dd m
     let held_is : held ≡ k + div_ceil old m = said.1.1.1.1.1.1.1.1.1.1.1.1.0 in
     let wanted_is : wanted ≡ k + div_ceil cap m = said.1.1.1.1.1.1.1.1.1.1.1.1.1.0 in
     let room : k ≤ count = said.1.1.1.1.1.1.1.1.1.1.1.1.1.1 in
-    -- These facts relate the sizes of items, words and the header. One word is as large as `m`
-    -- items, and `k` words take 16 bytes, which is the size of the header.
+    -- One word is as large as `m` items, and `k` words take 16 bytes, as the header does.
     let hd : InWords (type_size Rt) (type_align Rt) m k = words_told Rt m k in_words in
     let sixteen : k * s ≡ 16 = ap (λ (n : ℕ). k * n) hd.size ∙ hd.room in
     let items : List T.Denot = items_in x.slots in
@@ -157,9 +156,8 @@ resize_words_spec 𝓤 𝓛 𝓜 𝓡 wired T A m k LT LA fits_m fits_k g d dd m
     let row : x.slots ≡ filled_slots items ++ empty_slots j = packed.row
     ∙ (λ i. filled_slots items ++ empty_slots
     (let e : length x.slots - length items ≡ j = omega arith in e i)) in
-    -- The items form `count` words. The list `xss` contains, for each word, the list of its items.
-    -- The list `ws` contains all words, the list `ys` contains the last `k` words, and the list
-    -- `xs` contains the words before them.
+    -- The items form `count` words, `ws`, and `xss` lists the items of each. `ys` are the last `k`
+    -- words, and `xs` are the words before them.
     let xss : List (List T.Denot) = first_chunks m count items in
     let ws : List W.row.Denot = words_made T m count items in
     let many : length ws ≡ count = words_long T m count items in
@@ -170,9 +168,8 @@ resize_words_spec 𝓤 𝓛 𝓜 𝓡 wired T A m k LT LA fits_m fits_k g d dd m
     let joined : ws ≡ xs ++ ys = sym (take-append-drop (count - k) ws) in
     split ! $ split3 ! $ move ! (2 ∷ []) $ split3 ! $ move ! (5 ∷ []) $ fsplit ! $
     block_had E Y ! x vss.0 (λ b o at told fits.
-    -- The block has been split into its header and its slots. The proof context now holds, in this
-    -- order: the header; the slots; what the other arguments own; the lifetime tokens of `A`, `M`
-    -- and `K`, of the shared reference to the allocator, and of `T`.
+    -- The context is now: the header; the slots; what the other arguments own; the lifetime tokens
+    -- of `A`, `M` and `K`, of the shared reference to the allocator, and of `T`.
     let here : Ptr = block_ptr b o in
     let there : ℕ = count * s + o in
     let same_bytes : count * s ≡ len * type_size Rt = ap (λ (n : ℕ). count * n) hd.size
@@ -200,11 +197,10 @@ resize_words_spec 𝓤 𝓛 𝓜 𝓡 wired T A m k LT LA fits_m fits_k g d dd m
     (words_in 𝓛 T LT m k b hd items count j v w old (o + 16) whole_words slots_are fill
     (hd.counts.covers old)) $ split ! $ move ! (4 ∷ []) $ fsplit ! $ fsplit ! $ drop ! $
     keep ! (2 ∷ 3 ∷ 4 ∷ 5 ∷ 0 ∷ 9 ∷ 10 ∷ 6 ∷ 7 ∷ 8 ∷ []) $
-    -- The proof has split the slots into the items and the empty slots. From here on, the memory of
-    -- the empty slots is a sequence of uninitialized words, which are called the empty words below.
-    -- The proof context now holds, in this order: the items; the empty words; memory for the
-    -- header; the right to free the block; the shared reference to the allocator; the lifetime
-    -- tokens of this reference and of `T`, `A`, `M` and `K`.
+    -- The empty slots are now a sequence of uninitialized words, called the empty words below. The
+    -- context is now: the items; the empty words; memory for the header; the right to free the
+    -- block; the shared reference to the allocator; the lifetime tokens of this reference and of
+    -- `T`, `A`, `M` and `K`.
     regoal ! (λ (us : List Val). prop (WpFn 𝓤 H C Λ fn us Post))
     (λ i. told i ++ (are.1.0.0 i ++ (are.1.1.0.0 i ++ (are.1.1.1.0.0 i ++ (are.1.1.1.1.0.0 i
     ++ (are.1.1.1.1.1.0.0 i ++ (are.1.1.1.1.1.1.0.0 i ++ (are.1.1.1.1.1.1.1.0.0 i ++ []))))))))
@@ -240,8 +236,8 @@ resize_words_spec 𝓤 𝓛 𝓜 𝓡 wired T A m k LT LA fits_m fits_k g d dd m
     (ap (vptr b) (let plus : 16 + o ≡ o + 16 = omega arith in plus))) refl (tt, tt) $
     sets ! (of_opd ! (get ! refl)) refl (tt, tt) $
     move ! (0 ∷ 6 ∷ 8 ∷ []) $
-    -- The next step is the call to `make_words`. The proof context begins with the items, the
-    -- lifetime token of `T`, and the lifetime token of `M`.
+    -- The context begins with what the call to `make_words` needs: the items, and the lifetime
+    -- tokens of `T` and `M`.
     let G = triple_of 𝓛 (make.signature T Mr) (make.spec T Mr 𝓛 𝓜.mem 𝓡.returns) in
     let y₀ : G.Ghost = (
       (
@@ -276,10 +272,9 @@ resize_words_spec 𝓤 𝓛 𝓜 𝓡 wired T A m k LT LA fits_m fits_k g d dd m
     await ! tt $ pick ! (λ r₀. split ! $ split ! $ move ! (1 ∷ []) $ feq_l ! (λ is_unit.
     move ! (1 ∷ []) $ pick ! (λ us₀. split ! $ drop ! $
     lands_as ! (ap only is_unit) refl (tt, tt) $ move ! (0 ∷ 2 ∷ []) $
-    -- The call to `make_words` has converted the items into words. The proof context now holds, in
-    -- this order: the words; the empty words; the lifetime tokens of `T` and `M`; memory for the
-    -- header; the right to free the block; the shared reference to the allocator and its lifetime
-    -- token; the lifetime tokens of `A` and `K`.
+    -- The context is now: the words; the empty words; the lifetime tokens of `T` and `M`; memory
+    -- for the header; the right to free the block; the shared reference to the allocator and its
+    -- lifetime token; the lifetime tokens of `A` and `K`.
     use2 𝓛 (‵ (slots_own Rw (filled_slots ws ++ empty_slots v) b (o + 16)))
     (words_joined 𝓛 T LT m k b hd items count j v w old (o + 16) whole_words slots_are fill
     (hd.counts.covers old)) $
@@ -291,15 +286,12 @@ resize_words_spec 𝓤 𝓛 𝓜 𝓡 wired T A m k LT LA fits_m fits_k g d dd m
     (slots_own Rw (empty_slots v) b (k * s + there)))
     (turn_out 𝓛 W b k sixteen o xs ys long count v parted)
     $ split3 ! $ move ! (3 ∷ []) $ split3 ! $ move ! (2 ∷ []) $ drop ! $
-    -- The last `k` words have been separated from the earlier words. The proof context now holds,
-    -- in this order: the lifetime tokens of `T` and `M`; the earlier words; the last `k` words; the
-    -- empty words; memory for the header; the right to free the block; the shared reference to the
-    -- allocator and its lifetime token; the lifetime tokens of `A` and `K`.
+    -- The context is now: the lifetime tokens of `T` and `M`; the earlier words; the last `k`
+    -- words; the empty words; and the other entries as before.
     move ! (1 ∷ 10 ∷ []) $ join ! $ move ! (9 ∷ 0 ∷ []) $ join ! $
     move ! (3 ∷ 2 ∷ 4 ∷ 5 ∷ 6 ∷ 7 ∷ 8 ∷ 1 ∷ 0 ∷ []) $
-    -- The proof has reordered the entries of the proof context. The proof context now holds, in
-    -- this order: the last `k` words; the words before them; the empty words; memory for the
-    -- header; the right to free the block; the shared reference to the allocator; the lifetime
+    -- The context is now: the last `k` words; the words before them; the empty words; memory for
+    -- the header; the right to free the block; the shared reference to the allocator; the lifetime
     -- tokens of this reference and of `T`; the lifetime tokens of `A`, `M` and `K`.
     use1 𝓛 (exists (λ (u : Val). ‵ (fat full_share (ty_array ω k) b there u) ⊛ ‵
     (Arr.own_val ys (u ∷ [])))) (part_out 𝓛 (Array Rw k) refl full_share ys b there) $
@@ -317,18 +309,16 @@ resize_words_spec 𝓤 𝓛 𝓜 𝓡 wired T A m k LT LA fits_m fits_k g d dd m
     move ! (1 ∷ []) $
     sets ! (of_opd ! (load ! (through ! refl (stop !)) (look ! 0 refl))) refl good $
     assigns ! (of_opd ! (get ! refl)) (through ! refl (stop !)) (init ! 4 refl good) $
-    -- The function has copied the bytes of the last `k` words into the memory of the header. The
-    -- proof context now holds, in this order: the bytes at the old address of these words; the
-    -- resources that these words own; the words before them; the empty words; the copied bytes in
-    -- the memory of the header; the right to free the block; the shared reference to the allocator;
-    -- the lifetime tokens.
+    -- The bytes of the last `k` words have been copied to the header. The context is now: these
+    -- bytes at their old address; the resources that these words own; the words before them; the
+    -- empty words; the copied bytes; the right to free the block; the reference to the allocator;
+    -- the tokens.
     use1 𝓛 (‵ (froom (ty_array ω k) b there)) (𝓛.laws.at_room (ty_array ω k) b there u₁) $
     move ! (4 ∷ 1 ∷ []) $ use2 𝓛 (‵ (part_at (Array Rw k) full_share ys b o))
     (part_in 𝓛 (Array Rw k) refl full_share ys b o u₁) $
-    -- The last `k` words are now in the memory of the header. The proof context now holds, in this
-    -- order: the last `k` words; uninitialized memory at the old address of these words; the words
-    -- before them; the empty words; the right to free the block; the shared reference to the
-    -- allocator; the lifetime tokens.
+    -- The context is now: the last `k` words, in the memory of the header; uninitialized memory at
+    -- their old address; the words before them; the empty words; the right to free the block; the
+    -- shared reference to the allocator; the lifetime tokens.
     move ! (0 ∷ 2 ∷ 1 ∷ 3 ∷ 4 ∷ []) $ group ! 5 $
     use1 𝓛 (‵ (block_with_items tok Rw here count held (ys ++ xs)))
     (turn_up 𝓛 W b k sixteen o xs ys long count v parted tok w held filled held_is) $
@@ -363,13 +353,11 @@ resize_words_spec 𝓤 𝓛 𝓜 𝓡 wired T A m k LT LA fits_m fits_k g d dd m
     (flft κA z.0.1.1.1.0)))
     (Resizing-gives EX Y 𝓛 𝓜.mem 𝓡.returns κ κT κA q qT z.0.1.1.1.0 z.0.2.0 handle_at h b o count
     held wanted (ys ++ xs) u) $ await ! tt $ split ! $ move ! (1 ∷ []) $ split3 ! $
-    -- `grow_or_shrink` has returned. The proof context now holds, in this order: the lifetime
-    -- tokens of the allocator reference, of `T` and of `A`; the result of `grow_or_shrink`; the
-    -- lifetime tokens of `M` and `K`.
+    -- The context is now: the lifetime tokens of the allocator reference, of `T` and of `A`; the
+    -- result of `grow_or_shrink`; the lifetime tokens of `M` and `K`.
     move ! (2 ∷ 4 ∷ []) $ join ! $ move ! (2 ∷ 0 ∷ []) $ join ! $ move ! (1 ∷ 0 ∷ []) $ join ! $
     move ! (1 ∷ []) $
-    -- The proof has joined the lifetime tokens into one entry. The proof context now holds, in this
-    -- order: the resources that `grow_or_shrink` has returned; the lifetime tokens.
+    -- The context is now: the resources that `grow_or_shrink` has returned; the lifetime tokens.
     let inner : Body = inside (head (after 1 fn.body)) in
     let both : Body = head (after 12 inner) in
     let Last : After 𝓤 H = out_of_block 𝓛
@@ -424,11 +412,10 @@ resize_words_spec 𝓤 𝓛 𝓜 𝓡 wired T A m k LT LA fits_m fits_k g d dd m
     let good' = (((array_at_laws 3 Rw (param_laws 0 W.row W.laws) k).lawful 𝓛).typed ys (u₂ ∷ [])
     is_u₂).0 in
     move ! (1 ∷ []) $
-    -- The call to `grow_or_shrink` has succeeded, and the proof has split the returned array into
-    -- the last `k` words, the preceding words and the empty words. The proof context now holds, in
-    -- this order: the bytes of the last `k` words, in the memory of the header; the resources that
-    -- the last `k` words own; uninitialized memory directly after the preceding words; the empty
-    -- words; the right to free the block; the preceding words; the lifetime tokens.
+    -- The call has succeeded. The context is now: the bytes of the last `k` words, in the memory of
+    -- the header; the resources that these words own; uninitialized memory after the preceding
+    -- words; the empty words; the right to free the block; the preceding words; the lifetime
+    -- tokens.
     sets ! (of_opd ! (load ! (through ! refl (stop !)) (look ! 0 refl))) refl good' $
     assigns ! (of_opd ! (get ! refl)) (through ! refl (stop !)) (init ! 2 refl good') $
     use1 𝓛 (‵ (froom (ty_array ω k) b' o')) (𝓛.laws.at_room (ty_array ω k) b' o' u₂) $
@@ -453,12 +440,10 @@ resize_words_spec 𝓤 𝓛 𝓜 𝓡 wired T A m k LT LA fits_m fits_k g d dd m
     exec ! C Λ En (after 2 fn.body) (at_ret En Post) $
     sets ! (of_opd ! (get ! refl)) refl (tt, (record { fits = lit< tt }, (words, tt))) $
     returns ! (look_at ! 0 refl) $ free_all ! refl $
-    -- The call to `grow_or_shrink` has succeeded. The function has copied the bytes of the last `k`
-    -- words to the memory directly after the preceding words, and has written the header. The proof
-    -- context now holds, in this order: the capacity in the header; the length in the header; the
-    -- right to convert the memory of the header back into memory for words; the resources that the
-    -- last `k` words own; the bytes of these words; the empty words; the right to free the block;
-    -- the preceding words; the lifetime tokens.
+    -- The last `k` words are back behind the preceding words. The context is now: the capacity in
+    -- the header; the length in the header; the right to convert the header back into words; the
+    -- resources that the last `k` words own; the bytes of these words; the empty words; the right
+    -- to free the block; the preceding words; the lifetime tokens.
     rewrite ! 1 (λ (n : ℕ). ‵ (fat full_share (ty_int w64) b' n (vint w64 len)))
     (let turned : 8 + o' ≡ o' + 8 = omega arith in turned) refl $
     use1 𝓛 (‵ (lies_at usize full_share (block_ptr b' o') cap))
@@ -476,11 +461,9 @@ resize_words_spec 𝓤 𝓛 𝓜 𝓡 wired T A m k LT LA fits_m fits_k g d dd m
     use1 𝓛 (‵ (slots_own Rt news b' (o' + 16)) ⊛ ‵ (slots_wand τ' m w' cap b' (o' + 16)))
     (words_back 𝓛 T LT m k b' hd items count j' v' w' cap (o' + 16) whole_words slots_are' fill'
     (hd.counts.covers cap)) $ split ! $
-    -- The call to `grow_or_shrink` has succeeded. The proof has converted the filled words into
-    -- filled slots, and the empty words into empty slots. The proof context now holds, in this
-    -- order: the slots; the right to convert the memory of the slots back into memory for words;
-    -- the length; the capacity; the right to convert the memory of the header back into memory for
-    -- words; the right to free the block; the lifetime tokens.
+    -- The context is now: the slots; the right to convert them back into words; the length; the
+    -- capacity; the right to convert the header back into words; the right to free the block; the
+    -- lifetime tokens.
     move ! (3 ∷ 2 ∷ 4 ∷ 1 ∷ 5 ∷ []) $ group ! 5 $
     use1 𝓛 (‵ (header_owns tok Rt len cap b' o'))
     (header_whole 𝓛 T LT b' m k in_words o' tok len cap wanted wanted_is fits_cap) $
@@ -513,12 +496,8 @@ resize_words_spec 𝓤 𝓛 𝓜 𝓡 wired T A m k LT LA fits_m fits_k g d dd m
     let good' = (((array_at_laws 3 Rw (param_laws 0 W.row W.laws) k).lawful 𝓛).typed ys (u₂ ∷ [])
     is_u₂).0 in
     move ! (1 ∷ []) $
-    -- The call to `grow_or_shrink` has failed. The proof has split the old array into three parts:
-    -- the words before the last `k` words, the last `k` words, and the empty words. The proof
-    -- context now holds, in this order: the bytes of the last `k` words, in the memory of the
-    -- header; the resources that the last `k` words own; the uninitialized memory directly after
-    -- the first part; the empty words; the right to free the block; the words of the first part;
-    -- the lifetime tokens.
+    -- The call has failed. From here on, the steps and the context are as in the case of success,
+    -- with the old address and the old capacity.
     sets ! (of_opd ! (load ! (through ! refl (stop !)) (look ! 0 refl))) refl good' $
     assigns ! (of_opd ! (get ! refl)) (through ! refl (stop !)) (init ! 2 refl good') $
     use1 𝓛 (‵ (froom (ty_array ω k) b o)) (𝓛.laws.at_room (ty_array ω k) b o u₂) $
@@ -542,12 +521,6 @@ resize_words_spec 𝓤 𝓛 𝓜 𝓡 wired T A m k LT LA fits_m fits_k g d dd m
     exec ! C Λ En (after 2 fn.body) (at_ret En Post) $
     sets ! (of_opd ! (get ! refl)) refl (tt, (record { fits = lit< tt }, (words, tt))) $
     returns ! (look_at ! 0 refl) $ free_all ! refl $
-    -- The call to `grow_or_shrink` has failed. After this call, `resize_words` has copied the bytes
-    -- of the last `k` words to the memory directly after the preceding words, and has written the
-    -- header. The proof context now holds, in this order: the capacity in the header; the length in
-    -- the header; the right to convert the memory of the header back into memory for words; the
-    -- resources that the last `k` words own; the bytes of these words; the empty words; the right
-    -- to free the block; the preceding words; the lifetime tokens.
     rewrite ! 1 (λ (n : ℕ). ‵ (fat full_share (ty_int w64) b n (vint w64 len)))
     (let turned : 8 + o ≡ o + 8 = omega arith in turned) refl $
     use1 𝓛 (‵ (lies_at usize full_share (block_ptr b o) old)) (uint_in 𝓛 full_share w64 old b o) $
@@ -565,11 +538,6 @@ resize_words_spec 𝓤 𝓛 𝓜 𝓡 wired T A m k LT LA fits_m fits_k g d dd m
     (slots_wand τ' m w old b (o + 16)))
     (words_back 𝓛 T LT m k b hd items count j v w old (o + 16) whole_words slots_are fill
     (hd.counts.covers old)) $ split ! $
-    -- The call to `grow_or_shrink` has failed. The proof has converted the filled words into filled
-    -- slots, and the empty words into empty slots. The proof context now holds, in this order: the
-    -- slots; the right to convert the memory of the slots back into memory for words; the length;
-    -- the capacity; the right to convert the memory of the header back into memory for words; the
-    -- right to free the block; the lifetime tokens.
     move ! (3 ∷ 2 ∷ 4 ∷ 1 ∷ 5 ∷ []) $ group ! 5 $
     use1 𝓛 (‵ (header_owns tok Rt len old b o))
     (header_whole 𝓛 T LT b m k in_words o tok len old held held_is fits_old) $

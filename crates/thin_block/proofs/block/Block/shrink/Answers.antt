@@ -8,15 +8,13 @@ use Rattle.thin_block.proofs.SlotsLemmas.{packed-shrunk}
 use Rattle.thin_block.proofs.ResultLemmas.{on-ok}
 use Rattle.thin_block.proofs.block.Block.shrink.Goals as goal
 
--- A block of the new capacity is small enough to be allocated, because the new capacity is less
--- than the old capacity.
+-- A block of the new capacity fits, because the new capacity is less than the old capacity.
 pub resize-requires-clause-fits : goal.resize-requires-clause-fits
 resize-requires-clause-fits g c =
     let smaller = c.requires.cap_shrinks in
     fits-less (param 0 g.row.T) c.args.cap (length c.args.self.now.slots)
     c.len-len.ensures.bounds (omega arith)
 
--- If `shrink` succeeds, the new list of slots consists of the first `cap` slots of the old block.
 pub returns-clause-ok : goal.returns-clause-ok
 returns-clause-ok g c =
     let smaller = c.requires.cap_shrinks in

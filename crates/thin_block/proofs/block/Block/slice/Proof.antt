@@ -42,10 +42,8 @@ slice_spec 𝓤 𝓛 𝓜 𝓡 wired T A LT LA g d dd met md =
     let here : ℕ = i * s + (o + 16) in
     use1 𝓛 (‵ (fhide (elements_shared (R E) xs b here κ)))
     (run_seen E 𝓛 b κ x.slots i k (o + 16) xs (omega arith) items.1) $ move ! (1 ∷ 2 ∷ 0 ∷ []) $
-    -- The shared reference to the block has been split into shared references to its parts. The
-    -- proof context now holds, in this order: the reference to the pointer; the lifetime token of
-    -- the reference to the block; the reference to the items of the slice; the other lifetime
-    -- tokens.
+    -- The context is now: the reference to the pointer; the lifetime token of the reference to the
+    -- block; the reference to the items of the slice; the other lifetime tokens.
     let fm = near E x.slots i fits (omega arith) in
     let few : k * s < 2 ^ 63 = reach (R E) k cap fits (omega arith) in
     enters ! fn (vptr rb ro ∷ vint w64 i ∷ vint w64 j ∷ [])
@@ -64,9 +62,8 @@ slice_spec 𝓤 𝓛 𝓜 𝓡 wired T A LT LA g d dd met md =
     continues ! 𝓜 𝓡 fn l 2 ((walk_of 𝓛 En₀ hs c).post z) $
     sets ! (of_opd ! (get ! refl)) refl (tt, (tt, (record { fits = omega arith }, tt))) $
     returns ! (look_at ! 0 refl) $ free_all ! refl $ move ! (1 ∷ []) $
-    -- The function is about to return. The proof context now holds, in this order: the shared
-    -- reference to the items of the slice; the lifetime token of the shared reference to the block;
-    -- the other lifetime tokens.
+    -- The context is now: the reference to the items of the slice; the lifetime token of the
+    -- reference to the block; the other lifetime tokens.
     flt_i ! (length xs * s) (2 ^ 63) (subst (λ (n : ℕ). n * s < 2 ^ 63) (sym long) few) $
     flt_i ! (length xs) (2 ^ 64) (subst (λ (n : ℕ). n < 2 ^ 64) (sym long) (omega arith)) $
     fjoin ! $

@@ -65,10 +65,8 @@ slice_mut_spec 𝓤 𝓛 𝓜 𝓡 wired T A LT LA g d dd met md =
     (‵ (slots_own (R E) (filled_slots xs) b here) ⊛ ‵ (around E 𝓛 b (o + 16) x.slots i k))
     (run_out E 𝓛 b (o + 16) x.slots i k (omega arith) (filled_slots xs) items.1) $ split ! $
     use1 𝓛 (‵ (cells (mem (R E)) xs b here)) (to_cells E 𝓛 b xs here) $
-    -- The slots of the slice have been separated from the other slots. The proof context now holds,
-    -- in this order: the items of the slice; the other slots; the header; the block's pointer; the
-    -- right to close the borrow of the block, with the lifetime token of this borrow; two ghost
-    -- resources that record the value of the block; the other lifetime tokens.
+    -- The context is now: the items of the slice; the other slots; the header; the open borrow (4
+    -- entries); the other lifetime tokens.
     let Rest : Fml = fsep (around E 𝓛 b (o + 16) x.slots i k)
     (Waiting E Y 𝓛 x b o r.ref_ptr.0 r.ref_ptr.1 at) in
     let Back : List T.Denot → Type 1 =
@@ -89,9 +87,8 @@ slice_mut_spec 𝓤 𝓛 𝓜 𝓡 wired T A LT LA g d dd met md =
     b here γ xs small (sem 𝓛 Rest)
     back ((Br E Y).coded.code x) ((Br E Y).coded.code x)) $
     await ! tt $ pick ! (λ γ'. split3 ! $ returns ! (look_at ! 0 refl) $ free_all ! refl $
-    -- The function has lent the items. The proof context now holds, in this order: the mutable
-    -- reference to the items; the lifetime token of this reference; a resource which states that
-    -- the slots will contain the final items of the slice; the other lifetime tokens.
+    -- The context is now: the mutable reference to the items; its lifetime token; a resource which
+    -- states that the slots will contain the final items of the slice; the other lifetime tokens.
     rewrite ! 0 (λ (n : ℕ). ‵
     ((MutSlice (named 0) κ (R E)).own_val
     (record { ref_ptr = (b, here); ghost_name = γ'; now = xs }) (slice_val (b, here) n ∷ [])))

@@ -37,10 +37,8 @@ slot_mut_spec 𝓤 𝓛 𝓜 𝓡 wired T A LT LA g d dd met md =
     slot_found E ! b o i fm refl ((tt, tt), (tt, tt)) $
     let here : ℕ = i * sz E + (o + 16) in
     takes_slot E ! b (o + 16) x.slots i within item.1 $
-    -- The filled slot has been separated from the other slots. The proof context now holds, in this
-    -- order: the item; the other slots; the header; the block's pointer; the right to close the
-    -- borrow of the block, with the lifetime token of this borrow; two ghost resources that record
-    -- the value of the block; the other lifetime tokens.
+    -- The context is now: the item; the other slots; the header; the open borrow (4 entries); the
+    -- other lifetime tokens.
     sets_last ! (addr ! (through ! refl (stop !))) refl (tt, tt) $
     continues ! 𝓜 𝓡 fn l 2 ((walk_of 𝓛 En₀ hs c).post z) $
     sets ! (of_opd ! (get ! refl)) refl (tt, tt) $
@@ -58,9 +56,8 @@ slot_mut_spec 𝓤 𝓛 𝓜 𝓡 wired T A LT LA g d dd met md =
     (item_back E Y 𝓛 x b o r.ref_ptr.0 r.ref_ptr.1 at i within)
     ((Br E Y).coded.code x) ((Br E Y).coded.code x) value) $
     await ! tt $ pick ! (λ γ'. split3 ! $ returns ! (look_at ! 0 refl) $ free_all ! refl $
-    -- The function has lent the item. The proof context now holds, in this order: the mutable
-    -- reference to the item; the lifetime token of this reference; a resource which states that
-    -- slot `i` will contain the final value of the item; the other lifetime tokens.
+    -- The context is now: the mutable reference to the item; its lifetime token; a resource which
+    -- states that slot `i` will contain the final value of the item; the other lifetime tokens.
     use0 𝓛 (raw (fact 𝓤 (get_or x.slots i None ≡ Some value)))
     (fact_i 𝓤 (get_or x.slots i None ≡ Some value) (emp 𝓤) item.1) $
     move ! (3 ∷ 0 ∷ []) $ join ! $

@@ -30,10 +30,8 @@ store_len_spec 𝓤 𝓛 𝓜 𝓡 wired T A LT LA g d dd met md =
     (uint_out 𝓛 full_share w64 x.len b (o + 8)) $
     rewrite ! 0 (λ (k : ℕ). ‵ (fat full_share (ty_int w64) b k (vint w64 x.len)))
     (let turned : o + 8 ≡ 8 + o = omega arith in turned) refl $
-    -- The header has been split. The proof context now holds, in this order: the length; the rest
-    -- of the header, which includes the right to free the block; the capacity; the slots; the
-    -- block's pointer; the right to close the borrow of the block, with the lifetime token of this
-    -- borrow; two ghost resources that record the value of the block; the other lifetime tokens.
+    -- The context is now: the length; the rest of the header, which includes the right to free the
+    -- block; the capacity; the slots; the open borrow (4 entries); the other lifetime tokens.
     sets ! (of_opd ! (load ! (through ! refl (fld ! refl (stop !)))
     (look_in ! 4 (sub ! 0 refl (whole !))))) refl (tt, tt) $
     first ! $ blocks ! $

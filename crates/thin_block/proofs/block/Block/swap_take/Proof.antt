@@ -1,5 +1,5 @@
--- This file proves the contract of `swap_take`. The proof first follows the proof of `swap`,
--- and then the proof of `take` for slot `j`.
+-- This file proves the contract of `swap_take`: one case for two different slots, and one case for
+-- a single slot.
 use Rattle.std.proofs.Common.{◌≡◌, ℕ, Some, None, ◌+◌, ◌*◌, ◌<◌, List, ◌∷◌, [], ◌++◌, length, refl, sym, ap, ◌∙◌, arith, w64, Option}
 use Rattle.thin_block.proofs.WalkPrelude.{set, length-set, vint, inst_fn, full_share, fat, froom, ‵, ◌$◌, !, move, use1, use2, use3, rewrite, suffices, done, stop, look, load, store, of_opd, assigns, first, blocks, returns, alloc_all, pass_all, free_all, look_at, through, sets, sets_last, get, layout, walk_of, ends_at, proved_at, R, says_all}
 use lib.Seq.{set-set}
@@ -56,12 +56,9 @@ swap_take_spec 𝓤 𝓛 𝓜 𝓡 wired T A LT LA g d dd met md =
       | inr apart ↦
           let p = two_slots E 𝓛 b (o + 16) x.slots i j apart low low' in
           takes_two E ! b (o + 16) x.slots i j p (one.1, two.1) (λ v v' good good'.
-          -- The slots `i` and `j` have been separated from the other slots. The proof context now
-          -- holds, in this order: the bytes of the item in slot `j`, and what this item owns; the
-          -- bytes of the item in slot `i`, and what this item owns; the other slots; the header;
-          -- the block's pointer; the right to close the borrow of the block, with the lifetime
-          -- token of this borrow; two ghost resources that record the value of the block; the other
-          -- lifetime tokens.
+          -- The context is now: the bytes of the item in slot `j`; what this item owns; the bytes
+          -- of the item in slot `i`; what this item owns; the other slots; the header; the open
+          -- borrow (4 entries); the other lifetime tokens.
           sets ! (of_opd ! (load ! (through ! refl (stop !)) (look ! 2 refl))) refl good $
           sets ! (of_opd ! (load ! (through ! refl (stop !)) (look ! 0 refl))) refl good' $
           assigns ! (of_opd ! (get ! refl)) (through ! refl (stop !)) (store ! 2 refl good') $
@@ -73,11 +70,9 @@ swap_take_spec 𝓤 𝓛 𝓜 𝓡 wired T A LT LA g d dd met md =
           move ! (2 ∷ 1 ∷ []) $ use2 𝓛 (‵ (slot_owns (R E) (Some two.0) b here))
           (el_in E 𝓛 b two.0 here v') $
           rewrite ! 0 (λ (c : Option T.Denot). ‵ (slot_owns (R E) c b here)) (sym two.1) refl $
-          -- The item from slot `j` is now in slot `i`, and slot `j` is empty. The proof context now
-          -- holds, in this order: slot `i`; slot `j`; the resources of the item that was in slot
-          -- `i` before the call; the other slots; the header; the block's pointer; the right to
-          -- close the borrow of the block, with the lifetime token of this borrow; two ghost
-          -- resources that record the value of the block; the other lifetime tokens.
+          -- The context is now: slot `i`, with the item from slot `j`; slot `j`, which is empty;
+          -- what the item owns that was in slot `i`; the other slots; the header; the open borrow
+          -- (4 entries); the other lifetime tokens.
           move ! (0 ∷ 1 ∷ 3 ∷ []) $ use3 𝓛 (‵ (slots_own (R E) after_it b (o + 16)))
           (p.back (slot x.slots j) None) $
           move ! (0 ∷ 2 ∷ 3 ∷ 4 ∷ 5 ∷ 6 ∷ []) $
@@ -87,12 +82,8 @@ swap_take_spec 𝓤 𝓛 𝓜 𝓡 wired T A LT LA g d dd met md =
           says_all ! (_ ∷ _ ∷ []) (one.1, refl) $ done !)
       | inl same ↦
           takes_item E ! b (o + 16) x.slots i low one.1 (λ v good.
-          -- In this case, the slots `i` and `j` are the same slot. This slot has been separated
-          -- from the other slots. The proof context now holds, in this order: the bytes of the
-          -- item; the resources that the item owns; the other slots; the header; the block's
-          -- pointer; the right to close the borrow of the block, with the lifetime token of this
-          -- borrow; two ghost resources that record the value of the block; the other lifetime
-          -- tokens.
+          -- The context is now: the bytes of the item; what the item owns; the other slots; the
+          -- header; the open borrow (4 entries); the other lifetime tokens.
           let Bits = λ (k : ℕ). ‵ (fat full_share (layout T) b (k * sz E + (o + 16)) v) in
           sets ! (of_opd ! (load ! (through ! refl (stop !)) (look ! 0 refl))) refl good $
           rewrite ! 0 Bits same refl $

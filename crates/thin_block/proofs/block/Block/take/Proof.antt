@@ -33,11 +33,8 @@ take_spec 𝓤 𝓛 𝓜 𝓡 wired T A LT LA g d dd met md =
     slot_found E ! b o i fm refl ((tt, tt), (tt, tt)) $
     let here : ℕ = i * sz E + (o + 16) in
     takes_item E ! b (o + 16) x.slots i within item.1 (λ v good.
-    -- The slot of the item that is taken has been separated from the other slots. The proof context
-    -- now holds, in this order: the bytes of the item; the resources that the item owns; the other
-    -- slots; the header; the block's pointer; the right to close the borrow of the block, with the
-    -- lifetime token of this borrow; two ghost resources that record the value of the block; the
-    -- other lifetime tokens.
+    -- The context is now: the bytes of the item; the resources that the item owns; the other slots;
+    -- the header; the open borrow (4 entries); the other lifetime tokens.
     sets_last ! (of_opd ! (load ! (through ! refl (stop !)) (look ! 0 refl))) refl good $
     continues ! 𝓜 𝓡 fn l 2 ((walk_of 𝓛 En₀ hs c).post z) $
     sets ! (of_opd ! (get ! refl)) refl good $

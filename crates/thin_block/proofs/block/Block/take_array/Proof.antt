@@ -50,11 +50,8 @@ take_array_spec 𝓤 𝓛 𝓜 𝓡 wired T A N LT LA fits_N g d dd met md =
     let good = (((array_at_laws 2 (R E) (param_laws 0 T LT) N).lawful 𝓛).typed xs (v ∷ [])
     is_v).0 in
     move ! (1 ∷ []) $
-    -- The items have been separated from the other slots as one array. The proof context now holds,
-    -- in this order: the bytes of the array; the resources that the array owns; the other slots;
-    -- the header; the block's pointer; the right to close the borrow of the block, with the
-    -- lifetime token of this borrow; two ghost resources that record the value of the block; the
-    -- other lifetime tokens.
+    -- The context is now: the bytes of the array; the resources that the array owns; the other
+    -- slots; the header; the open borrow (4 entries); the other lifetime tokens.
     sets_last ! (of_opd ! (load ! (through ! refl (stop !)) (look ! 0 refl))) refl good $
     continues ! 𝓜 𝓡 fn l 2 ((walk_of 𝓛 En₀ hs c).post z) $
     sets ! (of_opd ! (get ! refl)) refl good $

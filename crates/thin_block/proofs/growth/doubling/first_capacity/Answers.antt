@@ -1,5 +1,5 @@
--- This file proves that `first_capacity` returns the value of the definition `first`, although the
--- code caps the item size at `usize::MAX`.
+-- This file proves that `first_capacity` returns the value of `min_non_zero_cap`, although the code
+-- caps the item size at `usize::MAX`.
 use Rattle.std.proofs.Common.{arith}
 use Rattle.std.specs.Mem.{type_size}
 use Rattle.thin_block.proofs.sizes.SizesLemmas.{first_one, first_many}

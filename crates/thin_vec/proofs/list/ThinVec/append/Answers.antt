@@ -1,5 +1,4 @@
--- `append` calls `reserve` with the number of items of `other`. The list gets the capacity that
--- `reserve` chooses, and `append` returns any error of `reserve`.
+-- `append` calls `reserve` with the number of items of `other`, and returns its error.
 use Rattle.std.proofs.Common.{Ok, arith, ap, sym, ◌∙◌}
 use denote.Param.{param}
 use Rattle.thin_vec.specs.ThinVec.{capacity_after_reserve}

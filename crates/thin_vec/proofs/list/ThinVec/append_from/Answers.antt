@@ -1,5 +1,4 @@
--- `append_from` removes the items whose index is at least `start` from `other`, and appends them to
--- the list.
+-- `append_from` moves the items of `other` from index `start` onward to the end of the list.
 use Rattle.std.proofs.Common.{◌-◌, ◌++◌, ◌∙◌, ap, arith, drop, length, take, rules}
 use Rattle.thin_block.proofs.BlockLemmas.{then-len}
 use Rattle.thin_block.specs.Slots.{items_in}

@@ -1,5 +1,4 @@
--- `as_mut_slice` borrows exactly the slots that hold items. When the borrow ends, the list contains
--- the items of the slice as the borrower left them.
+-- When the borrow ends, the list contains the items of the slice as the borrower left them.
 use Rattle.std.proofs.Common.{ap, arith, length, refl, ◌≡◌, ◌∙◌}
 use Rattle.thin_block.specs.Lends.{set_slots as block_with_items}
 use Rattle.thin_vec.specs.Lends.{with_items}
@@ -18,7 +17,6 @@ invariant_of-self-lent g c =
     λ w. (restores-over c.self.invariant (block_with_items c.self.inside.block 0 w) w
     refl).thin
 
--- The slice contains exactly the items of the list.
 lent : (g : _) (c : goal.After-self-2-1 g) → c.slice_mut.result.now ≡ c.args.self.now.items
 lent g c =
     thin-run c.self.inside.block c.self.inside.alloc c.slice_mut.result.now c.len-len.result

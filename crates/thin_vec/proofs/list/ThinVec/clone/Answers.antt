@@ -1,6 +1,4 @@
--- `clone` calls `from_fitting_slice`, which requires that a block with one slot for each item is
--- small enough to be allocated. This is true, because the block of the original list has at least
--- one slot for each item.
+-- The items fit in a block, because the block of the original list has a slot for each of them.
 use Rattle.std.proofs.Common.{ap, arith, length}
 use denote.Param.{param}
 use Rattle.thin_block.proofs.CapacityLemmas.{fits-less}

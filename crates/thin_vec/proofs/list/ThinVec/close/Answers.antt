@@ -1,5 +1,4 @@
--- `close_gap` removes the gap between the items of the open block. Then `close` puts the block,
--- which contains the items in order, back into the list.
+-- `close_gap` removes the gap, and `close` puts the block back into the list.
 use Rattle.std.proofs.Common.{ap, sym, ◌∙◌, rules}
 use Rattle.thin_vec.specs.Open.{items_of}
 use Rattle.thin_vec.proofs.ListLemmas.{RestoresInvariant, settled, thin-room, list_view-becomes}

@@ -1,5 +1,4 @@
--- `dedup` compares items with `==`. After the call, the list contains the items that the
--- specification function `dedup` returns for the old items.
+-- Tests with `==` leave the items that the specification function `dedup` returns.
 use Rattle.std.proofs.Common.{ap, ◌∙◌}
 use Rattle.thin_block.specs.Cost.{add_moves}
 use Rattle.thin_vec.specs.Edits.Retain.{moves_of_retain}

@@ -1,5 +1,4 @@
--- `dedup_by` calls `dedup_with` with a test. Each call of this test calls the closure `same`
--- exactly once. So what `dedup_with` guarantees about the test also holds for `same`.
+-- The test that `dedup_by` passes to `dedup_with` calls the closure `same` exactly once.
 use Rattle.std.specs.Fn.{CalledAtPairMut}
 use Rattle.thin_vec.proofs.edits.DedupLemmas.{deduped-through, few-deduped}
 use Rattle.thin_vec.proofs.list.ThinVec.dedup_by.Goals as goal

@@ -1,6 +1,4 @@
--- `dedup_by_key` calls `dedup_with` with a test that calls `key` on two items and compares the
--- results. So what `dedup_with` guarantees about the calls to the test implies what the contract
--- of `dedup_by_key` states about the calls to `key`.
+-- The test that `dedup_by_key` passes to `dedup_with` compares the keys of the two items.
 use Rattle.std.specs.Fn.{ComparesKeys}
 use Rattle.thin_vec.proofs.edits.DedupLemmas.{deduped-through, few-deduped}
 use Rattle.thin_vec.proofs.list.ThinVec.dedup_by_key.Goals as goal

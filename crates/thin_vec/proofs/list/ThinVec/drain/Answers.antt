@@ -1,5 +1,4 @@
--- Calls to `next` yield the items of the range in order, and calls to `next_back` yield them in
--- reverse order. These calls do not change the list that remains after the `Drain` is dropped.
+-- Calls to `next` and `next_back` do not change the list that remains after the drop.
 use Rattle.std.proofs.Common.{arith, ◌∙◌}
 use Rattle.thin_vec.proofs.edits.DrainLemmas.{drain_keeps_along, drains_in_order, drains_in_reverse}
 use Rattle.thin_vec.proofs.list.ThinVec.drain.Goals as goal

@@ -1,5 +1,4 @@
--- `extend` reserves room for the lower bound of the iterator's size hint, and then calls
--- `extend_unhinted`. Its contract follows from the contracts of these two calls.
+-- `extend` reserves room for the lower bound of the size hint, and then calls `extend_unhinted`.
 use Rattle.std.proofs.lemmas.Grind.{common_steps}
 use Rattle.std.proofs.Common.{◌≡◌, ◌++◌, ◌∙◌, Err, ap, arith, length, subst}
 use Rattle.std.proofs.lemmas.List.{append-nil}

@@ -1,6 +1,5 @@
--- `extend_from_copies` calls `reserve_run`. Only `extend_from_copies` requires items that are
--- `Copy`. The two contracts still agree about the capacity and the error, because all they use of
--- the item type is its size and its alignment.
+-- `reserve_run` does not require items that are `Copy`, but its contract uses only the size and the
+-- alignment of the item type.
 use Rattle.std.proofs.Common.{◌+◌, Ok, length, refl}
 use Rattle.thin_block.proofs.CapacityLemmas.{ruled-at}
 use Rattle.thin_vec.proofs.list.ReservesLemmas.{reserves-failed, reserves-then}

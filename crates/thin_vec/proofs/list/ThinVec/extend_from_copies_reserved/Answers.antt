@@ -1,5 +1,4 @@
--- `copy_in` writes the copies into the slots directly after the last item, so they are appended to
--- the list. The capacity does not change.
+-- `copy_in` writes the copies into the slots directly after the last item.
 use Rattle.std.proofs.lemmas.Grind.{common_steps}
 use Rattle.std.proofs.Common.{◌++◌, ◌∙◌, ap, arith, length, refl}
 use Rattle.thin_block.proofs.BlockLemmas.{then-len}

@@ -1,5 +1,4 @@
--- If all items can be cloned, their clones are appended. If an item cannot be cloned, `truncate`
--- drops the clones, and the list contains its old items again.
+-- If an item cannot be cloned, `truncate` drops the clones that were made.
 use Rattle.std.proofs.Common.{arith, ◌++◌, ap, take_all, ◌∙◌}
 use Rattle.std.proofs.lemmas.List.Elements.{same_from_all_zip}
 use Rattle.thin_vec.proofs.list.ClonesLemmas.{not-all}

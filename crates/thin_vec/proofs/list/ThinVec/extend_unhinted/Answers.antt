@@ -1,145 +1,197 @@
--- In each iteration of the loop, `extend_reserved` moves items of the iterator into the empty slots
--- of the list. If `extend_reserved` also returns an item, this item is pushed to the list.
-use Rattle.std.proofs.lemmas.Grind.{common_steps}
-use Rattle.std.proofs.Common.{Err, ◌++◌, ◌∷◌, [], ◌-◌, ◌∙◌, ap, arith, append_assoc, length, length-append, refl, subst, sym, ◌+◌, inr}
+-- In each iteration of the loop, `fill_spare` moves items of the iterator into the empty slots of
+-- the list. If the iterator has not ended, one more item is pushed.
+use Rattle.std.proofs.Common.{◌≡◌, Err, ◌++◌, ◌∷◌, [], ◌+◌, ◌-◌, ◌≤◌, ◌∙◌, ap, arith, append_assoc, length, length-append, refl, subst, sym, inr}
 use Rattle.std.proofs.lemmas.List.{length_push}
+use Rattle.std.specs.Iterator.{Yields}
 use denote.Param.{param}
-use Rattle.thin_vec.specs.List.Extend.{IsKeptOrGrown}
+use Rattle.thin_block.specs.Cost.{add_moves}
+use Rattle.thin_vec.specs.List.Capacity.{PreservesList}
+use Rattle.thin_vec.specs.List.Extend.{CostsInserting, IsKeptOrChosen, IsKeptOrGrown}
+use Rattle.thin_vec.specs.Put.{YieldsThenMayEnd}
 use Rattle.thin_vec.specs.ThinVec.{capacity_after_reserve}
-use Rattle.thin_vec.proofs.list.ExtendLemmas.{ruled-more, filled-at, adding-join, filled-spare, loose-join, loose-le, loose-ruled, yields-join, yields-more}
+use Rattle.thin_vec.proofs.list.ExtendLemmas.{ruled-more, filled-at, adding-join, filled-spare, loose-join, loose-le, loose-ruled, spare-kept, yields-join, yields-more}
+use Rattle.thin_vec.proofs.CallerLemmas.{grows-preserved}
+use Rattle.thin_vec.proofs.list.ReservesLemmas.{keeps-join}
 use Rattle.thin_vec.proofs.ThinVecLemmas.{cost_after_resize-blocks, cost_after_resize-copied}
-use Rattle.thin_block.proofs.ResultLemmas.{at-some, err-same, none-some}
+use Rattle.thin_block.proofs.ResultLemmas.{err-same, none-some}
+use Rattle.thin_vec.proofs.list.ThinVec.extend_unhinted.Goals.{After-fill_spare-left, Else-ended}
 use Rattle.thin_vec.proofs.list.ThinVec.extend_unhinted.Goals as goal
+
+appended : (g : _) (c : After-fill_spare-left g) → c.fill_spare-left.new.self.items
+    ≡ c.args.self.now.items
+    ++ (c.loop-rest.invariant.placed.0 ++ c.fill_spare-left.ensures.filled_by.0.items)
+appended g c =
+    let before = c.loop-rest.invariant.placed in
+    let filled = c.fill_spare-left.ensures.filled_by in
+    ap (λ v. v.items) filled.1 ∙ (ap (λ l. l ++ filled.0.items) before.1
+    ∙ append_assoc c.args.self.now.items before.0 filled.0.items)
+
+changed : (g : _) (c : After-fill_spare-left g) → c.fill_spare-left.new.self ≡ record c.loop-rest.self {
+  items = c.fill_spare-left.new.self.items;
+  cost = add_moves (length c.fill_spare-left.new.self.items - length c.loop-rest.self.items)
+      c.loop-rest.self.cost;
+}
+changed g c = spare-kept _ _ _ c.fill_spare-left.ensures.filled_by.1
+
+longer : (g : _) (c : After-fill_spare-left g) → length c.fill_spare-left.new.self.items
+    ≡ length c.loop-rest.self.items + length c.fill_spare-left.ensures.filled_by.0.items
+longer g c =
+    let filled = c.fill_spare-left.ensures.filled_by in
+    ap (λ v. length v.items) filled.1 ∙ length-append c.loop-rest.self.items filled.0.items
+
+-- The capacity is still the one that the growth rule chose last.
+ruled : (g : _) (c : After-fill_spare-left g) → IsKeptOrChosen g.G.Growth.rule (param 0 g.row.T)
+    c.args.self.now.capacity c.fill_spare-left.new.self.capacity
+    (length c.fill_spare-left.new.self.items)
+ruled g c =
+    ruled-more g.G.Growth.rule (param 0 g.row.T) g.met.G.Growth.law c.args.self.now.capacity
+    (length c.loop-rest.self.items) (length c.fill_spare-left.new.self.items)
+    (ap (λ z. z.capacity) (changed g c)) (omega (arith, longer g c)) c.loop-rest.invariant.ruled
+
+spent : (g : _) (c : After-fill_spare-left g)
+    → CostsInserting c.args.self.now c.fill_spare-left.new.self 0
+spent g c =
+    let held = c.loop-rest.invariant in
+    let v = c.args.self.now in let u = c.loop-rest.self in let w = c.fill_spare-left.new.self in
+    adding-join 0 0 0 (omega arith) held.cost
+    (filled-spare u w (length w.items - length u.items) (changed g c)
+    (omega (arith, longer g c)))
+    (loose-le g.G.Growth.rule (param 0 g.row.T) g.met.G.Growth.law v.capacity u.capacity held.loose)
+    (omega (arith, ap (λ z. z.capacity) (changed g c)))
+    (omega (arith, ap length held.placed.1, length-append v.items held.placed.0))
+
+-- If the iterator has not ended, it yielded the appended items, and the list is full.
+yielded : (g : _) (c : Else-ended g) → Yields g.I.Iterator.next_gives c.args.iter
+    (c.loop-rest.invariant.placed.0 ++ c.fill_spare-left.ensures.filled_by.0.items)
+    c.fill_spare-left.result.rest
+yielded g c =
+    let before = c.loop-rest.invariant.placed in
+    let by = c.fill_spare-left.ensures.filled_by.0 in
+    yields-join g.I.Iterator.next_gives c.args.iter c.loop-rest.rest c.fill_spare-left.result.rest
+    before.0 by.items before.2
+    (subst (λ b. YieldsThenMayEnd g.I.Iterator.next_gives c.loop-rest.rest by.items b
+    c.fill_spare-left.result.rest) c.if-ended.false by.gave)
+
+full : (g : _) (c : Else-ended g) → length c.fill_spare-left.new.self.items
+    ≡ c.fill_spare-left.new.self.capacity
+full g c =
+    let filled = c.fill_spare-left.ensures.filled_by in
+    omega (
+      arith,
+      filled.0.full c.if-ended.false,
+      ap (λ v. length v.items) filled.1,
+      length-append c.loop-rest.self.items filled.0.items,
+      ap (λ v. v.capacity) filled.1,
+      c.fill_spare-left.ensures.bounds.0.room,
+    )
+
+pub next-requires : goal.next-requires
+next-requires g c = (c.fill_spare-left.ensures.filled_by.0.asked c.if-ended.false).0
+
+pub returns-then-ended-clause-items : goal.returns-then-ended-clause-items
+returns-then-ended-clause-items g c =
+    let steps = g.I.Iterator.next_gives in
+    let before = c.loop-rest.invariant.placed in
+    let by = c.fill_spare-left.ensures.filled_by.0 in
+    let last = subst (λ b. YieldsThenMayEnd steps c.loop-rest.rest by.items b
+    c.fill_spare-left.result.rest) c.if-ended.true by.gave in (
+      before.0 ++ by.items,
+      (
+        c.fill_spare-left.result.rest,
+        (
+          last.0,
+          yields-join steps c.args.iter c.loop-rest.rest last.0 before.0 by.items before.2 last.1,
+          last.2,
+        ),
+      ),
+      appended g (goal.at.returns-then-ended-clause-items g c).After-fill_spare-left,
+    )
 
 pub returns-in_default-clause-items : goal.returns-in_default-clause-items
 returns-in_default-clause-items g c =
-    let steps = g.I.Iterator.next_gives in
-    let before = c.loop-item.invariant.placed in
-    let now = c.extend_reserved-left.ensures.items in
-    let none = subst (λ o. steps now.2.0 o c.extend_reserved-left.result.0)
-    c.in_default.is now.2.2 in (
-      before.0 ++ now.0,
-      (
-        c.extend_reserved-left.result.0,
-        (
-          now.2.0,
-          yields-join steps c.args.iter c.loop-item.rest now.2.0 before.0 now.0
-              before.2 now.2.1,
-          none,
-        ),
-      ),
-      now.1 ∙ (ap (λ l. l ++ now.0) before.1 ∙ append_assoc c.args.self.now.items before.0 now.0),
+    let here = goal.at.returns-in_default-clause-items g c in (
+      c.loop-rest.invariant.placed.0 ++ c.fill_spare-left.ensures.filled_by.0.items,
+      (c.next.new.self, (c.fill_spare-left.result.rest, yielded g here.Else-ended, c.in_default.ensures.steps)),
+      appended g here.After-fill_spare-left,
     )
 
 pub returns-in-Err-clause-placed : goal.returns-in-Err-clause-placed
 returns-in-Err-clause-placed g c =
-    let steps = g.I.Iterator.next_gives in
-    let before = c.loop-item.invariant.placed in
-    let now = c.extend_reserved-left.ensures.items in
-    let drawn = subst (λ o. steps now.2.0 o c.extend_reserved-left.result.0) c.in-Some.is now.2.2 in
-    let items = now.1 ∙ (ap (λ l. l ++ now.0) before.1
-    ∙ append_assoc c.args.self.now.items before.0 now.0) in
-    let gave = yields-more steps c.args.iter now.2.0 c.extend_reserved-left.result.0
-    (before.0 ++ now.0) c.in-Some.item
-    (yields-join steps c.args.iter c.loop-item.rest now.2.0 before.0 now.0 before.2 now.2.1)
-    drawn in (
-      before.0 ++ now.0,
-      ap (λ v. v.items) c.in-Err.ensures.err ∙ items,
-      (let rest = at-some c.in-Some.is c.extend_reserved-left.ensures.can_next in record {
-        gave = rw c.in-Err.ensures.value_returned gave;
-        can_next = rest.0;
-        finite = rest.1;
-      }),
+    let here = goal.at.returns-in-Err-clause-placed g c in
+    let by = c.fill_spare-left.ensures.filled_by.0 in
+    let xs = c.loop-rest.invariant.placed.0 ++ by.items in
+    let goes = c.in-Some.ensures.goes.on (by.asked c.if-ended.false).1 in (
+      xs,
+      ap (λ v. v.items) c.in-Err.ensures.err ∙ appended g here.After-fill_spare-left,
+      record {
+        gave = rw c.in-Err.ensures.value_returned (yields-more g.I.Iterator.next_gives c.args.iter
+            c.fill_spare-left.result.rest c.next.new.self xs c.in-Some.item
+            (yielded g here.Else-ended) c.in-Some.ensures.steps);
+        can_next = goes.0;
+        finite = goes.1;
+      },
     )
+
+pub returns-then-ended-clause-capacity : goal.returns-then-ended-clause-capacity
+returns-then-ended-clause-capacity g c = ruled g (goal.at.returns-then-ended-clause-capacity g c).After-fill_spare-left
 
 pub returns-in_default-clause-capacity : goal.returns-in_default-clause-capacity
 returns-in_default-clause-capacity g c =
-    let u = c.loop-item.self in let w = c.extend_reserved-left.new.self in
-    let now = c.extend_reserved-left.ensures.items in
-    ruled-more g.G.Growth.rule (param 0 g.row.T) g.met.G.Growth.law c.args.self.now.capacity
-    (length u.items) (length w.items) (ap (λ z. z.capacity) c.extend_reserved-left.ensures.changes)
-    (omega (arith, ap length now.1, length-append u.items now.0)) c.loop-item.invariant.ruled
+    ruled g (goal.at.returns-in_default-clause-capacity g c).After-fill_spare-left
 
 pub returns-in-Err-clause-capacity : goal.returns-in-Err-clause-capacity
 returns-in-Err-clause-capacity g c =
-    let u = c.loop-item.self in let w = c.extend_reserved-left.new.self in
-    let now = c.extend_reserved-left.ensures.items in
-    rw c.in-Err.ensures.err
-    (ruled-more g.G.Growth.rule (param 0 g.row.T) g.met.G.Growth.law c.args.self.now.capacity
-    (length u.items) (length w.items) (ap (λ z. z.capacity) c.extend_reserved-left.ensures.changes)
-    (omega (arith, ap length now.1, length-append u.items now.0)) c.loop-item.invariant.ruled)
+    rw c.in-Err.ensures.err (ruled g (goal.at.returns-in-Err-clause-capacity g c).After-fill_spare-left)
 
-pub loop-item-preserved : goal.loop-item-preserved
-loop-item-preserved g c =
+pub loop-rest-preserved : goal.loop-rest-preserved
+loop-rest-preserved g c =
+    let here = goal.at.loop-rest-preserved g c in let filled = here.After-fill_spare-left in
     let rule = g.G.Growth.rule in let T = param 0 g.row.T in let law = g.met.G.Growth.law in
-    let steps = g.I.Iterator.next_gives in
-    let held = c.loop-item.invariant in
-    let before = held.placed in
-    let now = c.extend_reserved-left.ensures.items in
-    let drawn = subst (λ o. steps now.2.0 o c.extend_reserved-left.result.0) c.in-Some.is now.2.2 in
-    let gave = yields-more steps c.args.iter now.2.0 c.extend_reserved-left.result.0
-    (before.0 ++ now.0) c.in-Some.item
-    (yields-join steps c.args.iter c.loop-item.rest now.2.0 before.0 now.0 before.2 now.2.1)
-    drawn in
-    let items = now.1 ∙ (ap (λ l. l ++ now.0) before.1
-    ∙ append_assoc c.args.self.now.items before.0 now.0) in
-    let rest = at-some c.in-Some.is c.extend_reserved-left.ensures.can_next in
-    let nearer = at-some c.in-Some.is c.extend_reserved-left.ensures.decreases in
-    let v = c.args.self.now in let u = c.loop-item.self in
-    let w = c.extend_reserved-left.new.self in let z = c.push.new.self in
+    let held = c.loop-rest.invariant in
+    let by = c.fill_spare-left.ensures.filled_by.0 in
+    let xs = held.placed.0 ++ by.items in
+    let goes = c.in-Some.ensures.goes.on (by.asked c.if-ended.false).1 in
+    let nearer = by.nearer c.if-ended.false in
+    let v = c.args.self.now in let u = c.loop-rest.self in
+    let w = c.fill_spare-left.new.self in let z = c.push.new.self in
     let pushed = c.in-Ok.ensures in
-    let kept = ap (λ y. y.capacity) c.extend_reserved-left.ensures.changes in
+    let kept = ap (λ y. y.capacity) (changed g filled) in
     let long = ap length pushed.items ∙ length_push w.items c.in-Some.item in
-    let more = ap length now.1 ∙ length-append u.items now.0 in
-    let some = ap length before.1 ∙ length-append v.items before.0 in
-    let grown = loose-ruled rule T law w 1 z.capacity pushed.capacity.ok in
-    let spare = filled-spare u w (length w.items - length u.items)
-    c.extend_reserved-left.ensures.changes (omega (arith, more)) in
+    let more = longer g filled in
+    let grown = loose-ruled rule T law w 1 z.capacity pushed.grows.ok in
     let push = filled-at w z 1 pushed.cost long
-    (cost_after_resize-copied rule T law w 1 z.capacity c.extend_reserved-left.ensures.bounds.1.room
-    pushed.capacity.ok) in
+    (cost_after_resize-copied rule T law w 1 z.capacity c.fill_spare-left.ensures.bounds.1.room
+    pushed.grows.ok) in
     let high = loose-le rule T law w.capacity z.capacity grown in
     let low = loose-le rule T law v.capacity u.capacity held.loose in
-    let full = at-some c.in-Some.is c.extend_reserved-left.ensures.err_full in
+    let all = full g here.Else-ended in
     record {
-      can = rest.0;
-      finite = rest.1;
+      can = goes.0;
+      finite = goes.1;
       placed = (
-        (before.0 ++ now.0) ++ c.in-Some.item ∷ [],
-        pushed.items ∙ (ap (λ l. l ++ c.in-Some.item ∷ []) items
-            ∙ append_assoc v.items (before.0 ++ now.0) (c.in-Some.item ∷ [])),
-        gave,
+        xs ++ c.in-Some.item ∷ [],
+        pushed.items ∙ (ap (λ l. l ++ c.in-Some.item ∷ []) (appended g filled)
+            ∙ append_assoc v.items xs (c.in-Some.item ∷ [])),
+        yields-more g.I.Iterator.next_gives c.args.iter c.fill_spare-left.result.rest
+            c.next.new.self xs c.in-Some.item (yielded g here.Else-ended)
+            c.in-Some.ensures.steps,
       );
-      nearer = omega (arith, held.nearer, nearer, long);
+      nearer = omega (arith, held.nearer, nearer, goes.2, more, long);
       loose = loose-join rule T law v.capacity u.capacity z.capacity held.loose
           (subst (λ n. IsKeptOrGrown rule T n z.capacity) kept grown);
-      never_less = omega (
-        arith,
-        held.never_less,
-        pushed.preserved.never_less,
-        kept,
-      );
+      never_less = omega (arith, held.never_less, pushed.grows.never_less, kept);
       had_room = λ fit. let same = held.had_room fit in
-          pushed.capacity.had_room (omega (
-            arith,
-            fit,
-            held.nearer,
-            nearer,
-            same,
-            kept,
-          ))
+          pushed.grows.had_room (omega (arith, fit, held.nearer, nearer, goes.2, more, same, kept))
           ∙ (kept ∙ same);
-      cost = adding-join 0 0 0 (omega arith) held.cost
-          (adding-join 0 0 0 (omega arith) spare push (omega (arith, kept)) high
-          (omega (arith, more)))
-          low (omega (arith, high, kept)) (omega (arith, some));
+      cost = adding-join 0 0 0 (omega arith) (spent g filled) push (omega (arith, low, kept)) high
+          (omega (arith, ap length held.placed.1, length-append v.items held.placed.0, more));
       requests = omega (
         arith,
         held.requests,
-        ap (λ y. y.cost.blocks) c.extend_reserved-left.ensures.changes,
+        ap (λ y. y.cost.blocks) (changed g filled),
         ap (λ k. k.blocks) pushed.cost,
         cost_after_resize-blocks w z.capacity,
-        full,
+        all,
         kept,
         low,
         more,
@@ -148,85 +200,90 @@ loop-item-preserved g c =
       ruled = inr (
         w.capacity,
         length w.items + 1,
-        omega (arith, full),
+        omega (arith, all),
         omega (arith, long),
-        pushed.capacity.ok,
+        pushed.grows.ok,
       );
-      alloc = pushed.preserved.alloc
-          ∙ (ap (λ y. y.alloc) c.extend_reserved-left.ensures.changes ∙ held.alloc);
-      cheap = λ first. pushed.preserved.cheap
-          (c.extend_reserved-left.ensures.cheap (held.cheap first));
+      alloc = pushed.grows.alloc ∙ (ap (λ y. y.alloc) (changed g filled) ∙ held.alloc);
+      cheap = λ first. pushed.grows.cheap
+          (c.fill_spare-left.ensures.cheap (held.cheap first));
     }
 
 pub returns-in-Err-clause-succeeds : goal.returns-in-Err-clause-succeeds
 returns-in-Err-clause-succeeds g c = λ fit.
-    let held = c.loop-item.invariant in
-    let nearer = at-some c.in-Some.is c.extend_reserved-left.ensures.decreases in
+    let filled = (goal.at.returns-in-Err-clause-succeeds g c).After-fill_spare-left in
+    let held = c.loop-rest.invariant in
+    let by = c.fill_spare-left.ensures.filled_by.0 in
+    let goes = c.in-Some.ensures.goes.on (by.asked c.if-ended.false).1 in
     let low = loose-le g.G.Growth.rule (param 0 g.row.T) g.met.G.Growth.law c.args.self.now.capacity
-    c.loop-item.self.capacity held.loose in
+    c.loop-rest.self.capacity held.loose in
     c.in-Err.ensures.succeeds
     (omega (
       arith,
       fit,
       held.nearer,
-      nearer,
+      by.nearer c.if-ended.false,
+      goes.2,
       low,
-      ap (λ z. z.capacity) c.extend_reserved-left.ensures.changes,
+      longer g filled,
+      ap (λ z. z.capacity) (changed g filled),
     ))
+
+pub returns-then-ended-clause-cost : goal.returns-then-ended-clause-cost
+returns-then-ended-clause-cost g c = spent g (goal.at.returns-then-ended-clause-cost g c).After-fill_spare-left
+
+pub returns-in_default-clause-cost : goal.returns-in_default-clause-cost
+returns-in_default-clause-cost g c =
+    spent g (goal.at.returns-in_default-clause-cost g c).After-fill_spare-left
 
 pub returns-in-Err-clause-cost : goal.returns-in-Err-clause-cost
 returns-in-Err-clause-cost g c =
-    let held = c.loop-item.invariant in
-    let now = c.extend_reserved-left.ensures.items in
-    let v = c.args.self.now in let u = c.loop-item.self in
-    let w = c.extend_reserved-left.new.self in
-    let more = ap length now.1 ∙ length-append u.items now.0 in
-    let some = ap length held.placed.1 ∙ length-append v.items held.placed.0 in
-    let low = loose-le g.G.Growth.rule (param 0 g.row.T) g.met.G.Growth.law v.capacity
-    u.capacity held.loose in
-    let spare = filled-spare u w (length w.items - length u.items)
-    c.extend_reserved-left.ensures.changes (omega (arith, more)) in
-    let kept = ap (λ z. z.capacity) c.extend_reserved-left.ensures.changes in
-    rw c.in-Err.ensures.err
-    (adding-join 0 0 0 (omega arith) held.cost spare low (omega (arith, kept)) (omega (arith, some)))
+    rw c.in-Err.ensures.err (spent g (goal.at.returns-in-Err-clause-cost g c).After-fill_spare-left)
+
+requested : (g : _) (c : After-fill_spare-left g) → c.fill_spare-left.new.self.cost.blocks
+    ≤ c.args.self.now.cost.blocks
+    + (length c.fill_spare-left.new.self.items - c.args.self.now.capacity)
+requested g c =
+    omega (
+      arith,
+      c.loop-rest.invariant.requests,
+      ap (λ y. y.cost.blocks) (changed g c),
+      longer g c,
+    )
+
+pub returns-then-ended-clause-blocks : goal.returns-then-ended-clause-blocks
+returns-then-ended-clause-blocks g c = requested g (goal.at.returns-then-ended-clause-blocks g c).After-fill_spare-left
 
 pub returns-in_default-clause-blocks : goal.returns-in_default-clause-blocks
 returns-in_default-clause-blocks g c =
-    let now = c.extend_reserved-left.ensures.items in
-    omega (
-      arith,
-      c.loop-item.invariant.requests,
-      ap (λ y. y.cost.blocks) c.extend_reserved-left.ensures.changes,
-      ap length now.1,
-      length-append c.loop-item.self.items now.0,
-    )
+    requested g (goal.at.returns-in_default-clause-blocks g c).After-fill_spare-left
 
 pub returns-in-Err-clause-blocks : goal.returns-in-Err-clause-blocks
 returns-in-Err-clause-blocks g c =
-    let now = c.extend_reserved-left.ensures.items in
-    omega (
-      arith,
-      c.loop-item.invariant.requests,
-      ap (λ y. y.cost.blocks) c.in-Err.ensures.err,
-      ap (λ y. length y.items) c.in-Err.ensures.err,
-      ap (λ y. y.cost.blocks) c.extend_reserved-left.ensures.changes,
-      ap length now.1,
-      length-append c.loop-item.self.items now.0,
-    )
+    rw c.in-Err.ensures.err (requested g (goal.at.returns-in-Err-clause-blocks g c).After-fill_spare-left)
+
+grown : (g : _) (c : After-fill_spare-left g) → IsKeptOrGrown g.G.Growth.rule (param 0 g.row.T)
+    c.args.self.now.capacity c.fill_spare-left.new.self.capacity
+grown g c =
+    subst (λ n. IsKeptOrGrown g.G.Growth.rule (param 0 g.row.T) c.args.self.now.capacity n)
+    (sym (ap (λ z. z.capacity) (changed g c))) c.loop-rest.invariant.loose
+
+pub returns-then-ended-clause-at_least : goal.returns-then-ended-clause-at_least
+returns-then-ended-clause-at_least g c = grown g (goal.at.returns-then-ended-clause-at_least g c).After-fill_spare-left
+
+pub returns-in_default-clause-at_least : goal.returns-in_default-clause-at_least
+returns-in_default-clause-at_least g c =
+    grown g (goal.at.returns-in_default-clause-at_least g c).After-fill_spare-left
 
 pub returns-in-Err-clause-at_least : goal.returns-in-Err-clause-at_least
 returns-in-Err-clause-at_least g c =
-    let kept = ap (λ z. z.capacity) c.in-Err.ensures.err
-    ∙ ap (λ z. z.capacity) c.extend_reserved-left.ensures.changes in
-    subst (λ n. IsKeptOrGrown g.G.Growth.rule (param 0 g.row.T) c.args.self.now.capacity n)
-    (sym kept)
-    c.loop-item.invariant.loose
+    rw c.in-Err.ensures.err (grown g (goal.at.returns-in-Err-clause-at_least g c).After-fill_spare-left)
 
 pub returns-in-Err-clause-cause : goal.returns-in-Err-clause-cause
 returns-in-Err-clause-cause g c =
     let same = ap (λ v. capacity_after_reserve g.G.Growth.rule (param 0 g.row.T) v 1)
     c.in-Err.ensures.err in
-    let overflow = c.in-Err.ensures.capacity.overflow in
+    let overflow = c.in-Err.ensures.grows.overflow in
     record {
       by_push = λ _. (
         λ over. same ∙ overflow.0 (ap Err over),
@@ -235,40 +292,29 @@ returns-in-Err-clause-cause g c =
       by_hint = λ none. absurd (none-some none refl);
     }
 
-pub returns-in-Err-clause-preserved : goal.returns-in-Err-clause-preserved
-returns-in-Err-clause-preserved g c =
-    let held = c.loop-item.invariant in let pushed = c.in-Err.ensures.preserved in
-    let drawn = c.extend_reserved-left.ensures in
+kept : (g : _) (c : After-fill_spare-left g) → PreservesList (param 0 g.row.T) c.args.self.now
+    c.fill_spare-left.new.self
+kept g c =
+    let held = c.loop-rest.invariant in
     record {
-      alloc = pushed.alloc ∙ (ap (λ z. z.alloc) drawn.changes ∙ held.alloc);
-      never_less = omega (
-        arith,
-        held.never_less,
-        ap (λ z. z.capacity) drawn.changes,
-        pushed.never_less,
-      );
-      cheap = λ first. pushed.cheap (drawn.cheap (held.cheap first));
-      within = (c.requires.bounds, pushed.within.1);
+      alloc = ap (λ z. z.alloc) (changed g c) ∙ held.alloc;
+      never_less = omega (arith, held.never_less, ap (λ z. z.capacity) (changed g c));
+      cheap = λ first. c.fill_spare-left.ensures.cheap (held.cheap first);
+      within = (c.requires.bounds, c.fill_spare-left.ensures.bounds.1);
     }
+
+pub returns-then-ended-clause-preserved : goal.returns-then-ended-clause-preserved
+returns-then-ended-clause-preserved g c = kept g (goal.at.returns-then-ended-clause-preserved g c).After-fill_spare-left
 
 pub returns-in_default-clause-preserved : goal.returns-in_default-clause-preserved
 returns-in_default-clause-preserved g c =
-    let held = c.loop-item.invariant in let drawn = c.extend_reserved-left.ensures in
-    record {
-      alloc = ap (λ z. z.alloc) drawn.changes ∙ held.alloc;
-      never_less = omega (arith, held.never_less, ap (λ z. z.capacity) drawn.changes);
-      cheap = λ first. drawn.cheap (held.cheap first);
-      within = (c.requires.bounds, drawn.bounds.1);
-    }
+    kept g (goal.at.returns-in_default-clause-preserved g c).After-fill_spare-left
+
+pub returns-in-Err-clause-preserved : goal.returns-in-Err-clause-preserved
+returns-in-Err-clause-preserved g c =
+    keeps-join (kept g (goal.at.returns-in-Err-clause-preserved g c).After-fill_spare-left)
+    (grows-preserved c.in-Err.ensures.grows)
 
 pub returns-in-Err-clause-err_full : goal.returns-in-Err-clause-err_full
-returns-in-Err-clause-err_full g c = search (arith, ◌∙◌)
-
-pub returns-in-Err-clause-had_room : goal.returns-in-Err-clause-had_room
-returns-in-Err-clause-had_room g c = search (arith, ◌∙◌)
-
-pub returns-in_default-clause-at_least : goal.returns-in_default-clause-at_least
-returns-in_default-clause-at_least g c = grind (arith, common_steps)
-
-pub returns-in_default-clause-cost : goal.returns-in_default-clause-cost
-returns-in_default-clause-cost g c = grind (arith, common_steps)
+returns-in-Err-clause-err_full g c =
+    rw c.in-Err.ensures.err (full g (goal.at.returns-in-Err-clause-err_full g c).Else-ended)

@@ -8,8 +8,8 @@ use Rattle.thin_vec.specs.Cheap.{IsCheap}
 use Rattle.thin_vec.specs.List.Extend.{CostsInserting, IsKeptOrGrown, IsKeptOrChosen}
 use Rattle.thin_vec.proofs.list.ThinVec.extend_unhinted.Given as goal
 
-abbrev pub invariant-loop-item : goal.invariant-loop-item
-invariant-loop-item g l = record {
+abbrev pub invariant-loop-rest : goal.invariant-loop-rest
+invariant-loop-rest g l = record {
   can : g.I.Iterator.can_next l.rest;
   finite : IsFinite (g.I.Iterator.remaining l.rest);
   placed : (xs : List g.row.T.Denot) × (l.self.items ≡ l.fn.self.items ++ xs)
@@ -29,5 +29,5 @@ invariant-loop-item g l = record {
   cheap : IsCheap l.fn.self → IsCheap l.self;
 }
 
-abbrev pub decreases-loop-item : goal.decreases-loop-item
-decreases-loop-item g l = size (g.I.Iterator.remaining l.rest)
+abbrev pub decreases-loop-rest : goal.decreases-loop-rest
+decreases-loop-rest g l = size (g.I.Iterator.remaining l.rest)

@@ -1,5 +1,4 @@
--- `put_iter` moves items of the iterator into the slots directly after the last item of the list.
--- Then `set_len` stores the new length, which includes the moved items.
+-- `put_iter` moves items into the slots after the last item, and `set_len` stores the new length.
 use Rattle.thin_block.proofs.BlockLemmas.{slots-are, then-len}
 use Rattle.std.proofs.lemmas.Grind.{common_steps}
 use Rattle.std.proofs.Common.{◌++◌, ◌-◌, ◌≡◌, ◌∙◌, ap, arith, length, length-append}
@@ -12,9 +11,6 @@ use Rattle.thin_vec.proofs.PutLemmas.{filled-fits, filled-room}
 use Rattle.thin_vec.proofs.ThinVecLemmas.{within-kept}
 use Rattle.thin_vec.proofs.list.ThinVec.fill_spare.Goals as goal
 
--- After the call to `put_iter`, `fill_spare` puts the block back into the list. At this point, the
--- block differs from the old block in two ways: the yielded items are in the slots directly after
--- the old items, and the cost counts one more move for each yielded item.
 stored : (g : _) (c : goal.After-set_len g) → block_view c.replace-none.new.dest
     ≡ record (block_view c.self.inside.block) {
       slots = write_slots c.len-len.result (filled_slots c.put_iter-block.ensures.filled_by.0.items)
@@ -49,8 +45,6 @@ facts g c =
     put.2
     (then-len c.set_len.ensures.changes (stored g c))
 
--- The index `end` that `put_iter` returns is the number of items of the list after the call to
--- `fill_spare`.
 ends : (g : _) (c : goal.After-set_len g) → c.put_iter-block.result.1.end
     ≡ length (items_in c.set_len.new.self.slots)
 ends g c =

@@ -1,5 +1,4 @@
--- No item follows the replaced range. `close` leaves only the items before the range in the list,
--- and `extend` then appends the items of the iterator.
+-- `close` leaves only the items before the range, and `extend` appends the items of the iterator.
 use Rattle.std.proofs.Common.{◌≡◌, ◌*◌, ◌++◌, ◌∙◌, ap, arith, length, length-append, refl, subst, sym}
 use Rattle.std.specs.Iterator.{size}
 use Rattle.std.specs.Prelude.{MatchOption}
@@ -15,16 +14,12 @@ use Rattle.thin_vec.specs.declared.errors.SpliceRefused.{SpliceRefused}
 use Rattle.thin_vec.proofs.list.ThinVec.finish_at_end.Goals.{After-extend}
 use Rattle.thin_vec.proofs.list.ThinVec.finish_at_end.Goals as goal
 
--- After the call to `close`, the list contains only the items outside the replaced range. The
--- definition `without_middle` describes this list.
 left : (g : _) (c : After-extend g)
     → c.close.new.self ≡ without_middle c.args.block c.args.self.now.alloc
 left g c =
     c.close.ensures.changes
     ∙ closed-left c.args.block c.args.self.now c.requires.no_rest c.requires.no_tail
 
--- `AddsFromIter` describes how adding items of an iterator may change the capacity and the cost of
--- a list. It holds for the list before the call to `extend` and the list after this call.
 taken : (g : _) (c : After-extend g)
     → AddsFromIter g.G.Growth.rule (param 0 g.row.T)
     (without_middle c.args.block c.args.self.now.alloc)
@@ -41,8 +36,6 @@ taken g c =
     } in
     subst (λ z. AddsFromIter g.G.Growth.rule (param 0 g.row.T) z w n more) (left g c) now
 
--- After the call to `extend`, `IsCapacityAfterExtend` holds for the capacity of the list: either
--- the call did not change the capacity, or the growth rule chose the new one.
 ruled : (g : _) (c : After-extend g)
     → IsCapacityAfterExtend g.G.Growth.rule (param 0 g.row.T)
     (without_middle c.args.block c.args.self.now.alloc)

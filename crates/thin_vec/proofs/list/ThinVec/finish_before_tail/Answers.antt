@@ -1,4 +1,4 @@
--- The items of the iterator are inserted in up to three steps. First, `fill_gap` fills the empty
+-- The items of the iterator are inserted in up to three steps. First, `fill` fills the empty
 -- slots of the replaced range. Then `insert_hinted` fills a new gap, whose size is the lower bound
 -- of the size hint. Finally, `insert_held` inserts the remaining items.
 use Rattle.std.proofs.Common.{[], Err, None, Ok, Some, inl, inr, ◌-◌, ◌*◌, ◌∙◌, ap, arith, length, refl, subst, sym}
@@ -9,15 +9,23 @@ use Rattle.thin_vec.specs.Edits.Splice.{without_middle}
 use Rattle.thin_vec.specs.Put.{YieldsThenMayEnd}
 use Rattle.thin_vec.proofs.list.ExtendLemmas.{ruled-after}
 use Rattle.thin_vec.proofs.edits.SpliceLemmas.{if-err, stop-at-hint, stopped-now}
-use Rattle.thin_vec.proofs.edits.FinishLemmas.{IsReached, filled-drains, filled-reached, filled-taken, finished-from, finished-ok, reached-extended, reached-long, reached-more, reached-taken}
+use Rattle.thin_vec.proofs.edits.FinishLemmas.{FillsGap, IsReached, filled-drains, filled-reached, filled-taken, finished-from, finished-ok, gap-filled, reached-extended, reached-long, reached-more, reached-taken}
 use Rattle.thin_vec.specs.declared.errors.SpliceRefused.{SpliceRefused}
+use Rattle.thin_vec.proofs.list.ThinVec.finish_before_tail.Goals.{After-close}
 use Rattle.thin_vec.proofs.list.ThinVec.finish_before_tail.Goals as goal
+
+filled : (g : _) (c : After-close g) → FillsGap g.I.Iterator.next_gives
+    g.I.Iterator.can_next g.I.Iterator.remaining c.args.block c.args.self.now.alloc c.args.iter
+    c.close.new.self c.fill-rest.result
+filled g c =
+    gap-filled c.args.block c.fill-rest.new.self c.args.iter c.args.self.now c.close.new.self
+    c.fill-rest.result c.fill-rest.ensures.filled_by c.requires.no_rest c.close.ensures.changes
 
 pub returns-then-ended : goal.returns-then-ended
 returns-then-ended g c =
     let v = c.args.block in
-    let p = c.fill_gap-rest.ensures.filled_by in
-    finished-ok v c.args.self.now.alloc c.args.iter c.fill_gap-rest.new.self tt
+    let p = filled g (goal.at.returns-then-ended g c).After-close in
+    finished-ok v c.args.self.now.alloc c.args.iter c.close.new.self tt
     (p.0.items, filled-drains p c.if-ended.true, p.1.items)
     (filled-taken p g.G.Growth.rule (param 0 g.row.T) (2 * length v.tail)
     (g.I.Iterator.remaining c.args.iter) (omega (arith, p.1.cost.2)))
@@ -29,12 +37,12 @@ returns-in-Err g c =
     let steps = g.I.Iterator.next_gives in
     let can = g.I.Iterator.can_next in let left = g.I.Iterator.remaining in
     let v = c.args.block in let a = c.args.self.now.alloc in
-    let w = c.insert_hinted.new.self in let t = c.fill_gap-rest.result.rest in
-    let p = c.fill_gap-rest.ensures.filled_by in
+    let w = c.insert_hinted.new.self in let t = c.fill-rest.result.rest in
+    let p = filled g (goal.at.returns-in-Err g c).After-close in
     let rejected = c.in-Err.rejected in
     let same = c.in-Err.ensures.err.0 in let rest = c.in-Err.ensures.err.1 in
     let here = subst
-    (λ z. IsReached steps can left v c.args.iter z p.0.items c.fill_gap-rest.result.end t) (sym same)
+    (λ z. IsReached steps can left v c.args.iter z p.0.items c.fill-rest.result.end t) (sym same)
     (filled-reached p c.if-ended.false) in
     let error : SpliceRefused _ _ _ =
     record {
@@ -67,8 +75,8 @@ returns-then-ended-2 g c =
     let rule = g.G.Growth.rule in let T = param 0 g.row.T in let law = g.met.G.Growth.law in
     let steps = g.I.Iterator.next_gives in
     let v = c.args.block in let a = c.args.self.now.alloc in
-    let w = c.insert_hinted.new.self in let t = c.fill_gap-rest.result.rest in
-    let p = c.fill_gap-rest.ensures.filled_by in
+    let w = c.insert_hinted.new.self in let t = c.fill-rest.result.rest in
+    let p = filled g (goal.at.returns-then-ended-2 g c).After-close in
     let first = filled-reached p c.if-ended.false in
     let q = c.in-Ok.ensures.filled_by in
     let f = c.in-Ok.filled in
@@ -79,8 +87,8 @@ returns-then-ended-2 g c =
       q.2,
     )
     tt tt tt
-    (reached-taken first rule T law a w 0 (2 * (length c.fill_gap-rest.new.self.items
-    - c.fill_gap-rest.result.end)) n (omega (arith, reached-long first))
+    (reached-taken first rule T law a w 0 (2 * (length c.close.new.self.items
+    - c.fill-rest.result.end)) n (omega (arith, reached-long first))
     (filled-taken p rule T 0 (g.I.Iterator.remaining c.args.iter)
     (omega (arith, p.1.cost.3 (p.0.full c.if-ended.false))))
     c.insert_hinted.ensures.added)
@@ -92,9 +100,9 @@ pub returns-else-ended-2 : goal.returns-else-ended-2
 returns-else-ended-2 g c =
     let rule = g.G.Growth.rule in let T = param 0 g.row.T in let law = g.met.G.Growth.law in
     let v = c.args.block in let a = c.args.self.now.alloc in
-    let u = c.fill_gap-rest.new.self in let y = c.insert_hinted.new.self in
+    let u = c.close.new.self in let y = c.insert_hinted.new.self in
     let w = c.insert_held.new.self in
-    let p = c.fill_gap-rest.ensures.filled_by in
+    let p = filled g (goal.at.returns-else-ended-2 g c).After-close in
     let first = filled-reached p c.if-ended.false in
     let q = c.in-Ok.ensures.filled_by in
     let last = reached-more first q.1 q.2 q.3 c.if-ended-2.false in
@@ -107,7 +115,7 @@ returns-else-ended-2 g c =
     c.insert_held.ensures.err
     (reached-taken last rule T law a w n (length y.items - c.in-Ok.filled.end) (2 * n)
     (omega (arith, reached-long last))
-    (reached-taken first rule T law a y 0 (length u.items - c.fill_gap-rest.result.end) n
+    (reached-taken first rule T law a y 0 (length u.items - c.fill-rest.result.end) n
     (omega (arith, reached-long first))
     (filled-taken p rule T 0 (g.I.Iterator.remaining c.args.iter)
     (omega (arith, p.1.cost.3 (p.0.full c.if-ended.false))))

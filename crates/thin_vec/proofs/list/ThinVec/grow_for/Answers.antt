@@ -1,5 +1,4 @@
--- Every growth rule satisfies the law `IsLawful`. So each capacity that it chooses is larger than
--- the old capacity.
+-- By the law `IsLawful`, a capacity that the growth rule chooses is larger than the old capacity.
 use Rattle.std.proofs.Common.{arith, sym, ◌∙◌}
 use Rattle.thin_vec.proofs.list.ThinVec.grow_for.Goals as goal
 

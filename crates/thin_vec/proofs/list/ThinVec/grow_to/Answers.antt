@@ -1,5 +1,4 @@
--- If the growth succeeds, the larger block holds the items. If the allocator fails, the old block
--- still holds them. In each case, the list contains the same items.
+-- If the allocator fails, the old block still holds the items.
 use Rattle.std.proofs.Common.{◌≤◌, ap, ◌∙◌, arith, length, refl}
 use denote.Param.{param}
 use Rattle.thin_block.specs.Slots.{items_in}
@@ -9,8 +8,6 @@ use Rattle.thin_vec.proofs.ListLemmas.{RestoresInvariant, list_view-becomes}
 use Rattle.thin_vec.proofs.ThinVecLemmas.{within-settled}
 use Rattle.thin_vec.proofs.list.ThinVec.grow_to.Goals as goal
 
--- Whether or not the growth succeeds, the resulting block is the block of a list with the same
--- items, and it has at most `cap` slots.
 tried : (g : _) (c : goal.After-grow g)
     → RestoresInvariant c.grow.new.self c.self.inside.alloc
     (items_in c.self.inside.block.slots) (length c.grow.new.self.slots)

@@ -1,6 +1,5 @@
--- This file proves the contract of `insert_clones_reserved`. If an item cannot be cloned,
--- `drop_range` drops the clones that were made so far. The calls `open_with_gap`, `close` and
--- `drop_range` each move every old item whose index is at least `at` at most once.
+-- If an item cannot be cloned, `drop_range` drops the clones that were made so far.
+-- `open_with_gap`, `close` and `drop_range` move each old item from index `at` onward at most once.
 use Rattle.std.proofs.Common.{◌≡◌, ◌+◌, ◌-◌, ◌++◌, ◌∙◌, [], ap, arith, drop, eqb, length, length-append, sym, take}
 use Rattle.std.proofs.lemmas.List.{length-drop, length-take-le}
 use Rattle.std.proofs.lemmas.List.Elements.{length_all_zip}
@@ -9,8 +8,6 @@ use Rattle.thin_vec.proofs.list.ClonesLemmas.{not-all}
 use Rattle.thin_vec.proofs.edits.ReplaceRangeLemmas.{at-most-if, at-most-le, at-most-more, if-le, put-and-gone}
 use Rattle.thin_vec.proofs.list.ThinVec.insert_clones_reserved.Goals as goal
 
--- After the call to `close`, the list contains its old items and, at index `at`, the clones that
--- were made.
 closed : (g : _) (c : goal.After-drop_range g) → c.close.new.self.items
     ≡ replace_range c.args.self.now.items c.args.at c.args.at
     c.fill_from_clones-placed.ensures.front.0

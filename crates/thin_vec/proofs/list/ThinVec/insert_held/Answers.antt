@@ -14,12 +14,10 @@ use Rattle.thin_block.proofs.ResultLemmas.{err-same}
 use Rattle.thin_vec.proofs.list.ThinVec.insert_held.Goals.{After-close, In-Err}
 use Rattle.thin_vec.proofs.list.ThinVec.insert_held.Goals as goal
 
--- The call to `reserve` asks for room for exactly the items in the vector `held`.
 count : (g : _) (c : In-Err g) → c.len-count.result ≡ length c.collect_rest-held.result.held.items
 count g c = c.len-count.ensures ∙ c.collect_rest-held.result.held.ok.0
 
--- If the call to `reserve` fails, the vector `held` contains at least one item, because reserving
--- room for zero items always succeeds.
+-- Reserving room for zero items always succeeds.
 more : (g : _) (c : In-Err g) → 0 < length c.collect_rest-held.result.held.items
 more g c = elim (cases_lt 0 (length c.collect_rest-held.result.held.items)) [
   | inl some ↦ some
@@ -28,7 +26,6 @@ more g c = elim (cases_lt 0 (length c.collect_rest-held.result.held.items)) [
       (omega (arith, count g c, none, c.reserve.ensures.preserved.within.0.room))))
 ]
 
--- The list contains the items of the vector `held`, directly before the item at index `at`.
 items : (g : _) (c : After-close g)
     → c.close.new.self.items ≡ (take c.args.at c.reserve.new.self.items
     ++ c.collect_rest-held.result.held.items) ++ drop c.args.at c.reserve.new.self.items
@@ -45,8 +42,6 @@ capacity g c =
     ap (λ z. z.capacity) c.close.ensures.changes
     ∙ (ap (λ v. v.capacity) c.fill_from_vec.ensures ∙ c.open_with_gap-block.ensures.capacity)
 
--- Each item of the vector `held` is moved once, and each old item from index `at` onward at most
--- once.
 cost : (g : _) (c : After-close g)
     → (m : ℕ) × (c.close.new.self.cost
     ≡ add_moves (length c.collect_rest-held.result.held.items + m) c.reserve.new.self.cost)

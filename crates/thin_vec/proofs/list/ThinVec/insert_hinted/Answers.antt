@@ -1,5 +1,5 @@
 -- `open_with_gap` makes a gap of empty slots at index `at`. The number of these slots is the lower
--- bound of the iterator's size hint. Then `fill_gap` fills the gap with items of the iterator.
+-- bound of the iterator's size hint. Then `fill` fills the gap with items of the iterator.
 use Rattle.std.proofs.Common.{Err, Some, ◌≡◌, ◌+◌, ◌-◌, ◌*◌, ◌≤◌, ◌++◌, ◌∙◌, ap, arith, drop, length, refl, subst, sym, take}
 use Rattle.std.proofs.lemmas.Bool.{false≢true}
 use Rattle.std.proofs.lemmas.List.{length-drop, length-take-le}
@@ -8,13 +8,11 @@ use Rattle.thin_block.proofs.ResultLemmas.{err-same}
 use Rattle.thin_vec.specs.Edits.Finish.{AddsFromIter}
 use Rattle.thin_vec.specs.ThinVec.{HasRoomFor, capacity_after_reserve}
 use Rattle.thin_vec.proofs.edits.SpliceLemmas.{blocks-if, run-moves, taken-join, taken-none, taken-reserved}
-use Rattle.thin_vec.proofs.edits.FinishLemmas.{IsWide, wide-taken}
-use Rattle.thin_vec.proofs.list.ThinVec.insert_hinted.Goals.{After-fill_gap}
+use Rattle.thin_vec.proofs.edits.FinishLemmas.{FillsGap, IsWide, gap-filled, wide-taken}
+use Rattle.thin_vec.proofs.list.ThinVec.insert_hinted.Goals.{After-close}
 use Rattle.thin_vec.proofs.list.ThinVec.insert_hinted.Goals as goal
 
--- After the call to `open_with_gap`, the block has a gap of empty slots at index `at`. The number
--- of these slots is the lower bound of the size hint.
-wide : (g : _) (c : After-fill_gap g)
+wide : (g : _) (c : After-close g)
     → IsWide c.open_with_gap-block.result c.reserve.new.self c.args.at c.size_hint-hint.result.0
 wide g c = record {
   in_bounds = omega (arith, c.requires.in_bounds, ap length c.reserve.ensures.items);
@@ -24,18 +22,22 @@ wide g c = record {
   cost = c.open_with_gap-block.ensures.cost;
 }
 
--- `AddsFromIter` describes how adding items of an iterator changed a list, and bounds the number of
--- moves of old items. Suppose that opening and closing the gap takes at most `n` moves. Then
--- `AddsFromIter` holds, with the bound `n`, for the list before the call to `insert_hinted` and the
--- list after this call.
-taken : (g : _) (c : After-fill_gap g) (n : _)
-    → c.fill_gap.ensures.filled_by.1.cost.0 + (length c.reserve.new.self.items - c.args.at) ≤ n
-    → AddsFromIter g.G.Growth.rule (param 0 g.row.T) c.args.self.now c.fill_gap.new.self n
+fills : (g : _) (c : After-close g) → FillsGap g.I.Iterator.next_gives g.I.Iterator.can_next
+    g.I.Iterator.remaining c.open_with_gap-block.result c.open_with_gap-block.new.self.alloc
+    c.args.iter c.close.new.self c.fill-filled.result
+fills g c =
+    gap-filled c.open_with_gap-block.result c.fill-filled.new.self c.args.iter
+    c.open_with_gap-block.new.self c.close.new.self c.fill-filled.result
+    c.fill-filled.ensures.filled_by c.open_with_gap-block.ensures.rest c.close.ensures.changes
+
+taken : (g : _) (c : After-close g) (n : _)
+    → (fills g c).1.cost.0 + (length c.reserve.new.self.items - c.args.at) ≤ n
+    → AddsFromIter g.G.Growth.rule (param 0 g.row.T) c.args.self.now c.close.new.self n
     (g.I.Iterator.remaining c.args.iter)
 taken g c n few =
     let rule = g.G.Growth.rule in let T = param 0 g.row.T in let law = g.met.G.Growth.law in
     let left = g.I.Iterator.remaining c.args.iter in
-    let v = c.args.self.now in let u = c.reserve.new.self in let w = c.fill_gap.new.self in
+    let v = c.args.self.now in let u = c.reserve.new.self in let w = c.close.new.self in
     let hint = c.size_hint-hint.result.0 in
     let old = ap length c.reserve.ensures.items in
     taken-join rule T law v u w 0 n n left left (omega arith)
@@ -44,12 +46,10 @@ taken g c n few =
     c.reserve.ensures.items c.reserve.ensures.preserved.alloc c.in_default.ensures.cost
     c.reserve.ensures.preserved.cheap (c.size_hint-hint.ensures.lower c.requires.finite)
     c.reserve.ensures.preserved.within.0.room)
-    (wide-taken c.fill_gap.ensures.filled_by rule T n left u c.args.at hint (wide g c)
+    (wide-taken (fills g c) rule T n left u c.args.at hint (wide g c)
     (ap (λ z. z.alloc) c.open_with_gap-block.ensures.changes) few)
 
--- The items after the gap are the items of the old list from index `at` onward. So their number is
--- the length of the old list minus `at`.
-tail : (g : _) (c : After-fill_gap g) → length c.open_with_gap-block.result.tail
+tail : (g : _) (c : After-close g) → length c.open_with_gap-block.result.tail
     ≡ length c.args.self.now.items - c.args.at
 tail g c = omega (
   arith,
@@ -60,9 +60,9 @@ tail g c = omega (
 
 pub returns-clause-filled_by : goal.returns-clause-filled_by
 returns-clause-filled_by g c =
-    let filled = c.fill_gap.ensures.filled_by in
+    let filled = (fills g ((goal.at.returns-clause-filled_by g c).After-close)) in
     let xs = filled.0.items in
-    let there = wide g ((goal.at.returns-clause-filled_by g c).After-fill_gap) in (
+    let there = wide g ((goal.at.returns-clause-filled_by g c).After-close) in (
       c.open_with_gap-block.result.gap,
       filled.0,
       filled.1.items
@@ -78,7 +78,7 @@ returns-clause-filled_by g c =
 
 pub returns-clause-capacity : goal.returns-clause-capacity
 returns-clause-capacity g c =
-    let filled = c.fill_gap.ensures.filled_by in (
+    let filled = (fills g ((goal.at.returns-clause-capacity g c).After-close)) in (
       c.size_hint-hint.result.0,
       c.size_hint-hint.ensures.lower,
       c.in_default.ensures.capacity.ok
@@ -87,19 +87,19 @@ returns-clause-capacity g c =
 
 pub returns-clause-added : goal.returns-clause-added
 returns-clause-added g c =
-    let here = (goal.at.returns-clause-added g c).After-fill_gap in
+    let here = (goal.at.returns-clause-added g c).After-close in
     taken g here (2 * (length c.args.self.now.items - c.args.at))
     (omega (
       arith,
-      c.fill_gap.ensures.filled_by.1.cost.2,
+      (fills g ((goal.at.returns-clause-added g c).After-close)).1.cost.2,
       tail g here,
       ap length c.reserve.ensures.items,
     ))
 
 pub returns-clause-added_full : goal.returns-clause-added_full
 returns-clause-added_full g c = λ full.
-    let here = (goal.at.returns-clause-added_full g c).After-fill_gap in
-    let filled = c.fill_gap.ensures.filled_by in
+    let here = (goal.at.returns-clause-added_full g c).After-close in
+    let filled = (fills g ((goal.at.returns-clause-added_full g c).After-close)) in
     taken g here (length c.args.self.now.items - c.args.at)
     (omega (
       arith,
@@ -109,7 +109,7 @@ returns-clause-added_full g c = λ full.
 
 pub returns-clause-blocks : goal.returns-clause-blocks
 returns-clause-blocks g c =
-    let p = c.fill_gap.ensures.filled_by in
+    let p = (fills g ((goal.at.returns-clause-blocks g c).After-close)) in
     let u = c.reserve.new.self in
     let all = run-moves c.size_hint-hint.result.0 (length u.items - c.args.at) (length p.0.items)
     p.1.cost.0 u.cost c.open_with_gap-block.result.cost c.open_with_gap-block.ensures.cost in

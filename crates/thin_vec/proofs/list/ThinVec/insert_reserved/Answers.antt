@@ -1,5 +1,4 @@
--- `move_run` moves the items from `index` onward up by one slot, and `put_and_set_len` writes
--- `value` into the empty slot at `index`.
+-- `move_run` empties the slot at `index`, and `put_and_set_len` writes `value` into it.
 use Rattle.std.proofs.Common.{Some, ◌+◌, ◌-◌, ap, ◌∙◌, length, arith, refl}
 use lib.ListN.{set}
 use Rattle.std.specs.Prelude.{insert}

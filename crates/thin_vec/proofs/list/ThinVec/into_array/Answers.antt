@@ -1,5 +1,4 @@
--- The list has exactly `N` items. `take_array` moves them out of their slots into an array, and the
--- empty block is freed.
+-- `take_array` moves the items out of their slots, and the empty block is freed.
 use Rattle.std.proofs.Common.{◌≡◌, ℕ, ◌≤◌, List, ◌∙◌, ap, arith, length, subst, sym}
 use denote.Param.{param}
 use Rattle.thin_block.specs.Block.{IsAllocatedBy}
@@ -11,8 +10,6 @@ use Rattle.thin_block.proofs.SlotsLemmas.{packed-emptied, packed-filled, packed-
 use Rattle.thin_vec.proofs.ListLemmas.{empty-alone, full-same, settled, thin-packed}
 use Rattle.thin_vec.proofs.list.ThinVec.into_array.Goals as goal
 
--- If the block `b` holds the items `xs` in its first slots, then exactly its first `length xs` slots
--- are filled, and its items are `xs`.
 filled : {T A : Type 0} (b : Block T A) (a : A) (xs : List T) (c n : ℕ)
     → b.slots ≡ packed_slots xs c
     → b.len ≡ length xs → IsAllocatedBy b.alloc a → length xs ≤ c → length xs ≡ n

@@ -1,6 +1,4 @@
--- Calls to `next` yield the items in order, and calls to `next_back` yield the items in reverse
--- order. The block of the list satisfies the invariant of an `IntoIter` that has not yielded any
--- item yet.
+-- The block of a list satisfies the invariant of an `IntoIter` that has not yielded an item yet.
 use Rattle.std.proofs.Common.{arith, ◌∙◌}
 use Rattle.thin_vec.proofs.convert.IntoIterLemmas.{rest_in_order, rest_in_reverse}
 use Rattle.thin_vec.proofs.list.ThinVec.into_iter.Goals as goal

@@ -1,5 +1,4 @@
--- Before each iteration of the loop, the items in `vec`, followed by the remaining items of the
--- iterator, are the items of the original list.
+-- The items in `vec`, followed by the remaining items, are the items of the original list.
 use Rattle.std.proofs.Common.{◌≡◌, ◌+◌, ◌++◌, length, vec_capacity, vec_len}
 use Rattle.thin_vec.proofs.list.ThinVec.into_vec.Given as goal
 

@@ -1,5 +1,4 @@
--- `open` splits the items of the list into the front (before index `start`), the middle
--- (`start..end`), and the tail (from index `end` onward), without moving any item.
+-- `open` splits the items into front, middle and tail items, without moving any item.
 use Rattle.std.proofs.Common.{◌≡◌, ◌≤◌, ap, sym, ◌∙◌, subst, arith, drop, length, take, rules}
 use Rattle.std.specs.Prelude.{slice_range}
 use Rattle.thin_block.specs.Slots.{items_in}
@@ -9,8 +8,6 @@ use Rattle.thin_vec.proofs.OpenBlockLemmas.{Found}
 use Rattle.thin_vec.proofs.open_block.StepLemmas.{open-step, opened, opened-view}
 use Rattle.thin_vec.proofs.list.ThinVec.open.Goals as goal
 
--- `replace` returns the old block of the list. So this block satisfies `IsListBlock`, the invariant
--- of a list's block.
 was : (g : _) (c : goal.After-replace-block g)
     → IsListBlock c.replace-block.result c.self.inside.alloc
 was g c = subst (λ b. IsListBlock b c.self.inside.alloc)

@@ -1,5 +1,4 @@
--- `pop_last` requires that the list is not empty, and `pop` calls it only in this case. So `pop`
--- returns the last item, and the list is one item shorter afterwards.
+-- `pop` calls `pop_last` only if the list is not empty.
 use Rattle.std.proofs.Common.{arith}
 use Rattle.std.proofs.lemmas.Grind.{common_steps}
 use Rattle.thin_vec.proofs.list.ThinVec.pop.Goals as goal
@@ -15,6 +14,3 @@ returns-clause-bounds g c = grind (arith, common_steps)
 
 pub returns-clause-value : goal.returns-clause-value
 returns-clause-value g c = λ d some. grind (arith, common_steps)
-
-pub returns-clause-rest : goal.returns-clause-rest
-returns-clause-rest g c = grind (arith, common_steps)

@@ -1,5 +1,4 @@
--- `pop_if` passes the last item to the closure, which may change the item. If the closure returns
--- true, the changed item is removed and returned. Otherwise the changed item remains in the list.
+-- The closure may change the last item, even if this item then remains in the list.
 use Rattle.std.proofs.Common.{◌≡◌, ℕ, ◌-◌, suc, true, false, inr, List, [], ◌∷◌, ◌++◌, length, take, take_all, get_or, Some, refl, sym, ap, subst, ◌∙◌, arith}
 use Rattle.std.proofs.Math.Seq.{take-suc, take-suc-set}
 use Rattle.std.proofs.lemmas.List.{same_from_push}
@@ -7,8 +6,6 @@ use Rattle.std.specs.Fn.{FnOnceReturnsAtMut}
 use lib.ListN.{set, length-set}
 use Rattle.thin_vec.proofs.list.ThinVec.pop_if.Goals as goal
 
--- If `x` is the last item of the list `xs` of length `n + 1`, then `xs` is `take n xs ++ x ∷ []`,
--- and replacing `x` with `y` results in `take n xs ++ y ∷ []`.
 last : {T : Type 0} (xs : List T) (n : ℕ) (x y : T) → length xs ≡ suc n → x ≡ get_or xs n x
     → (xs ≡ take n xs ++ x ∷ []) × (set xs n y ≡ take n xs ++ y ∷ [])
 last xs n x y all is = (

@@ -1,5 +1,4 @@
--- The last item is in the last filled slot. `pop_last` empties this slot, so the list contains all
--- other items afterwards.
+-- `pop_last` empties the last filled slot, which holds the last item.
 use Rattle.std.proofs.Common.{◌≡◌, ◌+◌, ◌++◌, ◌∷◌, [], sym, ap, ◌∙◌, length, take, arith, ◌-◌, refl, rules}
 use Rattle.thin_vec.proofs.ListLemmas.{RestoresInvariant, last-item, restores-pop, thin-filled, list_view-keeps}
 use Rattle.thin_block.specs.Slots.{items_in}

@@ -1,5 +1,4 @@
--- `put_clones` writes the clones into the slots directly after the last item, so the clones are
--- appended to the list.
+-- `put_clones` writes the clones into the slots directly after the last item.
 use Rattle.std.proofs.Common.{◌++◌, ap, arith, length, ◌∙◌, refl, rules}
 use Rattle.thin_block.proofs.BlockLemmas.{slots-are, then-len}
 use Rattle.thin_block.specs.Slots.{items_in}

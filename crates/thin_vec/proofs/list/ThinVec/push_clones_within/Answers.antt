@@ -1,5 +1,4 @@
--- In each iteration, the loop clones the next item of the range, and appends the clone to the list.
--- Appending does not change the items of the range.
+-- Appending the clone of an item does not change the items of the range.
 use Rattle.std.proofs.Common.{[], ◌∷◌, ◌+◌, ◌++◌, ap, append_assoc, arith, get_or, length, ◌∙◌}
 use Rattle.std.proofs.lemmas.List.{length_push}
 use Rattle.std.proofs.lemmas.List.Elements.{all_zip_more}

@@ -7,8 +7,6 @@ use denote.Param.{param}
 use Rattle.thin_vec.specs.ThinVec.{IsBounded}
 use Rattle.thin_vec.proofs.list.ThinVec.push_clones_within.Given as goal
 
--- When the loop variable is `i`, clones of the first `i` items of the range have been appended, and
--- the cost counts `i` moves for these clones.
 abbrev pub invariant-loop-i : goal.invariant-loop-i
 invariant-loop-i g l =
     record {

@@ -1,5 +1,4 @@
--- `put_repeated` writes clones of `value` into the slots directly after the last item, so the
--- clones are appended to the list.
+-- `put_repeated` writes clones of `value` into the slots directly after the last item.
 use Rattle.std.proofs.Common.{◌≡◌, ◌++◌, ap, arith, length, ◌∙◌, refl, rules}
 use Rattle.std.proofs.lemmas.List.{length-replicate}
 use Rattle.thin_block.proofs.BlockLemmas.{slots-are, then-len}

@@ -1,5 +1,4 @@
--- `put_and_set_len` writes `value` into the slot directly after the last item. So `value` is
--- appended to the list, and the capacity does not change.
+-- `put_and_set_len` writes `value` into the slot directly after the last item.
 use Rattle.std.proofs.Common.{◌++◌, ◌∷◌, [], ap, ◌∙◌, length, arith, refl}
 use Rattle.thin_vec.proofs.ListLemmas.{RestoresInvariant, restores-push}
 use Rattle.thin_block.specs.Slots.{items_in}

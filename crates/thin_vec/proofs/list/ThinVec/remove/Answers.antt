@@ -1,5 +1,4 @@
--- `remove` takes the item at `index` out of its slot, and moves all later items down by one slot.
--- The capacity does not change.
+-- `remove` takes the item out of its slot, and moves all later items down by one slot.
 use Rattle.std.proofs.Common.{◌+◌, ◌-◌, ap, ◌∙◌, length, arith, refl}
 use Rattle.std.specs.Prelude.{remove}
 use Rattle.thin_vec.proofs.ListLemmas.{RestoresInvariant, thin-filled, thin-get, kept-filled}

@@ -1,6 +1,5 @@
--- `replace_range_from_copies` calls `reserve`. Only `replace_range_from_copies` requires items that
--- are `Copy`. The two contracts still agree about the capacity and the error, because all they use
--- of the item type is its size and its alignment.
+-- `reserve` does not require items that are `Copy`, but its contract uses only the size and the
+-- alignment of the item type.
 use Rattle.std.proofs.Common.{◌≡◌, ◌+◌, ◌-◌, ◌∙◌, Ok, ap, arith, length, refl}
 use denote.Param.{copied}
 use Rattle.thin_block.proofs.CapacityLemmas.{ruled-at}

@@ -1,5 +1,4 @@
--- `replace_range_from_list` calls `reserve` with the number of items by which the list becomes
--- longer, or 0 if it does not become longer. If `reserve` fails, its error is returned.
+-- `reserve` is called with the number of items by which the list becomes longer, or with 0.
 use Rattle.std.proofs.Common.{◌≡◌, ◌-◌, ◌∙◌, Ok, ap, arith, length}
 use denote.Param.{param}
 use Rattle.thin_vec.specs.ThinVec.{capacity_after_reserve}

@@ -2,14 +2,16 @@
 -- first, and inserts them directly after the range. Then it appends the other clones to the list,
 -- and `replace_by_last` moves these other clones into the range. If an item cannot be cloned, all
 -- clones are dropped, so the list contains its old items again.
-use Rattle.std.proofs.Common.{if◌then◌else◌, ◌≡◌, ◌+◌, ◌-◌, ◌≤◌, ◌++◌, ◌∙◌, ap, arith, eqb, length, length-append, subst, sym}
+use Rattle.std.proofs.Common.{if◌then◌else◌, ◌≡◌, ◌+◌, ◌-◌, ◌≤◌, ◌++◌, ◌∙◌, ap, arith, drop, eqb, length, length-append, subst, sym, take}
+use Rattle.std.proofs.lemmas.List.{length-drop, length-take-le}
 use Rattle.std.proofs.lemmas.List.Elements.{length_all_zip}
 use Rattle.std.specs.List.{AllZip}
 use Rattle.thin_block.specs.Cost.{add_moves}
 use Rattle.thin_vec.specs.Edits.ReplaceRange.{MovesAtMost}
 use Rattle.thin_vec.proofs.RetainLemmas.{moving-more}
 use Rattle.thin_vec.proofs.edits.SpliceLemmas.{any-err}
-use Rattle.thin_vec.proofs.edits.ReplaceRangeLemmas.{IsParted, all_zip-append, at-most-le, at-most-more, brought-in, cloning-moves, if-le, put-and-gone, replaced-length}
+use Rattle.thin_vec.proofs.list.ClonesLemmas.{length-range}
+use Rattle.thin_vec.proofs.edits.ReplaceRangeLemmas.{IsParted, all_zip-append, at-most-le, at-most-more, brought-in, cloning-moves, closed-cost, if-le, put-and-gone, replaced-length}
 use Rattle.thin_vec.proofs.list.ThinVec.replace_reserved_by_clones.Goals as goal
 
 pub returns-in_err-insert_clones_reserved-clause-err_cost :
@@ -83,8 +85,8 @@ returns-in-Err-clause-err_cost g c =
       c.split_at.ensures.front_len,
     ))
 
-pub replace_by_last-requires-clause-in_bounds : goal.replace_by_last-requires-clause-in_bounds
-replace_by_last-requires-clause-in_bounds g c =
+pub open-block-requires-clause-in_bounds : goal.open-block-requires-clause-in_bounds
+open-block-requires-clause-in_bounds g c =
     let more = c.in_default.ensures.items in
     omega (
       arith,
@@ -101,6 +103,10 @@ pub returns-clause-items : goal.returns-clause-items
 returns-clause-items g c =
     let put = c.in_ok-insert_clones_reserved.ensures.items in
     let more = c.in_default.ensures.items in
+    let k = length c.split_at.result.0.now in
+    let t = c.drop_rest.new.self.tail in
+    let front = ap (λ z. z.front) c.drop_rest.ensures ∙ c.open-block.ensures.front in
+    let none = ap (λ z. z.rest) c.drop_rest.ensures in
     record {
       copies = more.0 ++ put.copies;
       cloned =
@@ -109,11 +115,14 @@ returns-clause-items g c =
           (all_zip-append g.T.Clone.is_clone c.split_at.result.0.now c.split_at.result.1.now
           more.0 put.copies more.2 put.cloned);
       items =
-          ap (λ v. v.items) c.replace_by_last.ensures.changes
+          ap (λ v. v.items) c.close.ensures.changes
+          ∙ ((λ m. let z = c.move_last_down.ensures m in z.front ++ (z.rest ++ z.tail))
+          ∙ ((λ m. (front m ++ drop (length t - k) t) ++ (none m ++ take (length t - k) t))
           ∙ brought-in c.args.self.now.items c.args.start c.args.end c.requires.start_le_end
           c.requires.in_bounds more.0 put.copies
           (sym (length_all_zip g.T.Clone.is_clone c.split_at.result.0.now more.0 more.2))
-          (more.1 ∙ ap (λ l. l ++ more.0) put.items);
+          (more.1 ∙ ap (λ l. l ++ more.0) put.items)
+          (ap (λ z. z.tail) c.drop_rest.ensures ∙ c.open-block.ensures.tail)));
     }
 
 pub returns-clause-cost : goal.returns-clause-cost
@@ -141,7 +150,34 @@ returns-clause-cost g c =
     let past : w - k1 - c.args.end ≡ n - c.args.end + k2 =
     omega (arith, all, c.requires.in_bounds) in
     let sum = cloning-moves parted (n - c.args.end) none past in
-    ap (λ v. v.cost) c.replace_by_last.ensures.changes
+    let down = c.move_last_down.ensures in let gone = c.drop_rest.ensures in
+    let o = c.open-block.ensures in
+    let long = ap length o.tail ∙ length-drop c.args.end c.extend_from_slice_reserved.new.self.items in
+    ap (λ v. v.cost) c.close.ensures.changes
+    ∙ closed-cost c.move_last_down.new.self c.extend_from_slice_reserved.new.self.cost k1
+    (c.args.end - c.args.start) (w - k1 - c.args.end) (omega (arith, c.split_at.ensures.front_len, c.min.ensures))
+    (omega (
+      arith,
+      ap (λ z. z.gap) down,
+      ap (λ z. z.gap) gone,
+      o.gap,
+      o.gap_after,
+      ap length o.rest,
+      length-range c.extend_from_slice_reserved.new.self.items c.args.start c.args.end
+          (omega (arith, all, c.requires.in_bounds)),
+    ))
+    (omega (
+      arith,
+      ap (λ z. length z.rest) down,
+      ap (λ z. length z.rest) gone,
+      ap (λ z. length z.tail) down,
+      ap (λ z. length z.tail) gone,
+      length-take-le (length c.drop_rest.new.self.tail - k1) c.drop_rest.new.self.tail (omega arith),
+      long,
+      all,
+      c.requires.in_bounds,
+    ))
+    (ap (λ z. z.cost) down ∙ ap (λ q. add_moves k1 q) (ap (λ z. z.cost) gone ∙ o.cost))
     ∙ (ap (λ q. add_moves (k1 + (if eqb k1 (c.args.end - c.args.start) then 0
     else w - k1 - c.args.end)) q)
     (c.in_default.ensures.cost ∙ (ap (λ q. add_moves k1 q)

@@ -1,5 +1,4 @@
--- The new capacity is the capacity that `capacity_after_reserve` returns. If the list already has
--- room for `additional` more items, this is the old capacity.
+-- If the list has room for `additional` more items, its capacity does not change.
 use Rattle.std.proofs.Common.{arith}
 use Rattle.std.proofs.Common.{refl}
 use Rattle.thin_vec.proofs.list.ReservesLemmas.{reserves-room}

@@ -1,39 +1,63 @@
 -- If `len` is at most the old length, `truncate` keeps the first `len` items. Otherwise `reserve`
--- makes room, and `resize_reserved` appends clones of `value` and finally `value` itself.
+-- makes room, and clones of `value` and finally `value` itself are appended.
 use Rattle.std.proofs.lemmas.Grind.{common_steps}
-use Rattle.std.proofs.Common.{◌≡◌, ◌+◌, ◌-◌, ◌++◌, ap, arith, length, replicate, subst, sym, take, take_all, ◌∙◌}
-use Rattle.std.specs.Prelude.{OnOk}
+use Rattle.std.proofs.Common.{◌≡◌, ◌-◌, [], ◌∷◌, ◌++◌, Err, Ok, ap, append_assoc, arith, length, length-append, refl, replicate, subst, sym, take, take_all, ◌∙◌}
+use Rattle.std.proofs.lemmas.List.{length_push}
 use denote.Param.{param}
-use Rattle.thin_vec.specs.List.Clones.{CloneEquals, IsResized}
+use Rattle.thin_block.specs.declared.errors.ThinVecError.TheVariants.{OutOfMemory}
 use Rattle.thin_vec.specs.ThinVec.{capacity_after_reserve}
 use Rattle.thin_vec.specs.List.Capacity.{Reserves}
-use Rattle.thin_vec.proofs.list.ReservesLemmas.{reserves-room, reserves-then}
+use Rattle.thin_vec.proofs.list.ClonesLemmas.{equal-repeated}
+use Rattle.thin_vec.proofs.list.ReservesLemmas.{keeps-join, keeps-kept, reserves-room, reserves-then}
 use Rattle.thin_vec.proofs.list.ThinVec.resize.Goals as goal
 
 pub returns-clause-items : goal.returns-clause-items
 returns-clause-items g c =
-    let grown = c.reserve.new.self.items in
-    let r = c.resize_reserved.result in
-    let new = c.resize_reserved.new.self.items in
+    let x = c.args.value in
+    let placed = c.push_repeated_reserved.ensures.items in
+    let pushed = c.push_reserved.ensures.items in
     let same = c.reserve.ensures.items in
-    let long : length grown + (c.args.len - c.len-old.result) ≡ c.args.len =
-    omega (arith, ap length same, c.len-old.ensures.value, c.if-len-old.false) in
-    subst (λ xs. OnOk r (IsResized g.T.Clone.is_clone xs c.args.len c.args.value new)) same
-    (subst (λ n. OnOk r (IsResized g.T.Clone.is_clone grown n c.args.value new))
-    long c.resize_reserved.ensures.items)
+    record {
+      shorter = λ less. absurd (omega (arith, less, c.len-old.ensures.value, c.if-len-old.false));
+      longer = λ _. (
+        placed.copies,
+        placed.cloned,
+        pushed ∙ (ap (λ l. l ++ x ∷ []) (placed.items ∙ ap (λ l. l ++ placed.copies) same)
+            ∙ append_assoc c.args.self.now.items placed.copies (x ∷ [])),
+      );
+      len = omega (
+        arith,
+        ap length pushed,
+        length_push c.push_repeated_reserved.new.self.items x,
+        ap length placed.items,
+        length-append c.reserve.new.self.items placed.copies,
+        placed.count,
+        ap length same,
+        c.push_repeated_reserved.ensures.in_bounds,
+        c.if-push_repeated_reserved-count.false,
+        c.len-old.ensures.value,
+        c.if-len-old.false,
+      );
+    }
 
 pub returns-clause-items_if_clones_equal : goal.returns-clause-items_if_clones_equal
-returns-clause-items_if_clones_equal g c =
+returns-clause-items_if_clones_equal g c = λ equal.
     let old = c.args.self.now.items in
     let x = c.args.value in
+    let placed = c.push_repeated_reserved in
     let all : take c.args.len old ≡ old =
     take_all c.args.len old (omega (arith, c.len-old.ensures.value, c.if-len-old.false)) in
-    let same = ap (λ xs. xs ++ replicate (c.args.len - c.len-old.result) x)
+    equal-repeated g.T.Clone.is_clone placed.result (c.args.len - c.len-old.result) equal
+    placed.ensures.items c.push_reserved.ensures.items
+    (omega (
+      arith,
+      placed.ensures.in_bounds,
+      c.if-push_repeated_reserved-count.false,
+      c.if-len-old.false,
+    ))
+    ∙ (ap (λ xs. xs ++ replicate (c.args.len - c.len-old.result) x)
     (c.reserve.ensures.items ∙ sym all)
-    ∙ ap (λ n. take c.args.len old ++ replicate (c.args.len - n) x) c.len-old.ensures.value in
-    subst (λ xs. OnOk c.resize_reserved.result
-    (CloneEquals g.T.Clone.is_clone x → c.resize_reserved.new.self.items ≡ xs))
-    same c.resize_reserved.ensures.items_if_clones_equal
+    ∙ ap (λ n. take c.args.len old ++ replicate (c.args.len - n) x) c.len-old.ensures.value)
 
 pub returns-clause-err : goal.returns-clause-err
 returns-clause-err g c = search (arith, ◌∙◌)
@@ -67,12 +91,34 @@ returns-in_err-reserve-clause-capacity g c =
     subst (λ n. Reserves g.G.Growth.rule (param 0 g.row.T) (c.args.len - n) c.args.self.now
     c.reserve.new.self c.from_residual.result) c.len-old.ensures.value (search (arith, ◌∙◌))
 
+pub returns-then-push_repeated_reserved-count-clause-capacity : goal.returns-then-push_repeated_reserved-count-clause-capacity
+returns-then-push_repeated_reserved-count-clause-capacity g c =
+    let rule = g.G.Growth.rule in let T = param 0 g.row.T in let v = c.args.self.now in
+    let len = sym c.len-old.ensures.value in
+    reserves-then _ v rule T (c.args.len - c.len-old.result) _ c.reserve.new.self _ (Err OutOfMemory)
+    (ap (λ n. c.args.len - n) len)
+    (ap (λ n. capacity_after_reserve rule T v (c.args.len - n)) len)
+    (ap (λ z. z.capacity) c.truncate-then-push_repeated_reserved-count.ensures.changes
+    ∙ ap (λ z. z.capacity) c.push_repeated_reserved.ensures.changes)
+    c.in_ok-reserve.ensures.capacity refl
+
 pub returns-clause-capacity : goal.returns-clause-capacity
 returns-clause-capacity g c =
     let rule = g.G.Growth.rule in let T = param 0 g.row.T in let v = c.args.self.now in
     let len = sym c.len-old.ensures.value in
-    reserves-then _ v rule T (c.args.len - c.len-old.result) _ c.reserve.new.self _ c.resize_reserved.result
+    reserves-then _ v rule T (c.args.len - c.len-old.result) _ c.reserve.new.self _ (Ok tt)
     (ap (λ n. c.args.len - n) len)
     (ap (λ n. capacity_after_reserve rule T v (c.args.len - n)) len)
-    (ap (λ z. z.capacity) c.resize_reserved.ensures.changes) c.in_ok-reserve.ensures.capacity
-    c.resize_reserved.ensures.cause
+    (c.push_reserved.ensures.capacity ∙ ap (λ z. z.capacity) c.push_repeated_reserved.ensures.changes)
+    c.in_ok-reserve.ensures.capacity tt
+
+pub returns-clause-preserved : goal.returns-clause-preserved
+returns-clause-preserved g c =
+    let changes = c.push_repeated_reserved.ensures.changes in
+    keeps-join c.reserve.ensures.preserved
+    (keeps-join
+    (keeps-kept (param 0 g.row.T) c.reserve.new.self c.push_repeated_reserved.new.self
+    (ap (λ z. z.alloc) changes) (ap (λ z. z.capacity) changes)
+    (ap (λ z. z.cost.blocks) changes, ap (λ z. z.cost.grown) changes)
+    c.push_repeated_reserved.ensures.bounds)
+    c.push_reserved.ensures.preserved)

@@ -1,10 +1,16 @@
 -- If the list does not become longer, its capacity does not change. Otherwise, `reserve` determines
--- the new capacity, and `push_results_reserved` does not change the capacity again.
-use Rattle.std.proofs.Common.{Ok, ◌-◌, ap, arith, subst, sym, ◌∙◌}
+-- the new capacity, and the results of `make` are appended.
+use Rattle.std.proofs.Common.{Ok, ◌≡◌, ◌-◌, ◌++◌, ap, arith, length, length-append, refl, subst, sym, take, take_all, ◌∙◌}
 use denote.Param.{param}
 use Rattle.thin_vec.specs.List.Capacity.{Reserves}
 use Rattle.thin_vec.specs.ThinVec.{capacity_after_reserve}
-use Rattle.thin_vec.proofs.list.ReservesLemmas.{reserves-room, reserves-then}
+use Rattle.thin_block.proofs.BlockLemmas.{slots-are, then-len}
+use Rattle.thin_block.specs.Capacity.{Fits}
+use Rattle.thin_block.specs.Slots.{items_in}
+use Rattle.thin_vec.proofs.list.AppendSplitLemmas.{restores-more}
+use Rattle.thin_vec.proofs.ListLemmas.{RestoresInvariant}
+use Rattle.thin_vec.proofs.list.ReservesLemmas.{keeps-join, keeps-settled, reserves-room, reserves-then}
+use Rattle.thin_vec.proofs.list.ThinVec.resize_with.Goals.{After-set_len}
 use Rattle.thin_vec.proofs.list.ThinVec.resize_with.Goals as goal
 
 pub returns-then-len-old-clause-capacity : goal.returns-then-len-old-clause-capacity
@@ -18,6 +24,40 @@ returns-in_err-reserve-clause-capacity g c =
     subst (λ n. Reserves g.G.Growth.rule (param 0 g.row.T) (c.args.len - n) c.args.self.now
     c.reserve.new.self c.from_residual.result) c.len-old.ensures.value (search (arith, ◌∙◌))
 
+-- `put_results` writes the results of `make` into the slots directly after the last item.
+facts : (g : _) (c : After-set_len g)
+    → RestoresInvariant c.set_len.new.self c.self.inside.alloc
+    (items_in c.self.inside.block.slots ++ c.put_results.ensures.slots.0)
+    (length c.self.inside.block.slots)
+facts g c =
+    let put = c.put_results.ensures in
+    let old = c.len-old in
+    let same = ap length c.reserve.ensures.items in
+    let len : old.result ≡ length c.reserve.new.self.items =
+    omega (arith, same, old.ensures.value) in
+    restores-more c.self.invariant c.set_len.new.self put.slots.0 old.result
+    (omega (
+      arith,
+      len,
+      c.self.invariant.packed.len,
+      ap (λ v. length v.items) c.self.view_is,
+    ))
+    (omega (
+      arith,
+      c.in_ok-reserve.ensures.room,
+      put.slots.2,
+      len,
+      c.self.invariant.packed.len,
+      ap (λ v. length v.items) c.self.view_is,
+      ap (λ v. v.capacity) c.self.view_is,
+    ))
+    (omega (arith, put.slots.2, c.if-len-old.false))
+    (then-len c.set_len.ensures.changes
+    (slots-are put.changes put.slots.4))
+
+pub invariant_of-self : goal.invariant_of-self
+invariant_of-self g c = (facts g c).thin
+
 pub returns-clause-capacity : goal.returns-clause-capacity
 returns-clause-capacity g c =
     let rule = g.G.Growth.rule in let T = param 0 g.row.T in let v = c.args.self.now in
@@ -25,5 +65,43 @@ returns-clause-capacity g c =
     reserves-then _ v rule T (c.args.len - c.len-old.result) _ c.reserve.new.self _ (Ok tt)
     (ap (λ n. c.args.len - n) len)
     (ap (λ n. capacity_after_reserve rule T v (c.args.len - n)) len)
-    (ap (λ z. z.capacity) c.push_results_reserved.ensures.changes)
+    ((facts g c).cap ∙ ap (λ z. z.capacity) c.self.view_is)
     c.in_ok-reserve.ensures.capacity tt
+
+pub returns-clause-items : goal.returns-clause-items
+returns-clause-items g c =
+    let made = c.put_results.ensures.slots in
+    let old = c.args.self.now.items in
+    let all : take c.args.len old ≡ old =
+    take_all c.args.len old (omega (arith, c.len-old.ensures.value, c.if-len-old.false)) in (
+      made.0,
+      made.1,
+      (facts g c).items ∙ (ap (λ v. v.items ++ made.0) c.self.view_is
+          ∙ ap (λ l. l ++ made.0) (c.reserve.ensures.items ∙ sym all)),
+      made.3,
+    )
+
+pub returns-clause-len : goal.returns-clause-len
+returns-clause-len g c =
+    let made = c.put_results.ensures.slots in
+    omega (
+      arith,
+      made.2,
+      ap length (facts g c).items,
+      length-append (items_in c.self.inside.block.slots) made.0,
+      ap (λ v. length v.items) c.self.view_is,
+      ap length c.reserve.ensures.items,
+      c.len-old.ensures.value,
+      c.if-len-old.false,
+    )
+
+pub returns-clause-preserved : goal.returns-clause-preserved
+returns-clause-preserved g c =
+    let T = param 0 g.row.T in
+    let kept = c.reserve.ensures.preserved in
+    keeps-join kept
+    (keeps-settled T c.reserve.new.self c.self.invariant c.self.view_is
+    (subst (λ n. Fits T n) (sym (ap (λ z. z.capacity) c.self.view_is)) kept.within.1.fits)
+    (facts g c)
+    (ap (λ z. z.cost) c.set_len.ensures.changes ∙ ap (λ z. z.cost) c.put_results.ensures.changes)
+    (refl, refl))

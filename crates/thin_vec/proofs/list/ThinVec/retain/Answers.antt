@@ -1,5 +1,4 @@
--- `retain` calls `retain_with` with a test that calls the closure `keep` once for each item. So the
--- list contains exactly the items for which `keep` returned true.
+-- The test that `retain` passes to `retain_with` calls the closure `keep` once for each item.
 use Rattle.std.specs.Fn.{CalledAt}
 use Rattle.thin_vec.specs.Edits.Retain.{ReadsOnly}
 use Rattle.thin_vec.proofs.RetainLemmas.{few-retained, retained-through, retained_filtered}

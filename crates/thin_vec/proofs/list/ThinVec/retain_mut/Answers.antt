@@ -1,5 +1,4 @@
--- `retain_mut` calls `retain_with` with a test that calls the closure `keep` once for each item. So
--- what `retain_with` guarantees about the test also holds for `keep`.
+-- The test that `retain_mut` passes to `retain_with` calls the closure `keep` once for each item.
 use Rattle.std.specs.Fn.{CalledAtMut}
 use Rattle.thin_vec.proofs.RetainLemmas.{few-retained, retained-through}
 use Rattle.thin_vec.proofs.list.ThinVec.retain_mut.Goals as goal

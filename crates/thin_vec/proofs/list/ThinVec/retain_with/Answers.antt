@@ -1,5 +1,4 @@
--- `retain_with` calls `retain_rest`, which tests each item and drops the items that are not to be
--- kept. So the list contains exactly the kept items.
+-- `retain_rest` tests each item, and drops the items that are not to be kept.
 use Rattle.std.proofs.Common.{◌≡◌, arith, rules}
 use Rattle.thin_vec.proofs.ThinVecLemmas.{within-like}
 use Rattle.std.proofs.lemmas.Grind.{common_steps}

@@ -1,5 +1,4 @@
--- `ruled` makes a list whose block is `Block::none()`, which has no slots. So the length and the
--- capacity of the list are 0.
+-- The block `Block::none()` has no slots, so the length and the capacity of the list are 0.
 use Rattle.std.proofs.Common.{ap, length, arith, ◌∙◌}
 use Rattle.thin_block.specs.Slots.{items_in}
 use Rattle.thin_vec.proofs.ThinVecLemmas.{within-none}

@@ -1,5 +1,4 @@
--- If `shrink` succeeds, the items are in the first slots of a smaller block with `wanted` slots. So
--- the list contains the same items as before.
+-- If `shrink` succeeds, the items are in the first slots of a block with `wanted` slots.
 use Rattle.std.proofs.Common.{ap, ◌∙◌, arith, length}
 use denote.Param.{param}
 use Rattle.thin_block.proofs.CapacityLemmas.{fits-less}

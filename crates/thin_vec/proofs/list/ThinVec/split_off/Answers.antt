@@ -1,5 +1,4 @@
--- `split_off` makes a new list of capacity `len - at` for the last items. A block of this capacity
--- can be allocated, because the block of the old list has at least `len` slots.
+-- A block of capacity `len - at` can be allocated, because the old block has at least `len` slots.
 use Rattle.std.proofs.Common.{◌-◌, arith, ◌∙◌}
 use denote.Param.{param}
 use Rattle.thin_block.proofs.CapacityLemmas.{fits-less}

@@ -1,5 +1,4 @@
--- `swap_take` takes the item at `index` out of its slot. Unless this is the last item, the
--- last item is moved into the slot, as the specification function `swap_remove` says.
+-- Unless the item at `index` is the last item, `swap_take` moves the last item into its slot.
 use Rattle.std.proofs.Common.{◌-◌, sym, ap, ◌∙◌, length, arith, refl}
 use Rattle.std.specs.List.{slice_get, swap_remove}
 use Rattle.thin_block.proofs.BlockLemmas.{then-len}

@@ -1,5 +1,4 @@
--- The loop drops the items from index `len` onward, one by one. When the loop ends, the list
--- contains only its first `len` items.
+-- The loop drops the items from index `len` onward, one by one.
 use Rattle.std.proofs.Common.{◌≡◌, ◌≤◌, sym, ap, ◌∙◌, length, take, arith, None}
 use lib.ListN.{set}
 use Rattle.thin_block.specs.Slots.{packed_slots, items_in}

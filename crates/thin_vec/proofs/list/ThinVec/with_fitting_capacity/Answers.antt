@@ -1,5 +1,4 @@
--- A newly allocated block holds no items, so the list with this block is empty. Its capacity is the
--- argument `capacity`.
+-- A newly allocated block holds no items.
 use Rattle.std.proofs.Common.{[], arith, refl}
 use Rattle.std.proofs.lemmas.Grind.{common_steps}
 use Rattle.thin_vec.proofs.ListLemmas.{RestoresInvariant}

@@ -1,5 +1,4 @@
--- `append_to_front` puts `value` into the first slot of the gap, directly after the front items. So
--- `value` becomes the last front item, at the cost of one move.
+-- `append_to_front` puts `value` into the first slot of the gap, directly after the front items.
 use Rattle.std.proofs.Common.{◌+◌, ◌-◌, ◌<◌, ◌++◌, ◌∷◌, ◌∙◌, [], Some, ap, arith, length, refl}
 use Rattle.thin_block.specs.Block.{block_view}
 use Rattle.thin_block.specs.Cost.{add_moves}

@@ -1,5 +1,4 @@
--- After the call, the items fill the block from slot 0 onward, without a gap. If there is a gap
--- after the front items, `close_small_gap` moves all later items down to the start of the gap.
+-- If there is a gap after the front items, `close_small_gap` moves all later items to its start.
 use Rattle.std.proofs.Common.{◌≡◌, ◌+◌, ◌-◌, ap, arith, ◌∙◌}
 use Rattle.thin_block.specs.Slots.{packed_slots, move_slots}
 use Rattle.thin_vec.specs.OpenBlock.{open_view}

@@ -8,15 +8,14 @@ use Rattle.thin_vec.proofs.open_block.PairTestLemmas.{run-count, run-ends, run-g
 use Rattle.std.proofs.lemmas.Grind.{common_steps}
 use Rattle.thin_vec.proofs.open_block.OpenBlock.dedup_next.Goals as goal
 
--- If the test decides to remove the next item, `dedup_next` drops this item.
+-- The first item is removed.
 pub returns-then-test_last-clause-deduped : goal.returns-then-test_last-clause-deduped
 returns-then-test_last-clause-deduped g c =
     dedups-goes g.J.PairTest.tests c.args.self.now c.test_last.new.self
     c.take_first-later.result c.test_last.new.later c.test_last.new.self.front
     (search rules) (search rules) (search rules) (search rules)
 
--- If the items are small, or if no item follows, `dedup_next` appends an item that the test keeps
--- to the kept items.
+-- The first item is kept alone.
 pub returns-then-item_size-lt-LARGE-clause-deduped :
     goal.returns-then-item_size-lt-LARGE-clause-deduped
 returns-then-item_size-lt-LARGE-clause-deduped g c =
@@ -24,8 +23,7 @@ returns-then-item_size-lt-LARGE-clause-deduped g c =
     c.take_first-later.result c.test_last.new.later c.test_last.new.self.front
     (search rules) (search rules) (search rules) (search rules)
 
--- If the test keeps the next item and decides to remove the item after it, `dedup_next` appends the
--- first of these items to the kept items, and drops the second.
+-- The first item is kept, and the second item is removed.
 pub returns-then-goes-clause-deduped : goal.returns-then-goes-clause-deduped
 returns-then-goes-clause-deduped g c =
     dedups-two g.J.PairTest.tests c.args.self.now c.take_first.new.self c.args.test.now
@@ -36,8 +34,7 @@ returns-then-goes-clause-deduped g c =
     c.test_next-goes.result c.test_next-goes.ensures.tested (search rules)
     c.if-goes.true c.take_first.result (search rules) (search rules) (search rules)
 
--- If the test keeps the next two items and decides to remove a later item, `dedup_next` moves all
--- items before that item to the end of the kept items, and drops that item.
+-- The first two items are kept, and a later item is removed.
 pub returns-then-rest_len-gt0-clause-deduped : goal.returns-then-rest_len-gt0-clause-deduped
 returns-then-rest_len-gt0-clause-deduped g c =
     let R = g.J.PairTest.tests in
@@ -56,8 +53,7 @@ returns-then-rest_len-gt0-clause-deduped g c =
     c.test_pairs-kept.new.self.rest r goes.0 (run-count R _ _ _ _ _ r (false ∷ []) refl goes.1)
     (search rules) (search rules)
 
--- If the test keeps all remaining items, `dedup_next` moves all of them to the end of the kept
--- items.
+-- No item is removed.
 pub returns-else-rest_len-gt0-clause-deduped : goal.returns-else-rest_len-gt0-clause-deduped
 returns-else-rest_len-gt0-clause-deduped g c =
     let R = g.J.PairTest.tests in

@@ -1,6 +1,4 @@
--- `Dedups` describes what all iterations of the loop so far have done: some of the untested items
--- were tested, and were then either kept or removed. The block still has a gap after its front
--- items, and there is at least one front item. Each iteration reduces the number of untested items.
+-- `DedupsSome` describes all tests so far. Each iteration reduces the number of untested items.
 use Rattle.std.proofs.Common.{◌<◌, length}
 use Rattle.thin_vec.specs.OpenBlock.Dedup.{DedupsSome}
 use Rattle.thin_vec.proofs.open_block.OpenBlock.dedup_rest.Given as goal

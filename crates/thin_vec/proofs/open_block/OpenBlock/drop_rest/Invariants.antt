@@ -1,5 +1,4 @@
--- Each iteration of the loop drops the first remaining item of the range. Its slot becomes part of
--- the gap before the remaining items. Nothing else changes.
+-- Each iteration drops the first remaining item of the range. Its slot becomes part of the gap.
 use Rattle.std.proofs.Common.{◌≡◌, ◌+◌, length}
 use Rattle.thin_vec.proofs.open_block.OpenBlock.drop_rest.Given as goal
 

@@ -1,5 +1,4 @@
--- `put_iter` puts the items that the iterator yields into the gap directly after the front items.
--- So these items become front items, and each of them shortens the gap by one slot.
+-- `put_iter` puts the yielded items into the gap directly after the front items.
 use Rattle.std.proofs.Common.{◌≡◌, ◌-◌, ◌++◌, ◌∙◌, ap, arith, length, sym}
 use Rattle.thin_block.proofs.BlockLemmas.{slots-are}
 use Rattle.thin_block.specs.Block.{block_view}
@@ -10,9 +9,6 @@ use Rattle.thin_vec.proofs.open_block.StepLemmas.{fill-view}
 use Rattle.thin_vec.proofs.PutLemmas.{filled-fits, filled-room}
 use Rattle.thin_vec.proofs.open_block.OpenBlock.fill.Goals as goal
 
--- After the call to `fill`, the block differs from the old block in two ways: the yielded items are
--- in the slots directly after the front items, and the cost counts one more move for each yielded
--- item.
 facts : (g : _) (c : goal.After-self-1 g)
     → let xs = c.put_iter-block.ensures.filled_by.0.items in
     Found (record c.self.inside {

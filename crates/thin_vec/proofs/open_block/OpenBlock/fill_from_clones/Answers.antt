@@ -1,5 +1,4 @@
--- `put_clones` puts the clones into the gap directly after the front items. So the clones become
--- front items, and each clone shortens the gap by one slot.
+-- `put_clones` puts the clones into the gap directly after the front items.
 use Rattle.std.proofs.Common.{◌≡◌, ◌+◌, ◌-◌, ◌++◌, ◌∙◌, ap, arith, length, sym}
 use Rattle.thin_block.proofs.BlockLemmas.{slots-are}
 use Rattle.thin_block.specs.Block.{block_view}

@@ -1,5 +1,4 @@
--- `copy_in` puts the copies into the gap directly after the front items. So the copies become front
--- items, and each copy shortens the gap by one slot.
+-- `copy_in` puts the copies into the gap directly after the front items.
 use Rattle.std.proofs.Common.{refl}
 use Rattle.thin_vec.proofs.open_block.StepLemmas.{fill-view}
 use Rattle.thin_vec.proofs.open_block.OpenBlock.fill_from_copies.Goals as goal

@@ -1,5 +1,4 @@
--- `move_run_to` moves all items of the list `other` into the gap directly after the front items of
--- the open block. So these items become front items.
+-- `move_run_to` moves all items of `other` into the gap directly after the front items.
 use Rattle.thin_block.proofs.BlockLemmas.{then-len}
 use Rattle.thin_block.specs.Block.{block_view}
 use Rattle.thin_block.specs.Cost.{add_moves}
@@ -16,7 +15,6 @@ move_run_to-requires-clause-filled g c = λ i low high.
     thin-filled c.other.inside.block c.other.inside.alloc i c.other.invariant
     (omega (arith, high, c.len-count.ensures.value, c.other.invariant.packed.len))
 
--- `count` is the number of items in the block of the list `other`.
 count : (g : _) (c : goal.After-self-1 g)
     → c.len-count.result ≡ length (items_in c.other.inside.block.slots)
 count g c = c.len-count.ensures.value ∙ c.other.invariant.packed.len
@@ -24,7 +22,6 @@ count g c = c.len-count.ensures.value ∙ c.other.invariant.packed.len
 same : (g : _) (c : goal.After-self-1 g) → c.len-count.result ≡ length c.args.other.now.items
 same g c = count g c ∙ ap (λ v. length v.items) c.other.view_is
 
--- After the move, the items of the list `other` are front items of the open block.
 facts : (g : _) (c : goal.After-self-1 g)
     → Found (record c.self.inside {
       block = c.move_run_to.new.other;

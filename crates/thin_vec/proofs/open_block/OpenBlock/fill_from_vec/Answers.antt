@@ -1,5 +1,4 @@
--- `put_vec` puts the items of the vector into the gap directly after the front items. So these
--- items become front items, and each of them shortens the gap by one slot.
+-- `put_vec` puts the items of the vector into the gap directly after the front items.
 use Rattle.std.proofs.Common.{◌+◌, ◌∙◌, ap}
 use Rattle.thin_vec.proofs.open_block.StepLemmas.{fill-view}
 use Rattle.thin_vec.proofs.open_block.OpenBlock.fill_from_vec.Goals as goal

@@ -1,5 +1,4 @@
--- Since there is no gap, the middle items directly follow the front items. So the first `k` middle
--- items become front items and stay in their slots.
+-- Since there is no gap, the middle items directly follow the front items.
 use Rattle.std.proofs.Common.{◌≤◌, ◌++◌, ap, ◌∙◌, arith, length, take, drop}
 use Rattle.thin_vec.specs.OpenBlock.{open_view}
 use Rattle.thin_vec.proofs.OpenBlockLemmas.{Found}

@@ -1,5 +1,4 @@
--- There are no middle items, as `merge_gaps` requires. So the gap before the middle items and the
--- gap after them form one gap.
+-- There are no middle items, so the gap before them and the gap after them form one gap.
 use Rattle.std.proofs.Common.{◌+◌, ap, sym, ◌∙◌}
 use Rattle.thin_vec.proofs.OpenBlockLemmas.{Found}
 use Rattle.thin_vec.proofs.open_block.StepLemmas.{join-step, joined, joined-view}

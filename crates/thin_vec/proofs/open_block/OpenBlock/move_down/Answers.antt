@@ -1,5 +1,4 @@
--- `close_gap` moves the first `k` middle items into the slots directly after the front items. So
--- these items become front items.
+-- `close_gap` moves the first `k` middle items into the slots directly after the front items.
 use Rattle.thin_block.specs.Block.{block_view}
 use Rattle.std.proofs.Common.{◌≡◌, ◌≤◌, ◌+◌, ◌-◌, ◌++◌, ap, sym, subst, ◌∙◌, arith, length, take, drop}
 use Rattle.std.specs.Prelude.{IsSome}

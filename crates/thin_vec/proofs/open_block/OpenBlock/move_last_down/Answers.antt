@@ -1,5 +1,4 @@
--- `move_run` moves the last `count` tail items into the empty slots directly after the front items.
--- So these items become front items.
+-- `move_run` moves the last `count` tail items into the slots directly after the front items.
 use Rattle.std.proofs.Common.{◌≡◌, ◌-◌, ◌≤◌, ◌++◌, ◌∙◌, ap, arith, drop, length, take}
 use Rattle.thin_block.specs.Cost.{add_moves}
 use Rattle.thin_vec.specs.OpenBlock.{open_view}

@@ -1,5 +1,4 @@
--- `take_first` removes the first middle item, and `append_to_front` puts it directly after the
--- front items. The first call makes the gap one slot longer, and the second one slot shorter.
+-- `take_first` makes the gap one slot longer, and `append_to_front` makes it one slot shorter.
 use Rattle.std.proofs.Common.{◌≡◌, ◌+◌, ◌-◌, ◌∷◌, ◌++◌, ◌∙◌, [], arith, drop, sym, take}
 use Rattle.thin_block.specs.Cost.{add_moves}
 use Rattle.thin_vec.proofs.open_block.OpenBlock.move_one_down.Goals as goal

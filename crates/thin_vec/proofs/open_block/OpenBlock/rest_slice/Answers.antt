@@ -1,5 +1,4 @@
--- The slots `rest_start..rest_end` hold the middle items. So none of these slots is empty, and
--- `rest_slice` can return them as a slice.
+-- The slots `rest_start..rest_end` hold the middle items, so none of these slots is empty.
 use Rattle.std.proofs.Common.{ap, ◌∙◌}
 use Rattle.thin_vec.specs.OpenBlock.{open_view}
 use Rattle.thin_vec.proofs.OpenBlockLemmas.{rest-filled, rest-run}

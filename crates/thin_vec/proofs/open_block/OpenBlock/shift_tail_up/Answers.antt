@@ -1,5 +1,4 @@
--- At least `count` empty slots follow the tail items, so these items can be moved up by `count`
--- slots. The gap before the tail items becomes `count` slots longer.
+-- At least `count` empty slots follow the tail items, so these items can be moved up by `count`.
 use Rattle.std.proofs.Common.{◌≡◌, ℕ, ◌+◌, ◌-◌, ◌≤◌, ◌∙◌, ap, arith, length, subst, sym}
 use Rattle.std.specs.Prelude.{IsSome}
 use Rattle.thin_block.specs.Block.{block_view}
@@ -12,8 +11,6 @@ use Rattle.thin_vec.proofs.OpenBlockLemmas.{Found, reached, tail-filled}
 use Rattle.thin_vec.proofs.open_block.StepLemmas.{spare-empty, widen-step, widened, widened-view}
 use Rattle.thin_vec.proofs.open_block.OpenBlock.shift_tail_up.Goals as goal
 
--- `v` is how contracts see the open block `h`. If `v` has at least `k` empty slots after its tail
--- items, then `h` has at least `k` slots from index `h.len` onward.
 fits : {T A : Type 0} (h : Inside T A) (v : OpenView T A) (k : ℕ) → IsOpenViewOf h (open_view h)
     → open_view h ≡ v
     → tail_end v + k ≤ v.capacity → h.len + k ≤ (open_view h).capacity
@@ -35,8 +32,6 @@ open_gap-opened-requires-clause-filled g c = λ j low high.
     subst (λ b. IsSome (slot b.slots j)) (sym c.replace-block.ensures.value)
     (tail-filled c.self.inside (open_view c.self.inside) o j low (omega (arith, high, o.tail)))
 
--- The call to `shift_tail_up` moves the tail items up by `count` slots and counts one move for each
--- of them. Nothing else in the block changes.
 stored : (g : _) (c : goal.After-self-2-1 g)
     → let h = c.self.inside in
     block_view c.replace-none.new.dest ≡ record (block_view h.block) {

@@ -1,5 +1,4 @@
--- The slot at index `rest_start` holds the first middle item. `take_first` empties this slot, so
--- the slot becomes part of the gap after the front items.
+-- `take_first` empties slot `rest_start`, which then belongs to the gap after the front items.
 use Rattle.std.proofs.Common.{◌≡◌, ◌<◌, ◌+◌, ◌∷◌, List, ap, sym, ◌∙◌, arith, length}
 use Rattle.thin_vec.specs.OpenBlock.{open_view}
 use Rattle.thin_vec.proofs.OpenBlockLemmas.{Found, first-left, first-view, first-step, rest-filled}
@@ -17,8 +16,6 @@ take-requires g c =
 some : (g : _) (c : goal.After-take g) → 0 < length (open_view c.self.inside).rest
 some g c = omega (arith, c.requires.nonempty, ap (λ v. length v.rest) c.self.view_is)
 
--- Before the call, the middle items were the returned item, followed by a list `ys`. After the
--- call, the middle items are `ys`.
 facts : (g : _) (c : goal.After-take g) → (ys : List g.row.T.Denot)
     × ((open_view c.self.inside).rest ≡ c.take.result ∷ ys)
     × Found (first-left c.self.inside c.self.invariant c.take.new.self (some g c))

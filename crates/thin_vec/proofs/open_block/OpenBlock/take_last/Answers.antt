@@ -1,5 +1,4 @@
--- The slot at index `rest_end - 1` holds the last middle item. `take_last` empties this slot, so
--- the slot becomes part of the gap before the tail items.
+-- `take_last` empties slot `rest_end - 1`, which then belongs to the gap before the tail items.
 use Rattle.std.proofs.Common.{◌≡◌, ◌<◌, ◌+◌, ◌∷◌, ◌++◌, ◌-◌, [], List, ap, sym, ◌∙◌, arith, length}
 use Rattle.thin_vec.specs.OpenBlock.{open_view}
 use Rattle.thin_vec.proofs.OpenBlockLemmas.{Found, last-left, last-view, last-step, rest-filled}
@@ -18,8 +17,6 @@ take-requires g c =
 some : (g : _) (c : goal.After-take g) → 0 < length (open_view c.self.inside).rest
 some g c = omega (arith, c.requires.nonempty, ap (λ v. length v.rest) c.self.view_is)
 
--- Before the call, the middle items were a list `ys`, followed by the returned item. After the
--- call, the middle items are `ys`.
 facts : (g : _) (c : goal.After-take g) → (ys : List g.row.T.Denot)
     × ((open_view c.self.inside).rest ≡ ys ++ c.take.result ∷ [])
     × Found (last-left c.self.inside c.self.invariant c.take.new.self (some g c))

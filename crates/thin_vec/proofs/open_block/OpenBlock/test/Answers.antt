@@ -1,5 +1,4 @@
--- The slot at index `rest_start + k` holds the item to be tested. The test may change this item,
--- and changes nothing else.
+-- The test may change the item in slot `rest_start + k`, and changes no other item in the block.
 use Rattle.std.proofs.Common.{◌<◌, ◌+◌, refl, ap, sym, ◌∙◌, arith, length}
 use Rattle.thin_block.specs.Lends.{set_slot}
 use Rattle.thin_vec.specs.OpenBlock.{open_view}
@@ -19,8 +18,6 @@ slot_mut-requires g c =
 low : (g : _) (c : goal.After-self-1 g) → c.args.k < length (open_view c.self.inside).rest
 low g c = omega (arith, c.requires.in_bounds, ap (λ v. length v.rest) c.self.view_is)
 
--- After the test, the slot of the middle item at index `k` holds the item as the test left it, and
--- nothing else has changed.
 facts : (g : _) (c : goal.After-self-1 g) → Written c.self.inside c.self.invariant
     (set_slot c.self.inside.block (c.self.inside.rest_start + c.args.k) c.test.new.item)
     c.args.k (low g c) c.slot_mut.result.now c.test.new.item

@@ -1,5 +1,4 @@
--- The last front item is the last kept item, and its slot is not empty. After the test, this slot
--- holds the item as the test left it, and nothing else has changed.
+-- The last front item is the last kept item. The test may change only this item in the block.
 use Rattle.std.proofs.Common.{◌-◌, refl, ap, sym, ◌∙◌, arith, length}
 use Rattle.thin_block.specs.Lends.{set_slot}
 use Rattle.thin_vec.proofs.open_block.DedupLemmas.{WrittenLast, last-filled, write-last-step}
@@ -12,8 +11,6 @@ slot_mut-requires g c =
           (omega (arith, c.requires.nonempty, ap (λ v. length v.front) c.self.view_is));
     }
 
--- After the test, the slot of the last front item holds the item as the test left it, and nothing
--- else has changed.
 facts : (g : _) (c : goal.After-self-1 g) → WrittenLast c.self.inside
     (set_slot c.self.inside.block (c.self.inside.front_end - 1) c.test.new.kept)
     c.slot_mut.result.now c.test.new.kept

@@ -1,5 +1,4 @@
--- The slot of the first middle item is not empty. After the test, this slot holds the item as the
--- test left it, and nothing else has changed.
+-- The test may change the first middle item, and changes no other item in the block.
 use Rattle.thin_block.proofs.BlockLemmas.{slots-are}
 use Rattle.std.proofs.Common.{◌≡◌, ◌<◌, ◌+◌, refl, ap, sym, ◌∙◌, arith, length, ◌++◌, ◌∷◌, Some}
 use Rattle.thin_vec.specs.OpenBlock.{open_view}
@@ -23,8 +22,6 @@ slot_mut-requires g c =
 low : (g : _) (c : goal.After-self-1 g) → 0 < length (open_view c.self.inside).rest
 low g c = omega (arith, c.requires.nonempty, ap (λ v. length v.rest) c.self.view_is)
 
--- After the test, the slot of the first middle item holds the item as the test left it, and nothing
--- else has changed.
 facts : (g : _) (c : goal.After-self-1 g) → Written c.self.inside c.self.invariant
     (set_slot c.self.inside.block c.self.inside.rest_start c.test.new.later) 0 (low g c)
     c.slot_mut.result.now c.test.new.later

@@ -1,6 +1,4 @@
--- The slots of the middle items at the indices `k - 1` and `k` are not empty. The slice of these
--- two slots is split into two slices of one item each. The test may change these two items, and
--- changes nothing else.
+-- The slice of the middle items at `k - 1` and `k` is split into two slices of one item each.
 use Rattle.std.proofs.Common.{◌+◌, ◌-◌, ◌++◌, ◌<◌, ◌≤◌, ap, sym, ◌∙◌, arith, length, refl, rules, suc}
 use Rattle.std.proofs.lemmas.Grind.{common_steps}
 use lib.ListN.{set}
@@ -29,7 +27,6 @@ split_at_mut-kept-requires g c = grind (arith, common_steps)
 pub bounds-later-0 : goal.bounds-later-0
 bounds-later-0 g c = grind (arith, common_steps)
 
--- The test may change the middle items at the indices `k - 1` and `k`, and changes nothing else.
 facts : (g : _) (c : goal.After-self-3-1 g) → WrittenTwo c.self.inside c.self.invariant
     (c.args.k - 1)
     (set_slots c.self.inside.block (c.self.inside.rest_start + (c.args.k - 1))

@@ -1,5 +1,4 @@
--- The first middle item is kept without a test. Each iteration of the loop tests the next item. The
--- loop ends at the first item to be removed, or after the last item.
+-- The first middle item is kept without a test. The others are tested until one is to be removed.
 use Rattle.std.proofs.Common.{arith, refl, rules}
 use Rattle.thin_vec.proofs.open_block.PairTestLemmas.{pair-goes, pair-more, pair-start}
 use Rattle.std.proofs.lemmas.Grind.{common_steps}

@@ -1,6 +1,4 @@
--- Before each iteration of the loop, `kept` is the number of middle items that have been kept so
--- far, and nothing except middle items has changed. Each iteration reduces the number of untested
--- items.
+-- `kept` middle items have been kept so far. Each iteration reduces the number of untested items.
 use Rattle.std.proofs.Common.{◌≡◌, ◌-◌, length}
 use Rattle.thin_vec.proofs.open_block.PairTestLemmas.{PairStays}
 use Rattle.thin_vec.proofs.open_block.OpenBlock.test_pairs.Given as goal

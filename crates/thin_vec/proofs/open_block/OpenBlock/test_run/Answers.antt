@@ -1,5 +1,4 @@
--- Each iteration of the loop tests the next item. The loop ends at the first item to be removed, or
--- after the last item.
+-- The loop ends at the first item to be removed, or after the last item.
 use Rattle.std.proofs.Common.{arith, refl, rules}
 use Rattle.thin_vec.proofs.open_block.TestLemmas.{stays-goes, stays-more, stays-start}
 use Rattle.std.proofs.lemmas.Grind.{common_steps}

@@ -1,5 +1,4 @@
--- Before each iteration of the loop, the first `at` middle items have been tested and kept, and
--- only middle items have changed. Each iteration reduces the number of untested items.
+-- The first `at` middle items have been tested and kept, and only middle items have changed.
 use Rattle.std.proofs.Common.{◌≡◌, ◌-◌, length}
 use Rattle.thin_vec.proofs.open_block.TestLemmas.{Stays}
 use Rattle.thin_vec.proofs.open_block.OpenBlock.test_run.Given as goal

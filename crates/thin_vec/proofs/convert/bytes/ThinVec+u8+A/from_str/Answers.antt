@@ -7,8 +7,6 @@ use Rattle.thin_block.specs.Growth.{exact_capacity}
 use Rattle.thin_vec.proofs.list.ReservesLemmas.{tells-same}
 use Rattle.thin_vec.proofs.convert.bytes.ThinVec+u8+A.from_str.Goals as goal
 
--- `from_str` fails with `CapacityOverflow` if and only if a block for exactly the bytes of the text
--- is too large to be allocated.
 pub returns-clause-overflow : goal.returns-clause-overflow
 returns-clause-overflow g c =
     tells-same _ _ _ _ (exact-at _ u8 0 (length c.as_bytes.result.now) refl refl

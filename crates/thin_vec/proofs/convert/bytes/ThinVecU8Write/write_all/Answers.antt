@@ -6,8 +6,6 @@ use Rattle.thin_block.proofs.CapacityLemmas.{ruled-at}
 use Rattle.thin_block.proofs.ResultLemmas.{none-some}
 use Rattle.thin_vec.proofs.convert.bytes.ThinVecU8Write.write_all.Goals as goal
 
--- If `write_all` succeeds, then the new capacity is the capacity that the growth rule chooses for
--- the old bytes and the written bytes.
 pub returns-clause-capacity : goal.returns-clause-capacity
 returns-clause-capacity g c =
     ruled-at u8 _ c.args.self.now.capacity (length c.args.self.now.items + length c.args.buf.now)

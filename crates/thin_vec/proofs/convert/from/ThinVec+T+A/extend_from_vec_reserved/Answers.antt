@@ -1,6 +1,4 @@
--- Before the call to `extend_from_vec_reserved`, the list has no items. The function `put_vec` puts
--- the items of the vector into the slots of the list, beginning with slot 0. So after the call, the
--- list contains exactly the items of the vector.
+-- The list has no items before the call, so it has exactly the items that `put_vec` puts into it.
 use Rattle.std.proofs.Common.{◌≡◌, [], ◌++◌, ◌∙◌, ap, arith, length, sym, rules}
 use Rattle.thin_block.proofs.BlockLemmas.{then-len}
 use Rattle.thin_block.specs.Slots.{items_in}
@@ -9,7 +7,6 @@ use Rattle.thin_vec.proofs.list.AppendSplitLemmas.{restores-more}
 use Rattle.thin_vec.proofs.convert.from.ThinVec+T+A.extend_from_vec_reserved.Goals as goal
 use Rattle.thin_vec.proofs.ThinVecLemmas.{within-stays}
 
--- Before the call to `extend_from_vec_reserved`, the block of the list contains no items.
 none : (g : _) (c : goal.After-set_len g) → items_in c.self.inside.block.slots ≡ []
 none g c = ap (λ v. v.items) c.self.view_is ∙ c.requires.is_empty
 

@@ -1,6 +1,4 @@
--- At first, the new list has no items. The function `put_array` puts the items of the array into
--- the slots of the list, beginning with slot 0. So the new list contains exactly the items of the
--- array.
+-- The new list has no items, so it has exactly the items that `put_array` puts into it.
 use Rattle.std.proofs.lemmas.Grind.{common_steps}
 use Rattle.std.proofs.Common.{◌++◌, ap, arith, length, sym, ◌∙◌}
 use Rattle.thin_block.proofs.BlockLemmas.{then-len}

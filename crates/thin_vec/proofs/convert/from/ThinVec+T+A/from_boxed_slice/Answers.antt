@@ -1,5 +1,4 @@
--- `from_boxed_slice` requests a block for exactly the items of the boxed slice. It fails with
--- `CapacityOverflow` if and only if this block is too large to be allocated.
+-- `from_boxed_slice` requests a block for exactly the items of the boxed slice.
 use Rattle.std.proofs.Common.{arith, ◌∙◌, ap}
 use denote.Param.{param}
 use Rattle.thin_block.specs.Growth.{exact_capacity}

@@ -1,5 +1,4 @@
--- `from_copies` fails with `CapacityOverflow` in the same cases as `with_capacity`, which it calls.
--- The bound `Copy` on the item type makes no difference.
+-- The bound `Copy` on the item type does not change the capacity that `with_capacity` names.
 use Rattle.std.proofs.Common.{length, refl}
 use Rattle.thin_block.proofs.CapacityLemmas.{exact-at}
 use Rattle.thin_vec.proofs.list.ReservesLemmas.{tells-made, tells-same}

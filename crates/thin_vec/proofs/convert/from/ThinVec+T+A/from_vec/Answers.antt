@@ -1,5 +1,4 @@
--- `from_vec` requests a block for exactly the items of the vector. It fails with `CapacityOverflow`
--- if and only if this block is too large to be allocated.
+-- `from_vec` requests a block for exactly the items of the vector.
 use Rattle.std.proofs.Common.{◌∙◌, ap}
 use denote.Param.{param}
 use Rattle.thin_block.specs.Growth.{exact_capacity}

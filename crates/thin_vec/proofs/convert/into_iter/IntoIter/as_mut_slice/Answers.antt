@@ -1,5 +1,4 @@
--- `as_mut_slice` lends the slots `start..end`. When the borrow ends, the block is still the block
--- of an iterator, with the items as the borrower left them.
+-- When the borrow of the slots `start..end` ends, the block is still the block of an iterator.
 use Rattle.std.proofs.Common.{ap, refl, ◌∙◌}
 use Rattle.thin_block.specs.Lends.{set_slots as block_with_items}
 use Rattle.thin_vec.specs.Lends.{with_items}

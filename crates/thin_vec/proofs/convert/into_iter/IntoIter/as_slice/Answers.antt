@@ -1,5 +1,4 @@
--- `as_slice` lends the slots `start..end`. These slots are all filled, and they hold the items that
--- have not been yielded yet.
+-- The slots `start..end`, which `as_slice` lends, hold the items not yielded yet.
 use Rattle.std.proofs.Common.{ap, ◌∙◌}
 use Rattle.thin_vec.proofs.convert.IntoIterLemmas.{walked-filled, walked-run}
 use Rattle.thin_vec.proofs.convert.into_iter.IntoIter.as_slice.Goals as goal

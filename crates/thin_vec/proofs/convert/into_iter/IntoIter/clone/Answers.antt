@@ -1,5 +1,4 @@
--- `clone` calls `from_fitting_slice`, which requires that the items fit in a block. They do,
--- because their number is at most the capacity of the iterator's own block.
+-- The items fit in a block, because there are no more than the capacity of the iterator's block.
 use Rattle.std.proofs.Common.{ap, arith, length}
 use denote.Param.{param}
 use Rattle.thin_block.proofs.CapacityLemmas.{fits-less}

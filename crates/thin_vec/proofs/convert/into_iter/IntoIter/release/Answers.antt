@@ -1,5 +1,4 @@
--- `IntoIter::release` requires that no items remain. So all slots of the block are empty, and the
--- block can be released.
+-- No items remain, so all slots of the block are empty, and the block can be released.
 use Rattle.std.proofs.Common.{ap, arith, length}
 use Rattle.thin_vec.proofs.convert.IntoIterLemmas.{walked-empty}
 use Rattle.thin_vec.proofs.convert.into_iter.IntoIter.release.Goals as goal

@@ -1,5 +1,4 @@
--- Slot `start` holds the first item that has not been yielded yet. `take_first` empties this slot
--- and increases `start` by 1, so all other items remain.
+-- `take_first` empties slot `start`, which holds the first remaining item, and increments `start`.
 use Rattle.std.proofs.Common.{◌+◌, ◌<◌, ◌∷◌, ap, sym, ◌∙◌, arith, drop, length, refl, rules}
 use Rattle.thin_block.specs.Slots.{items_in}
 use Rattle.thin_vec.proofs.convert.IntoIterLemmas.{Walking, first-item, restores-first, walked-filled}

@@ -1,12 +1,10 @@
--- Slot `end - 1` holds the last item that has not been yielded yet. `take_last` empties this slot
--- and decreases `end` by 1, so all other items remain.
+-- `take_last` empties slot `end - 1`, which holds the last remaining item, and decrements `end`.
 use Rattle.std.proofs.Common.{◌-◌, ◌<◌, ◌≤◌, ◌∷◌, ◌++◌, [], ap, sym, ◌∙◌, arith, length, take, refl, rules}
 use Rattle.thin_block.specs.Slots.{items_in}
 use Rattle.thin_vec.proofs.convert.IntoIterLemmas.{Walking, last-item, restores-last, walked-filled}
 use Rattle.thin_vec.proofs.ListLemmas.{list_view-keeps}
 use Rattle.thin_vec.proofs.convert.into_iter.IntoIter.take_last.Goals as goal
 
--- Since at least one item remains, `start` is less than `end`.
 some : (g : _) (c : goal.After-take g) → c.self.inside.start < c.self.inside.end
 some g c = omega (
   arith,
@@ -15,8 +13,6 @@ some g c = omega (
   ap (λ v. length v.items) c.self.view_is,
 )
 
--- The call to `take` requires that slot `end - 1` is filled. This holds because at least one item
--- remains.
 pub take-requires : goal.take-requires
 take-requires g c =
     let it = c.self.inside in
@@ -30,8 +26,6 @@ take-requires g c =
           c.self.invariant from to;
     }
 
--- After the call to `take`, the slots `start..end - 1` hold all remaining items except the last
--- one.
 facts : (g : _) (c : goal.After-take g)
     → let it = c.self.inside in
     let most = take (it.end - 1 - it.start) (items_in it.block.slots) in

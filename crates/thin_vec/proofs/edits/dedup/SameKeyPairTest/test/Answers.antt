@@ -1,6 +1,5 @@
 -- To compare an item with the last kept item, `dedup_by_key` calls its closure first for the item
--- itself, and then for the last kept item. The two items count as equal if the two keys that the
--- closure returned are equal.
+-- itself, and then for the last kept item.
 use Rattle.std.proofs.Common.{rules}
 use Rattle.thin_vec.proofs.edits.dedup.SameKeyPairTest.test.Goals as goal
 

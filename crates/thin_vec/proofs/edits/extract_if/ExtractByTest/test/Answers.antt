@@ -5,8 +5,6 @@ use Rattle.std.specs.Fn.{CalledAtMut}
 use Rattle.thin_vec.proofs.edits.ExtractIfLemmas.{not-not}
 use Rattle.thin_vec.proofs.edits.extract_if.ExtractByTest.test.Goals as goal
 
--- The test and its specification each negate the result of the closure. The two negations cancel
--- out.
 pub returns-clause-tested : goal.returns-clause-tested
 returns-clause-tested g c =
     let called : CalledAtMut g.F.FnMut c.args.self.now.pick c.args.item.now c.pick.result

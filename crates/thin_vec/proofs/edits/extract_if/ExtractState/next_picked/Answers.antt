@@ -7,8 +7,6 @@ use Rattle.thin_vec.proofs.edits.ExtractIfLemmas.{cost-of, picked-count, picked-
 use Rattle.thin_vec.proofs.RetainLemmas.{none-left}
 use Rattle.thin_vec.proofs.edits.extract_if.ExtractState.next_picked.Goals as goal
 
--- If `seek_rejected` returns true, it has reached an item to be extracted. `next_picked` removes
--- and returns this item.
 pub returns-then-seek_rejected-clause-steps : goal.returns-then-seek_rejected-clause-steps
 returns-then-seek_rejected-clause-steps g c =
     let R = CalledAtMut g.F.FnMut in
@@ -33,8 +31,6 @@ returns-then-seek_rejected-clause-steps g c =
           (picked-room R (λ s. s.pick) a.count v.picks v.block.rest t a.left a.run));
     }
 
--- If `seek_rejected` returns false, there is no item to be extracted, and `next_picked` returns
--- `None`.
 pub returns-else-seek_rejected-clause-steps : goal.returns-else-seek_rejected-clause-steps
 returns-else-seek_rejected-clause-steps g c =
     let R = CalledAtMut g.F.FnMut in

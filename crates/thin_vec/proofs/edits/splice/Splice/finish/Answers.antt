@@ -1,5 +1,4 @@
--- `finish` first drops the remaining items of the range, and then calls `finish_before_tail` or
--- `finish_at_end`. The contract of `finish` follows from the contracts of these two functions.
+-- `finish` drops the rest of the range, and then calls `finish_before_tail` or `finish_at_end`.
 use Rattle.std.proofs.Common.{[], inl, inr, ◌≡◌, ◌+◌, ◌≤◌, ◌∙◌, ap, arith, length, length-append, subst}
 use denote.Param.{param}
 use Rattle.thin_vec.specs.Edits.Finish.{FinishesSplice}

@@ -1,5 +1,4 @@
--- The contract of the trait method `Clone::clone` follows from the contract of the inherent method
--- `clone`: the list and its clone satisfy `IsClonedList`.
+-- The contract of `Clone::clone` follows from the contract of the inherent method `clone`.
 use Rattle.std.proofs.Common.{sym, ◌∙◌}
 use Rattle.std.proofs.lemmas.List.Elements.{length_all_zip}
 use Rattle.thin_vec.proofs.list.clones.ThinVecClone.clone.Goals as goal

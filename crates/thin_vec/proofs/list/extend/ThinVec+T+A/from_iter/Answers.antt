@@ -1,5 +1,4 @@
--- `from_iter` makes a list whose capacity is the lower bound of the iterator's size hint, and then
--- calls `extend_unhinted`. Its contract follows from the contracts of these two steps.
+-- `from_iter` makes a list for the lower bound of the size hint, and calls `extend_unhinted`.
 use Rattle.std.specs.Iterator.{Yields}
 use Rattle.std.specs.Option.{option_to_list}
 use Rattle.std.proofs.Common.{Err, None, [], refl, Some, inl, inr, ◌++◌, ◌≡◌, ◌∙◌, ap, arith, length, subst, sym}
@@ -15,8 +14,6 @@ use Rattle.thin_vec.specs.List.Extend.{IsCollectedList}
 use Rattle.thin_vec.proofs.list.extend.ThinVec+T+A.from_iter.Goals.{After-extend_unhinted}
 use Rattle.thin_vec.proofs.list.extend.ThinVec+T+A.from_iter.Goals as goal
 
--- After the call to `extend_unhinted`, the capacity is either the lower bound of the size hint, or
--- a capacity that the growth rule has chosen. `IsCollectedList` allows both.
 collected : (g : _) (c : After-extend_unhinted g)
     → IsCollectedList doubling (param 0 g.row.T) c.args.alloc c.extend_unhinted.new.self
     (g.I.Iterator.remaining c.args.iter)

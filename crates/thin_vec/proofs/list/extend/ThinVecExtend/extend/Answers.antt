@@ -1,6 +1,4 @@
--- The contract of the inherent method `extend` implies the contract of the trait method
--- `Extend::extend`. If the call fails, the items that were appended are the first items that the
--- iterator yielded.
+-- The contract of `Extend::extend` follows from the contract of the inherent method `extend`.
 use Rattle.std.proofs.Common.{arith, ap, length, length-append, ◌∙◌}
 use Rattle.thin_vec.proofs.list.ExtendLemmas.{yields-first}
 use Rattle.thin_vec.proofs.list.extend.ThinVecExtend.extend.Goals as goal

@@ -1,5 +1,4 @@
--- `index_mut` borrows the slot of the item at `index`. When the borrow ends, the item at `index` is
--- the value that was written through the reference.
+-- When the borrow ends, the item at `index` is the value that was written through the reference.
 use Rattle.std.proofs.Common.{◌<◌, ap, arith, length, refl, sym, ◌∙◌}
 use Rattle.std.specs.List.{slice_get}
 use Rattle.std.proofs.lemmas.Option.{get_or_from_slice_get}

@@ -1,5 +1,4 @@
--- The method `index` returns a reference to the item of `self.as_slice()` at the given index. This
--- slice contains exactly the items of the list.
+-- The slice `self.as_slice()`, which `index` reads, contains exactly the items of the list.
 use Rattle.std.proofs.Common.{arith}
 use Rattle.std.proofs.lemmas.Grind.{elements}
 use Rattle.thin_vec.proofs.list.index.ThinVecIndexUsize.index.Goals as goal

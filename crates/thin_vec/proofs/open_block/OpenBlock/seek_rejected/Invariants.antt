@@ -1,8 +1,7 @@
--- After some iterations of the loop, the tested items have been kept, and have been moved to the
--- end of the front items.
+-- The tested items have been kept, and have been moved to the end of the front items.
 use Rattle.std.proofs.Common.{length}
 use Rattle.thin_vec.proofs.open_block.SiftedLemmas.{Keeps}
-use Rattle.thin_vec.proofs.open_block.OpenBlock.seek_past_gap.Given as goal
+use Rattle.thin_vec.proofs.open_block.OpenBlock.seek_rejected.Given as goal
 
 abbrev pub invariant-loop-self : goal.invariant-loop-self
 invariant-loop-self g l = record {
