@@ -289,6 +289,7 @@ impl<T: Drop, A: Allocator, G: Growth> Drop for ThinVec<T, A, G> {
 
 // Drops the items in the block of a list, and then frees the block. The loop is not part of `drop`,
 // which is inlined, so that it is compiled only once for each type of list.
+#[inline(never)]
 fn drop_block<T: Drop, A: Allocator>(mut block: Block<T, A>, alloc: A)
     requires packed { IsPacked block.slots block.len }
     requires same_allocator { IsAllocatedBy block.alloc alloc }
