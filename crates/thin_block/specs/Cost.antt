@@ -6,8 +6,8 @@ use Rattle.std.specs.Coded.{Coded, code_by, coded×, coded_ℕ}
 -- `Cost` consists of three counts of the work that has been done on a block since the block was
 -- created.
 pub record Cost : Type 0 where
-  -- The number of granted requests for memory. A request allocates memory, or changes the size of
-  -- an allocation.
+  -- The number of granted requests for memory, not of the blocks that exist. A request allocates
+  -- memory, or changes the size of an allocation.
   pub blocks : ℕ
   -- The number of items that reallocations have copied. Each reallocation counts every item of the
   -- block, even if the address of the block does not change.

@@ -14,22 +14,22 @@ use Rattle.thin_block.specs.Capacity.{fits, min_non_zero_cap, items_offset}
 abbrev pub GrowthRule : Type 0
 GrowthRule = ℕ → ℕ → ℕ → ℕ → Option ℕ
 
--- `IsValidGrowth s a c w n` holds if a block for items of size `s` and alignment `a` may grow from
--- the capacity `c` to the capacity `n` in order to hold `w` items.
-pub record IsValidGrowth (s a c w n : ℕ) : Type 0 where
-  pub enough : w ≤ n
+-- `IsValidGrowth s a c want n` holds if a block for items of size `s` and alignment `a` may grow
+-- from the capacity `c` to the capacity `n` in order to hold `want` items.
+pub record IsValidGrowth (s a c want n : ℕ) : Type 0 where
+  pub enough : want ≤ n
   pub doubled : 2 * c ≤ n
   pub fits : IsTrue (fits s a n)
 
--- `GrowsValidly R c w n` is `IsValidGrowth` for items of the type `R`.
+-- `GrowsValidly R c want n` is `IsValidGrowth` for items of the type `R`.
 abbrev pub GrowsValidly : RattleType → ℕ → ℕ → ℕ → Type 0
-GrowsValidly R c w n = IsValidGrowth (type_size R) (type_align R) c w n
+GrowsValidly R c want n = IsValidGrowth (type_size R) (type_align R) c want n
 
 -- `IsLawful rule` holds if each capacity that `rule` chooses is at least the required capacity, at
 -- least twice the old capacity, and small enough to be allocated.
 abbrev pub IsLawful : GrowthRule → Type 0
-IsLawful rule = (s a c w n : ℕ) → c < w → w < 2 ^ 64 → rule s a c w ≡ Some n
-    → IsValidGrowth s a c w n
+IsLawful rule = (s a c want n : ℕ) → c < want → want < 2 ^ 64 → rule s a c want ≡ Some n
+    → IsValidGrowth s a c want n
 
 -- `checked_capacity s a n` is `Some n` if a block for `n` items of size `s` and alignment `a` is
 -- small enough to be allocated, and `None` otherwise.
@@ -37,10 +37,11 @@ unfoldable pub checked_capacity : ℕ → ℕ → ℕ → Option ℕ
 checked_capacity s a n = if fits s a n then Some n else None
 
 -- `doubling` is the growth rule `Doubling`. It chooses the greater of two numbers: the required
--- capacity, and twice the old capacity. If the old capacity is 0, the second number is the result
--- of `first_capacity` instead. `reserve` in the Rust crate thin-vec uses the same rule.
+-- capacity, and twice the old capacity. If the old capacity is 0, the second number is
+-- `min_non_zero_cap` instead. `reserve` in the Rust crate thin-vec uses the same rule.
 unfoldable pub doubling : GrowthRule
-doubling s a c w = checked_capacity s a (max w (if c == 0 then min_non_zero_cap s else 2 * c))
+doubling s a c want =
+    checked_capacity s a (max want (if c == 0 then min_non_zero_cap s else 2 * c))
 
 -- `double_to k n p` doubles `p` until the result is at least `n`, but at most `k` times.
 abbrev pub double_to : ℕ → ℕ → ℕ → ℕ
@@ -56,8 +57,8 @@ least_power n = double_to n n 1
 -- two, and chooses the greatest capacity for which a block fits into the rounded size. For items of
 -- size 0, the rule is the same as `doubling`.
 unfoldable pub power_bytes : GrowthRule
-power_bytes s a c w = if s == 0 then doubling s a c w else checked_capacity s a
-    ((least_power (items_offset a + max w (2 * c) * s) - items_offset a) / s)
+power_bytes s a c want = if s == 0 then doubling s a c want else checked_capacity s a
+    ((least_power (items_offset a + max want (2 * c) * s) - items_offset a) / s)
 
 -- `FillsPowerOfTwo s a c` holds if, for some power of two `p`, the header and `c` items fit into
 -- `p` bytes, but the header and `c + 1` items do not. Items have the size `s` and the alignment
@@ -68,16 +69,16 @@ pub record FillsPowerOfTwo (s a c : ℕ) : Type 0 where
   pub holds : items_offset a + c * s ≤ power
   pub is_full : power < items_offset a + (c + 1) * s
 
--- `grown_capacity rule R c w` is the capacity of a block for items of the type `R` after reserving
--- room for `w` items under the growth rule `rule`. The old capacity is `c`. If the new capacity
--- would be too large, the result is `None`.
+-- `grown_capacity rule R c want` is the capacity of a block for items of the type `R` after
+-- reserving room for `want` items in total under the growth rule `rule`. The old capacity is `c`.
+-- If the new capacity would be too large, the result is `None`.
 unfoldable pub grown_capacity : GrowthRule → RattleType → ℕ → ℕ → Option ℕ
-grown_capacity rule R c w = if nat_le w c then Some c else
-    (if nat_lt w (2 ^ 64) then rule (type_size R) (type_align R) c w else None)
+grown_capacity rule R c want = if nat_le want c then Some c else
+    (if nat_lt want (2 ^ 64) then rule (type_size R) (type_align R) c want else None)
 
--- `exact_capacity R c w` is the capacity of a block for items of the type `R` after reserving room
--- for exactly `w` items. The old capacity is `c`. If the new block would be too large, the result
--- is `None`.
+-- `exact_capacity R c want` is the capacity of a block for items of the type `R` after reserving
+-- room for exactly `want` items in total. The old capacity is `c`. If the new block would be too
+-- large, the result is `None`.
 unfoldable pub exact_capacity : RattleType → ℕ → ℕ → Option ℕ
-exact_capacity R c w =
-    if nat_le w c then Some c else checked_capacity (type_size R) (type_align R) w
+exact_capacity R c want =
+    if nat_le want c then Some c else checked_capacity (type_size R) (type_align R) want

@@ -1,14 +1,22 @@
--- An open block is the block of a list during an edit. It has three parts, the front, the middle
--- run and the tail, with empty slots between them. (`src/open_block.rt` contains a diagram.)
+-- An open block is the block of a list during an edit. It has three runs of items, the front, the
+-- middle run and the tail, with empty slots between them.
 use Rattle.std.specs.Prelude.{ℕ, ◌+◌, ◌-◌, ◌==◌, List, ◌++◌, Option, if◌then◌else◌, length, refl}
 use Rattle.std.specs.Coded.{Coded, code_by, coded×, coded_ℕ, coded_list, coded_option}
 use Rattle.thin_block.specs.Cost.{Cost, cost_code, add_moves}
 use Rattle.thin_block.specs.Slots.{empty_slots, filled_slots}
 
--- `OpenView T A` describes an open block with the item type `T` and the allocator type `A`.
+-- `OpenView T A` describes an open block with the item type `T` and the allocator type `A`. Its
+-- slots are divided as follows. Each of these parts may consist of no slots.
+--
+-- ```text
+--   +-----------+-----------+-----------+-----------+-----------+-------------+
+--   |   items   |   empty   |   items   |   empty   |   items   |    empty    |
+--   +-----------+-----------+-----------+-----------+-----------+-------------+
+--       front        gap        rest      gap_after     tail      spare slots
+-- ```
 pub record OpenView (T A : Type 0) : Type 0 where
-  -- The front items: the items before the edited range, and the items that have been kept or
-  -- inserted so far.
+  -- The front items: the items before the edited range, then the items of the range that a call
+  -- such as `retain` has kept so far, or the items that `finish` of a `Splice` has inserted so far.
   pub front : List T
   -- The number of empty slots between the front and the middle run.
   pub gap : ℕ
@@ -55,7 +63,8 @@ module _ {T A : Type 0} where
   abbrev pub tail_end : OpenView T A → ℕ
   tail_end v = tail_start v + length v.tail
 
-  -- `range_len v` is the number of slots between the front and the tail of the open block `v`.
+  -- `range_len v` is the number of slots between the front and the tail of the open block `v`. For
+  -- a `Drain` or a `Splice`, this is the length of the range, whatever has been yielded of it.
   abbrev pub range_len : OpenView T A → ℕ
   range_len v = v.gap + length v.rest + v.gap_after
 
@@ -77,6 +86,7 @@ module _ {T A : Type 0} where
   cost_closed v = if v.gap == 0 then v.cost else add_moves (length v.rest + length v.tail) v.cost
 
   -- `cost_drained v` is the recorded cost of the open block `v` after its middle items have been
-  -- removed, and its tail items have been moved down to follow the front directly.
+  -- removed, and its tail items have been moved down to follow the front directly. This is the cost
+  -- after the drop of a `Drain`. If the range has no slots, nothing is moved.
   abbrev pub cost_drained : OpenView T A → Cost
   cost_drained v = if range_len v == 0 then v.cost else add_moves (length v.tail) v.cost

@@ -8,8 +8,8 @@ use crate::growth::{Growth, checked_capacity};
 use crate::sizes::item_size;
 
 /// A growth rule that chooses the required capacity or twice the old capacity, whichever is
-/// greater. If the old capacity is 0, it chooses at least `first_capacity`. The Rust crate thin-vec
-/// uses the same rule.
+/// greater. If the old capacity is 0, it chooses at least 4, or at least 1 if an item takes more
+/// than `usize::MAX / 8` bytes. The Rust crate thin-vec uses the same rule.
 pub struct Doubling {}
 
 impl Growth for Doubling {

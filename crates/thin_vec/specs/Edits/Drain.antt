@@ -15,9 +15,13 @@ use Rattle.thin_vec.specs.declared.edits.holder.IntoInner.{Ghosts as IntoInnerGh
 -- module, the type of this field is `Holder`, as in every `Drain` that the method `drain` returns.
 module _ {T A G : Type 0} {g : Ghosts G}
     {h : IntoInnerGhosts (Holder (OpenView T A)) (OpenView T A)} where
-  -- `drain_block d` is the open block that the `Drain` `d` owns. Its three parts are the items
-  -- before the range, the items of the range not yet yielded, and the items after the range. When
-  -- `d` is dropped, the first and the last part remain in the list.
+  -- `drain_block d` is the open block that the `Drain` `d` owns. Its front contains the items
+  -- before the range, its `rest` the items of the range that have not been yielded yet, and its
+  -- tail the items after the range. The slots of the yielded items are empty: `gap` is at the start
+  -- of the range, and `gap_after` at its end.
+  --
+  -- When `d` is dropped, the front and the tail remain in the list. The contract of `drop` says so,
+  -- and calls this block `H.inner holder`.
   abbrev pub drain_block : Drain T A G (Holder (OpenView T A)) g h → OpenView T A
   drain_block d = d.holder.value
 
@@ -77,17 +81,19 @@ module _ {T A G : Type 0} {g : Ghosts G}
     pub count : length items ≡ length before + length after
 
   -- `DrainKeepsAlong d` states that calls to `next` on the `Drain` `d`, however many there are, do
-  -- not change the list that will remain after `d` is dropped.
+  -- not change the list that will remain after `d` is dropped. This follows from `DrainSteps`.
   abbrev pub DrainKeepsAlong : Drain T A G (Holder (OpenView T A)) g h → Type 0
   DrainKeepsAlong first = (items : List T) (later : Drain T A G (Holder (OpenView T A)) g h)
       → Yields DrainSteps first items later → DrainKeeps first later
 
-  -- `DrainsInOrder d` states that calls to `next` on any `Drain` yield the remaining items of the
-  -- range in order. The value `d` only names the type of the `Drain`.
-  abbrev pub DrainsInOrder : Drain T A G (Holder (OpenView T A)) g h → Type 0
-  DrainsInOrder d = YieldsInOrder DrainSteps drain_rest
+  -- `DrainYieldsInOrder d` states that calls to `next` on any `Drain` yield the remaining items of
+  -- the range in order. The value `d` only names the type of the `Drain`. This follows from
+  -- `DrainSteps`.
+  abbrev pub DrainYieldsInOrder : Drain T A G (Holder (OpenView T A)) g h → Type 0
+  DrainYieldsInOrder d = YieldsInOrder DrainSteps drain_rest
 
-  -- `DrainsInReverse d` states that calls to `next_back` on any `Drain` yield the remaining items
-  -- of the range in reverse order. The value `d` only names the type of the `Drain`.
-  abbrev pub DrainsInReverse : Drain T A G (Holder (OpenView T A)) g h → Type 0
-  DrainsInReverse d = YieldsInReverse DrainStepsBack drain_rest
+  -- `DrainYieldsInReverse d` states that calls to `next_back` on any `Drain` yield the remaining
+  -- items of the range in reverse order. The value `d` only names the type of the `Drain`. This
+  -- follows from `DrainStepsBack`.
+  abbrev pub DrainYieldsInReverse : Drain T A G (Holder (OpenView T A)) g h → Type 0
+  DrainYieldsInReverse d = YieldsInReverse DrainStepsBack drain_rest

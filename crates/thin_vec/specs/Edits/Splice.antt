@@ -16,9 +16,14 @@ use Rattle.thin_vec.specs.declared.edits.splice.Splice.{Splice}
 use Rattle.thin_vec.specs.declared.edits.holder.IntoInner.{Ghosts as IntoInnerGhosts}
 
 module _ {S T A : Type 0} (steps : S → Option T → S → Type 0) where
-  -- `SpliceErrorAccountsFor can remaining s placed error` describes a call to `finish` that
+  -- `SpliceErrorAccountsFor steps can remaining s placed error` describes a call to `finish` that
   -- inserted the items `placed` and then failed with `error`. The iterator `s` yielded first the
-  -- items `placed`, and then the items that `error` contains.
+  -- items `placed`, and then the items that `error` contains: those in `held`, and then `in_hand`.
+  -- `YieldsAndCanContinue` says what `steps`, `can` and `remaining` are. One of two cases holds:
+  --
+  -- - `next` may be called on the `rest` of the iterator. There are items in `held` only if there
+  --   is an item `in_hand`.
+  -- - The iterator has ended. There are items in `held`, and none `in_hand`.
   abbrev pub SpliceErrorAccountsFor : (S → Type 0) → (S → Count) → S → List T → SpliceRefused T S A
       → Type 0
   SpliceErrorAccountsFor can remaining s placed error =
@@ -29,24 +34,27 @@ module _ {S T A : Type 0} (steps : S → Option T → S → Type 0) where
       × YieldsThen steps s (placed ++ error.held.items) None error.rest)
 
 module _ {T A : Type 0} where
-  -- `IsSpliceCause` states why a call to `finish` failed with `error`. The growth rule is `rule`,
-  -- the item type is `R`, the list after the call is `w`, and the items after the range are `tail`.
-  -- The rest of the iterator may yield at most `left` items.
+  -- `IsSpliceCause rule R w tail left error` states why a call to `finish` failed with `error`. The
+  -- growth rule is `rule`, the item type is `R`, the list after the call is `w`, and the items
+  -- after the range are `tail`. The rest of the iterator may yield at most `left` items. Exactly
+  -- one field applies to an error.
   pub record IsSpliceCause {S : Type 0} (rule : GrowthRule) (R : RattleType) (w : ListView T A)
       (tail : List T)
       (left : Count) (error : SpliceRefused T S A) : Type 0 where
     -- If the error contains no item, the call could not reserve room for the size hint.
     pub by_hint : error.held.items ≡ [] → error.in_hand ≡ None
         → FailsAtHint rule R w left error.cause
-    -- If the error contains only the vector `held`, there was no room for the items in `held`.
+    -- If the error contains only items in `held`, there was no room for these items in the list.
     pub by_held : 0 < length error.held.items → error.in_hand ≡ None
-        → (error.cause ≡ CapacityOverflow)
-        ↔ (capacity_after_reserve rule R w (length error.held.items) ≡ None)
-    -- The vector `held` could not get memory for the item in `in_hand`.
+        → ((error.cause ≡ CapacityOverflow)
+        ↔ (capacity_after_reserve rule R w (length error.held.items) ≡ None))
+    -- If items follow the range and there is an item `in_hand`, the vector `held` could not get
+    -- memory for this item.
     pub by_in_hand : 0 < length tail → IsSome error.in_hand → error.cause ≡ OutOfMemory
-    -- There was no room for the item in `in_hand`.
+    -- If no item follows the range and there is an item `in_hand`, there was no room for this item
+    -- in the list.
     pub by_push : tail ≡ [] → IsSome error.in_hand
-        → (error.cause ≡ CapacityOverflow) ↔ (capacity_after_reserve rule R w 1 ≡ None)
+        → ((error.cause ≡ CapacityOverflow) ↔ (capacity_after_reserve rule R w 1 ≡ None))
 
   -- `FailsAsExtend v w s error` describes a call to `finish` that failed with `error`, where no
   -- item follows the range. `v` is the list without the items of the range, `w` is the list after
@@ -54,6 +62,8 @@ module _ {T A : Type 0} where
   pub record FailsAsExtend {S : Type 0} (v w : ListView T A) (s : S) (error : SpliceRefused T S A)
       : Type 0 where
     pub held : error.held.items ≡ []
+    -- If no item is `in_hand`, the list is `v`, and no item was taken from the iterator. Otherwise,
+    -- the list is full.
     pub in_hand : MatchOption error.in_hand ((w ≡ v) × (error.rest ≡ s))
         (λ _. length w.items ≡ w.capacity)
 
@@ -73,8 +83,10 @@ module _ {T A : Type 0} where
   with_replacement v xs = (v.front ++ xs) ++ v.tail
 
 module _ {I T A G H : Type 0} {g : Ghosts G} {h : IntoInnerGhosts H (OpenView T A)} where
-  -- `splice_block s` is the open block that the `Splice` `s` owns. Its three parts are the items
-  -- before the range, the items of the range not yet yielded, and the items after the range.
+  -- `splice_block s` is the open block that the `Splice` `s` owns. Its front contains the items
+  -- before the range, its `rest` the items of the range that have not been yielded yet, and its
+  -- tail the items after the range. The slots of the yielded items are empty: `gap` and
+  -- `gap_after`.
   abbrev pub splice_block : Splice I T A G H g h → OpenView T A
   splice_block s = h.inner s.holder
 
@@ -110,13 +122,15 @@ module _ {I T A G H : Type 0} {g : Ghosts G} {h : IntoInnerGhosts H (OpenView T 
   abbrev pub splice_replaced : Splice I T A G H g h → List T → List T
   splice_replaced s xs = with_replacement (splice_block s) xs
 
-  -- `HasSlotsFor s most` holds if the range of the `Splice` `s` has at least `most` slots, or if
-  -- no item follows the range and the list without the range has room for `most` more items. Then
-  -- `s` can insert `most` items without a request for memory.
+  -- `HasSlotsFor s n` states that the `Splice` `s` can insert `n` items without a request for
+  -- memory. It holds in two cases:
+  --
+  -- - The range has at least `n` slots.
+  -- - No item follows the range, and the list without the range has room for `n` more items.
   abbrev pub HasSlotsFor : Splice I T A G H g h → ℕ → Type 0
-  HasSlotsFor s most =
-      (most ≤ splice_range s)
-      ⊎ (((splice_block s).tail ≡ []) × HasRoomFor (splice_outside_range s) most)
+  HasSlotsFor s n =
+      (n ≤ splice_range s)
+      ⊎ (((splice_block s).tail ≡ []) × HasRoomFor (splice_outside_range s) n)
 
   -- `SpliceKeeps old new` states that `old` and `new` borrow the same list, own the same iterator,
   -- and differ only in which items of the range have already been yielded.

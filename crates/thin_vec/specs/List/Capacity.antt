@@ -2,7 +2,7 @@
 -- the new capacity, the errors and the cost. (std: `Vec::reserve`)
 --
 -- The list before the call is `v`, the list after the call is `w`, and the result is `r`. If the
--- list must grow, the default growth rule chooses at least twice the old capacity.
+-- list must grow, every growth rule chooses at least twice the old capacity (`IsLawful`).
 use Rattle.std.specs.Prelude.{◌≡◌, ◌↔◌, ◌⊎◌, ℕ, ◌^◌, ◌<◌, ◌≤◌, IsErrOf, OnErr, OnOk, Option, Result, length}
 use Rattle.std.specs.declared.option.Option.TheVariants.{None, Some}
 use Rattle.std.specs.declared.result.Result.TheVariants.{Ok, Err}
@@ -47,35 +47,44 @@ module _ {T A : Type 0} where
   -- the result `r`.
   pub record Reserves (rule : GrowthRule) (R : RattleType) (k : ℕ) (v w : ListView T A)
       {X : Type 0} (r : Result X ThinVecError) : Type 0 where
-    -- This follows from the fields `ok` and `err`.
+    -- This follows from `ok` and `err`. It is here for the proofs of callers.
     pub had_room : HasRoomFor v k → w.capacity ≡ v.capacity
     pub ok : OnOk r (capacity_after_reserve rule R v k ≡ Some w.capacity)
     -- A call that fails after it has reserved the room leaves the list with the new capacity.
     pub err : OnErr r ((w ≡ v) ⊎ (capacity_after_reserve rule R v k ≡ Some w.capacity))
     pub overflow : IsErrOf r CapacityOverflow ↔ (capacity_after_reserve rule R v k ≡ None)
 
-  -- `PreservesList R v w` describes a call that changed the list `v` of items of the type `R` to
-  -- `w`. The allocator did not change, the capacity did not shrink (which follows from `Reserves`,
-  -- where both hold), and the bound `IsCheap` on the cost was preserved.
+  -- `PreservesList R v w` says what a call preserved that changed the list `v` of items of the type
+  -- `R` to `w`. The allocator did not change, the capacity did not shrink (which follows from
+  -- `Reserves`, where both hold), and the bound `IsCheap` on the cost was preserved. Before and
+  -- after the call, the length and the capacity are within their bounds (`within`).
   pub record PreservesList (R : RattleType) (v w : ListView T A) : Type 0 where
     pub alloc : w.alloc ≡ v.alloc
     pub never_less : v.capacity ≤ w.capacity
     pub cheap : IsCheap v → IsCheap w
     pub within : IsBounded R v × IsBounded R w
 
-  -- `Grows rule R k v w r` says in one record, which has no records in it, what `Reserves` and
-  -- `PreservesList` say of a call that leaves the list as it was if it fails. A proof by search
-  -- reads each record of each call before it, and so gets through more calls. The lemmas
-  -- `grows-reserves` and `grows-preserved` make the two records of it.
+  -- `Grows rule R k v w r` describes a call that needs room for `k` more items of the type `R`,
+  -- under the growth rule `rule`. The call changes the list from `v` to `w`, and its result is `r`.
+  -- If the call fails, the list is unchanged: this is a clause of its own (`err`) in each contract.
+  --
+  -- `Grows` and this clause together say the same as `Reserves` and `PreservesList`. There are no
+  -- records in `Grows`, because a proof by search reads every record of every call before it. The
+  -- lemmas `grows-reserves` and `grows-preserved` make the two records of it.
   pub record Grows (rule : GrowthRule) (R : RattleType) (k : ℕ) (v w : ListView T A)
       {X : Type 0} (r : Result X ThinVecError) : Type 0 where
+    -- This follows from `ok` and from the clause `err`. It is here for the proofs of callers.
     pub had_room : HasRoomFor v k → w.capacity ≡ v.capacity
     pub ok : OnOk r (capacity_after_reserve rule R v k ≡ Some w.capacity)
+    -- The cause of a failure is `CapacityOverflow` if the new capacity would be too large.
+    -- Otherwise it is `OutOfMemory`.
     pub overflow : IsErrOf r CapacityOverflow ↔ (capacity_after_reserve rule R v k ≡ None)
     pub alloc : w.alloc ≡ v.alloc
     pub never_less : v.capacity ≤ w.capacity
     pub cheap : IsCheap v → IsCheap w
+    -- A fact about the list before the call, which holds for every list. It requires nothing.
     pub was_room : length v.items ≤ v.capacity
+    -- The last three fields are those of `IsBounded R w`.
     pub room : length w.items ≤ w.capacity
     pub small : w.capacity < 2 ^ 63
     pub fits : Fits R w.capacity

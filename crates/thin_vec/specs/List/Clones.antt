@@ -8,11 +8,12 @@ use Rattle.thin_vec.specs.Cheap.{IsCheap}
 use Rattle.thin_vec.specs.ThinVec.{ListView, cost_after_resize, cost_of_new}
 
 module _ {T : Type 0} (clones : T → T → Type 0) where
-  -- `CloneEquals x` states that every clone of the item `x` equals `x`.
+  -- `CloneEquals clones x` states that every clone of the item `x` equals `x`.
   abbrev pub CloneEquals : T → Type 0
   CloneEquals x = (y : T) → clones x y → y ≡ x
 
-  -- `ClonesEqual` states that, for each value `x` of the type `T`, every clone of `x` equals `x`.
+  -- `ClonesEqual clones` states that every clone of every value of the type `T` equals this value.
+  -- It is a statement about the type, not only about the items of one call. It holds for numbers.
   abbrev pub ClonesEqual : Type 0
   ClonesEqual = (x : T) → CloneEquals x
 
@@ -52,18 +53,24 @@ pub record IsResized {T : Type 0} (clones : T → T → Type 0) (xs : List T) (n
   pub len : length ys ≡ n
 
 -- `FailsAtClone infallible sources before after` describes a call that cloned items of `sources` in
--- order, until a clone failed. The recorded cost changed from `before` to `after`. `infallible x`
--- states that cloning `x` cannot fail.
+-- order, until a clone failed. The recorded cost was `before` when the first clone was made, and is
+-- `after` at the end of the call. `infallible x` states that cloning `x` cannot fail.
 pub record FailsAtClone {T : Type 0} (infallible : T → Type 0) (sources : List T)
     (before after : Cost) : Type 0 where
+  -- The index of the item that could not be cloned. So this is also the number of clones that were
+  -- made before. No clause says which index it is.
   pub at : ℕ
   pub in_bounds : at < length sources
+  -- This states only that cloning the item at this index could fail.
   pub fallible : HoldsAt (λ x. ¬ (infallible x)) sources at
+  -- Each clone that was made counts as one move, although it was dropped again.
   pub cost : after ≡ add_moves at before
 
--- `CostsFailedClone infallible sources v w` bounds the cost of a call that cloned `sources` into a
--- list until a clone failed, and changed the list from `v` to `w`. `infallible x` states that
--- cloning `x` cannot fail.
+-- `CostsFailedClone infallible sources v w` states the cost of a call that reserved room for clones
+-- of `sources`, made clones until one failed, and changed the list from `v` to `w`. A change of the
+-- capacity counts as usual. In addition, there is one move for each clone that was made before the
+-- item that could not be cloned (`FailsAtClone`). `infallible x` states that cloning `x` cannot
+-- fail.
 abbrev pub CostsFailedClone : {T A : Type 0} → (T → Type 0) → List T → ListView T A → ListView T A
     → Type 0
 CostsFailedClone infallible sources v w =

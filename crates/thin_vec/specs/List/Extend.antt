@@ -29,27 +29,39 @@ pub record YieldsAndCanContinue {S X : Type 0} (steps : S → Option X → S →
   pub can_next : can t
   pub finite : IsFinite (remaining t)
 
--- `IsKeptOrGrown rule R c d` holds if `d` equals the old capacity `c`, or is at least a capacity
--- that the growth rule `rule` may choose when a block of capacity `c` grows. The item type is `R`.
+-- `IsKeptOrGrown rule R c d` is a lower bound of a new capacity `d`. Either `d` is the old capacity
+-- `c`, or `d` is at least the capacity `n` that the growth rule `rule` chooses if a block of
+-- capacity `c` must hold `want` items, for some `want` above `c`. The item type is `R`.
 abbrev pub IsKeptOrGrown : GrowthRule → RattleType → ℕ → ℕ → Type 0
 IsKeptOrGrown rule R c d =
-    (d ≡ c) ⊎ ((w : ℕ) × (n : ℕ) × (c < w) × (grown_capacity rule R c w ≡ Some n) × (n ≤ d))
+    (d ≡ c) ⊎ ((want : ℕ) × (n : ℕ) × (c < want) × (grown_capacity rule R c want ≡ Some n)
+    × (n ≤ d))
 
--- `IsChosenByRule rule R d n` holds if the growth rule `rule` may choose the capacity `d` for a
--- list that needs room for at most `n` items of the type `R`. The number `e` is the capacity before
--- the last growth. (`IsKeptOrGrown` compares the new capacity with the one before the call.)
+-- `IsChosenByRule rule R d n` is an upper bound of a new capacity `d`. It holds if the growth rule
+-- `rule` chooses `d` when a block of some capacity `e` must hold `want` items, for some `want`
+-- above `e` that is at most `n`. The item type is `R`.
+--
+-- When a call grows a list several times, `e` is the capacity before the last growth. But the
+-- statement holds if there is any such `e`, so it does not say that the growth began at the old
+-- capacity.
 abbrev pub IsChosenByRule : GrowthRule → RattleType → ℕ → ℕ → Type 0
-IsChosenByRule rule R d n = (e w : ℕ) × (e < w) × (w ≤ n) × (grown_capacity rule R e w ≡ Some d)
+IsChosenByRule rule R d n =
+    (e want : ℕ) × (e < want) × (want ≤ n) × (grown_capacity rule R e want ≡ Some d)
 
--- `IsKeptOrChosen rule R c d n` compares an old capacity `c` with a new capacity `d`. It holds if
--- the two capacities are equal, or if the growth rule `rule` may choose `d` for a list that needs
--- room for at most `n` items of the type `R` (`IsChosenByRule`).
+-- `IsKeptOrChosen rule R c d n` is an upper bound of a new capacity `d`. Either `d` is the old
+-- capacity `c`, or the growth rule `rule` chooses `d` for at most `n` items of the type `R`
+-- (`IsChosenByRule`).
 abbrev pub IsKeptOrChosen : GrowthRule → RattleType → ℕ → ℕ → ℕ → Type 0
 IsKeptOrChosen rule R c d n = (d ≡ c) ⊎ IsChosenByRule rule R d n
 
 -- `IsCapacityAfterExtend rule R v d n left` holds if the list `v` may have capacity `d` after items
 -- of an iterator were added to it. The new length is `n`, the growth rule is `rule`, and the item
 -- type is `R`. The iterator could yield at most `left` items.
+--
+-- The number `h` is at most `left`. For `extend`, it is a possible lower bound in the size hint.
+-- For `finish` of a `Splice` with items after the range, `v` is the list without the range. Then
+-- `h` is the number of slots of the range plus a possible lower bound for the items that did not
+-- fit there.
 abbrev pub IsCapacityAfterExtend : {T A : Type 0} → GrowthRule → RattleType → ListView T A → ℕ → ℕ
     → Count → Type 0
 IsCapacityAfterExtend rule R v d n left =
@@ -72,23 +84,30 @@ RequestsAtMost b n left = (h : ℕ) × IsWithinCount h left × (b ≤ 1 + (n - h
 
 module _ {T A : Type 0} where
   -- `ExtendsCapacity rule R v w left` restricts the capacity of the list `w`, which is the list `v`
-  -- after items of an iterator were added. The growth rule is `rule`, the item type is `R`, and the
-  -- iterator could yield at most `left` items.
+  -- after items of an iterator were added: `loose` is a lower bound, and `ruled` an upper bound.
+  -- The growth rule is `rule`, the item type is `R`, and the iterator could yield at most `left`
+  -- items.
   pub record ExtendsCapacity (rule : GrowthRule) (R : RattleType) (v w : ListView T A)
       (left : Count) : Type 0 where
-    -- In particular, nothing is allocated if the iterator cannot yield any item.
+    -- If `v` has room for all items that the iterator could yield, the capacity is unchanged. In
+    -- particular, it is unchanged if the iterator cannot yield any item.
     pub had_room : HasRoomFor v (size left) → w.capacity ≡ v.capacity
+    -- If the capacity changed, it is at least one that the growth rule chooses for more items than
+    -- the old capacity.
     pub loose : IsKeptOrGrown rule R v.capacity w.capacity
-    -- The new capacity is the old one, one that the growth rule may choose for at most
-    -- `length w.items` items, or the one after `reserve(h)`, where `h` is a possible lower bound in
-    -- the size hint of the iterator.
+    -- The new capacity is the old one, one that the growth rule chooses for at most
+    -- `length w.items` items, or the one after `reserve(h)` on `v`. `IsCapacityAfterExtend` says
+    -- what `h` is.
     pub ruled : IsCapacityAfterExtend rule R v w.capacity (length w.items) left
 
   -- `CostsInserting v w n` bounds the recorded cost of a call that added items to a list, and
   -- changed the list from `v` to `w`. Each added item costs one move, and moving the items that
-  -- were already in `v` costs at most `n` moves in total.
+  -- were already in `v` costs at most `n` moves in total. The fields add on both sides of `≤`
+  -- rather than subtract, because a subtraction on `ℕ` ends at 0.
   pub record CostsInserting (v w : ListView T A) (n : ℕ) : Type 0 where
+    -- There were at least as many moves as added items.
     pub least : v.cost.moves + length w.items ≤ w.cost.moves + length v.items
+    -- There were at most `n` more moves than added items.
     pub moves : w.cost.moves + length v.items ≤ v.cost.moves + n + length w.items
     -- Without growth, the call requested no memory and copied no item.
     pub kept : w.capacity ≡ v.capacity → (w.cost.blocks ≡ v.cost.blocks)
@@ -96,7 +115,7 @@ module _ {T A : Type 0} where
     -- Growth requested memory at least once, and copied each item of `v` at least once.
     pub grown : v.capacity < w.capacity → (v.cost.blocks < w.cost.blocks)
         × (v.cost.grown + length v.items ≤ w.cost.grown)
-    -- Growth copied at most as many items as it added slots.
+    -- The call copied at most as many items as the capacity has grown by.
     pub copied : w.cost.grown + v.capacity ≤ v.cost.grown + w.capacity
 
   -- `CostsExtending v w left` bounds the recorded cost of a call that appended the items of an
@@ -139,9 +158,10 @@ module _ {T A : Type 0} where
       × IsBounded R v
 
   -- `FailsAtHint rule R w left cause` states that a call failed with `cause` because the list `w`
-  -- has no room for `h` more items of the type `R`. Here, `h` is a possible lower bound in the size
-  -- hint of an iterator with at most `left` items. The growth rule is `rule`. The contract cannot
-  -- say which `h` it was: std's contract of `size_hint` bounds the result, but gives it no name.
+  -- has no room for `h` more items of the type `R`. The list and the iterator are those after the
+  -- call: the iterator may yield at most `left` items, and `h` is a possible lower bound in its
+  -- size hint, so at most `left`. The growth rule is `rule`. The contract cannot say which `h` it
+  -- was: std's contract of `size_hint` bounds the result, but gives it no name.
   abbrev pub FailsAtHint : GrowthRule → RattleType → ListView T A → Count → ThinVecError → Type 0
   FailsAtHint rule R w left cause =
       (h : ℕ) × IsWithinCount h left × ¬ (HasRoomFor w h)
@@ -154,7 +174,7 @@ module _ {T A : Type 0} where
       (left : Count) (error : ExtendRefused T S) : Type 0 where
     -- The list had no room for the item in `in_hand`.
     pub by_push : IsSome error.in_hand
-        → (error.cause ≡ CapacityOverflow) ↔ (capacity_after_reserve rule R w 1 ≡ None)
+        → ((error.cause ≡ CapacityOverflow) ↔ (capacity_after_reserve rule R w 1 ≡ None))
     -- The call could not reserve room for a possible lower bound in the size hint.
     pub by_hint : error.in_hand ≡ None → FailsAtHint rule R w left error.cause
 
@@ -165,7 +185,7 @@ module _ {T A : Type 0} where
       (error : CollectRefused T S A) : Type 0 where
     -- The list had no room for the item in `in_hand`.
     pub by_push : IsSome error.in_hand
-        → (error.cause ≡ CapacityOverflow) ↔ (capacity_after_reserve rule R error.list 1 ≡ None)
+        → ((error.cause ≡ CapacityOverflow) ↔ (capacity_after_reserve rule R error.list 1 ≡ None))
     -- The call could not allocate a block of capacity `h`, a possible lower bound in the size hint.
     pub by_hint : error.in_hand ≡ None
         → (h : ℕ) × IsWithinCount h left × (0 < h)

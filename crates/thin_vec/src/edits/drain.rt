@@ -57,7 +57,7 @@ impl<'a, T: Drop, A: Allocator, G: Growth, H: IntoInner<Inner = OpenBlock<T, A>>
 }
 
 impl<T: Drop, A: Allocator, G: Growth> ThinVec<T, A, G> {
-    ghost use Rattle.thin_vec.specs.Edits.Drain.{DrainKeepsAlong, DrainsInOrder, DrainsInReverse, drain_block, drain_lender, drain_list, drain_rest};
+    ghost use Rattle.thin_vec.specs.Edits.Drain.{DrainKeepsAlong, DrainYieldsInOrder, DrainYieldsInReverse, drain_block, drain_lender, drain_list, drain_rest};
 
     /// Removes the items `start..end` from the list, and returns an iterator that yields them from
     /// either end. The range must be in bounds. Callers can check a range with the function
@@ -73,18 +73,20 @@ impl<T: Drop, A: Allocator, G: Growth> ThinVec<T, A, G> {
         requires start_le_end { start ≤ end }
         requires in_bounds { end ≤ length self.old.items }
 
-        // The `Drain` yields the items of the range. `next` yields them in order, and `next_back`
-        // in reverse order.
+        // The `Drain` yields the items of the range: `next` in order, and `next_back` in reverse
+        // order. `runs` and `runs_back` follow from the contracts of `next` and `next_back`. They
+        // are for callers' proofs about loops.
         ensures rest { drain_rest result ≡ slice_range self.old.items start end }
-        ensures runs { DrainsInOrder result }
-        ensures runs_back { DrainsInReverse result }
+        ensures runs { DrainYieldsInOrder result }
+        ensures runs_back { DrainYieldsInReverse result }
 
-        // Until the `Drain` is dropped, and for ever if it is leaked, the list is empty.
+        // Until the `Drain` is dropped, and for ever if it is leaked, the list is empty. The
+        // `Drain` borrows the list, so the list is a part of `result`, and not `self.new`.
         ensures changes { drain_list result
             ≡ record self.old { items = []; capacity = 0; cost = no_cost } }
 
         // After the `Drain` is dropped, the list has the following items, capacity and recorded
-        // cost.
+        // cost, by the contract of `drop` of `Drain`.
         ensures items { (drain_block result).front ++ (drain_block result).tail
             ≡ remove_range self.old.items start end }
         ensures capacity { (drain_block result).capacity ≡ self.old.capacity }
@@ -93,8 +95,10 @@ impl<T: Drop, A: Allocator, G: Growth> ThinVec<T, A, G> {
             (length self.old.items - end) self.old.cost) }
 
         // The `Drain` borrows this list: its reference to the list has the same ghost name as
-        // `self`. Calls to `next` do not change the value that the list will have after the `Drain`
-        // is dropped. For calls from both ends, the lemma `drain_leaves` states the same.
+        // `self`, a name that exists only in proofs. Calls to `next` do not change the value that
+        // the list will have after the `Drain` is dropped (`stays`). This follows from the contract
+        // of `next`, and is for callers' proofs about loops. For calls from both ends, the lemma
+        // `drain_leaves` in `thin_vec.proofs.edits.DrainLemmas` states the same.
         ensures same_reference { drain_lender result ≡ self.entry.ghost_name }
         ensures stays { DrainKeepsAlong result }
     {

@@ -192,8 +192,8 @@ impl<
         requires finite { IsFinite (I.remaining (splice_iter self)) }
 
         // On success, the list `self.exit.0.now` contains the items before the range, the items
-        // `xs` of the iterator, and the items after the range. `runs` follows from `items`: it is
-        // the form that generated proofs use.
+        // `xs` of the iterator, and the items after the range. `runs` follows from `items`: it
+        // states the same in the form that std's lemmas about adaptors such as `map` expect.
         ensures items { OnOk result ((xs : List T) × Drains I.next_gives (splice_iter self.entry) xs
             × (self.exit.0.now.items ≡ splice_replaced self.entry xs)) }
         ensures runs { OnOk result (WholeRun I.next_gives (splice_iter self.entry)
@@ -203,9 +203,11 @@ impl<
         ensures succeeds { HasSlotsFor self.entry (size (I.remaining (splice_iter self.entry)))
             → IsOk result }
 
-        // On failure, every item that the iterator yielded is in the list or in the error. If items
-        // follow the range, all slots of the range are filled (`err_full`). If no item follows the
-        // range, the list is full, or the call has taken no item from the iterator (`in_hand`).
+        // On failure, every item that the iterator yielded is in the list or in the error
+        // (`placed`). If items follow the range, all slots of the range are filled, and more items
+        // may have been inserted after them (`err_full`). If no item follows the range, `held` is
+        // empty. Then the list is full, or the call has only removed the range: it has taken no
+        // item from the iterator (`in_hand`).
         ensures placed { IfErr result (λ error. (xs : List T)
             × (self.exit.0.now.items ≡ splice_replaced self.entry xs)
             × SpliceErrorAccountsFor I.next_gives I.can_next I.remaining
@@ -222,9 +224,10 @@ impl<
 
         // In every case. The capacity stays the same, or the growth rule chose it for items that
         // the list now contains, or for a size hint of the iterator (`capacity`). The size hint
-        // cannot be named, because the contract of `size_hint` only bounds it. So the exact number
-        // of moves is not stated either: it depends on the step in which the iterator ended. If
-        // items follow the range, the list requests memory at most twice (`cost`).
+        // cannot be named, because the contract of `size_hint` only bounds it. The number of moves
+        // is only bounded, because it depends on the step in which the iterator ended (`cost`). If
+        // items follow the range, the list requests memory at most twice (the second part of
+        // `cost`).
         ensures capacity { ExtendsCapacity G.rule T.row
             (splice_outside_range self.entry) self.exit.0.now
             (I.remaining (splice_iter self.entry)) }

@@ -41,13 +41,15 @@ impl<T: Clone, A: Allocator, G: Growth> ThinVec<T, A, G> {
         ensures succeeds { HasRoomFor self.old (length items.now) → All T.is_infallible items.now
             → IsOk result }
 
-        // On failure, the items are unchanged.
+        // On failure, the items are unchanged. The capacity and the cost change only if an item
+        // could not be cloned (`err_cost`). So they are unchanged if no clone can fail (`err`).
         ensures err_items { OnErr result (self.new.items ≡ self.old.items) }
         ensures err { All T.is_infallible items.now → OnErr result (self.new ≡ self.old) }
         ensures err_cost { OnErr result ((self.new ≡ self.old)
             ⊎ CostsFailedClone T.is_infallible items.now self.old self.new) }
 
-        // In every case, the capacity changes as `reserve(items.len())` would change it.
+        // In every case, the capacity changes as `reserve(items.len())` would change it. On
+        // failure, the capacity may also be unchanged.
         ensures capacity { Reserves G.rule T.row (length items.now) self.old self.new result }
         ensures preserved { PreservesList T.row self.old self.new }
     {
