@@ -139,12 +139,13 @@ def items_of(path):
         elif re.match(r"pub (struct|enum|trait) ", line):
             kind, name = re.match(r"pub (struct|enum|trait) (\w+)", line).groups()
             start = at
-            while not re.match(r"^(}|.*[;])\s*$|.*\{\}$", lines[at]) and at + 1 < len(lines):
+            ends = r"^}\s*$|.*\{\}$" if kind == "trait" else r"^(}|.*[;])\s*$|.*\{\}$"
+            while not re.match(ends, lines[at]) and at + 1 < len(lines):
                 at += 1
             at += 1
             body = lines[start:at]
             if kind == "trait":
-                owner = ""
+                owner, at = "", start + 1  # its functions are items, too
             items.append(Item(kind, name, "", visible(body) if kind == "struct" else body, docs, hidden))
         elif line.startswith("macro_rules!"):
             name = re.match(r"macro_rules! (\w+)", line).group(1)
@@ -252,23 +253,34 @@ def sources(crate):
 
 
 def definitions(crate):
-    """The definitions of a crate's spec files, without those of its formers: name -> (file, comment, lines)."""
+    """The definitions of a crate's spec files, without those of its formers: name -> (file, comment, lines).
+
+    The lines of a definition in a `module _ (..) where` begin with this head, which has parameters of it."""
     found = {}
     for path in sorted((TOP / "crates" / crate / "specs").rglob("*.antt")):
         if "formers" in path.parts:
             continue
-        lines, comment = path.read_text(encoding="utf-8").splitlines(), []
+        lines, comment, heads = path.read_text(encoding="utf-8").splitlines(), [], []
         for at, line in enumerate(lines):
             bare = line.strip()
             if bare.startswith("--"):
-                comment.append(bare[2:].strip())
+                comment.append(bare[2:].removeprefix(" ").rstrip())
                 continue
+            depth = len(line) - len(line.lstrip())
+            if bare and not re.match(r"[(){}]", bare):
+                heads = [head for head in heads if head[0] < depth]
+            if bare.startswith("module _"):
+                end = at
+                while not lines[end].rstrip().endswith(" where"):
+                    end += 1
+                heads.append((depth, lines[at:end + 1]))
             match = DEFINITION.match(line)
             if match and KIND.match(line) and comment:
                 end = at
                 while end < len(lines) and lines[end].strip():
                     end += 1
-                found.setdefault(match.group(2), (path, paragraphs(comment), dedent(lines[at:end])))
+                around = [text for _, head in heads for text in head]
+                found.setdefault(match.group(2), (path, paragraphs(comment), dedent(around + lines[at:end])))
             comment = []
     return found
 

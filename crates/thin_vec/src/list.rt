@@ -164,8 +164,7 @@ impl<T, A: Allocator, G: Growth> ThinVec<T, A, G> {
         ensures err { OnErr result (self.new ≡ self.old) }
         ensures value_returned { IfErr result (λ error. error.value ≡ value) }
 
-        // In every case, the capacity changes as `reserve(1)` would change it. On failure, the
-        // field `overflow` says what the cause is.
+        // In every case, the capacity changes as by `reserve(1)`. `overflow` states the cause.
         ensures grows { Grows G.rule T.row 1 self.old self.new (map_cause result) }
     {
         if let Err(cause) = self.reserve(1) {

@@ -73,9 +73,8 @@ impl<T: Drop, A: Allocator, G: Growth> ThinVec<T, A, G> {
         requires start_le_end { start ≤ end }
         requires in_bounds { end ≤ length self.old.items }
 
-        // The `Drain` yields the items of the range: `next` in order, and `next_back` in reverse
-        // order. `runs` and `runs_back` follow from the contracts of `next` and `next_back`. They
-        // are for callers' proofs about loops.
+        // `next` yields the items of the range in order, and `next_back` in reverse order. `runs`
+        // and `runs_back` follow from their contracts, and are for callers' proofs about loops.
         ensures rest { drain_rest result ≡ slice_range self.old.items start end }
         ensures runs { DrainYieldsInOrder result }
         ensures runs_back { DrainYieldsInReverse result }
@@ -95,10 +94,9 @@ impl<T: Drop, A: Allocator, G: Growth> ThinVec<T, A, G> {
             (length self.old.items - end) self.old.cost) }
 
         // The `Drain` borrows this list: its reference to the list has the same ghost name as
-        // `self`, a name that exists only in proofs. Calls to `next` do not change the value that
-        // the list will have after the `Drain` is dropped (`stays`). This follows from the contract
-        // of `next`, and is for callers' proofs about loops. For calls from both ends, the lemma
-        // `drain_leaves` in `thin_vec.proofs.edits.DrainLemmas` states the same.
+        // `self`. Calls to `next` do not change the value that the list will have after the `Drain`
+        // is dropped. `stays` follows from the contract of `next`, and is for proofs about loops.
+        // For both ends, see the lemma `drain_leaves` in `thin_vec.proofs.edits.DrainLemmas`.
         ensures same_reference { drain_lender result ≡ self.entry.ghost_name }
         ensures stays { DrainKeepsAlong result }
     {
