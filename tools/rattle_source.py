@@ -11,6 +11,7 @@ MEMBER = re.compile(r"^    ghost (\w+) = \{")
 DEFINITION = re.compile(
     r"^ *(?:(?:pub|abbrev|unfoldable|opaque) )*(?:(record|data) )?(?:pub )?"
     r"([A-Za-z_◌][^\s:({]*)\s*(?:[({].*)?(?::|$)")
+KIND = re.compile(r"^ *(?:pub (?:record|data)|(?:abbrev|unfoldable|opaque) pub)\b")
 # Ghost members that only the compiler asks for: laws that every implementation has.
 LAWS = {"laws", "total", "matches_partial_cmp", "matches_eq", "respects_eq", "from"}
 
@@ -251,17 +252,27 @@ def sources(crate):
 
 
 def definitions(crate):
-    """The definitions of a crate's spec files: name -> (file, comment)."""
+    """The definitions of a crate's spec files, without those of its formers: name -> (file, comment, lines)."""
     found = {}
     for path in sorted((TOP / "crates" / crate / "specs").rglob("*.antt")):
-        comment = []
-        for line in path.read_text(encoding="utf-8").splitlines():
+        if "formers" in path.parts:
+            continue
+        lines, comment = path.read_text(encoding="utf-8").splitlines(), []
+        for at, line in enumerate(lines):
             bare = line.strip()
             if bare.startswith("--"):
                 comment.append(bare[2:].strip())
                 continue
             match = DEFINITION.match(line)
-            if match and re.match(r"^ *(pub|abbrev|unfoldable|opaque|record|data)\b", line) and comment:
-                found.setdefault(match.group(2), (path, " ".join(comment)))
+            if match and KIND.match(line) and comment:
+                end = at
+                while end < len(lines) and lines[end].strip():
+                    end += 1
+                found.setdefault(match.group(2), (path, paragraphs(comment), dedent(lines[at:end])))
             comment = []
     return found
+
+
+def paragraphs(comment):
+    """The lines of a comment, joined to one text for each paragraph."""
+    return [text.strip() for text in re.split(r"\n\n+", "\n".join(comment)) if text.strip()]

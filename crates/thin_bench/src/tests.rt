@@ -1,10 +1,13 @@
-//! Tests of the report: a write fails, memory runs out, or a row fails.
+//! Tests of the report: a write fails, memory runs out, or a row fails. Also tests that a comparison
+//! of a row finds a wrong value.
+use crate::checks::Checks;
 use crate::report::{report, report_rows};
 use std::alloc::{Allocator, Global};
 use std::io;
 use std::io::{ErrorKind, Write};
 use std::process::{Abort, ExitCode};
 use thin_testing::Refusing;
+use thin_vec::ThinVec;
 
 // A writer that appends the written bytes to `text`. The calls to `write` are numbered from 1, and
 // call number `failing` fails. If `failing` is 0, no call fails.
@@ -122,4 +125,27 @@ fn report_counts_failed_rows(rt: HostRuntime) {
         text.as_str(),
         "row 0 failed\nrow 1 ok\nrow 0 failed\n2 rows failed\n"
     );
+}
+
+// Compares two different values, in one of several ways.
+fn compared(list: &ThinVec<u8>, way: u32) -> Checks {
+    let mut checks = Checks::new();
+    match way {
+        0 => checks.is(false),
+        1 => checks.same(1, 2),
+        2 => checks.items(&[1], &[2]),
+        3 => checks.holds(list, &[1], 0),
+        _ => checks.holds(list, &[], 1),
+    }
+    checks.is(true);
+    checks
+}
+
+#[test]
+fn each_comparison_detects_a_wrong_value(rt: HostRuntime) {
+    let list = ThinVec::new(rt.alloc());
+    for way in 0..5 {
+        assert!(rt; !compared(&list, way).is_ok(), "way {way}");
+    }
+    assert!(rt; !Checks::new().is_ok());
 }

@@ -5,7 +5,7 @@ ghost use Rattle.std.specs.Mem.{type_size};
 ghost use Rattle.std.specs.Align.{type_align};
 ghost use Rattle.thin_block.specs.Capacity.{Fits, block_align, block_bytes};
 ghost use Rattle.thin_block.specs.Cost.{add_realloc, no_cost, add_request};
-ghost use Rattle.thin_block.specs.Slots.{IsPacked, empty_slots, slot_range, write_slots};
+ghost use Rattle.thin_block.specs.Slots.{IsPacked, empty_slots};
 
 use crate::block::Block;
 use crate::errors::ThinVecError;

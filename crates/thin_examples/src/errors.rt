@@ -4,18 +4,15 @@ ghost use Rattle.std.specs.Prelude.{◌≡◌, ◌+◌, ◌↔◌, [], ◌∷◌
 ghost use Rattle.thin_vec.specs.ThinVec.{HasRoomFor};
 
 use std::alloc::Allocator;
-use std::io;
-use std::io::ErrorKind;
+use std::io::{self, ErrorKind};
 use thin_vec::{Growth, Rejected, ThinVec, ThinVecError};
 use thiserror::Error;
 
 /// The reason why an order was not accepted.
 #[derive(Debug, Drop, Error)]
 pub enum OrderError {
-    /// The order is for zero pieces.
     #[error("an order for no piece")]
     NoPiece,
-    /// The list of orders has no room for the order, and cannot grow.
     #[error("no room for the order: {0}")]
     NoRoom(#[from] ThinVecError),
 }
@@ -37,10 +34,7 @@ impl<S: Drop> From<Rejected<S>> for OrderError {
 ///
 /// Returns `NoPiece` if `pieces` is 0, and `NoRoom` if there is no room for the order. In both
 /// cases, `orders` is unchanged.
-pub fn take_order<A: Allocator, G: Growth>(
-    orders: &mut ThinVec<u32, A, G>,
-    pieces: u32,
-) -> Result<(), OrderError>
+pub fn take_order(orders: &mut ThinVec<u32>, pieces: u32) -> Result<(), OrderError>
     ensures succeeds { HasRoomFor orders.old 1 → 0 < pieces → IsOk result }
     ensures no_piece { IsErrOf result OrderError.NoPiece ↔ (pieces ≡ 0) }
     ensures items { OnOk result (orders.new.items ≡ orders.old.items ++ pieces ∷ []) }

@@ -3,9 +3,11 @@
 
 mod add;
 mod commands;
+mod common;
 mod costs;
 mod errors;
 mod make;
+mod maps;
 mod read;
 mod remove;
 mod replace;
@@ -26,20 +28,29 @@ use thin_runner::command::Command;
 use thin_vec::{ThinVec, thin_vec};
 
 fn main(rt: HostRuntime) -> io::Result<()> {
+    show_common(&rt, rt.alloc())?;
     show_make(&rt, rt.alloc())?;
     show_add(&rt, rt.alloc())?;
     show_remove(&rt, rt.alloc())?;
-    show_replace(&rt, rt.alloc())?;
-    show_transfer(&rt, rt.alloc())?;
     show_read(&rt, rt.alloc())?;
     show_write(&rt, rt.alloc())?;
-    show_errors(&rt, rt.alloc())?;
+    show_replace(&rt, rt.alloc())?;
+    show_transfer(&rt, rt.alloc())?;
     show_structs(&rt, rt.alloc())?;
-    show_threads(&rt, rt.alloc())?;
+    show_maps(&rt, rt.alloc())?;
+    show_errors(&rt, rt.alloc())?;
     show_tree(&rt, rt.alloc())?;
     show_tables(&rt, rt.alloc())?;
+    show_threads(&rt, rt.alloc())?;
     show_costs(&rt, rt.alloc())?;
     show_commands(&rt, rt.alloc())
+}
+
+fn show_common(rt: &impl Print, alloc: Global) -> io::Result<()> {
+    let mut list = common::filled(alloc)?;
+    println!(rt; "filled: {list:?}")?;
+    let odd = common::sifted(alloc, &mut list)?;
+    println!(rt; "sifted: {odd:?}, left {list:?}")
 }
 
 fn show_make(rt: &impl Print, alloc: Global) -> io::Result<()> {
@@ -53,6 +64,9 @@ fn show_make(rt: &impl Print, alloc: Global) -> io::Result<()> {
     println!(rt; "doubled: {doubled:?}")?;
     let halves = make::halves(alloc, &[6, 7]);
     println!(rt; "halves: {halves:?}")?;
+    let (list, in_hand, rest) = make::collect_or_keep(alloc, 1_u32..4);
+    let all = in_hand.is_none() && rest.is_none();
+    println!(rt; "collect_or_keep: {list:?}, all collected: {all}")?;
     let chars = make::chars_of(alloc, "list")?;
     println!(rt; "chars_of: {chars:?}")?;
     let mut continued = make::continued(alloc, &joined, &[4])?;
@@ -122,44 +136,6 @@ fn show_remove(rt: &impl Print, alloc: Global) -> io::Result<()> {
     println!(rt; "consume_empty: done")
 }
 
-fn show_replace(rt: &impl Print, alloc: Global) -> io::Result<()> {
-    let mut text = thin_vec![alloc => 1, 2, 3, 4]?;
-    replace::replace_word(&mut text, 1, 3, &[7, 8, 9])?;
-    println!(rt; "replace_word: {text:?}")?;
-    let mut lines = thin_vec![alloc => "a", "b", "c"]?;
-    let mut newer = thin_vec![alloc => "x", "y"]?;
-    replace::replace_lines(&mut lines, 0, 1, &mut newer)?;
-    println!(rt; "replace_lines: {lines:?}")?;
-    let mut names = thin_vec![alloc => 1, 4]?;
-    replace::insert_names(&mut names, 1, &[2, 3])?;
-    println!(rt; "insert_names: {names:?}")?;
-    let mut list = thin_vec![alloc => 1, 2, 3, 4, 5]?;
-    replace::spliced_middle(&mut list, alloc)?;
-    println!(rt; "spliced_middle: {list:?}")?;
-    let mut list = thin_vec![alloc => 1, 2, 3]?;
-    replace::splice_numbers(&mut list, 0, 2, &[8, 9], alloc)?;
-    println!(rt; "splice_numbers: {list:?}")?;
-    let mut list = thin_vec![alloc => 1, 2, 3]?;
-    replace::splice_by(&mut list, (1, 1), 7..9, alloc)?;
-    println!(rt; "splice_by: {list:?}")
-}
-
-fn show_transfer(rt: &impl Print, alloc: Global) -> io::Result<()> {
-    let mut list = thin_vec![alloc => 1, 2, 3, 4]?;
-    let mut other = thin_vec![alloc => 9]?;
-    transfer::move_range(&mut list, 1, 3, &mut other)?;
-    println!(rt; "move_range: {list:?} and {other:?}")?;
-    let mut odd = ThinVec::new(alloc);
-    let mut even = ThinVec::new(alloc);
-    transfer::divide(thin_vec![alloc => 1, 2, 3]?, &mut odd, &mut even)?;
-    println!(rt; "divide: {odd:?} and {even:?}")?;
-    let mut list = thin_vec![alloc => 4, 5, 6, 7]?;
-    transfer::hand_over_odd(&mut list, &mut odd)?;
-    println!(rt; "hand_over_odd: {list:?} and {odd:?}")?;
-    let vec = transfer::collected(list, alloc)?;
-    println!(rt; "collected: {vec:?}")
-}
-
 fn show_read(rt: &impl Print, alloc: Global) -> io::Result<()> {
     let list = thin_vec![alloc => 1, 2, 3, 4]?;
     let neighbours = read::neighbours(&list, 1);
@@ -193,16 +169,45 @@ fn show_write(rt: &impl Print, alloc: Global) -> io::Result<()> {
     println!(rt; "mark_halves: {list:?}")
 }
 
-fn show_errors(rt: &impl Print, alloc: Global) -> io::Result<()> {
-    let mut orders = ThinVec::new(alloc);
-    let refused = errors::take_order(&mut orders, 0);
-    println!(rt; "take_order: {refused:?}")?;
-    let mut other = thin_vec![alloc => 6]?;
-    let taken = errors::take_orders(&mut orders, &mut other);
-    println!(rt; "take_orders: {taken:?}, orders {orders:?}")?;
-    let mut bytes = ThinVec::new(alloc);
-    errors::write_line(&mut bytes, b"hi")?;
-    println!(rt; "write_line: {bytes:?}")
+fn show_replace(rt: &impl Print, alloc: Global) -> io::Result<()> {
+    let mut text = thin_vec![alloc => 1, 2, 3, 4]?;
+    replace::replace_word(&mut text, 1, 3, &[7, 8, 9])?;
+    println!(rt; "replace_word: {text:?}")?;
+    let mut lines = thin_vec![alloc => "a", "b", "c"]?;
+    let mut newer = thin_vec![alloc => "x", "y"]?;
+    replace::replace_lines(&mut lines, 0, 1, &mut newer)?;
+    println!(rt; "replace_lines: {lines:?}")?;
+    let mut names = thin_vec![alloc => 1, 4]?;
+    replace::insert_names(&mut names, 1, &[2, 3])?;
+    println!(rt; "insert_names: {names:?}")?;
+    let mut list = thin_vec![alloc => 1, 2, 3, 4, 5]?;
+    replace::spliced_middle(&mut list, alloc)?;
+    println!(rt; "spliced_middle: {list:?}")?;
+    let mut list = thin_vec![alloc => 1, 2, 3]?;
+    replace::splice_numbers(&mut list, 0, 2, &[8, 9], alloc)?;
+    println!(rt; "splice_numbers: {list:?}")?;
+    let mut list = thin_vec![alloc => 1, 2, 3]?;
+    replace::splice_by(&mut list, (1, 1), 7..9, alloc)?;
+    println!(rt; "splice_by: {list:?}")
+}
+
+fn show_transfer(rt: &impl Print, alloc: Global) -> io::Result<()> {
+    let mut list = thin_vec![alloc => 1, 2, 3, 4]?;
+    let mut other = thin_vec![alloc => 9]?;
+    transfer::hand_over(&mut list, 0, 2, &mut other)?;
+    println!(rt; "hand_over: {list:?} and {other:?}")?;
+    let mut list = thin_vec![alloc => 1, 2, 3, 4]?;
+    transfer::move_range(&mut list, 1, 3, &mut other)?;
+    println!(rt; "move_range: {list:?} and {other:?}")?;
+    let mut odd = ThinVec::new(alloc);
+    let mut even = ThinVec::new(alloc);
+    transfer::divide(thin_vec![alloc => 1, 2, 3]?, &mut odd, &mut even)?;
+    println!(rt; "divide: {odd:?} and {even:?}")?;
+    let mut list = thin_vec![alloc => 4, 5, 6, 7]?;
+    transfer::hand_over_odd(&mut list, &mut odd)?;
+    println!(rt; "hand_over_odd: {list:?} and {odd:?}")?;
+    let vec = transfer::collected(list, alloc)?;
+    println!(rt; "collected: {vec:?}")
 }
 
 fn show_structs(rt: &impl Print, alloc: Global) -> io::Result<()> {
@@ -216,6 +221,25 @@ fn show_structs(rt: &impl Print, alloc: Global) -> io::Result<()> {
     let page = Page::new(thin_vec![alloc => 10, 20, 30]?);
     println!(rt; "Page::new: {} lines", page.lines.len())?;
     println!(rt; "Page::after: {}", page.after(1))
+}
+
+fn show_maps(rt: &impl Print, alloc: Global) -> io::Result<()> {
+    let mut lists = BTreeMap::new(alloc);
+    maps::append_to(&mut lists, 4, 10)?;
+    maps::append_to(&mut lists, 4, 11)?;
+    println!(rt; "append_to: {lists:?}")
+}
+
+fn show_errors(rt: &impl Print, alloc: Global) -> io::Result<()> {
+    let mut orders = ThinVec::new(alloc);
+    let refused = errors::take_order(&mut orders, 0);
+    println!(rt; "take_order: {refused:?}")?;
+    let mut other = thin_vec![alloc => 6]?;
+    let taken = errors::take_orders(&mut orders, &mut other);
+    println!(rt; "take_orders: {taken:?}, orders {orders:?}")?;
+    let mut bytes = ThinVec::new(alloc);
+    errors::write_line(&mut bytes, b"hi")?;
+    println!(rt; "write_line: {bytes:?}")
 }
 
 fn show_tree(rt: &impl Print, alloc: Global) -> io::Result<()> {
@@ -238,11 +262,7 @@ fn show_tables(rt: &impl Print, alloc: Global) -> io::Result<()> {
     println!(rt; "take: {taken}")?;
     println!(rt; "is_row_empty: {}", tables::is_row_empty(&counts, 0))?;
     tables::halve(&mut counts, 2, 8);
-    println!(rt; "halve: {counts:?}")?;
-    let mut lists = BTreeMap::new(alloc);
-    tables::append_to(&mut lists, 4, 10)?;
-    tables::append_to(&mut lists, 4, 11)?;
-    println!(rt; "append_to: {lists:?}")
+    println!(rt; "halve: {counts:?}")
 }
 
 fn show_threads(rt: &impl Print, alloc: Global) -> io::Result<()> {

@@ -1,6 +1,9 @@
 //! Examples that make a list.
-ghost use Rattle.std.specs.Prelude.{◌≡◌, ◌*◌, ◌/◌, ◌++◌, [], IfErr, IfOk, IfSome, IsOk, IsSome, OnErr, OnOk, length, map, replicate};
+ghost use Rattle.std.specs.Iterator.{Drains, IsFinite};
+ghost use Rattle.std.specs.Option.{option_to_list};
+ghost use Rattle.std.specs.Prelude.{◌≡◌, ◌*◌, ◌/◌, ◌++◌, [], IfErr, IfNone, IfOk, IfSome, IsOk, IsSome, OnErr, OnOk, length, map, replicate};
 ghost use Rattle.std.specs.Str.{chars};
+ghost use Rattle.thin_vec.specs.List.Extend.{YieldsAndCanContinue};
 
 use std::alloc::{AllocError, Allocator};
 use std::mem;
@@ -71,6 +74,24 @@ pub fn halves<A: Allocator>(alloc: A, numbers: &[u32]) -> Option<ThinVec<u32, A>
     match ThinVec::from_iter(alloc, numbers.iter().map(|number| number / 2)) {
         Ok(list) => Some(list),
         Err(_refused) => None,
+    }
+}
+
+/// Collects what `iter` yields. If memory ends, nothing is lost: `result.0` has the items for which
+/// there was room, `result.1` is the item that came next, and `result.2` yields all others.
+pub fn collect_or_keep<T, A: Allocator, I: Iterator<Item = T>>(
+    alloc: A,
+    iter: I,
+) -> (ThinVec<T, A>, Option<T>, Option<I>)
+    requires can_next { I.can_next iter }
+    requires finite { IsFinite (I.remaining iter) }
+    ensures all { IfNone result.2 (Drains I.next_gives iter result.0.items) }
+    ensures placed { IfSome result.2 (λ rest. YieldsAndCanContinue I.next_gives I.can_next
+        I.remaining iter (result.0.items ++ option_to_list result.1) rest) }
+{
+    match ThinVec::from_iter(alloc, iter) {
+        Ok(list) => (list, None, None),
+        Err(refused) => (refused.list, refused.in_hand, Some(refused.rest)),
     }
 }
 

@@ -1,15 +1,12 @@
-//! Examples of a sparse table of counts and of a map of lists. In the table, a place without an
-//! entry has the count 0.
+//! Examples of a sparse table of counts. A place without an entry has the count 0.
 ghost use Rattle.std.specs.FinMap as columns;
 ghost use Rattle.std.specs.Option.{unwrap_or};
-ghost use Rattle.std.specs.Prelude.{◌≡◌, ◌≢◌, ◌↔◌, ◌+◌, ◌-◌, ◌^◌, ◌<◌, ◌/◌, ◌++◌, [], ◌∷◌, ℕ, IfErr, IfOk, IfSome, IsNone, IsOk, IsSome, IsTrue, OnErr, OnOk, Some, length, min, replicate};
-ghost use Rattle.thin_examples.specs.ListsByKey.{items_at};
+ghost use Rattle.std.specs.Prelude.{◌≡◌, ◌↔◌, ◌+◌, ◌-◌, ◌^◌, ◌<◌, ◌/◌, IfErr, IfOk, IfSome, IsNone, IsOk, IsSome, IsTrue, OnErr, OnOk, Some, length, min, replicate};
 ghost use Rattle.thin_rows.specs.Table.{row_at, value_at, with_value, without_value};
 
 use std::alloc::{AllocError, Allocator, Global};
-use std::collections::BTreeMap;
 use thin_rows::Rows;
-use thin_vec::{ThinVec, ThinVecError};
+use thin_vec::ThinVecError;
 
 /// Makes a table of seven empty rows, one for each day of the week.
 ///
@@ -98,27 +95,4 @@ pub fn halve<A: Allocator>(counts: &mut Rows<u32, A>, row: usize, column: usize)
     if let Some(count) = counts.get_mut(row, column) {
         *count /= 2;
     }
-}
-
-/// Appends `number` to the list at `key`. If the map has no such list, a new one is inserted first.
-///
-/// # Errors
-///
-/// Fails if there is no room for a new list in the map, or for `number` in the list. On failure,
-/// every list has its old items, but an empty list may have been inserted.
-pub fn append_to(
-    lists: &mut BTreeMap<u32, ThinVec<u32>>,
-    key: u32,
-    number: u32,
-) -> Result<(), ThinVecError>
-    ensures items { OnOk result (items_at lists.new key ≡ items_at lists.old key ++ number ∷ []) }
-    ensures others { (other : ℕ) → other ≢ key
-        → items_at lists.new other ≡ items_at lists.old other }
-    ensures err { OnErr result (items_at lists.new key ≡ items_at lists.old key) }
-{
-    let Ok(entry) = lists.entry(key) else {
-        return Err(ThinVecError::OutOfMemory);
-    };
-    entry.or_default().push(number)?;
-    Ok(())
 }

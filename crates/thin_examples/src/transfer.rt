@@ -5,8 +5,36 @@ ghost use Rattle.thin_vec.specs.ThinVec.{HasRoomFor};
 use std::alloc::{AllocError, Allocator, Global};
 use thin_vec::{Growth, ThinVec, ThinVecError};
 
-/// Moves the numbers of `list` at the indices `start..end` to the end of `other`. The range is
-/// removed from `list` when `drain` is dropped, at the end of its scope.
+/// Moves the items of `list` at the indices `start..end` to the end of `other`.
+///
+/// # Errors
+///
+/// Fails if there is no room for the items in `other`. On failure, both lists are unchanged.
+pub fn hand_over<T: Drop, A: Allocator, G: Growth>(
+    list: &mut ThinVec<T, A, G>,
+    start: usize,
+    end: usize,
+    other: &mut ThinVec<T, A, G>,
+) -> Result<(), ThinVecError>
+    requires start_le_end { start ≤ end }
+    requires in_bounds { end ≤ length list.old.items }
+    ensures succeeds { HasRoomFor other.old (end - start) → IsOk result }
+    ensures items { OnOk result
+        (list.new.items ≡ take start list.old.items ++ drop end list.old.items) }
+    ensures other_items { OnOk result
+        (other.new.items ≡ other.old.items ++ slice_range list.old.items start end) }
+    ensures err { OnErr result (list.new ≡ list.old) }
+    ensures other_err { OnErr result (other.new ≡ other.old) }
+{
+    other.reserve(end - start)?;
+    for item in list.drain(start, end) {
+        other.push_reserved(item);
+    }
+    Ok(())
+}
+
+/// Does what `hand_over` does, without a loop, for numbers. The range is removed from `list` when
+/// `drain` is dropped, at the end of its scope.
 ///
 /// # Errors
 ///

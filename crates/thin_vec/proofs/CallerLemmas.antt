@@ -1,7 +1,7 @@
 -- These lemmas are for the proofs of other crates. They say which capacities are small enough, and
 -- which items a list contains after a write through a slice, an `insert` and a `remove`, or a
 -- `collect`.
-use Rattle.std.proofs.Common.{if◌then◌else◌, Bool, true, false, ◌≡◌, ℕ, zero, suc, ◌+◌, ◌-◌, ◌*◌, ◌^◌, ◌<◌, ◌≤◌, ap, arith, length, IfErr, Option, Result, Ok, Err, Some, None, inl, inr, refl, sym, ◌∙◌, List, ◌++◌, drop, take, [], ◌∷◌, IfOk}
+use Rattle.std.proofs.Common.{if◌then◌else◌, Bool, true, false, ◌≡◌, ℕ, zero, suc, ◌+◌, ◌-◌, ◌*◌, ◌^◌, ◌<◌, ◌≤◌, ap, arith, length, IfErr, OnErr, ◌⊎◌, Option, Result, Ok, Err, Some, None, inl, inr, refl, sym, ◌∙◌, List, ◌++◌, drop, take, [], ◌∷◌, IfOk}
 use Rattle.std.specs.Borrow.{RattleType}
 use Rattle.std.specs.Align.{type_align}
 use Rattle.std.specs.Mem.{type_size}
@@ -10,11 +10,12 @@ use Rattle.std.proofs.lemmas.Bool.{cases_lt}
 use Rattle.thin_block.specs.declared.errors.ThinVecError.{ThinVecError}
 use Rattle.thin_block.specs.declared.errors.ThinVecError.TheVariants.{CapacityOverflow, OutOfMemory}
 use Rattle.thin_block.specs.Capacity.{min_non_zero_cap, fits}
-use Rattle.thin_block.specs.Growth.{doubling, exact_capacity, checked_capacity, grown_capacity}
-use Rattle.thin_block.proofs.CapacityLemmas.{exact-fits, exact-same, ruled-overflow, ruled-rule, ruled-same, small_fits}
+use Rattle.thin_block.specs.Growth.{GrowthRule, doubling, exact_capacity, checked_capacity, grown_capacity}
+use Rattle.thin_block.proofs.CapacityLemmas.{exact-fits, exact-same, fits-less, ruled-overflow, ruled-rule, ruled-same, small_fits}
 use Rattle.thin_block.proofs.ResultLemmas.{some-same}
-use Rattle.thin_vec.specs.List.Capacity.{Reserves, OverflowsIffTooLarge}
-use Rattle.thin_vec.specs.ThinVec.{IsCauseOf, ListView}
+use Rattle.thin_vec.specs.List.Capacity.{Grows, PreservesList, Reserves, OverflowsIffTooLarge, map_cause}
+use Rattle.thin_vec.specs.ThinVec.{IsBounded, IsCauseOf, ListView}
+use Rattle.thin_vec.specs.declared.errors.Rejected.{Rejected}
 use Rattle.std.proofs.Math.Seq.{take-append_seam}
 use Rattle.std.specs.List.{refill}
 use Rattle.thin_vec.specs.Lends.{with_items}
@@ -77,6 +78,42 @@ few_more R k v w (Err cause) few small told =
     let named = doubling-few R v.capacity (length v.items + k) few small in
     cause-named (grown_capacity doubling R v.capacity (length v.items + k)) named.0 cause named.1
     (λ over. told.overflow.0 (ap Err over))
+
+err-left : {X E : Type 0} (P Q : Type 0) (r : Result X E) → OnErr r P → OnErr r (P ⊎ Q)
+err-left P Q (Ok x) p = tt
+err-left P Q (Err e) p = inl p
+
+pub err-cause : {X T : Type 0} (P : Type 0) (r : Result X (Rejected T)) → OnErr r P → OnErr (map_cause r) P
+err-cause P (Ok x) p = tt
+err-cause P (Err e) p = p
+
+module _ {T A : Type 0} {rule : GrowthRule} {R : RattleType} {k : ℕ} {v w : ListView T A}
+    {X : Type 0} {r : Result X ThinVecError} where
+  pub grows-bounded : Grows rule R k v w r → IsBounded R w
+  grows-bounded g = record { room = g.room; small = g.small; fits = g.fits }
+
+  pub grows-was_bounded : Grows rule R k v w r → IsBounded R v
+  grows-was_bounded g = record {
+    room = g.was_room;
+    small = omega (arith, g.never_less, g.small);
+    fits = fits-less R v.capacity w.capacity g.fits g.never_less;
+  }
+
+  pub grows-preserved : Grows rule R k v w r → PreservesList R v w
+  grows-preserved g = record {
+    alloc = g.alloc;
+    never_less = g.never_less;
+    cheap = g.cheap;
+    within = (grows-was_bounded g, grows-bounded g);
+  }
+
+  pub grows-reserves : Grows rule R k v w r → OnErr r (w ≡ v) → Reserves rule R k v w r
+  grows-reserves g unchanged = record {
+    had_room = g.had_room;
+    ok = g.ok;
+    err = err-left _ _ r unchanged;
+    overflow = g.overflow;
+  }
 
 named-by : (b : Bool) (m n : ℕ) → (if b then Some m else None) ≡ Some n → m ≡ n
 named-by true m n e = some-same e

@@ -6,7 +6,7 @@ use Rattle.std.proofs.lemmas.List.{drop_at, get_or-append_right, get_or-replicat
 use Rattle.std.specs.Prelude.{IsSome, slice_range}
 use lib.ListN.{set}
 use Rattle.thin_block.specs.Block.{BlockView, block_view}
-use Rattle.thin_block.specs.Slots.{empty_slots, packed_slots, filled_slots, items_in, slot}
+use Rattle.thin_block.specs.Slots.{empty_slots, filled_slots, items_in, slot}
 use Rattle.thin_block.specs.declared.block.Block.{Block}
 use Rattle.thin_block.proofs.ResultLemmas.{some-same}
 use Rattle.thin_vec.specs.OpenBlock.{IsOpen, IsOpenViewOf, open_view}

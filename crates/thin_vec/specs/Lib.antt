@@ -10,6 +10,7 @@ pub mod Lends
 pub mod Ranges
 pub mod Convert
 pub mod Shapes
+pub mod VecWords
 pub mod formers
 -- The contracts of `thin_vec` also use these modules of the crate `thin_block`.
 pub use Rattle.thin_block.specs.Capacity

@@ -4,13 +4,13 @@
 //! In contracts, `OnOk result P` states that `P` holds if `result` is `Ok`, and `IfOk result P`
 //! states that `P` holds for the value in `Ok`. `OnErr` and `IfErr` do the same for `Err`. `T.row`
 //! describes the type `T`; it determines the size and the alignment of an item.
-ghost use Rattle.std.specs.Prelude.{◌≡◌, ◌↔◌, ◌+◌, ◌-◌, ◌<◌, ◌==◌, [], ◌∷◌, ◌++◌, IfErr, IsOk, IsSome, IsTrue, None, OnErr, OnOk, Some, length, slice_index_or, take};
+ghost use Rattle.std.specs.Prelude.{◌≡◌, ◌↔◌, ◌+◌, ◌-◌, ◌<◌, ◌==◌, [], ◌∷◌, ◌++◌, IfErr, IsOk, IsSome, IsTrue, None, OnErr, OnOk, Some, length, slice_index_or};
 ghost use Rattle.std.specs.Option.{option_to_list};
 ghost use Rattle.thin_block.specs.Block.{IsAllocatedBy};
 ghost use Rattle.thin_block.specs.Capacity.{Fits};
 ghost use Rattle.thin_block.specs.Cost.{add_moves};
-ghost use Rattle.thin_block.specs.Slots.{IsPacked, empty_slots};
-ghost use Rattle.thin_vec.specs.List.Capacity.{CostsMoves, PreservesList, Reserves, map_cause};
+ghost use Rattle.thin_block.specs.Slots.{IsPacked};
+ghost use Rattle.thin_vec.specs.List.Capacity.{CostsMoves, Grows, PreservesList, map_cause};
 
 mod append_split;
 mod capacity;
@@ -154,6 +154,7 @@ impl<T, A: Allocator, G: Growth> ThinVec<T, A, G> {
     pub fn push(&mut self, value: T) -> Result<(), Rejected<T>>
         // On success.
         ensures items { OnOk result (self.new.items ≡ self.old.items ++ value ∷ []) }
+        ensures len { OnOk result (length self.new.items ≡ length self.old.items + 1) }
         ensures cost { OnOk result (CostsMoves 1 self.old self.new) }
 
         // When it must succeed.
@@ -164,8 +165,7 @@ impl<T, A: Allocator, G: Growth> ThinVec<T, A, G> {
         ensures value_returned { IfErr result (λ error. error.value ≡ value) }
 
         // In every case, the capacity changes as `reserve(1)` would change it.
-        ensures capacity { Reserves G.rule T.row 1 self.old self.new (map_cause result) }
-        ensures preserved { PreservesList T.row self.old self.new }
+        ensures grows { Grows G.rule T.row 1 self.old self.new (map_cause result) }
     {
         if let Err(cause) = self.reserve(1) {
             return Err(Rejected { value, cause });
@@ -177,6 +177,7 @@ impl<T, A: Allocator, G: Growth> ThinVec<T, A, G> {
     /// Returns the items, in order, as a slice.
     pub fn as_slice(&self) -> &[T]
         ensures value { result.now ≡ self.now.items }
+        ensures len { length result.now ≡ length self.now.items }
         ensures bounds { IsBounded T.row self.now }
     {
         self.block.slice(0, self.block.len())
@@ -218,9 +219,11 @@ impl<T, A: Allocator, G: Growth> ThinVec<T, A, G> {
         ensures value { (d : T) → 0 < length self.old.items
             → result ≡ Some (slice_index_or self.old.items (length self.old.items - 1) d) }
         ensures items { self.old.items ≡ self.new.items ++ option_to_list result }
-        ensures rest { self.new.items ≡ take (length self.old.items - 1) self.old.items }
+        ensures len { length self.new.items + length (option_to_list result)
+            ≡ length self.old.items }
+        ensures capacity { self.new.capacity ≡ self.old.capacity }
         ensures changes { self.new ≡ record self.old { items = self.new.items } }
-        ensures bounds { IsBounded T.row self.old × IsBounded T.row self.new }
+        ensures bounds { IsBounded T.row self.old }
     {
         if self.is_empty() {
             return None;

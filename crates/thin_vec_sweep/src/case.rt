@@ -55,12 +55,12 @@ impl Pattern {
             return self.number >> (index % 4) & 1 == 1;
         }
         match self.number % 8 {
-            0 => true,
+            0 => index % 50 < 35,
             1 => false,
             2 => index % 2 == 0,
             3 => index % 2 == 1,
             4 => index % 16 / 2 != 3,
-            5 => index % 50 < 35,
+            5 => true,
             _ => (index ^ self.number).wrapping_mul(0x9E37_79B9_7F4A_7C15) >> 40 & 1 == 0,
         }
     }
@@ -215,9 +215,20 @@ impl<T: Numbered, G: Growth> Case<T, G> {
         }
     }
 
+    /// Returns a number that the argument chooses besides a range. With 25 times as many arguments, or
+    /// 5 times as many on a list of more than 4 items, each number is chosen with each range.
+    pub fn choice(&self) -> usize {
+        if self.at.length <= SHORT {
+            self.at.argument / 25
+        } else {
+            self.at.argument / 5
+        }
+    }
+
     /// Returns a new length that the argument chooses, and how many items it is above the length.
-    pub fn new_length(&self) -> (usize, usize) {
-        if self.at.argument / 5 % 2 == 0 {
+    /// Each fifth argument changes whether it is above the length; `is_above` says it of the first.
+    pub fn new_length(&self, is_above: bool) -> (usize, usize) {
+        if (self.at.argument / 5 % 2 == 0) != is_above {
             return (self.index(), 0);
         }
         let more = self.count();

@@ -1,8 +1,10 @@
 //! Tests of the sweeps themselves: they make the calls that they should make, and see what is wrong.
 use crate::case::{Answer, At, Case, Due, leaked_ledger};
+use crate::runs::is_right;
 use crate::sweep::{Calls, sweep};
 use std::alloc::Global;
 use std::process::Abort;
+use thin_runner::command::Command;
 use thin_testing::Counted;
 use thin_vec::{Doubling, Growth, ThinVecError};
 
@@ -154,5 +156,18 @@ fn detects_an_item_that_is_left_at_the_end(rt: HostRuntime) {
     let case = two_items(&rt, rt.alloc(), 0);
     let item = case.item();
     case.end(&rt);
+    drop(item);
+}
+
+// Executes a command while an item exists that the list does not have.
+#[test]
+fn a_run_sees_an_item_that_is_not_dropped(rt: HostRuntime) {
+    let mut case = two_items(&rt, rt.alloc(), 0);
+    let ledger = case.ledger;
+    let right = is_right(ledger, &mut case.list, Command::Pop, 0, 0);
+    assert!(rt; right.unwrap_or(false));
+    let item = case.item();
+    let right = is_right(ledger, &mut case.list, Command::Pop, 0, 0);
+    assert!(rt; !right.unwrap_or(true));
     drop(item);
 }

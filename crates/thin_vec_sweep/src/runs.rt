@@ -184,9 +184,9 @@ fn is_filling<T: Drop, G: Growth>(command: &Command<T, Lender, G>) -> bool {
     matches!(command, Command::Extend(..) | Command::Splice(..))
 }
 
-// Executes one command by `run`, with request number `refused` refused. Returns whether the requests,
-// the answer, the items and the blocks are right.
-fn is_right<T: Numbered, G: Growth>(
+/// Executes one command by `run`, with request number `refused` refused. Returns whether the
+/// requests, the answer, the items and the blocks are right.
+pub fn is_right<T: Numbered, G: Growth>(
     ledger: &'static Ledger,
     list: &mut List<T, G>,
     command: Command<T, Lender, G>,
@@ -226,15 +226,25 @@ fn is_clean<T: Numbered>(ledger: &'static Ledger, items: usize, capacity: usize)
     (ledger.live.get(), ledger.alloc.blocks()) == (items, u64::from(capacity > 0))
 }
 
-// Executes up to 30 random commands. Returns whether each of them is right.
-fn are_right<T: Numbered, G: Growth, R: Abort>(
+// The number of commands in a random run, and the number of those in which a request is refused if
+// they make enough of them.
+#[derive(Clone, Copy)]
+struct Tally {
+    commands: usize,
+    refusals: usize,
+}
+
+// Executes up to 30 random commands, and counts them. Returns `None` if one of them is not right.
+fn random_run<T: Numbered, G: Growth, R: Abort>(
     rt: &R,
     ledger: &'static Ledger,
     seed: u64,
-) -> Result<bool, AllocError> {
+) -> Result<Option<Tally>, AllocError> {
     let mut dice = Dice { state: seed };
     let mut list: List<T, G> = ThinVec::ruled(&ledger.alloc);
-    for _ in 0..dice.below(31) {
+    let commands = dice.below(31);
+    let mut refusals: usize = 0;
+    for _ in 0..commands {
         ledger.begin(0);
         let command = dice.command(rt, ledger, list.len())?;
         let refused = [0, 0, 1, 2, 3, 4, 5, 9]
@@ -242,21 +252,30 @@ fn are_right<T: Numbered, G: Growth, R: Abort>(
             .copied()
             .unwrap_or(0);
         let digits = dice.state >> 20;
+        refusals = refusals.saturating_add(refused.min(1) as usize);
         if !is_right(ledger, &mut list, command, digits, refused)? {
-            return Ok(false);
+            return Ok(None);
         }
     }
     drop(list);
-    Ok(is_clean::<T>(ledger, 0, 0))
+    let tally = Tally { commands, refusals };
+    Ok(is_clean::<T>(ledger, 0, 0).then_some(tally))
 }
 
 /// Executes random commands on lists of `T` with the growth rule `G`, and asserts that each of them
-/// is right.
+/// is right. Also asserts that the runs differ, and that some requests are to be refused.
 pub fn assert_runs_right<T: Numbered, G: Growth, R: Abort>(rt: &R, ledger: &'static Ledger) {
+    let (mut shortest, mut longest, mut refusals) = (usize::MAX, 0_usize, 0_usize);
     for seed in 0..1500 {
-        let right = are_right::<T, G, R>(rt, ledger, seed);
-        assert!(rt; right.unwrap_or(false), "seed {seed}");
+        let run = random_run::<T, G, R>(rt, ledger, seed).ok().flatten();
+        assert!(rt; run.is_some(), "seed {seed}");
+        if let Some(tally) = run {
+            shortest = shortest.min(tally.commands);
+            longest = longest.max(tally.commands);
+            refusals = refusals.saturating_add(tally.refusals);
+        }
     }
+    assert_eq!(rt; (shortest, longest, refusals > 1000), (0, 30, true));
 }
 
 // Returns a command that needs memory for a list of 3,000 items without spare capacity.

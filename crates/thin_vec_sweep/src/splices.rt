@@ -129,7 +129,7 @@ pub fn splices<T: Numbered, G: Ruled, R: Abort>(
 fn splice_case<T: Numbered, G: Ruled, R: Abort>(rt: &R, ledger: &'static Ledger, at: At) -> u64 {
     let mut case: Case<T, G> = Case::new(rt, ledger, at);
     let (start, end) = case.range();
-    let number = at.argument / 25;
+    let number = case.choice();
     let count = count(number / HINTS % NEW, end.saturating_sub(start));
     let source = nth_source::<T>(number % HINTS, count, at.length);
     let due = due(&case, (start, end), source);

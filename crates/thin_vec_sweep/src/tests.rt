@@ -143,8 +143,8 @@ fn orders_lists_with_one_comparison_of_each_item(rt: HostRuntime) {
 #[test]
 fn sweeps_counted_items_of_long_lists(rt: HostRuntime) {
     let ledger = leaked_ledger(&rt, rt.alloc());
-    sweeps::<Small, Doubling, _>(&rt, ledger, &[4000], &[0], 5);
-    sweeps::<Small, Doubling, _>(&rt, ledger, &[41_000], &[0], 1);
+    sweeps::<Small, Doubling, _>(&rt, ledger, &[4000], &[0, 1], 5);
+    sweeps::<Small, Doubling, _>(&rt, ledger, &[41_000], &[0, 1], 2);
 }
 
 // Sweeps the calls that copy items.

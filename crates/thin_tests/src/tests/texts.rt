@@ -43,6 +43,17 @@ fn prints_a_drain_in_each_form(rt: HostRuntime) -> Result<(), Fail> {
 }
 
 #[test]
+fn prints_a_list_and_an_into_iter_of_many_items(rt: HostRuntime) -> Result<(), Fail> {
+    let list = list_of(rt.alloc(), &[1, 2, 3, 4, 5, 6, 7, 8, 9])?;
+    assert_text(&rt, rt.alloc(), &list, "[1, 2, 3, 4, 5, 6, 7, 8, 9]")?;
+    let mut items = list.into_iter();
+    let text = "IntoIter([1, 2, 3, 4, 5, 6, 7, 8, 9])";
+    assert_text(&rt, rt.alloc(), &items, text)?;
+    assert_same(&rt, (items.next(), items.next_back()), (Some(1), Some(9)));
+    assert_text(&rt, rt.alloc(), &items, "IntoIter([2, 3, 4, 5, 6, 7, 8])")
+}
+
+#[test]
 fn prints_a_drain_of_many_items(rt: HostRuntime) -> Result<(), Fail> {
     let mut list = list_of(rt.alloc(), &[1, 2, 3, 4, 5, 6, 7, 8, 9])?;
     assert_len(&rt, &list, 9);

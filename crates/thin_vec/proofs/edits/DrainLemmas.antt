@@ -1,11 +1,12 @@
 -- These lemmas state which items `next` and `next_back` yield on a `Drain`, and what these calls
 -- leave unchanged.
-use Rattle.std.proofs.Common.{[], inl, inr, ◌∷◌, ◌++◌, ap, append_assoc, arith, refl, subst, sym, ◌∙◌, length}
+use Rattle.std.proofs.Common.{[], List, inl, inr, ◌∷◌, ◌++◌, ap, append_assoc, arith, refl, subst, sym, ◌∙◌, length}
 use Rattle.std.proofs.lemmas.List.{append-nil, length_push}
 use Rattle.std.proofs.iter.runs.Sources.{as_is, as_is_back, from_back, from_front}
 use Rattle.std.specs.Iterator.Runs.{YieldsInOrder, YieldsInReverse}
 use Rattle.thin_block.specs.declared.growth.Growth.{Ghosts}
-use Rattle.thin_vec.specs.Edits.Drain.{DrainKeeps, DrainKeepsAlong, DrainLeaves, DrainSteps, DrainStepsBack, drain_rest}
+use Rattle.std.specs.Iterator.{Yields}
+use Rattle.thin_vec.specs.Edits.Drain.{DrainKeeps, DrainKeepsAlong, DrainLeaves, DrainSteps, DrainStepsBack, DrainStepsEither, drain_rest}
 use Rattle.thin_vec.specs.Open.{OpenView}
 use Rattle.thin_vec.specs.declared.edits.drain.Drain.{Drain}
 use Rattle.thin_vec.specs.declared.edits.holder.Holder.{Holder}
@@ -19,22 +20,33 @@ module _ {T A G : Type 0} {g : Ghosts G}
       record {
         lender = q.lender ∙ p.lender;
         kept = q.kept ∙ p.kept;
-        capacity = q.capacity
-            ∙ p.capacity;
+        capacity = q.capacity ∙ p.capacity;
         alloc = q.alloc ∙ p.alloc;
         cost = q.cost ∙ p.cost;
       }
 
+  same : (d : Drain T A G (Holder (OpenView T A)) g h) → DrainKeeps d d
+  same d = record { lender = refl; kept = refl; capacity = refl; alloc = refl; cost = refl }
+
   pub drain_keeps_along : (d : Drain T A G (Holder (OpenView T A)) g h) → DrainKeepsAlong d
-  drain_keeps_along d [] later e = subst (λ t. DrainLeaves d [] t) e (record {
-    keeps = record { lender = refl; kept = refl; capacity = refl; alloc = refl; cost = refl };
+  drain_keeps_along d [] later e = subst (λ t. DrainKeeps d t) e (same d)
+  drain_keeps_along d (x ∷ xs) later (m, one, e) =
+      drain_keeps_more d m later one.keeps (drain_keeps_along m xs later e)
+
+  -- Calls to `next` and `next_back`, in any order, take items from the two ends of the range, and
+  -- do not change the list that will remain after the `Drain` is dropped.
+  pub drain_leaves : (d : Drain T A G (Holder (OpenView T A)) g h) (items : List T)
+      (later : Drain T A G (Holder (OpenView T A)) g h) → Yields DrainStepsEither d items later
+      → DrainLeaves d items later
+  drain_leaves d [] later e = subst (λ t. DrainLeaves d [] t) e (record {
+    keeps = same d;
     before = [];
     after = [];
     rest = sym (append-nil (drain_rest d));
     count = refl;
   })
-  drain_keeps_along d (x ∷ xs) later (m, inl one, e) =
-      let h = drain_keeps_along m xs later e in
+  drain_leaves d (x ∷ xs) later (m, inl one, e) =
+      let h = drain_leaves m xs later e in
       record {
         keeps = drain_keeps_more d m later one.keeps h.keeps;
         before = x ∷ h.before;
@@ -42,8 +54,8 @@ module _ {T A G : Type 0} {g : Ghosts G}
         rest = one.gave ∙ ap (λ l. x ∷ l) h.rest;
         count = omega (arith, h.count);
       }
-  drain_keeps_along d (x ∷ xs) later (m, inr one, e) =
-      let h = drain_keeps_along m xs later e in
+  drain_leaves d (x ∷ xs) later (m, inr one, e) =
+      let h = drain_leaves m xs later e in
       record {
         keeps = drain_keeps_more d m later one.keeps h.keeps;
         before = h.before;

@@ -46,7 +46,7 @@ module _ {S T : Type 0} (R : S → T → Bool → S → T → Type 0) where
     moved : w.cost ≡ add_moves h.count v.cost
     moved = ap (λ u. u.cost) h.now ∙ moving-after v.gap h.count v.cost gap
 
-    -- The lemmas `advanced-..` and `keeps-sifts` are for the cases of `retain_next`.
+    -- The lemmas `advanced-..` and `keeps-sifts` are for the cases of `retain_rest`.
     pub advanced-goes : (value : T) (z : OpenView T A) → w.rest ≡ value ∷ z.rest
         → z ≡ record w { rest = z.rest; gap = w.gap + 1 } → RetainsSome R s v t z
     advanced-goes value z rest same =

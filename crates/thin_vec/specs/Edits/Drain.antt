@@ -76,12 +76,11 @@ module _ {T A G : Type 0} {g : Ghosts G}
     pub rest : drain_rest first ≡ before ++ (drain_rest later ++ after)
     pub count : length items ≡ length before + length after
 
-  -- `DrainKeepsAlong d` states what calls to `next` and `next_back` on the `Drain` `d` leave, in
-  -- whatever order and however many there are: they do not change the list that will remain after
-  -- `d` is dropped, and take items from the two ends of `drain_rest d`.
+  -- `DrainKeepsAlong d` states that calls to `next` on the `Drain` `d`, however many there are, do
+  -- not change the list that will remain after `d` is dropped.
   abbrev pub DrainKeepsAlong : Drain T A G (Holder (OpenView T A)) g h → Type 0
   DrainKeepsAlong first = (items : List T) (later : Drain T A G (Holder (OpenView T A)) g h)
-      → Yields DrainStepsEither first items later → DrainLeaves first items later
+      → Yields DrainSteps first items later → DrainKeeps first later
 
   -- `DrainsInOrder d` states that calls to `next` on any `Drain` yield the remaining items of the
   -- range in order. The value `d` only names the type of the `Drain`.

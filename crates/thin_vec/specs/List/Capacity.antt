@@ -3,12 +3,13 @@
 --
 -- The list before the call is `v`, the list after the call is `w`, and the result is `r`. If the
 -- list must grow, the default growth rule chooses at least twice the old capacity.
-use Rattle.std.specs.Prelude.{◌≡◌, ◌↔◌, ◌⊎◌, ℕ, ◌≤◌, IsErrOf, OnErr, OnOk, Option, Result}
+use Rattle.std.specs.Prelude.{◌≡◌, ◌↔◌, ◌⊎◌, ℕ, ◌^◌, ◌<◌, ◌≤◌, IsErrOf, OnErr, OnOk, Option, Result, length}
 use Rattle.std.specs.declared.option.Option.TheVariants.{None, Some}
 use Rattle.std.specs.declared.result.Result.TheVariants.{Ok, Err}
 use Rattle.std.specs.Borrow.{RattleType}
 use Rattle.thin_block.specs.declared.errors.ThinVecError.{ThinVecError}
 use Rattle.thin_block.specs.declared.errors.ThinVecError.TheVariants.{CapacityOverflow}
+use Rattle.thin_block.specs.Capacity.{Fits}
 use Rattle.thin_block.specs.Cost.{add_moves}
 use Rattle.thin_block.specs.Growth.{GrowthRule, exact_capacity}
 use Rattle.thin_vec.specs.Cheap.{IsCheap}
@@ -61,6 +62,23 @@ module _ {T A : Type 0} where
     pub never_less : v.capacity ≤ w.capacity
     pub cheap : IsCheap v → IsCheap w
     pub within : IsBounded R v × IsBounded R w
+
+  -- `Grows rule R k v w r` says in one record, which has no records in it, what `Reserves` and
+  -- `PreservesList` say of a call that leaves the list as it was if it fails. A proof by search
+  -- reads each record of each call before it, and so gets through more calls. The lemmas
+  -- `grows-reserves` and `grows-preserved` make the two records of it.
+  pub record Grows (rule : GrowthRule) (R : RattleType) (k : ℕ) (v w : ListView T A)
+      {X : Type 0} (r : Result X ThinVecError) : Type 0 where
+    pub had_room : HasRoomFor v k → w.capacity ≡ v.capacity
+    pub ok : OnOk r (capacity_after_reserve rule R v k ≡ Some w.capacity)
+    pub overflow : IsErrOf r CapacityOverflow ↔ (capacity_after_reserve rule R v k ≡ None)
+    pub alloc : w.alloc ≡ v.alloc
+    pub never_less : v.capacity ≤ w.capacity
+    pub cheap : IsCheap v → IsCheap w
+    pub was_room : length v.items ≤ v.capacity
+    pub room : length w.items ≤ w.capacity
+    pub small : w.capacity < 2 ^ 63
+    pub fits : Fits R w.capacity
 
   -- `IsFreshList R a w` holds if the new list `w` of items of the type `R` has the allocator `a`, a
   -- low recorded cost (`IsCheap`), and a capacity that can be allocated (`IsBounded`).

@@ -3,7 +3,6 @@ ghost use Rattle.std.specs.Prelude.{◌≡◌, ◌≤◌, [], IfErr, IfOk, IsOk,
 ghost use Rattle.std.specs.Box.{boxed_slice_items};
 ghost use Rattle.std.specs.List.{AllZip};
 ghost use Rattle.thin_block.specs.Cost.{add_moves};
-ghost use Rattle.thin_block.specs.Slots.{empty_slots};
 ghost use Rattle.thin_vec.specs.List.Clones.{ClonesEqual};
 ghost use Rattle.thin_vec.specs.ThinVec.{IsBounded, cost_of_new};
 ghost use Rattle.thin_vec.specs.List.Capacity.{OverflowsIffTooLarge, IsFreshList, map_cause};

@@ -50,7 +50,7 @@ impl<T, A: Allocator, G: Growth> ThinVec<T, A, G> {
     /// moves no item.
     pub fn into_iter(self) -> IntoIter<T, A, G>
         ensures value { result ≡ self }
-        ensures bounds { length result.items < 2 ^ 64 }
+        ensures bounds { length self.items < 2 ^ 64 }
         ensures runs { RestInOrder T A }
         ensures runs_back { RestInReverse T A }
     {
@@ -115,8 +115,7 @@ impl<T, A: Allocator, G: Growth> IntoIter<T, A, G> {
     /// Yields the last item that has not been yielded yet, or returns `None` if all items have been
     /// yielded.
     pub fn next_back(&mut self) -> Option<T>
-        ensures variant { IsSome result ↔ (0 < length self.old.items) }
-        ensures items { self.old.items ≡ self.new.items ++ option_to_list result }
+        ensures steps { YieldsLast rest self.old result self.new }
         ensures changes { self.new ≡ record self.old { items = self.new.items } }
     {
         if self.start == self.end {

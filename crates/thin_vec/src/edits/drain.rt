@@ -93,9 +93,8 @@ impl<T: Drop, A: Allocator, G: Growth> ThinVec<T, A, G> {
             (length self.old.items - end) self.old.cost) }
 
         // The `Drain` borrows this list: its reference to the list has the same ghost name as
-        // `self`. Calls to `next` and `next_back`, in any order, take items from the two ends of
-        // the range. They do not change the value that the list will have after the `Drain` is
-        // dropped.
+        // `self`. Calls to `next` do not change the value that the list will have after the `Drain`
+        // is dropped. For calls from both ends, the lemma `drain_leaves` states the same.
         ensures same_reference { drain_lender result ≡ self.entry.ghost_name }
         ensures stays { DrainKeepsAlong result }
     {

@@ -1,6 +1,6 @@
 //! The method `replace_range`, which replaces the items of a range with clones of given items. If
 //! the call fails, the list keeps its old items.
-ghost use Rattle.std.specs.Prelude.{◌≡◌, ◌+◌, ◌-◌, ◌*◌, ◌==◌, ◌<◌, ◌≤◌, ◌++◌, All, IfErr, IsOk, OnErr, OnOk, drop, if◌then◌else◌, length, take};
+ghost use Rattle.std.specs.Prelude.{◌≡◌, ◌+◌, ◌-◌, ◌*◌, ◌<◌, ◌≤◌, ◌++◌, All, IfErr, IsOk, OnErr, OnOk, drop, length, take};
 ghost use Rattle.std.specs.List.{replace_range};
 ghost use Rattle.thin_block.specs.Cost.{add_moves};
 ghost use Rattle.thin_vec.specs.List.Clones.{ClonesEqual};

@@ -3,9 +3,9 @@
 //! `Drains I.next_gives iter xs` states that `iter` yields the items `xs` and then `None`. The clause
 //! `runs` follows from `items`, and `err_runs` from `placed`: they state the same about a *run* of the
 //! iterator, as std's lemmas about adaptors such as `map` expect it.
-ghost use Rattle.std.specs.Prelude.{◌≡◌, ◌+◌, ◌-◌, ◌<◌, ◌≤◌, List, ◌++◌, IfErr, IfOk, IsOk, IsSome, MatchOption, None, OnErr, OnOk, OnSome, length};
+ghost use Rattle.std.specs.Prelude.{◌≡◌, ◌+◌, ◌-◌, ◌<◌, ◌≤◌, List, ◌++◌, IfErr, IfOk, IsOk, IsSome, MatchOption, None, OnErr, OnOk, length};
 ghost use Rattle.std.specs.Iterator.Runs.{SomeRun, WholeRun};
-ghost use Rattle.std.specs.Iterator.{Drains, IsFinite, YieldsThen, size};
+ghost use Rattle.std.specs.Iterator.{Drains, IsFinite, size};
 ghost use Rattle.std.specs.Option.{option_to_list};
 ghost use Rattle.thin_block.specs.Cost.{add_moves};
 ghost use Rattle.thin_block.specs.Growth.{doubling};

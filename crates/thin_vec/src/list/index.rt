@@ -21,6 +21,7 @@ impl<T, A: Allocator, G: Growth> DerefSlice for ThinVec<T, A, G> {
 
     fn deref(&self) -> &[T]
         ensures value { result.now ≡ self.now.items }
+        ensures len { length result.now ≡ length self.now.items }
         ensures bounds { IsBounded T.row self.now }
     {
         self.as_slice()
@@ -32,6 +33,7 @@ impl<T, A: Allocator, G: Growth> DerefSliceMut for ThinVec<T, A, G> {
         ensures* writes_back { sem 𝓛
             (LendsItems T.row A.row G.row A.Allocator G.Growth self.entry result) }
         ensures value { result.now ≡ self.old.items }
+        ensures len { length result.now ≡ length self.old.items }
         ensures bounds { IsBounded T.row self.old }
     {
         self.as_mut_slice()

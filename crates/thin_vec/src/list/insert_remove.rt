@@ -6,7 +6,7 @@ ghost use Rattle.std.specs.List.Retain.{PopsIf};
 ghost use types.Logic.{sem};
 ghost use Rattle.thin_block.specs.Cost.{add_moves};
 ghost use Rattle.thin_vec.specs.List.InsertRemove.{LendsAdded};
-ghost use Rattle.thin_vec.specs.List.Capacity.{CostsMoves, PreservesList, Reserves, OverflowsIff, map_cause};
+ghost use Rattle.thin_vec.specs.List.Capacity.{CostsMoves, Grows, PreservesList, OverflowsIff, map_cause};
 
 use crate::errors::Rejected;
 use crate::list::ThinVec;
@@ -40,8 +40,7 @@ impl<T, A: Allocator, G: Growth> ThinVec<T, A, G> {
         ensures value_returned { IfErr result (λ error. error.value ≡ value) }
 
         // In every case, the capacity changes as `reserve(1)` would change it.
-        ensures capacity { Reserves G.rule T.row 1 self.old self.new (map_cause result) }
-        ensures preserved { PreservesList T.row self.old self.new }
+        ensures grows { Grows G.rule T.row 1 self.old self.new (map_cause result) }
     {
         if let Err(cause) = self.reserve(1) {
             return Err(Rejected { value, cause });

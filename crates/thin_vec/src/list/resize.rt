@@ -2,10 +2,10 @@
 //!
 //! The clause `items_if_clones_equal` follows from `items`, and `err` follows from `err_cost`. With
 //! them, a caller needs no lemma about clones.
-ghost use Rattle.std.specs.Prelude.{◌≡◌, ◌⊎◌, ◌+◌, ◌-◌, ◌<◌, ◌≤◌, ◌++◌, IfErr, IsOk, OnErr, OnOk, length, replicate, take};
+ghost use Rattle.std.specs.Prelude.{◌≡◌, ◌⊎◌, ◌+◌, ◌-◌, ◌<◌, ◌≤◌, ◌++◌, IsOk, OnErr, OnOk, length, replicate, take};
 ghost use Rattle.std.specs.List.{AppendsResults};
 ghost use Rattle.thin_block.specs.Cost.{add_moves};
-ghost use Rattle.thin_vec.specs.List.Clones.{AppendsRepeats, CloneEquals, IsResized, FailsAtClone, CostsFailedClone};
+ghost use Rattle.thin_vec.specs.List.Clones.{AppendsRepeats, CloneEquals, IsResized, CostsFailedClone};
 ghost use Rattle.thin_vec.specs.List.Capacity.{CostsMoves, PreservesList, Reserves};
 
 use crate::list::ThinVec;
@@ -14,7 +14,6 @@ use std::alloc::Allocator;
 use thin_block::{Growth, ThinVecError};
 
 impl<T: Clone, A: Allocator, G: Growth> ThinVec<T, A, G> {
-    ghost use Rattle.thin_vec.specs.Cheap.{IsCheap};
     ghost use Rattle.thin_vec.specs.ThinVec.{HasRoomFor, IsBounded};
 
     /// Changes the length to `len`. If the list is longer, the items from index `len` onward are
@@ -87,9 +86,6 @@ impl<T: Clone, A: Allocator, G: Growth> ThinVec<T, A, G> {
 }
 
 impl<T: Drop, A: Allocator, G: Growth> ThinVec<T, A, G> {
-    ghost use Rattle.thin_vec.specs.Cheap.{IsCheap};
-    ghost use Rattle.thin_vec.specs.ThinVec.{HasRoomFor, IsBounded};
-
     /// Changes the length to `len`. If the list is longer, the items from index `len` onward are
     /// dropped. If the list is shorter, the results of `make` are appended: `make` is called once
     /// for each new item, in order. If there is not enough spare capacity, the list first grows to

@@ -154,7 +154,7 @@ impl<T, A: Allocator> OpenBlock<T, A> {
 }
 
 impl<T: Drop, A: Allocator> OpenBlock<T, A> {
-    ghost use Rattle.thin_vec.specs.OpenBlock.Retain.{RetainsRest, RetainsSome};
+    ghost use Rattle.thin_vec.specs.OpenBlock.Retain.{RetainsRest};
 
     // Tests the remaining items, in order. Drops the items that are not kept, and appends the
     // others to the front.

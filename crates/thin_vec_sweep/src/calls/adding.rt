@@ -90,7 +90,7 @@ fn reserve_exact<T: Numbered, G: Growth>(case: &mut Case<T, G>) -> Answer {
 
 // The last new item is the value itself.
 fn resize<T: Numbered, G: Growth>(case: &mut Case<T, G>) -> Answer {
-    let (len, more) = case.new_length();
+    let (len, more) = case.new_length(true);
     let value = case.item();
     case.begin("resize");
     case.list.resize(len, value)?;
@@ -98,7 +98,7 @@ fn resize<T: Numbered, G: Growth>(case: &mut Case<T, G>) -> Answer {
 }
 
 fn resize_with<T: Numbered, G: Growth, R: Abort>(rt: &R, case: &mut Case<T, G>) -> Answer {
-    let (len, more) = case.new_length();
+    let (len, more) = case.new_length(true);
     let mut made = case.items(rt, more);
     let (ledger, token) = (case.ledger, case.token());
     case.begin("resize_with");
@@ -138,7 +138,7 @@ fn append<T: Numbered, G: Growth, R: Abort>(rt: &R, case: &mut Case<T, G>) -> An
 }
 
 fn shrink_to<T: Numbered, G: Growth>(case: &mut Case<T, G>) -> Answer {
-    let least = case.new_length().0;
+    let least = case.new_length(false).0;
     case.begin("shrink_to");
     case.list.shrink_to(least)?;
     Ok(Due::NOTHING)

@@ -159,8 +159,8 @@ fn extract_if<T: Numbered, G: Growth, R: Abort>(rt: &R, case: &mut Case<T, G>) -
     let (start, end) = case.range();
     let pattern = case.at.pattern();
     let width = end.saturating_sub(start);
-    let choices = [0, 1, 2, width / 2, width, width.saturating_add(1)];
-    let wanted = choices[case.at.argument / 25 % 6];
+    let choices = [width / 8, width.saturating_add(1), 2, 1, 0, width];
+    let wanted = choices[case.choice() % 6];
     let calls = Rc::new(case.ledger.global, Cell::new(0))
         .ok()
         .expect(rt, "memory");

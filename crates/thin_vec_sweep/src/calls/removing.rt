@@ -77,7 +77,7 @@ fn swap_remove<T: Numbered, G: Growth, R: Abort>(rt: &R, case: &mut Case<T, G>) 
 }
 
 fn truncate<T: Numbered, G: Growth>(case: &mut Case<T, G>) -> Answer {
-    let len = case.new_length().0;
+    let len = case.new_length(false).0;
     case.begin("truncate");
     case.list.truncate(len);
     Ok(Due::NOTHING)
@@ -128,17 +128,17 @@ struct Walk {
 }
 
 impl Walk {
-    fn new(argument: usize, width: usize) -> Walk {
-        let (number, backs) = (argument / 25, [0, usize::MAX, 0x5555_5555, 0x3333_3333]);
+    fn new(choice: usize, argument: usize, width: usize) -> Walk {
+        let backs = [0, usize::MAX, 0x5555_5555, 0x3333_3333];
         Walk {
             steps: [
-                0,
-                1,
                 width / 2,
+                width.saturating_add(1),
                 width.saturating_sub(1),
                 width,
-                width.saturating_add(1),
-            ][number % 6],
+                1,
+                0,
+            ][choice % 6],
             backs: backs[argument % 4],
         }
     }
@@ -150,7 +150,7 @@ impl Walk {
 
 fn drain<T: Numbered, G: Growth, R: Abort>(rt: &R, case: &mut Case<T, G>) -> Answer {
     let (start, end) = case.range();
-    let walk = Walk::new(case.at.argument, end.saturating_sub(start));
+    let walk = Walk::new(case.choice(), case.at.argument, end.saturating_sub(start));
     case.begin("drain");
     assert!(rt; start <= end && end <= case.list.len());
     drain_some(&mut case.list, start, end, walk);
@@ -200,7 +200,7 @@ fn drain_all<T: Numbered, A: Allocator, G: Growth>(
 }
 
 fn into_iter<T: Numbered, G: Growth, R: Abort>(_rt: &R, case: &mut Case<T, G>) -> Answer {
-    let walk = Walk::new(case.at.argument, case.at.length);
+    let walk = Walk::new(case.choice(), case.at.argument, case.at.length);
     let list = case.take();
     case.begin("into_iter");
     drop(stepped(list, walk));
@@ -224,7 +224,7 @@ fn stepped<T: Numbered, A: Allocator, G: Growth>(
 }
 
 fn into_iter_clone<T: Numbered, G: Growth, R: Abort>(_rt: &R, case: &mut Case<T, G>) -> Answer {
-    let walk = Walk::new(case.at.argument, case.at.length);
+    let walk = Walk::new(case.choice(), case.at.argument, case.at.length);
     let rest = stepped(case.take(), walk);
     case.begin("clone of into_iter");
     let clone = rest.clone(&case.ledger.alloc)?;

@@ -1,5 +1,5 @@
 -- The first `len` slots, which `as_slice` returns, hold exactly the items of the list.
-use Rattle.std.proofs.Common.{ap, arith, ◌∙◌}
+use Rattle.std.proofs.Common.{ap, arith, length, ◌∙◌}
 use Rattle.thin_vec.proofs.ListLemmas.{thin-filled, thin-run}
 use Rattle.thin_vec.proofs.ThinVecLemmas.{within-of}
 use Rattle.thin_vec.proofs.list.ThinVec.as_slice.Goals as goal
@@ -11,9 +11,11 @@ slice-requires-clause-filled g c = λ i low high.
 
 pub returns : goal.returns
 returns g c =
+    let value = thin-run c.self.inside.block c.self.inside.alloc c.slice.result.now c.len.result
+        c.self.invariant c.len.ensures.value c.slice.ensures.value
+        ∙ ap (λ v. v.items) c.self.view_is in
     record {
-      value = thin-run c.self.inside.block c.self.inside.alloc c.slice.result.now c.len.result
-          c.self.invariant c.len.ensures.value c.slice.ensures.value
-          ∙ ap (λ v. v.items) c.self.view_is;
+      value = value;
+      len = ap length value;
       bounds = within-of _ _ _ _ c.self.invariant c.self.view_is c.len.ensures.bounds;
     }

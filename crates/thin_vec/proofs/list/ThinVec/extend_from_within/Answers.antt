@@ -17,8 +17,12 @@ fails g c all =
     let less = c.if-push_clones_within-end.true in
     not-all g.T.Clone.is_infallible (slice_range xs c.args.start c.args.end)
     c.push_clones_within.result
-    (omega (arith, less, length-range xs c.args.start c.args.end
-    (omega (arith, ap length same, c.requires.in_bounds))))
+    (omega (
+      arith,
+      less,
+      length-range xs c.args.start c.args.end
+          (omega (arith, ap length same, c.requires.in_bounds)),
+    ))
     (c.push_clones_within.ensures.stopped_at less)
     (subst (λ l. All g.T.Clone.is_infallible (slice_range l c.args.start c.args.end)) (sym same) all)
 

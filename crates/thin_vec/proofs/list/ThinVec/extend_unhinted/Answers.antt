@@ -1,6 +1,5 @@
 -- In each iteration of the loop, `fill_spare` moves items of the iterator into the empty slots of
 -- the list. If the iterator has not ended, one more item is pushed.
-use Rattle.std.proofs.lemmas.Grind.{common_steps}
 use Rattle.std.proofs.Common.{◌≡◌, Err, ◌++◌, ◌∷◌, [], ◌+◌, ◌-◌, ◌≤◌, ◌∙◌, ap, arith, append_assoc, length, length-append, refl, subst, sym, inr}
 use Rattle.std.proofs.lemmas.List.{length_push}
 use Rattle.std.specs.Iterator.{Yields}
@@ -11,6 +10,7 @@ use Rattle.thin_vec.specs.List.Extend.{CostsInserting, IsKeptOrChosen, IsKeptOrG
 use Rattle.thin_vec.specs.Put.{YieldsThenMayEnd}
 use Rattle.thin_vec.specs.ThinVec.{capacity_after_reserve}
 use Rattle.thin_vec.proofs.list.ExtendLemmas.{ruled-more, filled-at, adding-join, filled-spare, loose-join, loose-le, loose-ruled, spare-kept, yields-join, yields-more}
+use Rattle.thin_vec.proofs.CallerLemmas.{grows-preserved}
 use Rattle.thin_vec.proofs.list.ReservesLemmas.{keeps-join}
 use Rattle.thin_vec.proofs.ThinVecLemmas.{cost_after_resize-blocks, cost_after_resize-copied}
 use Rattle.thin_block.proofs.ResultLemmas.{err-same, none-some}
@@ -158,10 +158,10 @@ loop-rest-preserved g c =
     let kept = ap (λ y. y.capacity) (changed g filled) in
     let long = ap length pushed.items ∙ length_push w.items c.in-Some.item in
     let more = longer g filled in
-    let grown = loose-ruled rule T law w 1 z.capacity pushed.capacity.ok in
+    let grown = loose-ruled rule T law w 1 z.capacity pushed.grows.ok in
     let push = filled-at w z 1 pushed.cost long
     (cost_after_resize-copied rule T law w 1 z.capacity c.fill_spare-left.ensures.bounds.1.room
-    pushed.capacity.ok) in
+    pushed.grows.ok) in
     let high = loose-le rule T law w.capacity z.capacity grown in
     let low = loose-le rule T law v.capacity u.capacity held.loose in
     let all = full g here.Else-ended in
@@ -179,9 +179,9 @@ loop-rest-preserved g c =
       nearer = omega (arith, held.nearer, nearer, goes.2, more, long);
       loose = loose-join rule T law v.capacity u.capacity z.capacity held.loose
           (subst (λ n. IsKeptOrGrown rule T n z.capacity) kept grown);
-      never_less = omega (arith, held.never_less, pushed.preserved.never_less, kept);
+      never_less = omega (arith, held.never_less, pushed.grows.never_less, kept);
       had_room = λ fit. let same = held.had_room fit in
-          pushed.capacity.had_room (omega (arith, fit, held.nearer, nearer, goes.2, more, same, kept))
+          pushed.grows.had_room (omega (arith, fit, held.nearer, nearer, goes.2, more, same, kept))
           ∙ (kept ∙ same);
       cost = adding-join 0 0 0 (omega arith) (spent g filled) push (omega (arith, low, kept)) high
           (omega (arith, ap length held.placed.1, length-append v.items held.placed.0, more));
@@ -202,10 +202,10 @@ loop-rest-preserved g c =
         length w.items + 1,
         omega (arith, all),
         omega (arith, long),
-        pushed.capacity.ok,
+        pushed.grows.ok,
       );
-      alloc = pushed.preserved.alloc ∙ (ap (λ y. y.alloc) (changed g filled) ∙ held.alloc);
-      cheap = λ first. pushed.preserved.cheap
+      alloc = pushed.grows.alloc ∙ (ap (λ y. y.alloc) (changed g filled) ∙ held.alloc);
+      cheap = λ first. pushed.grows.cheap
           (c.fill_spare-left.ensures.cheap (held.cheap first));
     }
 
@@ -283,7 +283,7 @@ pub returns-in-Err-clause-cause : goal.returns-in-Err-clause-cause
 returns-in-Err-clause-cause g c =
     let same = ap (λ v. capacity_after_reserve g.G.Growth.rule (param 0 g.row.T) v 1)
     c.in-Err.ensures.err in
-    let overflow = c.in-Err.ensures.capacity.overflow in
+    let overflow = c.in-Err.ensures.grows.overflow in
     record {
       by_push = λ _. (
         λ over. same ∙ overflow.0 (ap Err over),
@@ -313,7 +313,7 @@ returns-in_default-clause-preserved g c =
 pub returns-in-Err-clause-preserved : goal.returns-in-Err-clause-preserved
 returns-in-Err-clause-preserved g c =
     keeps-join (kept g (goal.at.returns-in-Err-clause-preserved g c).After-fill_spare-left)
-    c.in-Err.ensures.preserved
+    (grows-preserved c.in-Err.ensures.grows)
 
 pub returns-in-Err-clause-err_full : goal.returns-in-Err-clause-err_full
 returns-in-Err-clause-err_full g c =

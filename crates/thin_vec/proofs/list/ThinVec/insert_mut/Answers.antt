@@ -2,6 +2,7 @@
 use Rattle.std.proofs.Common.{◌≡◌, ap, arith, drop, get_or, length, refl, take, ◌∙◌}
 use Rattle.std.proofs.lemmas.List.{get_or_at, length-take-le, set_at}
 use lib.ListN.{length-set, set}
+use Rattle.thin_vec.proofs.CallerLemmas.{grows-bounded, grows-was_bounded}
 use Rattle.thin_vec.proofs.ThinVecLemmas.{within-like}
 use Rattle.thin_vec.proofs.list.ReservesLemmas.{tells-ok}
 use Rattle.thin_vec.proofs.list.ThinVec.insert_mut.Goals as goal
@@ -15,17 +16,17 @@ returns g c =
     let put = c.in_ok-insert.ensures.items in
     let at : length (take i xs) ≡ i = length-take-le i xs c.requires.in_bounds in
     let y = c.index_mut.result.now in
-    let within = c.insert.ensures.preserved.within in (
+    let within = grows-bounded c.insert.ensures.grows in (
       (
         refl,
         λ w _. record {
           items = ap (λ l. set l i w) put ∙ set_at (take i xs) v (drop i xs) w i at;
-          capacity = c.in_ok-insert.ensures.capacity.ok;
-          alloc = c.insert.ensures.preserved.alloc;
+          capacity = c.in_ok-insert.ensures.grows.ok;
+          alloc = c.insert.ensures.grows.alloc;
           cost = c.in_ok-insert.ensures.cost;
-          cheap = c.insert.ensures.preserved.cheap;
-          within = within-like _ _ new within.1 refl
-              (omega (arith, length-set new.items i w, within.1.room));
+          cheap = c.insert.ensures.grows.cheap;
+          within = within-like _ _ new within refl
+              (omega (arith, length-set new.items i w, within.room));
         },
         tt,
       ),
@@ -34,8 +35,8 @@ returns g c =
         value = c.index_mut.ensures.value
             ∙ (ap (λ l. get_or l i y) put ∙ get_or_at (take i xs) v (drop i xs) y i at);
         succeeds = λ _. refl;
-        overflow = tells-ok _ _ _ c.in_ok-insert.ensures.capacity.ok;
+        overflow = tells-ok _ _ _ c.in_ok-insert.ensures.grows.ok;
         value_returned = tt;
-        bounds = within.0;
+        bounds = grows-was_bounded c.insert.ensures.grows;
       },
     )

@@ -14,6 +14,3 @@ returns-clause-bounds g c = grind (arith, common_steps)
 
 pub returns-clause-value : goal.returns-clause-value
 returns-clause-value g c = λ d some. grind (arith, common_steps)
-
-pub returns-clause-rest : goal.returns-clause-rest
-returns-clause-rest g c = grind (arith, common_steps)

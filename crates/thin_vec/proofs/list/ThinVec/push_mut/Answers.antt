@@ -2,6 +2,7 @@
 use Rattle.std.proofs.Common.{[], ap, arith, get_or, refl, sym, ◌∙◌}
 use Rattle.std.proofs.lemmas.List.{get_or_at, set_at}
 use lib.ListN.{length-set, set}
+use Rattle.thin_vec.proofs.CallerLemmas.{grows-bounded, grows-was_bounded}
 use Rattle.thin_vec.proofs.ThinVecLemmas.{within-like}
 use Rattle.thin_vec.proofs.list.ReservesLemmas.{tells-ok}
 use Rattle.thin_vec.proofs.list.ThinVec.push_mut.Goals as goal
@@ -15,17 +16,17 @@ returns g c =
     let put = c.in_ok-push.ensures.items in
     let at = sym c.len-len.ensures.value in
     let y = c.index_mut.result.now in
-    let within = c.push.ensures.preserved.within in (
+    let within = grows-bounded c.push.ensures.grows in (
       (
         refl,
         λ w _. record {
           items = ap (λ l. set l i w) put ∙ set_at xs v [] w i at;
-          capacity = c.in_ok-push.ensures.capacity.ok;
-          alloc = c.push.ensures.preserved.alloc;
+          capacity = c.in_ok-push.ensures.grows.ok;
+          alloc = c.push.ensures.grows.alloc;
           cost = c.in_ok-push.ensures.cost;
-          cheap = c.push.ensures.preserved.cheap;
-          within = within-like _ _ new within.1 refl
-              (omega (arith, length-set new.items i w, within.1.room));
+          cheap = c.push.ensures.grows.cheap;
+          within = within-like _ _ new within refl
+              (omega (arith, length-set new.items i w, within.room));
         },
         tt,
       ),
@@ -34,8 +35,8 @@ returns g c =
         value = c.index_mut.ensures.value
             ∙ (ap (λ l. get_or l i y) put ∙ get_or_at xs v [] y i at);
         succeeds = λ _. refl;
-        overflow = tells-ok _ _ _ c.in_ok-push.ensures.capacity.ok;
+        overflow = tells-ok _ _ _ c.in_ok-push.ensures.grows.ok;
         value_returned = tt;
-        bounds = within.0;
+        bounds = grows-was_bounded c.push.ensures.grows;
       },
     )
