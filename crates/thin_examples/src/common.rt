@@ -9,7 +9,7 @@ pub fn filled(alloc: Global) -> Result<ThinVec<u32>, ThinVecError> {
     let mut other = ThinVec::from_array(alloc, [5, 6])?; // a list of the items of an array
     list.push(7)?; // append an item
     list.insert(0, 8)?; // insert an item at an index
-    list.splice(1, 3, 20..23).finish(alloc)?; // replace a range with what an iterator yields
+    list.splice(1, 3, 20..23).finish(alloc)?; // replace the items 1..3 by those of an iterator
     list.append(&mut other)?; // append a list, which is empty afterwards
     list.extend(5..9)?; // append what an iterator yields
     list.reserve(2)?; // reserve once, then push without failure

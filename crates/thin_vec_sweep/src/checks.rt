@@ -5,7 +5,7 @@ use crate::sweep::{Calls, sweep};
 use std::alloc::Global;
 use std::process::Abort;
 use thin_runner::command::Command;
-use thin_testing::Counted;
+use thin_testing::{Counted, Numbered};
 use thin_vec::{Doubling, Growth, ThinVecError};
 
 // Two calls, which make as many requests as their numbers say.
@@ -159,15 +159,17 @@ fn detects_an_item_that_is_left_at_the_end(rt: HostRuntime) {
     drop(item);
 }
 
+// Executes `pop`, and returns whether all about it is right.
+fn pops_rightly<T: Numbered, G: Growth>(case: &mut Case<T, G>) -> Option<bool> {
+    is_right(case.ledger, &mut case.list, Command::Pop, 0, 0).ok()
+}
+
 // Executes a command while an item exists that the list does not have.
 #[test]
 fn a_run_sees_an_item_that_is_not_dropped(rt: HostRuntime) {
     let mut case = two_items(&rt, rt.alloc(), 0);
-    let ledger = case.ledger;
-    let right = is_right(ledger, &mut case.list, Command::Pop, 0, 0);
-    assert!(rt; right.unwrap_or(false));
+    assert!(rt; pops_rightly(&mut case) == Some(true));
     let item = case.item();
-    let right = is_right(ledger, &mut case.list, Command::Pop, 0, 0);
-    assert!(rt; !right.unwrap_or(true));
+    assert!(rt; pops_rightly(&mut case) == Some(false));
     drop(item);
 }
