@@ -1,13 +1,14 @@
 //! Tests of the calls that take an allocator. What they make uses this allocator, and not that of
-//! the list, even if the list is empty.
+//! the list, even if the list is empty. Also tests that a list drops its allocator.
 use crate::tests::support::{
     assert_counts, assert_len, assert_same, leak_refusing, list_of, splice,
 };
+use bumpalo::Bump;
 use std::alloc::{Allocator, Global};
 use std::process::Abort;
 use std::test::Fail;
 use thin_runner::hinted::Hinted;
-use thin_vec::ThinVec;
+use thin_vec::{IntoIter, ThinVec};
 
 // Makes a `Vec` of the items of the list with the allocator `alloc`, by one of six calls. The
 // number `way`, from 0 to 5, selects the call.
@@ -67,5 +68,44 @@ fn finish_holds_items_back_on_the_allocator_passed(rt: HostRuntime) -> Result<()
     splice(&mut list, (1, 2), items, other)?;
     assert_counts(&rt, own, 2, 1);
     assert_counts(&rt, other, 1, 0);
+    Ok(())
+}
+
+// Ends a list of one item, or an empty list, by one of five calls.
+fn end<A: Allocator>(way: u32, mut list: ThinVec<i32, A>) -> Result<(), Fail> {
+    match way {
+        0 => drop(list),
+        1 => {
+            list.clear();
+            list.shrink_to_fit()?;
+            drop(list);
+        }
+        2 => drop(list.into_iter()),
+        3 => drop(list.into_array::<1>()),
+        _ => take_all(list.into_iter()),
+    }
+    Ok(())
+}
+
+// Takes all items of the iterator.
+fn take_all<A: Allocator>(items: IntoIter<i32, A>) {
+    for item in items {
+        let _item = item;
+    }
+}
+
+// The allocator of each list owns a chunk of memory, which it frees when it is dropped.
+#[test]
+fn a_list_drops_its_allocator(rt: HostRuntime) -> Result<(), Fail> {
+    let refusing = leak_refusing(&rt, rt.alloc(), 0);
+    for way in 0..5 {
+        let mut list = ThinVec::new(Bump::new(refusing));
+        list.push(7)?;
+        assert_same(&rt, refusing.blocks(), 1);
+        end(way, list)?;
+        assert_same(&rt, (way, refusing.blocks()), (way, 0));
+        end(way, ThinVec::new(Bump::try_with_capacity(refusing, 100)?))?;
+        assert_same(&rt, (way, refusing.blocks()), (way, 0));
+    }
     Ok(())
 }
