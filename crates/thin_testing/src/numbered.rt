@@ -171,6 +171,42 @@ impl Numbered for Counted<'static, u64> {
     }
 }
 
+impl Numbered for Counted<'static, u128> {
+    const SIZE: usize = 32;
+
+    const LIMIT: usize = 288_230_376_151_711_743;
+
+    const IS_COUNTED: bool = true;
+
+    fn numbered(ledger: &'static Ledger, number: u64) -> Self {
+        Counted::new(ledger, number, u128::from(number))
+    }
+}
+
+impl Numbered for Counted<'static, [u64; 6]> {
+    const SIZE: usize = 64;
+
+    const LIMIT: usize = 144_115_188_075_855_871;
+
+    const IS_COUNTED: bool = true;
+
+    fn numbered(ledger: &'static Ledger, number: u64) -> Self {
+        Counted::new(ledger, number, [number; 6])
+    }
+}
+
+impl Numbered for Counted<'static, [u64; 14]> {
+    const SIZE: usize = 128;
+
+    const LIMIT: usize = 72_057_594_037_927_935;
+
+    const IS_COUNTED: bool = true;
+
+    fn numbered(ledger: &'static Ledger, number: u64) -> Self {
+        Counted::new(ledger, number, [number; 14])
+    }
+}
+
 impl Numbered for Counted<'static, [u64; 62]> {
     const SIZE: usize = 512;
 

@@ -241,8 +241,10 @@ impl<T: Numbered, G: Growth> Case<T, G> {
             [0, 1, 2, 3, 5, 9, 17, 45]
         } else if self.at.length <= 100 {
             [50, 1, 9, 0, 50, 1, 9, 0]
-        } else {
+        } else if self.at.length <= 10_000 {
             [300, 1, 300, 1, 300, 1, 300, 1]
+        } else {
+            [11_000, 1, 5000, 0, 11_000, 1, 5000, 0]
         };
         counts[self.at.argument % 8]
     }

@@ -132,7 +132,7 @@ impl Source {
 }
 
 /// The numbers of items that are tried.
-pub const COUNTS: [usize; 10] = [0, 1, 2, 3, 4, 5, 9, 17, 50, 100];
+pub const COUNTS: [usize; 11] = [0, 1, 2, 3, 4, 5, 9, 17, 50, 100, 300];
 
 /// The number of different hints.
 pub const HINTS: usize = 20;
@@ -146,7 +146,7 @@ pub fn nth_source<T: Numbered>(number: usize, count: usize, length: usize) -> So
         2 => count.saturating_sub(1),
         3 => count,
         4 => count.saturating_add(1),
-        5 => 300,
+        5 => 5000,
         6 => most,
         7 => most.saturating_add(1),
         8 => isize::MAX as usize,

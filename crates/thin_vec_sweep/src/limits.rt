@@ -1,4 +1,4 @@
-//! Requests for the greatest capacity, and calls whose capacity overflows.
+//! Requests for large blocks and for the greatest capacity, and calls whose capacity overflows.
 use crate::case::{At, Case, List};
 use std::process::Abort;
 use thin_testing::{Ledger, Numbered, Ruled};
@@ -62,6 +62,25 @@ fn limit<T: Numbered, G: Ruled, R: Abort>(
     let requests = ledger.alloc.requests();
     case.end(rt);
     (answer, requests)
+}
+
+/// Asserts that a list of bytes gets room for each power of two up to 2^27 by one request.
+pub fn powers<R: Abort>(rt: &R, ledger: &'static Ledger) {
+    let mut capacity: usize = 1;
+    for power in 0..28 {
+        ledger.begin(0);
+        let answer = (made::<u8>(ledger, capacity), ledger.alloc.requests());
+        assert!(rt; answer == (Ok(()), 1), "with_capacity(2^{power})");
+        ledger.begin(0);
+        let answer = (reserved(ledger, capacity), ledger.alloc.requests());
+        assert!(rt; answer == (Ok(()), 1), "reserve(2^{power})");
+        capacity = capacity.saturating_mul(2);
+    }
+}
+
+fn reserved(ledger: &'static Ledger, additional: usize) -> Result<(), ThinVecError> {
+    let mut list: List<u8, Doubling> = ThinVec::new(&ledger.alloc);
+    list.reserve(additional)
 }
 
 fn made<T: Numbered>(ledger: &'static Ledger, capacity: usize) -> Result<(), ThinVecError> {

@@ -12,7 +12,7 @@ use thin_testing::{Ledger, Numbered, Ruled};
 use thin_vec::{Growth, Splice, SpliceRefused, ThinVec, ThinVecError};
 
 // The number of choices for the number of new items.
-const NEW: usize = 9;
+const NEW: usize = 10;
 
 // The number of sequences of calls to `next` and `next_back` before `finish`.
 const WALKS: usize = 4;
@@ -25,6 +25,7 @@ fn count(number: usize, width: usize) -> usize {
         5 => width.saturating_add(1),
         6 => width.saturating_add(9),
         7 => width.saturating_add(25),
+        8 => width.saturating_add(60),
         _ => width.saturating_sub(1),
     }
 }

@@ -13,7 +13,7 @@ use crate::calls::removing::Removing;
 use crate::calls::replacing::Replacing;
 use crate::case::leaked_ledger;
 use crate::fill::{Collect, Extend, ExtendOfTrait, FromIter, fill_lists};
-use crate::limits::limits;
+use crate::limits::{limits, powers};
 use crate::runs::{assert_long_commands_right, assert_long_run_right, assert_runs_right};
 use crate::splices::splices;
 use crate::sweep::sweep;
@@ -34,10 +34,16 @@ const LONGER: [usize; 2] = [50, 300];
 // More arguments than any call has.
 const ALL: usize = usize::MAX;
 
-// Counted items of 16, 24 and 512 bytes.
+// Counted items of 16, 24, 32, 64, 128 and 512 bytes.
 type Small = Counted<'static>;
 
 type ThreeWords = Counted<'static, u64>;
+
+type Aligned = Counted<'static, u128>;
+
+type EightWords = Counted<'static, [u64; 6]>;
+
+type SixteenWords = Counted<'static, [u64; 14]>;
 
 type Large = Counted<'static, [u64; 62]>;
 
@@ -62,7 +68,8 @@ fn sweeps<T: Numbered, G: Ruled, R: Abort>(
 fn sweep_all<T: Numbered, G: Ruled, R: Abort>(rt: &R, alloc: Global, long: &[usize]) {
     let ledger = leaked_ledger(rt, alloc);
     sweeps::<T, G, R>(rt, ledger, &SHORT, &[0, 1, 4], ALL);
-    sweeps::<T, G, R>(rt, ledger, long, &[0, 1], 10);
+    sweeps::<T, G, R>(rt, ledger, long, &[0, 4, 30], 10);
+    sweep::<Adding, T, G, R>(rt, ledger, &[1, 33], &[300], ALL);
 }
 
 #[test]
@@ -106,6 +113,13 @@ fn sweeps_counted_items_of_24_bytes(rt: HostRuntime) {
 }
 
 #[test]
+fn sweeps_items_of_32_to_128_bytes(rt: HostRuntime) {
+    sweep_all::<Aligned, Doubling, _>(&rt, rt.alloc(), &[50]);
+    sweep_all::<EightWords, Doubling, _>(&rt, rt.alloc(), &[50]);
+    sweep_all::<SixteenWords, Doubling, _>(&rt, rt.alloc(), &[50]);
+}
+
+#[test]
 fn sweeps_items_of_512_bytes(rt: HostRuntime) {
     sweep_all::<Large, Doubling, _>(&rt, rt.alloc(), &LONGER);
 }
@@ -120,10 +134,13 @@ fn sweeps_items_of_odd_sizes(rt: HostRuntime) {
     sweep_all::<[u32; 7], Doubling, _>(&rt, rt.alloc(), &LONGER);
 }
 
-// Sweeps the calls that may grow a list with the growth rule `G`.
+// Sweeps the calls on short lists with the growth rule `G`.
 fn growths<G: Ruled, R: Abort>(rt: &R, ledger: &'static Ledger) {
     sweep::<Adding, Small, G, R>(rt, ledger, &SHORT, &[0, 1], ALL);
     sweep::<Replacing, Small, G, R>(rt, ledger, &[1, 4, 33], &[0, 1], ALL);
+    sweep::<Removing, Small, G, R>(rt, ledger, &[1, 4, 33], &[0, 1], ALL);
+    sweep::<Filtering, Small, G, R>(rt, ledger, &[1, 4, 33], &[0, 1], ALL);
+    sweep::<Reading, Small, G, R>(rt, ledger, &[1, 4, 33], &[0, 1], ALL);
 }
 
 #[test]
@@ -159,6 +176,7 @@ fn copies_items_of_all_sizes(rt: HostRuntime) {
     copies::<(), _>(&rt, rt.alloc());
     copies::<u8, _>(&rt, rt.alloc());
     copies::<u16, _>(&rt, rt.alloc());
+    copies::<i32, _>(&rt, rt.alloc());
     copies::<[u8; 5], _>(&rt, rt.alloc());
     copies::<[u32; 3], _>(&rt, rt.alloc());
     copies::<u64, _>(&rt, rt.alloc());
@@ -190,8 +208,8 @@ fn converts_arrays(rt: HostRuntime) {
 fn fill_all<T: Numbered, G: Ruled, R: Abort>(rt: &R, alloc: Global) {
     let ledger = leaked_ledger(rt, alloc);
     fill_lists::<Extend, T, G, R>(rt, ledger, &SHORT, &[0, 4]);
-    fill_lists::<Extend, T, G, R>(rt, ledger, &[300], &[0]);
-    fill_lists::<ExtendOfTrait, T, G, R>(rt, ledger, &[0, 1, 33], &[0, 1]);
+    fill_lists::<Extend, T, G, R>(rt, ledger, &[600], &[0]);
+    fill_lists::<ExtendOfTrait, T, G, R>(rt, ledger, &[0, 1, 33, 300], &[0, 1]);
     fill_lists::<FromIter, T, Doubling, R>(rt, ledger, &[0], &[0]);
     fill_lists::<Collect, T, Doubling, R>(rt, ledger, &[0], &[0]);
 }
@@ -243,6 +261,11 @@ fn capacities_overflow_without_a_request(rt: HostRuntime) {
     limits::<u128, Doubling, _>(&rt, ledger);
     limits::<ThreeWords, Doubling, _>(&rt, ledger);
     limits::<Large, Doubling, _>(&rt, ledger);
+}
+
+#[test]
+fn blocks_of_up_to_128_megabytes_take_one_request(rt: HostRuntime) {
+    powers(&rt, leaked_ledger(&rt, rt.alloc()));
 }
 
 #[test]

@@ -103,12 +103,16 @@ fn prints_each_row_as_a_map(rt: HostRuntime) -> Result<(), Fail> {
 
 #[test]
 fn prints_a_row_of_many_entries(rt: HostRuntime) -> Result<(), Fail> {
-    let mut table = Rows::with_rows(rt.alloc(), 3)?;
+    let mut table = Rows::with_rows(rt.alloc(), 12)?;
     let mut text = String::new(rt.alloc());
-    text.push_str("[{}, {}, {0: 1")?;
-    assert_set(&rt, &mut table, (2, 0), 1, None)?;
+    text.push_str("[")?;
+    for _ in 0..11 {
+        text.push_str("{}, ")?;
+    }
+    text.push_str("{0: 1")?;
+    assert_set(&rt, &mut table, (11, 0), 1, None)?;
     for column in 1..150 {
-        assert_set(&rt, &mut table, (2, column), 1, None)?;
+        assert_set(&rt, &mut table, (11, column), 1, None)?;
         text.push_str(format!(in rt.alloc(); ", {column}: 1")?.as_str())?;
     }
     text.push_str("}]")?;
@@ -121,7 +125,7 @@ fn prints_a_row_of_many_entries(rt: HostRuntime) -> Result<(), Fail> {
 #[test]
 fn set_adds_thousands_of_columns_to_a_row(rt: HostRuntime) -> Result<(), Fail> {
     let refusing = leak_refusing(&rt, rt.alloc(), 0);
-    let mut table = Rows::with_rows(refusing, 1000)?;
+    let mut table = Rows::with_rows(refusing, 5000)?;
     for column in 0..4000 {
         assert_set(
             &rt,
@@ -130,7 +134,7 @@ fn set_adds_thousands_of_columns_to_a_row(rt: HostRuntime) -> Result<(), Fail> {
             7,
             None,
         )?;
-        assert_set(&rt, &mut table, (999, column), 7, None)?;
+        assert_set(&rt, &mut table, (4999, column), 7, None)?;
     }
     assert_counts(&rt, refusing, 23, 3);
     assert_same(&rt, table.len(), 8000);

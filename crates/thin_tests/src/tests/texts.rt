@@ -44,13 +44,24 @@ fn prints_a_drain_in_each_form(rt: HostRuntime) -> Result<(), Fail> {
 
 #[test]
 fn prints_a_list_and_an_into_iter_of_many_items(rt: HostRuntime) -> Result<(), Fail> {
-    let list = list_of(rt.alloc(), &[1, 2, 3, 4, 5, 6, 7, 8, 9])?;
-    assert_text(&rt, rt.alloc(), &list, "[1, 2, 3, 4, 5, 6, 7, 8, 9]")?;
+    let mut list = list_of(rt.alloc(), &[0])?;
+    let mut text = String::new(rt.alloc());
+    text.push_str("[0")?;
+    for number in 1..150 {
+        list.push(number)?;
+        text.push_str(format!(in rt.alloc(); ", {number}")?.as_str())?;
+    }
+    text.push_str("]")?;
+    assert_text(&rt, rt.alloc(), &list, text.as_str())?;
     let mut items = list.into_iter();
-    let text = "IntoIter([1, 2, 3, 4, 5, 6, 7, 8, 9])";
-    assert_text(&rt, rt.alloc(), &items, text)?;
-    assert_same(&rt, (items.next(), items.next_back()), (Some(1), Some(9)));
-    assert_text(&rt, rt.alloc(), &items, "IntoIter([2, 3, 4, 5, 6, 7, 8])")
+    let wrapped = format!(in rt.alloc(); "IntoIter({text})")?;
+    assert_text(&rt, rt.alloc(), &items, wrapped.as_str())?;
+    for _ in 0..140 {
+        assert_same(&rt, items.next().is_some(), true);
+    }
+    assert_same(&rt, items.next_back(), Some(149));
+    let left = "IntoIter([140, 141, 142, 143, 144, 145, 146, 147, 148])";
+    assert_text(&rt, rt.alloc(), &items, left)
 }
 
 #[test]

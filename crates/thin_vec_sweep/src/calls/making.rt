@@ -61,10 +61,11 @@ fn repeat_in<T: Numbered>(case: &mut Case<T, Doubling>) -> Answer {
 }
 
 fn list_items<T: Numbered, R: Abort>(rt: &R, case: &mut Case<T, Doubling>) -> Answer {
-    let (x, y, z) = (case.item(), case.item(), case.item());
-    case.begin("thin_vec![a => x, y, z]");
-    let list = thin_vec![&case.ledger.alloc => x, y, z]?;
-    case.assert_same(rt, "capacity", list.capacity(), 3);
+    let (v, w, x) = (case.item(), case.item(), case.item());
+    let (y, z) = (case.item(), case.item());
+    case.begin("thin_vec![a => v, w, x, y, z]");
+    let list = thin_vec![&case.ledger.alloc => v, w, x, y, z]?;
+    case.assert_same(rt, "capacity", list.capacity(), 5);
     Ok(Due::block_of(list.len()))
 }
 

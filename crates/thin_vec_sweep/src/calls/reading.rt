@@ -59,9 +59,12 @@ fn iterate<T: Numbered, G: Growth>(case: &mut Case<T, G>) -> Answer {
     Ok(Due::calls(case.at.length))
 }
 
-// Compares the list with one of the same length whose last item differs if the argument is not 0.
+// Compares the list with one whose last item differs if the argument is not 0, and which has one item
+// more if the argument is 4. Lists of different lengths differ without a comparison of items.
 fn compare<T: Numbered, G: Growth, R: Abort>(rt: &R, case: &mut Case<T, G>) -> Answer {
-    let mut other = case.other(rt, case.at.length, 1);
+    let is_longer = case.at.argument == 4;
+    let length = case.at.length.saturating_add(usize::from(is_longer));
+    let mut other = case.other(rt, length, 1);
     if case.at.argument > 0
         && let Some(last) = other.as_mut_slice().last_mut()
     {
@@ -69,8 +72,11 @@ fn compare<T: Numbered, G: Growth, R: Abort>(rt: &R, case: &mut Case<T, G>) -> A
     }
     case.begin("==");
     let is_equal = case.list == other;
-    let differs = case.at.argument > 0 && case.at.length > 0 && T::SIZE > 0;
-    case.assert_same(rt, "is equal", is_equal, !differs);
+    let has_other_item = case.at.argument > 0 && case.at.length > 0 && T::SIZE > 0;
+    case.assert_same(rt, "is equal", is_equal, !has_other_item && !is_longer);
+    if is_longer {
+        return Ok(Due::NOTHING);
+    }
     Ok(Due::comparisons(case.at.length))
 }
 
@@ -124,20 +130,39 @@ impl<T: Numbered + Ord, G: Growth> Calls<T, G> for Comparing {
     const CALLS: usize = 2;
 
     fn arguments(_call: usize, _is_short: bool) -> usize {
-        1
+        3
     }
 
-    // The two lists are equal, so each item is compared once.
+    // The two lists are equal, or differ in the first or in the last item. Each item up to the one
+    // that differs is compared once.
     fn call<R: Abort>(rt: &R, case: &mut Case<T, G>, call: usize) -> Option<Answer> {
-        let other = case.other(rt, case.at.length, 0);
-        case.begin("cmp, partial_cmp");
-        let is_equal = if call == 0 {
-            case.list.cmp(&other) == Ordering::Equal
-        } else {
-            case.list.partial_cmp(&other) == Some(Ordering::Equal)
+        let (length, argument) = (case.at.length, case.at.argument);
+        let mut other = case.other(rt, length, 0);
+        let place = match argument {
+            0 => None,
+            1 => other.as_mut_slice().first_mut(),
+            _ => other.as_mut_slice().last_mut(),
         };
-        case.assert_same(rt, "is equal", is_equal, true);
+        if let Some(place) = place {
+            *place = case.item();
+        }
+        let wanted = if argument == 0 || length == 0 {
+            Ordering::Equal
+        } else {
+            Ordering::Less
+        };
+        case.begin("cmp, partial_cmp");
+        let is_right = if call == 0 {
+            case.list.cmp(&other) == wanted
+        } else {
+            case.list.partial_cmp(&other) == Some(wanted)
+        };
+        case.assert_same(rt, "order", is_right, true);
         drop(other);
-        Some(Ok(Due::comparisons(case.at.length)))
+        Some(Ok(Due::comparisons(if argument == 1 {
+            length.min(1)
+        } else {
+            length
+        })))
     }
 }

@@ -1,6 +1,8 @@
 //! When items are dropped: each one once. Dropping an empty list makes no request.
-use crate::tests::support::{assert_same, counted_list, leaked_ledger};
+use crate::tests::support::{assert_len, assert_same, counted_list, leaked_ledger};
 use std::iter::once;
+use std::process::Abort;
+use std::rc::Rc;
 use std::test::Fail;
 use thin_testing::{Counted, Refusing};
 use thin_vec::ThinVec;
@@ -55,4 +57,35 @@ fn dropping_an_empty_list_makes_no_request(rt: HostRuntime) {
     let refusing = Refusing::new(rt.alloc(), 1);
     drop(ThinVec::<u64, _>::new(&refusing));
     assert_same(&rt, refusing.requests(), 0);
+}
+
+// Removes the items of a list of three items by one of several calls, and drops the list.
+fn remove_by_way(rt: &impl Abort, way: u32, mut list: ThinVec<Rc<u32>>) {
+    assert_len(rt, &list, 3);
+    match way {
+        0 => list.truncate(1),
+        1 => list.retain(|_item| false),
+        2 => list.dedup_by(|_later, _kept| true),
+        3 => drop(list.drain(0, 2)),
+        4 => {
+            drop(list.into_iter());
+            return;
+        }
+        _ => (),
+    }
+    drop(list);
+}
+
+#[test]
+fn each_call_drops_items_of_eight_bytes(rt: HostRuntime) -> Result<(), Fail> {
+    let item = Rc::new(rt.alloc(), 1)?;
+    for way in 0..6 {
+        let mut list = ThinVec::new(rt.alloc());
+        for _ in 0..3 {
+            list.push(item.clone()?)?;
+        }
+        remove_by_way(&rt, way, list);
+        assert_same(&rt, (way, Rc::strong_count(&item)), (way, 1));
+    }
+    Ok(())
 }
