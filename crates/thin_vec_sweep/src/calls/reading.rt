@@ -159,10 +159,6 @@ impl<T: Numbered + Ord, G: Growth> Calls<T, G> for Comparing {
         };
         case.assert_same(rt, "order", is_right, true);
         drop(other);
-        Some(Ok(Due::comparisons(if argument == 1 {
-            length.min(1)
-        } else {
-            length
-        })))
+        Some(Ok(Due::comparisons(if argument == 1 { length.min(1) } else { length })))
     }
 }

@@ -12,8 +12,8 @@ slice-requires-clause-filled g c = λ i low high.
 pub returns : goal.returns
 returns g c =
     let value = thin-run c.self.inside.block c.self.inside.alloc c.slice.result.now c.len.result
-        c.self.invariant c.len.ensures.value c.slice.ensures.value
-        ∙ ap (λ v. v.items) c.self.view_is in
+    c.self.invariant c.len.ensures.value c.slice.ensures.value
+    ∙ ap (λ v. v.items) c.self.view_is in
     record {
       value = value;
       len = ap length value;
