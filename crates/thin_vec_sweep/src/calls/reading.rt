@@ -138,12 +138,12 @@ impl<T: Numbered + Ord, G: Growth> Calls<T, G> for Comparing {
     fn call<R: Abort>(rt: &R, case: &mut Case<T, G>, call: usize) -> Option<Answer> {
         let (length, argument) = (case.at.length, case.at.argument);
         let mut other = case.other(rt, length, 0);
-        let place = match argument {
-            0 => None,
-            1 => other.as_mut_slice().first_mut(),
-            _ => other.as_mut_slice().last_mut(),
+        let index = match argument {
+            0 => length,
+            1 => 0,
+            _ => length.saturating_sub(1),
         };
-        if let Some(place) = place {
+        if let Some(place) = other.get_mut(index) {
             *place = case.item();
         }
         let wanted = if argument == 0 || length == 0 {
