@@ -41,7 +41,7 @@ pub fn write_reply(out: &mut impl Write, reply: Reply) -> io::Result<()> {
             let front = "failed: capacity overflow; answers";
             write!(out, "{front} {answers:?}; held []; in hand None; rest")?;
             for item in rest {
-                write!(out, " {item}")?;
+                write!(out, " {item:?}")?;
             }
             Ok(())
         }

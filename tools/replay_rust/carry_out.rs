@@ -1,6 +1,7 @@
 //! Carries out commands.
 
 use crate::hinted::Hinted;
+use crate::item::Item;
 use crate::judge::Judge;
 use crate::line::{Command, Step};
 use crate::list::{List, reserve_for_hint};
@@ -11,14 +12,14 @@ use std::panic::{self, AssertUnwindSafe};
 /// What a call returned, or that it panicked because the capacity would overflow.
 pub enum Reply {
     Done,
-    Item(Option<u64>),
-    Answers(Vec<Option<u64>>),
+    Item(Option<Item>),
+    Answers(Vec<Option<Item>>),
     Made(List),
     Other(List),
     Overflow,
     /// The iterator still yields the items of `rest`.
     Stopped {
-        answers: Vec<Option<u64>>,
+        answers: Vec<Option<Item>>,
         rest: Hinted,
     },
     OutOfRange,
@@ -103,7 +104,7 @@ fn extend(list: &mut List, mut items: Hinted, hint: usize) -> Reply {
     }
 }
 
-fn append(list: &mut List, items: Vec<u64>) -> Reply {
+fn append(list: &mut List, items: Vec<Item>) -> Reply {
     let mut other = List::new();
     for item in items {
         other.push(item);
@@ -134,7 +135,7 @@ fn splice(list: &mut List, start: usize, end: usize, steps: &[Step], mut items: 
 }
 
 /// Returns what the steps of a walk yield.
-fn walk(items: &mut impl DoubleEndedIterator<Item = u64>, steps: &[Step]) -> Vec<Option<u64>> {
+fn walk(items: &mut impl DoubleEndedIterator<Item = Item>, steps: &[Step]) -> Vec<Option<Item>> {
     let answer = |step: &Step| match step {
         Step::Front => items.next(),
         Step::Back => items.next_back(),

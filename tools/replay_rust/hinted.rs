@@ -1,13 +1,15 @@
 //! An iterator whose size hint is not its number of items.
 
+use crate::item::Item;
+
 /// Yields its items in order. The lower bound of its size hint is always `lower`.
 pub struct Hinted {
-    items: std::vec::IntoIter<u64>,
+    items: std::vec::IntoIter<Item>,
     lower: usize,
 }
 
 impl Hinted {
-    pub fn new(items: Vec<u64>, lower: usize) -> Hinted {
+    pub fn new(items: Vec<Item>, lower: usize) -> Hinted {
         Hinted {
             items: items.into_iter(),
             lower,
@@ -16,9 +18,9 @@ impl Hinted {
 }
 
 impl Iterator for Hinted {
-    type Item = u64;
+    type Item = Item;
 
-    fn next(&mut self) -> Option<u64> {
+    fn next(&mut self) -> Option<Item> {
         self.items.next()
     }
 

@@ -1,5 +1,6 @@
 //! The lines of the input.
 
+use crate::item::{Item, item_from};
 use crate::judge::Judge;
 use std::fmt;
 use std::str::FromStr;
@@ -11,21 +12,21 @@ pub enum Step {
 
 /// A command, with its words as values. A judge stands last.
 pub enum Command {
-    Push(u64),
+    Push(Item),
     Pop,
-    Insert(usize, u64),
+    Insert(usize, Item),
     Remove(usize),
     SwapRemove(usize),
-    Set(usize, u64),
+    Set(usize, Item),
     Truncate(usize),
     Clear,
     Reserve(usize),
     ReserveExact(usize),
     ShrinkToFit,
-    Resize(usize, u64),
-    ExtendFromSlice(Vec<u64>),
-    Extend(usize, Vec<u64>),
-    Append(Vec<u64>),
+    Resize(usize, Item),
+    ExtendFromSlice(Vec<Item>),
+    Extend(usize, Vec<Item>),
+    Append(Vec<Item>),
     SplitOff(usize),
     Clone,
     Retain(Judge),
@@ -35,7 +36,7 @@ pub enum Command {
     DedupByKey(Judge),
     Drain(usize, usize, Vec<Step>),
     ExtractIf(usize, usize, usize, Judge),
-    Splice(usize, usize, Vec<Step>, usize, Vec<u64>),
+    Splice(usize, usize, Vec<Step>, usize, Vec<Item>),
 }
 
 pub enum Line {
@@ -152,23 +153,23 @@ fn wrong_form(name: &str) -> LineError {
 /// Parses the words. Returns `None` if they have the form of no command.
 fn command(words: &[&str]) -> Result<Option<Command>, LineError> {
     Ok(Some(match *words {
-        ["push", item] => Command::Push(number(item, "ITEM")?),
+        ["push", item] => Command::Push(item_of(item)?),
         ["pop"] => Command::Pop,
-        ["insert", index, item] => Command::Insert(number(index, "INDEX")?, number(item, "ITEM")?),
+        ["insert", index, item] => Command::Insert(number(index, "INDEX")?, item_of(item)?),
         ["remove", index] => Command::Remove(number(index, "INDEX")?),
         ["swap_remove", index] => Command::SwapRemove(number(index, "INDEX")?),
-        ["set", index, item] => Command::Set(number(index, "INDEX")?, number(item, "ITEM")?),
+        ["set", index, item] => Command::Set(number(index, "INDEX")?, item_of(item)?),
         ["truncate", length] => Command::Truncate(number(length, "LENGTH")?),
         ["clear"] => Command::Clear,
         ["reserve", count] => Command::Reserve(number(count, "COUNT")?),
         ["reserve_exact", count] => Command::ReserveExact(number(count, "COUNT")?),
         ["shrink_to_fit"] => Command::ShrinkToFit,
-        ["resize", length, item] => {
-            Command::Resize(number(length, "LENGTH")?, number(item, "ITEM")?)
+        ["resize", length, item] => Command::Resize(number(length, "LENGTH")?, item_of(item)?),
+        ["extend_from_slice", ref items @ ..] => Command::ExtendFromSlice(items_of(items)?),
+        ["extend", hint, ref items @ ..] => {
+            Command::Extend(number(hint, "HINT")?, items_of(items)?)
         }
-        ["extend_from_slice", ref items @ ..] => Command::ExtendFromSlice(numbers(items)?),
-        ["extend", hint, ref items @ ..] => Command::Extend(number(hint, "HINT")?, numbers(items)?),
-        ["append", ref items @ ..] => Command::Append(numbers(items)?),
+        ["append", ref items @ ..] => Command::Append(items_of(items)?),
         ["split_off", index] => Command::SplitOff(number(index, "INDEX")?),
         ["clone"] => Command::Clone,
         ["retain", divisor, stride, added] => Command::Retain(judge(divisor, stride, added)?),
@@ -192,7 +193,7 @@ fn command(words: &[&str]) -> Result<Option<Command>, LineError> {
         ["splice", start, end, steps, hint, ref items @ ..] => {
             let (start, end) = range(start, end)?;
             let steps = steps_of(steps)?;
-            Command::Splice(start, end, steps, number(hint, "HINT")?, numbers(items)?)
+            Command::Splice(start, end, steps, number(hint, "HINT")?, items_of(items)?)
         }
         _ => return Ok(None),
     }))
@@ -202,8 +203,12 @@ fn number<N: FromStr>(word: &str, name: &'static str) -> Result<N, LineError> {
     word.parse().map_err(|_| LineError::NotANumber(name))
 }
 
-fn numbers(words: &[&str]) -> Result<Vec<u64>, LineError> {
-    words.iter().map(|word| number(word, "ITEM")).collect()
+fn item_of(word: &str) -> Result<Item, LineError> {
+    number(word, "ITEM").map(item_from)
+}
+
+fn items_of(words: &[&str]) -> Result<Vec<Item>, LineError> {
+    words.iter().map(|word| item_of(word)).collect()
 }
 
 fn range(start: &str, end: &str) -> Result<(usize, usize), LineError> {

@@ -8,6 +8,7 @@
 mod answer;
 mod carry_out;
 mod hinted;
+mod item;
 mod judge;
 mod line;
 mod list;
