@@ -8,7 +8,6 @@ mod others;
 mod plain;
 mod splices;
 
-use crate::checks::Checks;
 use crate::rows::bulk::{row_15, row_24, row_25, row_27, row_28};
 use crate::rows::edits::{row_7, row_8, row_9, row_13, row_14, row_33, row_34};
 use crate::rows::forms::{row_3, row_18, row_20, row_29, row_30, row_31, row_35, row_36};
@@ -17,60 +16,58 @@ use crate::rows::plain::{row_1, row_2, row_4, row_5, row_6, row_17, row_19, row_
 use crate::rows::splices::{row_10, row_11, row_22, row_32};
 use std::alloc::Allocator;
 use thin_runner::hinted::Hinted;
+use thin_testing::{Checks, Outcome, RowSet};
 use thin_vec::{ThinVec, ThinVecError};
 
 /// The numbers of the rows that the program runs, in order.
-pub const ROWS: [u32; 35] = [
+pub const NUMBERS: [u32; 35] = [
     1, 2, 3, 4, 5, 6, 7, 8, 9, 10, 11, 13, 14, 15, 17, 18, 19, 20, 21, 22, 23, 24, 25, 27, 28, 29,
     30, 31, 32, 33, 34, 35, 36, 40, 41,
 ];
 
-/// The result of a row: its comparisons, or the error of a call that failed unexpectedly.
-pub type Outcome = Result<Checks, ThinVecError>;
+/// The rows of this program.
+pub struct TheRows {}
 
-/// Runs the row `number`. If there is no such row, returns a `Checks` that has compared nothing.
-///
-/// # Errors
-///
-/// Fails if a call in the row fails unexpectedly.
-pub fn row<A: Allocator + Copy>(alloc: A, number: u32) -> Outcome {
-    match number {
-        1 => row_1(alloc),
-        2 => row_2(alloc),
-        3 => row_3(alloc),
-        4 => row_4(alloc),
-        5 => row_5(alloc),
-        6 => row_6(alloc),
-        7 => row_7(alloc),
-        8 => row_8(alloc),
-        9 => row_9(alloc),
-        10 => row_10(alloc),
-        11 => row_11(alloc),
-        13 => row_13(alloc),
-        14 => row_14(alloc),
-        15 => row_15(alloc),
-        17 => row_17(alloc),
-        18 => row_18(alloc),
-        19 => row_19(alloc),
-        20 => row_20(alloc),
-        21 => row_21(alloc),
-        22 => row_22(alloc),
-        23 => row_23(alloc),
-        24 => row_24(alloc),
-        25 => row_25(alloc),
-        27 => row_27(alloc),
-        28 => row_28(alloc),
-        29 => row_29(alloc),
-        30 => row_30(alloc),
-        31 => row_31(alloc),
-        32 => row_32(alloc),
-        33 => row_33(alloc),
-        34 => row_34(alloc),
-        35 => row_35(alloc),
-        36 => row_36(alloc),
-        40 => row_40(alloc),
-        41 => row_41(alloc),
-        _ => Ok(Checks::new()),
+impl RowSet for TheRows {
+    fn row<A: Allocator + Copy>(alloc: A, number: u32) -> Outcome {
+        match number {
+            1 => row_1(alloc),
+            2 => row_2(alloc),
+            3 => row_3(alloc),
+            4 => row_4(alloc),
+            5 => row_5(alloc),
+            6 => row_6(alloc),
+            7 => row_7(alloc),
+            8 => row_8(alloc),
+            9 => row_9(alloc),
+            10 => row_10(alloc),
+            11 => row_11(alloc),
+            13 => row_13(alloc),
+            14 => row_14(alloc),
+            15 => row_15(alloc),
+            17 => row_17(alloc),
+            18 => row_18(alloc),
+            19 => row_19(alloc),
+            20 => row_20(alloc),
+            21 => row_21(alloc),
+            22 => row_22(alloc),
+            23 => row_23(alloc),
+            24 => row_24(alloc),
+            25 => row_25(alloc),
+            27 => row_27(alloc),
+            28 => row_28(alloc),
+            29 => row_29(alloc),
+            30 => row_30(alloc),
+            31 => row_31(alloc),
+            32 => row_32(alloc),
+            33 => row_33(alloc),
+            34 => row_34(alloc),
+            35 => row_35(alloc),
+            36 => row_36(alloc),
+            40 => row_40(alloc),
+            41 => row_41(alloc),
+            _ => Ok(Checks::new()),
+        }
     }
 }
 

@@ -8,7 +8,8 @@ use std::alloc::Global;
 use std::vec::IntoIter;
 
 /// An iterator that yields its items in order. The lower bound of its size hint is always `lower`.
-/// The upper bound is `lower` plus the number of the remaining items, or `None`.
+/// The upper bound is `lower` plus the number of the remaining items, or `None`. But if the iterator is
+/// made by `exact`, both bounds are the number of the remaining items.
 ///
 /// The ledger counts the iterator until it is dropped, and the calls to `next` and `size_hint`.
 #[derive(Drop)]
@@ -16,6 +17,7 @@ pub struct Claims<'a, T> {
     items: IntoIter<T, Global>,
     lower: usize,
     is_bounded: bool,
+    is_exact: bool,
     ledger: &'a Ledger,
     itself: Counted<'a>,
 }
@@ -28,8 +30,17 @@ impl<'a, T> Claims<'a, T> {
             items: items.into_iter(),
             lower,
             is_bounded,
+            is_exact: false,
             ledger,
             itself: Counted::new(ledger, 0, ()),
+        }
+    }
+
+    /// Returns an iterator over `items` whose size hint is exact.
+    pub fn exact(ledger: &'a Ledger, items: Vec<T>) -> Claims<'a, T> {
+        Claims {
+            is_exact: true,
+            ..Claims::new(ledger, items, 0, true)
         }
     }
 
@@ -56,6 +67,11 @@ impl<T: Drop> Iterator for Claims<'_, T> {
         } else {
             None
         };
-        (self.lower, upper)
+        let lower = if self.is_exact {
+            self.items.len()
+        } else {
+            self.lower
+        };
+        (lower, upper)
     }
 }

@@ -3,7 +3,7 @@ ghost use Rattle.std.proofs.Common.{rules};
 ghost use Rattle.std.specs.Cmp.{partial_order_from_own_ties};
 ghost use Rattle.std.specs.Cmp.Rules.{comparing};
 ghost use Rattle.std.specs.Ordering.{as_partial_cmp, nat_cmp};
-ghost use Rattle.std.specs.Prelude.{◌==◌};
+ghost use Rattle.std.specs.Prelude.{◌==◌, true};
 
 use crate::refusing::Refusing;
 use std::alloc::{AllocError, Global};
@@ -179,4 +179,48 @@ impl<P> PartialOrd for Counted<'_, P> {
     fn partial_cmp(&self, other: &Self) -> Option<Ordering> {
         Some(self.cmp(other))
     }
+}
+
+/// An item of 8 bytes that its ledger counts until it is dropped. All these items are equal. A clone
+/// is a request, as that of a `Counted` is.
+pub struct CountedWord<'a> {
+    ledger: &'a Ledger,
+}
+
+impl<'a> CountedWord<'a> {
+    /// Makes an item. The ledger counts it until it is dropped.
+    pub fn new(ledger: &'a Ledger) -> CountedWord<'a> {
+        count(&ledger.live);
+        CountedWord { ledger }
+    }
+}
+
+impl Drop for CountedWord<'_> {
+    fn drop(self) {
+        let CountedWord { ledger } = self;
+        ledger.live.set(ledger.live.get().saturating_sub(1));
+    }
+}
+
+impl Clone for CountedWord<'_> {
+    fn clone(&self) -> Result<Self, AllocError> {
+        self.ledger.alloc.request()?;
+        count(&self.ledger.clones);
+        Ok(CountedWord::new(self.ledger))
+    }
+}
+
+impl PartialEq for CountedWord<'_> {
+    ghost eq = { λ _ _. true };
+
+    ghost laws = { Prim.search (comparing, rules) };
+
+    fn eq(&self, _other: &Self) -> bool {
+        count(&self.ledger.comparisons);
+        true
+    }
+}
+
+impl Eq for CountedWord<'_> {
+    ghost laws = { Prim.search (comparing, rules) };
 }

@@ -1,8 +1,8 @@
 //! Defines the types of items that tests make from numbers.
-use crate::ledger::{Counted, Ledger};
+use crate::ledger::{Counted, CountedWord, Ledger};
 
 /// A type of items that a test makes from numbers. Numbers below 251 make different items, except
-/// that all items of 0 bytes are equal.
+/// that all items of 0 bytes are equal, and all of the type `CountedWord`.
 pub trait Numbered: Clone + Eq + Drop {
     /// The size of an item in bytes.
     const SIZE: usize;
@@ -137,6 +137,16 @@ impl Numbered for [u64; 3] {
     }
 }
 
+impl Numbered for [u64; 6] {
+    const SIZE: usize = 48;
+
+    const LIMIT: usize = 192_153_584_101_141_162;
+
+    fn numbered(_ledger: &'static Ledger, number: u64) -> [u64; 6] {
+        [number; 6]
+    }
+}
+
 impl Numbered for u128 {
     const SIZE: usize = 16;
 
@@ -144,6 +154,18 @@ impl Numbered for u128 {
 
     fn numbered(_ledger: &'static Ledger, number: u64) -> u128 {
         u128::from(number) << 64
+    }
+}
+
+impl Numbered for CountedWord<'static> {
+    const SIZE: usize = 8;
+
+    const LIMIT: usize = 1_152_921_504_606_846_973;
+
+    const IS_COUNTED: bool = true;
+
+    fn numbered(ledger: &'static Ledger, _number: u64) -> Self {
+        CountedWord::new(ledger)
     }
 }
 
@@ -216,5 +238,17 @@ impl Numbered for Counted<'static, [u64; 62]> {
 
     fn numbered(ledger: &'static Ledger, number: u64) -> Self {
         Counted::new(ledger, number, [number; 62])
+    }
+}
+
+impl Numbered for Counted<'static, [u64; 254]> {
+    const SIZE: usize = 2048;
+
+    const LIMIT: usize = 4_503_599_627_370_495;
+
+    const IS_COUNTED: bool = true;
+
+    fn numbered(ledger: &'static Ledger, number: u64) -> Self {
+        Counted::new(ledger, number, [number; 254])
     }
 }

@@ -12,16 +12,19 @@
 //! The counters are only tested, because contracts cannot mention the contents of a `Cell`.
 use std::alloc::{AllocError, Allocator};
 use std::cell::Cell;
+use std::rc::Rc;
 
 // The counters of an allocator `Refusing`, and the number of the request that it refuses.
 // `requests` is the number of requests since the allocator was created or since the last call to
 // `refuse`. `blocks` is the number of blocks that are allocated and have not been freed yet.
-// `refused` is the number of the refused request, or 0 if no request is refused.
+// `refused` is the number of the refused request, or 0 if no request is refused. `owned` is what the
+// allocator owns, so that a test can see whether the allocator was dropped.
 #[derive(Drop)]
 struct Counts {
     requests: Cell<u64>,
     refused: Cell<u64>,
     blocks: Cell<u64>,
+    owned: Option<Rc<u64>>,
 }
 
 // Counts a request, and returns whether this request is refused.
@@ -59,8 +62,16 @@ impl<B: Allocator> Refusing<B> {
                 requests: Cell::new(0),
                 refused: Cell::new(refused),
                 blocks: Cell::new(0),
+                owned: None,
             },
         }
+    }
+
+    /// Returns an allocator that refuses no request, and owns `owned` until it is dropped.
+    pub fn owning(inner: B, owned: Rc<u64>) -> Refusing<B> {
+        let mut made = Refusing::new(inner, 0);
+        made.counts.owned = Some(owned);
+        made
     }
 
     /// Sets the number of requests to 0, so that the next request has the number 1. The allocator
@@ -89,6 +100,14 @@ impl<B: Allocator> Refusing<B> {
     /// `refuse` does not change this number.
     pub fn blocks(&self) -> u64 {
         self.counts.blocks.get()
+    }
+}
+
+impl<B: Allocator + Clone> Clone for Refusing<B> {
+    // Makes an allocator that refuses nothing and owns nothing. This counts as a request.
+    fn clone(&self) -> Result<Self, AllocError> {
+        self.request()?;
+        Ok(Refusing::new(self.inner.clone()?, 0))
     }
 }
 

@@ -10,6 +10,7 @@ mod macros;
 mod names;
 mod ported;
 mod refused;
+mod report;
 mod requests;
 mod runs;
 mod support;

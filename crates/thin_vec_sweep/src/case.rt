@@ -1,5 +1,5 @@
 //! A case of a sweep: a call on a list, and what it must have requested, called and dropped.
-use std::alloc::Global;
+use std::alloc::{Allocator, Global};
 use std::fmt::Debug;
 use std::mem;
 use std::process::Abort;
@@ -31,6 +31,55 @@ pub struct At {
 }
 
 impl At {
+    /// Returns a random case of lists of `T`: the length, the spare capacity, and what `Case` chooses.
+    pub fn random<T: Numbered>(round: usize, call: usize) -> At {
+        let seed = round.wrapping_mul(4096).wrapping_add(T::SIZE);
+        let seed = seed.wrapping_mul(64).wrapping_add(call);
+        let at = At {
+            call: "",
+            length: 0,
+            spare: 0,
+            argument: RANDOM.saturating_add((mixed(seed as u64) >> 33) as usize),
+            refused: 0,
+        };
+        At {
+            length: at.drawn_size(0),
+            spare: at.drawn_size(1),
+            ..at
+        }
+    }
+
+    /// Whether all choices of the case are random.
+    pub fn is_random(self) -> bool {
+        self.argument >= RANDOM
+    }
+
+    /// Returns a number below `limit`, or 0 if `limit` is 0. The argument and `what` determine it.
+    pub fn drawn(self, what: u64, limit: usize) -> usize {
+        if limit == 0 {
+            return 0;
+        }
+        let seed = (self.argument as u64).wrapping_mul(128).wrapping_add(what);
+        (mixed(seed) >> 33) as usize % limit
+    }
+
+    /// Returns a number below 2048, which is small in most cases.
+    pub fn drawn_size(self, what: u64) -> usize {
+        let limits: [usize; 12] = [1, 2, 4, 8, 16, 32, 64, 128, 256, 512, 1024, 2048];
+        let limit = limits[self.drawn(what, 12) % 12];
+        self.drawn(what.wrapping_add(50), limit)
+    }
+
+    // Returns an index of at most `length`, which is near one of the ends in many cases.
+    fn drawn_index(self, what: u64) -> usize {
+        let near = self.drawn(what, 8).min(self.length);
+        match self.drawn(what.wrapping_add(50), 4) {
+            0 => near,
+            1 => self.length.saturating_sub(near),
+            _ => self.drawn(what, self.length.saturating_add(1)),
+        }
+    }
+
     /// Returns the pattern that the argument chooses.
     pub fn pattern(self) -> Pattern {
         Pattern {
@@ -38,6 +87,14 @@ impl At {
             is_short: self.length <= SHORT,
         }
     }
+}
+
+// Returns a number that looks random, and that `seed` determines (SplitMix64).
+fn mixed(seed: u64) -> u64 {
+    let mixed = seed.wrapping_mul(0x9E37_79B9_7F4A_7C15);
+    let mixed = (mixed ^ mixed >> 30).wrapping_mul(0xBF58_476D_1CE4_E5B9);
+    let mixed = (mixed ^ mixed >> 27).wrapping_mul(0x94D0_49BB_1331_11EB);
+    mixed ^ mixed >> 31
 }
 
 /// A pattern says which items a closure keeps.
@@ -163,7 +220,20 @@ impl<T: Numbered, G: Growth> Case<T, G> {
 
     /// Makes `count` items that are not in the list, of numbers from `FRESH` on.
     pub fn items<R: Abort>(&self, rt: &R, count: usize) -> Vec<T> {
-        numbered(rt, self.ledger, FRESH, count)
+        numbered(rt, self.ledger, self.ledger.global, FRESH, count)
+    }
+
+    /// Makes items as `items` does. The block of the `Vec` is counted.
+    pub fn lent_items<R: Abort>(&self, rt: &R, count: usize) -> Vec<T, Lender> {
+        numbered(rt, self.ledger, &self.ledger.alloc, FRESH, count)
+    }
+
+    /// Returns the spare capacity of a second list.
+    pub fn other_spare(&self) -> usize {
+        if self.at.is_random() {
+            return self.at.drawn_size(10);
+        }
+        self.at.argument / 8 % 2
     }
 
     /// Returns a list of `length` items, which are not in the list under test.
@@ -185,6 +255,9 @@ impl<T: Numbered, G: Growth> Case<T, G> {
     /// length are chosen by the arguments below 5.
     pub fn index(&self) -> usize {
         let length = self.at.length;
+        if self.at.is_random() {
+            return self.at.drawn_index(2);
+        }
         if length <= SHORT {
             return length.min(self.at.argument % 5);
         }
@@ -201,6 +274,10 @@ impl<T: Numbered, G: Growth> Case<T, G> {
     /// by some of the arguments below 25.
     pub fn range(&self) -> (usize, usize) {
         let length = self.at.length;
+        if self.at.is_random() {
+            let (one, two) = (self.at.drawn_index(2), self.at.drawn_index(3));
+            return (one.min(two), one.max(two));
+        }
         let (one, two) = (self.at.argument % 5, self.at.argument / 5 % 5);
         if length <= SHORT {
             let (one, two) = (one.min(length), two.min(length));
@@ -237,6 +314,9 @@ impl<T: Numbered, G: Growth> Case<T, G> {
 
     /// Returns a number of new items that the argument chooses, with few on a long list.
     pub fn count(&self) -> usize {
+        if self.at.is_random() {
+            return self.at.drawn_size(4);
+        }
         let counts: [usize; 8] = if self.at.length <= SHORT {
             [0, 1, 2, 3, 5, 9, 17, 45]
         } else if self.at.length <= 100 {
@@ -254,6 +334,7 @@ impl<T: Numbered, G: Growth> Case<T, G> {
         let (start, end) = self.range();
         let width = end.saturating_sub(start);
         match self.at.argument / 5 % 8 {
+            0 if self.at.is_random() => self.at.drawn_size(4),
             0 => width.saturating_add(45),
             1 => width.saturating_add(2),
             2 => width.saturating_add(1),
@@ -268,6 +349,9 @@ impl<T: Numbered, G: Growth> Case<T, G> {
     /// Returns a number of items that fit into the spare capacity of the list.
     pub fn spare(&self) -> usize {
         let spare = self.list.capacity().saturating_sub(self.list.len());
+        if self.at.is_random() {
+            return self.at.drawn(4, spare.saturating_add(1));
+        }
         spare.saturating_sub(self.at.argument % 5)
     }
 
@@ -344,17 +428,21 @@ impl<T: Numbered, G: Growth> Case<T, G> {
 // The greatest length of a list on which every index, range and pattern is tried.
 const SHORT: usize = 4;
 
+// The least argument of a random case.
+const RANDOM: usize = 1 << 32;
+
 // The number of the first new item. It differs from the numbers of the items of all short lists.
 const FRESH: u64 = 200;
 
-/// Makes `count` items of consecutive numbers.
-pub fn numbered<T: Numbered, R: Abort>(
+/// Makes a `Vec` of `count` items of consecutive numbers.
+pub fn numbered<T: Numbered, A: Allocator, R: Abort>(
     rt: &R,
     ledger: &'static Ledger,
+    alloc: A,
     first: u64,
     count: usize,
-) -> Vec<T> {
-    let mut items = Vec::new(ledger.global);
+) -> Vec<T, A> {
+    let mut items = Vec::new(alloc);
     for index in 0..count {
         let item = T::numbered(ledger, first.saturating_add(index as u64));
         items.push(item).ok().expect(rt, "memory");

@@ -1,6 +1,7 @@
 //! Calls that fill a list from an iterator: `extend`, `from_iter` and `collect`. Contracts only bound
 //! the capacity afterwards, so the tests compute the exact one, and how often the iterator is asked.
 use crate::case::{At, Case, numbered};
+use crate::sweep::rounds;
 use std::iter;
 use std::process::Abort;
 use thin_testing::{Claims, Ledger, Numbered, Ruled};
@@ -111,22 +112,58 @@ pub fn fitting<T: Numbered>(capacity: usize) -> Option<usize> {
     }
 }
 
-/// An iterator that is passed to the call: the number of its items, and its size hint.
+/// An iterator that is passed to the call: the number of its items, and its size hint. If the hint is
+/// exact, `lower` is the number of the items.
 #[derive(Clone, Copy)]
 pub struct Source {
     pub count: usize,
     pub lower: usize,
     pub is_bounded: bool,
+    pub is_exact: bool,
 }
 
 impl Source {
+    /// Returns the source after it has yielded `count` items.
+    pub fn after(self, count: usize) -> Source {
+        let left = self.count.saturating_sub(count);
+        Source {
+            lower: if self.is_exact { left } else { self.lower },
+            ..self
+        }
+    }
+
+    // Returns a random source, whose hint may be wrong. Its items may just fill the list.
+    fn random(at: At) -> Source {
+        let count = if at.drawn(9, 8) == 0 {
+            at.spare
+        } else {
+            at.drawn_size(5)
+        };
+        let lower = match at.drawn(6, 4) {
+            0 => 0,
+            1 => count,
+            2 => at.drawn(7, count.saturating_add(1)),
+            _ => at.drawn_size(7),
+        };
+        let is_exact = at.drawn(11, 4) == 0;
+        Source {
+            count,
+            lower: if is_exact { count } else { lower },
+            is_bounded: at.drawn(8, 2) == 1,
+            is_exact,
+        }
+    }
+
     /// Makes the iterator.
     pub fn claims<T: Numbered, R: Abort>(
         self,
         rt: &R,
         ledger: &'static Ledger,
     ) -> Claims<'static, T> {
-        let items = numbered(rt, ledger, 0, self.count);
+        let items = numbered(rt, ledger, ledger.global, 0, self.count);
+        if self.is_exact {
+            return Claims::exact(ledger, items);
+        }
         Claims::new(ledger, items, self.lower, self.is_bounded)
     }
 }
@@ -137,9 +174,12 @@ pub const COUNTS: [usize; 11] = [0, 1, 2, 3, 4, 5, 9, 17, 50, 100, 300];
 /// The number of different hints.
 pub const HINTS: usize = 20;
 
-/// Returns one of the hints for an iterator over `count` items. `length` is that of the list.
-pub fn nth_source<T: Numbered>(number: usize, count: usize, length: usize) -> Source {
-    let most = T::LIMIT.saturating_sub(length);
+/// Returns an iterator over `count` items with one of the hints, or a random one in a random case.
+pub fn nth_source<T: Numbered>(at: At, number: usize, count: usize) -> Source {
+    if at.is_random() {
+        return Source::random(at);
+    }
+    let most = T::LIMIT.saturating_sub(at.length);
     let lower = match number / 2 {
         0 => 0,
         1 => 1,
@@ -156,6 +196,7 @@ pub fn nth_source<T: Numbered>(number: usize, count: usize, length: usize) -> So
         count,
         lower,
         is_bounded: number % 2 == 1,
+        is_exact: false,
     }
 }
 
@@ -166,6 +207,9 @@ pub trait Fills<T: Numbered, G: Growth> {
 
     /// Whether nothing is left if the call fails.
     const IS_ALL_OR_NOTHING: bool = false;
+
+    /// The number of the call among random cases.
+    const NUMBER: usize;
 
     /// Begins to count, and makes the call, after which the list of the case is the filled list.
     /// Returns the cause of a failure, as far as the call tells it.
@@ -181,6 +225,8 @@ pub trait Fills<T: Numbered, G: Growth> {
 pub struct Extend {}
 
 impl<T: Numbered, G: Growth> Fills<T, G> for Extend {
+    const NUMBER: usize = 1;
+
     fn fill<R: Abort>(
         rt: &R,
         case: &mut Case<T, G>,
@@ -202,6 +248,8 @@ impl<T: Numbered, G: Growth> Fills<T, G> for Extend {
 pub struct ExtendOfTrait {}
 
 impl<T: Numbered, G: Growth> Fills<T, G> for ExtendOfTrait {
+    const NUMBER: usize = 2;
+
     fn fill<R: Abort>(
         rt: &R,
         case: &mut Case<T, G>,
@@ -221,6 +269,8 @@ impl<T: Numbered, G: Growth> Fills<T, G> for ExtendOfTrait {
 pub struct FromIter {}
 
 impl<T: Numbered> Fills<T, Doubling> for FromIter {
+    const NUMBER: usize = 3;
+
     const IS_MAKING: bool = true;
 
     fn fill<R: Abort>(
@@ -250,6 +300,8 @@ impl<T: Numbered> Fills<T, Doubling> for FromIter {
 pub struct Collect {}
 
 impl<T: Numbered> Fills<T, Doubling> for Collect {
+    const NUMBER: usize = 4;
+
     const IS_MAKING: bool = true;
 
     const IS_ALL_OR_NOTHING: bool = true;
@@ -272,8 +324,8 @@ impl<T: Numbered> Fills<T, Doubling> for Collect {
     }
 }
 
-/// Makes the call on lists of the given lengths, from several iterators, and with each of its requests
-/// refused in turn.
+/// Makes the call on lists of the given lengths from several iterators, and on random lists from
+/// random iterators, and with each of its requests refused in turn.
 pub fn fill_lists<F: Fills<T, G>, T: Numbered, G: Ruled, R: Abort>(
     rt: &R,
     ledger: &'static Ledger,
@@ -290,13 +342,30 @@ pub fn fill_lists<F: Fills<T, G>, T: Numbered, G: Ruled, R: Abort>(
                     argument,
                     refused: 0,
                 };
-                let requests = fill::<F, T, G, R>(rt, ledger, at);
-                for refused in 0..requests {
-                    let refused = refused.saturating_add(1);
-                    let _requests = fill::<F, T, G, R>(rt, ledger, At { refused, ..at });
-                }
+                each_refusal::<F, T, G, R>(rt, ledger, at);
             }
         }
+    }
+    for round in 0..rounds::<T>().saturating_mul(4) {
+        let mut at = At::random::<T>(round, F::NUMBER);
+        if F::IS_MAKING {
+            at.length = 0;
+            at.spare = 0;
+        }
+        each_refusal::<F, T, G, R>(rt, ledger, at);
+    }
+}
+
+// Makes the call with enough memory, and then with each of its requests refused.
+fn each_refusal<F: Fills<T, G>, T: Numbered, G: Ruled, R: Abort>(
+    rt: &R,
+    ledger: &'static Ledger,
+    at: At,
+) {
+    let requests = fill::<F, T, G, R>(rt, ledger, at);
+    for refused in 0..requests {
+        let refused = refused.saturating_add(1);
+        let _requests = fill::<F, T, G, R>(rt, ledger, At { refused, ..at });
     }
 }
 
@@ -309,14 +378,14 @@ fn fill<F: Fills<T, G>, T: Numbered, G: Ruled, R: Abort>(
     at: At,
 ) -> u64 {
     let count = COUNTS[at.argument / HINTS % COUNTS.len()];
-    let source = nth_source::<T>(at.argument % HINTS, count, at.length);
+    let source = nth_source::<T>(at, at.argument % HINTS, count);
     let mut due = Filling::new(at.length.saturating_add(at.spare), at.refused);
     let hinted = if F::IS_MAKING {
         fitting::<T>(source.lower)
     } else {
         due.ruled::<T, G>(at.length, source.lower)
     };
-    due.append::<T, G>(at.length, hinted, count);
+    due.append::<T, G>(at.length, hinted, source.count);
     if F::IS_ALL_OR_NOTHING && due.cause.is_some() {
         due.capacity = 0;
     }

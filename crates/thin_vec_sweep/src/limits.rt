@@ -5,7 +5,7 @@ use thin_testing::{Ledger, Numbered, Ruled};
 use thin_vec::{Doubling, ThinVec, ThinVecError};
 
 // The calls that are tried.
-const CALLS: usize = 4;
+const CALLS: usize = 5;
 
 /// Asserts that calls which need the capacity `T::LIMIT` make one request, and that calls which need
 /// a greater capacity fail without a request.
@@ -52,12 +52,19 @@ fn limit<T: Numbered, G: Ruled, R: Abort>(
     };
     let mut case: Case<T, G> = Case::new(rt, ledger, at);
     let additional = capacity.saturating_sub(length);
-    case.begin("with_capacity, reserve, reserve_exact, resize");
+    case.begin("with_capacity, reserve, reserve_exact, resize, resize_with");
     let answer = match call {
         0 => made::<T>(ledger, capacity),
         1 => case.list.reserve(additional),
         2 => case.list.reserve_exact(additional),
-        _ => case.list.resize(capacity, T::numbered(ledger, 7)),
+        3 => case.list.resize(capacity, T::numbered(ledger, 7)),
+        _ => {
+            let token = case.token();
+            case.list.resize_with(capacity, move || {
+                let _token = &token;
+                T::numbered(ledger, 7)
+            })
+        }
     };
     let requests = ledger.alloc.requests();
     case.end(rt);

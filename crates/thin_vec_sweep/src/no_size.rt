@@ -1,6 +1,6 @@
 //! Items of no size, whose drops no counter can count. Their drop panics, so each of these tests
 //! passes only if the call drops an item.
-use std::alloc::Global;
+use std::alloc::{AllocError, Global};
 use std::mem;
 use std::process::Abort;
 use thin_vec::ThinVec;
@@ -14,6 +14,12 @@ impl<R: Abort> Drop for Fuse<R> {
     fn drop(self) {
         let Fuse { rt } = self;
         panic!(rt; "the item is dropped");
+    }
+}
+
+impl<R: Abort + Copy> Clone for Fuse<R> {
+    fn clone(&self) -> Result<Self, AllocError> {
+        Ok(Fuse { rt: self.rt })
     }
 }
 
@@ -70,5 +76,14 @@ fn retain_drops_items_of_no_size(rt: HostRuntime) {
 fn dedup_by_drops_items_of_no_size(rt: HostRuntime) {
     let mut list = fuses(rt, rt.alloc());
     list.dedup_by(|_later, _kept| true);
+    mem::forget(list);
+}
+
+#[test]
+#[should_panic(expected = "the item is dropped")]
+fn resize_drops_a_value_of_no_size(rt: HostRuntime) {
+    let mut list = fuses(rt, rt.alloc());
+    let is_shorter = list.resize(2, Fuse { rt }).is_ok();
+    assert!(rt; !is_shorter);
     mem::forget(list);
 }

@@ -79,19 +79,26 @@ impl Dice {
         (self.state >> 33) as usize % limit
     }
 
+    // Returns a number below 128, which is small in most cases.
+    fn size(&mut self) -> usize {
+        let limits: [usize; 8] = [2, 4, 8, 12, 12, 12, 32, 128];
+        let limit = limits[self.below(8) % 8];
+        self.below(limit)
+    }
+
     // Returns a lower bound of a size hint, which is usually small.
     fn lower(&mut self) -> usize {
         if self.below(9) == 0 {
             usize::MAX
         } else {
-            self.below(12)
+            self.size()
         }
     }
 
-    // Returns up to four steps over a range.
+    // Returns steps over a range.
     fn steps(&mut self, alloc: Lender) -> Result<Vec<Step, Lender>, AllocError> {
         let mut steps = Vec::new(alloc);
-        for _ in 0..self.below(5) {
+        for _ in 0..self.size() {
             let step = if self.below(2) == 0 {
                 Step::Front
             } else {
@@ -102,13 +109,13 @@ impl Dice {
         Ok(steps)
     }
 
-    // Returns up to eleven new items.
+    // Returns new items.
     fn items<T: Numbered>(
         &mut self,
         ledger: &'static Ledger,
     ) -> Result<Vec<T, Lender>, AllocError> {
         let mut items = Vec::new(&ledger.alloc);
-        for number in 0..self.below(12) {
+        for number in 0..self.size() {
             put(&mut items, T::numbered(ledger, number as u64 / 2))?;
         }
         Ok(items)
@@ -122,7 +129,8 @@ impl Dice {
         len: usize,
     ) -> Result<Command<T, Lender, G>, AllocError> {
         let alloc = &ledger.alloc;
-        let near = len.min(12).saturating_add(2);
+        let near = if self.below(3) == 0 { len } else { len.min(12) };
+        let near = near.saturating_add(2);
         let (at, to) = (self.below(near), self.below(near));
         let item = T::numbered(ledger, 7);
         Ok(match self.below(25) {
@@ -140,7 +148,7 @@ impl Dice {
             11 => Command::Resize(self.lower(), item),
             12 => Command::ExtendFromSlice(self.items(ledger)?),
             13 => Command::Extend(self.items(ledger)?, self.lower()),
-            14 => Command::Append(filled(rt, ledger, self.below(12), self.below(2))),
+            14 => Command::Append(filled(rt, ledger, self.size(), self.below(2))),
             15 => Command::SplitOff(at),
             16 => Command::Clone,
             17 => Command::Retain,
@@ -149,7 +157,7 @@ impl Dice {
             20 => Command::DedupBy,
             21 => Command::DedupByKey,
             22 => Command::Drain(at, to, self.steps(alloc)?),
-            23 => Command::ExtractIf(at, to, self.below(5)),
+            23 => Command::ExtractIf(at, to, self.size()),
             _ => Command::Splice(
                 at,
                 to,
@@ -290,8 +298,13 @@ fn long_command<T: Numbered, G: Growth, R: Abort>(
         put(&mut many, T::numbered(ledger, 7))?;
     }
     let mut steps = Vec::new(&ledger.alloc);
-    for _ in 0..1500 {
-        put(&mut steps, Step::Front)?;
+    for index in 0..1500 {
+        let step = if index % 4 == 0 {
+            Step::Back
+        } else {
+            Step::Front
+        };
+        put(&mut steps, step)?;
     }
     Ok(match number {
         0 => Command::Push(item),

@@ -5,6 +5,7 @@ ghost use Rattle.thin_vec.specs.Edits.Splice.{SpliceKeeps};
 
 use crate::case::{At, Case};
 use crate::fill::{Filling, HINTS, Source, check_filling, nth_source};
+use crate::sweep::rounds;
 use std::alloc::Allocator;
 use std::iter::Iterator;
 use std::process::Abort;
@@ -56,6 +57,7 @@ fn due_before_tail<T: Numbered, G: Ruled>(
         due.nexts = (source.count as u64).saturating_add(1);
         return;
     }
+    let source = source.after(width);
     due.nexts = width as u64;
     due.hints = 1;
     let hinted = due.ruled::<T, G>(length, source.lower);
@@ -81,7 +83,11 @@ fn due_before_tail<T: Numbered, G: Ruled>(
 // Computes the requests of a `Vec` that begins empty and takes `count` items. Returns whether it
 // gets the memory for all of them.
 fn is_held<T: Numbered>(due: &mut Filling, count: usize) -> bool {
-    let first = if T::SIZE <= 1 { 8 } else { 4 };
+    let first = match T::SIZE {
+        0..=1 => 8,
+        2..=1024 => 4,
+        _ => 1,
+    };
     let mut room: usize = 0;
     for held in 0..count {
         if held == room {
@@ -96,7 +102,8 @@ fn is_held<T: Numbered>(due: &mut Filling, count: usize) -> bool {
     true
 }
 
-/// Makes splices on lists of the given lengths, and refuses each of their requests in turn.
+/// Makes splices on lists of the given lengths, and on random lists, and refuses each of their
+/// requests in turn.
 pub fn splices<T: Numbered, G: Ruled, R: Abort>(
     rt: &R,
     ledger: &'static Ledger,
@@ -114,13 +121,21 @@ pub fn splices<T: Numbered, G: Ruled, R: Abort>(
                     argument,
                     refused: 0,
                 };
-                let requests = splice_case::<T, G, R>(rt, ledger, at);
-                for refused in 0..requests {
-                    let refused = refused.saturating_add(1);
-                    let _requests = splice_case::<T, G, R>(rt, ledger, At { refused, ..at });
-                }
+                each_refusal::<T, G, R>(rt, ledger, at);
             }
         }
+    }
+    for round in 0..rounds::<T>().saturating_mul(4) {
+        each_refusal::<T, G, R>(rt, ledger, At::random::<T>(round, 5));
+    }
+}
+
+// Makes the splice with enough memory, and then with each of its requests refused.
+fn each_refusal<T: Numbered, G: Ruled, R: Abort>(rt: &R, ledger: &'static Ledger, at: At) {
+    let requests = splice_case::<T, G, R>(rt, ledger, at);
+    for refused in 0..requests {
+        let refused = refused.saturating_add(1);
+        let _requests = splice_case::<T, G, R>(rt, ledger, At { refused, ..at });
     }
 }
 
@@ -132,7 +147,7 @@ fn splice_case<T: Numbered, G: Ruled, R: Abort>(rt: &R, ledger: &'static Ledger,
     let (start, end) = case.range();
     let number = case.choice();
     let count = count(number / HINTS % NEW, end.saturating_sub(start));
-    let source = nth_source::<T>(number % HINTS, count, at.length);
+    let source = nth_source::<T>(at, number % HINTS, count);
     let due = due(&case, (start, end), source);
     if due.is_too_much::<T>() {
         case.end(rt);

@@ -51,6 +51,23 @@ pub fn sweep<C: Calls<T, G>, T: Numbered, G: Growth, R: Abort>(
     (cases, refusals)
 }
 
+/// Returns the number of random cases of a call on lists of `T`.
+pub fn rounds<T: Numbered>() -> usize {
+    if T::SIZE > 100 { 12 } else { 60 }
+}
+
+/// Makes each call of the group on random lists with random arguments.
+pub fn sweep_at_random<C: Calls<T, G>, T: Numbered, G: Growth, R: Abort>(
+    rt: &R,
+    ledger: &'static Ledger,
+) {
+    for round in 0..rounds::<T>() {
+        for call in 0..C::CALLS {
+            each_refusal::<C, T, G, R>(rt, ledger, At::random::<T>(round, call), call);
+        }
+    }
+}
+
 // Makes the call with enough memory, and then with each of its requests refused. If it makes many
 // requests, some of those in the middle are not refused. Returns the number of refusals.
 fn each_refusal<C: Calls<T, G>, T: Numbered, G: Growth, R: Abort>(
@@ -62,7 +79,7 @@ fn each_refusal<C: Calls<T, G>, T: Numbered, G: Growth, R: Abort>(
     let requests = case::<C, T, G, R>(rt, ledger, at, call);
     let mut refusals: u64 = 0;
     for earlier in 0..requests {
-        if is_refused(at.length, earlier, requests.saturating_sub(earlier)) {
+        if is_refused(at, earlier, requests.saturating_sub(earlier)) {
             let refused = earlier.saturating_add(1);
             let _requests = case::<C, T, G, R>(rt, ledger, At { refused, ..at }, call);
             refusals = refusals.saturating_add(1);
@@ -72,9 +89,12 @@ fn each_refusal<C: Calls<T, G>, T: Numbered, G: Growth, R: Abort>(
 }
 
 // Returns whether a request is refused. `earlier` is the number of requests before it, and `left` the
-// number of requests from it on.
-fn is_refused(length: usize, earlier: u64, left: u64) -> bool {
-    match length {
+// number of requests from it on. In a random case, some of the requests are chosen at random.
+fn is_refused(at: At, earlier: u64, left: u64) -> bool {
+    if at.is_random() {
+        return earlier < 2 || left < 2 || at.drawn(earlier.wrapping_add(60), 64) < 2;
+    }
+    match at.length {
         0..=50 => earlier < 12 || left < 3 || 40 <= earlier && earlier < 44,
         51..=9999 => earlier < 3 || left < 2 || earlier == 45,
         _ => earlier == 0 || left < 2,

@@ -16,11 +16,11 @@ use crate::fill::{Collect, Extend, ExtendOfTrait, FromIter, fill_lists};
 use crate::limits::{limits, powers};
 use crate::runs::{assert_long_commands_right, assert_long_run_right, assert_runs_right};
 use crate::splices::splices;
-use crate::sweep::sweep;
+use crate::sweep::{sweep, sweep_at_random};
 use crate::twins::assert_twins_agree;
 use std::alloc::Global;
 use std::process::Abort;
-use thin_testing::{Counted, Fourfold, Ledger, Numbered, Ruled, Threefold};
+use thin_testing::{Counted, CountedWord, Fourfold, Ledger, Numbered, Ruled, Threefold};
 use thin_vec::{Doubling, PowerBytes};
 
 // The lengths of lists on which each call is tried with several spare capacities and arguments.
@@ -70,6 +70,58 @@ fn sweep_all<T: Numbered, G: Ruled, R: Abort>(rt: &R, alloc: Global, long: &[usi
     sweeps::<T, G, R>(rt, ledger, &SHORT, &[0, 1, 4], ALL);
     sweeps::<T, G, R>(rt, ledger, long, &[0, 4, 30], 10);
     sweep::<Adding, T, G, R>(rt, ledger, &[1, 33], &[300], ALL);
+}
+
+// Makes all calls of `T` on random lists.
+fn sweep_random<T: Numbered, G: Ruled, R: Abort>(rt: &R, alloc: Global) {
+    let ledger = leaked_ledger(rt, alloc);
+    sweep_at_random::<Adding, T, G, R>(rt, ledger);
+    sweep_at_random::<Removing, T, G, R>(rt, ledger);
+    sweep_at_random::<Filtering, T, G, R>(rt, ledger);
+    sweep_at_random::<Reading, T, G, R>(rt, ledger);
+    sweep_at_random::<Replacing, T, G, R>(rt, ledger);
+    sweep_at_random::<Making, T, Doubling, R>(rt, ledger);
+    fill_lists::<Extend, T, G, R>(rt, ledger, &[], &[]);
+    fill_lists::<ExtendOfTrait, T, G, R>(rt, ledger, &[], &[]);
+    fill_lists::<FromIter, T, Doubling, R>(rt, ledger, &[], &[]);
+    fill_lists::<Collect, T, Doubling, R>(rt, ledger, &[], &[]);
+    splices::<T, G, R>(rt, ledger, &[], &[]);
+}
+
+#[test]
+fn random_calls_of_items_that_grow_in_place(rt: HostRuntime) {
+    sweep_random::<u8, Doubling, _>(&rt, rt.alloc());
+    sweep_random::<u16, PowerBytes, _>(&rt, rt.alloc());
+    sweep_random::<i32, Doubling, _>(&rt, rt.alloc());
+    sweep_random::<u64, Threefold, _>(&rt, rt.alloc());
+    sweep_random::<u128, Doubling, _>(&rt, rt.alloc());
+}
+
+#[test]
+fn random_calls_of_items_of_odd_sizes(rt: HostRuntime) {
+    sweep_random::<(), Doubling, _>(&rt, rt.alloc());
+    sweep_random::<[u8; 3], Doubling, _>(&rt, rt.alloc());
+    sweep_random::<[u8; 5], Fourfold, _>(&rt, rt.alloc());
+    sweep_random::<[u8; 7], Doubling, _>(&rt, rt.alloc());
+    sweep_random::<[u32; 3], Doubling, _>(&rt, rt.alloc());
+    sweep_random::<[u32; 5], PowerBytes, _>(&rt, rt.alloc());
+    sweep_random::<[u32; 7], Doubling, _>(&rt, rt.alloc());
+}
+
+#[test]
+fn random_calls_of_counted_items(rt: HostRuntime) {
+    sweep_random::<CountedWord<'static>, Doubling, _>(&rt, rt.alloc());
+    sweep_random::<Small, PowerBytes, _>(&rt, rt.alloc());
+    sweep_random::<ThreeWords, Doubling, _>(&rt, rt.alloc());
+    sweep_random::<Aligned, Threefold, _>(&rt, rt.alloc());
+}
+
+#[test]
+fn random_calls_of_large_counted_items(rt: HostRuntime) {
+    sweep_random::<EightWords, Doubling, _>(&rt, rt.alloc());
+    sweep_random::<SixteenWords, Fourfold, _>(&rt, rt.alloc());
+    sweep_random::<Large, Doubling, _>(&rt, rt.alloc());
+    sweep_random::<Counted<'static, [u64; 254]>, Doubling, _>(&rt, rt.alloc());
 }
 
 #[test]
@@ -155,6 +207,7 @@ fn sweeps_counted_items_under_other_rules(rt: HostRuntime) {
 fn orders_lists_with_one_comparison_of_each_item(rt: HostRuntime) {
     let ledger = leaked_ledger(&rt, rt.alloc());
     sweep::<Comparing, Small, Doubling, _>(&rt, ledger, &SHORT, &[0, 1], ALL);
+    sweep::<Comparing, Small, Doubling, _>(&rt, ledger, &[50, 150], &[0, 1], ALL);
 }
 
 #[test]
@@ -169,6 +222,7 @@ fn copies<T: Numbered + Copy, R: Abort>(rt: &R, alloc: Global) {
     let ledger = leaked_ledger(rt, alloc);
     sweep::<Copying, T, Doubling, R>(rt, ledger, &SHORT, &[0, 1, 4], ALL);
     sweep::<Copying, T, PowerBytes, R>(rt, ledger, &LONG, &[0, 1], ALL);
+    sweep_at_random::<Copying, T, Doubling, R>(rt, ledger);
 }
 
 #[test]
@@ -177,10 +231,13 @@ fn copies_items_of_all_sizes(rt: HostRuntime) {
     copies::<u8, _>(&rt, rt.alloc());
     copies::<u16, _>(&rt, rt.alloc());
     copies::<i32, _>(&rt, rt.alloc());
+    copies::<[u8; 3], _>(&rt, rt.alloc());
     copies::<[u8; 5], _>(&rt, rt.alloc());
+    copies::<[u8; 7], _>(&rt, rt.alloc());
     copies::<[u32; 3], _>(&rt, rt.alloc());
     copies::<u64, _>(&rt, rt.alloc());
     copies::<[u64; 3], _>(&rt, rt.alloc());
+    copies::<[u64; 6], _>(&rt, rt.alloc());
     copies::<u128, _>(&rt, rt.alloc());
 }
 
@@ -190,6 +247,7 @@ fn writes_and_copies_bytes(rt: HostRuntime) {
     sweep::<Bytes, u8, Doubling, _>(&rt, ledger, &SHORT, &[0, 1, 60], ALL);
     sweep::<Bytes, u8, PowerBytes, _>(&rt, ledger, &LONG, &[0, 1, 60], ALL);
     sweep::<Bytes, u8, Doubling, _>(&rt, ledger, &[41_000], &[0], ALL);
+    sweep_at_random::<Bytes, u8, Doubling, _>(&rt, ledger);
     sweep::<Copying, u8, Doubling, _>(&rt, ledger, &[41_000], &[0], 2);
 }
 

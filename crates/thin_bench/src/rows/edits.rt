@@ -1,7 +1,7 @@
 //! Rows about `drain`, `extract_if`, `retain_mut`, `dedup_by`, `dedup_by_key` and `dedup`.
-use crate::checks::Checks;
-use crate::rows::{Outcome, listed};
+use crate::rows::listed;
 use std::alloc::Allocator;
+use thin_testing::{Checks, Outcome};
 
 /// Checks a `Drain` that yields items from both ends, and is dropped before it has yielded all
 /// items.

@@ -2,13 +2,12 @@
 ghost use Rattle.std.specs.Ordering.{int_eq};
 ghost use Rattle.std.specs.Prelude.{◌<◌, int_rem, length, pos};
 
-use crate::checks::Checks;
-use crate::rows::Outcome;
 use std::alloc::Allocator;
 use thin_rows::Rows;
 use thin_runner::command::{Command, Reply, Step};
 use thin_runner::judge::Judge;
 use thin_runner::runner::run;
+use thin_testing::{Checks, Outcome};
 use thin_vec::{ThinVec, ThinVecError};
 
 // Checks that the table has three rows, and that row 1 has the entries `entries` and the other rows

@@ -1,8 +1,8 @@
 //! Rows about capacities, items of size zero, the growth rule `PowerBytes`, and calls that add or
 //! remove a single item.
-use crate::checks::Checks;
-use crate::rows::{Outcome, listed};
+use crate::rows::listed;
 use std::alloc::Allocator;
+use thin_testing::{Checks, Outcome};
 use thin_vec::{PowerBytes, ThinVec, ThinVecError};
 
 /// Checks that the capacity of a new list is 0, and is still 0 after a call to `pop`.

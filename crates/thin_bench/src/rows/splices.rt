@@ -1,9 +1,9 @@
 //! Rows about `splice`, and about calls on an empty list.
-use crate::checks::Checks;
-use crate::rows::{Outcome, claiming, listed};
+use crate::rows::{claiming, listed};
 use std::alloc::Allocator;
 use std::iter::{empty, once};
 use thin_runner::hinted::Hinted;
+use thin_testing::{Checks, Outcome};
 use thin_vec::{SpliceRefused, ThinVec, ThinVecError};
 
 // Replaces two of five items with the three items of an iterator whose size hint has the lower

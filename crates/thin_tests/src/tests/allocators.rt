@@ -1,13 +1,16 @@
 //! Tests of the calls that take an allocator. What they make uses this allocator, and not that of
-//! the list, even if the list is empty.
+//! the list, even if the list is empty. A list drops an allocator that it owns.
 use crate::tests::support::{
     assert_counts, assert_len, assert_same, leak_refusing, list_of, splice,
 };
 use std::alloc::{Allocator, Global};
+use std::default::Emptied;
 use std::process::Abort;
+use std::rc::Rc;
 use std::test::Fail;
 use thin_runner::hinted::Hinted;
-use thin_vec::ThinVec;
+use thin_testing::Refusing;
+use thin_vec::{ThinVec, ThinVecError, thin_vec};
 
 // Makes a `Vec` of the items of the list with the allocator `alloc`, by one of six calls. The
 // number `way`, from 0 to 5, selects the call.
@@ -67,5 +70,137 @@ fn finish_holds_items_back_on_the_allocator_passed(rt: HostRuntime) -> Result<()
     splice(&mut list, (1, 2), items, other)?;
     assert_counts(&rt, own, 2, 1);
     assert_counts(&rt, other, 1, 0);
+    Ok(())
+}
+
+// An allocator that a list owns.
+type Owned = Refusing<&'static Refusing<Global>>;
+
+// Makes a list of `count` items whose allocator owns a clone of `owner`.
+fn owning_list(
+    alloc: &'static Refusing<Global>,
+    owner: &Rc<u64>,
+    count: u64,
+) -> Result<ThinVec<u128, Owned>, Fail> {
+    let mut list = ThinVec::new(Refusing::owning(alloc, owner.clone()?));
+    for item in 0..count {
+        list.push(u128::from(item))?;
+    }
+    Ok(list)
+}
+
+// Ends the list by one of thirteen calls, of which some take the allocator `alloc`. Drops the result.
+fn end(
+    call: u32,
+    mut list: ThinVec<u128, Owned>,
+    alloc: Owned,
+    global: Global,
+) -> Result<(), Fail> {
+    match call {
+        0 => drop(list),
+        1 => drop(list.into_iter()),
+        2 => {
+            let mut rest = list.into_iter();
+            drop(rest.next());
+            drop(rest.next_back());
+        }
+        3 => drop(list.into_vec(alloc)?),
+        4 => drop(list.into_boxed_slice(alloc)?),
+        5 => drop(list.into_array::<40>().is_ok()),
+        6 => {
+            list.clear();
+            list.shrink_to_fit()?;
+        }
+        7 => drop(list.split_off(alloc, 0)?),
+        8 => drop(list.clone(alloc)?),
+        _ => finish(call, list, alloc, global)?,
+    }
+    Ok(())
+}
+
+// Inserts the items of an iterator, whose hint is exact or too low, at one end of the list. Drops the
+// list.
+fn finish(
+    call: u32,
+    mut list: ThinVec<u128, Owned>,
+    alloc: Owned,
+    global: Global,
+) -> Result<(), Fail> {
+    let lower = if call < 11 { 2 } else { 0 };
+    let items = Hinted::new([7, 8].to_vec(global)?, lower);
+    if call % 2 == 0 {
+        splice(&mut list, (0, 0), items, alloc)?;
+        return Ok(());
+    }
+    let len = list.len();
+    splice(&mut list, (len, len), items, alloc)?;
+    Ok(())
+}
+
+#[test]
+fn a_list_drops_the_allocator_that_it_owns(rt: HostRuntime) -> Result<(), Fail> {
+    let alloc = leak_refusing(&rt, rt.alloc(), 0);
+    let owner = Rc::new(rt.alloc(), 0)?;
+    for count in [0, 1, 2, 3, 40, 200] {
+        for call in 0..13 {
+            let other = Refusing::owning(alloc, owner.clone()?);
+            end(call, owning_list(alloc, &owner, count)?, other, rt.alloc())?;
+            let left = (call, Rc::strong_count(&owner), alloc.blocks());
+            assert_same(&rt, left, (call, 1, 0));
+        }
+    }
+    Ok(())
+}
+
+// Makes a list of the given capacity by one of three calls.
+fn reserved(call: u32, owning: Owned, capacity: usize) -> Result<(), ThinVecError> {
+    match call {
+        0 => drop(ThinVec::<u128, Owned>::with_capacity(owning, capacity)?),
+        1 => drop(thin_vec![owning => 7_u128; capacity]?),
+        _ => {
+            let mut list: ThinVec<u128, Owned> = ThinVec::new(owning);
+            list.reserve_exact(capacity)?;
+        }
+    }
+    Ok(())
+}
+
+#[test]
+fn a_refused_capacity_drops_the_allocator(rt: HostRuntime) -> Result<(), Fail> {
+    let owner = Rc::new(rt.alloc(), 0)?;
+    for call in 0..3 {
+        for (capacity, cause) in [
+            (5, ThinVecError::OutOfMemory),
+            (usize::MAX, ThinVecError::CapacityOverflow),
+        ] {
+            let alloc = leak_refusing(&rt, rt.alloc(), 1);
+            let owning = Refusing::owning(alloc, owner.clone()?);
+            assert_same(&rt, reserved(call, owning, capacity), Err(cause));
+            assert_same(&rt, (call, Rc::strong_count(&owner)), (call, 1));
+        }
+    }
+    Ok(())
+}
+
+#[test]
+fn a_refused_collection_drops_the_allocator(rt: HostRuntime) -> Result<(), Fail> {
+    let owner = Rc::new(rt.alloc(), 0)?;
+    for refused in 1..4 {
+        let alloc = leak_refusing(&rt, rt.alloc(), refused);
+        let owning = Refusing::owning(alloc, owner.clone()?);
+        let items = Hinted::new([7; 20].to_vec(rt.alloc())?, 0);
+        assert_same(&rt, ThinVec::from_iter(owning, items).is_err(), true);
+        assert_same(&rt, (Rc::strong_count(&owner), alloc.blocks()), (1, 0));
+    }
+    Ok(())
+}
+
+#[test]
+fn an_emptied_list_clones_the_allocator_once(rt: HostRuntime) -> Result<(), Fail> {
+    let alloc = leak_refusing(&rt, rt.alloc(), 0);
+    let list: ThinVec<u8, Owned> = ThinVec::new(Refusing::new(alloc, 0));
+    let empty: ThinVec<u8, Owned> = Emptied::emptied(&list)?;
+    assert_same(&rt, list.allocator().requests(), 1);
+    assert_same(&rt, empty.has_capacity(), false);
     Ok(())
 }

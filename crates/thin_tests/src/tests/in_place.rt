@@ -84,7 +84,7 @@ fn assert_capacities<T: Numbered, A: Allocator>(
 fn assert_type<T: Numbered>(rt: &impl Abort, ledger: &'static Ledger) -> Result<(), ThinVecError> {
     let long = 256_usize.checked_div(T::SIZE).unwrap_or(0);
     for len in long.saturating_sub(1)..long.saturating_add(9) {
-        for more in 1..10 {
+        for more in [1, 2, 3, 4, 5, 6, 7, 8, 9, 2000] {
             ledger.begin(0);
             assert_capacities::<T, _>(rt, ledger, &ledger.alloc, len, more, true)?;
             assert_capacities::<T, _>(rt, ledger, ledger.global, len, more, false)?;

@@ -27,6 +27,16 @@ fn evaluates_each_argument_once_and_in_order(rt: HostRuntime) -> Result<(), Fail
 }
 
 #[test]
+fn a_list_of_twelve_items_has_capacity_twelve(rt: HostRuntime) -> Result<(), Fail> {
+    let items = [1, 2, 3, 4, 5, 6, 7, 8, 9, 10, 11, 12];
+    let list = thin_vec![rt.alloc() => 1, 2, 3, 4, 5, 6, 7, 8, 9, 10, 11, 12]?;
+    assert_list(&rt, &list, &items, 12);
+    let list = thin_vec![in rt.alloc(); 1, 2, 3, 4, 5, 6, 7, 8, 9, 10, 11, 12]?;
+    assert_list(&rt, &list, &items, 12);
+    Ok(())
+}
+
+#[test]
 fn evaluates_each_argument_of_the_form_with_in(rt: HostRuntime) -> Result<(), Fail> {
     let (alloc, order) = (rt.alloc(), Cell::new(0));
     let list = thin_vec![in note(&order, 1, alloc); note(&order, 2, 7), note(&order, 3, 8),]?;

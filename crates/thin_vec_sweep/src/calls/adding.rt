@@ -130,7 +130,7 @@ fn extend_from_within<T: Numbered, G: Growth, R: Abort>(rt: &R, case: &mut Case<
 
 // The other list keeps its block.
 fn append<T: Numbered, G: Growth, R: Abort>(rt: &R, case: &mut Case<T, G>) -> Answer {
-    let mut other = case.other(rt, case.count(), case.at.argument / 8 % 2);
+    let mut other = case.other(rt, case.count(), case.other_spare());
     case.begin("append");
     case.list.append(&mut other)?;
     case.assert_same(rt, "length of the other list", other.len(), 0);

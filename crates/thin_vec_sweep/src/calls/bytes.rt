@@ -56,11 +56,12 @@ fn cause<G: Growth, R: Abort>(rt: &R, case: &Case<u8, G>, error: &Error) -> Thin
     ThinVecError::OutOfMemory
 }
 
-// Each letter takes two bytes.
+// A letter takes one byte or two.
 fn from_str<G: Growth, R: Abort>(rt: &R, case: &mut Case<u8, G>) -> Answer {
+    let letter = if case.at.argument % 2 == 0 { "ß" } else { "s" };
     let mut text = String::new(case.ledger.global);
     for _ in 0..case.count() {
-        text.push_str("ß").expect(rt, "memory");
+        text.push_str(letter).expect(rt, "memory");
     }
     case.begin("from_str");
     let list: ThinVec<u8, _, Doubling> = ThinVec::from_str(&case.ledger.alloc, text.as_str())?;

@@ -61,11 +61,12 @@ fn repeat_in<T: Numbered>(case: &mut Case<T, Doubling>) -> Answer {
 }
 
 fn list_items<T: Numbered, R: Abort>(rt: &R, case: &mut Case<T, Doubling>) -> Answer {
-    let (v, w, x) = (case.item(), case.item(), case.item());
-    let (y, z) = (case.item(), case.item());
-    case.begin("thin_vec![a => v, w, x, y, z]");
-    let list = thin_vec![&case.ledger.alloc => v, w, x, y, z]?;
-    case.assert_same(rt, "capacity", list.capacity(), 5);
+    let (a, b, c, d) = (case.item(), case.item(), case.item(), case.item());
+    let (e, f, g, h) = (case.item(), case.item(), case.item(), case.item());
+    let (i, j, k, l) = (case.item(), case.item(), case.item(), case.item());
+    case.begin("thin_vec![a => .., ..] of twelve items");
+    let list = thin_vec![&case.ledger.alloc => a, b, c, d, e, f, g, h, i, j, k, l]?;
+    case.assert_same(rt, "capacity", list.capacity(), 12);
     Ok(Due::block_of(list.len()))
 }
 
@@ -92,14 +93,18 @@ fn from_slice<T: Numbered, R: Abort>(rt: &R, case: &mut Case<T, Doubling>) -> An
 }
 
 fn from_vec<T: Numbered, R: Abort>(rt: &R, case: &mut Case<T, Doubling>) -> Answer {
-    let items = case.items(rt, case.count());
+    let mut items = case.lent_items(rt, case.count());
+    items
+        .reserve(case.at.argument % 3)
+        .ok()
+        .expect(rt, "memory");
     case.begin("from_vec");
     let list = ThinVec::from_vec(&case.ledger.alloc, items)?;
     Ok(Due::block_of(list.len()))
 }
 
 fn from_boxed_slice<T: Numbered, R: Abort>(rt: &R, case: &mut Case<T, Doubling>) -> Answer {
-    let items = case.items(rt, case.count()).into_boxed_slice();
+    let items = case.lent_items(rt, case.count()).into_boxed_slice();
     case.begin("from_boxed_slice");
     let list = ThinVec::from_boxed_slice(&case.ledger.alloc, items)?;
     Ok(Due::block_of(list.len()))

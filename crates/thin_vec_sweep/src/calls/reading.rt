@@ -59,25 +59,39 @@ fn iterate<T: Numbered, G: Growth>(case: &mut Case<T, G>) -> Answer {
     Ok(Due::calls(case.at.length))
 }
 
-// Compares the list with one whose last item differs if the argument is not 0, and which has one item
-// more if the argument is 4. Lists of different lengths differ without a comparison of items.
+// Compares the list with one of which one item differs if the argument is not 0, and which has one
+// item more if the argument is 4. Items are compared up to the one that differs. Lists of different
+// lengths differ without a comparison of items.
 fn compare<T: Numbered, G: Growth, R: Abort>(rt: &R, case: &mut Case<T, G>) -> Answer {
-    let is_longer = case.at.argument == 4;
+    let argument = case.at.argument % 5;
+    let is_longer = argument == 4;
     let length = case.at.length.saturating_add(usize::from(is_longer));
     let mut other = case.other(rt, length, 1);
-    if case.at.argument > 0
-        && let Some(last) = other.as_mut_slice().last_mut()
+    let mut has_other_item = false;
+    let index = if argument == 1 {
+        case.index()
+    } else {
+        length.saturating_sub(1)
+    };
+    if argument > 0
+        && let Some(place) = other.get_mut(index)
     {
-        *last = case.item();
+        let item = case.item();
+        has_other_item = *place != item;
+        *place = item;
     }
     case.begin("==");
     let is_equal = case.list == other;
-    let has_other_item = case.at.argument > 0 && case.at.length > 0 && T::SIZE > 0;
     case.assert_same(rt, "is equal", is_equal, !has_other_item && !is_longer);
     if is_longer {
         return Ok(Due::NOTHING);
     }
-    Ok(Due::comparisons(case.at.length))
+    let compared = if has_other_item {
+        index.saturating_add(1)
+    } else {
+        length
+    };
+    Ok(Due::comparisons(compared))
 }
 
 fn write<T: Numbered, G: Growth, R: Abort>(rt: &R, case: &mut Case<T, G>) -> Option<Answer> {
@@ -127,38 +141,50 @@ fn clone_of_trait<T: Numbered, G: Growth>(case: &mut Case<T, G>) -> Answer {
 pub struct Comparing {}
 
 impl<T: Numbered + Ord, G: Growth> Calls<T, G> for Comparing {
-    const CALLS: usize = 2;
+    const CALLS: usize = 3;
 
     fn arguments(_call: usize, _is_short: bool) -> usize {
-        3
+        5
     }
 
-    // The two lists are equal, or differ in the first or in the last item. Each item up to the one
-    // that differs is compared once.
+    // The two lists are equal, or differ in the first or in the last item, or one of them is longer.
+    // Each item up to the one that differs is compared once. For `==`, lists of different lengths
+    // differ without a comparison.
     fn call<R: Abort>(rt: &R, case: &mut Case<T, G>, call: usize) -> Option<Answer> {
-        let (length, argument) = (case.at.length, case.at.argument);
-        let mut other = case.other(rt, length, 0);
+        let (length, argument) = (case.at.length, case.at.argument % 5);
+        let other_length = match argument {
+            3 => length.saturating_sub(1),
+            4 => length.saturating_add(1),
+            _ => length,
+        };
+        let mut other = case.other(rt, other_length, 0);
         let index = match argument {
-            0 => length,
             1 => 0,
-            _ => length.saturating_sub(1),
+            2 => length.saturating_sub(1),
+            _ => other_length,
         };
         if let Some(place) = other.get_mut(index) {
             *place = case.item();
         }
-        let wanted = if argument == 0 || length == 0 {
-            Ordering::Equal
-        } else {
-            Ordering::Less
+        let wanted = match argument {
+            1 | 2 if length > 0 => Ordering::Less,
+            3 if length > 0 => Ordering::Greater,
+            4 => Ordering::Less,
+            _ => Ordering::Equal,
         };
-        case.begin("cmp, partial_cmp");
-        let is_right = if call == 0 {
-            case.list.cmp(&other) == wanted
-        } else {
-            case.list.partial_cmp(&other) == Some(wanted)
+        case.begin("cmp, partial_cmp, ==");
+        let is_right = match call {
+            0 => case.list.cmp(&other) == wanted,
+            1 => case.list.partial_cmp(&other) == Some(wanted),
+            _ => (case.list == other) == (wanted == Ordering::Equal),
         };
         case.assert_same(rt, "order", is_right, true);
         drop(other);
-        Some(Ok(Due::comparisons(if argument == 1 { length.min(1) } else { length })))
+        let compared = match argument {
+            1 => length.min(1),
+            3 | 4 if call > 1 && length != other_length => 0,
+            _ => length.min(other_length),
+        };
+        Some(Ok(Due::comparisons(compared)))
     }
 }

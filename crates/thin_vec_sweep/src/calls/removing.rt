@@ -168,6 +168,7 @@ fn drain_some<T: Numbered, A: Allocator, G: Growth>(
     requires in_bounds { end ≤ length list.old.items }
 {
     let mut drain = list.drain(start, end);
+    let _shown = (drain.as_slice().len(), drain.len(), drain.size_hint());
     for step in 0..walk.steps {
         if walk.is_back(step) {
             drop(drain.next_back());
@@ -213,6 +214,8 @@ fn stepped<T: Numbered, A: Allocator, G: Growth>(
     walk: Walk,
 ) -> IntoIter<T, A, G> {
     let mut rest = list.into_iter();
+    let _shown = (rest.as_slice().len(), rest.len(), rest.size_hint());
+    let _lent = rest.as_mut_slice();
     for step in 0..walk.steps {
         if walk.is_back(step) {
             drop(rest.next_back());

@@ -48,7 +48,7 @@ fn replace_range_from_list<T: Numbered, G: Growth, R: Abort>(
     case: &mut Case<T, G>,
 ) -> Answer {
     let (start, end) = case.range();
-    let mut other = case.other(rt, case.replacements(), case.at.argument % 2);
+    let mut other = case.other(rt, case.replacements(), case.other_spare());
     case.begin("replace_range_from_list");
     assert!(rt; start <= end && end <= case.list.len());
     case.list.replace_range_from_list(start, end, &mut other)?;
@@ -57,7 +57,7 @@ fn replace_range_from_list<T: Numbered, G: Growth, R: Abort>(
 
 fn append_reserved<T: Numbered, G: Growth, R: Abort>(rt: &R, case: &mut Case<T, G>) -> Answer {
     let count = case.spare();
-    let mut other = case.other(rt, count, case.at.argument % 2);
+    let mut other = case.other(rt, count, case.other_spare());
     case.begin("append_reserved");
     assert!(rt; other.len() <= case.list.capacity() - case.list.len());
     case.list.append_reserved(&mut other);

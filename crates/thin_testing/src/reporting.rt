@@ -1,49 +1,58 @@
-//! Runs the rows, and writes the report that the program prints.
-use crate::rows::{Outcome, ROWS, row};
+//! Runs rows, and writes a report of them. A row is a function that compares the results of some calls
+//! with values that were computed by hand.
+use crate::checks::Checks;
 use std::alloc::Allocator;
 use std::io;
 use std::io::Write;
 use std::process::ExitCode;
 use thin_vec::ThinVecError;
 
-/// The exit status of the program.
+/// The result of a row: its comparisons, or the error of a call that failed unexpectedly.
+pub type Outcome = Result<Checks, ThinVecError>;
+
+/// Rows, each of which has a number.
+pub trait RowSet {
+    /// Runs the row `number`. If there is no such row, returns a `Checks` that has compared nothing.
+    ///
+    /// # Errors
+    ///
+    /// Fails if a call in the row fails unexpectedly.
+    fn row<A: Allocator + Copy>(alloc: A, number: u32) -> Outcome;
+}
+
+// The exit status of the program.
 #[derive(Clone, Copy)]
-pub enum Status {
+enum Status {
     EveryRowOk = 0,
     RowFailed = 1,
     OutOfMemory = 2,
     NotWritten = 3,
 }
 
-/// Runs every row, and writes to `out` one line for each row and then a summary. Returns the exit
-/// code of the program:
+/// Runs the rows with the given numbers, and writes to `out` one line for each row and then a summary.
+/// Returns the exit code of the program:
 ///
 /// - 0 if every row is ok
 /// - 1 if a row failed
 /// - 2 if memory runs out; the remaining rows are not run
 /// - 3 if writing to `out` fails; nothing more is written
-pub fn report<A: Allocator + Copy, W: Write>(alloc: A, out: &mut W) -> ExitCode {
-    report_rows(alloc, ROWS.as_slice(), out)
-}
-
-/// Does what `report` does, for the rows with the given numbers.
-pub fn report_rows<A: Allocator + Copy, W: Write>(
+pub fn report<S: RowSet, A: Allocator + Copy, W: Write>(
     alloc: A,
     numbers: &[u32],
     out: &mut W,
 ) -> ExitCode {
-    let status = write_rows(alloc, numbers, out).unwrap_or(Status::NotWritten);
+    let status = write_rows::<S, A, W>(alloc, numbers, out).unwrap_or(Status::NotWritten);
     ExitCode::from(status as u8)
 }
 
-fn write_rows<A: Allocator + Copy, W: Write>(
+fn write_rows<S: RowSet, A: Allocator + Copy, W: Write>(
     alloc: A,
     numbers: &[u32],
     out: &mut W,
 ) -> io::Result<Status> {
     let mut failed: u32 = 0;
     for &number in numbers {
-        match write_row(number, row(alloc, number), out)? {
+        match write_row(number, S::row(alloc, number), out)? {
             Status::EveryRowOk => (),
             Status::RowFailed => failed = failed.saturating_add(1),
             end => return Ok(end),

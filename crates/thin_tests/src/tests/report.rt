@@ -1,13 +1,30 @@
-//! Tests of the report: a write fails, memory runs out, or a row fails. Also tests that a comparison
-//! of a row finds a wrong value.
-use crate::checks::Checks;
-use crate::report::{report, report_rows};
+//! Tests of the report about rows: a write fails, memory runs out, or a row fails. Also tests that a
+//! comparison of a row finds a wrong value.
 use std::alloc::{Allocator, Global};
 use std::io;
 use std::io::{ErrorKind, Write};
 use std::process::{Abort, ExitCode};
-use thin_testing::Refusing;
-use thin_vec::ThinVec;
+use thin_testing::{Checks, Outcome, Refusing, RowSet, report};
+use thin_vec::{ThinVec, thin_vec};
+
+// Row 1 compares right values, and makes two requests. Row 2 compares a wrong value. There is no other
+// row.
+struct TwoRows {}
+
+impl RowSet for TwoRows {
+    fn row<A: Allocator + Copy>(alloc: A, number: u32) -> Outcome {
+        let mut checks = Checks::new();
+        match number {
+            1 => {
+                let list = thin_vec![alloc => 1, 2]?;
+                checks.holds(&ThinVec::clone(&list, alloc)?, &[1, 2], 2);
+            }
+            2 => checks.same(1, 2),
+            _ => (),
+        }
+        Ok(checks)
+    }
+}
 
 // A writer that appends the written bytes to `text`. The calls to `write` are numbered from 1, and
 // call number `failing` fails. If `failing` is 0, no call fails.
@@ -43,7 +60,7 @@ fn assert_status(rt: &impl Abort, alloc: Global, code: ExitCode, status: u8) {
     assert_eq!(rt; text.as_str(), wanted.as_str());
 }
 
-// Writes the whole report to `text`, and asserts that the exit code is `status`. Call number
+// Writes a report of row 1, three times, to `text`. Asserts that the exit code is `status`. Call number
 // `failing` to `write` fails. Returns the number of calls to `write`.
 fn report_into<A: Allocator + Copy>(
     rt: &impl Abort,
@@ -58,7 +75,8 @@ fn report_into<A: Allocator + Copy>(
         calls: 0,
         failing,
     };
-    assert_status(rt, global, report(alloc, &mut out), status);
+    let code = report::<TwoRows, _, _>(alloc, &[1, 1, 1], &mut out);
+    assert_status(rt, global, code, status);
     out.calls
 }
 
@@ -112,18 +130,17 @@ fn report_rows_into(alloc: Global, numbers: &[u32], text: &mut String) -> ExitCo
         calls: 0,
         failing: 0,
     };
-    report_rows(alloc, numbers, &mut out)
+    report::<TwoRows, _, _>(alloc, numbers, &mut out)
 }
 
 #[test]
 fn report_counts_failed_rows(rt: HostRuntime) {
     let mut text = String::new(rt.alloc());
-    // There is no row 0, so the report says that row 0 has failed.
-    let code = report_rows_into(rt.alloc(), &[0, 1, 0], &mut text);
+    let code = report_rows_into(rt.alloc(), &[2, 1, 0], &mut text);
     assert_status(&rt, rt.alloc(), code, 1);
     assert_eq!(rt;
         text.as_str(),
-        "row 0 failed\nrow 1 ok\nrow 0 failed\n2 rows failed\n"
+        "row 2 failed\nrow 1 ok\nrow 0 failed\n2 rows failed\n"
     );
 }
 
