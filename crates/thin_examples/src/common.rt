@@ -3,28 +3,68 @@
 use std::alloc::Global;
 use thin_vec::{ThinVec, ThinVecError, thin_vec};
 
-/// Makes a list, and adds items to it. Fails if there is not enough memory.
-pub fn filled(alloc: Global) -> Result<ThinVec<u32>, ThinVecError> {
-    let mut list = thin_vec![alloc => 3, 1, 2]?; // a list of these items
-    let mut other = ThinVec::from_array(alloc, [5, 6])?; // a list of the items of an array
+/// Returns one list with the items of four lists. Fails if there is not enough memory.
+pub fn made(alloc: Global) -> Result<ThinVec<u32>, ThinVecError> {
+    let mut list = thin_vec![alloc => 1, 2]?; // a list of these items
+    let mut zeros = thin_vec![alloc => 0; 3]?; // a list of three zeros
+    let mut pair = ThinVec::from_array(alloc, [3, 4])?; // a list of the items of an array
+    let mut range = (5..8).collect::<ThinVec<_>>(alloc)?; // a list of what an iterator yields
+    let mut all = ThinVec::new(alloc); // an empty list
+    all.append(&mut list)?;
+    all.append(&mut zeros)?;
+    all.append(&mut pair)?;
+    all.append(&mut range)?;
+    Ok(all)
+}
+
+/// Adds items to the list. Fails if there is not enough memory.
+pub fn filled(list: &mut ThinVec<u32>, other: &mut ThinVec<u32>) -> Result<(), ThinVecError> {
     list.push(7)?; // append an item
-    list.insert(0, 8)?; // insert an item at an index
-    list.splice(1, 3, 20..23).finish(alloc)?; // replace the items 1..3 by those of an iterator
-    list.append(&mut other)?; // append a list, which is empty afterwards
+    list.insert(0, 8)?; // insert an item at an index, which is at most `list.len()`
+    list.append(other)?; // move all items of another list
     list.extend(5..9)?; // append what an iterator yields
+    list.extend_from_slice(&[1, 2])?; // append the items of a slice
     list.reserve(2)?; // reserve once, then push without failure
     list.push_reserved(8);
     list.push_reserved(9);
-    Ok(list)
+    Ok(())
+}
+
+/// Writes, replaces and removes items of the list. Fails if there is not enough memory.
+pub fn replaced(alloc: Global, list: &mut ThinVec<u32>) -> Result<(), ThinVecError> {
+    if list.len() >= 3 { // `rt check` rejects an index or a range that may be out of bounds
+        list[0] = 9; // write an item
+        list.splice(1, 3, 20..23).finish(alloc)?; // replace items 1 and 2 by what an iterator yields
+    }
+    if list.len() >= 3 {
+        list.drain(1, 3); // remove items 1 and 2
+    }
+    if list.len() > 0 {
+        let _first = list.remove(0); // remove and return the first item
+    }
+    let _last = list.pop(); // remove and return the last item, if there is one
+    Ok(())
 }
 
 /// Sorts the list, removes items, and returns the odd ones. Fails if there is no memory for them.
 pub fn sifted(alloc: Global, list: &mut ThinVec<u32>) -> Result<ThinVec<u32>, ThinVecError> {
     list.as_mut_slice().sort_unstable(); // sort
-    list.dedup(); // remove repeated items
+    list.dedup(); // remove each item that equals the one before it
     list.retain(|x| *x < 22); // keep the items that pass a test
-    let mut odd = ThinVec::new(alloc); // an empty list
+    let mut odd = ThinVec::new(alloc);
     let len = list.len();
-    odd.extend(list.extract_if(0, len, |x: &mut u32| *x % 2 == 1))?; // move matching items
+    odd.extend(list.extract_if(0, len, |x: &mut u32| *x % 2 == 1))?; // move the items that match
     Ok(odd)
+}
+
+/// Adds 1 to each item, and returns the greatest.
+pub fn raised(list: &mut ThinVec<u32>) -> u32 {
+    for x in list.as_mut_slice().iter_mut() {
+        *x = x.saturating_add(1); // write in a loop; `rt check` rejects a sum that may overflow
+    }
+    let mut greatest = 0;
+    for x in list.as_slice() {
+        greatest = greatest.max(*x); // read in a loop
+    }
+    greatest
 }

@@ -47,10 +47,17 @@ fn main(rt: HostRuntime) -> io::Result<()> {
 }
 
 fn show_common(rt: &impl Print, alloc: Global) -> io::Result<()> {
-    let mut list = common::filled(alloc)?;
+    let mut list = common::made(alloc)?;
+    println!(rt; "made: {list:?}")?;
+    let mut other = thin_vec![alloc => 5, 6]?;
+    common::filled(&mut list, &mut other)?;
     println!(rt; "filled: {list:?}")?;
+    common::replaced(alloc, &mut list)?;
+    println!(rt; "replaced: {list:?}")?;
     let odd = common::sifted(alloc, &mut list)?;
-    println!(rt; "sifted: {odd:?}, left {list:?}")
+    println!(rt; "sifted: {odd:?}, left {list:?}")?;
+    let greatest = common::raised(&mut list);
+    println!(rt; "raised: {list:?}, greatest {greatest}")
 }
 
 fn show_make(rt: &impl Print, alloc: Global) -> io::Result<()> {
