@@ -13,6 +13,7 @@ mod refused;
 mod report;
 mod requests;
 mod runs;
+mod scripts;
 mod support;
 mod tables;
 mod texts;

@@ -1,9 +1,9 @@
 -- This file proves the contract of `items_of`. The loop of `items_of` parses one word in each
 -- iteration.
 use Rattle.std.proofs.Common.{[], rules}
-use Rattle.thin_replay.proofs.WordsLemmas.{zip-all, zip-next}
-use Rattle.thin_replay.specs.Words.{Spells}
-use Rattle.thin_replay.proofs.words.items_of.Goals as goal
+use Rattle.replay.proofs.WordsLemmas.{zip-all, zip-next}
+use Rattle.replay.specs.Words.{Spells}
+use Rattle.replay.proofs.words.items_of.Goals as goal
 
 -- The loop invariant holds before the first iteration, because no word has been parsed yet, and the
 -- `Vec` is empty.

@@ -1,6 +1,6 @@
 //! The parser for commands that add several items.
 ghost use Rattle.std.specs.Prelude.{IfOk, IfSome};
-ghost use Rattle.thin_replay.specs.Lines.{SaysUnjudged};
+ghost use Rattle.replay.specs.Lines.{SaysUnjudged};
 
 use crate::line_error::LineError;
 use crate::words::{count_of, item_of, items_of, list_of};

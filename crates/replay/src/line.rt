@@ -20,8 +20,8 @@ pub enum Line {
 
 impl Line {
     ghost use Rattle.std.specs.Prelude.{IfOk};
-    ghost use Rattle.thin_replay.specs.Lines.{HasWords, IsLine};
-    ghost use Rattle.thin_replay.specs.Words.{Words};
+    ghost use Rattle.replay.specs.Lines.{HasWords, IsLine};
+    ghost use Rattle.replay.specs.Words.{Words};
 
     /// Parses a line. Fails if the line has none of the forms that `help` prints, if a word cannot
     /// be parsed, or if there is not enough memory.

@@ -1,7 +1,7 @@
 //! This module contains the parser for input lines that describe a command, such as `push 5`.
 
 ghost use Rattle.std.specs.Prelude.{IfOk, IfSome};
-ghost use Rattle.thin_replay.specs.Lines.{SaysUnjudged};
+ghost use Rattle.replay.specs.Lines.{SaysUnjudged};
 
 mod bulk;
 mod filters;
@@ -24,7 +24,7 @@ pub struct Call {
 
 impl Call {
     ghost use Rattle.std.specs.Prelude.{◌≡◌, IfOk, IfSome};
-    ghost use Rattle.thin_replay.specs.Lines.{IsCall};
+    ghost use Rattle.replay.specs.Lines.{IsCall};
 
     /// Parses the words of a line as a command. If the command uses a judge, the words also specify
     /// the judge, which is a value that makes decisions about items. Returns `None` if the words do

@@ -1,8 +1,8 @@
 -- This file contains the loop invariant of `list_of`. This function parses words as numbers, and
 -- collects the numbers in a `ThinVec`.
 use Rattle.std.proofs.Common.{take}
-use Rattle.thin_replay.specs.Words.{SpellAll}
-use Rattle.thin_replay.proofs.words.list_of.Given as goal
+use Rattle.replay.specs.Words.{SpellAll}
+use Rattle.replay.proofs.words.list_of.Given as goal
 
 -- The `ThinVec` contains exactly the numbers that have been parsed so far, in the order of their
 -- words.

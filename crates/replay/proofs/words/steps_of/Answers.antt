@@ -1,9 +1,9 @@
 -- This file proves the contract of `steps_of`. Each iteration of its loop parses one letter as a
 -- step, which is a call to `next` or `next_back`.
 use Rattle.std.proofs.Common.{inr, rules}
-use Rattle.thin_replay.proofs.WordsLemmas.{zip-all, zip-next}
-use Rattle.thin_replay.specs.Words.{IsStep}
-use Rattle.thin_replay.proofs.words.steps_of.Goals as goal
+use Rattle.replay.proofs.WordsLemmas.{zip-all, zip-next}
+use Rattle.replay.specs.Words.{IsStep}
+use Rattle.replay.proofs.words.steps_of.Goals as goal
 
 -- The loop invariant holds before the first iteration, because no letter has been parsed yet, and
 -- the list of steps is empty.

@@ -1,8 +1,8 @@
-//! Tests of the error messages, of the exit status, and of writes that fail. The files `stdin` and
-//! `stdout` test the answers.
+//! Tests of the crate `replay`: the error messages, the exit status, and writes that fail. The files
+//! `stdin` and `stdout` of the program `thin_replay` test the answers.
 
-use crate::line::Line;
-use crate::{exit_code, replay};
+use replay::line::Line;
+use replay::{exit_code, replay};
 use std::alloc::Global;
 use std::io::{self, ErrorKind, Write};
 use std::process::Abort;

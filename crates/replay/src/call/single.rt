@@ -1,6 +1,6 @@
 //! The parser for commands that add, remove or replace one item, and for `truncate` and `clear`.
 ghost use Rattle.std.specs.Prelude.{IfOk, IfSome};
-ghost use Rattle.thin_replay.specs.Lines.{SaysUnjudged};
+ghost use Rattle.replay.specs.Lines.{SaysUnjudged};
 
 use crate::line_error::LineError;
 use crate::words::{count_of, item_of};

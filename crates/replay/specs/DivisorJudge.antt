@@ -2,8 +2,8 @@
 -- defines what a `DivisorJudge` decides for each item, and what it writes to the items.
 use Rattle.std.specs.Prelude.{◌≡◌, ℕ, List, Bool, ◌+◌, ◌/◌, ◌%◌, ◌^◌, ◌==◌}
 use Rattle.thin_runner.specs.Judge.{CallbackModel}
-use Rattle.thin_replay.specs.Words.{Spells}
-use Rattle.thin_replay.specs.declared.divisor_judge.DivisorJudge.{DivisorJudge}
+use Rattle.replay.specs.Words.{Spells}
+use Rattle.replay.specs.declared.divisor_judge.DivisorJudge.{DivisorJudge}
 
 -- `number_for judge x` is the number that the judge computes for the item `x`. To make a decision,
 -- the judge divides this number by its divisor.

@@ -1,6 +1,6 @@
 //! The parser for `dedup`, and for commands that remove or replace a range.
 ghost use Rattle.std.specs.Prelude.{IfOk, IfSome};
-ghost use Rattle.thin_replay.specs.Lines.{SaysUnjudged};
+ghost use Rattle.replay.specs.Lines.{SaysUnjudged};
 
 use crate::line_error::LineError;
 use crate::words::{count_of, items_of, steps_of};

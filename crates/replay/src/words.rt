@@ -1,7 +1,7 @@
 //! Parsers for the individual words of a line.
 ghost use Rattle.std.specs.Prelude.{IfOk};
 ghost use Rattle.std.specs.Str.Parse.{ParsesUnsigned};
-ghost use Rattle.thin_replay.specs.Words.{IsStep, SpellAll, SpellsSteps};
+ghost use Rattle.replay.specs.Words.{IsStep, SpellAll, SpellsSteps};
 
 use crate::line_error::LineError;
 use std::alloc::{AllocError, Global};

@@ -26,7 +26,7 @@ pub struct DivisorJudge {
 
 impl DivisorJudge {
     ghost use Rattle.std.specs.Prelude.{IfOk};
-    ghost use Rattle.thin_replay.specs.DivisorJudge.{SpellsJudge, chooses, counted, number_for, written};
+    ghost use Rattle.replay.specs.DivisorJudge.{SpellsJudge, chooses, counted, number_for, written};
 
     /// Returns a placeholder judge for a command that needs no judge.
     pub fn placeholder() -> DivisorJudge {
@@ -85,7 +85,7 @@ impl DivisorJudge {
 }
 
 impl Judge<u64> for DivisorJudge {
-    ghost use Rattle.thin_replay.specs.DivisorJudge.{model};
+    ghost use Rattle.replay.specs.DivisorJudge.{model};
 
     ghost model = { model };
 

@@ -6,12 +6,12 @@ use Rattle.std.specs.Str.Iter.{split_whitespace_rest, split_whitespace_steps}
 use Rattle.std.specs.declared.str.SplitWhitespace.{SplitWhitespace}
 use Rattle.thin_runner.specs.declared.command.Command.{Command}
 use Rattle.thin_runner.specs.declared.command.Command.TheVariants.{Push, Pop, Insert, Remove, SwapRemove, Set, Truncate, Clear, Reserve, ReserveExact, ShrinkToFit, Resize, ExtendFromSlice, Extend, Append, SplitOff, Clone, Retain, RetainMut, Dedup, DedupBy, DedupByKey, Drain, ExtractIf, Splice}
-use Rattle.thin_replay.specs.DivisorJudge.{SpellsJudge}
-use Rattle.thin_replay.specs.Words.{HasForm, SpellAll, Spells, SpellsSteps, Words, word}
-use Rattle.thin_replay.specs.declared.call.Call.{Call}
-use Rattle.thin_replay.specs.declared.divisor_judge.DivisorJudge.{DivisorJudge}
-use Rattle.thin_replay.specs.declared.line.Line.{Line}
-use Rattle.thin_replay.specs.declared.line.Line.TheVariants.{Carry, Help, Items, New}
+use Rattle.replay.specs.DivisorJudge.{SpellsJudge}
+use Rattle.replay.specs.Words.{HasForm, SpellAll, Spells, SpellsSteps, Words, word}
+use Rattle.replay.specs.declared.call.Call.{Call}
+use Rattle.replay.specs.declared.divisor_judge.DivisorJudge.{DivisorJudge}
+use Rattle.replay.specs.declared.line.Line.{Line}
+use Rattle.replay.specs.declared.line.Line.TheVariants.{Carry, Help, Items, New}
 
 -- `BeginsForm words name count` holds if there are at least `count` words, and the first word is
 -- `name`.

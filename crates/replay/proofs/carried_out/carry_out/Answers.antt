@@ -1,8 +1,8 @@
 -- This file proves the contract of `carry_out`, which carries out a single command. The proofs use
 -- the fact that a single command gets exactly one reply.
 use Rattle.std.proofs.Common.{◌≡◌, [], ◌∷◌, ap, arith, ◌++◌, ◌∙◌}
-use Rattle.thin_replay.proofs.RunLemmas.{headline-one, one_reply}
-use Rattle.thin_replay.proofs.carried_out.carry_out.Goals as goal
+use Rattle.replay.proofs.RunLemmas.{headline-one, one_reply}
+use Rattle.replay.proofs.carried_out.carry_out.Goals as goal
 
 -- The run of a single command produces exactly one reply. So `pop` returns `Some`, and the
 -- precondition of `unwrap` holds.

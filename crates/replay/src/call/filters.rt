@@ -1,7 +1,7 @@
 //! The parser for commands that call methods of a judge. A judge makes decisions in place of a
 //! closure: for example, it decides which items `retain` keeps.
 ghost use Rattle.std.specs.Prelude.{IfOk, IfSome};
-ghost use Rattle.thin_replay.specs.Lines.{IsCall, IsFilter};
+ghost use Rattle.replay.specs.Lines.{IsCall, IsFilter};
 
 use crate::call::Call;
 use crate::divisor_judge::DivisorJudge;

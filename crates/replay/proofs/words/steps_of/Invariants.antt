@@ -2,8 +2,8 @@
 -- as a step, which is a call to `next` or `next_back`.
 use Rattle.std.proofs.Common.{take}
 use Rattle.std.specs.List.{AllZip}
-use Rattle.thin_replay.specs.Words.{IsStep}
-use Rattle.thin_replay.proofs.words.steps_of.Given as goal
+use Rattle.replay.specs.Words.{IsStep}
+use Rattle.replay.proofs.words.steps_of.Given as goal
 
 -- The list of steps contains one step for each letter that has been parsed so far, in the same
 -- order.

@@ -1,0 +1,141 @@
+//! Reads commands, one per line, and carries them out on a `ThinVec`. After each command, writes
+//! the reply, and the length and the capacity of the list. The program `thin_replay` does this with
+//! its standard input and output.
+#![tactic(auto)]
+
+mod answer;
+pub mod call;
+mod carried_out;
+pub mod divisor_judge;
+mod forms;
+pub mod line;
+pub mod line_error;
+pub mod replay_error;
+mod words;
+
+use crate::carried_out::carry_out;
+use crate::line::Line;
+use crate::line_error::LineError;
+use crate::replay_error::ReplayError;
+use std::alloc::Global;
+use std::io::{self, BufRead, BufWriter, ErrorKind, Write};
+use std::process::ExitCode;
+use thin_runner::command::Reply;
+use thin_vec::{ThinVec, ThinVecError};
+
+/// Writes the error to standard error, if there is one, and returns the exit status.
+pub fn exit_code(rt: &impl Eprint, answered: Result<(), ReplayError>) -> ExitCode {
+    match answered {
+        Ok(()) => ExitCode::SUCCESS,
+        Err(error) => {
+            let _ = eprintln!(rt; "{error}");
+            ExitCode::FAILURE
+        }
+    }
+}
+
+/// Reads all lines of `input`, and then carries out the commands in order, and writes the answers to
+/// `out`.
+///
+/// # Errors
+///
+/// Fails if a line is invalid, if reading, writing or an allocation fails, or if a reply says that
+/// memory was missing. What was answered before an error is written.
+pub fn replay(
+    alloc: Global,
+    input: impl BufRead + Drop,
+    out: impl Write + Drop,
+) -> Result<(), ReplayError> {
+    let lines = read_lines(alloc, input)?;
+    let mut out = BufWriter::new(alloc, out)?;
+    let answered = answer_lines(&mut out, alloc, lines);
+    out.flush()?;
+    answered
+}
+
+// A line of the input, after its number.
+type Numbered = (usize, Line);
+
+// Reads and parses all lines, and skips blank lines.
+fn read_lines(alloc: Global, input: impl BufRead + Drop) -> Result<Vec<Numbered>, ReplayError> {
+    let mut lines = Vec::new(alloc);
+    for (index, text) in input.lines(alloc).enumerate() {
+        let number = index.saturating_add(1);
+        let text = match text {
+            Ok(text) => text,
+            Err(error) => return Err(read_error(number, error)),
+        };
+        if text.trim().is_empty() {
+            continue;
+        }
+        match Line::parse(alloc, text.as_str()) {
+            Ok(line) => lines.push((number, line)).map_err(io::Error::from)?,
+            Err(cause) => return Err(ReplayError::BadLine { number, cause }),
+        }
+    }
+    Ok(lines)
+}
+
+// Returns the error for a line that could not be read.
+fn read_error(number: usize, error: io::Error) -> ReplayError {
+    if error.kind() == ErrorKind::InvalidData {
+        let cause = LineError::NotUtf8;
+        return ReplayError::BadLine { number, cause };
+    }
+    ReplayError::Io(error)
+}
+
+// Carries out the lines in order on a new list, and writes the answers.
+fn answer_lines(
+    out: &mut impl Write,
+    alloc: Global,
+    lines: Vec<Numbered>,
+) -> Result<(), ReplayError> {
+    let mut list = ThinVec::new(alloc);
+    for (number, line) in lines {
+        answer_line(out, alloc, &mut list, number, line)?;
+    }
+    Ok(())
+}
+
+// Carries out one line of the input, and writes the answer.
+fn answer_line(
+    out: &mut impl Write,
+    alloc: Global,
+    list: &mut ThinVec<u64>,
+    number: usize,
+    line: Line,
+) -> Result<(), ReplayError> {
+    match line {
+        Line::Help => answer::write_help(out)?,
+        Line::Items => answer::write_items(out, list)?,
+        Line::New => {
+            *list = ThinVec::new(alloc);
+            write!(out, "new")?;
+            answer::write_state(out, list)?;
+        }
+        Line::Carry(call) => {
+            let Ok(reply) = carry_out(alloc, list, call.command, &call.judge) else {
+                return Err(ReplayError::Memory { number });
+            };
+            if lacks_memory(&reply) {
+                return Err(ReplayError::Memory { number });
+            }
+            answer::write_reply(out, reply)?;
+            answer::write_state(out, list)?;
+        }
+    }
+    Ok(())
+}
+
+// Returns whether the reply says that there was not enough memory.
+fn lacks_memory(reply: &Reply<u64>) -> bool {
+    let cause = match reply {
+        Reply::Returned(_item, cause) => cause,
+        Reply::Refused(cause) => cause,
+        Reply::Other(_list, Some(cause)) => cause,
+        Reply::Stopped { cause, .. } => cause,
+        _ => return false,
+    };
+    *cause == ThinVecError::OutOfMemory
+}
