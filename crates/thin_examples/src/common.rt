@@ -24,7 +24,7 @@ pub fn filled(list: &mut ThinVec<u32>, other: &mut ThinVec<u32>) -> Result<(), T
     list.append(other)?; // move all items of another list
     list.extend(5..9)?; // append what an iterator yields
     list.extend_from_slice(&[1, 2])?; // append the items of a slice
-    list.reserve(2)?; // reserve once, then push without failure
+    list.reserve(2)?; // reserve room for two items; the next two calls cannot fail
     list.push_reserved(8);
     list.push_reserved(9);
     Ok(())
@@ -34,10 +34,10 @@ pub fn filled(list: &mut ThinVec<u32>, other: &mut ThinVec<u32>) -> Result<(), T
 pub fn replaced(alloc: Global, list: &mut ThinVec<u32>) -> Result<(), ThinVecError> {
     if list.len() >= 3 { // `rt check` rejects an index or a range that may be out of bounds
         list[0] = 9; // write an item
-        list.splice(1, 3, 20..23).finish(alloc)?; // replace items 1 and 2 by what an iterator yields
+        list.splice(1, 3, 20..23).finish(alloc)?; // replace the second and the third item
     }
     if list.len() >= 3 {
-        list.drain(1, 3); // remove items 1 and 2
+        list.drain(1, 3); // remove the second and the third item
     }
     if list.len() > 0 {
         let _first = list.remove(0); // remove and return the first item
@@ -48,19 +48,19 @@ pub fn replaced(alloc: Global, list: &mut ThinVec<u32>) -> Result<(), ThinVecErr
 
 /// Sorts the list, removes items, and returns the odd ones. Fails if there is no memory for them.
 pub fn sifted(alloc: Global, list: &mut ThinVec<u32>) -> Result<ThinVec<u32>, ThinVecError> {
-    list.as_mut_slice().sort_unstable(); // sort
+    list.sort_unstable(); // sort
     list.dedup(); // remove each item that equals the one before it
     list.retain(|x| *x < 22); // keep the items that pass a test
     let mut odd = ThinVec::new(alloc);
     let len = list.len();
-    odd.extend(list.extract_if(0, len, |x: &mut u32| *x % 2 == 1))?; // move the items that match
+    odd.extend(list.extract_if(0, len, |x: &mut u32| *x % 2 == 1))?; // move the odd items to `odd`
     Ok(odd)
 }
 
 /// Adds 1 to each item, and returns the greatest.
 pub fn raised(list: &mut ThinVec<u32>) -> u32 {
     for x in list.as_mut_slice().iter_mut() {
-        *x = x.saturating_add(1); // write in a loop; `rt check` rejects a sum that may overflow
+        *x = x.saturating_add(1); // write in a loop; `*x + 1` could overflow
     }
     let mut greatest = 0;
     for x in list.as_slice() {

@@ -269,7 +269,9 @@ fn show_tables(rt: &impl Print, alloc: Global) -> io::Result<()> {
     println!(rt; "take: {taken}")?;
     println!(rt; "is_row_empty: {}", tables::is_row_empty(&counts, 0))?;
     tables::halve(&mut counts, 2, 8);
-    println!(rt; "halve: {counts:?}")
+    println!(rt; "halve: {counts:?}")?;
+    tables::clear(&mut counts, 2);
+    println!(rt; "clear: {counts:?}")
 }
 
 fn show_threads(rt: &impl Print, alloc: Global) -> io::Result<()> {

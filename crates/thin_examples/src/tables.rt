@@ -2,7 +2,7 @@
 ghost use Rattle.std.specs.FinMap as columns;
 ghost use Rattle.std.specs.Option.{unwrap_or};
 ghost use Rattle.std.specs.Prelude.{◌≡◌, ◌↔◌, ◌+◌, ◌-◌, ◌^◌, ◌<◌, ◌/◌, IfErr, IfOk, IfSome, IsNone, IsOk, IsSome, IsTrue, OnErr, OnOk, Some, length, min, replicate};
-ghost use Rattle.thin_rows.specs.Table.{row_at, value_at, with_value, without_value};
+ghost use Rattle.thin_rows.specs.Table.{row_at, value_at, with_empty_row, with_value, without_value};
 
 use std::alloc::{AllocError, Allocator, Global};
 use thin_rows::Rows;
@@ -82,6 +82,14 @@ pub fn is_row_empty<A: Allocator>(counts: &Rows<u32, A>, row: usize) -> bool
     ensures value { IsTrue result ↔ (columns.len (row_at counts.now row) ≡ 0) }
 {
     !counts.owns_block(row)
+}
+
+/// Removes all counts of `row`, and frees the memory of the row.
+pub fn clear<A: Allocator>(counts: &mut Rows<u32, A>, row: usize)
+    requires in_bounds { row < length counts.old }
+    ensures table { counts.new ≡ with_empty_row counts.old row }
+{
+    counts.clear_row(row);
 }
 
 /// Halves the count at `row` and `column`, rounding down. If there is no count, nothing changes.
