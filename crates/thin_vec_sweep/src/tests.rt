@@ -206,7 +206,7 @@ fn sweeps_counted_items_under_other_rules(rt: HostRuntime) {
 #[test]
 fn orders_lists_with_one_comparison_of_each_item(rt: HostRuntime) {
     let ledger = leaked_ledger(&rt, rt.alloc());
-    sweep::<Comparing, Small, Doubling, _>(&rt, ledger, &SHORT, &[0, 1], ALL);
+    sweep::<Comparing, Small, Doubling, _>(&rt, ledger, &SHORT, &[0, 1, 9], ALL);
     sweep::<Comparing, Small, Doubling, _>(&rt, ledger, &[50, 150], &[0, 1], ALL);
 }
 

@@ -118,8 +118,8 @@ fn end(
     Ok(())
 }
 
-// Inserts the items of an iterator, whose hint is exact or too low, at one end of the list. Drops the
-// list.
+// Inserts the items of an iterator, whose hint is exact or too low, in place of the first half of the
+// list, or at its end. Drops the list.
 fn finish(
     call: u32,
     mut list: ThinVec<u128, Owned>,
@@ -128,11 +128,11 @@ fn finish(
 ) -> Result<(), Fail> {
     let lower = if call < 11 { 2 } else { 0 };
     let items = Hinted::new([7, 8].to_vec(global)?, lower);
+    let len = list.len();
     if call % 2 == 0 {
-        splice(&mut list, (0, 0), items, alloc)?;
+        splice(&mut list, (0, len / 2), items, alloc)?;
         return Ok(());
     }
-    let len = list.len();
     splice(&mut list, (len, len), items, alloc)?;
     Ok(())
 }

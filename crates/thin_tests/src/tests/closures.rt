@@ -1,9 +1,12 @@
 //! Tests that calls drop their closures, and with them what the closures own. Also tests what a
 //! closure leaves in a variable that it borrows.
 use crate::tests::support::{assert_items, assert_len, assert_same, leaked_ledger, list_of};
+use std::alloc::Global;
+use std::cell::Cell;
 use std::rc::Rc;
 use std::test::Fail;
-use thin_testing::Counted;
+use thin_testing::{Counted, Refusing};
+use thin_vec::ThinVec;
 
 // Tests an item in a closure that owns a `Counted`.
 fn is_two(_owned: &Counted<'_>, item: i32) -> bool {
@@ -58,6 +61,20 @@ fn extract_if_drops_its_closure(rt: HostRuntime) -> Result<(), Fail> {
     assert_same(&rt, Rc::strong_count(&kept), 1);
     assert_items(&rt, &list, &[1, 3]);
     Ok(())
+}
+
+// Counts a call, and returns 1.
+fn one(calls: &Cell<u32>) -> i32 {
+    calls.set(calls.get().wrapping_add(1));
+    1
+}
+
+#[test]
+fn resize_with_calls_no_closure_if_refused(rt: HostRuntime) {
+    let (refusing, calls) = (Refusing::new(rt.alloc(), 1), Cell::new(0));
+    let mut list: ThinVec<i32, &Refusing<Global>> = ThinVec::new(&refusing);
+    let refused = list.resize_with(3, || one(&calls)).is_err();
+    assert_same(&rt, (refused, calls.get()), (true, 0));
 }
 
 #[test]

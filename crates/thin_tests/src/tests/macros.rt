@@ -27,7 +27,8 @@ fn evaluates_each_argument_once_and_in_order(rt: HostRuntime) -> Result<(), Fail
 }
 
 #[test]
-fn a_list_of_twelve_items_has_capacity_twelve(rt: HostRuntime) -> Result<(), Fail> {
+fn lists_of_one_and_twelve_items_have_no_spare_capacity(rt: HostRuntime) -> Result<(), Fail> {
+    assert_list(&rt, &thin_vec![rt.alloc() => 7]?, &[7], 1);
     let items = [1, 2, 3, 4, 5, 6, 7, 8, 9, 10, 11, 12];
     let list = thin_vec![rt.alloc() => 1, 2, 3, 4, 5, 6, 7, 8, 9, 10, 11, 12]?;
     assert_list(&rt, &list, &items, 12);

@@ -147,14 +147,14 @@ impl<T: Numbered + Ord, G: Growth> Calls<T, G> for Comparing {
         5
     }
 
-    // The two lists are equal, or differ in the first or in the last item, or one of them is longer.
+    // The two lists are equal, or differ in the first or in the last item, or one is much longer.
     // Each item up to the one that differs is compared once. For `==`, lists of different lengths
     // differ without a comparison.
     fn call<R: Abort>(rt: &R, case: &mut Case<T, G>, call: usize) -> Option<Answer> {
         let (length, argument) = (case.at.length, case.at.argument % 5);
         let other_length = match argument {
-            3 => length.saturating_sub(1),
-            4 => length.saturating_add(1),
+            3 => length / 2,
+            4 => length.saturating_mul(2).saturating_add(3),
             _ => length,
         };
         let mut other = case.other(rt, other_length, 0);
