@@ -1,11 +1,35 @@
 //! Workloads that edit a list at the front or in the middle, and one workload that shrinks a list.
-use crate::lists::Numbers;
+use crate::lists::{Family, Numbers};
 use crate::numbers::{FOUR, InTurn, Outcome, Unhinted, mixed, seen};
-use crate::workloads::shapes::{Work, filled, refill};
+use crate::workloads::shapes::{Work, filled, refill, refilled, repeated};
 use std::alloc::Global;
 
-/// A workload that inserts a number before the first item, and pops the last item.
-pub struct InsertFirst;
+/// Runs the workload with the name `workload`, as `workloads::run` does. Returns `None` if this
+/// module has no such workload.
+///
+/// # Errors
+///
+/// Fails if there is not enough memory.
+pub fn run<F: Family>(alloc: Global, workload: &str, size: usize, times: usize) -> Option<Outcome> {
+    Some(match workload {
+        "insert_front" => repeated::<F::Numbers, InsertFirst>(alloc, size, times),
+        "remove_front" => repeated::<F::Numbers, RemoveFirst>(alloc, size, times),
+        "swap_remove" => swap_remove::<F::Numbers>(alloc, size, times),
+        "split_append" => split_append::<F::Numbers>(alloc, size, times),
+        "drain" => refilled::<F::Numbers, _, InTurn, Drain>(alloc, size, times),
+        "drain_inner" => repeated::<F::Numbers, DrainInner>(alloc, size, times),
+        "splice_two" => repeated::<F::Numbers, SpliceTwo>(alloc, size, times),
+        "splice_more" => repeated::<F::Numbers, SpliceMore>(alloc, size, times),
+        "splice_hinted" => refilled::<F::Numbers, _, InTurn, SpliceHinted>(alloc, size, times),
+        "splice_unhinted" => refilled::<F::Numbers, _, InTurn, SpliceUnhinted>(alloc, size, times),
+        "replace_more" => repeated::<F::Numbers, ReplaceMore>(alloc, size, times),
+        "shrink_push" => repeated::<F::Numbers, ShrinkPush>(alloc, size, times),
+        _ => return None,
+    })
+}
+
+// A workload that inserts a number before the first item, and pops the last item.
+struct InsertFirst;
 
 impl<L: Numbers> Work<L, u64> for InsertFirst {
     #[inline(always)]
@@ -18,8 +42,8 @@ impl<L: Numbers> Work<L, u64> for InsertFirst {
     }
 }
 
-/// A workload that removes the first item, and pushes the removed number plus 1.
-pub struct RemoveFirst;
+// A workload that removes the first item, and pushes the removed number plus 1.
+struct RemoveFirst;
 
 impl<L: Numbers> Work<L, u64> for RemoveFirst {
     #[inline(always)]
@@ -34,14 +58,10 @@ impl<L: Numbers> Work<L, u64> for RemoveFirst {
     }
 }
 
-/// Fills a list, and then calls `swap_remove` until the list is empty. Each call removes the item
-/// in the middle. Does this `times` times.
-///
-/// # Errors
-///
-/// Fails if there is not enough memory.
+// Fills a list, and then calls `swap_remove` until the list is empty. Each call removes the item
+// in the middle. Does this `times` times.
 #[inline(never)]
-pub fn swap_remove<L: Numbers>(alloc: Global, size: usize, times: usize) -> Outcome {
+fn swap_remove<L: Numbers>(alloc: Global, size: usize, times: usize) -> Outcome {
     let mut list: L = filled(alloc, size)?;
     let mut sum = 0;
     for _ in 0..times {
@@ -55,14 +75,10 @@ pub fn swap_remove<L: Numbers>(alloc: Global, size: usize, times: usize) -> Outc
     Ok(sum)
 }
 
-/// Makes a list of `size` items. In each of `times` rounds, splits off the second half of the list,
-/// and then appends the second half to the first half.
-///
-/// # Errors
-///
-/// Fails if there is not enough memory.
+// Makes a list of `size` items. In each of `times` rounds, splits off the second half of the list,
+// and then appends the second half to the first half.
 #[inline(never)]
-pub fn split_append<L: Numbers>(alloc: Global, size: usize, times: usize) -> Outcome {
+fn split_append<L: Numbers>(alloc: Global, size: usize, times: usize) -> Outcome {
     let mut list: L = filled(alloc, size)?;
     let mut sum = 0;
     for _ in 0..times {
@@ -72,8 +88,8 @@ pub fn split_append<L: Numbers>(alloc: Global, size: usize, times: usize) -> Out
     Ok(sum)
 }
 
-/// A workload that drains the middle half of a list.
-pub struct Drain;
+// A workload that drains the middle half of a list.
+struct Drain;
 
 impl<L: Numbers> Work<L, u64> for Drain {
     #[inline(always)]
@@ -83,8 +99,8 @@ impl<L: Numbers> Work<L, u64> for Drain {
     }
 }
 
-/// A workload that drains two items in the middle, and then pushes two items.
-pub struct DrainInner;
+// A workload that drains two items in the middle, and then pushes two items.
+struct DrainInner;
 
 impl<L: Numbers> Work<L, u64> for DrainInner {
     #[inline(always)]
@@ -97,8 +113,8 @@ impl<L: Numbers> Work<L, u64> for DrainInner {
     }
 }
 
-/// A workload that replaces two items with two numbers.
-pub struct SpliceTwo;
+// A workload that replaces two items with two numbers.
+struct SpliceTwo;
 
 impl<L: Numbers> Work<L, u64> for SpliceTwo {
     #[inline(always)]
@@ -109,8 +125,8 @@ impl<L: Numbers> Work<L, u64> for SpliceTwo {
     }
 }
 
-/// A workload that replaces the first item with three numbers, and then pops two items.
-pub struct SpliceMore;
+// A workload that replaces the first item with three numbers, and then pops two items.
+struct SpliceMore;
 
 impl<L: Numbers> Work<L, u64> for SpliceMore {
     #[inline(always)]
@@ -121,10 +137,10 @@ impl<L: Numbers> Work<L, u64> for SpliceMore {
     }
 }
 
-/// A workload that replaces two items with four items, and then pops two items. The rounds are
-/// numbered from 0. In rounds with an even number, the replaced items are at the indices 5 and 6.
-/// In the other rounds, they are at the indices 6 and 7.
-pub struct ReplaceMore;
+// A workload that replaces two items with four items, and then pops two items. The rounds are
+// numbered from 0. In rounds with an even number, the replaced items are at the indices 5 and 6.
+// In the other rounds, they are at the indices 6 and 7.
+struct ReplaceMore;
 
 impl<L: Numbers> Work<L, u64> for ReplaceMore {
     #[inline(always)]
@@ -135,9 +151,9 @@ impl<L: Numbers> Work<L, u64> for ReplaceMore {
     }
 }
 
-/// A workload that shrinks the capacity of a list to its length, and then pushes a number. For this
-/// push, the list has to grow. At the end, the workload pops the number again.
-pub struct ShrinkPush;
+// A workload that shrinks the capacity of a list to its length, and then pushes a number. For this
+// push, the list has to grow. At the end, the workload pops the number again.
+struct ShrinkPush;
 
 impl<L: Numbers> Work<L, u64> for ShrinkPush {
     #[inline(always)]
@@ -163,9 +179,9 @@ fn pop_two<L: Numbers>(list: &mut L, sum: u64) -> u64 {
     sum
 }
 
-/// A workload that replaces the middle half of a list of `size` items with `size` numbers. The size
-/// hint of their iterator is exact.
-pub struct SpliceHinted;
+// A workload that replaces the middle half of a list of `size` items with `size` numbers. The size
+// hint of their iterator is exact.
+struct SpliceHinted;
 
 impl<L: Numbers> Work<L, u64> for SpliceHinted {
     #[inline(always)]
@@ -177,9 +193,9 @@ impl<L: Numbers> Work<L, u64> for SpliceHinted {
     }
 }
 
-/// A workload that replaces the middle half of a list of `size` items with `size` numbers. The size
-/// hint of their iterator has a lower bound of 0.
-pub struct SpliceUnhinted;
+// A workload that replaces the middle half of a list of `size` items with `size` numbers. The size
+// hint of their iterator has a lower bound of 0.
+struct SpliceUnhinted;
 
 impl<L: Numbers> Work<L, u64> for SpliceUnhinted {
     #[inline(always)]

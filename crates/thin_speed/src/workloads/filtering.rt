@@ -1,12 +1,45 @@
 //! Workloads that remove items, using `retain`, `dedup`, `dedup_by_key` or `extract_if`.
-use crate::lists::{Filtered, List, Numbers};
-use crate::numbers::{Item, Outcome, Pick};
-use crate::workloads::shapes::Work;
+use crate::lists::{Family, Filtered, List, Numbers};
+use crate::numbers::{
+    All, Even, InARun, InTurn, Item, NotOne, Nothing, Outcome, Pairs, Pick, Random,
+};
+use crate::workloads::shapes::{Work, refilled};
 use std::alloc::Global;
 use std::marker::PhantomData;
 
-/// A workload that keeps only the items that `P` picks, using `retain`.
-pub struct Retain<P> {
+/// Runs the workload with the name `workload`, as `workloads::run` does. Returns `None` if this
+/// module has no such workload.
+///
+/// # Errors
+///
+/// Fails if there is not enough memory.
+pub fn run<F: Family>(alloc: Global, workload: &str, size: usize, times: usize) -> Option<Outcome> {
+    Some(match workload {
+        "retain_half" => refilled::<F::Numbers, _, InTurn, Retain<Even>>(alloc, size, times),
+        "retain_random" => refilled::<F::Numbers, _, InTurn, Retain<Random>>(alloc, size, times),
+        "retain_but_one" => refilled::<F::Numbers, _, InTurn, Retain<NotOne>>(alloc, size, times),
+        "retain_all" => refilled::<F::Numbers, _, InTurn, Retain<All>>(alloc, size, times),
+        "retain_none" => refilled::<F::Numbers, _, InTurn, Retain<Nothing>>(alloc, size, times),
+        "retain_half_u128" => refilled::<F::Sixteens, _, InTurn, Retain<Even>>(alloc, size, times),
+        "retain_all_u128" => refilled::<F::Sixteens, _, InTurn, Retain<All>>(alloc, size, times),
+        "wide_half" => refilled::<F::Wides, _, InTurn, Retain<Even>>(alloc, size, times),
+        "wide_runs" => refilled::<F::Wides, _, InTurn, Retain<InARun>>(alloc, size, times),
+        "wide_all" => refilled::<F::Wides, _, InTurn, Retain<All>>(alloc, size, times),
+        "dedup" => refilled::<F::Numbers, _, Pairs, Dedup>(alloc, size, times),
+        "dedup_by_key" => refilled::<F::Numbers, _, InTurn, DedupByKey>(alloc, size, times),
+        "extract_if" => refilled::<F::Numbers, _, InTurn, Extract<Even>>(alloc, size, times),
+        "extract_random" => refilled::<F::Numbers, _, InTurn, Extract<Random>>(alloc, size, times),
+        "extract_most" => refilled::<F::Numbers, _, InTurn, Extract<NotOne>>(alloc, size, times),
+        "extract_u128" => refilled::<F::Sixteens, _, InTurn, Extract<Even>>(alloc, size, times),
+        "extract_most_u128" => {
+            refilled::<F::Sixteens, _, InTurn, Extract<NotOne>>(alloc, size, times)
+        }
+        _ => return None,
+    })
+}
+
+// A workload that keeps only the items that `P` picks, using `retain`.
+struct Retain<P> {
     picks: PhantomData<P>,
 }
 
@@ -18,8 +51,8 @@ impl<L: List<T>, T: Item, P: Pick> Work<L, T> for Retain<P> {
     }
 }
 
-/// A workload that removes the second item of each pair of equal neighbors, using `dedup`.
-pub struct Dedup;
+// A workload that removes the second item of each pair of equal neighbors, using `dedup`.
+struct Dedup;
 
 impl<L: Numbers> Work<L, u64> for Dedup {
     #[inline(always)]
@@ -29,9 +62,9 @@ impl<L: Numbers> Work<L, u64> for Dedup {
     }
 }
 
-/// A workload that removes every second item, using `dedup_by_key`. The key of an item is half of
-/// the item, rounded down.
-pub struct DedupByKey;
+// A workload that removes every second item, using `dedup_by_key`. The key of an item is half of
+// the item, rounded down.
+struct DedupByKey;
 
 impl<L: Numbers> Work<L, u64> for DedupByKey {
     #[inline(always)]
@@ -41,8 +74,8 @@ impl<L: Numbers> Work<L, u64> for DedupByKey {
     }
 }
 
-/// A workload that extracts the items that `P` picks, using `extract_if`.
-pub struct Extract<P> {
+// A workload that extracts the items that `P` picks, using `extract_if`.
+struct Extract<P> {
     picks: PhantomData<P>,
 }
 

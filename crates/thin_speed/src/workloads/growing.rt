@@ -1,18 +1,66 @@
 //! Workloads in which a list grows, is refilled, or is read to its end.
-use crate::lists::{List, Numbers};
-use crate::numbers::{Item, Outcome, Source, Unhinted, mixed, seen};
-use crate::workloads::shapes::{Make, filled};
+use crate::lists::{Family, List, Numbers};
+use crate::numbers::{InTurn, Item, Outcome, Pairs, Source, Unhinted, mixed, seen};
+use crate::workloads::shapes::{Idle, Make, filled, made_anew, refilled};
 use std::alloc::{AllocError, Global};
 use std::io::Write;
 
-/// In each of `times` rounds, makes a new list, and pushes `size` items onto it. The list has the
-/// capacity `size` from the start if `RESERVED` is true.
+/// Runs the workload with the name `workload`, as `workloads::run` does. Returns `None` if this
+/// module has no such workload.
 ///
 /// # Errors
 ///
 /// Fails if there is not enough memory.
+pub fn run<F: Family>(alloc: Global, workload: &str, size: usize, times: usize) -> Option<Outcome> {
+    if let Some(outcome) = run_push::<F>(alloc, workload, size, times) {
+        return Some(outcome);
+    }
+    Some(match workload {
+        "extend_hinted" => made_anew::<F::Numbers, ExtendHinted>(alloc, size, times),
+        "extend_unhinted" => made_anew::<F::Numbers, ExtendUnhinted>(alloc, size, times),
+        "extend_filter" => made_anew::<F::Numbers, ExtendFilter>(alloc, size, times),
+        "collect_few" => made_anew::<F::Numbers, Collect>(alloc, size, times),
+        "extend_slice" => made_anew::<F::Numbers, ExtendSlice>(alloc, size, times),
+        "resize" => made_anew::<F::Numbers, Resize>(alloc, size, times),
+        "clone" => made_anew::<F::Numbers, Copied>(alloc, size, times),
+        "write_five" => write_five::<F::Bytes>(alloc, size, times),
+        "into_iter" => into_iter::<F::Numbers>(alloc, size, times),
+        "refill" => refilled::<F::Numbers, _, InTurn, Idle>(alloc, size, times),
+        "refill_u128" => refilled::<F::Sixteens, _, InTurn, Idle>(alloc, size, times),
+        "refill_pairs" => refilled::<F::Numbers, _, Pairs, Idle>(alloc, size, times),
+        "refill_wide" => refilled::<F::Wides, _, InTurn, Idle>(alloc, size, times),
+        _ => return None,
+    })
+}
+
+// Runs a workload that pushes items.
+fn run_push<F: Family>(
+    alloc: Global,
+    workload: &str,
+    size: usize,
+    times: usize,
+) -> Option<Outcome> {
+    Some(match workload {
+        "push" => push::<F::Numbers, _, InTurn, false>(alloc, size, times),
+        "push_u8" => push::<F::Bytes, _, InTurn, false>(alloc, size, times),
+        "push_u16" => push::<F::Pairs, _, InTurn, false>(alloc, size, times),
+        "push_u32" => push::<F::Style, _, InTurn, false>(alloc, size, times),
+        "push_u128" => push::<F::Sixteens, _, InTurn, false>(alloc, size, times),
+        "push_triples" => push::<F::Triples, _, InTurn, false>(alloc, size, times),
+        "push_wide" => push::<F::Wides, _, InTurn, false>(alloc, size, times),
+        "push_strings" => push::<F::Strings, _, InTurn, false>(alloc, size, times),
+        "push_reserved" => push::<F::Numbers, _, InTurn, true>(alloc, size, times),
+        "push_reserved_24" => push::<F::Triples, _, InTurn, true>(alloc, size, times),
+        "push_reserved_48" => push::<F::Sixes, _, InTurn, true>(alloc, size, times),
+        "push_pop" => push_pop::<F::Numbers>(alloc, size, times),
+        _ => return None,
+    })
+}
+
+// In each of `times` rounds, makes a new list, and pushes `size` items onto it. The list has the
+// capacity `size` from the start if `RESERVED` is true.
 #[inline(never)]
-pub fn push<L: List<T>, T: Item, S: Source<T>, const RESERVED: bool>(
+fn push<L: List<T>, T: Item, S: Source<T>, const RESERVED: bool>(
     alloc: Global,
     size: usize,
     times: usize,
@@ -32,14 +80,10 @@ pub fn push<L: List<T>, T: Item, S: Source<T>, const RESERVED: bool>(
     Ok(sum)
 }
 
-/// In each of `times` rounds, makes a new list, pushes `size` numbers onto it, and then pops all of
-/// them.
-///
-/// # Errors
-///
-/// Fails if there is not enough memory.
+// In each of `times` rounds, makes a new list, pushes `size` numbers onto it, and then pops all of
+// them.
 #[inline(never)]
-pub fn push_pop<L: Numbers>(alloc: Global, size: usize, times: usize) -> Outcome {
+fn push_pop<L: Numbers>(alloc: Global, size: usize, times: usize) -> Outcome {
     let mut sum = 0;
     for _ in 0..times {
         let mut list = L::new(alloc);
@@ -55,8 +99,8 @@ pub fn push_pop<L: Numbers>(alloc: Global, size: usize, times: usize) -> Outcome
     Ok(sum)
 }
 
-/// A workload that extends a new list with numbers from an iterator whose size hint is exact.
-pub struct ExtendHinted;
+// A workload that extends a new list with numbers from an iterator whose size hint is exact.
+struct ExtendHinted;
 
 impl<L: Numbers> Make<L> for ExtendHinted {
     #[inline(always)]
@@ -67,9 +111,9 @@ impl<L: Numbers> Make<L> for ExtendHinted {
     }
 }
 
-/// A workload that extends a new list with numbers from an iterator whose size hint has a lower
-/// bound of 0.
-pub struct ExtendUnhinted;
+// A workload that extends a new list with numbers from an iterator whose size hint has a lower
+// bound of 0.
+struct ExtendUnhinted;
 
 impl<L: Numbers> Make<L> for ExtendUnhinted {
     #[inline(always)]
@@ -80,9 +124,9 @@ impl<L: Numbers> Make<L> for ExtendUnhinted {
     }
 }
 
-/// A workload that extends a new list with the even numbers of a slice. The iterator skips the odd
-/// numbers.
-pub struct ExtendFilter;
+// A workload that extends a new list with the even numbers of a slice. The iterator skips the odd
+// numbers.
+struct ExtendFilter;
 
 impl<L: Numbers> Make<L> for ExtendFilter {
     #[inline(always)]
@@ -94,8 +138,8 @@ impl<L: Numbers> Make<L> for ExtendFilter {
     }
 }
 
-/// A workload that collects the items of an iterator into a new list.
-pub struct Collect;
+// A workload that collects the items of an iterator into a new list.
+struct Collect;
 
 impl<L: Numbers> Make<L> for Collect {
     #[inline(always)]
@@ -104,8 +148,8 @@ impl<L: Numbers> Make<L> for Collect {
     }
 }
 
-/// A workload that extends a new list with copies of the items of a slice, in one call.
-pub struct ExtendSlice;
+// A workload that extends a new list with copies of the items of a slice, in one call.
+struct ExtendSlice;
 
 impl<L: Numbers> Make<L> for ExtendSlice {
     #[inline(always)]
@@ -116,8 +160,8 @@ impl<L: Numbers> Make<L> for ExtendSlice {
     }
 }
 
-/// A workload that resizes a new list to the length `size`.
-pub struct Resize;
+// A workload that resizes a new list to the length `size`.
+struct Resize;
 
 impl<L: Numbers> Make<L> for Resize {
     #[inline(always)]
@@ -128,8 +172,8 @@ impl<L: Numbers> Make<L> for Resize {
     }
 }
 
-/// A workload that makes a copy of a list.
-pub struct Copied;
+// A workload that makes a copy of a list.
+struct Copied;
 
 impl<L: Numbers> Make<L> for Copied {
     #[inline(always)]
@@ -138,14 +182,10 @@ impl<L: Numbers> Make<L> for Copied {
     }
 }
 
-/// In each of `times` rounds, makes a new list of bytes and calls `write_all` `size` times. Each of
-/// these calls appends five bytes to the list.
-///
-/// # Errors
-///
-/// Fails if there is not enough memory.
+// In each of `times` rounds, makes a new list of bytes and calls `write_all` `size` times. Each of
+// these calls appends five bytes to the list.
 #[inline(never)]
-pub fn write_five<L: List<u8> + Write>(alloc: Global, size: usize, times: usize) -> Outcome {
+fn write_five<L: List<u8> + Write>(alloc: Global, size: usize, times: usize) -> Outcome {
     let mut sum = 0;
     for _ in 0..times {
         let mut list = L::new(alloc);
@@ -159,14 +199,10 @@ pub fn write_five<L: List<u8> + Write>(alloc: Global, size: usize, times: usize)
     Ok(sum)
 }
 
-/// In each of `times` rounds, fills a list with `size` numbers, and then consumes the list from the
-/// front, using `into_iter`.
-///
-/// # Errors
-///
-/// Fails if there is not enough memory.
+// In each of `times` rounds, fills a list with `size` numbers, and then consumes the list from the
+// front, using `into_iter`.
 #[inline(never)]
-pub fn into_iter<L: Numbers>(alloc: Global, size: usize, times: usize) -> Outcome {
+fn into_iter<L: Numbers>(alloc: Global, size: usize, times: usize) -> Outcome {
     let mut sum = 0;
     for _ in 0..times {
         let list: L = filled(alloc, size)?;

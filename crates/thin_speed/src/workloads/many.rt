@@ -3,13 +3,27 @@ use crate::lists::{Family, List};
 use crate::numbers::{Outcome, mixed};
 use std::alloc::{AllocError, Global};
 
-/// In each of `times` rounds, makes a list of `size` empty lists, and reads all of them.
+/// Runs the workload with the name `workload`, as `workloads::run` does. Returns `None` if this
+/// module has no such workload.
 ///
 /// # Errors
 ///
 /// Fails if there is not enough memory.
+pub fn run<F: Family>(alloc: Global, workload: &str, size: usize, times: usize) -> Option<Outcome> {
+    Some(match workload {
+        "empty_lists" => empty_lists::<F::Lists, F::Numbers>(alloc, size, times),
+        "sparse_lists" => sparse_lists::<F::Lists, F::Numbers>(alloc, size, times),
+        "styles" => styles::<F::Styles, F::Style>(alloc, size, times),
+        "undo" => undo::<F::Steps, F::Bytes>(alloc, size, times),
+        "tree" => tree::<F>(alloc, size, 10, times),
+        "leaves" => tree::<F>(alloc, 1, size, times),
+        _ => return None,
+    })
+}
+
+// In each of `times` rounds, makes a list of `size` empty lists, and reads all of them.
 #[inline(never)]
-pub fn empty_lists<L: List<N>, N: List<u64>>(alloc: Global, size: usize, times: usize) -> Outcome {
+fn empty_lists<L: List<N>, N: List<u64>>(alloc: Global, size: usize, times: usize) -> Outcome {
     let mut sum = 0;
     for _ in 0..times {
         let mut lists = L::new(alloc);
@@ -21,14 +35,10 @@ pub fn empty_lists<L: List<N>, N: List<u64>>(alloc: Global, size: usize, times: 
     Ok(sum)
 }
 
-/// In each of `times` rounds, makes a list of `size` lists, and reads all of them. Every sixteenth
-/// of these lists has three items, and the others are empty.
-///
-/// # Errors
-///
-/// Fails if there is not enough memory.
+// In each of `times` rounds, makes a list of `size` lists, and reads all of them. Every sixteenth
+// of these lists has three items, and the others are empty.
 #[inline(never)]
-pub fn sparse_lists<L: List<N>, N: List<u64>>(alloc: Global, size: usize, times: usize) -> Outcome {
+fn sparse_lists<L: List<N>, N: List<u64>>(alloc: Global, size: usize, times: usize) -> Outcome {
     let mut sum = 0;
     for _ in 0..times {
         let mut lists = L::new(alloc);
@@ -57,14 +67,10 @@ fn items_of<L: List<u64>>(lists: &[L]) -> u64 {
     sum
 }
 
-/// In each of `times` rounds, makes a list of `size` styles, and counts the styles that equal the
-/// preceding style. A style is a list of at most four rules.
-///
-/// # Errors
-///
-/// Fails if there is not enough memory.
+// In each of `times` rounds, makes a list of `size` styles, and counts the styles that equal the
+// preceding style. A style is a list of at most four rules.
 #[inline(never)]
-pub fn styles<L: List<S>, S: List<u32>>(alloc: Global, size: usize, times: usize) -> Outcome {
+fn styles<L: List<S>, S: List<u32>>(alloc: Global, size: usize, times: usize) -> Outcome {
     let mut sum = 0;
     for _ in 0..times {
         let mut styles = L::new(alloc);
@@ -100,14 +106,10 @@ fn repeated<S: List<u32>>(styles: &[S]) -> u64 {
     same
 }
 
-/// In each of `times` rounds, pushes `size` steps onto a list. After every fifth push, pops the
-/// step that was pushed last. A step is a list of two bytes.
-///
-/// # Errors
-///
-/// Fails if there is not enough memory.
+// In each of `times` rounds, pushes `size` steps onto a list. After every fifth push, pops the
+// step that was pushed last. A step is a list of two bytes.
 #[inline(never)]
-pub fn undo<L: List<B>, B: List<u8>>(alloc: Global, size: usize, times: usize) -> Outcome {
+fn undo<L: List<B>, B: List<u8>>(alloc: Global, size: usize, times: usize) -> Outcome {
     let mut steps = L::new(alloc);
     let mut sum = 0;
     for _ in 0..times {
@@ -127,14 +129,10 @@ pub fn undo<L: List<B>, B: List<u8>>(alloc: Global, size: usize, times: usize) -
     Ok(sum)
 }
 
-/// In each of `times` rounds, builds a tree of depth `depth`, and visits all its nodes. Each node
-/// that is not a leaf has `width` children.
-///
-/// # Errors
-///
-/// Fails if there is not enough memory.
+// In each of `times` rounds, builds a tree of depth `depth`, and visits all its nodes. Each node
+// that is not a leaf has `width` children.
 #[inline(never)]
-pub fn tree<F: Family>(alloc: Global, depth: usize, width: usize, times: usize) -> Outcome {
+fn tree<F: Family>(alloc: Global, depth: usize, width: usize, times: usize) -> Outcome {
     let mut sum = 0;
     for _ in 0..times {
         sum = mixed(sum, F::tree(alloc, depth, width)?);
