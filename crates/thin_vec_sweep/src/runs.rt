@@ -208,8 +208,6 @@ pub fn is_right<T: Numbered, G: Growth>(
     let mut replies = Vec::new(alloc);
     ledger.begin(refused);
     let ran = run(alloc, list, commands, &mut replies, &Digits { digits });
-    let requests = alloc.requests();
-    let was_refused = 0 < refused && refused <= requests;
     let (cause, shown) = match replies.as_slice() {
         [reply] => (reply.refusal(), blocks_in(reply)),
         _ => (ran.err(), 0),
@@ -219,13 +217,24 @@ pub fn is_right<T: Numbered, G: Growth>(
         .wrapping_add(shown)
         .wrapping_add(ledger.clones.get())
         .wrapping_add(1);
-    let is_right = match cause {
-        None => !was_refused && (is_filling || requests == done),
-        Some(ThinVecError::CapacityOverflow) => !was_refused && (is_filling || requests == 1),
-        Some(ThinVecError::OutOfMemory) => was_refused && requests == refused,
-    };
+    let due = if is_filling { None } else { Some(done) };
     drop(replies);
-    Ok(is_right && is_clean::<T>(ledger, list.len(), list.capacity()))
+    Ok(
+        is_due(cause, alloc.requests(), refused, due)
+            && is_clean::<T>(ledger, list.len(), list.capacity()),
+    )
+}
+
+// Returns whether a command that failed with `cause`, or did not fail, may have made so many
+// requests, if request number `refused` was to be refused. A command that does not fail makes `due`
+// requests, if this number is known.
+fn is_due(cause: Option<ThinVecError>, requests: u64, refused: u64, due: Option<u64>) -> bool {
+    let was_refused = 0 < refused && refused <= requests;
+    match cause {
+        None => !was_refused && requests == due.unwrap_or(requests),
+        Some(ThinVecError::CapacityOverflow) => !was_refused && (due.is_none() || requests == 1),
+        Some(ThinVecError::OutOfMemory) => was_refused && requests == refused,
+    }
 }
 
 // Returns whether exactly `items` items exist, and one block if `capacity` is not 0.

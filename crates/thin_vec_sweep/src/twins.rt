@@ -16,17 +16,13 @@ struct Twins {
     count: u64,
 }
 
-// Whether the two calls returned the same.
-type Same = Result<bool, AllocError>;
-
 /// Compares the two kinds of lists after each call, for several lengths and arguments.
 pub fn assert_twins_agree<R: Abort>(rt: &R, alloc: Global) {
     for length in [0, 1, 2, 3, 4, 8, 33, 300] {
         for argument in 0..27 {
             for call in 0..CALLS {
-                let same = agree(alloc, length, argument, call);
                 assert!(rt;
-                    same.ok() == Some(true),
+                    agree(alloc, length, argument, call),
                     "call {call} of {length} items, argument {argument}"
                 );
             }
@@ -34,8 +30,8 @@ pub fn assert_twins_agree<R: Abort>(rt: &R, alloc: Global) {
     }
 }
 
-// Makes the call on both, and returns whether they agree.
-fn agree(alloc: Global, length: u64, argument: usize, call: usize) -> Same {
+// Makes the call on both, and returns whether they agree. They do not if a call fails.
+fn agree(alloc: Global, length: u64, argument: usize, call: usize) -> bool {
     let parts = [0, length / 3, length];
     let (one, two) = (parts[argument % 3], parts[argument / 3 % 3]);
     let mut twins = Twins {
@@ -48,17 +44,20 @@ fn agree(alloc: Global, length: u64, argument: usize, call: usize) -> Same {
     };
     for number in 0..length {
         let item = (number / 2).wrapping_mul(11) % 64;
-        twins.list.push(item)?;
-        twins.vec.push(item)?;
+        if twins.list.push(item).is_err() || twins.vec.push(item).is_err() {
+            return false;
+        }
     }
     let same = match call {
-        0..12 => twins.add(call)?,
+        0..4 => twins.add(call),
+        4..8 => twins.lengthen(call),
+        8..12 => twins.append(call),
         12..18 => twins.remove(call),
         18..25 => twins.filter(call),
-        25..28 => twins.replace(call)?,
-        _ => twins.make(call)?,
+        25..29 => twins.replace(call),
+        _ => twins.make(call).unwrap_or(false),
     };
-    Ok(same && twins.list.as_slice() == twins.vec.as_slice())
+    same && twins.list.as_slice() == twins.vec.as_slice()
 }
 
 // The number of calls.
@@ -67,83 +66,98 @@ const CALLS: usize = 34;
 impl Twins {
     // Returns new items.
     fn items(&self) -> Result<Vec<u64>, AllocError> {
-        let mut items = Vec::new(self.alloc);
-        for item in 0..self.count {
-            items.push(item)?;
-        }
-        Ok(items)
+        (0..self.count).collect(self.alloc)
     }
 
-    // Makes a call that adds items, or changes the capacity.
-    fn add(&mut self, call: usize) -> Same {
-        let (start, end) = (self.start, self.end);
-        if start > end || end > self.list.len() || end > self.vec.len() {
-            return Ok(false);
+    // Makes a call that adds an item.
+    fn add(&mut self, call: usize) -> bool {
+        let start = self.start;
+        if start > self.list.len() || start > self.vec.len() {
+            return false;
         }
-        let len = end.saturating_add(1);
-        let items = self.items()?;
         match call {
-            0 => {
-                self.list.push(7)?;
-                self.vec.push(7)?;
-            }
-            1 => {
-                *self.list.push_mut(7)? = 8;
-                *self.vec.push_mut(7)? = 8;
-            }
-            2 => {
-                self.list.insert(start, 7)?;
-                self.vec.insert(start, 7)?;
-            }
-            3 => {
-                *self.list.insert_mut(start, 7)? = 8;
-                *self.vec.insert_mut(start, 7)? = 8;
-            }
-            4 => {
-                self.list.resize(len, 7)?;
-                self.vec.resize(len, 7)?;
-            }
+            0 => self.list.push(7).is_ok() && self.vec.push(7).is_ok(),
+            1 => match (self.list.push_mut(7), self.vec.push_mut(7)) {
+                (Ok(one), Ok(two)) => {
+                    *one = 8;
+                    *two = 8;
+                    true
+                }
+                _ => false,
+            },
+            2 => self.list.insert(start, 7).is_ok() && self.vec.insert(start, 7).is_ok(),
+            _ => match (
+                self.list.insert_mut(start, 7),
+                self.vec.insert_mut(start, 7),
+            ) {
+                (Ok(one), Ok(two)) => {
+                    *one = 8;
+                    *two = 8;
+                    true
+                }
+                _ => false,
+            },
+        }
+    }
+
+    // Makes a call that appends several items, or that gives the list a length.
+    fn lengthen(&mut self, call: usize) -> bool {
+        let len = self.end.saturating_add(1);
+        let Ok(items) = self.items() else {
+            return false;
+        };
+        match call {
+            4 => self.list.resize(len, 7).is_ok() && self.vec.resize(len, 7).is_ok(),
             5 => {
                 let (mut one, mut two) = (0_u64, 0_u64);
-                self.list.resize_with(len, || {
+                let first = self.list.resize_with(len, || {
                     one = one.wrapping_add(3);
                     one
-                })?;
-                self.vec.resize_with(len, || {
+                });
+                let second = self.vec.resize_with(len, || {
                     two = two.wrapping_add(3);
                     two
-                })?;
+                });
+                first.is_ok() && second.is_ok()
             }
             6 => {
-                self.list.extend_from_slice(items.as_slice())?;
-                self.vec.extend_from_slice(items.as_slice())?;
-            }
-            7 => {
-                self.list.extend_from_copies(items.as_slice())?;
-                self.vec.extend_from_slice(items.as_slice())?;
-            }
-            8 => {
-                self.list.extend_from_within(start, end)?;
-                self.vec.extend_from_within(start..end)?;
-            }
-            9 => {
-                let mut more = self.items()?;
-                self.list.extend(0..self.count)?;
-                self.vec.append(&mut more)?;
-            }
-            10 => {
-                let mut more = self.items()?;
-                let mut other = ThinVec::from_slice(self.alloc, items.as_slice())?;
-                self.list.append(&mut other)?;
-                self.vec.append(&mut more)?;
-                return Ok(other.is_empty());
+                self.list.extend_from_slice(items.as_slice()).is_ok()
+                    && self.vec.extend_from_slice(items.as_slice()).is_ok()
             }
             _ => {
-                self.list.reserve(self.count as usize)?;
-                self.list.shrink_to_fit()?;
+                self.list.extend_from_copies(items.as_slice()).is_ok()
+                    && self.vec.extend_from_slice(items.as_slice()).is_ok()
             }
         }
-        Ok(true)
+    }
+
+    // Makes a call that appends items of a range, an iterator or a list, or changes the capacity.
+    fn append(&mut self, call: usize) -> bool {
+        let (start, end) = (self.start, self.end);
+        if start > end || end > self.list.len() || end > self.vec.len() {
+            return false;
+        }
+        let Ok(mut more) = self.items() else {
+            return false;
+        };
+        match call {
+            8 => {
+                self.list.extend_from_within(start, end).is_ok()
+                    && self.vec.extend_from_within(start..end).is_ok()
+            }
+            9 => self.list.extend(0..self.count).is_ok() && self.vec.append(&mut more).is_ok(),
+            10 => match ThinVec::from_slice(self.alloc, more.as_slice()) {
+                Ok(mut other) => {
+                    self.list.append(&mut other).is_ok()
+                        && self.vec.append(&mut more).is_ok()
+                        && other.is_empty()
+                }
+                Err(_refused) => false,
+            },
+            _ => {
+                self.list.reserve(self.count as usize).is_ok() && self.list.shrink_to_fit().is_ok()
+            }
+        }
     }
 
     // Makes a call that removes items at given places.
@@ -237,41 +251,42 @@ impl Twins {
     }
 
     // Makes a call that replaces a range.
-    fn replace(&mut self, call: usize) -> Same {
-        let items = self.items()?;
-        let mut other = ThinVec::from_slice(self.alloc, items.as_slice())?;
-        let (start, end) = (self.start, self.end);
+    fn replace(&mut self, call: usize) -> bool {
+        let (alloc, start, end) = (self.alloc, self.start, self.end);
         if start > end || end > self.list.len() || end > self.vec.len() {
-            return Ok(false);
+            return false;
         }
-        match call {
-            25 => self.list.replace_range(start, end, items.as_slice())?,
+        let Ok(items) = self.items() else {
+            return false;
+        };
+        let Ok(mut other) = ThinVec::from_slice(alloc, items.as_slice()) else {
+            return false;
+        };
+        let done = match call {
+            25 => self
+                .list
+                .replace_range(start, end, items.as_slice())
+                .is_ok(),
             26 => self
                 .list
-                .replace_range_from_copies(start, end, items.as_slice())?,
-            _ => self.list.replace_range_from_list(start, end, &mut other)?,
-        }
-        drop(self.vec.splice(start..end, items)?);
-        Ok(true)
-    }
-
-    fn splice(&mut self) -> Same {
-        let items = self.items()?;
-        let (start, end) = (self.start, self.end);
-        if start > end || end > self.list.len() || end > self.vec.len() {
-            return Ok(false);
-        }
-        let splice = self.list.splice(start, end, 0..self.count);
-        splice.finish(self.alloc)?;
-        drop(self.vec.splice(start..end, items)?);
-        Ok(true)
+                .replace_range_from_copies(start, end, items.as_slice())
+                .is_ok(),
+            27 => self
+                .list
+                .replace_range_from_list(start, end, &mut other)
+                .is_ok(),
+            _ => {
+                let splice = self.list.splice(start, end, 0..self.count);
+                splice.finish(alloc).is_ok()
+            }
+        };
+        done && self.vec.splice(start..end, items).is_ok()
     }
 
     // Makes a call that makes another list, which takes the place of the list.
-    fn make(&mut self, call: usize) -> Same {
+    fn make(&mut self, call: usize) -> Result<bool, AllocError> {
         let (alloc, start) = (self.alloc, self.start);
         match call {
-            28 => return self.splice(),
             29 => {
                 if start > self.list.len() || start > self.vec.len() {
                     return Ok(false);

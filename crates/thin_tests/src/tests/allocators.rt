@@ -90,12 +90,16 @@ fn owning_list(
 }
 
 // Ends the list by one of thirteen calls, of which some take the allocator `alloc`. Drops the result.
-fn end(
-    call: u32,
-    mut list: ThinVec<u128, Owned>,
-    alloc: Owned,
-    global: Global,
-) -> Result<(), Fail> {
+fn end(call: u32, list: ThinVec<u128, Owned>, alloc: Owned, global: Global) -> Result<(), Fail> {
+    match call {
+        0..5 => end_alone(call, list),
+        5..9 => convert(call, list, alloc),
+        _ => finish(call, list, alloc, global),
+    }
+}
+
+// Ends the list by a call that takes no allocator.
+fn end_alone(call: u32, mut list: ThinVec<u128, Owned>) -> Result<(), Fail> {
     match call {
         0 => drop(list),
         1 => drop(list.into_iter()),
@@ -104,16 +108,22 @@ fn end(
             drop(rest.next());
             drop(rest.next_back());
         }
-        3 => drop(list.into_vec(alloc)?),
-        4 => drop(list.into_boxed_slice(alloc)?),
-        5 => drop(list.into_array::<40>().is_ok()),
-        6 => {
+        3 => drop(list.into_array::<40>().is_ok()),
+        _ => {
             list.clear();
             list.shrink_to_fit()?;
         }
+    }
+    Ok(())
+}
+
+// Makes something of the list by a call that takes an allocator.
+fn convert(call: u32, mut list: ThinVec<u128, Owned>, alloc: Owned) -> Result<(), Fail> {
+    match call {
+        5 => drop(list.into_vec(alloc)?),
+        6 => drop(list.into_boxed_slice(alloc)?),
         7 => drop(list.split_off(alloc, 0)?),
-        8 => drop(list.clone(alloc)?),
-        _ => finish(call, list, alloc, global)?,
+        _ => drop(list.clone(alloc)?),
     }
     Ok(())
 }

@@ -61,12 +61,10 @@ fn repeat_in<T: Numbered>(case: &mut Case<T, Doubling>) -> Answer {
 }
 
 fn list_items<T: Numbered, R: Abort>(rt: &R, case: &mut Case<T, Doubling>) -> Answer {
-    let (a, b, c, d) = (case.item(), case.item(), case.item(), case.item());
-    let (e, f, g, h) = (case.item(), case.item(), case.item(), case.item());
-    let (i, j, k, l) = (case.item(), case.item(), case.item(), case.item());
-    case.begin("thin_vec![a => .., ..] of twelve items");
-    let list = thin_vec![&case.ledger.alloc => a, b, c, d, e, f, g, h, i, j, k, l]?;
-    case.assert_same(rt, "capacity", list.capacity(), 12);
+    let (x, y) = (case.item(), case.item());
+    case.begin("thin_vec![a => x, y]");
+    let list = thin_vec![&case.ledger.alloc => x, y]?;
+    case.assert_same(rt, "capacity", list.capacity(), 2);
     Ok(Due::block_of(list.len()))
 }
 
