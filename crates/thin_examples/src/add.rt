@@ -1,5 +1,5 @@
 //! Examples that add items to a list.
-ghost use Rattle.std.specs.Prelude.{◌≡◌, ◌+◌, ◌*◌, ◌<◌, ◌≤◌, ◌++◌, [], ◌∷◌, IfErr, IfNone, IfOk, IfSome, IsErrOf, IsNone, IsOk, IsTrue, None, OnErr, OnOk, OnSome, filter, length, map, nat_lt, take};
+ghost use Rattle.std.specs.Prelude.{◌≡◌, ◌+◌, ◌*◌, ◌<◌, ◌≤◌, ◌++◌, [], ◌∷◌, IfErr, IfNone, IfOk, IfSome, IsErrOf, IsNone, IsOk, IsTrue, None, OnErr, OnOk, OnSome, filter, length, map, max, min, nat_lt, take};
 ghost use Rattle.thin_vec.specs.ThinVec.{HasRoomFor, IsCauseOf, capacity_after_reserve};
 
 use std::alloc::Allocator;
@@ -185,6 +185,24 @@ pub fn reserve_eight<A: Allocator>(list: &mut ThinVec<u64, A>) -> Result<(), Thi
     ensures err { OnErr result (list.new ≡ list.old) }
 {
     list.reserve(8)
+}
+
+/// Gives back the spare capacity beyond room for `room` numbers in all.
+///
+/// # Errors
+///
+/// Fails only if there is such spare capacity and the allocator fails. On failure, the capacity is
+/// unchanged.
+pub fn keep_room<A: Allocator, G: Growth>(
+    list: &mut ThinVec<u64, A, G>,
+    room: usize,
+) -> Result<(), ThinVecError>
+    ensures succeeds { list.old.capacity ≤ max room (length list.old.items) → IsOk result }
+    ensures capacity { OnOk result (list.new.capacity
+        ≡ min list.old.capacity (max room (length list.old.items))) }
+    ensures items { list.new.items ≡ list.old.items }
+{
+    list.shrink_to(room)
 }
 
 /// Inserts `value` at `index`, removes it again, and returns it. By the lemma `undone`, the list

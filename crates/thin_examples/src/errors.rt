@@ -1,10 +1,10 @@
 //! Examples that pass an error on with `?`.
 ghost use Rattle.std.specs.IoError.{error_kind};
-ghost use Rattle.std.specs.Prelude.{◌≡◌, ◌+◌, ◌↔◌, [], ◌∷◌, ◌++◌, ◌<◌, IfErr, IsErrOf, IsOk, OnErr, OnOk, length, take};
+ghost use Rattle.std.specs.Prelude.{◌≡◌, ◌+◌, ◌↔◌, [], ◌∷◌, ◌++◌, ◌<◌, IfErr, IfOk, IsErrOf, IsOk, OnErr, OnOk, length, take};
 ghost use Rattle.thin_vec.specs.ThinVec.{HasRoomFor};
 
 use std::alloc::Allocator;
-use std::io::{self, ErrorKind};
+use std::io::{self, ErrorKind, Write};
 use thin_vec::{Growth, Rejected, ThinVec, ThinVecError};
 use thiserror::Error;
 
@@ -84,4 +84,20 @@ pub fn write_line<A: Allocator, G: Growth>(
     bytes.extend_from_copies(line)?;
     bytes.push(b'\n')?;
     Ok(())
+}
+
+/// Appends `part`, and returns how many bytes it has: a list takes all of them, or none.
+///
+/// # Errors
+///
+/// Fails if there is no room for `part`. On failure, `bytes` is unchanged.
+pub fn write_part<A: Allocator, G: Growth>(
+    bytes: &mut ThinVec<u8, A, G>,
+    part: &[u8],
+) -> io::Result<usize>
+    ensures count { IfOk result (λ count. count ≡ length part.now) }
+    ensures items { OnOk result (bytes.new.items ≡ bytes.old.items ++ part.now) }
+    ensures err { OnErr result (bytes.new ≡ bytes.old) }
+{
+    bytes.write(part)
 }

@@ -23,19 +23,24 @@ use crate::structs::{Page, Style};
 use crate::tree::Node;
 use std::alloc::Global;
 use std::collections::BTreeMap;
+use std::fmt::Debug;
 use std::io;
 use thin_runner::command::Command;
-use thin_vec::{ThinVec, thin_vec};
+use thin_vec::ThinVec;
 
 fn main(rt: HostRuntime) -> io::Result<()> {
     show_common(&rt, rt.alloc())?;
     show_make(&rt, rt.alloc())?;
     show_add(&rt, rt.alloc())?;
+    show_extend(&rt, rt.alloc())?;
     show_remove(&rt, rt.alloc())?;
+    show_take(&rt, rt.alloc())?;
     show_read(&rt, rt.alloc())?;
     show_write(&rt, rt.alloc())?;
     show_replace(&rt, rt.alloc())?;
+    show_splice(&rt, rt.alloc())?;
     show_transfer(&rt, rt.alloc())?;
+    show_divide(&rt, rt.alloc())?;
     show_structs(&rt, rt.alloc())?;
     show_maps(&rt, rt.alloc())?;
     show_errors(&rt, rt.alloc())?;
@@ -46,10 +51,15 @@ fn main(rt: HostRuntime) -> io::Result<()> {
     show_commands(&rt, rt.alloc())
 }
 
+// Prints the name of an example, and a value that the example returned or changed.
+fn show<T: Debug + Drop>(rt: &impl Print, example: &str, value: T) -> io::Result<()> {
+    println!(rt; "{example}: {value:?}")
+}
+
 fn show_common(rt: &impl Print, alloc: Global) -> io::Result<()> {
     let mut list = common::made(alloc)?;
     println!(rt; "made: {list:?}")?;
-    let mut other = thin_vec![alloc => 5, 6]?;
+    let mut other = ThinVec::from_array(alloc, [5, 6])?;
     common::filled(&mut list, &mut other)?;
     println!(rt; "filled: {list:?}")?;
     common::replaced(alloc, &mut list)?;
@@ -61,23 +71,23 @@ fn show_common(rt: &impl Print, alloc: Global) -> io::Result<()> {
 }
 
 fn show_make(rt: &impl Print, alloc: Global) -> io::Result<()> {
-    let joined = make::joined(alloc, &[1, 2], &[3])?;
-    println!(rt; "joined: {joined:?}")?;
-    let zeros = make::zeros(alloc, 3)?;
-    println!(rt; "zeros: {zeros:?}")?;
+    show(rt, "joined", make::joined(alloc, &[1, 2], &[3])?)?;
+    show(rt, "zeros", make::zeros(alloc, 3)?)?;
     let capacity = make::room_for_eight(alloc)?.capacity();
     println!(rt; "room_for_eight: capacity {capacity}")?;
-    let doubled = make::doubled(alloc, &[1, 2, 3])?;
-    println!(rt; "doubled: {doubled:?}")?;
-    let halves = make::halves(alloc, &[6, 7]);
-    println!(rt; "halves: {halves:?}")?;
-    let (list, in_hand, rest) = make::collect_or_keep(alloc, 1_u32..4);
-    let all = in_hand.is_none() && rest.is_none();
-    println!(rt; "collect_or_keep: {list:?}, all collected: {all}")?;
-    let chars = make::chars_of(alloc, "list")?;
-    println!(rt; "chars_of: {chars:?}")?;
-    let mut continued = make::continued(alloc, &joined, &[4])?;
-    println!(rt; "continued: {continued:?}")?;
+    show(rt, "doubled", make::doubled(alloc, &[1, 2, 3])?)?;
+    show(rt, "halves", make::halves(alloc, &[6, 7]))?;
+    show(
+        rt,
+        "collect_or_keep",
+        make::collect_or_keep(alloc, 1_u32..4).0,
+    )?;
+    show(rt, "cloned", make::cloned(alloc, &["a", "b"])?)?;
+    let list = make::unboxed(alloc, [4, 5].to_vec(alloc)?.into_boxed_slice())?;
+    println!(rt; "unboxed: {list:?}, capacity {}", list.capacity())?;
+    show(rt, "chars_of", make::chars_of(alloc, "list")?)?;
+    let mut continued = make::continued(alloc, &ThinVec::from_array(alloc, [1, 2, 3])?, &[4])?;
+    show(rt, "continued", &continued)?;
     let taken = make::take_list(&mut continued)?;
     println!(rt; "take_list: {taken:?}, left {continued:?}")
 }
@@ -87,76 +97,91 @@ fn show_add(rt: &impl Print, alloc: Global) -> io::Result<()> {
     let returned = add::push_or_return(&mut list, 1);
     println!(rt; "push_or_return: {list:?}, returned {returned:?}")?;
     add::push_both(&mut list, 2, 3)?;
-    println!(rt; "push_both: {list:?}")?;
-    let mut first = thin_vec![alloc => 4, 5]?;
-    let mut second = thin_vec![alloc => 6]?;
-    add::append_both(&mut list, &mut first, &mut second)?;
-    println!(rt; "append_both: {list:?}")?;
+    show(rt, "push_both", &list)?;
+    add::append_both(
+        &mut list,
+        &mut ThinVec::from_array(alloc, [4, 5])?,
+        &mut ThinVec::from_array(alloc, [6])?,
+    )?;
+    show(rt, "append_both", list)?;
     let mut text = ThinVec::new(alloc);
     add::append_line(&mut text, b"hi")?;
-    println!(rt; "append_line: {text:?}")?;
-    let mut numbers = thin_vec![alloc => 1]?;
+    show(rt, "append_line", text)?;
+    let mut numbers = ThinVec::from_array(alloc, [1])?;
     add::append_doubled(&mut numbers, &[1, 2, 3])?;
-    println!(rt; "append_doubled: {numbers:?}")?;
-    let mut list = thin_vec![alloc => 1]?;
+    show(rt, "append_doubled", numbers)?;
+    let mut roomy = ThinVec::new(alloc);
+    add::reserve_eight(&mut roomy)?;
+    println!(rt; "reserve_eight: capacity {}", roomy.capacity())?;
+    add::keep_room(&mut roomy, 2)?;
+    println!(rt; "keep_room: capacity {}", roomy.capacity())
+}
+
+fn show_extend(rt: &impl Print, alloc: Global) -> io::Result<()> {
+    let mut list = ThinVec::from_array(alloc, [1])?;
     let all = add::extend_below(&mut list, &[2, 50, 3], 10);
     println!(rt; "extend_below: {list:?}, all appended: {all}")?;
     let count = add::extend_by_number(&mut list, &[4, 5]);
     println!(rt; "extend_by_number: {list:?}, {count} appended")?;
     add::push_set(&mut list, 6)?;
-    println!(rt; "push_set: {list:?}")?;
-    let mut roomy = ThinVec::new(alloc);
-    add::reserve_eight(&mut roomy)?;
-    println!(rt; "reserve_eight: capacity {}", roomy.capacity())?;
-    let back = add::insert_and_remove(&mut list, 0, 7)?;
-    println!(rt; "insert_and_remove: {back}")
+    show(rt, "push_set", &list)?;
+    show(
+        rt,
+        "insert_and_remove",
+        add::insert_and_remove(&mut list, 0, 7)?,
+    )
 }
 
 fn show_remove(rt: &impl Print, alloc: Global) -> io::Result<()> {
-    let mut list = thin_vec![alloc => 1, 2, 3, 4]?;
+    let mut list = ThinVec::from_array(alloc, [1, 2, 3, 4])?;
     remove::keep_even(&mut list);
-    println!(rt; "keep_even: {list:?}")?;
-    let mut list = thin_vec![alloc => 1, 2, 3, 4]?;
+    show(rt, "keep_even", list)?;
+    let mut list = ThinVec::from_array(alloc, [1, 2, 3, 4])?;
     remove::keep_every_second(&mut list);
-    println!(rt; "keep_every_second: {list:?}")?;
-    let mut list = thin_vec![alloc => 1, 1, 2, 2]?;
+    show(rt, "keep_every_second", list)?;
+    let mut list = ThinVec::from_array(alloc, [1, 1, 2, 2])?;
     remove::keep_distinct(&mut list);
-    println!(rt; "keep_distinct: {list:?}")?;
-    let mut list = thin_vec![alloc => 12, 17, 23]?;
+    show(rt, "keep_distinct", list)?;
+    let mut list = ThinVec::from_array(alloc, [12, 17, 23])?;
     remove::keep_tens(&mut list);
-    println!(rt; "keep_tens: {list:?}")?;
-    let mut list = thin_vec![alloc => 12, 22, 23]?;
+    show(rt, "keep_tens", list)?;
+    let mut list = ThinVec::from_array(alloc, [12, 22, 23])?;
     remove::keep_last_digits(&mut list);
-    println!(rt; "keep_last_digits: {list:?}")?;
-    let mut list = thin_vec![alloc => 4, 5, 6]?;
+    show(rt, "keep_last_digits", list)?;
+    let mut list = ThinVec::from_array(alloc, [4, 5, 6])?;
     remove::keep_halves(&mut list);
-    println!(rt; "keep_halves: {list:?}")?;
-    let mut list = thin_vec![alloc => 1, 2]?;
+    show(rt, "keep_halves", list)
+}
+
+fn show_take(rt: &impl Print, alloc: Global) -> io::Result<()> {
+    let mut list = ThinVec::from_array(alloc, [1, 2])?;
     let popped = remove::pop_even(&mut list);
     println!(rt; "pop_even: {popped:?}, left {list:?}")?;
-    let list = thin_vec![alloc => 5, 3, 4]?;
-    println!(rt; "least: {}", remove::least(list, 9))?;
-    let reversed = remove::reversed_singly(thin_vec![alloc => 1, 2, 3]?, alloc)?;
-    println!(rt; "reversed_singly: {reversed:?}")?;
-    let list: ThinVec<u32> = ThinVec::new(alloc);
-    remove::consume_empty(list);
+    show(
+        rt,
+        "least",
+        remove::least(ThinVec::from_array(alloc, [5, 3, 4])?, 9),
+    )?;
+    let reversed = remove::reversed_singly(ThinVec::from_array(alloc, [1, 2, 3])?, alloc)?;
+    show(rt, "reversed_singly", reversed)?;
+    remove::consume_empty(ThinVec::<u32>::new(alloc));
     println!(rt; "consume_empty: done")
 }
 
 fn show_read(rt: &impl Print, alloc: Global) -> io::Result<()> {
-    let list = thin_vec![alloc => 1, 2, 3, 4]?;
+    let list = ThinVec::from_array(alloc, [1, 2, 3, 4])?;
     let neighbours = read::neighbours(&list, 1);
     println!(rt; "neighbours: {neighbours:?}")?;
     println!(rt; "run_end: {}", read::run_end(&list, 1, 2))?;
     println!(rt; "count_even: {}", read::count_even(&list))?;
-    let other = make::joined(alloc, &[1, 2], &[3, 4])?;
+    let other = make::joined(alloc, &[1, 2, 3], &[4])?;
     println!(rt; "same_numbers: {}", read::same_numbers(&list, &other))?;
     let same = read::hash_of(&list) == read::hash_of(&other);
     println!(rt; "hash_of: the same: {same}")
 }
 
 fn show_write(rt: &impl Print, alloc: Global) -> io::Result<()> {
-    let mut list = thin_vec![alloc => 12, 20, 40, 8]?;
+    let mut list = ThinVec::from_array(alloc, [12, 20, 40, 8])?;
     let first = write::lower_first(&mut list, 2);
     println!(rt; "lower_first: {list:?}, before: {first}")?;
     write::halve_each(&mut list);
@@ -165,7 +190,7 @@ fn show_write(rt: &impl Print, alloc: Global) -> io::Result<()> {
     println!(rt; "halve_by_index: {list:?}")?;
     write::sort(&mut list);
     println!(rt; "sort: {list:?}")?;
-    let mut list = thin_vec![alloc => 1, 2, 3, 4]?;
+    let mut list = ThinVec::from_array(alloc, [1, 2, 3, 4])?;
     write::set_first(&mut list, 9);
     println!(rt; "set_first: {list:?}")?;
     write::exchange(&mut list, 0, 3);
@@ -177,44 +202,52 @@ fn show_write(rt: &impl Print, alloc: Global) -> io::Result<()> {
 }
 
 fn show_replace(rt: &impl Print, alloc: Global) -> io::Result<()> {
-    let mut text = thin_vec![alloc => 1, 2, 3, 4]?;
+    let mut text = ThinVec::from_array(alloc, [1, 2, 3, 4])?;
     replace::replace_word(&mut text, 1, 3, &[7, 8, 9])?;
-    println!(rt; "replace_word: {text:?}")?;
-    let mut lines = thin_vec![alloc => "a", "b", "c"]?;
-    let mut newer = thin_vec![alloc => "x", "y"]?;
-    replace::replace_lines(&mut lines, 0, 1, &mut newer)?;
-    println!(rt; "replace_lines: {lines:?}")?;
-    let mut names = thin_vec![alloc => 1, 4]?;
+    show(rt, "replace_word", text)?;
+    let mut lines = ThinVec::from_array(alloc, ["a", "b", "c"])?;
+    replace::replace_lines(
+        &mut lines,
+        0,
+        1,
+        &mut ThinVec::from_array(alloc, ["x", "y"])?,
+    )?;
+    show(rt, "replace_lines", lines)?;
+    let mut names = ThinVec::from_array(alloc, [1, 4])?;
     replace::insert_names(&mut names, 1, &[2, 3])?;
-    println!(rt; "insert_names: {names:?}")?;
-    let mut list = thin_vec![alloc => 1, 2, 3, 4, 5]?;
+    show(rt, "insert_names", names)
+}
+
+fn show_splice(rt: &impl Print, alloc: Global) -> io::Result<()> {
+    let mut list = ThinVec::from_array(alloc, [1, 2, 3, 4, 5])?;
     replace::spliced_middle(&mut list, alloc)?;
-    println!(rt; "spliced_middle: {list:?}")?;
-    let mut list = thin_vec![alloc => 1, 2, 3]?;
+    show(rt, "spliced_middle", list)?;
+    let mut list = ThinVec::from_array(alloc, [1, 2, 3])?;
     replace::splice_numbers(&mut list, 0, 2, &[8, 9], alloc)?;
-    println!(rt; "splice_numbers: {list:?}")?;
-    let mut list = thin_vec![alloc => 1, 2, 3]?;
+    show(rt, "splice_numbers", list)?;
+    let mut list = ThinVec::from_array(alloc, [1, 2, 3])?;
     replace::splice_by(&mut list, (1, 1), 7..9, alloc)?;
-    println!(rt; "splice_by: {list:?}")
+    show(rt, "splice_by", list)
 }
 
 fn show_transfer(rt: &impl Print, alloc: Global) -> io::Result<()> {
-    let mut list = thin_vec![alloc => 1, 2, 3, 4]?;
-    let mut other = thin_vec![alloc => 9]?;
+    let mut list = ThinVec::from_array(alloc, [1, 2, 3, 4])?;
+    let mut other = ThinVec::from_array(alloc, [9])?;
     transfer::hand_over(&mut list, 0, 2, &mut other)?;
     println!(rt; "hand_over: {list:?} and {other:?}")?;
-    let mut list = thin_vec![alloc => 1, 2, 3, 4]?;
+    let mut list = ThinVec::from_array(alloc, [1, 2, 3, 4])?;
     transfer::move_range(&mut list, 1, 3, &mut other)?;
     println!(rt; "move_range: {list:?} and {other:?}")?;
-    let mut odd = ThinVec::new(alloc);
-    let mut even = ThinVec::new(alloc);
-    transfer::divide(thin_vec![alloc => 1, 2, 3]?, &mut odd, &mut even)?;
+    show(rt, "moved_to_vec", transfer::moved_to_vec(other, alloc)?)
+}
+
+fn show_divide(rt: &impl Print, alloc: Global) -> io::Result<()> {
+    let (mut odd, mut even) = (ThinVec::new(alloc), ThinVec::new(alloc));
+    transfer::divide(ThinVec::from_array(alloc, [1, 2, 3])?, &mut odd, &mut even)?;
     println!(rt; "divide: {odd:?} and {even:?}")?;
-    let mut list = thin_vec![alloc => 4, 5, 6, 7]?;
+    let mut list = ThinVec::from_array(alloc, [4, 5, 6, 7])?;
     transfer::hand_over_odd(&mut list, &mut odd)?;
-    println!(rt; "hand_over_odd: {list:?} and {odd:?}")?;
-    let vec = transfer::collected(list, alloc)?;
-    println!(rt; "collected: {vec:?}")
+    println!(rt; "hand_over_odd: {list:?} and {odd:?}")
 }
 
 fn show_structs(rt: &impl Print, alloc: Global) -> io::Result<()> {
@@ -225,7 +258,7 @@ fn show_structs(rt: &impl Print, alloc: Global) -> io::Result<()> {
     let renamed = style.renamed(2)?;
     println!(rt; "Style::renamed: {renamed:?}")?;
     println!(rt; "Style::is_same: {}", style.is_same(&renamed))?;
-    let page = Page::new(thin_vec![alloc => 10, 20, 30]?);
+    let page = Page::new(ThinVec::from_array(alloc, [10, 20, 30])?);
     println!(rt; "Page::new: {} lines", page.lines.len())?;
     println!(rt; "Page::after: {}", page.after(1))
 }
@@ -241,12 +274,14 @@ fn show_errors(rt: &impl Print, alloc: Global) -> io::Result<()> {
     let mut orders = ThinVec::new(alloc);
     let refused = errors::take_order(&mut orders, 0);
     println!(rt; "take_order: {refused:?}")?;
-    let mut other = thin_vec![alloc => 6]?;
+    let mut other = ThinVec::from_array(alloc, [6])?;
     let taken = errors::take_orders(&mut orders, &mut other);
     println!(rt; "take_orders: {taken:?}, orders {orders:?}")?;
     let mut bytes = ThinVec::new(alloc);
     errors::write_line(&mut bytes, b"hi")?;
-    println!(rt; "write_line: {bytes:?}")
+    println!(rt; "write_line: {bytes:?}")?;
+    let count = errors::write_part(&mut bytes, b"ab")?;
+    println!(rt; "write_part: {count}")
 }
 
 fn show_tree(rt: &impl Print, alloc: Global) -> io::Result<()> {
@@ -265,6 +300,8 @@ fn show_tables(rt: &impl Print, alloc: Global) -> io::Result<()> {
     println!(rt; "add: {counts:?}")?;
     let count = tables::set_and_read(&mut counts, 2, 8, 7)?;
     println!(rt; "set_and_read: {count:?}")?;
+    let old = tables::set_or_return(&mut counts, 2, 8, 6)?;
+    println!(rt; "set_or_return: {old:?}")?;
     let taken = tables::take(&mut counts, 2, 9);
     println!(rt; "take: {taken}")?;
     println!(rt; "is_row_empty: {}", tables::is_row_empty(&counts, 0))?;
@@ -275,12 +312,12 @@ fn show_tables(rt: &impl Print, alloc: Global) -> io::Result<()> {
 }
 
 fn show_threads(rt: &impl Print, alloc: Global) -> io::Result<()> {
-    let list = threads::send_list(thin_vec![alloc => 1, 2]?);
+    let list = threads::send_list(ThinVec::from_array(alloc, [1, 2])?);
     println!(rt; "send_list: {list:?}")
 }
 
 fn show_costs(rt: &impl Print, alloc: Global) -> io::Result<()> {
-    let mut list = thin_vec![alloc => 1, 2, 3, 4, 5]?;
+    let mut list = ThinVec::from_array(alloc, [1, 2, 3, 4, 5])?;
     let first = costs::removed_first(&mut list);
     println!(rt; "removed_first: {first}, left {list:?}")?;
     let edited = costs::edited(alloc)?;

@@ -1,11 +1,16 @@
 //! Examples that make a list.
+ghost use Rattle.std.specs.Box.{boxed_slice_items};
 ghost use Rattle.std.specs.Iterator.{Drains, IsFinite};
+ghost use Rattle.std.specs.List.{AllZip};
 ghost use Rattle.std.specs.Option.{option_to_list};
 ghost use Rattle.std.specs.Prelude.{◌≡◌, ◌*◌, ◌/◌, ◌++◌, [], IfErr, IfNone, IfOk, IfSome, IsOk, IsSome, OnErr, OnOk, length, map, replicate};
 ghost use Rattle.std.specs.Str.{chars};
-ghost use Rattle.thin_vec.specs.List.Extend.{YieldsAndCanContinue};
+ghost use Rattle.thin_vec.specs.Growth.{doubling};
+ghost use Rattle.thin_vec.specs.List.Capacity.{OverflowsIffTooLarge};
+ghost use Rattle.thin_vec.specs.List.Extend.{IsCollectedList, YieldsAndCanContinue};
 
 use std::alloc::{AllocError, Allocator};
+use std::boxed::BoxedSlice;
 use std::mem;
 use thin_vec::{Growth, ThinVec, ThinVecError, thin_vec};
 
@@ -77,8 +82,9 @@ pub fn halves<A: Allocator>(alloc: A, numbers: &[u32]) -> Option<ThinVec<u32, A>
     }
 }
 
-/// Collects what `iter` yields. If memory ends, nothing is lost: `result.0` has the items for which
-/// there was room, `result.1` is the item that came next, and `result.2` yields all others.
+/// Collects what `iter` yields, into a list with exactly the capacity that the size hint asks for, as
+/// long as this is enough. If memory ends, nothing is lost: `result.0` has the items for which there
+/// was room, `result.1` is the item that came next, and `result.2` yields all others.
 pub fn collect_or_keep<T, A: Allocator, I: Iterator<Item = T>>(
     alloc: A,
     iter: I,
@@ -86,6 +92,8 @@ pub fn collect_or_keep<T, A: Allocator, I: Iterator<Item = T>>(
     requires can_next { I.can_next iter }
     requires finite { IsFinite (I.remaining iter) }
     ensures all { IfNone result.2 (Drains I.next_gives iter result.0.items) }
+    ensures capacity { IfNone result.2
+        (IsCollectedList doubling T.row alloc result.0 (I.remaining iter)) }
     ensures placed { IfSome result.2 (λ rest. YieldsAndCanContinue I.next_gives I.can_next
         I.remaining iter (result.0.items ++ option_to_list result.1) rest) }
 {
@@ -104,6 +112,34 @@ pub fn chars_of<A: Allocator>(alloc: A, text: &str) -> Result<ThinVec<char, A>, 
     ensures items { IfOk result (λ list. list.items ≡ chars text.now) }
 {
     text.chars().collect(alloc)
+}
+
+/// Clones the items of a slice into a new list.
+///
+/// # Errors
+///
+/// Fails with `CapacityOverflow` if so many items are too large for one block, and with
+/// `OutOfMemory` if the allocator or a clone fails.
+pub fn cloned<T: Clone, A: Allocator>(alloc: A, items: &[T]) -> Result<ThinVec<T, A>, ThinVecError>
+    ensures items { IfOk result (λ list. AllZip T.is_clone items.now list.items) }
+    ensures overflow { OverflowsIffTooLarge T.row (length items.now) result }
+{
+    ThinVec::from_slice(alloc, items)
+}
+
+/// Moves the items of a boxed slice into a list without spare capacity.
+///
+/// # Errors
+///
+/// Fails if the allocator fails. On failure, the items are dropped.
+pub fn unboxed<T: Drop, A: Allocator>(
+    alloc: A,
+    items: BoxedSlice<T, A>,
+) -> Result<ThinVec<T, A>, ThinVecError>
+    ensures items { IfOk result (λ list. list.items ≡ boxed_slice_items items) }
+    ensures capacity { IfOk result (λ list. list.capacity ≡ length (boxed_slice_items items)) }
+{
+    Ok(ThinVec::from_boxed_slice(alloc, items)?)
 }
 
 /// Copies the numbers of `list` to a new list, and appends `more` to it.

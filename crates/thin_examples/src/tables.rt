@@ -2,11 +2,13 @@
 ghost use Rattle.std.specs.FinMap as columns;
 ghost use Rattle.std.specs.Option.{unwrap_or};
 ghost use Rattle.std.specs.Prelude.{◌≡◌, ◌↔◌, ◌+◌, ◌-◌, ◌^◌, ◌<◌, ◌/◌, IfErr, IfOk, IfSome, IsNone, IsOk, IsSome, IsTrue, OnErr, OnOk, Some, length, min, replicate};
+ghost use Rattle.thin_rows.specs.EntryType.{entry_type};
 ghost use Rattle.thin_rows.specs.Table.{row_at, value_at, with_empty_row, with_value, without_value};
+ghost use Rattle.thin_vec.specs.Growth.{doubling, grown_capacity};
+ghost use Rattle.thin_vec.specs.List.Capacity.{OverflowsIff, map_cause};
 
 use std::alloc::{AllocError, Allocator, Global};
-use thin_rows::Rows;
-use thin_vec::ThinVecError;
+use thin_rows::{Rejected, Rows, ThinVecError};
 
 /// Makes a table of seven empty rows, one for each day of the week.
 ///
@@ -65,6 +67,29 @@ pub fn set_and_read<A: Allocator>(
 {
     counts.set(row, column, count)?;
     Ok(counts.get(row, column).copied())
+}
+
+/// Writes `value` at `row` and `column`, and returns the old value.
+///
+/// # Errors
+///
+/// Fails if there is no room for a new entry. The error returns `value`, and its cause is
+/// `CapacityOverflow` if and only if the new capacity of the row would be too large.
+pub fn set_or_return<V: Drop, A: Allocator>(
+    table: &mut Rows<V, A>,
+    row: usize,
+    column: usize,
+    value: V,
+) -> Result<Option<V>, Rejected<V>>
+    requires in_bounds { row < length table.old }
+    ensures table { OnOk result (table.new ≡ with_value table.old row column value) }
+    ensures err { OnErr result (table.new ≡ table.old) }
+    ensures overflow { OnErr result (OverflowsIff (grown_capacity doubling (entry_type V.row)
+        (columns.len (row_at table.old row)) (columns.len (row_at table.old row) + 1))
+        (map_cause result)) }
+    ensures value_returned { IfErr result (λ refused. refused.value ≡ value) }
+{
+    table.set(row, column, value)
 }
 
 /// Removes the count at `row` and `column`, and returns it. If there is no such count, returns 0.

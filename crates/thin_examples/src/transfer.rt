@@ -1,5 +1,5 @@
 //! Examples that move items from one list to another, or to a `Vec`.
-ghost use Rattle.std.specs.Prelude.{◌≡◌, ◌-◌, ◌%◌, ◌==◌, ◌≤◌, ◌++◌, IfOk, IsOk, OnErr, OnOk, drop, filter, length, not, slice_range, take};
+ghost use Rattle.std.specs.Prelude.{◌≡◌, ◌-◌, ◌%◌, ◌==◌, ◌≤◌, ◌++◌, IfOk, IsOk, OnErr, OnOk, drop, filter, length, not, slice_range, take, vec_capacity};
 ghost use Rattle.thin_vec.specs.ThinVec.{HasRoomFor};
 
 use std::alloc::{AllocError, Allocator, Global};
@@ -118,13 +118,14 @@ pub fn hand_over_odd<A: Allocator, G: Growth>(
     Ok(())
 }
 
-/// Moves the numbers of `list` into a `Vec`.
+/// Moves the numbers of `list` into a `Vec` without spare capacity.
 ///
 /// # Errors
 ///
 /// Fails if the allocator fails. On failure, the numbers are dropped.
-pub fn collected(list: ThinVec<u32>, alloc: Global) -> Result<Vec<u32>, AllocError>
+pub fn moved_to_vec(list: ThinVec<u32>, alloc: Global) -> Result<Vec<u32>, AllocError>
     ensures items { IfOk result (λ vec. vec.items ≡ list.items) }
+    ensures capacity { IfOk result (λ vec. vec_capacity vec ≡ length list.items) }
 {
-    list.into_iter().collect(alloc)
+    Ok(list.into_vec(alloc)?)
 }

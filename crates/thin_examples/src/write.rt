@@ -58,8 +58,8 @@ pub fn set_first<A: Allocator, G: Growth>(list: &mut ThinVec<u32, A, G>, value: 
     ensures items { list.new.items ≡ slice_set list.old.items 0 value }
     ensures capacity { list.new.capacity ≡ list.old.capacity }
 {
-    if let Some(place) = list.as_mut_slice().first_mut() {
-        *place = value;
+    if let Some(first) = list.get_mut(0) {
+        *first = value;
     }
 }
 
