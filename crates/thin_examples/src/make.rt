@@ -82,8 +82,8 @@ pub fn halves<A: Allocator>(alloc: A, numbers: &[u32]) -> Option<ThinVec<u32, A>
     }
 }
 
-/// Collects what `iter` yields, into a list with exactly the capacity that the size hint asks for, as
-/// long as this is enough. If memory ends, nothing is lost: `result.0` has the items for which there
+/// Collects what `iter` yields. The capacity is a lower bound that its size hint may have, or one that
+/// the growth rule chooses. If memory ends, nothing is lost: `result.0` has the items for which there
 /// was room, `result.1` is the item that came next, and `result.2` yields all others.
 pub fn collect_or_keep<T, A: Allocator, I: Iterator<Item = T>>(
     alloc: A,
@@ -118,7 +118,7 @@ pub fn chars_of<A: Allocator>(alloc: A, text: &str) -> Result<ThinVec<char, A>, 
 ///
 /// # Errors
 ///
-/// Fails with `CapacityOverflow` if so many items are too large for one block, and with
+/// Fails with `CapacityOverflow` if the items are too large for one allocation, and with
 /// `OutOfMemory` if the allocator or a clone fails.
 pub fn cloned<T: Clone, A: Allocator>(alloc: A, items: &[T]) -> Result<ThinVec<T, A>, ThinVecError>
     ensures items { IfOk result (λ list. AllZip T.is_clone items.now list.items) }

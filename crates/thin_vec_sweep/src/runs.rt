@@ -225,9 +225,9 @@ pub fn is_right<T: Numbered, G: Growth>(
     )
 }
 
-// Returns whether a command that failed with `cause`, or did not fail, may have made so many
-// requests, if request number `refused` was to be refused. A command that does not fail makes `due`
-// requests, if this number is known.
+// Returns whether the number of requests fits the outcome of a command: it failed with `cause`, or
+// did not fail, and request number `refused` was to be refused. A command that does not fail makes
+// `due` requests, if this number is known.
 fn is_due(cause: Option<ThinVecError>, requests: u64, refused: u64, due: Option<u64>) -> bool {
     let was_refused = 0 < refused && refused <= requests;
     match cause {
