@@ -1,18 +1,19 @@
 -- These lemmas convert a block into one array of words, which an allocator can grow or shrink, and
 -- back. A word is a struct of whole items that takes 8 or 16 bytes.
-use Rattle.std.proofs.Common.{◌≡◌, true, ℕ, Some, None, ◌+◌, ◌-◌, ◌*◌, List, [], ◌∷◌, ◌++◌, length, refl, sym, ap, ◌∙◌, arith, w64, append_assoc, Bool, Option}
+use Rattle.std.proofs.Common.{◌≡◌, true, false, ℕ, Some, None, ◌+◌, ◌-◌, ◌*◌, List, [], ◌∷◌, ◌++◌, length, refl, sym, ap, ◌∙◌, arith, w64, append_assoc, Bool, Option}
 use Rattle.thin_block.proofs.WalkPrelude.{length-append, Ura, full_share, Ty, ty_int, ty_array, size, align, size-raw, SProp, ent, sep, via, apply∗, Fml, froom, fat, vint, uint_out, usize, lies_at, Logic, sem, ‵, ◌⊛◌, ◌$◌, ◌∵◌, !, qed, by, move, drop, use1, use2, use3, split, fsplit, fsplit3, fjoin, fjoin3, group, rewrite, feq_i, done, Array, part_at, lone, param, Laws, RattleType, Ptr, block_ptr, El, R, el_x, elτ, add_times, array_of, block_with_items, div_ceil, type_size, type_align}
 use Rattle.std.proofs.lemmas.List.{length-map, length-replicate, map-append, replicate-append-replicate}
 use prog.RawLaws.{align-raw}
 use native.Mathlib.Nat.{add_comm}
 use Rattle.thin_block.specs.Capacity.{in_words, block_align, block_bytes}
-use Rattle.thin_block.specs.Ownership.{slots_own, unjoined_room, header_owns, fits_block, erased_type, words_of, block_type_of, requested_type_of, requested_type, header_wand, slots_wand, rejoin_wand, dealloc_right_of}
+use Rattle.thin_block.specs.Ownership.{slots_own, unjoined_room, header_owns, fits_block, erased_type, words_of, block_type_of, requested_type_of, requested_type, header_wand, slots_wand, rejoin_wand, dealloc_right_of, dealloc_right_if, pads}
 use Rattle.thin_block.specs.Slots.{filled_slots, empty_slots}
 use Rattle.thin_block.proofs.HeaderMemory.{carve, whole_size, whole_align}
 use Rattle.thin_block.proofs.SlotMemory.{cut, glue, to_items, of_items, to_raw, of_raw, of_room, to_room}
 use Rattle.thin_block.proofs.words.WordsLemmas.{InWords, word_align, word_size, words_told, nameless}
 use Rattle.thin_block.proofs.words.WordRooms.{header_out, header_in, block_out, block_in}
 use Rattle.thin_block.proofs.words.WordsMemory.{word_el}
+use Rattle.thin_block.proofs.padded.PaddedLemmas.{words_unpadded}
 
 -- `half` is the type of one half of the header. Both the capacity and the length have this type.
 abbrev half : Ty
@@ -89,11 +90,11 @@ module _ {M : Type 1} {𝓤 : Ura M} (𝓛 : Logic 𝓤) (E : El) (b c o : ℕ) 
   carve_asked = carve_for (words_of (R E)) (sym (same_words (R E) c))
 
   -- Joins all that a block with uninitialized slots owns into its memory and the right to free it.
-  pub gather : (t : Ty → Ptr → Fml) (n : ℕ)
+  pub gather : pads (R E) c ≡ false → (t : Ty → Ptr → Fml) (n : ℕ)
       → ent 𝓤 (sep 𝓤 (sem 𝓛 (header_owns t (R E) n c b o)) (H.room (array_of (R E) c) b (o + 16)))
       (sep 𝓤 (H.room (requested_type (R E) c) b o)
       (sem 𝓛 (t (requested_type (R E) c) (block_ptr b o))))
-  gather t n =
+  gather bare t n =
       qed 𝓛 (‵ (header_owns t (R E) n c b o) ∷ ‵ (froom (array_of (R E) c) b (o + 16)) ∷ []) ∵
       fsplit ! $
       use1 𝓛 (‵ (fat full_share half b o (vint w64 c))) (uint_out 𝓛 full_share w64 c b o) $
@@ -102,17 +103,20 @@ module _ {M : Type 1} {𝓤 : Ura M} (𝓛 : Logic 𝓤) (E : El) (b c o : ℕ) 
       use1 𝓛 (‵ (fat full_share half b (o + 8) (vint w64 n)))
       (uint_out 𝓛 full_share w64 n b (o + 8)) $
       use1 𝓛 (‵ (froom half b (o + 8))) (𝓛.laws.at_room half b (o + 8) (vint w64 n)) $
-      move ! (1 ∷ []) $ fsplit ! $ drop ! $ fsplit ! $
+      move ! (1 ∷ []) $ fsplit ! $ drop ! $
+      rewrite ! 0 (λ (p : Bool).
+      ‵ (dealloc_right_if p t (words_of (R E)) (erased_type (R E)) (type_size (R E)) c b o)) bare
+      refl $ fsplit ! $
       -- The context is now: the right to join the parts of the block; the right to free the block;
       -- memory for the length; memory for the capacity; memory for the slots.
       move ! (3 ∷ 2 ∷ 4 ∷ 0 ∷ []) $ group ! 4 $
       use1 𝓛 (‵ (froom (requested_type (R E) c) b o))
       (gather_for (words_of (R E)) (sym (same_words (R E) c))) $ done !
 
--- In this module, the header of a block takes as many bytes as `k` items, so the whole block can be
--- used as one array of items.
-module _ {M : Type 1} {𝓤 : Ura M} (𝓛 : Logic 𝓤) (E : El) (b : ℕ) (k : ℕ)
-    (hd : k * type_size (R E) ≡ 16) (o : ℕ) where
+-- In this module, the memory before the slots of a block takes `h` bytes, as many as `k` items. So
+-- the whole memory of the block can be used as one array of items.
+module _ {M : Type 1} {𝓤 : Ura M} (𝓛 : Logic 𝓤) (E : El) (b : ℕ) (k h : ℕ)
+    (hd : k * type_size (R E) ≡ h) (o : ℕ) where
   open 𝓛 use {H}
 
   abbrev sz' : ℕ
@@ -122,7 +126,8 @@ module _ {M : Type 1} {𝓤 : Ura M} (𝓛 : Logic 𝓤) (E : El) (b : ℕ) (k :
   Slots' at xs = slots_own (R E) xs b at
 
   -- In this module, a block holds the items `xs`, then the `k` items `ys`, and then `m` empty
-  -- slots. The items `ys` take as many bytes as the header.
+  -- slots. The items `ys` take as many bytes as the memory
+  -- before the slots.
   module _ (xs ys : List (el_x E)) (long : length ys ≡ k) (n m : ℕ)
       (count : n ≡ length xs + k) where
     abbrev there : ℕ
@@ -131,11 +136,11 @@ module _ {M : Type 1} {𝓤 : Ura M} (𝓛 : Logic 𝓤) (E : El) (b : ℕ) (k :
     abbrev past_all : ℕ
     past_all = k * sz' + there
 
-    times : n * sz' ≡ length xs * sz' + 16
+    times : n * sz' ≡ length xs * sz' + h
     times = ap (λ (j : ℕ). j * sz') count ∙ (add_times (length xs) k sz'
         ∙ ap (λ (j : ℕ). length xs * sz' + j) hd)
 
-    at_last : there ≡ length (filled_slots xs) * sz' + (o + 16)
+    at_last : there ≡ length (filled_slots xs) * sz' + (o + h)
     at_last =
         let t = times in
         let same : length (filled_slots xs) * sz' ≡ length xs * sz' =
@@ -145,9 +150,9 @@ module _ {M : Type 1} {𝓤 : Ura M} (𝓛 : Logic 𝓤) (E : El) (b : ℕ) (k :
     at_end : past_all ≡ length (filled_slots ys) * sz' + there
     at_end = ap (λ (j : ℕ). j * sz' + there) (sym (length-map ys Some ∙ long))
 
-    at_next : o + 16 ≡ length (filled_slots ys) * sz' + o
+    at_next : o + h ≡ length (filled_slots ys) * sz' + o
     at_next =
-        let same : length (filled_slots ys) * sz' ≡ 16 =
+        let same : length (filled_slots ys) * sz' ≡ h =
         ap (λ (j : ℕ). j * sz') (length-map ys Some ∙ long)
         ∙ hd in
         omega arith
@@ -162,33 +167,33 @@ module _ {M : Type 1} {𝓤 : Ura M} (𝓛 : Logic 𝓤) (E : El) (b : ℕ) (k :
     abbrev Last : ℕ → Fml
     Last at = part_at (Array (R E) k) full_share ys b at
 
-    pub turn_out : ent 𝓤 (sem 𝓛 (Slots' (o + 16) All))
-        (sep 𝓤 (sem 𝓛 (Slots' (o + 16) (filled_slots xs)))
+    pub turn_out : ent 𝓤 (sem 𝓛 (Slots' (o + h) All))
+        (sep 𝓤 (sem 𝓛 (Slots' (o + h) (filled_slots xs)))
         (sep 𝓤 (sem 𝓛 (Last there)) (sem 𝓛 (Slots' past_all (empty_slots m)))))
-    turn_out = qed 𝓛 (‵ (Slots' (o + 16) All) ∷ []) ∵
-        rewrite ! 0 (λ (l : List (Option (el_x E))). ‵ (Slots' (o + 16) l)) parted refl $
-        use1 𝓛 (‵ (Slots' (o + 16) (filled_slots xs)) ⊛
+    turn_out = qed 𝓛 (‵ (Slots' (o + h) All) ∷ []) ∵
+        rewrite ! 0 (λ (l : List (Option (el_x E))). ‵ (Slots' (o + h) l)) parted refl $
+        use1 𝓛 (‵ (Slots' (o + h) (filled_slots xs)) ⊛
         ‵ (Slots' there (filled_slots ys ++ empty_slots m)))
-        (cut E 𝓛 b (filled_slots xs) (filled_slots ys ++ empty_slots m) (o + 16) there at_last) $
+        (cut E 𝓛 b (filled_slots xs) (filled_slots ys ++ empty_slots m) (o + h) there at_last) $
         split ! $
         move ! (1 ∷ []) $
         use1 𝓛 (‵ (Slots' there (filled_slots ys)) ⊛ ‵ (Slots' past_all (empty_slots m)))
         (cut E 𝓛 b (filled_slots ys) (empty_slots m) there past_all at_end) $ split ! $
         use1 𝓛 (‵ (Last there)) (to_items E 𝓛 b k ys there long) $ move ! (2 ∷ 0 ∷ 1 ∷ []) $ done !
 
-    pub turn_back : ent 𝓤 (sep 𝓤 (sem 𝓛 (Slots' (o + 16) (filled_slots xs)))
+    pub turn_back : ent 𝓤 (sep 𝓤 (sem 𝓛 (Slots' (o + h) (filled_slots xs)))
         (sep 𝓤 (sem 𝓛 (Last there)) (sem 𝓛 (Slots' past_all (empty_slots m)))))
-        (sem 𝓛 (Slots' (o + 16) All))
+        (sem 𝓛 (Slots' (o + h) All))
     turn_back =
         qed 𝓛
-        (‵ (Slots' (o + 16) (filled_slots xs)) ∷ ‵ (Last there)
+        (‵ (Slots' (o + h) (filled_slots xs)) ∷ ‵ (Last there)
         ∷ ‵ (Slots' past_all (empty_slots m)) ∷ []) ∵
         move ! (1 ∷ []) $ use1 𝓛 (‵ (Slots' there (filled_slots ys))) (of_items E 𝓛 b k ys there) $
         move ! (0 ∷ 2 ∷ []) $ use2 𝓛 (‵ (Slots' there (filled_slots ys ++ empty_slots m)))
         (glue E 𝓛 b (filled_slots ys) (empty_slots m) there past_all at_end) $ move ! (1 ∷ 0 ∷ []) $
-        use2 𝓛 (‵ (Slots' (o + 16) (filled_slots xs ++ (filled_slots ys ++ empty_slots m))))
-        (glue E 𝓛 b (filled_slots xs) (filled_slots ys ++ empty_slots m) (o + 16) there at_last) $
-        rewrite ! 0 (λ (l : List (Option (el_x E))). ‵ (Slots' (o + 16) l)) (sym parted) refl $
+        use2 𝓛 (‵ (Slots' (o + h) (filled_slots xs ++ (filled_slots ys ++ empty_slots m))))
+        (glue E 𝓛 b (filled_slots xs) (filled_slots ys ++ empty_slots m) (o + h) there at_last) $
+        rewrite ! 0 (λ (l : List (Option (el_x E))). ‵ (Slots' (o + h) l)) (sym parted) refl $
         done !
 
     module _ (t : Ty → Ptr → Fml) (c all : ℕ) (fill : c ≡ n + m) (total : all ≡ k + c) where
@@ -217,18 +222,18 @@ module _ {M : Type 1} {𝓤 : Ura M} (𝓛 : Logic 𝓤) (E : El) (b : ℕ) (k :
       counted' : length (ys ++ xs) ≡ n
       counted' = let a = length-append ys xs in omega arith
 
-      -- If the last `k` items are stored in the memory of the header, then all items form one array
-      -- that begins at the start of the block.
-      pub turn_up : ent 𝓤 (sep 𝓤 (sem 𝓛 (Last o)) (sep 𝓤 (sem 𝓛 (Slots' (o + 16) (filled_slots xs)))
+      -- If the last `k` items are stored in the memory before the slots, then all items form one
+      -- array that begins at the start of the block.
+      pub turn_up : ent 𝓤 (sep 𝓤 (sem 𝓛 (Last o)) (sep 𝓤 (sem 𝓛 (Slots' (o + h) (filled_slots xs)))
           (sep 𝓤 (H.room (ty_array τ' k) b there)
           (sep 𝓤 (sem 𝓛 (Slots' past_all (empty_slots m))) (sem 𝓛 Token))))) (sem 𝓛 Whole)
       turn_up =
-          qed 𝓛 (‵ (Last o) ∷ ‵ (Slots' (o + 16) (filled_slots xs))
+          qed 𝓛 (‵ (Last o) ∷ ‵ (Slots' (o + h) (filled_slots xs))
           ∷ ‵ (froom (ty_array τ' k) b there) ∷ ‵
           (Slots' past_all (empty_slots m)) ∷ ‵ Token ∷ []) ∵
           use1 𝓛 (‵ (Slots' o (filled_slots ys))) (of_items E 𝓛 b k ys o) $
           use2 𝓛 (‵ (Slots' o (filled_slots ys ++ filled_slots xs)))
-          (glue E 𝓛 b (filled_slots ys) (filled_slots xs) o (o + 16) at_next) $
+          (glue E 𝓛 b (filled_slots ys) (filled_slots xs) o (o + h) at_next) $
           rewrite ! 0 (λ (l : List (Option (el_x E))). ‵ (Slots' o l)) (sym (map-append Some ys xs))
           refl $
           use1 𝓛 (‵ (part_at (Array (R E) n) full_share (ys ++ xs) b o))
@@ -243,14 +248,14 @@ module _ {M : Type 1} {𝓤 : Ura M} (𝓛 : Logic 𝓤) (E : El) (b : ℕ) (k :
 
       -- Undoes `turn_up`.
       pub turn_down : ent 𝓤 (sem 𝓛 Whole) (sep 𝓤 (sem 𝓛 (Last o))
-          (sep 𝓤 (sem 𝓛 (Slots' (o + 16) (filled_slots xs))) (sep 𝓤 (H.room (ty_array τ' k) b there)
+          (sep 𝓤 (sem 𝓛 (Slots' (o + h) (filled_slots xs))) (sep 𝓤 (H.room (ty_array τ' k) b there)
           (sep 𝓤 (sem 𝓛 (Slots' past_all (empty_slots m))) (sem 𝓛 Token)))))
       turn_down = qed 𝓛 (‵ Whole ∷ []) ∵ fsplit3 ! $
           use1 𝓛 (‵ (Slots' o (filled_slots (ys ++ xs)))) (of_items E 𝓛 b n (ys ++ xs) o) $
           rewrite ! 0 (λ (l : List (Option (el_x E))). ‵ (Slots' o l)) (map-append Some ys xs)
           refl $
-          use1 𝓛 (‵ (Slots' o (filled_slots ys)) ⊛ ‵ (Slots' (o + 16) (filled_slots xs)))
-          (cut E 𝓛 b (filled_slots ys) (filled_slots xs) o (o + 16) at_next) $ split ! $
+          use1 𝓛 (‵ (Slots' o (filled_slots ys)) ⊛ ‵ (Slots' (o + h) (filled_slots xs)))
+          (cut E 𝓛 b (filled_slots ys) (filled_slots xs) o (o + h) at_next) $ split ! $
           use1 𝓛 (‵ (Last o)) (to_items E 𝓛 b k ys o long) $
           move ! (2 ∷ []) $
           rewrite ! 0 (λ (j : ℕ). ‵ (froom (array_of (R E) spare) b j)) (sym turned) refl $
@@ -300,6 +305,9 @@ module _ {M : Type 1} {𝓤 : Ura M} (𝓛 : Logic 𝓤) (T : RattleType) (L : L
     asked_words : words_of (R Item) ≡ Some (m, k)
     asked_words = same_words (R Item) c ∙ is
 
+    bare : pads (R Item) c ≡ false
+    bare = words_unpadded (R Item) m k c is
+
     -- Splits what a block owns besides its slots into memory for `k` words, `Rest` (the right to
     -- convert the slots into words) and the right to free the block.
     pub header_apart : ent 𝓤 (sem 𝓛 (header_owns t (R Item) n c b o))
@@ -314,6 +322,9 @@ module _ {M : Type 1} {𝓤 : Ura M} (𝓛 : Logic 𝓤) (T : RattleType) (L : L
         (uint_out 𝓛 full_share w64 n b (o + 8)) $
         use1 𝓛 (‵ (froom half b (o + 8)))
         (𝓛.laws.at_room half b (o + 8) (vint w64 n)) $ move ! (2 ∷ []) $ fsplit ! $ drop ! $
+        rewrite ! 0 (λ (p : Bool).
+        ‵ (dealloc_right_if p t (words_of (R Item)) (erased_type (R Item)) (type_size (R Item)) c b o))
+        bare refl $
         rewrite ! 0 (λ (w : Option (ℕ × ℕ)). ‵ (dealloc_right_of t w (erased_type (R Item)) c b o))
         asked_words
         refl $
@@ -341,5 +352,8 @@ module _ {M : Type 1} {𝓤 : Ura M} (𝓛 : Logic 𝓤) (T : RattleType) (L : L
         move ! (3 ∷ 4 ∷ []) $ fjoin ! $ fjoin ! $
         rewrite ! 0 (λ (w : Option (ℕ × ℕ)). ‵ (dealloc_right_of t w (erased_type (R Item)) c b o))
         (sym asked_words) refl $
+        rewrite ! 0 (λ (p : Bool).
+        ‵ (dealloc_right_if p t (words_of (R Item)) (erased_type (R Item)) (type_size (R Item)) c b o))
+        (sym bare) refl $
         feq_i ! Bool (fits_block (R Item) c) true fits $ fjoin ! $
         move ! (2 ∷ 0 ∷ []) $ fjoin ! $ move ! (1 ∷ 0 ∷ []) $ fjoin ! $ done !

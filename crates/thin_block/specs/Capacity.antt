@@ -1,6 +1,6 @@
 -- This file computes the size of a block in bytes, and defines when a block is small enough to be
 -- allocated.
-use Rattle.std.specs.Prelude.{ℕ, ◌+◌, ◌*◌, ◌-◌, ◌^◌, ◌&&◌, ◌==◌, Bool, IsTrue, Option, if◌then◌else◌, max, nat_lt}
+use Rattle.std.specs.Prelude.{ℕ, ◌+◌, ◌*◌, ◌-◌, ◌^◌, ◌&&◌, ◌==◌, Bool, IsTrue, Option, if◌then◌else◌, max, nat_le, nat_lt}
 use Rattle.std.specs.declared.option.Option.TheVariants.{Some, None}
 use Rattle.std.specs.Int.{next_multiple_of}
 use Rattle.std.specs.Mem.{type_size}
@@ -48,3 +48,9 @@ abbrev pub in_words : ℕ → Option (ℕ × ℕ)
 in_words s = if s == 1 then Some (8, 2) else (if s == 2 then Some (4, 2) else
     (if s == 4 then Some (2, 2) else (if s == 8 then Some (1, 2) else
     (if s == 16 then Some (1, 1) else None))))
+
+-- `has_padding s a c` is true if a block for `c` items of size `s` and alignment `a` is padded: in
+-- front of the header is unused memory, which takes as many bytes as an item together with the
+-- header. The prover unfolds this definition only on request.
+unfoldable pub has_padding : ℕ → ℕ → ℕ → Bool
+has_padding s a c = nat_lt 16 s && (nat_le 8 a && (nat_le 32 c && nat_lt (c * s) (2 ^ 62)))

@@ -8,8 +8,9 @@ use Rattle.std.specs.Align.{type_align}
 use mathlib.Core.Path.{refl}
 use native.Mathlib.Omega.{arith}
 use base.Fraction.{full_share}
-use base.Fml.{Lft, Fml, ftrue, ffalse, fsep, fwand, froom, feq}
-use mir.Syntax.{Ty, w64, ty_int, ty_array, ty_struct, tcons, tnil}
+use base.Fml.{Lft, Fml, ftrue, ffalse, fsep, fwand, fex, fat, froom, feq}
+use mir.Syntax.{Ty, w64, ty_int, ty_ptr, ty_array, ty_struct, tcons, tnil}
+use mir.Val.{vptr}
 use mir.Raw.{raw}
 use prog.Memory.{size}
 use denote.RattleType.{RattleType}
@@ -18,7 +19,7 @@ use denote.Memory.{lone}
 use denote.RawPtr.{Ptr, block_ptr, null_ptr, lies_at, room_for}
 use denote.Sharing.{nothing, said, beside}
 use denote.Struct.Lending.{lent_at}
-use Rattle.thin_block.specs.Capacity.{fits_isize, in_words}
+use Rattle.thin_block.specs.Capacity.{fits_isize, has_padding, in_words}
 
 -- `is_nonempty xs` is true if the list `xs` is non-empty.
 abbrev pub is_nonempty : {X : Type 0} → List X → Bool
@@ -141,9 +142,50 @@ abbrev pub dealloc_right_of : (Ty → Ptr → Fml) → Option (ℕ × ℕ) → T
 dealloc_right_of t w τ c b o =
     fsep (rejoin_wand w τ c b o) (t (requested_type_of w τ c) (block_ptr b o))
 
--- `dealloc_right t R c b o` is `dealloc_right_of` for items of the type `R`.
+-- `pads R c` is true if a block of `c` slots for items of the type `R` is padded.
+abbrev pub pads : RattleType → ℕ → Bool
+pads R c = has_padding (type_size R) (type_align R) c
+
+-- A padded block of `c` slots for items of the type `τ` requests memory for one value of the type
+-- `padded_type τ c`: an array of `c` items, an item before them, in whose place the padding and the
+-- header are, and an item after them, in whose place the address of the memory is.
+abbrev pub padded_type : Ty → ℕ → Ty
+padded_type τ c = ty_array τ (c + 2)
+
+-- `end_of s c o` is the offset directly after the `c` slots of a block at the offset `o`. Each slot
+-- takes `s` bytes.
+abbrev pub end_of : ℕ → ℕ → ℕ → ℕ
+end_of s c o = c * s + (o + 16)
+
+-- `padded_right_at t τ s c b start o` consists of what a padded block owns besides its header and
+-- its `c` slots for items of the type `τ` and the size `s`: the address of its memory, which is
+-- stored directly after the slots; the rights to convert the memory of the header, and of this
+-- address, into memory for an item; and the right `t` to free the memory. The memory begins at the
+-- offset `start` of the allocation `b`, and the header is at the offset `o`.
+abbrev pub padded_right_at : (Ty → Ptr → Fml) → Ty → ℕ → ℕ → ℕ → ℕ → ℕ → Fml
+padded_right_at t τ s c b start o =
+    fsep (fat full_share ty_ptr b (end_of s c o) (vptr b start))
+    (fsep (fwand (header_room b o) (froom τ b start))
+    (fsep (fwand (froom ty_ptr b (end_of s c o)) (froom τ b (end_of s c o)))
+    (t (padded_type τ c) (block_ptr b start))))
+
+-- `padded_right t τ s c b o` is `padded_right_at` for some start of the memory. The first slot is
+-- one item after the start.
+abbrev pub padded_right : (Ty → Ptr → Fml) → Ty → ℕ → ℕ → ℕ → ℕ → Fml
+padded_right t τ s c b o = fex ℕ (λ start.
+    fsep (feq ℕ (start + s) (o + 16)) (padded_right_at t τ s c b start o))
+
+-- `dealloc_right_if p t w τ s c b o` is the right to free a block of `c` slots for items of the
+-- type `τ` and the size `s`. `p` says whether the block is padded. `w` says how its items form words if
+-- it is not.
+abbrev pub dealloc_right_if : Bool → (Ty → Ptr → Fml) → Option (ℕ × ℕ) → Ty → ℕ → ℕ → ℕ → ℕ → Fml
+dealloc_right_if true t w τ s c b o = padded_right t τ s c b o
+dealloc_right_if false t w τ s c b o = dealloc_right_of t w τ c b o
+
+-- `dealloc_right t R c b o` is `dealloc_right_if` for items of the type `R`.
 abbrev pub dealloc_right : (Ty → Ptr → Fml) → RattleType → ℕ → ℕ → ℕ → Fml
-dealloc_right t R c b o = dealloc_right_of t (words_of R) (erased_type R) c b o
+dealloc_right t R c b o =
+    dealloc_right_if (pads R c) t (words_of R) (erased_type R) (type_size R) c b o
 
 -- `header_owns t R n c b o` is a block without its slots: the capacity `c`, the length `n`, the
 -- fact that the block is small enough to be allocated, and the `dealloc_right`, which includes the

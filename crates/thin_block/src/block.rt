@@ -37,7 +37,9 @@ struct Header {
 /// stores neither the counters nor the allocator.
 pub struct Block<T, A: Allocator> {
     // A pointer to the capacity. In memory, the capacity is followed by the length, and then by the
-    // slots. If the block has no allocation, this is a pointer to `EMPTY_HEADER`.
+    // slots. In a padded block, unused memory precedes the capacity, and the address of all this
+    // memory follows the slots. If the block has no allocation, this is a pointer to
+    // `EMPTY_HEADER`.
     pub(crate) at: *mut usize,
     pub(crate) item: PhantomData<T>,
     pub(crate) handle: PhantomData<A>,

@@ -25,7 +25,7 @@ pub(crate) const LONG: usize = 32;
 
 // Resizes an allocation from `held` to `wanted` values of the type `T`. Calls `alloc.grow` if
 // `wanted` is greater than `held`, and `alloc.shrink` otherwise.
-unsafe fn grow_or_shrink<T, A: Allocator>(
+pub(crate) unsafe fn grow_or_shrink<T, A: Allocator>(
     alloc: &A,
     start: *mut T,
     len: usize,

@@ -8,6 +8,7 @@ mod growth;
 mod in_place;
 mod lends;
 mod memory;
+mod padded;
 mod runs;
 mod shifts;
 mod sizes;

@@ -1,16 +1,18 @@
 //! Methods that allocate, grow, shrink and free whole blocks.
-ghost use Rattle.std.specs.Prelude.{◌≡◌, ◌-◌, ◌++◌, ◌<◌, ◌≤◌, [], take, IfErr, IfOk, OnErr, OnOk, length};
+ghost use Rattle.std.specs.Prelude.{◌≡◌, ◌-◌, ◌++◌, ◌<◌, ◌≤◌, [], false, take, IfErr, IfOk, OnErr, OnOk, length};
 ghost use Rattle.std.specs.declared.option.Option.TheVariants.{Some};
 ghost use Rattle.std.specs.Mem.{type_size};
 ghost use Rattle.std.specs.Align.{type_align};
-ghost use Rattle.thin_block.specs.Capacity.{Fits, block_align, block_bytes};
+ghost use Rattle.thin_block.specs.Capacity.{Fits, block_align, block_bytes, has_padding};
 ghost use Rattle.thin_block.specs.Cost.{add_realloc, no_cost, add_request};
 ghost use Rattle.thin_block.specs.Slots.{IsPacked, empty_slots};
 
 use crate::block::Block;
 use crate::errors::ThinVecError;
 use crate::in_place::LONG;
-use crate::sizes::{align_of_block, bytes_of_block, item_size};
+use crate::sizes::{
+    HEADER, align_of_block, bytes_of_block, bytes_of_padded, is_padded, item_align, item_size,
+};
 use std::alloc::{AllocError, Allocator};
 use std::marker::PhantomData;
 use std::mem::{ManuallyDrop, replace};
@@ -48,6 +50,7 @@ impl<T, A: Allocator> Block<T, A> {
     // Allocates a block of `cap` empty slots with one request for memory. The new block is meant to
     // replace this block, so it has the cost of this block, plus the request. This block does not
     // change.
+    #[tactic(auto, unfolding(crate::specs::Capacity::has_padding))]
     fn replacement(&self, alloc: &A, cap: usize) -> Result<Block<T, A>, ThinVecError>
         requires nonzero { 0 < cap }
         requires fits { Fits T.row cap }
@@ -59,8 +62,15 @@ impl<T, A: Allocator> Block<T, A> {
         }) }
         ensures cause { IfErr result (λ cause. cause ≡ ThinVecError.OutOfMemory) }
     {
-        let bytes = bytes_of_block::<T>(cap);
-        match Block::allocate_block(alloc, cap, bytes, align_of_block::<T>(), self) {
+        let block = if is_padded::<T>(cap) {
+            let bytes = bytes_of_padded::<T>(cap);
+            let front = item_size::<T>() - HEADER;
+            Block::allocate_padded(alloc, cap, bytes, item_align::<T>(), front, self)
+        } else {
+            let bytes = bytes_of_block::<T>(cap);
+            Block::allocate_block(alloc, cap, bytes, align_of_block::<T>(), self)
+        };
+        match block {
             Ok(block) => Ok(block),
             Err(_refused) => Err(ThinVecError::OutOfMemory),
         }
@@ -127,9 +137,10 @@ impl<T, A: Allocator> Block<T, A> {
     }
 
     // Changes the number of slots of the block of length `len` to `cap`. If the items form whole
-    // words and take at least `LONG * 8` bytes, the allocator resizes the block, possibly in place.
-    // Otherwise, the items are moved to a new block, and the old block is freed. If the allocator
-    // fails, the call fails, and the block is unchanged. The block must have an allocation.
+    // words and take at least `LONG * 8` bytes, or if the block is padded and remains so, the
+    // allocator resizes the block, possibly in place. Otherwise, the items are moved to a new
+    // block, and the old block is freed. If the allocator fails, the call fails, and the block is
+    // unchanged. The block must have an allocation.
     #[inline(always)]
     fn resize(&mut self, alloc: &A, len: usize, cap: usize) -> Result<(), ThinVecError>
         requires same_allocator { IsAllocatedBy self.old.alloc alloc.now }
@@ -149,13 +160,16 @@ impl<T, A: Allocator> Block<T, A> {
             4 if len >= LONG * 2 && len % 2 == 0 => self.resize_in_place::<2, 2>(alloc, len, cap),
             8 if len >= LONG => self.resize_in_place::<1, 2>(alloc, len, cap),
             16 if len >= LONG / 2 => self.resize_in_place::<1, 1>(alloc, len, cap),
+            _ if len > 0 && is_padded::<T>(self.cap()) && is_padded::<T>(cap) => {
+                self.resize_padded_in_place(alloc, len, cap)
+            }
             _ => {
                 let mut other = self.replacement(alloc, cap)?;
                 other.store_len(len);
                 self.move_items_to(0, &mut other, 0, len, true);
                 let old = replace(self, other);
-                let bytes = bytes_of_block::<T>(old.cap());
-                old.free_block(alloc, bytes, align_of_block::<T>());
+                let held = old.cap();
+                old.free(alloc, held);
                 Ok(())
             }
         }
@@ -170,6 +184,21 @@ impl<T, A: Allocator> Block<T, A> {
         if cap == 0 {
             self.forget_unallocated();
         } else {
+            self.free(alloc, cap);
+        }
+    }
+
+    // Frees the allocation of the block, which has `cap` slots, all empty.
+    fn free(self, alloc: &A, cap: usize)
+        requires same_allocator { IsAllocatedBy self.alloc alloc.now }
+        requires nonzero { 0 < cap }
+        requires capacity { cap ≡ length self.slots }
+        requires empty { self.slots ≡ empty_slots (length self.slots) }
+        requires fits { Fits T.row cap }
+    {
+        if is_padded::<T>(cap) {
+            self.free_padded(alloc, cap, bytes_of_padded::<T>(cap), item_align::<T>());
+        } else {
             self.free_block(alloc, bytes_of_block::<T>(cap), align_of_block::<T>());
         }
     }
@@ -182,9 +211,9 @@ impl<T, A: Allocator> Block<T, A> {
         let _none = unsafe { ManuallyDrop::new_unchecked(self) };
     }
 
-    // Allocates a block that is to replace the block `old`, as `replacement` does. `bytes` is the
-    // size of the new block in bytes, and `align` is its alignment. The call fails only if the
-    // allocator fails. At run time, `old` is not used.
+    // Allocates a block that is not padded and is to replace the block `old`, as `replacement`
+    // does. `bytes` is the size of the new block in bytes, and `align` is its alignment. The call fails
+    // only if the allocator fails. At run time, `old` is not used.
     fn allocate_block(
         alloc: &A,
         cap: usize,
@@ -194,6 +223,7 @@ impl<T, A: Allocator> Block<T, A> {
     ) -> Result<Block<T, A>, AllocError>
         requires nonzero { 0 < cap }
         requires fits { Fits T.row cap }
+        requires unpadded { has_padding (type_size T.row) (type_align T.row) cap ≡ false }
         requires bytes { bytes ≡ block_bytes (type_size T.row) (type_align T.row) cap }
         requires align { align ≡ block_align (type_align T.row) }
         ensures ok { IfOk result (λ block. block_view block ≡ record {
@@ -220,11 +250,13 @@ impl<T, A: Allocator> Block<T, A> {
         }
     }
 
-    // Frees the allocation of the block as `release` does. The block must have an allocation.
-    // `bytes` is the size of the block in bytes, and `align` is its alignment.
+    // Frees the allocation of the block as `release` does. The block must have an allocation, and
+    // must not be padded. `bytes` is the size of the block in bytes, and `align` is its alignment.
     fn free_block(self, alloc: &A, bytes: usize, align: usize)
         requires same_allocator { self.alloc ≡ Some alloc.now }
         requires empty { self.slots ≡ empty_slots (length self.slots) }
+        requires unpadded { has_padding (type_size T.row) (type_align T.row)
+            (length self.slots) ≡ false }
         requires bytes { bytes ≡ block_bytes (type_size T.row) (type_align T.row)
             (length self.slots) }
         requires align { align ≡ block_align (type_align T.row) }

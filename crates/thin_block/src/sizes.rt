@@ -1,10 +1,10 @@
 //! Computes the size of a block in bytes, and tests whether a block of a given capacity is small
 //! enough to be allocated.
-ghost use Rattle.std.specs.Prelude.{◌≡◌, ◌↔◌, IsTrue};
+ghost use Rattle.std.specs.Prelude.{◌≡◌, ◌↔◌, ◌+◌, ◌*◌, IsTrue, true};
 ghost use Rattle.std.specs.Mem.{type_size};
 ghost use Rattle.std.specs.Align.{type_align};
 ghost use prog.Memory.{capped};
-ghost use Rattle.thin_block.specs.Capacity.{block_align, block_bytes, Fits};
+ghost use Rattle.thin_block.specs.Capacity.{block_align, block_bytes, Fits, has_padding};
 
 use std::mem::{align_of, size_of};
 
@@ -22,6 +22,13 @@ pub fn item_size<T>() -> usize
     size_of::<T>()
 }
 
+// Returns the alignment of an item in bytes.
+pub(crate) fn item_align<T>() -> usize
+    ensures value { result ≡ type_align T.row }
+{
+    align_of::<T>()
+}
+
 // Returns the alignment of a block in bytes.
 pub(crate) fn align_of_block<T>() -> usize
     ensures value { result ≡ block_align (type_align T.row) }
@@ -36,6 +43,30 @@ pub(crate) fn bytes_of_block<T>(cap: usize) -> usize
     ensures value { result ≡ block_bytes (type_size T.row) (type_align T.row) cap }
 {
     (HEADER + cap * item_size::<T>()).next_multiple_of(align_of_block::<T>())
+}
+
+// The least capacity of a padded block. So the padding is at most a sixteenth of the items.
+const PADDED: usize = 32;
+
+// Returns whether a block for `cap` items is padded, so that the allocator can resize it as an
+// array of items.
+#[tactic(auto, unfolding(crate::specs::Capacity::has_padding))]
+pub(crate) fn is_padded<T>(cap: usize) -> bool
+    requires { Fits T.row cap }
+    ensures value { result ≡ has_padding (type_size T.row) (type_align T.row) cap }
+{
+    let size = item_size::<T>();
+    size > HEADER && item_align::<T>() >= 8 && cap >= PADDED && cap * size < 1 << 62
+}
+
+// Returns the size in bytes of a padded block for `cap` items.
+#[tactic(auto, unfolding(crate::specs::Capacity::has_padding))]
+pub(crate) fn bytes_of_padded<T>(cap: usize) -> usize
+    requires fits { Fits T.row cap }
+    requires padded { has_padding (type_size T.row) (type_align T.row) cap ≡ true }
+    ensures value { result ≡ (cap + 2) * type_size T.row }
+{
+    (cap + 2) * item_size::<T>()
 }
 
 /// Returns whether a block for `cap` items is small enough to be allocated. This is the case if

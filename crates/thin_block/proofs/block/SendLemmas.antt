@@ -1,14 +1,15 @@
 -- These lemmas say when a block may be sent to another thread (`block_send`), and when a block may
 -- be shared between threads (`block_sync`).
 use Rattle.std.proofs.Common.{ℕ, zero, suc, ◌+◌, List, [], ◌∷◌, length, Option, Some, None}
-use Rattle.thin_block.proofs.WalkPrelude.{div_ceil, type_size, Ty, size, RattleType, Ptr, block_ptr, null_ptr, usize}
+use Rattle.thin_block.proofs.WalkPrelude.{div_ceil, type_size, Ty, size, RattleType, Ptr, block_ptr, null_ptr, usize, Fml}
+use Rattle.std.specs.Prelude.{Bool, true, false}
 use base.Shift.{Keyless}
 use denote.Struct.Struct.{exits_of}
 use denote.Struct.Owning.{shape, fields, to}
 use denote.Param.Send.{IsSend, IsSync, Common, AllSend, AllSync, Frees, owning_send, struct_send, struct_sync, sendable}
 use Rattle.core.specs.declared.alloc.Allocator.{Ghosts}
 use Rattle.std_alloc.proofs.SendSync.{quiet, lies, seen}
-use Rattle.thin_block.specs.Ownership.{erased_type, word_of, words_of, slot_owns, slots_own, word_wands, rejoin_wand, block_owns, slot_shares, slots_share, block_shares}
+use Rattle.thin_block.specs.Ownership.{erased_type, word_of, words_of, slot_owns, slots_own, word_wands, rejoin_wand, pads, dealloc_right_if, block_owns, slot_shares, slots_share, block_shares}
 use Rattle.thin_block.specs.contracts.block.Block as C
 
 number_send : IsSend usize
@@ -27,6 +28,12 @@ way_back_Keyless : (w : Option (ℕ × ℕ)) (τ : Ty) (c b o : ℕ) → Keyless
 way_back_Keyless None τ c b o = ((tt, (tt, tt)), tt)
 way_back_Keyless (Some w) τ c b o =
     (((tt, tt), tt), (ways_Keyless τ w.0 (div_ceil c w.0) b (o + 16), tt))
+
+right_Keyless : (t : Ty → Ptr → Fml) → ((τ : Ty) (p : Ptr) → Keyless (t τ p)) → (p : Bool)
+    (w : Option (ℕ × ℕ)) (τ : Ty) (s c b o : ℕ) → Keyless (dealloc_right_if p t w τ s c b o)
+right_Keyless t frees true w τ s c b o =
+    λ start. (tt, (tt, (((tt, tt), tt), ((tt, tt), frees _ (block_ptr b start)))))
+right_Keyless t frees false w τ s c b o = (way_back_Keyless w τ c b o, frees _ (block_ptr b o))
 
 module _ (R : RattleType) where
   place_Keyless : IsSend R → (x : Option R.Denot) (b o : ℕ) → Keyless (slot_owns R x b o)
@@ -64,10 +71,8 @@ module _ (R : RattleType) where
           lies usize number_send (block_ptr b (o + 8)) n,
           (
             tt,
-            (
-              way_back_Keyless (words_of R) (erased_type R) (length xs) b o,
-              f.frees a _ (block_ptr b o),
-            ),
+            right_Keyless (g.dealloc_token a) (f.frees a) (pads R (length xs)) (words_of R)
+                (erased_type R) (type_size R) (length xs) b o,
           ),
         ),
       ),

@@ -111,11 +111,11 @@ both_true : (x y : Bool) → x ≡ true → y ≡ true → (x && y) ≡ true
 both_true true y e f = f
 both_true false y e f = e
 
-tells_first : (x y : Bool) → (x && y) ≡ true → x ≡ true
+pub tells_first : (x y : Bool) → (x && y) ≡ true → x ≡ true
 tells_first true y f = refl
 tells_first false y f = f
 
-tells_second : (x y : Bool) → (x && y) ≡ true → y ≡ true
+pub tells_second : (x y : Bool) → (x && y) ≡ true → y ≡ true
 tells_second true y f = f
 tells_second false y f = cc
 

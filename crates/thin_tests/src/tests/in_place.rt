@@ -1,5 +1,6 @@
-//! Tests of lists whose blocks grow and shrink. A block whose items take 256 bytes or more can do so
-//! in place if an item takes 1, 2, 4, 8 or 16 bytes. Each request is refused once and then granted.
+//! Tests of lists whose blocks grow and shrink. A block whose items take 256 bytes or more can do
+//! so in place if an item takes 1, 2, 4, 8 or 16 bytes, and a block of 32 slots or more if its items
+//! are larger and aligned to 8. Each request is refused once and then granted.
 use crate::tests::support::{assert_same, leaked_ledger};
 use std::alloc::{Allocator, Global};
 use std::process::Abort;
@@ -118,6 +119,20 @@ fn a_list_of_items_of_odd_sizes_grows_and_shrinks(rt: HostRuntime) -> Result<(),
     Ok(())
 }
 
+#[test]
+fn a_list_is_padded_from_32_slots_on(rt: HostRuntime) -> Result<(), Fail> {
+    let ledger = leaked_ledger(&rt, rt.alloc());
+    for len in 1..40 {
+        for more in [1, 2, 3, 16, 33, 2000] {
+            ledger.begin(0);
+            assert_capacities::<[u64; 3], _>(&rt, ledger, &ledger.alloc, len, more, true)?;
+            assert_capacities::<[u64; 3], _>(&rt, ledger, ledger.global, len, more, false)?;
+        }
+    }
+    assert_same(&rt, ledger.alloc.blocks(), 0);
+    Ok(())
+}
+
 // Pushes 3000 items onto a list. Each time that the list is full, another list is allocated
 // directly after it, so that it cannot grow in place.
 fn assert_moves<T: Numbered>(
@@ -145,5 +160,6 @@ fn a_list_moves_if_it_cannot_grow_in_place(rt: HostRuntime) -> Result<(), Fail> 
     assert_moves::<i32>(&rt, ledger, alloc)?;
     assert_moves::<u64>(&rt, ledger, alloc)?;
     assert_moves::<u128>(&rt, ledger, alloc)?;
+    assert_moves::<[u64; 3]>(&rt, ledger, alloc)?;
     Ok(())
 }

@@ -1,6 +1,6 @@
 -- This file proves the contract of `allocate_block`, which allocates the memory of a block with
 -- empty slots and writes its header.
-use Rattle.std.proofs.Common.{◌≡◌, ℕ, ◌+◌, ◌<◌, List, [], ◌∷◌, ◌++◌, length, replicate, Bool, true, refl, sym, ap, ◌∙◌, arith, lit<, w64, Some, None, Option}
+use Rattle.std.proofs.Common.{◌≡◌, ℕ, ◌+◌, ◌<◌, List, [], ◌∷◌, ◌++◌, length, replicate, Bool, true, false, refl, sym, ap, ◌∙◌, arith, lit<, w64, Some, None, Option}
 use Rattle.thin_block.proofs.WalkPrelude.{Ty, Body, ty_int, Val, WT, vint, vptr, vstruct, vcons, vnil, inst_fn, length-replicate, full_share, SProp, Lft, Share, fat, froom, flft, size, align, capped, capped_is, Env, ⊑_trans, tables, After, ‵, raw, ◌⊛◌, later, at_ret, ◌$◌, !, move, keep, drop, use0, use1, use2, split, split3, join, rewrite, fsplit, fjoin, feq_i, await, suffices, done, whole, agg, stop, fld, lit, bin, init, of_opd, no_more, and_then, assigns, assigns_last, first, blocks, exec, returns, alloc_all, pass_all, free_all, look_at, get, get_in, through, sets, sets_last, lands_as, env, RattleType, usize, uint_in, Ptr, block_ptr, lies_at, calls_at, walk_of, ends_at, token, fm, proved_at, type_size, type_align, R, slot_at, then_runs, after, head, arm_body, says_all, refused_made}
 use types.Match.{live, vrt, in_variant}
 use types.Run.{switches_on}
@@ -11,7 +11,7 @@ use Rattle.core.specs.declared.result.Result.TheVariants.{Ok, Err}
 use Rattle.std_alloc.proofs.ResultValues.{ok_of, err_of}
 use Rattle.thin_block.specs.Cost.{add_request}
 use Rattle.thin_block.specs.Capacity.{Fits, block_align, block_bytes}
-use Rattle.thin_block.specs.Ownership.{fits_block, slots_own, header_owns, erased_type, words_of, rejoin_wand, requested_type as whole_block}
+use Rattle.thin_block.specs.Ownership.{fits_block, slots_own, header_owns, erased_type, words_of, rejoin_wand, pads, dealloc_right_if, requested_type as whole_block}
 use Rattle.thin_block.proofs.sizes.SizesLemmas.{fits_tells, opened, rounded}
 use Rattle.thin_block.proofs.WordConversionLemmas.{asked_size, asked_align, carve_asked}
 use Rattle.thin_block.proofs.HeaderMemory.{args, Br, any_some, block_val, block_made, items}
@@ -54,11 +54,12 @@ allocate_block_spec 𝓤 𝓛 𝓜 𝓡 wired T A LT LA g d dd met md =
     let align_of_block : ℕ = block_align (type_align Rt) in
     let y = at_takes Y 𝓛 𝓜.mem 𝓡.returns κ q at h bytes al τ in
     arrives (slot_at 0 ps) (others ps) 𝓛 z.0 ((c z.0.0 z.0.3).requires z.1) (
-    move ! (4 ∷ []) $ heard_all ! (_ ∷ _ ∷ _ ∷ _ ∷ _ ∷ _ ∷ []) (λ said.
+    move ! (4 ∷ []) $ heard_all ! (_ ∷ _ ∷ _ ∷ _ ∷ _ ∷ _ ∷ _ ∷ []) (λ said.
     let le = said.1.0 in let some : 0 < cap = said.1.1.0 in
     let small : Fits Rt cap = said.1.1.1.0 in
-    let bytes_are : bytes ≡ size_of_block = said.1.1.1.1.0 in
-    let align_is : al ≡ align_of_block = said.1.1.1.1.1 in
+    let unpadded : pads Rt cap ≡ false = said.1.1.1.1.0 in
+    let bytes_are : bytes ≡ size_of_block = said.1.1.1.1.1.0 in
+    let align_is : al ≡ align_of_block = said.1.1.1.1.1.1 in
     fsplit ! $ drop ! $ keep ! (0 ∷ 1 ∷ 2 ∷ []) $
     -- The context is now: the shared reference to the allocator; its lifetime token; the other
     -- tokens.
@@ -152,7 +153,11 @@ allocate_block_spec 𝓤 𝓛 𝓜 𝓡 wired T A LT LA g d dd met md =
     use1 𝓛 (‵ (lies_at usize full_share (block_ptr b (o + 8)) 0))
     (uint_in 𝓛 full_share w64 0 b (o + 8)) $ move ! (2 ∷ []) $
     use1 𝓛 (‵ (slots_own Rt none b (o + 16))) (of_raw E 𝓛 b cap (o + 16)) $ move ! (3 ∷ 4 ∷ []) $
-    fjoin ! $ feq_i ! Bool (fits_block Rt cap) true fits $ fjoin ! $
+    fjoin ! $
+    rewrite ! 0 (λ (p : Bool).
+    ‵ (dealloc_right_if p (token Y h) (words_of Rt) (erased_type Rt) (type_size Rt) cap b o))
+    (sym unpadded) refl $
+    feq_i ! Bool (fits_block Rt cap) true fits $ fjoin ! $
     move ! (2 ∷ 0 ∷ []) $ fjoin ! $ move ! (2 ∷ 0 ∷ []) $ fjoin ! $
     rewrite ! 0 (λ (k : ℕ). ‵ (header_owns (token Y h) Rt 0 k b o)) (sym long) refl $
     block_made E Y ! x b o refl $

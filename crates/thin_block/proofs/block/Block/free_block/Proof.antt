@@ -1,12 +1,12 @@
 -- This file proves the contract of `free_block`. The proof joins the parts of the block into one
 -- piece of memory, which the function returns to the allocator.
-use Rattle.std.proofs.Common.{◌≡◌, ℕ, ◌+◌, List, [], ◌∷◌, ◌++◌, length, refl, sym, ap, ◌∙◌, arith, w64, Some, Option}
+use Rattle.std.proofs.Common.{◌≡◌, ℕ, ◌+◌, List, [], ◌∷◌, ◌++◌, length, false, refl, sym, ap, ◌∙◌, arith, w64, Some, Option}
 use Rattle.thin_block.proofs.WalkPrelude.{Ty, place, Val, vint, vptr, vunit, inst_fn, SProp, Lft, Share, froom, flft, size, align, capped, capped_is, Env, ⊑_trans, tables, ‵, raw, ◌⊛◌, given, later, at_ret, ◌$◌, !, by, move, keep, drop, use1, use2, use3, split, join, learn, rewrite, regoal, fsplit, feq_i, await, whole, sub, stop, fld, unit_lit, of_opd, no_more, and_then, first, blocks, exec, returns, alloc_all, pass_all, free_all, look_at, get, get_in, sets, lands_last, env, RattleType, block_ptr, nothing, calls_at_last, walk_of, token, fm, proved_at, leaves, type_size, type_align, R, slot_at, then_runs, out_of_block, after}
 use types.Kit.{settles}
 use Rattle.core.proofs.alloc.Calls.{Goes-blank, Gives, at_gives, Gives-goes, Gives-Gives}
 use Rattle.thin_block.specs.Slots.{empty_slots}
 use Rattle.thin_block.specs.Capacity.{block_align, block_bytes}
-use Rattle.thin_block.specs.Ownership.{slots_own, requested_type as whole_block}
+use Rattle.thin_block.specs.Ownership.{slots_own, pads, requested_type as whole_block}
 use Rattle.thin_block.proofs.sizes.SizesLemmas.{fits_tells, rounded}
 use Rattle.thin_block.proofs.WordConversionLemmas.{asked_size, asked_align, gather}
 use Rattle.thin_block.proofs.HeaderMemory.{args, header, t, block_val, block_had, items}
@@ -45,11 +45,12 @@ free_block_spec 𝓤 𝓛 𝓜 𝓡 wired T A LT LA g d dd met md =
     let size_of_block : ℕ = block_bytes (type_size Rt) (type_align Rt) cap in
     let align_of_block : ℕ = block_align (type_align Rt) in
     arrives (slot_at 0 ps) (others ps) 𝓛 z.0 ((c z.0.0 z.0.3).requires z.1) (
-    move ! (4 ∷ []) $ heard_all ! (_ ∷ _ ∷ _ ∷ _ ∷ _ ∷ _ ∷ []) (λ said.
+    move ! (4 ∷ []) $ heard_all ! (_ ∷ _ ∷ _ ∷ _ ∷ _ ∷ _ ∷ _ ∷ []) (λ said.
     let le = said.1.0 in let from : x.alloc ≡ Some h = said.1.1.0 in
     let bare : xs ≡ empty_slots cap = said.1.1.1.0 in
-    let bytes_are : bytes ≡ size_of_block = said.1.1.1.1.0 in
-    let align_is : al ≡ align_of_block = said.1.1.1.1.1 in
+    let unpadded : pads Rt cap ≡ false = said.1.1.1.1.0 in
+    let bytes_are : bytes ≡ size_of_block = said.1.1.1.1.1.0 in
+    let align_is : al ≡ align_of_block = said.1.1.1.1.1.1 in
     move ! (0 ∷ 3 ∷ []) $ block_had E Y ! x z.0.4.0 (λ b o at told fits.
     -- The context is now: the header; the slots; what the other arguments own; the lifetime token
     -- of the shared reference to the allocator; the other lifetime tokens.
@@ -59,7 +60,8 @@ free_block_spec 𝓤 𝓛 𝓜 𝓡 wired T A LT LA g d dd met md =
     use1 𝓛 (‵ (froom (items Rt cap) b (o + 16))) (to_raw E 𝓛 b cap (o + 16))
     $ move ! (1 ∷ 0 ∷ []) $
     use2 𝓛 (‵ (froom τ b o) ⊛ ‵ (token Y h τ (block_ptr b o)))
-    (gather 𝓛 E b cap o (token Y h) x.len) $ split ! $ move ! (2 ∷ []) $ fsplit ! $ fsplit ! $
+    (gather 𝓛 E b cap o unpadded (token Y h) x.len) $ split ! $ move ! (2 ∷ []) $ fsplit ! $
+    fsplit ! $
     drop ! $ keep ! (2 ∷ 3 ∷ 0 ∷ 4 ∷ 5 ∷ []) $
     -- The context is now: the memory of the whole block; the right to free it; the reference to the
     -- allocator; the lifetime token of this reference; the other lifetime tokens.

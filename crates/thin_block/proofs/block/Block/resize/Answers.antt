@@ -13,8 +13,8 @@ move_items_to-requires-clause-filled g c =
     λ i p q. packed-filled c.args.self.now.slots c.args.self.now.len c.requires.packed i
     (omega arith)
 
-pub free_block-requires-clause-empty : goal.free_block-requires-clause-empty
-free_block-requires-clause-empty g c =
+pub free-requires-clause-empty : goal.free-requires-clause-empty
+free-requires-clause-empty g c =
     let old = c.args.self.now.slots in
     let left : c.replace-old.result.slots ≡ empty_slots (length old) =
     ap (λ b. b.slots) c.replace-old.ensures.value

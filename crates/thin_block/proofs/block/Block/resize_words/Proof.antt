@@ -284,7 +284,7 @@ resize_words_spec 𝓤 𝓛 𝓜 𝓡 wired T A m k LT LA fits_m fits_k g d dd m
     use1 𝓛 (‵ (slots_own Rw (filled_slots xs) b (o + 16)) ⊛
     ‵ (part_at (Array Rw k) full_share ys b there) ⊛ ‵
     (slots_own Rw (empty_slots v) b (k * s + there)))
-    (turn_out 𝓛 W b k sixteen o xs ys long count v parted)
+    (turn_out 𝓛 W b k 16 sixteen o xs ys long count v parted)
     $ split3 ! $ move ! (3 ∷ []) $ split3 ! $ move ! (2 ∷ []) $ drop ! $
     -- The context is now: the lifetime tokens of `T` and `M`; the earlier words; the last `k`
     -- words; the empty words; and the other entries as before.
@@ -321,7 +321,7 @@ resize_words_spec 𝓤 𝓛 𝓜 𝓡 wired T A m k LT LA fits_m fits_k g d dd m
     -- shared reference to the allocator; the lifetime tokens.
     move ! (0 ∷ 2 ∷ 1 ∷ 3 ∷ 4 ∷ []) $ group ! 5 $
     use1 𝓛 (‵ (block_with_items tok Rw here count held (ys ++ xs)))
-    (turn_up 𝓛 W b k sixteen o xs ys long count v parted tok w held filled held_is) $
+    (turn_up 𝓛 W b k 16 sixteen o xs ys long count v parted tok w held filled held_is) $
     let fits_room : (c n : ℕ) → n ≡ k + div_ceil c m → block_bytes (type_size Rt) (type_align Rt) c
     < 2 ^ 63 → n * s < 2 ^ 63 = λ c n is small. subst (λ (i : ℕ). i < 2 ^ 63)
     (sym (ap (λ (i : ℕ). i * s) is ∙ (ap (λ (i : ℕ). (k + div_ceil c m) * i) hd.size
@@ -403,7 +403,7 @@ resize_words_spec 𝓤 𝓛 𝓜 𝓡 wired T A m k LT LA fits_m fits_k g d dd m
     ‵ (slots_own Rw (filled_slots xs) b' (o' + 16))
     ⊛ ‵ (froom (ty_array ω k) b' there') ⊛ ‵ (slots_own Rw (empty_slots v') b' (k * s + there')) ⊛ ‵
     (tok (array_of Rw wanted) (block_ptr b' o')))
-    (turn_down 𝓛 W b' k sixteen o' xs ys long count v' parted tok w' wanted filled' wanted_is) $
+    (turn_down 𝓛 W b' k 16 sixteen o' xs ys long count v' parted tok w' wanted filled' wanted_is) $
     split3 ! $ move ! (2 ∷ []) $ split3 ! $ move ! (3 ∷ []) $
     use1 𝓛 (exists (λ (u : Val). ‵ (fat full_share (ty_array ω k) b' o' u) ⊛ ‵
     (Arr.own_val ys (u ∷ [])))) (part_out 𝓛 (Array Rw k) refl full_share ys b' o') $
@@ -454,7 +454,7 @@ resize_words_spec 𝓤 𝓛 𝓜 𝓡 wired T A m k LT LA fits_m fits_k g d dd m
     use2 𝓛 (‵ (part_at (Array Rw k) full_share ys b' there'))
     (part_in 𝓛 (Array Rw k) refl full_share ys b' there' u₂) $ move ! (6 ∷ 0 ∷ 4 ∷ []) $
     use3 𝓛 (‵ (slots_own Rw (filled_slots (xs ++ ys) ++ empty_slots v') b' (o' + 16)))
-    (turn_back 𝓛 W b' k sixteen o' xs ys long count v' parted) $
+    (turn_back 𝓛 W b' k 16 sixteen o' xs ys long count v' parted) $
     rewrite ! 0 (λ (l : List W.row.Denot).
     ‵ (slots_own Rw (filled_slots l ++ empty_slots v') b' (o' + 16)))
     (sym joined) refl $
@@ -487,7 +487,7 @@ resize_words_spec 𝓤 𝓛 𝓜 𝓡 wired T A m k LT LA fits_m fits_k g d dd m
     ‵ (slots_own Rw (filled_slots xs) b (o + 16))
     ⊛ ‵ (froom (ty_array ω k) b there) ⊛ ‵ (slots_own Rw (empty_slots v) b (k * s + there)) ⊛ ‵
     (tok (array_of Rw held) (block_ptr b o)))
-    (turn_down 𝓛 W b k sixteen o xs ys long count v parted tok w held filled held_is) $
+    (turn_down 𝓛 W b k 16 sixteen o xs ys long count v parted tok w held filled held_is) $
     split3 ! $ move ! (2 ∷ []) $ split3 ! $ move ! (3 ∷ []) $
     use1 𝓛 (exists (λ (u : Val). ‵ (fat full_share (ty_array ω k) b o u) ⊛ ‵
     (Arr.own_val ys (u ∷ [])))) (part_out 𝓛 (Array Rw k) refl full_share ys b o) $
@@ -530,7 +530,7 @@ resize_words_spec 𝓤 𝓛 𝓜 𝓡 wired T A m k LT LA fits_m fits_k g d dd m
     use2 𝓛 (‵ (part_at (Array Rw k) full_share ys b there))
     (part_in 𝓛 (Array Rw k) refl full_share ys b there u₂) $ move ! (6 ∷ 0 ∷ 4 ∷ []) $
     use3 𝓛 (‵ (slots_own Rw (filled_slots (xs ++ ys) ++ empty_slots v) b (o + 16)))
-    (turn_back 𝓛 W b k sixteen o xs ys long count v parted) $
+    (turn_back 𝓛 W b k 16 sixteen o xs ys long count v parted) $
     rewrite ! 0 (λ (l : List W.row.Denot).
     ‵ (slots_own Rw (filled_slots l ++ empty_slots v) b (o + 16)))
     (sym joined) refl $

@@ -1,0 +1,212 @@
+//! Functions that allocate, resize and free padded blocks. In a padded block, the header and the
+//! unused memory before it take as many bytes as an item. So the allocator's methods `grow` and
+//! `shrink`, which resize only arrays, can resize the block as an array of items. The address of
+//! this memory cannot be computed from the address of the header, since a pointer can be moved up
+//! but not down. So it is stored directly after the slots, in the place of one more item.
+ghost use Rattle.std.specs.Prelude.{◌≡◌, ◌+◌, ◌-◌, ◌*◌, ◌<◌, ◌≤◌, IfErr, IfOk, length, true};
+ghost use Rattle.std.specs.declared.option.Option.TheVariants.{Some};
+ghost use Rattle.std.specs.Mem.{type_size};
+ghost use Rattle.std.specs.Align.{type_align};
+ghost use Rattle.thin_block.specs.Capacity.{Fits, has_padding};
+ghost use Rattle.thin_block.specs.Cost.{add_realloc, add_request};
+ghost use Rattle.thin_block.specs.Slots.{IsPacked, empty_slots, write_slots, slot_range};
+
+use crate::block::Block;
+use crate::errors::ThinVecError;
+use crate::in_place::grow_or_shrink;
+use crate::sizes::{HEADER, HEADER_WORDS, item_size};
+use std::alloc::{AllocError, Allocator};
+use std::marker::PhantomData;
+use std::mem::replace;
+
+impl<T, A: Allocator> Block<T, A> {
+    ghost use Rattle.thin_block.specs.Block.{IsAllocatedBy, Reallocates, block_view};
+
+    // Allocates a padded block that is to replace the block `old`, as `replacement` does. `bytes`
+    // is the size of the new block in bytes, `align` is its alignment, and `front` is the number of
+    // bytes before its header. The call fails only if the allocator fails. At run time, `old` is
+    // not used.
+    pub(crate) fn allocate_padded(
+        alloc: &A,
+        cap: usize,
+        bytes: usize,
+        align: usize,
+        front: usize,
+        _old: &Block<T, A>,
+    ) -> Result<Block<T, A>, AllocError>
+        requires nonzero { 0 < cap }
+        requires fits { Fits T.row cap }
+        requires padded { has_padding (type_size T.row) (type_align T.row) cap ≡ true }
+        requires bytes { bytes ≡ (cap + 2) * type_size T.row }
+        requires align { align ≡ type_align T.row }
+        requires front { front + 16 ≡ type_size T.row }
+        ensures ok { IfOk result (λ block. block_view block ≡ record {
+          slots = empty_slots cap;
+          len = 0;
+          alloc = Some alloc.now;
+          cost = add_request _old.now.cost;
+        }) }
+    {
+        match alloc.allocate(bytes, align) {
+            Ok(start) => unsafe {
+                let at = start.add(front) as *mut usize;
+                let end = (at.add(HEADER_WORDS) as *mut T).add(cap) as *mut *mut u8;
+                *end = start;
+                *at = cap;
+                *at.add(1) = 0;
+                Ok(Block {
+                    at,
+                    item: PhantomData,
+                    handle: PhantomData,
+                })
+            },
+            Err(refused) => Err(refused),
+        }
+    }
+
+    // Frees the allocation of the padded block as `release` does. The block has `cap` slots, and
+    // takes `bytes` bytes with the alignment `align`.
+    pub(crate) fn free_padded(self, alloc: &A, cap: usize, bytes: usize, align: usize)
+        requires same_allocator { self.alloc ≡ Some alloc.now }
+        requires capacity { cap ≡ length self.slots }
+        requires empty { self.slots ≡ empty_slots (length self.slots) }
+        requires padded { has_padding (type_size T.row) (type_align T.row) cap ≡ true }
+        requires bytes { bytes ≡ (cap + 2) * type_size T.row }
+        requires align { align ≡ type_align T.row }
+    {
+        let Block {
+            at,
+            item: _,
+            handle: _,
+        } = self;
+        unsafe {
+            let end = (at.add(HEADER_WORDS) as *mut T).add(cap) as *mut *mut u8;
+            alloc.deallocate(*end, bytes, align)
+        }
+    }
+
+    // Resizes the padded block of length `len` to `cap` slots, and may leave it at its address. A
+    // block of `cap` slots has to be padded too. If the allocator fails, the call fails, and the
+    // block is unchanged.
+    #[cold]
+    #[tactic(auto, unfolding(crate::specs::Capacity::has_padding))]
+    pub(crate) fn resize_padded_in_place(
+        &mut self,
+        alloc: &A,
+        len: usize,
+        cap: usize,
+    ) -> Result<(), ThinVecError>
+        requires same_allocator { IsAllocatedBy self.old.alloc alloc.now }
+        requires padded { has_padding (type_size T.row) (type_align T.row)
+            (length self.old.slots) ≡ true }
+        requires padded_new { has_padding (type_size T.row) (type_align T.row) cap ≡ true }
+        requires fits { Fits T.row cap }
+        requires packed { IsPacked self.old.slots self.old.len }
+        requires len_le_cap { self.old.len ≤ cap }
+        requires len { len ≡ self.old.len }
+        requires nonempty { 0 < len }
+
+        // In every case.
+        ensures changes { Reallocates self.old self.new alloc.now cap result }
+    {
+        let old = self.cap();
+        let front = item_size::<T>() - HEADER;
+        let block = replace(self, Block::none());
+        let (block, grown) = match block.resize_padded(
+            alloc,
+            len,
+            old,
+            cap,
+            old + 2,
+            cap + 2,
+            front,
+        ) {
+            Ok(larger) => (larger, Ok(())),
+            Err(same) => (same, Err(ThinVecError::OutOfMemory)),
+        };
+        replace(self, block).forget_unallocated();
+        grown
+    }
+
+    // Returns this block with `cap` slots and the same items, or the unchanged block if the
+    // allocator fails. The block is padded, and is so with `cap` slots. `front` is the number of
+    // bytes before the header.
+    //
+    // While the allocator runs, the last item is stored in the padding and the header, directly
+    // before the other items. So the memory of the block begins with an array of `len` items. The
+    // allocator resizes this memory from `held` to `wanted` items.
+    fn resize_padded(
+        self,
+        alloc: &A,
+        len: usize,
+        old: usize,
+        cap: usize,
+        held: usize,
+        wanted: usize,
+        front: usize,
+    ) -> Result<Block<T, A>, Block<T, A>>
+        requires same_allocator { self.alloc ≡ Some alloc.now }
+        requires padded { has_padding (type_size T.row) (type_align T.row) old ≡ true }
+        requires padded_new { has_padding (type_size T.row) (type_align T.row) cap ≡ true }
+        requires packed { IsPacked self.slots self.len }
+        requires len { len ≡ self.len }
+        requires capacity { old ≡ length self.slots }
+        requires len_le_cap { len ≤ cap }
+        requires fits { Fits T.row cap }
+        requires nonempty { 0 < len }
+        requires held { held ≡ old + 2 }
+        requires wanted { wanted ≡ cap + 2 }
+        requires front { front + 16 ≡ type_size T.row }
+
+        // On success.
+        ensures ok { IfOk result (λ block. block_view block ≡ record (block_view self) {
+          slots = write_slots 0 (slot_range 0 self.len self.slots) (empty_slots cap);
+          alloc = Some alloc.now;
+          cost = add_realloc self.len self.cost;
+        }) }
+
+        // On failure.
+        ensures err { IfErr result (λ block. block ≡ self) }
+    {
+        let Block {
+            at,
+            item: _,
+            handle: _,
+        } = self;
+        unsafe {
+            let end = (at.add(HEADER_WORDS) as *mut T).add(old) as *mut *mut T;
+            let start = *end;
+            let first = start as *mut [T; 1];
+            let last = start.add(len) as *mut [T; 1];
+            first.write(last.read());
+            match grow_or_shrink(alloc, start, len, held, wanted) {
+                Ok(start) => {
+                    let first = start as *mut [T; 1];
+                    let last = start.add(len) as *mut [T; 1];
+                    last.write(first.read());
+                    let at = (start as *mut u8).add(front) as *mut usize;
+                    *at = cap;
+                    *at.add(1) = len;
+                    let end = (at.add(HEADER_WORDS) as *mut T).add(cap) as *mut *mut T;
+                    *end = start;
+                    Ok(Block {
+                        at,
+                        item: PhantomData,
+                        handle: PhantomData,
+                    })
+                }
+                Err(_refused) => {
+                    last.write(first.read());
+                    *at = old;
+                    *at.add(1) = len;
+                    *end = start;
+                    Err(Block {
+                        at,
+                        item: PhantomData,
+                        handle: PhantomData,
+                    })
+                }
+            }
+        }
+    }
+}
