@@ -9,6 +9,7 @@ use Rattle.std.specs.List.Retain.{IsFiltered, ReturnsInTurn}
 use Rattle.std.proofs.lemmas.Fn.{filter_same}
 use Rattle.thin_block.specs.Cost.{Cost, add_moves}
 use Rattle.thin_vec.specs.Edits.Retain.{TestResults, TestsInTurn, IsRetained, IsRetainedTo, ReadsOnly, flags_of, items_where, moves_of_retain, all_kept, count_true}
+use Rattle.thin_vec.specs.List.Capacity.{MovesAtMost}
 use Rattle.thin_vec.specs.ThinVec.{ListView}
 
 pub moving-more : (a b : ℕ) (c : Cost) → add_moves a (add_moves b c) ≡ add_moves (b + a) c
@@ -48,6 +49,12 @@ pub none-left : {X : Type 0} (xs : List X) → (0 < length xs → ⊥) → xs �
 none-left [] none = refl
 none-left (x ∷ xs) none = absurd (none (omega arith))
 
+-- At most the kept items are moved.
+pub moves_of_retain-few : (stays : List Bool) → moves_of_retain stays ≤ count_true stays
+moves_of_retain-few [] = omega arith
+moves_of_retain-few (true ∷ stays) = let few = moves_of_retain-few stays in omega (arith, few)
+moves_of_retain-few (false ∷ stays) = omega arith
+
 module _ {T : Type 0} where
   pub items_where-append : (a b : TestResults T)
       → items_where true (a ++ b) ≡ items_where true a ++ items_where true b
@@ -64,6 +71,12 @@ module _ {T : Type 0} where
   pub items_where-stay : (xs : List T) → items_where true (all_kept xs) ≡ xs
   items_where-stay [] = refl
   items_where-stay (x ∷ xs) = ap (λ (l : List T). x ∷ l) (items_where-stay xs)
+
+  -- As many flags are true as items are kept.
+  pub count_true-kept : (a : TestResults T) → count_true (flags_of a) ≡ length (items_where true a)
+  count_true-kept [] = refl
+  count_true-kept ((true, x) ∷ a) = ap suc (count_true-kept a)
+  count_true-kept ((false, x) ∷ a) = count_true-kept a
 
   pub count_true-stay : (xs : List T) → count_true (flags_of (all_kept xs)) ≡ length xs
   count_true-stay [] = refl
@@ -161,3 +174,17 @@ module _ {S T : Type 0} (R : S → T → Bool → S → T → Type 0) where
   few-retained s v w h =
       let few = few-left v.items s h.0 h.1.results h.1.asked in
       omega (arith, few, ap length h.1.items)
+
+  -- Each item that stays is moved at most once.
+  pub retained-moves : {A : Type 0} (s t : S) (v w : ListView T A) → IsRetainedTo R s v w t
+      → MovesAtMost (length w.items) v.cost w.cost
+  retained-moves s t v w h = record {
+    moves = moves_of_retain (flags_of h.results);
+    few = omega (
+      arith,
+      moves_of_retain-few (flags_of h.results),
+      count_true-kept h.results,
+      ap length h.items,
+    );
+    cost = h.cost;
+  }

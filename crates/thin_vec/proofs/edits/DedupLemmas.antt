@@ -7,10 +7,11 @@ use Rattle.std.specs.Prelude.{MatchBool, cond, if◌then◌else◌, not}
 use Rattle.thin_block.specs.Cost.{Cost, add_moves}
 use Rattle.thin_vec.specs.Edits.Retain.{moves_of_retain, count_true}
 use Rattle.thin_vec.specs.Edits.Dedup.{TestsEachAgainstLast, TestsAllAgainstLast, Compares, IsDedupedBy, IsDedupedTo, dedup_flags, dedup_flags_from}
+use Rattle.thin_vec.specs.List.Capacity.{MovesAtMost}
 use Rattle.thin_vec.specs.Open.{OpenView}
 use Rattle.thin_vec.specs.OpenBlock.Dedup.{TestsLast, TestsNext, DedupsRest, TestsPairsUpTo, DedupsSome}
 use Rattle.thin_vec.specs.ThinVec.{ListView}
-use Rattle.thin_vec.proofs.RetainLemmas.{cons-head, cons-tail, moving-more, moving-none}
+use Rattle.thin_vec.proofs.RetainLemmas.{cons-head, cons-tail, moves_of_retain-few, moving-more, moving-none}
 use Rattle.thin_vec.proofs.OpenBlockLemmas.{last-of}
 use Rattle.thin_vec.proofs.open_block.PairTestLemmas.{OnPairs, all-stay, last-append, last-goes, last-same, last-some, last-stays, map-answer, moved-all, run-ends, run-goes, run-left, count_true-join}
 
@@ -332,3 +333,35 @@ module _ {S T : Type 0} (R : OnPairs S T) where
   pub few-deduped : {A : Type 0} (s : S) (v w : ListView T A) → IsDedupedBy R s v w
       → length w.items ≤ length v.items
   few-deduped s v w h = few-pairs v.items s h.0 h.1.stays w.items h.1.asked
+
+  -- As many flags are true as items are kept after the first.
+  kept-last : (xs : List T) (s t : S) (k : T) (stays : List Bool) (ys : List T)
+      → TestsEachAgainstLast R s k xs stays ys t → suc (count_true stays) ≡ length ys
+  kept-last [] s t k stays ys h = omega (arith, ap count_true h.0, ap length h.1)
+  kept-last (x ∷ xs) s t k stays ys h =
+      one h.0 h.6 h.7 (λ l zs m. kept-last xs h.3 t l h.4 zs m)
+    where
+      one : (b : Bool) → stays ≡ not b ∷ h.4
+          → MatchBool b (TestsEachAgainstLast R h.3 h.2 xs h.4 ys t)
+          ((zs : List T) × TestsEachAgainstLast R h.3 h.1 xs h.4 zs t × (ys ≡ h.2 ∷ zs))
+          → ((l : T) (zs : List T) → TestsEachAgainstLast R h.3 l xs h.4 zs t
+          → suc (count_true h.4) ≡ length zs)
+          → suc (count_true stays) ≡ length ys
+      one true e m kept = let k = kept h.2 ys m in omega (arith, ap count_true e, k)
+      one false e m kept =
+          let k = kept h.1 m.0 m.1 in omega (arith, ap count_true e, k, ap length m.2)
+
+  few-moves : (xs : List T) (s t : S) (stays : List Bool) (ys : List T)
+      → TestsAllAgainstLast R s xs stays ys t → moves_of_retain stays ≤ length ys
+  few-moves [] s t stays ys h = omega (arith, ap moves_of_retain h.0, ap length h.1)
+  few-moves (x ∷ xs) s t stays ys h =
+      omega (arith, moves_of_retain-few stays, kept-last xs s t x stays ys h)
+
+  -- Each item that stays is moved at most once.
+  pub deduped-moves : {A : Type 0} (s t : S) (v w : ListView T A) → IsDedupedTo R s v w t
+      → MovesAtMost (length w.items) v.cost w.cost
+  deduped-moves s t v w h = record {
+    moves = moves_of_retain h.stays;
+    few = few-moves v.items s t h.stays w.items h.asked;
+    cost = h.cost;
+  }

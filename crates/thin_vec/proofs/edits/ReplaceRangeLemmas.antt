@@ -14,7 +14,8 @@ use Rattle.thin_block.proofs.SlotsLemmas.{moved_back}
 use Rattle.thin_vec.specs.OpenBlock.{IsOpen, open_view}
 use Rattle.thin_vec.specs.Open.{OpenView, cost_closed, tail_end, slots_of}
 use Rattle.thin_vec.specs.declared.open_block.OpenBlock.TheInside.{Inside}
-use Rattle.thin_vec.specs.Edits.ReplaceRange.{MovesAtMost, ReplacesByClones}
+use Rattle.thin_vec.specs.Edits.ReplaceRange.{ReplacesByClones}
+use Rattle.thin_vec.specs.List.Capacity.{MovesAtMost}
 use Rattle.thin_vec.proofs.list.InsertRemoveLemmas.{full-append}
 use Rattle.thin_vec.proofs.RetainLemmas.{moving-more, moving-none}
 use Rattle.thin_vec.proofs.OpenBlockLemmas.{Found, found, past_tail, reached}

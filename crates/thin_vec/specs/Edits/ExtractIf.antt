@@ -8,6 +8,7 @@ use Rattle.std.specs.Borrow.{GName}
 use Rattle.thin_block.specs.Cost.{add_moves}
 use Rattle.thin_block.specs.declared.growth.Growth.{Ghosts}
 use Rattle.thin_vec.specs.Open.{OpenView}
+use Rattle.thin_vec.specs.ThinVec.{ListView}
 use Rattle.thin_vec.specs.declared.edits.extract_if.ExtractState.{ExtractState}
 use Rattle.thin_vec.specs.declared.edits.extract_if.ExtractIf.{ExtractIf}
 use Rattle.thin_vec.specs.declared.edits.holder.Holder.{Holder}
@@ -51,6 +52,11 @@ module _ {T F A G : Type 0} {g : Ghosts G}
   -- `extract_callee e` is the closure that the `ExtractIf` owns, in its present state.
   abbrev pub extract_callee : ExtractIf T F A G (Holder (ExtractState T F A)) g h → F
   extract_callee e = e.holder.value.picks.pick
+
+  -- `extract_list e` is the list that the `ExtractIf` `e` borrows, as it is until `e` is dropped. It
+  -- stays as it is if `e` is leaked.
+  abbrev pub extract_list : ExtractIf T F A G (Holder (ExtractState T F A)) g h → ListView T A
+  extract_list e = e.list.now
 
   -- `extract_alloc e` is the allocator of the list that the `ExtractIf` borrows.
   abbrev pub extract_alloc : ExtractIf T F A G (Holder (ExtractState T F A)) g h → A

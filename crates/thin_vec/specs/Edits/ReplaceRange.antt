@@ -1,8 +1,8 @@
 -- These definitions are for methods that replace a range of a list with other items. They say which
 -- items the list contains afterwards, and how many moves are counted. (std: `Vec::splice`)
-use Rattle.std.specs.Prelude.{◌≡◌, ℕ, ◌+◌, ◌-◌, ◌==◌, ◌≤◌, List, if◌then◌else◌, length, min}
+use Rattle.std.specs.Prelude.{◌≡◌, ℕ, ◌+◌, ◌-◌, ◌==◌, List, if◌then◌else◌, length, min}
 use Rattle.std.specs.List.{AllZip, replace_range}
-use Rattle.thin_block.specs.Cost.{Cost, add_moves}
+use Rattle.thin_vec.specs.List.Capacity.{MovesAtMost}
 use Rattle.thin_vec.specs.ThinVec.{ListView, cost_after_resize}
 
 module _ {T A : Type 0} where
@@ -23,13 +23,6 @@ pub record ReplacesByClones {T : Type 0} (clones : T → T → Type 0) (xs : Lis
   pub copies : List T
   pub cloned : AllZip clones sources copies
   pub items : ys ≡ replace_range xs i j copies
-
--- `MovesAtMost n before after` states that the recorded cost `after` is the cost `before` plus at
--- most `n` moves.
-pub record MovesAtMost (n : ℕ) (before after : Cost) : Type 0 where
-  pub moves : ℕ
-  pub few : moves ≤ n
-  pub cost : after ≡ add_moves moves before
 
 -- `CostsAtMost n v w` states that changing the list `v` to `w` took at most `n` moves, and one
 -- reallocation if the capacity changed.

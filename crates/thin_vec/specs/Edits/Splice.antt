@@ -98,6 +98,11 @@ module _ {I T A G H : Type 0} {g : Ghosts G} {h : IntoInnerGhosts H (OpenView T 
   abbrev pub splice_iter : Splice I T A G H g h → I
   splice_iter s = s.iter
 
+  -- `splice_list s` is the list that the `Splice` `s` borrows, as it is until `finish` is called. It
+  -- stays as it is if `s` is leaked.
+  abbrev pub splice_list : Splice I T A G H g h → ListView T A
+  splice_list s = s.list.now
+
   -- `splice_alloc s` is the allocator of the list that the `Splice` borrows.
   abbrev pub splice_alloc : Splice I T A G H g h → A
   splice_alloc s = s.list.now.alloc

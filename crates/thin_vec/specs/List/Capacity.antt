@@ -10,7 +10,7 @@ use Rattle.std.specs.Borrow.{RattleType}
 use Rattle.thin_block.specs.declared.errors.ThinVecError.{ThinVecError}
 use Rattle.thin_block.specs.declared.errors.ThinVecError.TheVariants.{CapacityOverflow}
 use Rattle.thin_block.specs.Capacity.{Fits}
-use Rattle.thin_block.specs.Cost.{add_moves}
+use Rattle.thin_block.specs.Cost.{Cost, add_moves}
 use Rattle.thin_block.specs.Growth.{GrowthRule, exact_capacity}
 use Rattle.thin_vec.specs.Cheap.{IsCheap}
 use Rattle.thin_vec.specs.ThinVec.{ListView, HasRoomFor, IsBounded, capacity_after_reserve, cost_after_resize}
@@ -35,6 +35,13 @@ pub record OverflowsIffTooLarge {X : Type 0} (R : RattleType) (n : ℕ)
     (r : Result X ThinVecError) : Type 0
   where
     pub overflow : IsErrOf r CapacityOverflow ↔ (exact_capacity R 0 n ≡ None)
+
+-- `MovesAtMost n before after` states that the recorded cost `after` is the cost `before` plus at
+-- most `n` moves. No request was made, and nothing was copied.
+pub record MovesAtMost (n : ℕ) (before after : Cost) : Type 0 where
+  pub moves : ℕ
+  pub few : moves ≤ n
+  pub cost : after ≡ add_moves moves before
 
 module _ {T A : Type 0} where
   -- `CostsMoves n v w` states that changing the list `v` to `w` took exactly `n` moves. If the

@@ -4,7 +4,7 @@ ghost use Rattle.std.specs.Prelude.{◌≡◌, ◌+◌, ◌<◌, ◌≤◌, leng
 ghost use Rattle.std.specs.Fn.{CalledAtPairMut, ComparesKeys};
 ghost use Rattle.std.specs.List.{dedup};
 ghost use Rattle.thin_block.specs.Cost.{add_moves};
-ghost use Rattle.thin_vec.specs.List.Capacity.{PreservesList};
+ghost use Rattle.thin_vec.specs.List.Capacity.{MovesAtMost, PreservesList};
 
 use crate::list::ThinVec;
 use crate::open_block::dedup::PairTest;
@@ -26,6 +26,7 @@ impl<T: Drop, A: Allocator, G: Growth> ThinVec<T, A, G> {
     pub fn dedup_by<F: FnMut(&mut T, &mut T) -> bool>(&mut self, same: F)
         requires callable { F.IsAlwaysCallable same }
         ensures deduped { IsDedupedBy (CalledAtPairMut F.FnMut) same self.old self.new }
+        ensures moves { MovesAtMost (length self.new.items) self.old.cost self.new.cost }
         ensures bound { length self.new.items ≤ length self.old.items }
         ensures capacity { self.new.capacity ≡ self.old.capacity }
         ensures preserved { PreservesList T.row self.old self.new }
@@ -66,6 +67,7 @@ impl<T: Drop, A: Allocator, G: Growth> ThinVec<T, A, G> {
     pub fn dedup_by_key<K: PartialEq + Drop, F: FnMut(&mut T) -> K>(&mut self, key: F)
         requires callable { F.IsAlwaysCallable key }
         ensures deduped { IsDedupedBy (ComparesKeys F.FnMut K.eq) key self.old self.new }
+        ensures moves { MovesAtMost (length self.new.items) self.old.cost self.new.cost }
         ensures bound { length self.new.items ≤ length self.old.items }
         ensures capacity { self.new.capacity ≡ self.old.capacity }
         ensures preserved { PreservesList T.row self.old self.new }
@@ -90,6 +92,7 @@ impl<T: PartialEq + Drop, A: Allocator, G: Growth> ThinVec<T, A, G> {
         ensures items { self.new.items ≡ dedup T.eq self.old.items }
         ensures cost { self.new.cost ≡ add_moves (moves_of_retain (dedup_flags T.eq self.old.items))
             self.old.cost }
+        ensures moves { MovesAtMost (length self.new.items) self.old.cost self.new.cost }
         ensures bound { length self.new.items ≤ length self.old.items }
         ensures capacity { self.new.capacity ≡ self.old.capacity }
         ensures preserved { PreservesList T.row self.old self.new }

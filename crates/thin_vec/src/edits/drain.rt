@@ -81,7 +81,7 @@ impl<T: Drop, A: Allocator, G: Growth> ThinVec<T, A, G> {
 
         // Until the `Drain` is dropped, and for ever if it is leaked, the list is empty. The
         // `Drain` borrows the list, so the list is a part of `result`, and not `self.new`.
-        ensures changes { drain_list result
+        ensures meanwhile { drain_list result
             ≡ record self.old { items = []; capacity = 0; cost = no_cost } }
 
         // After the `Drain` is dropped, the list has the following items, capacity and recorded

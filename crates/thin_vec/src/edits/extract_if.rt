@@ -4,11 +4,12 @@
 //! The removed items leave a gap of empty slots. A kept item behind the gap is moved down to the
 //! start of the gap after its test. If the items are large, they wait until the next removal, or
 //! until the last test, and are then moved together.
-ghost use Rattle.std.specs.Prelude.{◌≡◌, ◌≤◌, IfSome, Some, drop, length, not, slice_range, take};
+ghost use Rattle.std.specs.Prelude.{◌≡◌, ◌≤◌, [], IfSome, Some, drop, length, not, slice_range, take};
 ghost use Rattle.std.specs.Fn.{CalledAtMut};
 ghost use Rattle.std.specs.Iterator.{UpTo, at_most};
 ghost use Rattle.std.specs.Iterator.SizeHint.{IsWithinCount};
 ghost use Rattle.thin_block.specs.Block.{IsAllocatedBy};
+ghost use Rattle.thin_block.specs.Cost.{no_cost};
 ghost use Rattle.thin_vec.specs.Open.{cost_closed, items_of};
 
 use crate::edits::holder::{Holder, IntoInner};
@@ -119,7 +120,7 @@ impl<T, F: FnMut(&mut T) -> bool, A: Allocator> ExtractState<T, F, A> {
 }
 
 impl<T: Drop, A: Allocator, G: Growth> ThinVec<T, A, G> {
-    ghost use Rattle.thin_vec.specs.Edits.ExtractIf.{ExtractKeepsAlong, extract_alloc, extract_block, extract_callee, extract_lender, extract_rest};
+    ghost use Rattle.thin_vec.specs.Edits.ExtractIf.{ExtractKeepsAlong, extract_alloc, extract_block, extract_callee, extract_lender, extract_list, extract_rest};
 
     /// Returns an iterator that removes the items in the range `start..end` for which `pick`
     /// returns true. The iterator yields the removed items in order. The function `bounds` of this
@@ -145,13 +146,17 @@ impl<T: Drop, A: Allocator, G: Growth> ThinVec<T, A, G> {
         requires in_bounds { end ≤ length self.old.items }
 
         // The `ExtractIf` owns the items before the range (`front`), the items of the range
-        // (`rest`), the items after the range (`tail`), and the closure (`callee`). No item has
-        // been removed yet (`gone`).
+        // (`rest`), the items after the range (`tail`), and the closure (`value`). No item has been
+        // removed yet (`gap`).
         ensures front { (extract_block result).front ≡ take start self.old.items }
         ensures rest { extract_rest result ≡ slice_range self.old.items start end }
         ensures tail { (extract_block result).tail ≡ drop end self.old.items }
         ensures gap { (extract_block result).gap ≡ 0 }
         ensures value { extract_callee result ≡ pick }
+
+        // Until the `ExtractIf` is dropped, and for ever if it is leaked, the list is empty.
+        ensures meanwhile { extract_list result
+            ≡ record self.old { items = []; capacity = 0; cost = no_cost } }
 
         // The `ExtractIf` borrows this list: its reference to the list has the same ghost name as
         // `self`. The capacity, the allocator and the recorded cost of the `ExtractIf` are those

@@ -4,9 +4,9 @@ ghost use Rattle.std.specs.Prelude.{◌≡◌, ◌+◌, ◌-◌, ◌*◌, ◌<�
 ghost use Rattle.std.specs.List.{replace_range};
 ghost use Rattle.thin_block.specs.Cost.{add_moves};
 ghost use Rattle.thin_vec.specs.List.Clones.{ClonesEqual};
-ghost use Rattle.thin_vec.specs.Edits.ReplaceRange.{MovesAtMost, ReplacesByClones, moves_cloning, moves_replacing, CostsAtMost};
+ghost use Rattle.thin_vec.specs.Edits.ReplaceRange.{ReplacesByClones, moves_cloning, moves_replacing, CostsAtMost};
 ghost use Rattle.thin_vec.specs.ThinVec.{HasRoomFor, IsBounded};
-ghost use Rattle.thin_vec.specs.List.Capacity.{CostsMoves, PreservesList, Reserves};
+ghost use Rattle.thin_vec.specs.List.Capacity.{CostsMoves, MovesAtMost, PreservesList, Reserves};
 
 use crate::list::ThinVec;
 use std::alloc::Allocator;

@@ -7,7 +7,7 @@
 ghost use Rattle.std.specs.Prelude.{◌≡◌, ◌<◌, ◌≤◌, length};
 ghost use Rattle.std.specs.List.Retain.{IsFiltered};
 ghost use Rattle.std.specs.Fn.{CalledAt, CalledAtMut};
-ghost use Rattle.thin_vec.specs.List.Capacity.{PreservesList};
+ghost use Rattle.thin_vec.specs.List.Capacity.{MovesAtMost, PreservesList};
 
 use crate::list::ThinVec;
 use crate::open_block::retain::Test;
@@ -27,6 +27,7 @@ impl<T: Drop, A: Allocator, G: Growth> ThinVec<T, A, G> {
         requires callable { F.IsAlwaysCallable keep }
         ensures retained { IsRetained (ReadsOnly (CalledAt F.FnMut)) keep self.old self.new }
         ensures filtered { IsFiltered (CalledAt F.FnMut) keep self.old.items self.new.items }
+        ensures moves { MovesAtMost (length self.new.items) self.old.cost self.new.cost }
         ensures bound { length self.new.items ≤ length self.old.items }
         ensures capacity { self.new.capacity ≡ self.old.capacity }
         ensures preserved { PreservesList T.row self.old self.new }
@@ -41,6 +42,7 @@ impl<T: Drop, A: Allocator, G: Growth> ThinVec<T, A, G> {
     pub fn retain_mut<F: FnMut(&mut T) -> bool>(&mut self, keep: F)
         requires callable { F.IsAlwaysCallable keep }
         ensures retained { IsRetained (CalledAtMut F.FnMut) keep self.old self.new }
+        ensures moves { MovesAtMost (length self.new.items) self.old.cost self.new.cost }
         ensures bound { length self.new.items ≤ length self.old.items }
         ensures capacity { self.new.capacity ≡ self.old.capacity }
         ensures preserved { PreservesList T.row self.old self.new }

@@ -6,6 +6,7 @@ ghost use Rattle.std.specs.Iterator.Runs.{WholeRun};
 ghost use Rattle.thin_vec.specs.List.Capacity.{PreservesList};
 ghost use Rattle.thin_vec.specs.List.Extend.{CostsInserting, ExtendsCapacity};
 ghost use Rattle.thin_block.specs.Block.{IsAllocatedBy};
+ghost use Rattle.thin_block.specs.Cost.{no_cost};
 
 use crate::edits::holder::{Holder, IntoInner};
 use crate::errors::SpliceRefused;
@@ -37,7 +38,7 @@ pub struct Splice<
 }
 
 impl<T, A: Allocator, G: Growth> ThinVec<T, A, G> {
-    ghost use Rattle.thin_vec.specs.Edits.Splice.{splice_alloc, splice_block, splice_iter, splice_lender, splice_range, splice_rest};
+    ghost use Rattle.thin_vec.specs.Edits.Splice.{splice_alloc, splice_block, splice_iter, splice_lender, splice_list, splice_range, splice_rest};
 
     /// Begins to replace the items `start..end` with the items of `iter`. The returned `Splice`
     /// yields the old items from either end. Its method `finish` puts the new items in their place.
@@ -67,6 +68,10 @@ impl<T, A: Allocator, G: Growth> ThinVec<T, A, G> {
         ensures capacity { (splice_block result).capacity ≡ self.old.capacity }
         ensures alloc { splice_alloc result ≡ self.old.alloc }
         ensures cost { (splice_block result).cost ≡ self.old.cost }
+
+        // Until `finish` is called, and for ever if the `Splice` is leaked, the list is empty.
+        ensures meanwhile { splice_list result
+            ≡ record self.old { items = []; capacity = 0; cost = no_cost } }
 
         // The `Splice` borrows this list: its reference to the list has the same ghost name as
         // `self`.

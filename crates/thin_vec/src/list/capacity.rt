@@ -33,7 +33,7 @@ impl<T, A: Allocator, G: Growth> ThinVec<T, A, G> {
     /// `isize::MAX` bytes.
     pub fn reserve(&mut self, additional: usize) -> Result<(), ThinVecError>
         // On success.
-        ensures room { OnOk result (HasRoomFor self.new additional) }
+        ensures ok { OnOk result (HasRoomFor self.new additional) }
         ensures cost { OnOk result (self.new.cost ≡ cost_after_resize self.old self.new.capacity) }
 
         // When it must succeed.
@@ -44,6 +44,7 @@ impl<T, A: Allocator, G: Growth> ThinVec<T, A, G> {
 
         // In every case.
         ensures items { self.new.items ≡ self.old.items }
+        ensures len { length self.new.items ≡ length self.old.items }
         ensures capacity { Reserves G.rule T.row additional self.old self.new result }
         ensures preserved { PreservesList T.row self.old self.new }
     {
@@ -201,6 +202,7 @@ impl<T, A: Allocator, G: Growth> ThinVec<T, A, G> {
 
         // On success.
         ensures items { IfOk result (λ list. list.items ≡ []) }
+        ensures len { IfOk result (λ list. length list.items ≡ 0) }
         ensures capacity { IfOk result (λ list. list.capacity ≡ capacity) }
         ensures cost { IfOk result (λ list. list.cost ≡ cost_of_new capacity) }
         ensures new { IfOk result (IsFreshList T.row alloc) }
@@ -240,6 +242,7 @@ impl<T, A: Allocator> ThinVec<T, A> {
     pub fn with_capacity(alloc: A, capacity: usize) -> Result<ThinVec<T, A>, ThinVecError>
         // On success.
         ensures items { IfOk result (λ list. list.items ≡ []) }
+        ensures len { IfOk result (λ list. length list.items ≡ 0) }
         ensures capacity { IfOk result (λ list. list.capacity ≡ capacity) }
         ensures cost { IfOk result (λ list. list.cost ≡ cost_of_new capacity) }
         ensures new { IfOk result (IsFreshList T.row alloc) }

@@ -53,14 +53,11 @@ impl<T, A: Allocator, G: Growth> Index<usize> for ThinVec<T, A, G> {
 
     ghost can_index = { λ list index. index < length list.items };
 
-    ghost index_gives = { λ list index item. (slice_get list.items index ≡ Some item)
-        × (item ≡ slice_index_or list.items index item) };
+    ghost index_gives = { λ list index item. item ≡ slice_index_or list.items index item };
 
     fn index(&self, index: usize) -> &T
         requires { index < length self.now.items }
-        ensures value { result.now ≡ slice_index_or self.now.items index result.now }
-        ensures found { slice_get self.now.items index ≡ Some result.now }
-        ensures bounds { IsBounded T.row self.now }
+        ensures { result.now ≡ slice_index_or self.now.items index result.now }
     {
         &self.as_slice()[index]
     }

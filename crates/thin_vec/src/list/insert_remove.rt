@@ -219,6 +219,7 @@ impl<T: Drop, A: Allocator, G: Growth> ThinVec<T, A, G> {
     /// Drops all items. The capacity does not change.
     pub fn clear(&mut self)
         ensures items { self.new.items ≡ [] }
+        ensures len { length self.new.items ≡ 0 }
         ensures changes { self.new ≡ record self.old { items = self.new.items } }
         ensures bounds { IsBounded T.row self.old × IsBounded T.row self.new }
     {

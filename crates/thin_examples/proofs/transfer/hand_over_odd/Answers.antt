@@ -23,7 +23,7 @@ loop-number-init g c = (
   extract_start odd _ _,
   omega (
     arith,
-    c.in_ok-reserve.ensures.room,
+    c.in_ok-reserve.ensures.ok,
     c.len-len.ensures.value,
     ap length (c.extract_if-odd.ensures.rest
         ∙ whole c.args.list.now.items _ c.len-len.ensures.value),

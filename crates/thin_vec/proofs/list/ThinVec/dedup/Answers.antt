@@ -3,7 +3,7 @@ use Rattle.std.proofs.Common.{ap, ◌∙◌}
 use Rattle.thin_block.specs.Cost.{add_moves}
 use Rattle.thin_vec.specs.Edits.Retain.{moves_of_retain}
 use Rattle.thin_vec.specs.Edits.Dedup.{Compares}
-use Rattle.thin_vec.proofs.edits.DedupLemmas.{few-deduped, pairs-compare}
+use Rattle.thin_vec.proofs.edits.DedupLemmas.{deduped-moves, few-deduped, pairs-compare}
 use Rattle.thin_vec.proofs.list.ThinVec.dedup.Goals as goal
 
 pub returns-clause-items : goal.returns-clause-items
@@ -22,3 +22,7 @@ returns-clause-cost g c =
 pub returns-clause-bound : goal.returns-clause-bound
 returns-clause-bound g c = few-deduped (Compares g.T.PartialEq.eq) _ c.args.self.now
     c.dedup_with.new.self (_, c.dedup_with.ensures.deduped)
+
+pub returns-clause-moves : goal.returns-clause-moves
+returns-clause-moves g c =
+    deduped-moves _ _ _ c.args.self.now c.dedup_with.new.self c.dedup_with.ensures.deduped

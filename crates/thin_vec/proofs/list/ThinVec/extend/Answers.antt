@@ -61,7 +61,7 @@ returns-in-Ok-clause-cost g c =
           e.blocks,
           ap (λ k. k.blocks) c.in-Ok.ensures.cost,
           cost_after_resize-blocks v u.capacity,
-          c.in-Ok.ensures.room,
+          c.in-Ok.ensures.ok,
           ap length c.reserve.ensures.items,
         ),
       );

@@ -18,7 +18,7 @@ loop-i-preserved g c =
     let clones = was.items.0 in
     let pushed = c.push_reserved.ensures in
     let is = get-range xs c.args.start c.args.end c.requires.in_bounds clones i x (omega arith)
-    (c.index.ensures.value ∙ ap (λ l. get_or l (c.args.start + i) x) was.items.1) in
+    (c.index.ensures ∙ ap (λ l. get_or l (c.args.start + i) x) was.items.1) in
     record {
       items = (
         clones ++ y ∷ [],

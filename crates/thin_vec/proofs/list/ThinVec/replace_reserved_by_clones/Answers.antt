@@ -7,7 +7,7 @@ use Rattle.std.proofs.lemmas.List.{length-drop, length-take-le}
 use Rattle.std.proofs.lemmas.List.Elements.{length_all_zip}
 use Rattle.std.specs.List.{AllZip}
 use Rattle.thin_block.specs.Cost.{add_moves}
-use Rattle.thin_vec.specs.Edits.ReplaceRange.{MovesAtMost}
+use Rattle.thin_vec.specs.List.Capacity.{MovesAtMost}
 use Rattle.thin_vec.proofs.RetainLemmas.{moving-more}
 use Rattle.thin_vec.proofs.edits.SpliceLemmas.{any-err}
 use Rattle.thin_vec.proofs.list.ClonesLemmas.{length-range}

@@ -44,7 +44,7 @@ facts g c =
     ))
     (omega (
       arith,
-      c.in_ok-reserve.ensures.room,
+      c.in_ok-reserve.ensures.ok,
       put.slots.2,
       len,
       c.self.invariant.packed.len,

@@ -1,7 +1,7 @@
 -- The test that `retain` passes to `retain_with` calls the closure `keep` once for each item.
 use Rattle.std.specs.Fn.{CalledAt}
 use Rattle.thin_vec.specs.Edits.Retain.{ReadsOnly}
-use Rattle.thin_vec.proofs.RetainLemmas.{few-retained, retained-through, retained_filtered}
+use Rattle.thin_vec.proofs.RetainLemmas.{few-retained, retained-moves, retained-through, retained_filtered}
 use Rattle.thin_vec.proofs.list.ThinVec.retain.Goals as goal
 
 pub returns-clause-retained : goal.returns-clause-retained
@@ -20,3 +20,7 @@ returns-clause-bound g c =
     few-retained (ReadsOnly (CalledAt g.F.FnMut)) _ c.args.self.now c.retain_with.new.self
     (retained-through (ReadsOnly (CalledAt g.F.FnMut)) (λ s. s.keep)
     _ c.args.self.now c.retain_with.new.self _ c.retain_with.ensures.retained)
+
+pub returns-clause-moves : goal.returns-clause-moves
+returns-clause-moves g c =
+    retained-moves _ _ _ c.args.self.now c.retain_with.new.self c.retain_with.ensures.retained

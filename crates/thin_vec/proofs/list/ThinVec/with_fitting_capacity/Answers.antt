@@ -1,5 +1,5 @@
 -- A newly allocated block holds no items.
-use Rattle.std.proofs.Common.{[], arith, refl}
+use Rattle.std.proofs.Common.{[], ap, arith, length, refl}
 use Rattle.std.proofs.lemmas.Grind.{common_steps}
 use Rattle.thin_vec.proofs.ListLemmas.{RestoresInvariant}
 use Rattle.thin_vec.proofs.ThinVecLemmas.{within-settled}
@@ -17,6 +17,9 @@ invariant_of-result g c = (facts g c).thin
 
 pub returns-clause-items : goal.returns-clause-items
 returns-clause-items g c = (facts g c).items
+
+pub returns-clause-len : goal.returns-clause-len
+returns-clause-len g c = ap length (facts g c).items
 
 pub returns-clause-new : goal.returns-clause-new
 returns-clause-new g c = record {
