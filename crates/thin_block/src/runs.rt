@@ -1,7 +1,6 @@
 //! Methods that move runs of items within a block or to another block. A run consists of the items
-//! in adjacent slots. The arguments of each method come in one order: the lower end of the slots
-//! concerned or the start of the run, then the distance or the new start, then the number of items.
-//! The last clause of a method, about the number of slots, follows from the clause before it.
+//! in adjacent slots. A clause `capacity`, about the number of slots, follows from the clause
+//! `changes` before it.
 ghost use Rattle.std.specs.Prelude.{◌≡◌, ◌⊎◌, ℕ, ◌+◌, ◌-◌, ◌<◌, ◌≤◌, false, if◌then◌else◌, length, true};
 ghost use Rattle.std.specs.declared.option.Option.TheVariants.{None};
 ghost use Rattle.thin_block.specs.Cost.{add_moves, add_copies};

@@ -1,5 +1,5 @@
 //! This file declares the type `ThinVec`, says how contracts describe a list, and contains the most
-//! common methods. The other methods are in the folders `list`, `convert` and `edits`.
+//! common methods. The other public methods are in the folders `list`, `convert` and `edits`.
 //!
 //! In contracts, `OnOk result P` states that `P` holds if `result` is `Ok`, and `IfOk result P`
 //! states that `P` holds for the value in `Ok`. `OnErr` and `IfErr` do the same for `Err`. `T.row`

@@ -212,6 +212,76 @@ impl<T, A: Allocator> OpenBlock<T, A> {
         self.block.take(self.rest_end)
     }
 
+    // Moves the item `value` into the first empty slot after the kept items.
+    pub(crate) fn append_to_front(&mut self, value: T)
+        requires has_gap { 0 < self.old.gap }
+        ensures { self.new ≡ record self.old {
+          front = self.old.front ++ value ∷ [];
+          gap = self.old.gap - 1;
+          cost = add_moves 1 self.old.cost;
+        } }
+    {
+        self.block.put(self.front_end, value);
+        self.front_end += 1;
+    }
+
+    // Adds the first `k` of the remaining items to the kept items. There must be no gap before the
+    // remaining items, so no item is moved.
+    pub(crate) fn keep_in_place(&mut self, k: usize)
+        requires no_gap { self.old.gap ≡ 0 }
+        requires in_bounds { k ≤ length self.old.rest }
+        ensures { self.new
+            ≡ record self.old {
+              front = self.old.front ++ take k self.old.rest;
+              rest = drop k self.old.rest;
+            } }
+    {
+        self.front_end += k;
+        self.rest_start += k;
+    }
+
+    // Moves the first of the remaining items down into the first empty slot after the kept items.
+    pub(crate) fn move_one_down(&mut self)
+        requires nonempty { 0 < length self.old.rest }
+        requires has_gap { 0 < self.old.gap }
+        ensures { self.new ≡ record self.old {
+          front = self.old.front ++ take 1 self.old.rest;
+          rest = drop 1 self.old.rest;
+          cost = add_moves 1 self.old.cost;
+        } }
+    {
+        let value = self.take_first();
+        self.append_to_front(value);
+    }
+
+    // Moves the first `k` remaining items down to the end of the kept items. Two or more items are
+    // moved together, by the method `close_gap` of the block.
+    pub(crate) fn move_down(&mut self, k: usize)
+        requires in_bounds { k ≤ length self.old.rest }
+        requires has_gap { 0 < self.old.gap }
+        ensures { self.new ≡ record self.old {
+          front = self.old.front ++ take k self.old.rest;
+          rest = drop k self.old.rest;
+          cost = add_moves k self.old.cost;
+        } }
+    {
+        if k == 0 {
+            return;
+        }
+        if k == 1 {
+            self.move_one_down();
+            return;
+        }
+        let block = mem::replace(&mut self.block, Block::none());
+        let closed = block.close_gap(self.front_end, self.rest_start - self.front_end, k);
+        let none = mem::replace(&mut self.block, closed);
+        // `none` is the empty block that was in the field `block` during the call to `close_gap`.
+        // It has no allocation, so there is nothing to free.
+        none.forget_unallocated();
+        self.front_end += k;
+        self.rest_start += k;
+    }
+
     // Returns the remaining items of the range, in order.
     pub(crate) fn rest_slice(&self) -> &[T]
         ensures value { result.now ≡ self.now.rest }

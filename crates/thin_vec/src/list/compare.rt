@@ -1,5 +1,5 @@
-//! Implementations of traits that compare, hash, print and make lists. A list is compared, hashed
-//! and printed like the slice of its items.
+//! Implementations of traits that compare, hash and print lists, as the slices of their items. Those
+//! of `Emptied` and `MadeWith`, which make empty lists, are here, too.
 ghost use Rattle.std.specs.Cmp.{on_equiv, on_per, on_po, on_total};
 ghost use Rattle.std.specs.Cmp.Lexicographic.{lists_agrees, lists_equiv, lists_per, lists_po, lists_ties, lists_total, pointwise, slice_cmp, slice_partial_cmp};
 ghost use Rattle.std.specs.Hash as fed;
