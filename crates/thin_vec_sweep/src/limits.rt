@@ -78,6 +78,7 @@ pub fn powers<R: Abort>(rt: &R, ledger: &'static Ledger) {
         ledger.begin(0);
         let answer = (made::<u8>(ledger, capacity), ledger.alloc.requests());
         assert!(rt; answer == (Ok(()), 1), "with_capacity(2^{power})");
+        assert!(rt; ledger.alloc.blocks() == 0, "blocks of 2^{power}");
         ledger.begin(0);
         let answer = (reserved(ledger, capacity), ledger.alloc.requests());
         assert!(rt; answer == (Ok(()), 1), "reserve(2^{power})");

@@ -181,6 +181,7 @@ fn put<T: Drop, A: Allocator>(items: &mut Vec<T, A>, item: T) -> Result<(), Allo
 fn blocks_in<T: Drop, G: Growth>(reply: &Reply<T, Lender, G>) -> u64 {
     match reply {
         Reply::List(list) => u64::from(list.has_capacity()),
+        Reply::Answers(answers) if answers.capacity() > answers.len().max(8) => 99,
         Reply::Answers(answers) => u64::from(!answers.is_empty()),
         _ => 0,
     }
@@ -372,7 +373,9 @@ pub fn assert_long_run_right<T: Numbered, G: Growth, R: Abort>(rt: &R, ledger: &
     let mut replies = Vec::new(alloc);
     let judge = Digits { digits: 0 };
     let commands = pushes(ledger, 5000).ok().expect(rt, "memory");
+    ledger.begin(0);
     let ran = run(alloc, &mut list, commands, &mut replies, &judge);
+    assert_eq!(rt; (alloc.requests(), replies.capacity()), (13, 5000));
     let done = replies
         .as_slice()
         .iter()

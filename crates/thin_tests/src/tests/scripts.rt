@@ -9,7 +9,7 @@ use std::process::Abort;
 use std::test::Fail;
 
 // Invalid lines of the input, each with its error message.
-static WRONG: [(&str, &str); 9] = [
+static WRONG: [(&str, &str); 12] = [
     (
         "pus 3",
         "no command has this name (`help` lists the commands)",
@@ -30,6 +30,18 @@ static WRONG: [(&str, &str); 9] = [
         "ITEM is not a number from 0 to 18446744073709551615",
     ),
     ("retain 0 1 1", "DIVISOR is 0"),
+    (
+        "retain 0 x 1",
+        "STRIDE is not a number from 0 to 18446744073709551615",
+    ),
+    (
+        "retain x 1 1",
+        "DIVISOR is not a number from 0 to 18446744073709551615",
+    ),
+    (
+        "extract_if 0 1 x 1 1 1",
+        "CALLS is not a number from 0 to 18446744073709551615",
+    ),
     (
         "drain 0 1 fx",
         "STEPS is neither `-` nor a word of the letters `f` and `b`",

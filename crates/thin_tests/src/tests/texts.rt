@@ -14,6 +14,14 @@ fn prints_a_list_in_each_form(rt: HostRuntime) -> Result<(), Fail> {
     assert_texts(&rt, rt.alloc(), &list, texts)?;
     let empty = ThinVec::<i32>::new(rt.alloc());
     assert_texts(&rt, rt.alloc(), &empty, ["[]", "[]", "[]"])?;
+    let three = list_of(rt.alloc(), &[1, 2, 3])?;
+    let lines = "[\n    1,\n    2,\n    3,\n]";
+    assert_texts(
+        &rt,
+        rt.alloc(),
+        &three,
+        ["[1, 2, 3]", lines, "[0001, 0002, 0003]"],
+    )?;
     let words = list_of(rt.alloc(), &["a\"b"])?;
     assert_text(&rt, rt.alloc(), &words, "[\"a\\\"b\"]")
 }
@@ -68,10 +76,15 @@ fn prints_a_list_and_an_into_iter_of_many_items(rt: HostRuntime) -> Result<(), F
 fn prints_a_drain_of_many_items(rt: HostRuntime) -> Result<(), Fail> {
     let mut list = list_of(rt.alloc(), &[1, 2, 3, 4, 5, 6, 7, 8, 9])?;
     assert_len(&rt, &list, 9);
-    let mut drain = list.drain(0, 8);
-    assert_text(&rt, rt.alloc(), &drain, "Drain([1, 2, 3, 4, 5, 6, 7, 8])")?;
-    assert_same(&rt, (drain.next(), drain.next_back()), (Some(1), Some(8)));
-    assert_text(&rt, rt.alloc(), &drain, "Drain([2, 3, 4, 5, 6, 7])")
+    let mut drain = list.drain(0, 9);
+    assert_text(
+        &rt,
+        rt.alloc(),
+        &drain,
+        "Drain([1, 2, 3, 4, 5, 6, 7, 8, 9])",
+    )?;
+    assert_same(&rt, (drain.next(), drain.next_back()), (Some(1), Some(9)));
+    assert_text(&rt, rt.alloc(), &drain, "Drain([2, 3, 4, 5, 6, 7, 8])")
 }
 
 #[test]
@@ -135,6 +148,16 @@ fn prints_errors_with_their_causes(rt: HostRuntime) -> Result<(), Fail> {
         };
         assert_prints_cause(&rt, alloc, &collect, "CollectRefused", cause)?;
         let held = Vec::new(alloc);
+        let splice = SpliceRefused {
+            cause,
+            held,
+            in_hand,
+            rest,
+        };
+        assert_prints_cause(&rt, alloc, &splice, "SpliceRefused", cause)?;
+        let mut held = Vec::new(alloc);
+        held.push(1).ok().ok_or("memory")?;
+        let in_hand: Option<i32> = None;
         let splice = SpliceRefused {
             cause,
             held,

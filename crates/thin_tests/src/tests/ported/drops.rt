@@ -1,11 +1,13 @@
 //! When items are dropped: each one once. Dropping an empty list makes no request.
 use crate::tests::support::{assert_len, assert_same, counted_list, leaked_ledger};
+use std::alloc::Global;
+use std::cell::Cell;
 use std::iter::once;
 use std::process::Abort;
 use std::rc::Rc;
 use std::test::Fail;
 use thin_testing::{Counted, Refusing};
-use thin_vec::ThinVec;
+use thin_vec::{ThinVec, ThinVecError};
 
 #[test]
 fn truncate_drops_each_removed_item_once(rt: HostRuntime) -> Result<(), Fail> {
@@ -87,5 +89,54 @@ fn each_call_drops_items_of_eight_bytes(rt: HostRuntime) -> Result<(), Fail> {
         remove_by_way(&rt, way, list);
         assert_same(&rt, (way, Rc::strong_count(&item)), (way, 1));
     }
+    Ok(())
+}
+
+// An item that writes its digit when it is dropped.
+struct Digit<'a> {
+    written: &'a Cell<u64>,
+    digit: u64,
+}
+
+impl Drop for Digit<'_> {
+    fn drop(self) {
+        let Digit { written, digit } = self;
+        written.set(written.get().wrapping_mul(10).wrapping_add(digit));
+    }
+}
+
+// Makes a list of the items 1, 2, 3 and 4.
+fn digits<'a>(alloc: Global, written: &'a Cell<u64>) -> Result<ThinVec<Digit<'a>>, ThinVecError> {
+    let mut list = ThinVec::new(alloc);
+    for digit in 1..5 {
+        list.push(Digit { written, digit })?;
+    }
+    Ok(list)
+}
+
+#[test]
+fn items_are_dropped_in_order(rt: HostRuntime) -> Result<(), Fail> {
+    let written = Cell::new(0);
+    drop(digits(rt.alloc(), &written)?);
+    assert_same(&rt, written.get(), 1234);
+    written.set(0);
+    let mut list = digits(rt.alloc(), &written)?;
+    assert_len(&rt, &list, 4);
+    drop(list.drain(1, 4));
+    assert_same(&rt, written.get(), 234);
+    list.clear();
+    drop(digits(rt.alloc(), &written)?.into_iter());
+    assert_same(&rt, written.get(), 23_411_234);
+    Ok(())
+}
+
+#[test]
+fn removed_items_are_dropped_in_order(rt: HostRuntime) -> Result<(), Fail> {
+    let written = Cell::new(0);
+    let mut list = digits(rt.alloc(), &written)?;
+    list.truncate(2);
+    assert_same(&rt, written.get(), 34);
+    list.retain(|_item| false);
+    assert_same(&rt, written.get(), 3412);
     Ok(())
 }
