@@ -16,9 +16,9 @@ fn first_list<A: Allocator>(alloc: A) -> Result<ThinVec<u32, A>, ThinVecError>
     Ok(list)
 }
 
-fn main(rt: HostRuntime) -> io::Result<()> {
-    match first_list(rt.alloc()) {
-        Ok(list) => println!(rt; "{list:?}"),
-        Err(error) => println!(rt; "{error}"),
+fn main(host: HostRuntime) -> io::Result<()> {
+    match first_list(host.alloc()) {
+        Ok(list) => println!(host; "{list:?}"),
+        Err(error) => println!(host; "{error}"),
     }
 }
