@@ -126,8 +126,7 @@ module _ {M : Type 1} {𝓤 : Ura M} (𝓛 : Logic 𝓤) (E : El) (b : ℕ) (k h
   Slots' at xs = slots_own (R E) xs b at
 
   -- In this module, a block holds the items `xs`, then the `k` items `ys`, and then `m` empty
-  -- slots. The items `ys` take as many bytes as the memory
-  -- before the slots.
+  -- slots. The items `ys` take as many bytes as the memory before the slots.
   module _ (xs ys : List (el_x E)) (long : length ys ≡ k) (n m : ℕ)
       (count : n ≡ length xs + k) where
     abbrev there : ℕ

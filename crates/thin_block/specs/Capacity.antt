@@ -49,8 +49,13 @@ in_words s = if s == 1 then Some (8, 2) else (if s == 2 then Some (4, 2) else
     (if s == 4 then Some (2, 2) else (if s == 8 then Some (1, 2) else
     (if s == 16 then Some (1, 1) else None))))
 
+-- `may_have_padding s a c` is true if a block for `c` items of size `s` and alignment `a` is padded
+-- unless the items take `2 ^ 62` bytes or more.
+abbrev pub may_have_padding : ℕ → ℕ → ℕ → Bool
+may_have_padding s a c = nat_lt 16 s && (nat_le 8 a && nat_le 32 c)
+
 -- `has_padding s a c` is true if a block for `c` items of size `s` and alignment `a` is padded: in
 -- front of the header is unused memory, which takes as many bytes as an item together with the
 -- header. The prover unfolds this definition only on request.
 unfoldable pub has_padding : ℕ → ℕ → ℕ → Bool
-has_padding s a c = nat_lt 16 s && (nat_le 8 a && (nat_le 32 c && nat_lt (c * s) (2 ^ 62)))
+has_padding s a c = may_have_padding s a c && nat_lt (c * s) (2 ^ 62)

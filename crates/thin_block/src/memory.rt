@@ -12,6 +12,7 @@ use crate::errors::ThinVecError;
 use crate::in_place::LONG;
 use crate::sizes::{
     HEADER, align_of_block, bytes_of_block, bytes_of_padded, is_padded, item_align, item_size,
+    may_be_padded,
 };
 use std::alloc::{AllocError, Allocator};
 use std::marker::PhantomData;
@@ -160,7 +161,7 @@ impl<T, A: Allocator> Block<T, A> {
             4 if len >= LONG * 2 && len % 2 == 0 => self.resize_in_place::<2, 2>(alloc, len, cap),
             8 if len >= LONG => self.resize_in_place::<1, 2>(alloc, len, cap),
             16 if len >= LONG / 2 => self.resize_in_place::<1, 1>(alloc, len, cap),
-            _ if len > 0 && is_padded::<T>(self.cap()) && is_padded::<T>(cap) => {
+            _ if is_padded::<T>(self.cap()) && is_padded::<T>(cap) && len > 0 => {
                 self.resize_padded_in_place(alloc, len, cap)
             }
             _ => {
@@ -189,7 +190,26 @@ impl<T, A: Allocator> Block<T, A> {
     }
 
     // Frees the allocation of the block, which has `cap` slots, all empty.
+    #[tactic(auto, unfolding(crate::specs::Capacity::has_padding))]
     fn free(self, alloc: &A, cap: usize)
+        requires same_allocator { IsAllocatedBy self.alloc alloc.now }
+        requires nonzero { 0 < cap }
+        requires capacity { cap ≡ length self.slots }
+        requires empty { self.slots ≡ empty_slots (length self.slots) }
+        requires fits { Fits T.row cap }
+    {
+        if may_be_padded::<T>(cap) {
+            self.free_large(alloc, cap);
+        } else {
+            self.free_block(alloc, bytes_of_block::<T>(cap), align_of_block::<T>());
+        }
+    }
+
+    // Frees the allocation of the block as `free` does. This function is not inlined, so that a
+    // caller of `free` has no code for padded blocks.
+    #[cold]
+    #[inline(never)]
+    fn free_large(self, alloc: &A, cap: usize)
         requires same_allocator { IsAllocatedBy self.alloc alloc.now }
         requires nonzero { 0 < cap }
         requires capacity { cap ≡ length self.slots }
@@ -212,8 +232,8 @@ impl<T, A: Allocator> Block<T, A> {
     }
 
     // Allocates a block that is not padded and is to replace the block `old`, as `replacement`
-    // does. `bytes` is the size of the new block in bytes, and `align` is its alignment. The call fails
-    // only if the allocator fails. At run time, `old` is not used.
+    // does. `bytes` is the size of the new block in bytes, and `align` is its alignment. The call
+    // fails only if the allocator fails. At run time, `old` is not used.
     fn allocate_block(
         alloc: &A,
         cap: usize,

@@ -1,10 +1,10 @@
 //! Computes the size of a block in bytes, and tests whether a block of a given capacity is small
 //! enough to be allocated.
-ghost use Rattle.std.specs.Prelude.{◌≡◌, ◌↔◌, ◌+◌, ◌*◌, IsTrue, true};
+ghost use Rattle.std.specs.Prelude.{◌≡◌, ◌↔◌, ◌+◌, ◌*◌, ◌^◌, IsTrue, nat_lt, true};
 ghost use Rattle.std.specs.Mem.{type_size};
 ghost use Rattle.std.specs.Align.{type_align};
 ghost use prog.Memory.{capped};
-ghost use Rattle.thin_block.specs.Capacity.{block_align, block_bytes, Fits, has_padding};
+ghost use Rattle.thin_block.specs.Capacity.{block_align, block_bytes, Fits, has_padding, may_have_padding};
 
 use std::mem::{align_of, size_of};
 
@@ -33,7 +33,7 @@ pub(crate) fn item_align<T>() -> usize
 pub(crate) fn align_of_block<T>() -> usize
     ensures value { result ≡ block_align (type_align T.row) }
 {
-    let align = align_of::<T>();
+    let align = item_align::<T>();
     if align > 8 { align } else { 8 }
 }
 
@@ -48,6 +48,14 @@ pub(crate) fn bytes_of_block<T>(cap: usize) -> usize
 // The least capacity of a padded block. So the padding is at most a sixteenth of the items.
 const PADDED: usize = 32;
 
+// Returns whether a block for `cap` items is padded unless the items take `2^62` bytes or more.
+// This costs at most one comparison, since the size and the alignment of an item are constants.
+pub(crate) fn may_be_padded<T>(cap: usize) -> bool
+    ensures value { result ≡ may_have_padding (type_size T.row) (type_align T.row) cap }
+{
+    item_size::<T>() > HEADER && item_align::<T>() >= 8 && cap >= PADDED
+}
+
 // Returns whether a block for `cap` items is padded, so that the allocator can resize it as an
 // array of items.
 #[tactic(auto, unfolding(crate::specs::Capacity::has_padding))]
@@ -55,8 +63,19 @@ pub(crate) fn is_padded<T>(cap: usize) -> bool
     requires { Fits T.row cap }
     ensures value { result ≡ has_padding (type_size T.row) (type_align T.row) cap }
 {
-    let size = item_size::<T>();
-    size > HEADER && item_align::<T>() >= 8 && cap >= PADDED && cap * size < 1 << 62
+    may_be_padded::<T>(cap) && has_room_for_padding::<T>(cap)
+}
+
+// Returns whether `cap` items take less than `2^62` bytes, so that a padded block for them takes at
+// most `isize::MAX` bytes. This function is not inlined, so that it adds no code where blocks with
+// fewer slots are allocated and freed.
+#[cold]
+#[inline(never)]
+fn has_room_for_padding<T>(cap: usize) -> bool
+    requires { Fits T.row cap }
+    ensures value { result ≡ nat_lt (cap * type_size T.row) (2 ^ 62) }
+{
+    cap * item_size::<T>() < 1 << 62
 }
 
 // Returns the size in bytes of a padded block for `cap` items.

@@ -12,7 +12,7 @@ use mir.Val.{bytes}
 use prog.Align.{Dv, align_w, align-bytes, align_size, dv→, dv_trans}
 use denote.Param.{layout}
 use denote.RattleType.{RattleType}
-use Rattle.thin_block.specs.Capacity.{has_padding, in_words}
+use Rattle.thin_block.specs.Capacity.{has_padding, in_words, may_have_padding}
 use Rattle.thin_block.specs.Ownership.{pads}
 use Rattle.thin_block.proofs.sizes.SizesLemmas.{tells_first, tells_second}
 use Rattle.thin_block.proofs.words.WordsLemmas.{InWords, words_told}
@@ -29,17 +29,17 @@ pub padded_tells : (s a c : ℕ) → has_padding s a c ≡ true → Padded s a c
 unfolding has_padding
 padded_tells s a c e =
     let few : Bool = nat_lt (c * s) (2 ^ 62) in
-    let many : Bool = nat_le 32 c in
-    let after : (nat_le 8 a && (many && few)) ≡ true =
-    tells_second (nat_lt 16 s) (nat_le 8 a && (many && few)) e in
-    let last : (many && few) ≡ true = tells_second (nat_le 8 a) (many && few) after in
-    let enough : 32 ≤ c = leb-true 32 c (tells_first many few last) in
-    let low : c * s < 2 ^ 62 = ltb-true (c * s) (2 ^ 62) (tells_second many few last) in
+    let may : Bool = may_have_padding s a c in
+    let is : may ≡ true = tells_first may few e in
+    let rest : Bool = nat_le 8 a && nat_le 32 c in
+    let after : rest ≡ true = tells_second (nat_lt 16 s) rest is in
+    let enough : 32 ≤ c = leb-true 32 c (tells_second (nat_le 8 a) (nat_le 32 c) after) in
+    let low : c * s < 2 ^ 62 = ltb-true (c * s) (2 ^ 62) (tells_second may few e) in
     let twice : 32 * s ≤ c * s = mul-le-mul_right s enough in
     let sum : (c + 2) * s ≡ c * s + 2 * s = add_times c 2 s in
     record {
-      wide = ltb-true 16 s (tells_first (nat_lt 16 s) (nat_le 8 a && (many && few)) e);
-      aligned = leb-true 8 a (tells_first (nat_le 8 a) (many && few) after);
+      wide = ltb-true 16 s (tells_first (nat_lt 16 s) rest is);
+      aligned = leb-true 8 a (tells_first (nat_le 8 a) (nat_le 32 c) after);
       many = enough;
       short = omega arith;
     }
@@ -86,5 +86,5 @@ words_unpadded R m k c is =
     let all : 1 * (m * s) ≤ k * (m * s) = mul-le-mul_right (m * s) h.any in
     let room = h.room in
     let small : s ≤ 16 = omega arith in
-    ap (λ (b : Bool). b && (nat_le 8 (type_align R) && (nat_le 32 c && nat_lt (c * s) (2 ^ 62))))
+    ap (λ (b : Bool). (b && (nat_le 8 (type_align R) && nat_le 32 c)) && nat_lt (c * s) (2 ^ 62))
     (le-ltb 16 s small)
