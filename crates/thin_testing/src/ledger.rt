@@ -3,12 +3,13 @@ ghost use Rattle.std.proofs.Common.{rules};
 ghost use Rattle.std.specs.Cmp.{partial_order_from_own_ties};
 ghost use Rattle.std.specs.Cmp.Rules.{comparing};
 ghost use Rattle.std.specs.Ordering.{as_partial_cmp, nat_cmp};
-ghost use Rattle.std.specs.Prelude.{◌==◌, true};
+ghost use Rattle.std.specs.Prelude.{◌≡◌, ◌==◌, true};
 
 use crate::refusing::Refusing;
 use std::alloc::{AllocError, Global};
 use std::cell::Cell;
 use std::cmp::Ordering;
+use std::fmt;
 
 /// The allocator of a test, and what the test counts. `live` counts the items that exist now. The
 /// other counts begin again with each call to `begin`.
@@ -116,8 +117,17 @@ impl<'a, P> Counted<'a, P> {
     }
 
     /// Returns the number of the item.
-    pub fn number(&self) -> u64 {
+    pub fn number(&self) -> u64
+        ensures value { result ≡ self.now.number }
+    {
         self.number
+    }
+}
+
+impl<P> fmt::Debug for Counted<'_, P> {
+    // Prints the number of the item.
+    fn fmt<W: fmt::Write>(&self, f: &mut fmt::Formatter<W>) -> fmt::Result {
+        self.number.fmt(f)
     }
 }
 

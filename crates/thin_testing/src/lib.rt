@@ -2,24 +2,19 @@
 //! which the test chooses. A `Ledger` has such an allocator, and counts items, clones and calls.
 //! Items of the types `Numbered` are made from numbers, and those of the type `Counted` are counted.
 //! `Claims` is an iterator whose size hint may be wrong. `Fourfold` and `Threefold` are growth rules
-//! that only tests use. The trait `Ruled` computes the capacities that tests expect. `report` runs the
-//! rows of `thin_bench`, and `Checks` collects their comparisons.
+//! that only tests use. The trait `Ruled` computes the capacities that tests expect.
 #![tactic(auto)]
 
-mod checks;
 mod claims;
 mod ledger;
 mod multiples;
 mod numbered;
 mod refusing;
-mod reporting;
 mod ruled;
 
-pub use checks::Checks;
 pub use claims::Claims;
 pub use ledger::{Counted, CountedWord, Ledger};
 pub use multiples::{Fourfold, Threefold};
 pub use numbered::Numbered;
 pub use refusing::Refusing;
-pub use reporting::{Outcome, RowSet, report};
 pub use ruled::Ruled;

@@ -147,6 +147,16 @@ impl Numbered for [u64; 6] {
     }
 }
 
+impl Numbered for [u64; 40] {
+    const SIZE: usize = 320;
+
+    const LIMIT: usize = 28_823_037_615_171_174;
+
+    fn numbered(_ledger: &'static Ledger, number: u64) -> [u64; 40] {
+        [number; 40]
+    }
+}
+
 impl Numbered for u128 {
     const SIZE: usize = 16;
 
@@ -154,6 +164,16 @@ impl Numbered for u128 {
 
     fn numbered(_ledger: &'static Ledger, number: u64) -> u128 {
         u128::from(number) << 64
+    }
+}
+
+impl Numbered for [u128; 3] {
+    const SIZE: usize = 48;
+
+    const LIMIT: usize = 192_153_584_101_141_162;
+
+    fn numbered(_ledger: &'static Ledger, number: u64) -> [u128; 3] {
+        [u128::from(number) << 64; 3]
     }
 }
 

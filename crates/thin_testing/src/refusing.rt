@@ -6,7 +6,8 @@
 //! Pass the allocator by reference, as `&Refusing<Global>`. Such a reference is itself an
 //! allocator, and it is `Copy`.
 //!
-//! The method `blocks` returns the number of allocated blocks, so a test can detect a leak.
+//! The method `blocks` returns the number of allocated blocks, and `bytes` the sum of their sizes.
+//! So a test can detect a leak, and a block that is freed with a wrong size.
 //!
 //! It is proved that every block comes from `inner`, and that a freed block is returned to `inner`.
 //! The counters are only tested, because contracts cannot mention the contents of a `Cell`.
@@ -16,14 +17,16 @@ use std::rc::Rc;
 
 // The counters of an allocator `Refusing`, and the number of the request that it refuses.
 // `requests` is the number of requests since the allocator was created or since the last call to
-// `refuse`. `blocks` is the number of blocks that are allocated and have not been freed yet.
-// `refused` is the number of the refused request, or 0 if no request is refused. `owned` is what the
-// allocator owns, so that a test can see whether the allocator was dropped.
+// `refuse`. `blocks` is the number of blocks that are allocated and have not been freed yet, and
+// `bytes` is the sum of their sizes. `refused` is the number of the refused request, or 0 if no
+// request is refused. `owned` is what the allocator owns, so that a test can see whether the
+// allocator was dropped.
 #[derive(Drop)]
 struct Counts {
     requests: Cell<u64>,
     refused: Cell<u64>,
     blocks: Cell<u64>,
+    bytes: Cell<u64>,
     owned: Option<Rc<u64>>,
 }
 
@@ -34,16 +37,20 @@ fn refuses(counts: &Counts) -> bool {
     request == counts.refused.get()
 }
 
-// Adds 1 to the number of blocks if `answer` is `Ok`.
-fn granted(counts: &Counts, answer: Result<*mut u8, AllocError>) {
+// Counts a block of `size` bytes if `answer` is `Ok`.
+fn granted(counts: &Counts, size: usize, answer: Result<*mut u8, AllocError>) {
     if answer.is_ok() {
         counts.blocks.set(counts.blocks.get().saturating_add(1));
+        let bytes = counts.bytes.get();
+        counts.bytes.set(bytes.saturating_add(size as u64));
     }
 }
 
-// Subtracts 1 from the number of blocks. The caller then frees a block.
-fn returned(counts: &Counts) {
+// Counts a block of `size` bytes no more. The caller then frees it.
+fn returned(counts: &Counts, size: usize) {
     counts.blocks.set(counts.blocks.get().saturating_sub(1));
+    let bytes = counts.bytes.get();
+    counts.bytes.set(bytes.saturating_sub(size as u64));
 }
 
 /// An allocator that refuses one request and passes all other requests on to `inner`.
@@ -62,6 +69,7 @@ impl<B: Allocator> Refusing<B> {
                 requests: Cell::new(0),
                 refused: Cell::new(refused),
                 blocks: Cell::new(0),
+                bytes: Cell::new(0),
                 owned: None,
             },
         }
@@ -101,6 +109,12 @@ impl<B: Allocator> Refusing<B> {
     pub fn blocks(&self) -> u64 {
         self.counts.blocks.get()
     }
+
+    /// Returns the number of bytes of all blocks that are allocated and have not been freed yet. It
+    /// is the sum of the sizes of the requests, less those with which blocks were freed.
+    pub fn bytes(&self) -> u64 {
+        self.counts.bytes.get()
+    }
 }
 
 impl<B: Allocator + Clone> Clone for Refusing<B> {
@@ -128,12 +142,12 @@ unsafe impl<B: Allocator> Allocator for Refusing<B> {
             return Err(AllocError);
         }
         let answer = self.inner.allocate(size, align);
-        granted(&self.counts, answer);
+        granted(&self.counts, size, answer);
         answer
     }
 
     unsafe fn deallocate(&self, ptr: *mut u8, size: usize, align: usize) {
-        returned(&self.counts);
+        returned(&self.counts, size);
         self.inner.deallocate(ptr, size, align);
     }
 }

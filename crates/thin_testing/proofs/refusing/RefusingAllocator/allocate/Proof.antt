@@ -128,7 +128,7 @@ module _ (Z : Al) {M : Type 1} {𝓤 : Ura M} (𝓛 : Logic 𝓤) (at_mem : Memo
         let y : (Takes Z 𝓛 at_mem run).Ghost = at_takes Z 𝓛 at_mem run κ₁ q₁ p h n a τ in
         let z : (Asks 𝓛 at_mem run).Ghost = at_asks 𝓛 at_mem run κ₁ q₁ c r.now.counts in
         let given_out : Answer.Denot → Val → (Granted 𝓛 at_mem run).Ghost =
-        at_granted 𝓛 at_mem run κ₁ q₁ c r.now.counts in
+        at_granted 𝓛 at_mem run κ₁ q₁ c r.now.counts n in
         let Said : Type 0 = (capped (size τ) ≡ n) × (capped (align τ) ≡ a) in
         qed 𝓛 (((‵ (flft κ₁ q₁) ⊛ ‵ (flft κ₂ q₂) ⊛ ‵ ftrue) ⊛ ‵
         (owns (types_at (ended Z).signature.params bound.0.0) bound.0.3 bound.0.4)) ∷ (raw
@@ -176,13 +176,14 @@ module _ (Z : Al) {M : Type 1} {𝓤 : Ura M} (𝓛 : Logic 𝓤) (at_mem : Memo
         move ! (3 ∷ 1 ∷ []) $
         use2 𝓛 (raw ((Granted 𝓛 at_mem run).pre
         (given_out (Ok (block_ptr b o)) (answer_val true b o))))
-        (Granted-goes 𝓛 at_mem run κ₁ q₁ c r.now.counts (Ok (block_ptr b o))
+        (Granted-goes 𝓛 at_mem run κ₁ q₁ c r.now.counts n fn (Ok (block_ptr b o))
         (answer_val true b o) (Answer-Ok 𝓛 b o)) $
         calls_at ! (fm_of 𝓤 H 𝓛.laws 𝓣) (Granted 𝓛 at_mem run) gr
         (given_out (Ok (block_ptr b o)) (answer_val true b o))
-        (and_then ! (get ! refl) (and_then ! (get ! refl) (no_more !))) (λ w.
+        (and_then ! (get ! refl)
+        (and_then ! (get ! refl) (and_then ! (get ! refl) (no_more !)))) (λ w.
         use1 𝓛 (later (given (w ≡ vunit) (‵ (flft κ₁ q₁))))
-        (Granted-gives 𝓛 at_mem run κ₁ q₁ c r.now.counts (Ok (block_ptr b o))
+        (Granted-gives 𝓛 at_mem run κ₁ q₁ c r.now.counts n (Ok (block_ptr b o))
         (answer_val true b o) w) $ await ! tt $
         learn ! (λ ew. lands_as ! ew refl (tt, tt) $ move ! (1 ∷ []) $
         sets ! (of_opd ! (get ! refl)) refl (Answer-typed true b o) $
@@ -198,13 +199,14 @@ module _ (Z : Al) {M : Type 1} {𝓤 : Ura M} (𝓛 : Logic 𝓤) (at_mem : Memo
         move ! (2 ∷ 0 ∷ []) $
         use2 𝓛 (raw ((Granted 𝓛 at_mem run).pre
         (given_out (Err (record {})) (answer_val false 0 0))))
-        (Granted-goes 𝓛 at_mem run κ₁ q₁ c r.now.counts (Err (record {}))
+        (Granted-goes 𝓛 at_mem run κ₁ q₁ c r.now.counts n fn (Err (record {}))
         (answer_val false 0 0) (Answer-err 𝓛)) $
         calls_at ! (fm_of 𝓤 H 𝓛.laws 𝓣) (Granted 𝓛 at_mem run) gr
         (given_out (Err (record {})) (answer_val false 0 0))
-        (and_then ! (get ! refl) (and_then ! (get ! refl) (no_more !))) (λ w.
+        (and_then ! (get ! refl)
+        (and_then ! (get ! refl) (and_then ! (get ! refl) (no_more !)))) (λ w.
         use1 𝓛 (later (given (w ≡ vunit) (‵ (flft κ₁ q₁))))
-        (Granted-gives 𝓛 at_mem run κ₁ q₁ c r.now.counts (Err (record {}))
+        (Granted-gives 𝓛 at_mem run κ₁ q₁ c r.now.counts n (Err (record {}))
         (answer_val false 0 0) w) $ await ! tt $ learn ! (λ ew. lands_as ! ew refl (tt, tt) $
         sets ! (of_opd ! (get ! refl)) refl (Answer-typed false 0 0) $ returns ! (look_at ! 0 refl)
         $ free_all ! refl $ refused)))))))))))

@@ -1,4 +1,4 @@
--- `deallocate` first calls `returned`, which subtracts 1 from the number of blocks. Then it calls
+-- `deallocate` first calls `returned`, which counts the block no more. Then it calls
 -- the method `deallocate` of the inner allocator, which frees the block. The proof assumes the laws
 -- of the separation logic (`Logic`).
 use Rattle.std.proofs.Common.{◌≡◌, ℕ, ◌+◌, ◌^◌, ◌<◌, List, [], ◌∷◌, refl, w64, Bor}
@@ -132,13 +132,13 @@ module _ (Z : Al) {M : Type 1} {𝓤 : Ura M} (𝓛 : Logic 𝓤) (at_mem : Memo
         alloc_all ! (λ l. pass_all ! refl
         ((tt, tt), ((tt, tt), ((tt, record { fits = fn }), ((tt, record { fits = fa }), tt)))) $
         sets ! (addr ! (through ! refl (fld ! refl (stop !)))) refl (tt, tt) $
-        use2 𝓛 (raw ((Returned 𝓛 at_mem run).pre (at_returned 𝓛 at_mem run κ₁ q₁ c r.now.counts)))
-        (Returned-goes 𝓛 at_mem run κ₁ q₁ c r.now.counts) $
+        use2 𝓛 (raw ((Returned 𝓛 at_mem run).pre (at_returned 𝓛 at_mem run κ₁ q₁ c r.now.counts n)))
+        (Returned-goes 𝓛 at_mem run κ₁ q₁ c r.now.counts n fn) $
         calls_at ! (fm_of 𝓤 H 𝓛.laws 𝓣) (Returned 𝓛 at_mem run) kn
-        (at_returned 𝓛 at_mem run κ₁ q₁ c r.now.counts)
-        (and_then ! (get ! refl) (no_more !)) (λ u.
+        (at_returned 𝓛 at_mem run κ₁ q₁ c r.now.counts n)
+        (and_then ! (get ! refl) (and_then ! (get ! refl) (no_more !))) (λ u.
         use1 𝓛 (later (given (u ≡ vunit) (‵ (flft κ₁ q₁))))
-        (Returned-gives 𝓛 at_mem run κ₁ q₁ c r.now.counts u) $ await ! tt $
+        (Returned-gives 𝓛 at_mem run κ₁ q₁ c r.now.counts n u) $ await ! tt $
         learn ! (λ eu. lands_as ! eu refl (tt, tt) $ move ! (1 ∷ []) $
         sets ! (addr ! (through ! refl (fld ! refl (stop !)))) refl (tt, tt) $
         join ! $ move ! (2 ∷ []) $ fsplit ! $ move ! (1 ∷ 2 ∷ []) $ join ! $

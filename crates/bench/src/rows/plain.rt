@@ -1,9 +1,9 @@
 //! Rows about capacities, items of size zero, the growth rule `PowerBytes`, and calls that add or
 //! remove a single item.
-use crate::rows::listed;
+use crate::checks::Checks;
+use crate::reporting::Outcome;
 use std::alloc::Allocator;
-use thin_testing::{Checks, Outcome};
-use thin_vec::{PowerBytes, ThinVec, ThinVecError};
+use thin_vec::{PowerBytes, ThinVec, ThinVecError, thin_vec};
 
 /// Checks that the capacity of a new list is 0, and is still 0 after a call to `pop`.
 pub fn row_1<A: Allocator + Copy>(alloc: A) -> Outcome {
@@ -16,24 +16,12 @@ pub fn row_1<A: Allocator + Copy>(alloc: A) -> Outcome {
     Ok(checks)
 }
 
-/// Checks the capacity of a new list after each of five pushes.
-pub fn row_2<A: Allocator + Copy>(alloc: A) -> Outcome {
-    let mut checks = Checks::new();
-    let mut list = ThinVec::new(alloc);
-    for (item, capacity) in [(1, 4), (2, 4), (3, 4), (4, 4), (5, 8)] {
-        list.push(item)?;
-        checks.same(list.capacity(), capacity);
-    }
-    checks.holds(&list, &[1, 2, 3, 4, 5], 8);
-    Ok(checks)
-}
-
 /// Calls `reserve(1)`, `reserve(10)` and `reserve_exact(1)`, each on a new list of three items.
 /// Checks the capacity of the list after each call.
 pub fn row_4<A: Allocator + Copy>(alloc: A) -> Outcome {
     let mut checks = Checks::new();
     for (additional, is_exact, capacity) in [(1, false, 6), (10, false, 13), (1, true, 4)] {
-        let mut list = listed(alloc, [1, 2, 3])?;
+        let mut list = thin_vec![alloc => 1, 2, 3]?;
         if is_exact {
             list.reserve_exact(additional)?;
         } else {
@@ -47,7 +35,7 @@ pub fn row_4<A: Allocator + Copy>(alloc: A) -> Outcome {
 /// Checks an `insert` in the middle of a full list, and then an `insert` at the end.
 pub fn row_5<A: Allocator + Copy>(alloc: A) -> Outcome {
     let mut checks = Checks::new();
-    let mut list = listed(alloc, [1, 2, 3])?;
+    let mut list = thin_vec![alloc => 1, 2, 3]?;
     list.insert(1, 4)?;
     list.insert(4, 5)?;
     checks.holds(&list, &[1, 4, 2, 3, 5], 6);
@@ -57,7 +45,7 @@ pub fn row_5<A: Allocator + Copy>(alloc: A) -> Outcome {
 /// Checks `swap_remove` in the middle of a list and at the front of a list.
 pub fn row_6<A: Allocator + Copy>(alloc: A) -> Outcome {
     let mut checks = Checks::new();
-    let mut list = listed(alloc, ["foo", "bar", "baz", "qux"])?;
+    let mut list = thin_vec![alloc => "foo", "bar", "baz", "qux"]?;
     checks.same(list.swap_remove(1), "bar");
     checks.holds(&list, &["foo", "qux", "baz"], 4);
     checks.same(list.swap_remove(0), "foo");
@@ -70,7 +58,7 @@ pub fn row_6<A: Allocator + Copy>(alloc: A) -> Outcome {
 pub fn row_17<A: Allocator + Copy>(alloc: A) -> Outcome {
     let mut checks = Checks::new();
     let overflow = Some(ThinVecError::CapacityOverflow);
-    let mut list = listed(alloc, [1])?;
+    let mut list = thin_vec![alloc => 1]?;
     checks.same(list.reserve(usize::MAX).err(), overflow);
     checks.holds(&list, &[1], 1);
     let bytes = ThinVec::<u8, A>::with_capacity(alloc, isize::MAX as usize - 16);

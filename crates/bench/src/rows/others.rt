@@ -1,13 +1,14 @@
-//! Rows about sparse tables, and about a run of commands.
+//! Rows about sparse tables, and about commands.
 ghost use Rattle.std.specs.Ordering.{int_eq};
 ghost use Rattle.std.specs.Prelude.{◌<◌, int_rem, length, pos};
 
+use crate::checks::Checks;
+use crate::reporting::Outcome;
 use std::alloc::Allocator;
 use thin_rows::Rows;
 use thin_runner::command::{Command, Reply, Step};
 use thin_runner::judge::Judge;
-use thin_runner::runner::run;
-use thin_testing::{Checks, Outcome};
+use thin_runner::runner::{run, step};
 use thin_vec::{ThinVec, ThinVecError};
 
 // Checks that the table has three rows, and that row 1 has the entries `entries` and the other rows
@@ -111,6 +112,29 @@ fn check_replies<A: Allocator>(checks: &mut Checks, replies: &[Reply<i32, A>]) {
     }
 }
 
+// Fails if the reply says that the call failed.
+fn check_granted<A: Allocator>(reply: &Reply<i32, A>) -> Result<(), ThinVecError> {
+    match reply.refusal() {
+        Some(cause) => Err(cause),
+        None => Ok(()),
+    }
+}
+
+/// Checks the capacity of a new list after each of five pushes. Each push is a command, which
+/// `step` carries out.
+pub fn row_2<A: Allocator + Copy>(alloc: A) -> Outcome {
+    let mut checks = Checks::new();
+    let mut list = ThinVec::new(alloc);
+    for (item, capacity) in [(1, 4), (2, 4), (3, 4), (4, 4), (5, 8)] {
+        let reply = step(alloc, &mut list, Command::Push(item), &Evens);
+        check_granted(&reply)?;
+        checks.is(matches!(reply, Reply::Done));
+        checks.same(list.capacity(), capacity);
+    }
+    checks.holds(&list, &[1, 2, 3, 4, 5], 8);
+    Ok(checks)
+}
+
 /// Checks a call to `run` with three commands: an insert past the end of the list, a push, and a
 /// drain of the pushed item.
 pub fn row_41<A: Allocator + Copy>(alloc: A) -> Outcome {
@@ -119,9 +143,7 @@ pub fn row_41<A: Allocator + Copy>(alloc: A) -> Outcome {
     let mut replies = Vec::new(alloc);
     run(alloc, &mut list, past_the_end(alloc)?, &mut replies, &Evens)?;
     for reply in &replies {
-        if let Some(cause) = reply.refusal() {
-            return Err(cause);
-        }
+        check_granted(reply)?;
     }
     check_replies(&mut checks, replies.as_slice());
     checks.holds(&list, &[], 4);

@@ -1,24 +1,13 @@
-//! Runs rows, and writes a report of them. A row is a function that compares the results of some calls
-//! with values that were computed by hand.
+//! Runs rows, and writes a report of them.
 use crate::checks::Checks;
+use crate::rows::{NUMBERS, row};
 use std::alloc::Allocator;
 use std::io;
 use std::io::Write;
-use std::process::ExitCode;
 use thin_vec::ThinVecError;
 
 /// The result of a row: its comparisons, or the error of a call that failed unexpectedly.
 pub type Outcome = Result<Checks, ThinVecError>;
-
-/// Rows, each of which has a number.
-pub trait RowSet {
-    /// Runs the row `number`. If there is no such row, returns a `Checks` that has compared nothing.
-    ///
-    /// # Errors
-    ///
-    /// Fails if a call in the row fails unexpectedly.
-    fn row<A: Allocator + Copy>(alloc: A, number: u32) -> Outcome;
-}
 
 // The exit status of the program.
 #[derive(Clone, Copy)]
@@ -29,30 +18,35 @@ enum Status {
     NotWritten = 3,
 }
 
-/// Runs the rows with the given numbers, and writes to `out` one line for each row and then a summary.
-/// Returns the exit code of the program:
+/// Runs all rows of this crate in order, and writes to `out` one line for each row and then a
+/// summary. Returns the exit status of the program:
 ///
 /// - 0 if every row is ok
 /// - 1 if a row failed
-/// - 2 if memory runs out; the remaining rows are not run
+/// - 2 if memory runs out; the last line is then `out of memory`, and the other rows are not run
 /// - 3 if writing to `out` fails; nothing more is written
-pub fn report<S: RowSet, A: Allocator + Copy, W: Write>(
-    alloc: A,
-    numbers: &[u32],
-    out: &mut W,
-) -> ExitCode {
-    let status = write_rows::<S, A, W>(alloc, numbers, out).unwrap_or(Status::NotWritten);
-    ExitCode::from(status as u8)
+pub fn report<A: Allocator + Copy, W: Write>(alloc: A, out: &mut W) -> u8 {
+    report_rows(NUMBERS.as_slice(), |number| row(alloc, number), out)
 }
 
-fn write_rows<S: RowSet, A: Allocator + Copy, W: Write>(
-    alloc: A,
+/// Does what `report` does, but with the rows that have the given numbers. The function `row` runs
+/// the row that has a given number.
+pub fn report_rows<F: Fn(u32) -> Outcome, W: Write>(numbers: &[u32], row: F, out: &mut W) -> u8
+    requires callable { F.IsAlwaysCallable row }
+{
+    write_rows(numbers, row, out).unwrap_or(Status::NotWritten) as u8
+}
+
+fn write_rows<F: Fn(u32) -> Outcome, W: Write>(
     numbers: &[u32],
+    row: F,
     out: &mut W,
-) -> io::Result<Status> {
+) -> io::Result<Status>
+    requires callable { F.IsAlwaysCallable row }
+{
     let mut failed: u32 = 0;
     for &number in numbers {
-        match write_row(number, S::row(alloc, number), out)? {
+        match write_row(number, row(number), out)? {
             Status::EveryRowOk => (),
             Status::RowFailed => failed = failed.saturating_add(1),
             end => return Ok(end),

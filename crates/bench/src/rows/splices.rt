@@ -1,32 +1,23 @@
 //! Rows about `splice`, and about calls on an empty list.
-use crate::rows::{claiming, listed};
+use crate::checks::Checks;
+use crate::reporting::Outcome;
+use crate::rows::claiming;
 use std::alloc::Allocator;
 use std::iter::{empty, once};
 use thin_runner::hinted::Hinted;
-use thin_testing::{Checks, Outcome};
-use thin_vec::{SpliceRefused, ThinVec, ThinVecError};
-
-// Replaces two of five items with the three items of an iterator whose size hint has the lower
-// bound `claim`. Checks that the list then has the expected items and the capacity `capacity`.
-fn check_claimed<A: Allocator + Copy>(
-    checks: &mut Checks,
-    alloc: A,
-    claim: usize,
-    capacity: usize,
-) -> Result<(), ThinVecError> {
-    let mut list = listed(alloc, [1, 2, 3, 4, 5])?;
-    let items = claiming(alloc, [10, 11, 12], claim)?;
-    list.splice(2, 4, items).finish(alloc)?;
-    checks.holds(&list, &[1, 2, 10, 11, 12, 5], capacity);
-    Ok(())
-}
+use thin_vec::{SpliceRefused, ThinVec, ThinVecError, thin_vec};
 
 /// Checks a `splice` with an iterator whose size hint is too large, and a `splice` with an iterator
-/// whose size hint is correct.
+/// whose size hint is exact.
 pub fn row_10<A: Allocator + Copy>(alloc: A) -> Outcome {
     let mut checks = Checks::new();
-    check_claimed(&mut checks, alloc, 1000, 1005)?;
-    check_claimed(&mut checks, alloc, 3, 10)?;
+    let mut list = thin_vec![alloc => 1, 2, 3, 4, 5]?;
+    list.splice(2, 4, claiming(alloc, [10, 11, 12], 1000)?)
+        .finish(alloc)?;
+    checks.holds(&list, &[1, 2, 10, 11, 12, 5], 1005);
+    let mut anew = thin_vec![alloc => 1, 2, 3, 4, 5]?;
+    anew.splice(2, 4, 10..13).finish(alloc)?;
+    checks.holds(&anew, &[1, 2, 10, 11, 12, 5], 10);
     Ok(checks)
 }
 
@@ -53,7 +44,7 @@ fn check_refused<A: Allocator>(
 /// failure, the first two new items replace the two items of the range.
 pub fn row_11<A: Allocator + Copy>(alloc: A) -> Outcome {
     let mut checks = Checks::new();
-    let mut list = listed(alloc, [1, 2, 3, 4, 5])?;
+    let mut list = thin_vec![alloc => 1, 2, 3, 4, 5]?;
     let items = claiming(alloc, [10, 11, 12], usize::MAX)?;
     match list.splice(2, 4, items).finish(alloc) {
         Ok(()) => checks.is(false),
@@ -110,7 +101,7 @@ pub fn row_22<A: Allocator + Copy>(alloc: A) -> Outcome {
 // Checks a `splice` of a whole list with an empty iterator. The splice yields all items, and the
 // list is empty afterwards.
 fn check_emptied<A: Allocator + Copy>(checks: &mut Checks, alloc: A) -> Result<(), ThinVecError> {
-    let mut list = listed(alloc, [1, 2, 3, 4, 5])?;
+    let mut list = thin_vec![alloc => 1, 2, 3, 4, 5]?;
     let mut splice = list.splice(0, 5, empty());
     for wanted in 1..6 {
         checks.same(splice.next(), Some(wanted));
@@ -126,7 +117,7 @@ fn check_spliced<A: Allocator + Copy>(
     checks: &mut Checks,
     alloc: A,
 ) -> Result<ThinVec<i32, A>, ThinVecError> {
-    let mut list = listed(alloc, [1, 2, 3, 4, 5])?;
+    let mut list = thin_vec![alloc => 1, 2, 3, 4, 5]?;
     let mut splice = list.splice(2, 4, 10..13);
     checks.items(&[splice.next(), splice.next_back()], &[Some(3), Some(4)]);
     splice.finish(alloc)?;
