@@ -1,13 +1,15 @@
-//! One file for each topic. The folder `ported` has the tests of the Rust crate thin-vec.
+//! One file for each topic. The folder `ported` has the tests of the Rust crate thin-vec, and
+//! `figures` those whose results are tables.
 mod allocators;
 mod closures;
 mod edits;
 mod errors;
-mod growth;
+mod figures;
 mod hints;
 mod in_place;
 mod macros;
 mod names;
+mod padded;
 mod ported;
 mod refused;
 mod report;

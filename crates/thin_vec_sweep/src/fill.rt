@@ -172,7 +172,7 @@ impl Source {
 pub const COUNTS: [usize; 11] = [0, 1, 2, 3, 4, 5, 9, 17, 50, 100, 300];
 
 /// The number of different hints.
-pub const HINTS: usize = 20;
+pub const HINTS: usize = 22;
 
 /// Returns an iterator over `count` items with one of the hints, or a random one in a random case.
 pub fn nth_source<T: Numbered>(at: At, number: usize, count: usize) -> Source {
@@ -186,10 +186,11 @@ pub fn nth_source<T: Numbered>(at: At, number: usize, count: usize) -> Source {
         2 => count.saturating_sub(1),
         3 => count,
         4 => count.saturating_add(1),
-        5 => 5000,
-        6 => most,
-        7 => most.saturating_add(1),
-        8 => isize::MAX as usize,
+        5 => 1000,
+        6 => 5000,
+        7 => most,
+        8 => most.saturating_add(1),
+        9 => isize::MAX as usize,
         _ => usize::MAX,
     };
     Source {

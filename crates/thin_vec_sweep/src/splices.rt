@@ -13,7 +13,7 @@ use thin_testing::{Ledger, Numbered, Ruled};
 use thin_vec::{Growth, Splice, SpliceRefused, ThinVec, ThinVecError};
 
 // The number of choices for the number of new items.
-const NEW: usize = 10;
+const NEW: usize = 12;
 
 // The number of sequences of calls to `next` and `next_back` before `finish`.
 const WALKS: usize = 4;
@@ -21,12 +21,12 @@ const WALKS: usize = 4;
 // Returns the number of new items for a range of `width` items.
 fn count(number: usize, width: usize) -> usize {
     match number {
-        0..=3 => number,
-        4 => width,
-        5 => width.saturating_add(1),
-        6 => width.saturating_add(9),
-        7 => width.saturating_add(25),
-        8 => width.saturating_add(60),
+        0..=5 => number,
+        6 => width,
+        7 => width.saturating_add(1),
+        8 => width.saturating_add(9),
+        9 => width.saturating_add(25),
+        10 => width.saturating_add(60),
         _ => width.saturating_sub(1),
     }
 }

@@ -279,6 +279,13 @@ fn fills_lists_of_units_and_bytes(rt: HostRuntime) {
 }
 
 #[test]
+fn fills_lists_of_numbers_and_of_320_bytes(rt: HostRuntime) {
+    fill_all::<i32, Doubling, _>(&rt, rt.alloc());
+    fill_all::<u128, Doubling, _>(&rt, rt.alloc());
+    fill_all::<[u64; 40], Doubling, _>(&rt, rt.alloc());
+}
+
+#[test]
 fn fills_lists_of_counted_items(rt: HostRuntime) {
     fill_all::<Small, Doubling, _>(&rt, rt.alloc());
     fill_all::<ThreeWords, Threefold, _>(&rt, rt.alloc());
@@ -290,6 +297,14 @@ fn splices_units_and_bytes(rt: HostRuntime) {
     let ledger = leaked_ledger(&rt, rt.alloc());
     splices::<(), Doubling, _>(&rt, ledger, &[0, 1, 2, 3, 4], &[0, 3]);
     splices::<u8, PowerBytes, _>(&rt, ledger, &[0, 1, 2, 3, 4], &[0, 3]);
+}
+
+#[test]
+fn splices_numbers_and_items_of_320_bytes(rt: HostRuntime) {
+    let ledger = leaked_ledger(&rt, rt.alloc());
+    splices::<i32, Doubling, _>(&rt, ledger, &[0, 1, 2, 3, 4], &[0, 3]);
+    splices::<u128, Doubling, _>(&rt, ledger, &[0, 1, 2, 3, 4], &[0, 3]);
+    splices::<[u64; 40], Doubling, _>(&rt, ledger, &[0, 1, 2, 3, 4], &[0, 3]);
 }
 
 #[test]

@@ -1,8 +1,8 @@
 //! Tests of the errors: their trait, and that `?` drops what they hold.
-use crate::tests::support::{assert_same, counted_list, leak_refusing, leaked_ledger};
+use crate::tests::support::{assert_same, counted_list, leaked_ledger};
 use std::alloc::{AllocError, Global};
 use std::error::Error;
-use std::io::{self, ErrorKind, Write};
+use std::io;
 use std::process::Abort;
 use std::test::Fail;
 use thin_testing::{Counted, Ledger};
@@ -110,17 +110,4 @@ fn converting_to_alloc_error_drops_the_refusal(rt: HostRuntime) -> Result<(), Fa
 #[test]
 fn converting_to_io_error_drops_the_refusal(rt: HostRuntime) -> Result<(), Fail> {
     assert_all_dropped::<io::Error>(&rt, rt.alloc(), leaked_ledger(&rt, rt.alloc()))
-}
-
-#[test]
-fn write_fails_with_the_kind_out_of_memory(rt: HostRuntime) -> Result<(), Fail> {
-    let refusing = leak_refusing(&rt, rt.alloc(), 1);
-    let mut list = ThinVec::new(refusing);
-    let error = list.write_all(&[1, 2]).err().ok_or("written")?;
-    assert_same(&rt, error.kind(), ErrorKind::OutOfMemory);
-    refusing.refuse(1);
-    let error = list.write(&[1, 2]).err().ok_or("written")?;
-    assert_same(&rt, error.kind(), ErrorKind::OutOfMemory);
-    assert_same(&rt, (list.len(), list.has_capacity()), (0, false));
-    Ok(())
 }

@@ -40,8 +40,8 @@ fn fill<T: Numbered, A: Allocator, G: Growth>(
     Ok(())
 }
 
-// Changes the capacity of the list with one request.
-fn make_capacity<T: Drop, A: Allocator, G: Growth>(
+/// Changes the capacity of the list with one request.
+pub fn make_capacity<T: Drop, A: Allocator, G: Growth>(
     list: &mut ThinVec<T, A, G>,
     capacity: usize,
 ) -> Result<(), ThinVecError> {
@@ -120,7 +120,7 @@ fn a_list_of_items_of_odd_sizes_grows_and_shrinks(rt: HostRuntime) -> Result<(),
 }
 
 #[test]
-fn a_list_is_padded_from_32_slots_on(rt: HostRuntime) -> Result<(), Fail> {
+fn a_list_of_triples_grows_and_shrinks_around_32_slots(rt: HostRuntime) -> Result<(), Fail> {
     let ledger = leaked_ledger(&rt, rt.alloc());
     for len in 1..40 {
         for more in [1, 2, 3, 16, 33, 2000] {
@@ -161,5 +161,7 @@ fn a_list_moves_if_it_cannot_grow_in_place(rt: HostRuntime) -> Result<(), Fail> 
     assert_moves::<u64>(&rt, ledger, alloc)?;
     assert_moves::<u128>(&rt, ledger, alloc)?;
     assert_moves::<[u64; 3]>(&rt, ledger, alloc)?;
+    assert_moves::<[u128; 3]>(&rt, ledger, alloc)?;
+    assert_moves::<[u64; 40]>(&rt, ledger, alloc)?;
     Ok(())
 }

@@ -1,5 +1,5 @@
 //! The tests of the Rust crate thin-vec, with the same lists and the same results. Its tests of
-//! what this crate leaves out are missing, and some of the others are rows of `thin_bench`.
+//! what is missing here are left out, and some of the others are rows of `bench`.
 mod capacity;
 mod drops;
 mod edits;

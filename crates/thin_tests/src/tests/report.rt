@@ -1,30 +1,12 @@
-//! Tests of the report about rows: a write fails, memory runs out, or a row fails. Also tests that a
-//! comparison of a row finds a wrong value.
+//! Tests of the report about rows: a write fails, memory runs out, or a row fails. Also tests that
+//! a comparison of a row finds a wrong value.
+use bench::{Checks, Outcome, report, report_rows};
 use std::alloc::{Allocator, Global};
 use std::io;
 use std::io::{ErrorKind, Write};
-use std::process::{Abort, ExitCode};
-use thin_testing::{Checks, Outcome, Refusing, RowSet, report};
-use thin_vec::{ThinVec, thin_vec};
-
-// Row 1 compares right values, and makes two requests. Row 2 compares a wrong value. There is no other
-// row.
-struct TwoRows {}
-
-impl RowSet for TwoRows {
-    fn row<A: Allocator + Copy>(alloc: A, number: u32) -> Outcome {
-        let mut checks = Checks::new();
-        match number {
-            1 => {
-                let list = thin_vec![alloc => 1, 2]?;
-                checks.holds(&ThinVec::clone(&list, alloc)?, &[1, 2], 2);
-            }
-            2 => checks.same(1, 2),
-            _ => (),
-        }
-        Ok(checks)
-    }
-}
+use std::process::Abort;
+use thin_testing::Refusing;
+use thin_vec::{ThinVec, ThinVecError};
 
 // A writer that appends the written bytes to `text`. The calls to `write` are numbered from 1, and
 // call number `failing` fails. If `failing` is 0, no call fails.
@@ -53,95 +35,148 @@ impl Write for Failing<'_> {
     }
 }
 
-// Asserts that `code` is the exit code `status`. `{:?}` is the only way to read an `ExitCode`.
-fn assert_status(rt: &impl Abort, alloc: Global, code: ExitCode, status: u8) {
-    let text = format!(in alloc; "{code:?}").expect(rt, "memory");
-    let wanted = format!(in alloc; "ExitCode(unix_exit_status({status}))").expect(rt, "memory");
-    assert_eq!(rt; text.as_str(), wanted.as_str());
+// Returns what `report` writes if every row is ok. Only tests run the rows that are missing here.
+fn usual_text(rt: &impl Abort, alloc: Global) -> String {
+    let mut text = String::new(alloc);
+    for (first, last) in [(1, 11), (13, 15), (17, 25), (27, 36), (40, 41)] {
+        for number in first..=last {
+            let line = format!(in alloc; "row {number} ok\n").expect(rt, "memory");
+            text.push_str(line.as_str()).expect(rt, "memory");
+        }
+    }
+    text.push_str("35 rows ok\n").expect(rt, "memory");
+    text
 }
 
-// Writes a report of row 1, three times, to `text`. Asserts that the exit code is `status`. Call number
-// `failing` to `write` fails. Returns the number of calls to `write`.
-fn report_into<A: Allocator + Copy>(
-    rt: &impl Abort,
-    alloc: A,
-    text: &mut String,
-    failing: usize,
-    status: u8,
-) -> usize {
-    let global = *text.allocator();
+// Calls `report`, which writes to `text`. Call number `failing` to `write` fails. Returns the
+// status, and the number of calls to `write`.
+fn report_into<A: Allocator + Copy>(alloc: A, text: &mut String, failing: usize) -> (u8, usize) {
     let mut out = Failing {
         text,
         calls: 0,
         failing,
     };
-    let code = report::<TwoRows, _, _>(alloc, &[1, 1, 1], &mut out);
-    assert_status(rt, global, code, status);
-    out.calls
+    let status = report(alloc, &mut out);
+    (status, out.calls)
 }
 
-// Writes a report in which call number `failing` to `write` fails. Asserts that the text is the
-// beginning of the whole report, and that nothing is written after the failed call.
-fn assert_stops_at(rt: &impl Abort, alloc: Global, whole: &str, failing: usize) {
+// Calls `report`, and asserts that it writes `whole` and returns 0. Returns the number of calls to
+// `write`.
+fn assert_whole<A: Allocator + Copy>(rt: &impl Abort, alloc: A, whole: &String) -> usize {
+    let mut text = String::new(*whole.allocator());
+    let (status, writes) = report_into(alloc, &mut text, 0);
+    assert_eq!(rt; status, 0);
+    assert_eq!(rt; text.as_str(), whole.as_str());
+    writes
+}
+
+// Calls `report` with a writer whose call number `failing` fails. Asserts that the status is 3,
+// that the text is a beginning of `whole`, that nothing is written after the failed call, and that
+// all memory is freed.
+fn assert_stops_at(rt: &impl Abort, whole: &String, failing: usize) {
+    let alloc = *whole.allocator();
+    let counting = Refusing::new(alloc, 0);
     let mut text = String::new(alloc);
-    let writes = report_into(rt, alloc, &mut text, failing, 3);
-    assert!(rt; writes == failing && whole.starts_with(text.as_str()));
+    let answer = report_into(&counting, &mut text, failing);
+    assert_eq!(rt; answer, (3, failing));
+    assert!(rt;
+        whole.as_str().starts_with(text.as_str()) && counting.blocks() == 0,
+        "at write {failing}"
+    );
 }
 
 #[test]
 fn report_stops_at_a_failed_write(rt: HostRuntime) {
-    let mut whole = String::new(rt.alloc());
-    let writes = report_into(&rt, rt.alloc(), &mut whole, 0, 0);
-    for failing in 1..writes.saturating_add(1) {
-        assert_stops_at(&rt, rt.alloc(), whole.as_str(), failing);
+    let whole = usual_text(&rt, rt.alloc());
+    let writes = assert_whole(&rt, rt.alloc(), &whole);
+    for failing in 1..=writes {
+        assert_stops_at(&rt, &whole, failing);
     }
 }
 
-// Writes a report with an allocator that refuses request number `nth`. Asserts that the text is the
-// beginning of the whole report, followed by the line "out of memory", and that all memory has been
-// freed.
-fn assert_ends_without_memory(rt: &impl Abort, alloc: Global, whole: &str, nth: u64) {
+// Calls `report` with an allocator that refuses request number `nth`. Asserts that the status is 2,
+// that the text is a beginning of `whole`, in whole lines, and then the line "out of memory", and
+// that all memory is freed.
+fn assert_ends_without_memory(rt: &impl Abort, whole: &String, nth: u64) {
+    let alloc = *whole.allocator();
     let refusing = Refusing::new(alloc, nth);
     let mut text = String::new(alloc);
-    let _calls = report_into(rt, &refusing, &mut text, 0, 2);
-    let rows = text.as_str().strip_suffix("out of memory\n");
+    let (status, _writes) = report_into(&refusing, &mut text, 0);
+    assert_eq!(rt; (status, refusing.blocks()), (2, 0));
+    let lines = text.as_str().strip_suffix("out of memory\n");
+    let lines = lines.unwrap_or("another end");
     assert!(rt;
-        whole.starts_with(rows.unwrap_or("another end")) && refusing.blocks() == 0,
+        whole.as_str().starts_with(lines) && (lines.is_empty() || lines.ends_with('\n')),
         "at request {nth}"
     );
 }
 
 #[test]
 fn report_ends_with_out_of_memory_at_any_refused_request(rt: HostRuntime) {
-    let mut whole = String::new(rt.alloc());
-    let _calls = report_into(&rt, rt.alloc(), &mut whole, 0, 0);
-    let granted = Refusing::new(rt.alloc(), 0);
-    let mut text = String::new(rt.alloc());
-    let _calls = report_into(&rt, &granted, &mut text, 0, 0);
-    for nth in 1..granted.requests().saturating_add(1) {
-        assert_ends_without_memory(&rt, rt.alloc(), whole.as_str(), nth);
+    let whole = usual_text(&rt, rt.alloc());
+    let granting = Refusing::new(rt.alloc(), 0);
+    let _writes = assert_whole(&rt, &granting, &whole);
+    let requests = granting.requests();
+    for nth in 1..=requests {
+        assert_ends_without_memory(&rt, &whole, nth);
     }
+    let unrefused = Refusing::new(rt.alloc(), requests.saturating_add(1));
+    let _writes = assert_whole(&rt, &unrefused, &whole);
+    assert_eq!(rt; unrefused.blocks(), 0);
 }
 
-// Writes the report of the rows `numbers` to `text`, and returns the exit code.
-fn report_rows_into(alloc: Global, numbers: &[u32], text: &mut String) -> ExitCode {
+// Row 1 compares right values, and row 2 compares a wrong value. Rows 3 and 4 end with an error,
+// each with another one. Any other row compares nothing.
+fn made_up_row(number: u32) -> Outcome {
+    let mut checks = Checks::new();
+    match number {
+        1 => checks.same(1, 1),
+        2 => checks.same(1, 2),
+        3 => return Err(ThinVecError::CapacityOverflow),
+        4 => return Err(ThinVecError::OutOfMemory),
+        _ => (),
+    }
+    Ok(checks)
+}
+
+// Writes a report of the made-up rows `numbers` to `text`. Call number `failing` to `write` fails.
+// Returns the status, and the number of calls to `write`.
+fn report_made_up(numbers: &[u32], text: &mut String, failing: usize) -> (u8, usize) {
     let mut out = Failing {
         text,
         calls: 0,
-        failing: 0,
+        failing,
     };
-    report::<TwoRows, _, _>(alloc, numbers, &mut out)
+    let status = report_rows(numbers, |number| made_up_row(number), &mut out);
+    (status, out.calls)
+}
+
+// Asserts that the report of the made-up rows `numbers` is `whole`, and that its status is
+// `status`. Also asserts that the report stops at a failed write, whichever write it is.
+fn assert_reported(rt: &impl Abort, alloc: Global, numbers: &[u32], status: u8, whole: &str) {
+    let mut text = String::new(alloc);
+    let (found, writes) = report_made_up(numbers, &mut text, 0);
+    assert_eq!(rt; found, status);
+    assert_eq!(rt; text.as_str(), whole);
+    for failing in 1..=writes {
+        let mut text = String::new(alloc);
+        let answer = report_made_up(numbers, &mut text, failing);
+        assert_eq!(rt; answer, (3, failing));
+        assert!(rt; whole.starts_with(text.as_str()), "at write {failing}");
+    }
 }
 
 #[test]
 fn report_counts_failed_rows(rt: HostRuntime) {
-    let mut text = String::new(rt.alloc());
-    let code = report_rows_into(rt.alloc(), &[2, 1, 0], &mut text);
-    assert_status(&rt, rt.alloc(), code, 1);
-    assert_eq!(rt;
-        text.as_str(),
-        "row 2 failed\nrow 1 ok\nrow 0 failed\n2 rows failed\n"
-    );
+    let alloc = rt.alloc();
+    assert_reported(&rt, alloc, &[1, 1], 0, "row 1 ok\nrow 1 ok\n2 rows ok\n");
+    assert_reported(&rt, alloc, &[2], 1, "row 2 failed\n1 rows failed\n");
+    assert_reported(&rt, alloc, &[3], 1, "row 3 failed\n1 rows failed\n");
+    assert_reported(&rt, alloc, &[0], 1, "row 0 failed\n1 rows failed\n");
+    let text = "row 2 failed\nrow 1 ok\nrow 0 failed\n2 rows failed\n";
+    assert_reported(&rt, alloc, &[2, 1, 0], 1, text);
+    let text = "row 1 ok\nrow 2 failed\nout of memory\n";
+    assert_reported(&rt, alloc, &[1, 2, 4, 1], 2, text);
 }
 
 // Compares two different values, in one of several ways.

@@ -1,5 +1,5 @@
-//! What the tests share. An assertion inside a test makes the proof of the test a second or two
-//! longer, and a call of one of these functions does not.
+//! Assertions and values that the tests share. An assertion inside a test makes
+//! the proof of the test a second or two longer, and a call of one of these functions does not.
 ghost use Rattle.std.specs.Prelude.{◌≡◌, ◌≤◌, IfOk, length};
 ghost use Rattle.std.specs.Iterator.{IsFinite};
 

@@ -177,6 +177,12 @@ fn dedup_removes_equal_neighbours(rt: HostRuntime) -> Result<(), Fail> {
 
 #[test]
 fn dedup_compares_boxes_by_their_values(rt: HostRuntime) -> Result<(), Fail> {
+    for (items, wanted) in &SHORT {
+        let mut list = boxes_of(rt.alloc(), items)?;
+        list.dedup();
+        let wanted = boxes_of(rt.alloc(), wanted)?;
+        assert_same(&rt, list.as_slice(), wanted.as_slice());
+    }
     let wanted = boxes_of(rt.alloc(), &[1, 2, 3])?;
     for items in &REPEATED {
         let mut list = boxes_of(rt.alloc(), items)?;

@@ -3,7 +3,7 @@
 ghost use Rattle.std.specs.Prelude.{◌≡◌, IsTrue, IsFalse, ◌^◌, ◌-◌, ◌+◌};
 ghost use Rattle.thin_block.specs.Capacity.{items_offset, fits as fits_at};
 
-use crate::tests::support::assert_same;
+use crate::tests::support::{assert_items, assert_same};
 use std::alloc::Global;
 use std::process::Abort;
 use std::test::Fail;
@@ -73,9 +73,20 @@ fn assert_grows<T: Copy + Drop>(
 #[test]
 fn power_bytes_fills_blocks_of_power_of_two_sizes(rt: HostRuntime) -> Result<(), Fail> {
     let alloc = rt.alloc();
+    assert_grows(&rt, alloc, 7_u8, &[16, 48, 112])?;
+    assert_grows(&rt, alloc, 7_u32, &[4, 12, 28, 60])?;
     assert_grows(&rt, alloc, 7_u64, &[2, 6, 14])?;
     assert_grows(&rt, alloc, [7_u64, 8, 9], &[2, 4, 10])?;
     assert_grows(&rt, alloc, (), &[4, 8, 16])?;
+    Ok(())
+}
+
+#[test]
+fn resize_fills_a_block_of_a_power_of_two(rt: HostRuntime) -> Result<(), Fail> {
+    let mut list = ThinVec::<u32, Global, PowerBytes>::ruled(rt.alloc());
+    list.resize(5, 0)?;
+    assert_items(&rt, &list, &[0; 5]);
+    assert_same(&rt, list.capacity(), 12);
     Ok(())
 }
 

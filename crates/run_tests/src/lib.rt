@@ -1,0 +1,6 @@
+//! Tests of commands: what `run` and `step` answer and leave if a request is refused, and after
+//! each number of steps over a range. Tables in the tests state the replies as texts.
+#![tactic(auto)]
+
+#[cfg(test)]
+mod tests;

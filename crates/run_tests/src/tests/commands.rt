@@ -1,0 +1,266 @@
+//! Tests each command with each of its requests refused in turn.
+use crate::tests::judges::Evens;
+use crate::tests::made::{
+    Asked, Item, List, Ran, assert_clean, assert_text, items, leaked_ledger, list_of, run_single,
+    steps,
+};
+use crate::tests::shown::{command_text, list_text, reply_text};
+use std::alloc::{AllocError, Global};
+use std::process::Abort;
+use std::test::Fail;
+use thin_runner::command::{Command, Reply};
+use thin_testing::{Ledger, Numbered};
+
+// What each command does on a list of the items 1, 2, 2, 3. A line has the capacity before and the
+// command, and then the outcomes: with the first request refused, with the second one, and so on,
+// and last with none. An outcome is the reply, the list and the capacity, or `=` if these two are
+// as before. It is `same` if it is the one before.
+static OUTCOMES: [&str; 57] = [
+    "4, Push(9): Returned(9, OutOfMemory) = | Done [1, 2, 2, 3, 9] 8",
+    "6, Push(9): Done [1, 2, 2, 3, 9] 6",
+    "4, Pop: Item(Some(3)) [1, 2, 2] 4",
+    "4, Insert(1, 9): Returned(9, OutOfMemory) = | Done [1, 9, 2, 2, 3] 8",
+    "6, Insert(1, 9): Done [1, 9, 2, 2, 3] 6",
+    "4, Insert(5, 9): OutOfRange(Insert(5, 9)) =",
+    "4, Remove(1): Item(Some(2)) [1, 2, 3] 4",
+    "4, Remove(4): OutOfRange(Remove(4)) =",
+    "4, SwapRemove(0): Item(Some(1)) [3, 2, 2] 4",
+    "4, SwapRemove(4): OutOfRange(SwapRemove(4)) =",
+    "4, Set(3, 9): Item(Some(3)) [1, 2, 2, 9] 4",
+    "4, Set(4, 9): OutOfRange(Set(4, 9)) =",
+    "4, Truncate(1): Done [1] 4",
+    "4, Truncate(5): Done =",
+    "4, Clear: Done [] 4",
+    "4, Reserve(1): Refused(OutOfMemory) = | Done [1, 2, 2, 3] 8",
+    "4, Reserve(18446744073709551615): Refused(CapacityOverflow) =",
+    "4, ReserveExact(1): Refused(OutOfMemory) = | Done [1, 2, 2, 3] 5",
+    "4, ReserveExact(9223372036854775808): Refused(CapacityOverflow) =",
+    "4, ShrinkToFit: Done =",
+    "6, ShrinkToFit: Refused(OutOfMemory) = | Done [1, 2, 2, 3] 4",
+    "4, Resize(6, 9): Refused(OutOfMemory) = | Refused(OutOfMemory) [1, 2, 2, 3] 8 \
+        | Done [1, 2, 2, 3, 9, 9] 8",
+    "6, Resize(5, 9): Done [1, 2, 2, 3, 9] 6",
+    "4, Resize(2, 9): Done [1, 2] 4",
+    "4, Resize(18446744073709551615, 9): Refused(CapacityOverflow) =",
+    "4, ExtendFromSlice([7, 8]): Refused(OutOfMemory) = | Refused(OutOfMemory) [1, 2, 2, 3] 8 \
+        | same | Done [1, 2, 2, 3, 7, 8] 8",
+    "4, ExtendFromSlice([]): Done =",
+    "4, Extend([7, 8], 0): Stopped([], OutOfMemory, [], Some(7), [8]) = \
+        | Done [1, 2, 2, 3, 7, 8] 8",
+    "4, Extend([7, 8], 2): Stopped([], OutOfMemory, [], None, [7, 8]) = \
+        | Done [1, 2, 2, 3, 7, 8] 8",
+    "4, Extend([4, 5, 6, 7, 8], 1): Stopped([], OutOfMemory, [], None, [4, 5, 6, 7, 8]) = \
+        | Stopped([], OutOfMemory, [], Some(8), []) [1, 2, 2, 3, 4, 5, 6, 7] 8 \
+        | Done [1, 2, 2, 3, 4, 5, 6, 7, 8] 16",
+    "6, Extend([7, 8], 2): Done [1, 2, 2, 3, 7, 8] 6",
+    "4, Extend([7], 9223372036854775808): Stopped([], CapacityOverflow, [], None, [7]) =",
+    "4, Append([7, 8], 3): Other([7, 8], 3, Some(OutOfMemory)) = \
+        | Other([], 3, None) [1, 2, 2, 3, 7, 8] 8",
+    "6, Append([7, 8], 3): Other([], 3, None) [1, 2, 2, 3, 7, 8] 6",
+    "4, SplitOff(1): Refused(OutOfMemory) = | List([2, 2, 3], 3) [1] 4",
+    "4, SplitOff(4): List([], 0) =",
+    "4, SplitOff(5): OutOfRange(SplitOff(5)) =",
+    "6, Clone: Refused(OutOfMemory) = | same | same | same | same | List([1, 2, 2, 3], 4) =",
+    "4, Retain: Done [2, 2] 4",
+    "4, RetainMut: Done [2, 2] 4",
+    "4, Dedup: Done [1, 2, 3] 4",
+    "4, DedupBy: Done [1, 3] 4",
+    "4, DedupByKey: Done [1, 2, 3] 4",
+    "4, Drain(1, 4, [BF]): Refused(OutOfMemory) = | Answers([Some(3), Some(2)]) [1] 4",
+    "4, Drain(1, 3, [BFB]): Refused(OutOfMemory) = | Answers([Some(2), Some(2), None]) [1, 3] 4",
+    "4, Drain(1, 3, []): Answers([]) [1, 3] 4",
+    "4, Drain(3, 1, [BF]): OutOfRange(Drain(3, 1, [BF])) =",
+    "4, Drain(3, 5, []): OutOfRange(Drain(3, 5, [])) =",
+    "4, ExtractIf(0, 4, 3): Refused(OutOfMemory) = | Answers([Some(2), Some(2), None]) [1, 3] 4",
+    "4, ExtractIf(0, 4, 0): Answers([]) =",
+    "4, ExtractIf(0, 5, 1): OutOfRange(ExtractIf(0, 5, 1)) =",
+    "4, Splice(1, 3, [B], [7, 8, 9], 1): Refused(OutOfMemory) = \
+        | Stopped([Some(2)], OutOfMemory, [], None, [9]) [1, 7, 8, 3] 4 \
+        | Answers([Some(2)]) [1, 7, 8, 9, 3] 8",
+    "4, Splice(1, 3, [], [7, 8, 9], 0): Stopped([], OutOfMemory, [], Some(9), []) [1, 7, 8, 3] 4 \
+        | Stopped([], OutOfMemory, [9], None, []) [1, 7, 8, 3] 4 | Answers([]) [1, 7, 8, 9, 3] 8",
+    "4, Splice(1, 4, [B], [4, 5, 6, 7, 8], 0): Refused(OutOfMemory) = \
+        | Stopped([Some(3)], OutOfMemory, [], Some(7), [8]) [1, 4, 5, 6] 4 \
+        | Answers([Some(3)]) [1, 4, 5, 6, 7, 8] 8",
+    "4, Splice(1, 3, [], [7], 5): Answers([]) [1, 7, 3] 4",
+    "4, Splice(1, 3, [], [7, 8], 9223372036854775808): \
+        Stopped([], CapacityOverflow, [], None, []) [1, 7, 8, 3] 4",
+    "4, Splice(3, 1, [BF], [7], 1): OutOfRange(Splice(3, 1, [BF], [7], 1)) =",
+];
+
+// More requests than any command makes.
+const MOST: u64 = 20;
+
+// Returns the command of a line of `OUTCOMES`, after the spare capacity of the list. Each call
+// makes the command anew, because `run` takes it.
+fn nth_command<T: Numbered, R: Abort>(
+    rt: &R,
+    ledger: &'static Ledger,
+    number: usize,
+) -> (usize, Asked<T>) {
+    let nine = T::numbered(ledger, 9);
+    let (none, one, two) = (
+        items(rt, ledger, &[]),
+        items(rt, ledger, &[7]),
+        items(rt, ledger, &[7, 8]),
+    );
+    let (three, five) = (
+        items(rt, ledger, &[7, 8, 9]),
+        items(rt, ledger, &[4, 5, 6, 7, 8]),
+    );
+    let other = list_of(rt, ledger, items(rt, ledger, &[7, 8]), 1);
+    let stay = steps(rt, ledger, 0, 0);
+    let (back, back_front) = (steps(rt, ledger, 1, 1), steps(rt, ledger, 2, 1));
+    let back_front_back = steps(rt, ledger, 3, 5);
+    match number {
+        0 => (0, Command::Push(nine)),
+        1 => (2, Command::Push(nine)),
+        2 => (0, Command::Pop),
+        3 => (0, Command::Insert(1, nine)),
+        4 => (2, Command::Insert(1, nine)),
+        5 => (0, Command::Insert(5, nine)),
+        6 => (0, Command::Remove(1)),
+        7 => (0, Command::Remove(4)),
+        8 => (0, Command::SwapRemove(0)),
+        9 => (0, Command::SwapRemove(4)),
+        10 => (0, Command::Set(3, nine)),
+        11 => (0, Command::Set(4, nine)),
+        12 => (0, Command::Truncate(1)),
+        13 => (0, Command::Truncate(5)),
+        14 => (0, Command::Clear),
+        15 => (0, Command::Reserve(1)),
+        16 => (0, Command::Reserve(usize::MAX)),
+        17 => (0, Command::ReserveExact(1)),
+        18 => (0, Command::ReserveExact(1 << 63)),
+        19 => (0, Command::ShrinkToFit),
+        20 => (2, Command::ShrinkToFit),
+        21 => (0, Command::Resize(6, nine)),
+        22 => (2, Command::Resize(5, nine)),
+        23 => (0, Command::Resize(2, nine)),
+        24 => (0, Command::Resize(usize::MAX, nine)),
+        25 => (0, Command::ExtendFromSlice(two)),
+        26 => (0, Command::ExtendFromSlice(none)),
+        27 => (0, Command::Extend(two, 0)),
+        28 => (0, Command::Extend(two, 2)),
+        29 => (0, Command::Extend(five, 1)),
+        30 => (2, Command::Extend(two, 2)),
+        31 => (0, Command::Extend(one, 1 << 63)),
+        32 => (0, Command::Append(other)),
+        33 => (2, Command::Append(other)),
+        34 => (0, Command::SplitOff(1)),
+        35 => (0, Command::SplitOff(4)),
+        36 => (0, Command::SplitOff(5)),
+        37 => (2, Command::Clone),
+        38 => (0, Command::Retain),
+        39 => (0, Command::RetainMut),
+        40 => (0, Command::Dedup),
+        41 => (0, Command::DedupBy),
+        42 => (0, Command::DedupByKey),
+        43 => (0, Command::Drain(1, 4, back_front)),
+        44 => (0, Command::Drain(1, 3, back_front_back)),
+        45 => (0, Command::Drain(1, 3, stay)),
+        46 => (0, Command::Drain(3, 1, back_front)),
+        47 => (0, Command::Drain(3, 5, stay)),
+        48 => (0, Command::ExtractIf(0, 4, 3)),
+        49 => (0, Command::ExtractIf(0, 4, 0)),
+        50 => (0, Command::ExtractIf(0, 5, 1)),
+        51 => (0, Command::Splice(1, 3, back, three, 1)),
+        52 => (0, Command::Splice(1, 3, stay, three, 0)),
+        53 => (0, Command::Splice(1, 4, back, five, 0)),
+        54 => (0, Command::Splice(1, 3, stay, one, 5)),
+        55 => (0, Command::Splice(1, 3, stay, two, 1 << 63)),
+        _ => (0, Command::Splice(3, 1, back_front, one, 1)),
+    }
+}
+
+// Executes the command of a line after an earlier one, with request number `refused` refused.
+// Returns the outcome, and the number of requests. The first request is that for the room for the
+// reply.
+fn outcome<R: Abort>(
+    rt: &R,
+    ledger: &'static Ledger,
+    number: usize,
+    refused: u64,
+) -> Result<(String, u64), AllocError> {
+    ledger.begin(0);
+    let (spare, command) = nth_command(rt, ledger, number);
+    let mut list: List<Item> = list_of(rt, ledger, items(rt, ledger, &[1, 2, 2, 3]), spare);
+    let before = list_text(ledger.global, &list)?;
+    let ran = run_single(rt, ledger, &mut list, command, &Evens, refused);
+    let requests = ran.requests;
+    let reply = last_text(rt, ledger.global, ran)?;
+    let after = list_text(ledger.global, &list)?;
+    assert_clean(rt, ledger, list);
+    if after == before {
+        return Ok((format!(in ledger.global; "{} =", reply.as_str())?, requests));
+    }
+    let outcome = format!(in ledger.global; "{} {}", reply.as_str(), after.as_str())?;
+    Ok((outcome, requests))
+}
+
+// Prints the last reply, or why there is none. Asserts that the earlier reply is as before.
+fn last_text<R: Abort>(rt: &R, alloc: Global, ran: Ran<Item>) -> Result<String, AllocError> {
+    let Ran {
+        cause,
+        requests: _,
+        mut replies,
+    } = ran;
+    let text = match cause {
+        Some(cause) => format!(in alloc; "no room: {cause:?}")?,
+        None => match replies.pop() {
+            Some(reply) => reply_text(alloc, reply)?,
+            None => String::new(alloc),
+        },
+    };
+    assert!(rt; matches!(replies.as_slice(), [Reply::Item(None)]));
+    Ok(text)
+}
+
+// Executes the command of a line with each of its requests refused, and then with none refused.
+// Returns the line.
+fn outcomes<R: Abort>(
+    rt: &R,
+    ledger: &'static Ledger,
+    number: usize,
+) -> Result<String, AllocError> {
+    let (no_room, _requests) = outcome(rt, ledger, number, 1)?;
+    assert_text(rt, no_room.as_str(), "no room: OutOfMemory =");
+    let mut line = title(rt, ledger, number)?;
+    let mut last = String::new(ledger.global);
+    for granted in 0..MOST {
+        let refused = granted.saturating_add(2);
+        let (outcome, requests) = outcome(rt, ledger, number, refused)?;
+        line.push_str(if granted == 0 { ": " } else { " | " })?;
+        if outcome == last {
+            line.push_str("same")?;
+        } else {
+            line.push_str(outcome.as_str())?;
+        }
+        if requests < refused {
+            assert!(rt; !outcome.as_str().contains("OutOfMemory"), "line {number}");
+            return Ok(line);
+        }
+        last = outcome;
+    }
+    Ok(line)
+}
+
+// Returns how a line begins.
+fn title<R: Abort>(rt: &R, ledger: &'static Ledger, number: usize) -> Result<String, AllocError> {
+    ledger.begin(0);
+    let (spare, command): (usize, Asked<Item>) = nth_command(rt, ledger, number);
+    let command = command_text(ledger.global, command)?;
+    format!(in ledger.global; "{}, {}", spare.saturating_add(4), command.as_str())
+}
+
+#[test]
+fn each_command_with_each_request_refused(rt: HostRuntime) -> Result<(), Fail> {
+    let ledger = leaked_ledger(&rt, rt.alloc());
+    let mut number: usize = 0;
+    for wanted in &OUTCOMES {
+        let line = outcomes(&rt, ledger, number)?;
+        assert_text(&rt, line.as_str(), wanted);
+        number = number.saturating_add(1);
+    }
+    Ok(())
+}

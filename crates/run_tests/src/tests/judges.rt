@@ -1,0 +1,92 @@
+//! Defines the judges of the tests.
+ghost use Rattle.std.specs.Prelude.{◌≡◌, ◌==◌, ◌/◌, ◌%◌, false};
+
+use crate::tests::made::Item;
+use thin_runner::judge::Judge;
+
+/// A judge that takes its answers from the binary digits of a number. A 1 means `true`.
+#[derive(Clone, Copy)]
+pub struct Digits {
+    pub digits: u64,
+}
+
+/// Answers true, false, true, and so on, for 64 calls.
+pub const TURNS: Digits = Digits {
+    digits: 0x5555_5555_5555_5555,
+};
+
+impl Digits {
+    fn next_digit(&mut self) -> u64
+        ensures value { result ≡ self.old.digits % 2 }
+        ensures digits { self.new.digits ≡ self.old.digits / 2 }
+    {
+        let digit = self.digits % 2;
+        self.digits /= 2;
+        digit
+    }
+}
+
+impl<T> Judge<T> for Digits {
+    ghost model = { record {
+      look = λ j x. (j.digits % 2 == 1, record { digits = j.digits / 2 });
+      keep = λ j x. (j.digits % 2 == 1, x, record { digits = j.digits / 2 });
+      same = λ j x y. (j.digits % 2 == 1, x, y, record { digits = j.digits / 2 });
+      key = λ j x. (j.digits % 2, x, record { digits = j.digits / 2 });
+      take = λ j x. (j.digits % 2 == 1, x, record { digits = j.digits / 2 });
+    } };
+
+    fn look(&mut self, _item: &T) -> bool {
+        self.next_digit() == 1
+    }
+
+    fn keep(&mut self, _item: &mut T) -> bool {
+        self.next_digit() == 1
+    }
+
+    fn same(&mut self, _later: &mut T, _kept: &mut T) -> bool {
+        self.next_digit() == 1
+    }
+
+    fn key(&mut self, _item: &mut T) -> u64 {
+        self.next_digit()
+    }
+
+    fn take(&mut self, _item: &mut T) -> bool {
+        self.next_digit() == 1
+    }
+}
+
+/// A judge that looks at the numbers of the items. It keeps and takes even items, and the key of an
+/// item is its number.
+#[derive(Clone, Copy)]
+pub struct Evens;
+
+impl Judge<Item> for Evens {
+    ghost model = { record {
+      look = λ j x. (x.number % 2 == 0, j);
+      keep = λ j x. (x.number % 2 == 0, x, j);
+      same = λ j x y. (x.number % 2 == 0, x, y, j);
+      key = λ j x. (x.number, x, j);
+      take = λ j x. (x.number % 2 == 0, x, j);
+    } };
+
+    fn look(&mut self, item: &Item) -> bool {
+        item.number() % 2 == 0
+    }
+
+    fn keep(&mut self, item: &mut Item) -> bool {
+        item.number() % 2 == 0
+    }
+
+    fn same(&mut self, later: &mut Item, _kept: &mut Item) -> bool {
+        later.number() % 2 == 0
+    }
+
+    fn key(&mut self, item: &mut Item) -> u64 {
+        item.number()
+    }
+
+    fn take(&mut self, item: &mut Item) -> bool {
+        item.number() % 2 == 0
+    }
+}

@@ -1,0 +1,179 @@
+//! Makes the lists, vectors and steps of the tests. The test ends if there is no memory for them.
+use std::alloc::{Allocator, Global};
+use std::process::Abort;
+use thin_runner::command::{Command, Reply, Step};
+use thin_runner::judge::Judge;
+use thin_runner::runner::run;
+use thin_testing::{Counted, Ledger, Numbered, Refusing};
+use thin_vec::{ThinVec, ThinVecError};
+
+/// An item that the ledger counts. A clone of it is a request.
+pub type Item = Counted<'static>;
+
+/// The allocator of all lists and vectors. It counts the requests, and can refuse one of them.
+pub type Lender = &'static Refusing<Global>;
+
+pub type List<T> = ThinVec<T, Lender>;
+
+pub type Asked<T> = Command<T, Lender>;
+
+pub type Told<T> = Reply<T, Lender>;
+
+/// Returns a ledger that is never freed.
+pub fn leaked_ledger<R: Abort>(rt: &R, alloc: Global) -> &'static Ledger {
+    Ledger::leaked(alloc).ok().expect(rt, "memory")
+}
+
+/// Makes an empty vector with room for `capacity` values.
+pub fn room<V: Drop, A: Allocator, R: Abort>(rt: &R, alloc: A, capacity: usize) -> Vec<V, A> {
+    Vec::with_capacity(alloc, capacity)
+        .ok()
+        .expect(rt, "memory")
+}
+
+/// Appends a value.
+pub fn put<V: Drop, A: Allocator, R: Abort>(rt: &R, values: &mut Vec<V, A>, value: V) {
+    values.push(value).ok().expect(rt, "memory");
+}
+
+/// Makes items of the given numbers.
+pub fn items<T: Numbered, R: Abort>(
+    rt: &R,
+    ledger: &'static Ledger,
+    numbers: &[u64],
+) -> Vec<T, Lender> {
+    let mut items = room(rt, &ledger.alloc, numbers.len());
+    for number in numbers {
+        put(rt, &mut items, T::numbered(ledger, *number));
+    }
+    items
+}
+
+/// Makes `count` items of consecutive numbers.
+pub fn run_of_items<T: Numbered, R: Abort>(
+    rt: &R,
+    ledger: &'static Ledger,
+    first: u64,
+    count: usize,
+) -> Vec<T, Lender> {
+    let mut items = room(rt, &ledger.alloc, count);
+    for index in 0..count {
+        let number = first.saturating_add(index as u64);
+        put(rt, &mut items, T::numbered(ledger, number));
+    }
+    items
+}
+
+/// Makes a list that takes over the items of the vector, with the given spare capacity.
+pub fn list_of<T: Numbered, R: Abort>(
+    rt: &R,
+    ledger: &'static Ledger,
+    items: Vec<T, Lender>,
+    spare: usize,
+) -> List<T> {
+    let mut list = ThinVec::new(&ledger.alloc);
+    list.reserve_exact(items.len().saturating_add(spare))
+        .ok()
+        .expect(rt, "memory");
+    for item in items {
+        list.push(item).ok().expect(rt, "memory");
+    }
+    list
+}
+
+/// Makes `count` steps. Step number `i` is `Back` if bit `i` of `backs` is 1. The bits repeat after
+/// 64 steps.
+pub fn steps<R: Abort>(
+    rt: &R,
+    ledger: &'static Ledger,
+    count: usize,
+    backs: u64,
+) -> Vec<Step, Lender> {
+    let mut steps = room(rt, &ledger.alloc, count);
+    for index in 0..count {
+        let step = if is_one(backs, index) {
+            Step::Back
+        } else {
+            Step::Front
+        };
+        put(rt, &mut steps, step);
+    }
+    steps
+}
+
+/// Returns whether bit `index` of `bits` is 1. The bits repeat after 64.
+pub fn is_one(bits: u64, index: usize) -> bool {
+    bits >> (index % 64) & 1 == 1
+}
+
+/// What a call to `run` did.
+#[derive(Drop)]
+pub struct Ran<T: Drop> {
+    /// Why the call failed.
+    pub cause: Option<ThinVecError>,
+    pub requests: u64,
+    pub replies: Vec<Told<T>, Lender>,
+}
+
+/// Executes the commands by one call to `run`, with request number `refused` refused. Before, the
+/// replies are one `Item(None)`, and there is no room for another one.
+pub fn run_all<T: Numbered, J: Judge<T>, R: Abort>(
+    rt: &R,
+    ledger: &'static Ledger,
+    list: &mut List<T>,
+    commands: Vec<Asked<T>, Lender>,
+    judge: &J,
+    refused: u64,
+) -> Ran<T> {
+    let mut replies = room(rt, &ledger.alloc, 1);
+    put(rt, &mut replies, Reply::Item(None));
+    ledger.begin(refused);
+    let ran = run(&ledger.alloc, list, commands, &mut replies, judge);
+    Ran {
+        cause: ran.err(),
+        requests: ledger.alloc.requests(),
+        replies,
+    }
+}
+
+/// Executes one command as `run_all` does.
+pub fn run_single<T: Numbered, J: Judge<T>, R: Abort>(
+    rt: &R,
+    ledger: &'static Ledger,
+    list: &mut List<T>,
+    command: Asked<T>,
+    judge: &J,
+    refused: u64,
+) -> Ran<T> {
+    let mut commands = room(rt, &ledger.alloc, 1);
+    put(rt, &mut commands, command);
+    run_all(rt, ledger, list, commands, judge, refused)
+}
+
+/// Asserts that the two texts are equal.
+pub fn assert_text<R: Abort>(rt: &R, text: &str, wanted: &str) {
+    assert_eq!(rt; text, wanted);
+}
+
+/// Asserts that exactly the items of the list exist, and one block if it has a capacity. Then drops
+/// the list, and asserts that nothing is left.
+pub fn assert_clean<T: Numbered, R: Abort>(rt: &R, ledger: &'static Ledger, list: List<T>) {
+    assert_live::<T, R>(rt, ledger, list.len(), list.has_capacity());
+    drop(list);
+    assert_live::<T, R>(rt, ledger, 0, false);
+}
+
+// Asserts that `items` items exist, and one block if `has_block` is true.
+fn assert_live<T: Numbered, R: Abort>(
+    rt: &R,
+    ledger: &'static Ledger,
+    items: usize,
+    has_block: bool,
+) {
+    let items = if T::IS_COUNTED { items as u64 } else { 0 };
+    assert_eq!(rt;
+        (ledger.live.get(), ledger.alloc.blocks()),
+        (items, u64::from(has_block)),
+        "items and blocks"
+    );
+}

@@ -1,0 +1,229 @@
+//! Tests of one run of six commands, and of three commands whose judge counts its calls.
+use crate::tests::judges::{Evens, TURNS};
+use crate::tests::made::{
+    Asked, Item, Lender, List, Told, assert_clean, assert_text, items, leaked_ledger, list_of, put,
+    room, run_all, run_single, steps,
+};
+use crate::tests::shown::{list_text, reply_text};
+use std::alloc::AllocError;
+use std::process::Abort;
+use std::test::Fail;
+use thin_runner::command::Command;
+use thin_runner::judge::Judge;
+use thin_runner::runner::step;
+use thin_testing::{Ledger, Numbered};
+use thin_vec::{ThinVec, ThinVecError};
+
+// Returns a command of the run.
+fn nth_command<T: Numbered, R: Abort>(rt: &R, ledger: &'static Ledger, number: usize) -> Asked<T> {
+    match number {
+        0 => Command::Extend(items(rt, ledger, &[1, 2, 3, 4, 5, 6]), 6),
+        1 => Command::Splice(1, 3, steps(rt, ledger, 1, 0), items(rt, ledger, &[9]), 1),
+        2 => Command::ExtractIf(0, 5, 2),
+        3 => Command::SplitOff(3),
+        4 => Command::Splice(2, 1, steps(rt, ledger, 0, 0), items(rt, ledger, &[7]), 1),
+        _ => Command::Pop,
+    }
+}
+
+// The reply to each command, and the list and the capacity afterwards.
+static RUN: [(&str, &str); 6] = [
+    ("Done", "[1, 2, 3, 4, 5, 6] 6"),
+    ("Answers([Some(2)])", "[1, 9, 4, 5, 6] 6"),
+    ("Answers([Some(4), Some(6)])", "[1, 9, 5] 6"),
+    ("List([], 0)", "[1, 9, 5] 6"),
+    ("OutOfRange(Splice(2, 1, [], [7], 1))", "[1, 9, 5] 6"),
+    ("Item(Some(5))", "[1, 9] 6"),
+];
+
+// What the run of six commands makes if its first request is refused, its second one, and so on:
+// the earlier reply, the new ones, and the list and the capacity. In the last case, no request is
+// refused.
+static REFUSED: [&[&str]; 5] = [
+    &["Item(None)", "[] 0"],
+    &[
+        "Item(None)",
+        "Stopped([], OutOfMemory, [], None, [1, 2, 3, 4, 5, 6])",
+        "OutOfRange(Splice(1, 3, [F], [9], 1))",
+        "OutOfRange(ExtractIf(0, 5, 2))",
+        "OutOfRange(SplitOff(3))",
+        "OutOfRange(Splice(2, 1, [], [7], 1))",
+        "Item(None)",
+        "[] 0",
+    ],
+    &[
+        "Item(None)",
+        "Done",
+        "Refused(OutOfMemory)",
+        "Answers([Some(2), Some(4)])",
+        "List([6], 1)",
+        "OutOfRange(Splice(2, 1, [], [7], 1))",
+        "Item(Some(5))",
+        "[1, 3] 6",
+    ],
+    &[
+        "Item(None)",
+        "Done",
+        "Answers([Some(2)])",
+        "Refused(OutOfMemory)",
+        "List([5, 6], 2)",
+        "OutOfRange(Splice(2, 1, [], [7], 1))",
+        "Item(Some(4))",
+        "[1, 9] 6",
+    ],
+    &[
+        "Item(None)",
+        "Done",
+        "Answers([Some(2)])",
+        "Answers([Some(4), Some(6)])",
+        "List([], 0)",
+        "OutOfRange(Splice(2, 1, [], [7], 1))",
+        "Item(Some(5))",
+        "[1, 9] 6",
+    ],
+];
+
+// Returns the commands of the run.
+fn six_commands<T: Numbered, R: Abort>(rt: &R, ledger: &'static Ledger) -> Vec<Asked<T>, Lender> {
+    let mut commands = room(rt, &ledger.alloc, 6);
+    for number in 0..6 {
+        put(rt, &mut commands, nth_command(rt, ledger, number));
+    }
+    commands
+}
+
+// Asserts that the text is number `number` of the texts.
+fn assert_nth<R: Abort>(rt: &R, texts: &[&str], number: usize, text: &str) {
+    assert_eq!(rt; Some(text), texts.get(number).copied(), "text {number}");
+}
+
+// Executes the six commands by one call to `run`, with request number `refused` refused. Asserts
+// that the replies and the list have the given texts. Returns whether a request was refused.
+fn assert_run<R: Abort>(
+    rt: &R,
+    ledger: &'static Ledger,
+    refused: u64,
+    texts: &[&str],
+) -> Result<bool, AllocError> {
+    ledger.begin(0);
+    let mut list: List<Item> = ThinVec::new(&ledger.alloc);
+    let ran = run_all(
+        rt,
+        ledger,
+        &mut list,
+        six_commands(rt, ledger),
+        &Evens,
+        refused,
+    );
+    let is_refused = 0 < refused && refused <= ran.requests;
+    assert_eq!(rt; ran.cause.is_some(), refused == 1);
+    let mut number: usize = 0;
+    for reply in ran.replies {
+        let is_short = reply.refusal() == Some(ThinVecError::OutOfMemory);
+        assert!(rt; is_refused || !is_short);
+        assert_nth(
+            rt,
+            texts,
+            number,
+            reply_text(ledger.global, reply)?.as_str(),
+        );
+        number = number.saturating_add(1);
+    }
+    assert_nth(rt, texts, number, list_text(ledger.global, &list)?.as_str());
+    assert_eq!(rt; number.saturating_add(1), texts.len());
+    assert_clean(rt, ledger, list);
+    Ok(is_refused)
+}
+
+#[test]
+fn six_commands_by_one_run(rt: HostRuntime) -> Result<(), Fail> {
+    let ledger = leaked_ledger(&rt, rt.alloc());
+    assert_run(&rt, ledger, 0, REFUSED[4])?;
+    Ok(())
+}
+
+#[test]
+fn six_commands_with_each_request_refused(rt: HostRuntime) -> Result<(), Fail> {
+    let ledger = leaked_ledger(&rt, rt.alloc());
+    let mut refused: u64 = 0;
+    for texts in &REFUSED {
+        refused = refused.saturating_add(1);
+        let is_refused = assert_run(&rt, ledger, refused, texts)?;
+        assert_eq!(rt; is_refused, refused < 5, "request {refused}");
+    }
+    Ok(())
+}
+
+// Executes one command by `step`, or by a `run` of its own. Returns the reply.
+fn single<T: Numbered, J: Judge<T>, R: Abort>(
+    rt: &R,
+    ledger: &'static Ledger,
+    list: &mut List<T>,
+    command: Asked<T>,
+    judge: &J,
+    is_step: bool,
+) -> Option<Told<T>> {
+    if is_step {
+        return Some(step(&ledger.alloc, list, command, judge));
+    }
+    let mut ran = run_single(rt, ledger, list, command, judge, 0);
+    ran.replies.pop()
+}
+
+// Executes one command by itself, and asserts that the reply and the list have the given texts.
+fn assert_single<J: Judge<Item>, R: Abort>(
+    rt: &R,
+    ledger: &'static Ledger,
+    list: &mut List<Item>,
+    command: Asked<Item>,
+    judge: &J,
+    is_step: bool,
+    texts: (&str, &str),
+) -> Result<(), AllocError> {
+    let reply = single(rt, ledger, list, command, judge, is_step).expect(rt, "a reply");
+    let reply = reply_text(ledger.global, reply)?;
+    let left = list_text(ledger.global, list)?;
+    assert_text(rt, reply.as_str(), texts.0);
+    assert_text(rt, left.as_str(), texts.1);
+    Ok(())
+}
+
+#[test]
+fn six_commands_one_by_one(rt: HostRuntime) -> Result<(), Fail> {
+    let ledger = leaked_ledger(&rt, rt.alloc());
+    for is_step in [false, true] {
+        let mut list: List<Item> = ThinVec::new(&ledger.alloc);
+        let mut number: usize = 0;
+        for texts in &RUN {
+            let command = nth_command(&rt, ledger, number);
+            assert_single(&rt, ledger, &mut list, command, &Evens, is_step, *texts)?;
+            number = number.saturating_add(1);
+        }
+        assert_clean(&rt, ledger, list);
+    }
+    Ok(())
+}
+
+// Executes the command on the list 1, 2, 3, 4, 5, 6, with a judge that answers true, false, true,
+// and so on. Asserts that the reply and the list have the given texts.
+fn assert_turned<R: Abort>(
+    rt: &R,
+    ledger: &'static Ledger,
+    command: Asked<Item>,
+    texts: (&str, &str),
+) -> Result<(), AllocError> {
+    let mut list = list_of(rt, ledger, items(rt, ledger, &[1, 2, 3, 4, 5, 6]), 0);
+    assert_single(rt, ledger, &mut list, command, &TURNS, false, texts)?;
+    assert_clean(rt, ledger, list);
+    Ok(())
+}
+
+#[test]
+fn a_judge_that_counts_its_calls(rt: HostRuntime) -> Result<(), Fail> {
+    let ledger = leaked_ledger(&rt, rt.alloc());
+    let extracted = ("Answers([Some(1), Some(3)])", "[2, 4, 5, 6] 6");
+    assert_turned(&rt, ledger, Command::Retain, ("Done", "[1, 3, 5] 6"))?;
+    assert_turned(&rt, ledger, Command::DedupBy, ("Done", "[1, 3, 5] 6"))?;
+    assert_turned(&rt, ledger, Command::ExtractIf(0, 6, 2), extracted)?;
+    Ok(())
+}

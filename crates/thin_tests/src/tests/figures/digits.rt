@@ -1,0 +1,118 @@
+//! Tests of lists whose items are compared and hashed by their last decimal digit alone.
+ghost use Rattle.std.proofs.Common.{rules};
+ghost use Rattle.std.specs.Cmp.{partial_order_from_own_ties};
+ghost use Rattle.std.specs.Cmp.Rules.{comparing, hashing};
+ghost use Rattle.std.specs.Hash as fed;
+ghost use Rattle.std.specs.Ordering.{as_partial_cmp, nat_cmp};
+ghost use Rattle.std.specs.Prelude.{◌%◌, ◌==◌};
+
+use crate::tests::support::assert_same;
+use std::alloc::Global;
+use std::cmp::Ordering;
+use std::hash::{DefaultHasher, Hash, Hasher};
+use std::process::Abort;
+use std::test::Fail;
+use thin_vec::{ThinVec, ThinVecError};
+
+// A number of which only the last decimal digit is compared and hashed.
+#[derive(Clone, Copy, Debug)]
+struct LastDigit {
+    number: u32,
+}
+
+impl PartialEq for LastDigit {
+    ghost eq = { λ item other. item.number % 10 == other.number % 10 };
+
+    ghost laws = { Prim.search (comparing, rules) };
+
+    fn eq(&self, other: &LastDigit) -> bool {
+        self.number % 10 == other.number % 10
+    }
+}
+
+impl Eq for LastDigit {
+    ghost laws = { Prim.search (comparing, rules) };
+}
+
+impl PartialOrd for LastDigit {
+    ghost partial_cmp = { as_partial_cmp
+        (λ item other. nat_cmp (item.number % 10) (other.number % 10)) };
+
+    ghost laws = { partial_order_from_own_ties (Prim.search (comparing, rules))
+        (Prim.search (comparing, rules)) };
+
+    fn partial_cmp(&self, other: &LastDigit) -> Option<Ordering> {
+        Some(self.cmp(other))
+    }
+}
+
+impl Ord for LastDigit {
+    ghost cmp = { λ item other. nat_cmp (item.number % 10) (other.number % 10) };
+
+    ghost total = { Prim.search (comparing, rules) };
+
+    ghost matches_partial_cmp = { Prim.search (comparing, rules) };
+
+    ghost matches_eq = { Prim.search (comparing, rules) };
+
+    fn cmp(&self, other: &LastDigit) -> Ordering {
+        (self.number % 10).cmp(&(other.number % 10))
+    }
+}
+
+impl Hash for LastDigit {
+    ghost hash_input = { λ item. fed.u32 (item.number % 10) };
+
+    ghost respects_eq = { Prim.search (hashing, rules) };
+
+    fn hash<H: Hasher>(&self, state: &mut H) {
+        (self.number % 10).hash(state);
+    }
+}
+
+fn digits(alloc: Global, numbers: &[u32]) -> Result<ThinVec<LastDigit>, ThinVecError> {
+    let mut list = ThinVec::new(alloc);
+    for number in numbers {
+        list.push(LastDigit { number: *number })?;
+    }
+    Ok(list)
+}
+
+fn hash_of(list: &ThinVec<LastDigit>) -> u64 {
+    let mut hasher = DefaultHasher::new();
+    list.hash(&mut hasher);
+    hasher.finish()
+}
+
+// Asserts the numbers of the list. A comparison of the items would not see their first digits.
+fn assert_numbers(rt: &impl Abort, list: &ThinVec<LastDigit>, numbers: &[u32]) {
+    assert_same(rt, list.len(), numbers.len());
+    for (item, number) in list.iter().zip(numbers) {
+        assert_same(rt, item.number, *number);
+    }
+}
+
+#[test]
+fn dedup_keeps_the_first_of_equal_items(rt: HostRuntime) -> Result<(), Fail> {
+    let mut list = digits(rt.alloc(), &[10, 20, 31, 1])?;
+    list.dedup();
+    assert_numbers(&rt, &list, &[10, 31]);
+    Ok(())
+}
+
+#[test]
+fn lists_of_equal_items_are_equal_and_hash_alike(rt: HostRuntime) -> Result<(), Fail> {
+    for &(others, order) in &[
+        ([0, 1], Ordering::Equal),
+        ([0, 2], Ordering::Less),
+        ([9, 1], Ordering::Less),
+        ([40, 60], Ordering::Greater),
+    ] {
+        let list = digits(rt.alloc(), &[10, 31])?;
+        let other = digits(rt.alloc(), &others)?;
+        let is_equal = order == Ordering::Equal;
+        assert_same(&rt, (list == other, list.cmp(&other)), (is_equal, order));
+        assert_same(&rt, hash_of(&list) == hash_of(&other), is_equal);
+    }
+    Ok(())
+}
