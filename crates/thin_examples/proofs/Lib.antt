@@ -1,2 +1,6 @@
--- A lemma about the number of nodes of a tree.
+-- Lemmas about the examples:
+--
+-- - `MovesLemmas`: a `retain` that keeps all items
+-- - `TreeLemmas`: the number of nodes of a tree
+mod MovesLemmas
 mod TreeLemmas

@@ -1,9 +1,112 @@
-//! Examples whose contracts say how many items are moved.
-ghost use Rattle.std.specs.Prelude.{◌≡◌, ◌+◌, ◌≤◌, [], ◌∷◌, IfOk, OnOk, length, remove};
+//! Examples whose contracts say how often a list grows, and how many items are moved.
+ghost use Rattle.std.specs.Prelude.{◌≡◌, ◌+◌, ◌*◌, ◌≤◌, ◌++◌, [], ◌∷◌, IfOk, OnOk, insert, length, remove};
 
 use std::alloc::{AllocError, Allocator};
 use std::iter::once;
-use thin_vec::{Growth, ThinVec, thin_vec};
+use thin_runner::hinted::Hinted;
+use thin_vec::{Growth, ThinVec, ThinVecError, thin_vec};
+
+/// Makes a list, and pushes 17 numbers onto it. The list requests memory four times. The last three
+/// requests copy 4, 8 and 16 items.
+///
+/// # Errors
+///
+/// Fails if there is not enough memory.
+pub fn pushed_seventeen<A: Allocator>(alloc: A) -> Result<ThinVec<u32, A>, ThinVecError>
+    ensures len { IfOk result (λ list. length list.items ≡ 17) }
+    ensures capacity { IfOk result (λ list. list.capacity ≡ 32) }
+    ensures grown { IfOk result (λ list. list.cost.grown ≡ 28) }
+    ensures blocks { IfOk result (λ list. list.cost.blocks ≡ 4) }
+{
+    let mut list = pushed_five(alloc)?;
+    push_into_room(&mut list, 3)?;
+    push_when_full(&mut list, 7)?;
+    push_into_room(&mut list, 7)?;
+    push_when_full(&mut list, 7)?;
+    Ok(list)
+}
+
+// Makes a list, and pushes five numbers onto it. The list requests memory twice: for the first
+// number, and for the fifth. The second request copies four items.
+fn pushed_five<A: Allocator>(alloc: A) -> Result<ThinVec<u32, A>, ThinVecError>
+    ensures items { IfOk result (λ list. list.items ≡ 1 ∷ 2 ∷ 3 ∷ 4 ∷ 5 ∷ []) }
+    ensures capacity { IfOk result (λ list. list.capacity ≡ 8) }
+    ensures grown { IfOk result (λ list. list.cost.grown ≡ 4) }
+    ensures blocks { IfOk result (λ list. list.cost.blocks ≡ 2) }
+{
+    let mut list = ThinVec::new(alloc);
+    push_first(&mut list, 1)?;
+    list.push(2)?;
+    list.push(3)?;
+    list.push(4)?;
+    push_when_full(&mut list, 5)?;
+    Ok(list)
+}
+
+// Pushes a number onto a list without a block, which then has room for four.
+#[tactic(auto, unfolding(thin_block::specs::Growth::doubling, thin_block::specs::Growth::grown_capacity, thin_block::specs::Growth::checked_capacity, thin_block::specs::Capacity::min_non_zero_cap))]
+fn push_first<A: Allocator>(list: &mut ThinVec<u32, A>, number: u32) -> Result<(), ThinVecError>
+    requires empty { list.old.items ≡ [] }
+    requires no_block { list.old.capacity ≡ 0 }
+    ensures items { OnOk result (list.new.items ≡ number ∷ []) }
+    ensures capacity { OnOk result (list.new.capacity ≡ 4) }
+    ensures grown { OnOk result (list.new.cost.grown ≡ list.old.cost.grown) }
+    ensures blocks { OnOk result (list.new.cost.blocks ≡ list.old.cost.blocks + 1) }
+{
+    list.push(number)?;
+    Ok(())
+}
+
+// Pushes a number onto a full list, which doubles its capacity.
+#[tactic(auto, unfolding(thin_block::specs::Growth::doubling, thin_block::specs::Growth::grown_capacity, thin_block::specs::Growth::checked_capacity))]
+fn push_when_full<A: Allocator>(list: &mut ThinVec<u32, A>, number: u32) -> Result<(), ThinVecError>
+    requires full { length list.old.items ≡ list.old.capacity }
+    requires has_block { 1 ≤ list.old.capacity }
+    ensures items { OnOk result (list.new.items ≡ list.old.items ++ number ∷ []) }
+    ensures len { OnOk result (length list.new.items ≡ length list.old.items + 1) }
+    ensures capacity { OnOk result (list.new.capacity ≡ 2 * list.old.capacity) }
+    ensures grown { OnOk result
+        (list.new.cost.grown ≡ list.old.cost.grown + length list.old.items) }
+    ensures blocks { OnOk result (list.new.cost.blocks ≡ list.old.cost.blocks + 1) }
+{
+    list.push(number)?;
+    Ok(())
+}
+
+// Pushes `count` numbers, for which there is room.
+fn push_into_room<A: Allocator>(
+    list: &mut ThinVec<u32, A>,
+    count: usize,
+) -> Result<(), ThinVecError>
+    requires room { length list.old.items + count ≤ list.old.capacity }
+    ensures len { OnOk result (length list.new.items ≡ length list.old.items + count) }
+    ensures capacity { list.new.capacity ≡ list.old.capacity }
+    ensures grown { OnOk result (list.new.cost.grown ≡ list.old.cost.grown) }
+    ensures blocks { OnOk result (list.new.cost.blocks ≡ list.old.cost.blocks) }
+{
+    for _ in 0..count {
+        list.push(7)?;
+    }
+    Ok(())
+}
+
+/// Inserts a value at the second place of a list of three items with room for it. The value and the
+/// two items after it are moved.
+///
+/// # Errors
+///
+/// Fails if there is no room for the value.
+pub fn inserted_second<T: Drop, A: Allocator, G: Growth>(
+    list: &mut ThinVec<T, A, G>,
+    value: T,
+) -> Result<(), ThinVecError>
+    requires three { length list.old.items ≡ 3 }
+    ensures items { OnOk result (list.new.items ≡ insert list.old.items 1 value) }
+    ensures three_moves { OnOk result (list.new.cost.moves ≡ list.old.cost.moves + 3) }
+{
+    list.insert(1, value)?;
+    Ok(())
+}
 
 /// Removes and returns the first of five items. The four items after it are moved.
 pub fn removed_first<T, A: Allocator, G: Growth>(list: &mut ThinVec<T, A, G>) -> T
@@ -12,6 +115,69 @@ pub fn removed_first<T, A: Allocator, G: Growth>(list: &mut ThinVec<T, A, G>) ->
     ensures four_moves { list.new.cost.moves ≡ list.old.cost.moves + 4 }
 {
     list.remove(0)
+}
+
+/// Drains four of six items, of which it takes the first and the last. The item after the range is
+/// moved.
+pub fn drained_four<T: Drop, A: Allocator, G: Growth>(
+    list: &mut ThinVec<T, A, G>,
+) -> (Option<T>, Option<T>)
+    requires six { length list.old.items ≡ 6 }
+    ensures len { length list.new.items ≡ 2 }
+    ensures one_move { list.new.cost.moves ≡ list.old.cost.moves + 1 }
+{
+    let mut drain = list.drain(1, 5);
+    let first = drain.next();
+    let last = drain.next_back();
+    (first, last)
+}
+
+/// Extracts the first even number of four in a list of six. The four numbers after it are moved.
+pub fn extracted_two<A: Allocator>(list: &mut ThinVec<u32, A>) -> Option<u32>
+    requires to_six { list.old.items ≡ 1 ∷ 2 ∷ 3 ∷ 4 ∷ 5 ∷ 6 ∷ [] }
+    ensures items { list.new.items ≡ 1 ∷ 3 ∷ 4 ∷ 5 ∷ 6 ∷ [] }
+    ensures four_moves { list.new.cost.moves ≡ list.old.cost.moves + 4 }
+{
+    let mut extract = list.extract_if(1, 5, |number: &mut u32| *number % 2 == 0);
+    extract.next()
+}
+
+/// Replaces the third and the fourth of five numbers with three new numbers, of which the iterator
+/// claims to yield at least `lower`. Whatever the claim is, each new number is moved once, and the
+/// fifth number at most twice.
+///
+/// # Errors
+///
+/// Fails if there is not enough memory, or if a capacity for `lower` items would be too large.
+pub fn spliced_by_claim<A: Allocator + Copy, G: Growth>(
+    list: &mut ThinVec<u32, A, G>,
+    lower: usize,
+    alloc: A,
+) -> Result<(), ThinVecError>
+    requires five { length list.old.items ≡ 5 }
+    ensures five_moves { OnOk result (list.new.cost.moves ≤ list.old.cost.moves + 5) }
+{
+    let numbers = thin_vec![alloc => 10, 11, 12]?.into_vec(alloc)?;
+    list.splice(2, 4, Hinted::new(numbers, lower))
+        .finish(alloc)?;
+    Ok(())
+}
+
+/// Drains no item at the end of a list of six. No item is moved.
+pub fn drained_none<T: Drop, A: Allocator, G: Growth>(list: &mut ThinVec<T, A, G>)
+    requires six { length list.old.items ≡ 6 }
+    ensures items { list.new.items ≡ list.old.items }
+    ensures no_move { list.new.cost ≡ list.old.cost }
+{
+    list.drain(6, 6);
+}
+
+/// Retains all items. No item is moved.
+pub fn retained_all<T: Drop, A: Allocator, G: Growth>(list: &mut ThinVec<T, A, G>)
+    ensures items { list.new.items ≡ list.old.items }
+    ensures no_move { list.new.cost ≡ list.old.cost }
+{
+    list.retain(|_item: &T| true);
 }
 
 /// Makes a list, appends six items, replaces two of them with one, extracts two, splits the list,

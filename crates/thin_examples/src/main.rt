@@ -317,11 +317,33 @@ fn show_threads(rt: &impl Print, alloc: Global) -> io::Result<()> {
 }
 
 fn show_costs(rt: &impl Print, alloc: Global) -> io::Result<()> {
+    let capacity = costs::pushed_seventeen(alloc)?.capacity();
+    println!(rt; "pushed_seventeen: capacity {capacity}")?;
+    let mut list = ThinVec::from_array(alloc, [1, 2, 3])?;
+    costs::inserted_second(&mut list, 4)?;
+    println!(rt; "inserted_second: {list:?}")?;
     let mut list = ThinVec::from_array(alloc, [1, 2, 3, 4, 5])?;
     let first = costs::removed_first(&mut list);
     println!(rt; "removed_first: {first}, left {list:?}")?;
+    let mut list = ThinVec::from_array(alloc, [1, 2, 3, 4, 5])?;
+    costs::spliced_by_claim(&mut list, 1000, alloc)?;
+    println!(rt; "spliced_by_claim: {list:?}, capacity {}", list.capacity())?;
+    show_moves_in_six(rt, alloc)?;
     let edited = costs::edited(alloc)?;
     println!(rt; "edited: {edited:?}")
+}
+
+fn show_moves_in_six(rt: &impl Print, alloc: Global) -> io::Result<()> {
+    let mut list = ThinVec::from_array(alloc, [1, 2, 3, 4, 5, 6])?;
+    costs::drained_none(&mut list);
+    println!(rt; "drained_none: {list:?}")?;
+    costs::retained_all(&mut list);
+    println!(rt; "retained_all: {list:?}")?;
+    let ends = costs::drained_four(&mut list);
+    println!(rt; "drained_four: {ends:?}, left {list:?}")?;
+    let mut list = ThinVec::from_array(alloc, [1, 2, 3, 4, 5, 6])?;
+    let two = costs::extracted_two(&mut list);
+    println!(rt; "extracted_two: {two:?}, left {list:?}")
 }
 
 fn show_commands(rt: &impl Print, alloc: Global) -> io::Result<()> {

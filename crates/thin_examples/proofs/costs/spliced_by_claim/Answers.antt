@@ -1,0 +1,35 @@
+-- The iterator of `spliced_by_claim` yields three items, whatever it claims. They take three moves,
+-- and the item after the range takes at most two.
+use Rattle.std.proofs.Common.{rules, ◌≡◌, ◌∙◌, ◌++◌, ap, arith, length, length-append}
+use Rattle.std.proofs.lemmas.List.{length-drop}
+use Rattle.thin_runner.proofs.HintedLemmas.{drains-items}
+use Rattle.thin_runner.specs.Hinted.{hinted_items}
+use Rattle.thin_vec.specs.Edits.Splice.{splice_block, splice_iter}
+use Rattle.thin_examples.proofs.costs.spliced_by_claim.Goals as goal
+
+pub returns : goal.returns
+returns g c =
+    let s = c.splice.ensures in
+    let e = c.in_ok-finish.ensures in
+    let block = splice_block c.splice.result in
+    let new = e.items.0 in
+    let yielded = drains-items (splice_iter c.splice.result) new e.items.1
+    ∙ (ap hinted_items s.value ∙ c.new.ensures.items) in
+    let three : length c.in_ok-numbers.numbers.items ≡ 3 = search rules in
+    let left : c.finish.new.self.0 ≡ c.list-1.given.0 = search rules in
+    record {
+      five_moves = omega (
+        arith,
+        c.requires.five,
+        three,
+        e.cost.0.moves,
+        ap length yielded,
+        ap length e.items.2,
+        ap (λ list. list.cost.moves) left,
+        ap (λ cost. cost.moves) s.cost,
+        ap length s.tail ∙ length-drop 4 c.args.list.now.items,
+        length-append (block.front ++ new) block.tail,
+        length-append block.front new,
+        length-append block.front block.tail,
+      );
+    }
