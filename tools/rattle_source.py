@@ -1,32 +1,102 @@
-"""Reads Rattle sources: the public items of a crate with their documentation and contracts, and the definitions of its spec files.
+"""What the tools of this folder share: the root of the repository, how a tool ends, and how Rattle sources are read.
 
-The scripts `reference`, `index`, `pages` and `audit` in this folder use it. It is not a program.
+Of the sources, it reads the items of a crate with their documentation and contracts, and the definitions of its spec files.
+It is not a program.
 """
+import argparse
+import os
 import pathlib
 import re
+import shutil
+import sys
 
 TOP = pathlib.Path(__file__).resolve().parent.parent
 CLAUSE = re.compile(r"^\s*(requires|ensures\*?)\s+(?:(\w+)\s+)?\{")
 MEMBER = re.compile(r"^    ghost (\w+) = \{")
 DEFINITION = re.compile(
     r"^ *(?:(?:pub|abbrev|unfoldable|opaque) )*(?:(record|data) )?(?:pub )?"
-    r"([A-Za-z_◌][^\s:({]*)\s*(?:[({].*)?(?::|$)")
+    r"([A-Za-z_◌][^\s:({]*)\s*(?:[({].*)?(?::|$)"
+)
 KIND = re.compile(r"^ *(?:pub (?:record|data)|(?:abbrev|unfoldable|opaque) pub)\b")
 # Ghost members that only the compiler asks for: laws that every implementation has.
 LAWS = {"laws", "total", "matches_partial_cmp", "matches_eq", "respects_eq", "from"}
+
+
+class Stopped(Exception):
+    """A tool cannot go on. It prints the message, which says why, and ends with the status."""
+
+    status = 2
+
+
+class Arguments(argparse.ArgumentParser):
+    """The arguments of a tool. A wrong one ends the tool with one line."""
+
+    def __init__(self, description, **more):
+        super().__init__(description=description, formatter_class=argparse.RawDescriptionHelpFormatter, **more)
+
+    def error(self, message):
+        raise Stopped(f"{message} (--help lists the options)")
+
+
+def positive(text):
+    """The number that an option gives, which is at least 1."""
+    if not text.isdecimal() or int(text) < 1:
+        raise argparse.ArgumentTypeError(f"{text} is not a number from 1")
+    return int(text)
+
+
+def need(*programs):
+    """Stops if this machine lacks one of the programs."""
+    for program in programs:
+        if not shutil.which(program):
+            raise Stopped(f"there is no program {program}")
+
+
+def need_crates(*crates):
+    """Stops if the repository lacks one of the crates."""
+    for crate in crates:
+        if not (TOP / "crates" / crate / "src").is_dir():
+            raise Stopped(f"there is no folder crates/{crate}/src")
+
+
+def run_tool(main):
+    """Runs a tool and ends with the status that it returns, or with 2 after one line that says why it could not run."""
+    status = 2
+    try:
+        status = main()
+        sys.stdout.flush()
+        sys.exit(status)
+    except Stopped as why:
+        message, status = str(why), why.status
+    except OSError as error:
+        message = f"{error.filename}: {error.strerror}" if error.filename else str(error)
+        if isinstance(error, BrokenPipeError):
+            # Nobody reads what is still to be printed.
+            os.dup2(os.open(os.devnull, os.O_WRONLY), sys.stdout.fileno())
+    except UnicodeDecodeError as error:
+        message = f"a file is not UTF-8: {error}"
+    except KeyboardInterrupt:
+        message = "interrupted"
+    print(f"{pathlib.Path(sys.argv[0]).name}: {message}", file=sys.stderr)
+    sys.exit(status)
+
+
+def slug(title):
+    """The anchor that a heading gets on a page."""
+    return re.sub(r"[^\w\- ]", "", title.strip().lower()).replace(" ", "-")
 
 
 class Item:
     """A function, type, macro or implementation of a source file."""
 
     def __init__(self, kind, name, owner, text, docs, hidden):
-        self.kind = kind        # fn, struct, enum, trait, macro, impl
+        self.kind = kind  # fn, struct, enum, trait, macro, impl
         self.name = name
-        self.owner = owner      # the head of the `impl` around a function, or ""
-        self.text = text        # the lines that the reference quotes
+        self.owner = owner  # the head of the `impl` around a function, or ""
+        self.text = text  # the lines that the reference quotes
         self.docs = docs
         self.hidden = hidden
-        self.clauses = []       # (kind, label, text)
+        self.clauses = []  # (kind, label, text)
 
     @property
     def path(self):
@@ -72,7 +142,7 @@ def after_angle(text):
     for at, char in enumerate(text):
         depth += (char == "<") - (char == ">" and text[at - 1] not in "-=")
         if depth == 0:
-            return text[at + 1:]
+            return text[at + 1 :]
     return ""
 
 
@@ -92,9 +162,9 @@ def head_of(path):
             if lines:
                 break
             continue
-        if line[len(mark):].strip() == "" and lines:
+        if line[len(mark) :].strip() == "" and lines:
             break
-        lines.append(line[len(mark):])
+        lines.append(line[len(mark) :])
     return first_sentence(lines)
 
 
@@ -170,8 +240,8 @@ def visible(body):
     opened = next((at for at, line in enumerate(body) if line.rstrip().endswith("{")), None)
     if opened is None or body[-1] != "}":
         return body
-    kept, docs, private = body[:opened + 1], [], False
-    for line in body[opened + 1:-1]:
+    kept, docs, private = body[: opened + 1], [], False
+    for line in body[opened + 1 : -1]:
         if line.strip().startswith("//"):
             docs.append(line)
         elif line.startswith("    pub "):
@@ -204,7 +274,7 @@ def braces(lines, at):
         for place in range(start, len(text)):
             depth += (text[place] == "{") - (text[place] == "}")
             if depth == 0 and text[place] == "}":
-                taken.append(text[start:place + 1])
+                taken.append(text[start : place + 1])
                 whole = re.sub(r"\s+", " ", " ".join(part.strip() for part in taken))
                 return whole[1:-1].strip(), at + 1
         taken.append(text[start:])
@@ -226,7 +296,7 @@ def function(lines, at, owner, docs, hidden):
         if line.strip() in ("{", "{}") or line.rstrip().endswith((" {", ";", "}")):
             break
         at += 1
-    text = dedent(lines[start:at + (0 if lines[at].strip() in ("{", "{}") else 1)])
+    text = dedent(lines[start : at + (0 if lines[at].strip() in ("{", "{}") else 1)])
     if text and text[-1].endswith((" {", " {}", ";")):
         text[-1] = re.sub(r"( \{\}?|;)$", "", text[-1])
     item = Item("fn", name, owner, text, docs, hidden)
@@ -273,7 +343,7 @@ def definitions(crate):
                 end = at
                 while not lines[end].rstrip().endswith(" where"):
                     end += 1
-                heads.append((depth, lines[at:end + 1]))
+                heads.append((depth, lines[at : end + 1]))
             match = DEFINITION.match(line)
             if match and KIND.match(line) and comment:
                 end = at

@@ -1,0 +1,79 @@
+"""What every tool does with `--help` and with wrong arguments."""
+import contextlib
+import io
+import os
+import sys
+import unittest
+from unittest import mock
+
+from tool import NAMES, TOP, ToolTest
+import rattle_source
+
+
+class Arguments(ToolTest):
+    def test_each_tool_is_named_here(self):
+        files = {path.name for path in (TOP / "tools").iterdir() if path.is_file() and not path.suffix}
+        self.assertEqual(files, set(NAMES))
+        for name in NAMES:
+            self.assertTrue(os.access(TOP / "tools" / name, os.X_OK), name)
+
+    def test_each_tool_answers_help(self):
+        for name in NAMES:
+            with self.subTest(name):
+                self.assertTrue(self.passes(name, "--help").startswith(f"usage: {name}"))
+
+    def test_an_unknown_option_is_one_line(self):
+        for name in NAMES:
+            with self.subTest(name):
+                self.refuses(
+                    "unrecognized arguments: --typo (--help lists the options)",
+                    name,
+                    "--typo",
+                    PATH=str(self.folder()),
+                    RT="/no/rt",
+                )
+
+    def test_a_number_below_one_is_one_line(self):
+        wrong = [
+            ("differ", "--workers", "0"),
+            ("differ", "--lists", "0"),
+            ("mutants", "--jobs", "0"),
+            ("speed", "--jobs", "0"),
+            ("speed", "--rounds", "-1"),
+            ("differ", "--workers", "two"),
+        ]
+        for name, option, text in wrong:
+            with self.subTest(f"{name} {option} {text}"):
+                says = f"argument {option}: {text} is not a number from 1 (--help lists the options)"
+                # A tool that takes the number should not begin to build.
+                self.refuses(says, name, f"{option}={text}", PATH=str(self.folder()), RT="/no/rt")
+
+
+class Ending(unittest.TestCase):
+    def ended(self, main):
+        """The status with which a tool ends, and what it wrote to stderr."""
+        with contextlib.redirect_stderr(io.StringIO()) as said, mock.patch.object(sys, "argv", ["tools/tool"]):
+            with self.assertRaises(SystemExit) as ended:
+                rattle_source.run_tool(main)
+        return ended.exception.code, said.getvalue()
+
+    def test_the_status_of_a_tool_is_what_it_returns(self):
+        for status in (0, 1):
+            self.assertEqual(self.ended(lambda: status), (status, ""))
+
+    def test_a_tool_that_cannot_go_on_ends_with_one_line(self):
+        told = [
+            (rattle_source.Stopped("no crate"), "no crate"),
+            (KeyboardInterrupt(), "interrupted"),
+            (FileNotFoundError(2, "No such file", "rt"), "rt: No such file"),
+            (UnicodeDecodeError("utf-8", b"\xff", 0, 1, "odd"), "a file is not UTF-8: "),
+        ]
+        for error, says in told:
+            with self.subTest(says):
+                status, said = self.ended(mock.Mock(side_effect=error))
+                self.assertEqual((status, said.count("\n")), (2, 1))
+                self.assertTrue(said.startswith(f"tool: {says}"), said)
+
+
+if __name__ == "__main__":
+    unittest.main()

@@ -1,0 +1,42 @@
+"""tools/index and tools/reference: the pages are as the code is, a change is seen, and --write follows it."""
+import unittest
+
+from tool import ToolTest, change
+
+
+class MadePages(ToolTest):
+    def test_the_repository(self):
+        for name in ("index", "reference"):
+            with self.subTest(name):
+                self.assertEqual(self.passes(name, "--check"), "")
+
+    def test_a_page_follows_the_code(self):
+        top = self.copy("mutants.d")
+        source = top / "crates" / "thin_rows" / "src" / "lib.rt"
+        change(source, "//! ", "//! Planted. ")
+        for name, page in (("index", "docs/INDEX.md"), ("reference", "crates/thin_vec/DEFINITIONS.md")):
+            change(top / page, "The ", "The planted ")
+            with self.subTest(name):
+                said = self.finds(name, "--check", top=top)
+                self.assertIn(f"{page} is not as the code is: run tools/{name} --write\n", said)
+                self.passes(name, "--write", top=top)
+                self.assertNotIn(" planted ", (top / page).read_text(encoding="utf-8"))
+        self.assertIn("Planted.", (top / "docs" / "INDEX.md").read_text(encoding="utf-8"))
+
+    def test_an_unknown_crate_is_told_before_a_page_is_written(self):
+        top = self.copy("mutants.d", "proofs", "specs")
+        page = top / "crates" / "thin_vec" / "REFERENCE.md"
+        page.write_text("", encoding="utf-8")
+        says = "no reference of typo: there are those of thin_vec and thin_rows (--help lists the options)"
+        self.refuses(says, "reference", "thin_vec", "typo", "--write", top=top)
+        self.assertEqual(page.read_text(encoding="utf-8"), "")
+
+    def test_a_missing_crate(self):
+        top = self.copy("mutants.d", "proofs", "specs", "thin_rows")
+        for name in ("index", "reference"):
+            with self.subTest(name):
+                self.refuses("there is no folder crates/thin_rows/src", name, "--check", top=top)
+
+
+if __name__ == "__main__":
+    unittest.main()
