@@ -38,6 +38,9 @@ class Pages(ToolTest):
             ("README.md", "\n[a](#two)\n", "README.md:11: the link #two leads to no heading"),
             ("README.md", "\n```rust\nlet b = 1;\n```\n", "README.md:11: this code is in no source file"),
             ("README.md", "\nThere are 12 tests.\n", 'README.md:11: "12 tests" is a count'),
+            ("README.md", "\nSee `src/no.rt`.\n", "README.md:11: there is no file src/no.rt"),
+            ("README.md", "\nRun `tools/no`.\n", "README.md:11: there is no tool no"),
+            ("README.md", "\nRun `tools/pages --no`.\n", "README.md:11: tools/pages has no option --no"),
             (
                 "crates/thin_examples/stdout",
                 "two: 2\n",
