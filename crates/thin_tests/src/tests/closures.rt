@@ -90,13 +90,3 @@ fn retain_mut_numbers_the_items(rt: HostRuntime) -> Result<(), Fail> {
     assert_same(&rt, number, 4);
     Ok(())
 }
-
-#[test]
-fn dedup_by_key_compares_each_key_once(rt: HostRuntime) -> Result<(), Fail> {
-    let ledger = leaked_ledger(&rt, rt.alloc());
-    let mut list = list_of(rt.alloc(), &[1, 1, 2, 3, 3])?;
-    ledger.begin(0);
-    list.dedup_by_key(move |item: &mut i32| Counted::new(ledger, (*item % 7) as u64, ()));
-    assert_same(&rt, (list.len(), ledger.comparisons.get()), (3, 4));
-    Ok(())
-}

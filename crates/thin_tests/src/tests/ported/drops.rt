@@ -115,22 +115,6 @@ fn digits<'a>(alloc: Global, written: &'a Cell<u64>) -> Result<ThinVec<Digit<'a>
 }
 
 #[test]
-fn items_are_dropped_in_order(rt: HostRuntime) -> Result<(), Fail> {
-    let written = Cell::new(0);
-    drop(digits(rt.alloc(), &written)?);
-    assert_same(&rt, written.get(), 1234);
-    written.set(0);
-    let mut list = digits(rt.alloc(), &written)?;
-    assert_len(&rt, &list, 4);
-    drop(list.drain(1, 4));
-    assert_same(&rt, written.get(), 234);
-    list.clear();
-    drop(digits(rt.alloc(), &written)?.into_iter());
-    assert_same(&rt, written.get(), 23_411_234);
-    Ok(())
-}
-
-#[test]
 fn removed_items_are_dropped_in_order(rt: HostRuntime) -> Result<(), Fail> {
     let written = Cell::new(0);
     let mut list = digits(rt.alloc(), &written)?;
