@@ -32,7 +32,9 @@ class Arguments(argparse.ArgumentParser):
     """The arguments of a tool. A wrong one ends the tool with one line."""
 
     def __init__(self, description, **more):
-        super().__init__(description=description, formatter_class=argparse.RawDescriptionHelpFormatter, **more)
+        super().__init__(
+            description=description, formatter_class=argparse.RawDescriptionHelpFormatter, **more
+        )
 
     def error(self, message):
         raise Stopped(f"{message} (--help lists the options)")
@@ -216,7 +218,9 @@ def items_of(path):
             body = lines[start:at]
             if kind == "trait":
                 owner, at = "", start + 1  # its functions are items, too
-            items.append(Item(kind, name, "", visible(body) if kind == "struct" else body, docs, hidden))
+            items.append(
+                Item(kind, name, "", visible(body) if kind == "struct" else body, docs, hidden)
+            )
         elif line.startswith("macro_rules!"):
             name = re.match(r"macro_rules! (\w+)", line).group(1)
             start = at
@@ -308,7 +312,9 @@ def function(lines, at, owner, docs, hidden):
 def exported(crate):
     """The names that the root of a crate exports, without those that are hidden from its documentation."""
     names, hidden = set(), False
-    for line in (TOP / "crates" / crate / "src" / "lib.rt").read_text(encoding="utf-8").splitlines():
+    for line in (
+        (TOP / "crates" / crate / "src" / "lib.rt").read_text(encoding="utf-8").splitlines()
+    ):
         found = re.match(r"pub use (?:[\w:]+::)?\{?([^};]*)", line)
         if found and not hidden:
             names |= {name.strip().split("::")[-1] for name in found.group(1).split(",")}
@@ -325,7 +331,8 @@ def sources(crate):
 def definitions(crate):
     """The definitions of a crate's spec files, without those of its formers: name -> (file, comment, lines).
 
-    The lines of a definition in a `module _ (..) where` begin with this head, which has parameters of it."""
+    The lines of a definition in a `module _ (..) where` begin with this head, which has parameters of it.
+    """
     found = {}
     for path in sorted((TOP / "crates" / crate / "specs").rglob("*.antt")):
         if "formers" in path.parts:
@@ -350,7 +357,9 @@ def definitions(crate):
                 while end < len(lines) and lines[end].strip():
                     end += 1
                 around = [text for _, head in heads for text in head]
-                found.setdefault(match.group(2), (path, paragraphs(comment), dedent(around + lines[at:end])))
+                found.setdefault(
+                    match.group(2), (path, paragraphs(comment), dedent(around + lines[at:end]))
+                )
             comment = []
     return found
 

@@ -12,7 +12,9 @@ import rattle_source
 
 class Arguments(ToolTest):
     def test_each_tool_is_named_here(self):
-        files = {path.name for path in (TOP / "tools").iterdir() if path.is_file() and not path.suffix}
+        files = {
+            path.name for path in (TOP / "tools").iterdir() if path.is_file() and not path.suffix
+        }
         self.assertEqual(files, set(NAMES))
         for name in NAMES:
             self.assertTrue(os.access(TOP / "tools" / name, os.X_OK), name)
@@ -44,7 +46,9 @@ class Arguments(ToolTest):
         ]
         for name, option, text in wrong:
             with self.subTest(f"{name} {option} {text}"):
-                says = f"argument {option}: {text} is not a number from 1 (--help lists the options)"
+                says = (
+                    f"argument {option}: {text} is not a number from 1 (--help lists the options)"
+                )
                 # A tool that takes the number should not begin to build.
                 self.refuses(says, name, f"{option}={text}", PATH=str(self.folder()), RT="/no/rt")
 
@@ -52,7 +56,9 @@ class Arguments(ToolTest):
 class Ending(unittest.TestCase):
     def ended(self, main):
         """The status with which a tool ends, and what it wrote to stderr."""
-        with contextlib.redirect_stderr(io.StringIO()) as said, mock.patch.object(sys, "argv", ["tools/tool"]):
+        with contextlib.redirect_stderr(io.StringIO()) as said, mock.patch.object(
+            sys, "argv", ["tools/tool"]
+        ):
             with self.assertRaises(SystemExit) as ended:
                 rattle_source.run_tool(main)
         return ended.exception.code, said.getvalue()

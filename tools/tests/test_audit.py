@@ -11,7 +11,9 @@ class Audit(ToolTest):
     def test_a_new_line_and_one_that_is_gone(self):
         top = self.copy("mutants.d", "docs")
         source = top / "crates" / "thin_runner" / "src" / "lib.rt"
-        source.write_text(source.read_text(encoding="utf-8") + "\nunsafe fn planted() {}\n", encoding="utf-8")
+        source.write_text(
+            source.read_text(encoding="utf-8") + "\nunsafe fn planted() {}\n", encoding="utf-8"
+        )
         change(top / "tools" / "audit.expected", "# unsafe\n", "# unsafe\nnone.rt:gone: unsafe\n")
         said = self.finds("audit", "--only", "unsafe", top=top)
         self.assertIn(
@@ -33,7 +35,10 @@ class Audit(ToolTest):
         path = top / "tools" / "audit.expected"
         path.unlink()
         ran = self.run_tool("audit", top=top)
-        self.assertEqual((ran.returncode, ran.stderr), (2, f"audit: {path.resolve()}: No such file or directory\n"))
+        self.assertEqual(
+            (ran.returncode, ran.stderr),
+            (2, f"audit: {path.resolve()}: No such file or directory\n"),
+        )
 
 
 if __name__ == "__main__":

@@ -21,7 +21,14 @@ def lines_of(name):
 def given(folder, **changed):
     """The arguments that made the script of the gate."""
     return types.SimpleNamespace(
-        **{"items": "u64", "seed": "1", "lists": 500, "crate": Path("lib.rs"), "write": folder, **changed}
+        **{
+            "items": "u64",
+            "seed": "1",
+            "lists": 500,
+            "crate": Path("lib.rs"),
+            "write": folder,
+            **changed,
+        }
     )
 
 
@@ -29,7 +36,10 @@ class Differ(ToolTest):
     def setUp(self):
         self.made = differ.made_lists(differ.ITEM_TYPES["u64"], "1", 500, True, True)[1]
         answers = lines_of("stdout")
-        self.help, self.answers = answers[: -len(lines_of("stdin")) + 1], answers[-len(lines_of("stdin")) + 1 :]
+        self.help, self.answers = (
+            answers[: -len(lines_of("stdin")) + 1],
+            answers[-len(lines_of("stdin")) + 1 :],
+        )
 
     def answer(self, lines, status=0):
         return types.SimpleNamespace(lines=lines, status=status, message="told")
@@ -47,7 +57,11 @@ class Differ(ToolTest):
         folder = self.folder()
         with self.rust(answers), contextlib.redirect_stdout(io.StringIO()) as said:
             status = differ.write_all(given(folder, **changed))
-        return status, said.getvalue(), {path.name: path.read_text(encoding="utf-8") for path in folder.iterdir()}
+        return (
+            status,
+            said.getvalue(),
+            {path.name: path.read_text(encoding="utf-8") for path in folder.iterdir()},
+        )
 
     def test_the_script_of_the_gate_has_the_seed_1(self):
         status, said, files = self.written()
@@ -69,38 +83,60 @@ class Differ(ToolTest):
         ]
         status, said, files = self.written(wrong)
         self.assertEqual((status, files), (1, {}))
-        self.assertRegex(said, r"\Aa difference:\n.*: the crate has the capacities \[5\], not \[4\]\n")
+        self.assertRegex(
+            said, r"\Aa difference:\n.*: the crate has the capacities \[5\], not \[4\]\n"
+        )
 
     def test_answers_are_compared(self):
         for wrong in (None, 0, 100, len(self.answers) - 1):
             answers = [line + "0" if at == wrong else line for at, line in enumerate(self.answers)]
-            with self.subTest(wrong), mock.patch.object(differ, "answer_of_thin", lambda _: self.answer(answers)):
+            with self.subTest(wrong), mock.patch.object(
+                differ, "answer_of_thin", lambda _: self.answer(answers)
+            ):
                 found = differ.difference_of(self.made, self.answers)
                 if wrong is None:
                     self.assertIsNone(found)
                 else:
                     self.assertEqual(
-                        found[1:3], [f"thin_replay: {answers[wrong]}", f"wanted:      {self.answers[wrong]}"]
+                        found[1:3],
+                        [f"thin_replay: {answers[wrong]}", f"wanted:      {self.answers[wrong]}"],
                     )
 
     def test_a_program_that_ends_early(self):
-        with mock.patch.object(differ, "answer_of_thin", lambda _: self.answer(self.answers[:50], 7)):
-            self.assertEqual(differ.difference_of(self.made, self.answers)[0], "thin_replay ended with status 7: told")
+        with mock.patch.object(
+            differ, "answer_of_thin", lambda _: self.answer(self.answers[:50], 7)
+        ):
+            self.assertEqual(
+                differ.difference_of(self.made, self.answers)[0],
+                "thin_replay ended with status 7: told",
+            )
         with self.rust(status=7), self.assertRaises(rattle_source.Stopped) as why:
             differ.wanted_answers(True, self.made)
-        self.assertEqual((str(why.exception), why.exception.status), ("replay_rust ended with status 7: told", 2))
+        self.assertEqual(
+            (str(why.exception), why.exception.status), ("replay_rust ended with status 7: told", 2)
+        )
 
     def test_wrong_lines_are_compared(self):
         answers = self.answer(self.answers[:3], 1)
-        with mock.patch.object(differ, "answer_of_thin", lambda _: answers), self.rust(self.answers[:3], 1):
+        with mock.patch.object(differ, "answer_of_thin", lambda _: answers), self.rust(
+            self.answers[:3], 1
+        ):
             self.assertIsNone(differ.difference_of_spoiled(True, ["typo"]))
-        with mock.patch.object(differ, "answer_of_thin", lambda _: answers), self.rust(self.answers[:3], 0):
-            self.assertEqual(differ.difference_of_spoiled(True, ["typo"])[:1], ["thin_replay: status 1: told"])
+        with mock.patch.object(differ, "answer_of_thin", lambda _: answers), self.rust(
+            self.answers[:3], 0
+        ):
+            self.assertEqual(
+                differ.difference_of_spoiled(True, ["typo"])[:1], ["thin_replay: status 1: told"]
+            )
 
     def test_what_it_needs(self):
         programs = self.folder()
-        self.refuses("there is no folder /no/folder", "differ", "--write", "/no/folder", PATH=str(programs))
-        self.refuses("there is no file /no/lib.rs", "differ", "--crate", "/no/lib.rs", PATH=str(programs))
+        self.refuses(
+            "there is no folder /no/folder", "differ", "--write", "/no/folder", PATH=str(programs)
+        )
+        self.refuses(
+            "there is no file /no/lib.rs", "differ", "--crate", "/no/lib.rs", PATH=str(programs)
+        )
         self.refuses("there is no program rustc", "differ", PATH=str(programs))
         (programs / "rustc").write_text("#!/bin/sh\nexit 1\n", encoding="utf-8")
         (programs / "rustc").chmod(0o755)

@@ -13,11 +13,13 @@ class Evidence(ToolTest):
         path = top / "docs" / "evidence.toml"
         text = path.read_text(encoding="utf-8")
         path.write_text(
-            text + '\n[promise.planted]\nsays = "Planted."\ntests = ["thin_tests planted"]\n', encoding="utf-8"
+            text + '\n[promise.planted]\nsays = "Planted."\ntests = ["thin_tests planted"]\n',
+            encoding="utf-8",
         )
         place = f"docs/evidence.toml:{text.count(chr(10)) + 2}"
         self.assertEqual(
-            self.finds("evidence", top=top), f"{place}: promise planted, tests: no test thin_tests planted\n"
+            self.finds("evidence", top=top),
+            f"{place}: promise planted, tests: no test thin_tests planted\n",
         )
 
     def test_no_file_of_promises(self):

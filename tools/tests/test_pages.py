@@ -5,9 +5,7 @@ import unittest
 from tool import TOP, ToolTest
 
 STUB = "#!/usr/bin/env python3\nimport sys\nprint({says!r}, file=sys.stderr)\nsys.exit({status})\n"
-README = (
-    "# One\n\n# One\n\n[one](#one-1) [an example](crates/thin_examples/README.md#one)\n\n```rust\nlet a = 1;\n```\n"
-)
+README = "# One\n\n# One\n\n[one](#one-1) [an example](crates/thin_examples/README.md#one)\n\n```rust\nlet a = 1;\n```\n"
 EXAMPLES = "# One\n\n| Example | Prints |\n|---|---|\n| [`one`](src/main.rt) | `1` |\n"
 
 
@@ -21,8 +19,14 @@ class Pages(ToolTest):
         for name in ("pages", "rattle_source.py"):
             shutil.copy(TOP / "tools" / name, top / "tools")
         for name in ("reference", "index", "evidence"):
-            (top / "tools" / name).write_text(STUB.format(status=status, says=says), encoding="utf-8")
-        texts = {"README.md": EXAMPLES, "stdout": "one: 1\n", "src/main.rt": "//! One.\n    let a = 1;\n"}
+            (top / "tools" / name).write_text(
+                STUB.format(status=status, says=says), encoding="utf-8"
+            )
+        texts = {
+            "README.md": EXAMPLES,
+            "stdout": "one: 1\n",
+            "src/main.rt": "//! One.\n    let a = 1;\n",
+        }
         for name, text in texts.items():
             (examples / name).write_text(text, encoding="utf-8")
         (top / "README.md").write_text(README, encoding="utf-8")
@@ -36,11 +40,19 @@ class Pages(ToolTest):
         wrong = [
             ("README.md", "\n[a](no.md)\n", "README.md:11: the link no.md leads to no file"),
             ("README.md", "\n[a](#two)\n", "README.md:11: the link #two leads to no heading"),
-            ("README.md", "\n```rust\nlet b = 1;\n```\n", "README.md:11: this code is in no source file"),
+            (
+                "README.md",
+                "\n```rust\nlet b = 1;\n```\n",
+                "README.md:11: this code is in no source file",
+            ),
             ("README.md", "\nThere are 12 tests.\n", 'README.md:11: "12 tests" is a count'),
             ("README.md", "\nSee `src/no.rt`.\n", "README.md:11: there is no file src/no.rt"),
             ("README.md", "\nRun `tools/no`.\n", "README.md:11: there is no tool no"),
-            ("README.md", "\nRun `tools/pages --no`.\n", "README.md:11: tools/pages has no option --no"),
+            (
+                "README.md",
+                "\nRun `tools/pages --no`.\n",
+                "README.md:11: tools/pages has no option --no",
+            ),
             (
                 "crates/thin_examples/stdout",
                 "two: 2\n",
@@ -56,10 +68,14 @@ class Pages(ToolTest):
                 self.assertTrue(said.startswith(says) and said.endswith("\npages: 1 wrong\n"), said)
 
     def test_what_another_tool_finds_is_wrong(self):
-        self.assertEqual(self.finds("pages", top=self.repository(1)), "told\n" * 3 + "pages: 3 wrong\n")
+        self.assertEqual(
+            self.finds("pages", top=self.repository(1)), "told\n" * 3 + "pages: 3 wrong\n"
+        )
 
     def test_another_tool_that_cannot_run(self):
-        self.refuses("reference: no such file", "pages", top=self.repository(2, "reference: no such file"))
+        self.refuses(
+            "reference: no such file", "pages", top=self.repository(2, "reference: no such file")
+        )
 
 
 if __name__ == "__main__":

@@ -14,7 +14,10 @@ class MadePages(ToolTest):
         top = self.copy("mutants.d")
         source = top / "crates" / "thin_rows" / "src" / "lib.rt"
         change(source, "//! ", "//! Planted. ")
-        for name, page in (("index", "docs/INDEX.md"), ("reference", "crates/thin_vec/DEFINITIONS.md")):
+        for name, page in (
+            ("index", "docs/INDEX.md"),
+            ("reference", "crates/thin_vec/DEFINITIONS.md"),
+        ):
             change(top / page, "The ", "The planted ")
             with self.subTest(name):
                 said = self.finds(name, "--check", top=top)

@@ -56,10 +56,16 @@ class Reading(ToolTest):
         ]
         self.assertEqual(found, wanted)
         self.assertEqual(items[0].signature, "pub fn double(number: u64) -> u64")
-        clauses = [("requires", "small", "number < 10"), ("ensures", "value", "result = number + number")]
+        clauses = [
+            ("requires", "small", "number < 10"),
+            ("ensures", "value", "result = number + number"),
+        ]
         self.assertEqual(items[0].clauses, clauses)
         self.assertEqual(items[3].clauses, [("ghost", "law", "holds 1")])
-        self.assertEqual(items[-1].text, ["pub struct Pair {", "    pub first: u8,", "    // private fields", "}"])
+        self.assertEqual(
+            items[-1].text,
+            ["pub struct Pair {", "    pub first: u8,", "    // private fields", "}"],
+        )
 
     def test_the_first_sentence_of_a_file(self):
         self.assertEqual(rattle_source.head_of(self.path), "Doubles numbers.")

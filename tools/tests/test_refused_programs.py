@@ -26,15 +26,25 @@ class RefusedPrograms(ToolTest):
         self.assertEqual(said, f"{COUNT} of {COUNT} programs are refused as they say\n")
 
     def test_a_compiler_that_refuses_nothing_or_something_else(self):
-        for text, says in (("#!/bin/sh\n", ": the program compiles\n"), (REFUSING_ELSE, " is not refused with ")):
+        for text, says in (
+            ("#!/bin/sh\n", ": the program compiles\n"),
+            (REFUSING_ELSE, " is not refused with "),
+        ):
             said = self.finds("refused_programs", RT=self.compiler(text))
             self.assertEqual(said.count(says), COUNT)
             self.assertIn(f"0 of {COUNT} programs", said)
 
     def test_a_program_without_a_line_to_refuse(self):
         top = self.copy("crates", "mutants.d")
-        (top / "tools" / "refused_programs.d" / "planted").write_text("fn main() {}\n", encoding="utf-8")
-        self.refuses("planted needs one line with `// refused: CODE`", "refused_programs", top=top, RT="/no/rt")
+        (top / "tools" / "refused_programs.d" / "planted").write_text(
+            "fn main() {}\n", encoding="utf-8"
+        )
+        self.refuses(
+            "planted needs one line with `// refused: CODE`",
+            "refused_programs",
+            top=top,
+            RT="/no/rt",
+        )
 
     def test_no_program_rt(self):
         self.refuses("there is no program /no/rt", "refused_programs", RT="/no/rt")

@@ -16,7 +16,17 @@ from unittest import mock
 sys.dont_write_bytecode = True
 TOP = pathlib.Path(__file__).resolve().parents[2]
 sys.path.insert(0, str(TOP / "tools"))
-NAMES = ("audit", "differ", "evidence", "index", "mutants", "pages", "reference", "refused_programs", "speed")
+NAMES = (
+    "audit",
+    "differ",
+    "evidence",
+    "index",
+    "mutants",
+    "pages",
+    "reference",
+    "refused_programs",
+    "speed",
+)
 
 
 def load(name):
@@ -60,7 +70,12 @@ class ToolTest(unittest.TestCase):
     def copy(self, *without):
         """A copy of the repository without these files and folders."""
         top, without = self.folder() / "copy", {".git", "out", "__pycache__", *without}
-        shutil.copytree(TOP, top, ignore=lambda _, names: without.intersection(names), copy_function=shutil.copyfile)
+        shutil.copytree(
+            TOP,
+            top,
+            ignore=lambda _, names: without.intersection(names),
+            copy_function=shutil.copyfile,
+        )
         return top
 
     def run_tool(self, name, *arguments, top=TOP, **environment):
