@@ -29,11 +29,70 @@ class Mutants(ToolTest):
         self.assertIn(edit, said)
         self.assertRegex(said, r"(?m)^\w+: there is no file crates/thin_rows/src/")
 
+    def test_a_body_that_is_described_wrongly(self):
+        right = """
+what = "Planted."
+mark = "allowed"
+old = "mod runner;"
+new = "mod run;"
+seen = "thin_tests drops_each_value_once"
+"""
+        named = right.replace('"allowed"', '"named"')
+        place = "tools/mutants.d/thin_runner/lib.toml"
+        top = self.copy("proofs", "specs")
+        path = top / place
+        path.parent.mkdir(exist_ok=True)
+        wrong = [
+            ("[planted", f"{place}: Expected ']' at the end of a table declaration"),
+            (f"[planted]{right}why = ''", f"{place}: planted has an unknown key why"),
+            ("[planted]", f"{place}: planted has no text `what`"),
+            (f"[planted]{right.replace('allowed', 'other')}", f"{place}: the mark of planted is "),
+            (f"[pop_requests_memory]{right}", f"pop_requests_memory is also in {place}"),
+            (f"['«word»']{right}each.words = [['other'], ['a']]", "«word» has no row for 'word'"),
+        ]
+        for text, says in wrong:
+            path.write_text(text, encoding="utf-8")
+            with self.subTest(says):
+                ran = self.run_tool("mutants", "--list", top=top)
+                self.assertEqual((ran.returncode, ran.stdout), (2, ""))
+                self.assertIn(says, ran.stderr)
+        for text, says in (
+            (f"[planted]{right.replace('mod runner', 'none')}", "has the old text 0 times"),
+            (
+                f"[planted]{right.replace('drops_each', 'typo')}",
+                "there is no thin_tests typo_value",
+            ),
+            (f"[planted]{named}", "planted: no promise of docs/evidence.toml names this body"),
+        ):
+            path.write_text(text, encoding="utf-8")
+            with self.subTest(says):
+                self.assertIn(says, self.finds("mutants", "--check", "--only", "planted", top=top))
+        path.write_text(
+            f"['planted_«word»']{right}each.words = [['word'], ['a'], ['b']]", encoding="utf-8"
+        )
+        said = self.passes("mutants", "--list", top=top)
+        for word in "ab":
+            self.assertIn(f"planted_{word}: thin_tests drops_each_value_once: Planted.\n", said)
+
+    def test_bodies_of_another_file(self):
+        path = self.folder() / "more.toml"
+        text = "[planted]\nwhat = 'Planted.'\nfile = 'crates/thin_runner/src/lib.rt'\n"
+        path.write_text(f"{text}old = 'mod runner;'\nnew = 'mod run;'\n", encoding="utf-8")
+        said = self.passes("mutants", "--check", "--from", path)
+        self.assertTrue(said.startswith("1 bodies and "), said)
+        for wrong, says in (
+            ("[planted]\nwhat = 'Planted.'\n", "planted has no text `file`"),
+            (f"{text}alone = 'so'\n", "planted has a key `alone`, so it needs `seen`"),
+        ):
+            path.write_text(wrong, encoding="utf-8")
+            self.refuses(f"{path}: {says}", "mutants", "--list", "--from", path)
+        self.refuses("/no/file: No such file or directory", "mutants", "--from", "/no/file")
+
     def test_an_unknown_body(self):
         self.refuses("there is no such body: typo", "mutants", "--only", "typo", RT="/no/rt")
 
     def test_no_program_rt(self):
-        built = re.compile(r"^(\w+): (?!audit |edit |prover )\w+ (?!compile)")
+        built = re.compile(r"^(\w+): (?!audit |edit )\w+ (?!compile)")
         name = next(
             found.group(1)
             for found in map(built.match, self.passes("mutants", "--list").splitlines())

@@ -40,7 +40,10 @@ def load(name):
 def run(top, name, arguments, environment):
     """Runs a tool of the repository `top` in this process, which takes a tenth of a second less than in another one."""
     path, out, errors = str(top / "tools" / name), io.StringIO(), io.StringIO()
-    kept = {module: sys.modules.pop(module, None) for module in ("rattle_source", "unproved")}
+    kept = {
+        module: sys.modules.pop(module, None)
+        for module in ("rattle_source", "unproved", "wrong_bodies")
+    }
     with contextlib.ExitStack() as stack:
         stack.callback(sys.modules.update, {module: it for module, it in kept.items() if it})
         stack.enter_context(mock.patch.object(sys, "path", [str(top / "tools"), *sys.path]))
