@@ -1,9 +1,10 @@
-"""What the tools of this folder share: the root of the repository, how a tool ends, and how Rattle sources are read.
+"""What the tools of this folder share: how a tool ends, and how Rattle sources are read.
 
-Of the sources, it reads the items of a crate with their documentation and contracts, and the definitions of its spec files.
-It is not a program.
+Of the sources, it reads the items of a crate with their documentation and contracts, the lines of
+code, the tests, and the definitions and lemmas of its spec files. It is not a program.
 """
 import argparse
+import functools
 import os
 import pathlib
 import re
@@ -91,14 +92,23 @@ def slug(title):
 class Item:
     """A function, type, macro or implementation of a source file."""
 
-    def __init__(self, kind, name, owner, text, docs, hidden):
+    def __init__(self, kind, name, owner, text, before):
         self.kind = kind  # fn, struct, enum, trait, macro, impl
         self.name = name
-        self.owner = owner  # the head of the `impl` around a function, or ""
+        self.owner = owner  # the head of the `impl` or the `trait` around a function, or ""
         self.text = text  # the lines that the reference quotes
-        self.docs = docs
-        self.hidden = hidden
+        self.docs = before.docs
+        self.attributes = before.attributes
         self.clauses = []  # (kind, label, text)
+        self.public = False  # of a function
+        # The lines of the item, counted from 1: the first one of its attributes, that of its name
+        # and the last one.
+        self.first = self.start = self.end = 0
+
+    @property
+    def hidden(self):
+        """Whether the documentation leaves the item out."""
+        return any("doc(hidden)" in text for text in self.attributes)
 
     @property
     def path(self):
@@ -119,11 +129,18 @@ class Item:
         return re.sub(r",? ([)>])", r"\1", line).rstrip(" {;")
 
 
+class Before:
+    """What stands before an item: its documentation and its attributes."""
+
+    def __init__(self):
+        self.docs, self.attributes, self.first = [], [], 0
+
+
 def type_of(owner):
-    """The name of the type that an `impl` line is about."""
+    """The name of the type that an `impl` line is about, or that of a trait."""
     if not owner:
         return ""
-    rest = re.sub(r"^impl\s*", "", owner)
+    rest = re.sub(r"^(unsafe )?(impl|trait)\s*", "", owner)
     rest = after_angle(rest).strip()
     rest = rest.rpartition(" for ")[2]
     found = re.match(r"(?:&(?:'\w+ )?(?:mut )?)?((?:io::)?\w+)", rest)
@@ -132,7 +149,7 @@ def type_of(owner):
 
 def trait_of(owner):
     """The trait of an `impl` line, or an empty text."""
-    rest = after_angle(re.sub(r"^impl\s*", "", owner)).strip()
+    rest = after_angle(re.sub(r"^(unsafe )?impl\s*", "", owner)).strip()
     return rest.rpartition(" for ")[0]
 
 
@@ -177,66 +194,89 @@ def dedent(lines):
     return [line[cut:].rstrip() for line in lines]
 
 
+FUNCTION = re.compile(r"\s*(?:pub(?:\([a-z]+\))? )?(?:const )?(?:unsafe )?fn (\w+)")
+TYPE = re.compile(r"(?:pub(?:\([a-z]+\))? )?(struct|enum|trait) (\w+)")
+
+
+@functools.cache
 def items_of(path):
     """The items of a source file, in its order: all functions, types, macros and implementations."""
-    lines = path.read_text(encoding="utf-8").splitlines()
-    items, docs, hidden, owner, at = [], [], False, "", 0
+    return items_in(path.read_text(encoding="utf-8"))
+
+
+def items_in(text):
+    """The items of the text of a source file."""
+    lines = text.splitlines()
+    items, before, owner, at = [], Before(), "", 0
     while at < len(lines):
-        line = lines[at]
+        line, start = lines[at], at
         bare = line.strip()
         if bare.startswith("///"):
-            docs.append(bare[3:].removeprefix(" "))
+            before.docs.append(bare[3:].removeprefix(" "))
             at += 1
             continue
         if bare.startswith("#["):
-            hidden = hidden or "doc(hidden)" in bare
-            while not lines[at].rstrip().endswith("]"):
+            while at + 1 < len(lines) and not lines[at].rstrip().endswith("]"):
                 at += 1
             at += 1
+            before.attributes.append(" ".join(part.strip() for part in lines[start:at]))
+            before.first = before.first or start + 1
             continue
-        if line.startswith("impl"):
+        item = None
+        if line.startswith(("impl", "unsafe impl")):
             head, at = until_body(lines, at)
             owner = re.sub(r"\s+", " ", " ".join(head)).strip().rstrip("{} ").strip()
-            item = Item("impl", trait_of(owner), owner, dedent(head), docs, hidden)
-            items.append(item)
+            item = Item("impl", trait_of(owner), owner, dedent(head), before)
             if lines[at - 1].rstrip().endswith("{}"):
                 owner = ""
-        elif MEMBER.match(line) and items and owner:
+        elif MEMBER.match(line) and items and owner.startswith(("impl", "unsafe impl")):
             taken, at = braces(lines, at)
             last = [item for item in items if item.kind == "impl"][-1]
             last.clauses.append(("ghost", MEMBER.match(line).group(1), taken))
-        elif re.match(r"(    )?(pub(\(crate\))? )?(const )?(unsafe )?fn \w", line):
-            item, at = function(lines, at, owner if line.startswith("    ") else "", docs, hidden)
-            items.append(item)
-        elif re.match(r"pub (struct|enum|trait) ", line):
-            kind, name = re.match(r"pub (struct|enum|trait) (\w+)", line).groups()
-            start = at
+            before = Before()
+            continue
+        elif FUNCTION.match(line) and len(line) - len(line.lstrip()) in (0, 4):
+            item, at = function(lines, at, owner if line.startswith("    ") else "", before)
+        elif TYPE.match(line):
+            kind, name = TYPE.match(line).groups()
             ends = r"^}\s*$|.*\{\}$" if kind == "trait" else r"^(}|.*[;])\s*$|.*\{\}$"
             while not re.match(ends, lines[at]) and at + 1 < len(lines):
                 at += 1
             at += 1
             body = lines[start:at]
             if kind == "trait":
-                owner, at = "", start + 1  # its functions are items, too
-            items.append(
-                Item(kind, name, "", visible(body) if kind == "struct" else body, docs, hidden)
-            )
+                head = " ".join(part.strip() for part in until_body(lines, start)[0])
+                owner, at = head[head.index("trait") :].rstrip("{} "), start + 1
+            item = Item(kind, name, "", visible(body) if kind == "struct" else body, before)
+            item.public = line.startswith("pub ")
         elif line.startswith("macro_rules!"):
             name = re.match(r"macro_rules! (\w+)", line).group(1)
-            start = at
-            while lines[at] != "}":
-                at += 1
-            at += 1
-            items.append(Item("macro", name, "", lines[start:at], docs, hidden))
+            at = last_line(lines, at)
+            item = Item("macro", name, "", lines[start:at], before)
         else:
             if line == "}":
                 owner = ""
             at += 1
             if bare and not bare.startswith("//"):
-                docs, hidden = [], False
+                before = Before()
             continue
-        docs, hidden = [], False
+        item.first, item.start = before.first or start + 1, start + 1
+        item.end = last_line(lines, start)
+        items.append(item)
+        before = Before()
     return items
+
+
+def last_line(lines, at):
+    """The last line of the item that begins at a line, counted from 1."""
+    indent = lines[at][: len(lines[at]) - len(lines[at].lstrip())]
+    for end in range(at, len(lines)):
+        text = lines[end].rstrip()
+        if text == indent + "}" or re.match(rf"{indent}(?! |//|\))(.*(;|\{{\}}))$", text):
+            return end + 1
+        if end == at and text.endswith("}") and text.count("{") == text.count("}"):
+            return end + 1
+    return len(lines)
 
 
 def visible(body):
@@ -259,38 +299,44 @@ def visible(body):
 def until_body(lines, at):
     """The lines of a head up to the one that opens its body."""
     taken = []
-    while True:
+    while at < len(lines):
         taken.append(lines[at])
         at += 1
         if taken[-1].rstrip().endswith(("{", "{}")):
-            return taken, at
+            break
+    return taken, at
+
+
+LITERAL = re.compile(r"""'(?:[^'\\]|\\.)'|"(?:[^"\\]|\\.)*\"""")
+
+
+def without_literals(line):
+    """The line, with a mark in the place of each character of a literal text or character."""
+    return LITERAL.sub(lambda found: "_" * len(found.group()), line)
 
 
 def braces(lines, at):
     """The text between the first brace of a line and the one that closes it."""
-    taken, depth, begun = [], 0, False
-    while True:
+    taken, depth = [], 0
+    start = lines[at].index("{")
+    while at < len(lines):
         text = lines[at]
-        start = 0
-        if not begun:
-            start = text.index("{")
-            begun = True
+        bare = without_literals(text)
         for place in range(start, len(text)):
-            depth += (text[place] == "{") - (text[place] == "}")
-            if depth == 0 and text[place] == "}":
+            depth += (bare[place] == "{") - (bare[place] == "}")
+            if depth == 0 and bare[place] == "}":
                 taken.append(text[start : place + 1])
                 whole = re.sub(r"\s+", " ", " ".join(part.strip() for part in taken))
                 return whole[1:-1].strip(), at + 1
         taken.append(text[start:])
-        at += 1
+        start, at = 0, at + 1
+    raise Stopped(f"a brace is not closed: {taken[0].strip()}")
 
 
-def function(lines, at, owner, docs, hidden):
-    """A function with its contract."""
-    start = at
-    name = re.search(r"fn (\w+)", lines[at]).group(1)
-    clauses = []
-    while True:
+def function(lines, at, owner, before):
+    """A function with its contract, and the line after its head."""
+    start, clauses = at, []
+    while at + 1 < len(lines):
         line = lines[at]
         found = CLAUSE.match(line)
         if found:
@@ -303,10 +349,57 @@ def function(lines, at, owner, docs, hidden):
     text = dedent(lines[start : at + (0 if lines[at].strip() in ("{", "{}") else 1)])
     if text and text[-1].endswith((" {", " {}", ";")):
         text[-1] = re.sub(r"( \{\}?|;)$", "", text[-1])
-    item = Item("fn", name, owner, text, docs, hidden)
+    item = Item("fn", FUNCTION.match(lines[start]).group(1), owner, text, before)
     item.public = lines[start].lstrip().startswith("pub fn")
     item.clauses = clauses
     return item, at + 1
+
+
+def function_at(path, number):
+    """The name of the function around a line of a source file, or `-`."""
+    around = [it for it in items_of(path) if it.kind == "fn" and it.start <= number <= it.end]
+    return around[-1].name if around else "-"
+
+
+IMPORT = re.compile(r"(?:ghost |pub(?:\([a-z]+\))? )?use [^;]*;")
+
+
+@functools.cache
+def code_of(path):
+    """The numbered lines of a source file without comments, imports and contracts."""
+    found, depth, imports = [], 0, False
+    for number, line in enumerate(path.read_text(encoding="utf-8").splitlines(), 1):
+        bare = line.strip()
+        if bare.startswith("//"):
+            continue
+        if depth or CLAUSE.match(line):
+            text = without_literals(line)
+            depth += text.count("{") - text.count("}")
+            continue
+        if imports or IMPORT.match(bare + ";"):
+            # An import ends at its semicolon, which need not be on its first line.
+            _, imports, rest = bare.partition(";")
+            imports, line = not imports, rest
+        if line.strip():
+            found.append((number, line))
+    return found
+
+
+def imports_of(path):
+    """The imports of a source file, each on one line."""
+    text = re.sub(r"(?m)//.*$", "", path.read_text(encoding="utf-8"))
+    found = re.findall(r"^\s*((?:pub(?:\([a-z]+\))? )?use [^;]*;)", text, re.M)
+    return [re.sub(r"\s+", " ", it) for it in found]
+
+
+def tests_of(crate):
+    """The functions under #[test] of a crate, each with its file."""
+    return [
+        (path, item)
+        for path in sources(crate)
+        for item in items_of(path)
+        if item.kind == "fn" and "#[test]" in item.attributes
+    ]
 
 
 def exported(crate):
@@ -362,6 +455,13 @@ def definitions(crate):
                 )
             comment = []
     return found
+
+
+def lemmas(crate):
+    """The names in the proofs of a crate that are given a type."""
+    word = re.compile(r"^\s*(?:(?:pub|abbrev|unfoldable|opaque) )*(\S+) :", re.M)
+    paths = (TOP / "crates" / crate / "proofs").rglob("*.antt")
+    return {name for path in paths for name in word.findall(path.read_text(encoding="utf-8"))}
 
 
 def paragraphs(comment):
