@@ -6,7 +6,7 @@ import sys
 import unittest
 from unittest import mock
 
-from tool import NAMES, TOP, ToolTest
+from tool import NAMES, OWN_MODULES, TOP, ToolTest
 import rattle_source
 
 
@@ -16,6 +16,8 @@ class Arguments(ToolTest):
             path.name for path in (TOP / "tools").iterdir() if path.is_file() and not path.suffix
         }
         self.assertEqual(files, set(NAMES))
+        modules = {path.stem for path in (TOP / "tools").glob("*.py")}
+        self.assertEqual(modules, set(OWN_MODULES))
         for name in NAMES:
             self.assertTrue(os.access(TOP / "tools" / name, os.X_OK), name)
 

@@ -16,6 +16,8 @@ from unittest import mock
 sys.dont_write_bytecode = True
 TOP = pathlib.Path(__file__).resolve().parents[2]
 sys.path.insert(0, str(TOP / "tools"))
+# The files of the folder that are no programs.
+OWN_MODULES = ("picture", "rattle_source", "unproved", "wrong_bodies")
 NAMES = (
     "audit",
     "differ",
@@ -40,10 +42,7 @@ def load(name):
 def run(top, name, arguments, environment):
     """Runs a tool of the repository `top` in this process, which takes a tenth of a second less than in another one."""
     path, out, errors = str(top / "tools" / name), io.StringIO(), io.StringIO()
-    kept = {
-        module: sys.modules.pop(module, None)
-        for module in ("rattle_source", "unproved", "wrong_bodies")
-    }
+    kept = {module: sys.modules.pop(module, None) for module in OWN_MODULES}
     with contextlib.ExitStack() as stack:
         stack.callback(sys.modules.update, {module: it for module, it in kept.items() if it})
         stack.enter_context(mock.patch.object(sys, "path", [str(top / "tools"), *sys.path]))
