@@ -9,9 +9,12 @@ import os
 import pathlib
 import re
 import shutil
+import subprocess
 import sys
 
 TOP = pathlib.Path(__file__).resolve().parent.parent
+# The versions of Rattle's kit that the tools know.
+KITS = "rattle-kit-13b and rattle-kit-13f"
 CLAUSE = re.compile(r"^\s*(requires|ensures\*?)\s+(?:(\w+)\s+)?\{")
 MEMBER = re.compile(r"^    ghost (\w+) = \{")
 DEFINITION = re.compile(
@@ -62,8 +65,15 @@ def need_crates(*crates):
             raise Stopped(f"there is no folder crates/{crate}/src")
 
 
+def kit_of(rt):
+    """Which kit the program `rt` is of, for a message about what it did not do."""
+    ran = shutil.which(rt) and subprocess.run([rt, "version"], capture_output=True, text=True)
+    found = ran.stdout.split()[0] if ran and ran.stdout.split() else "unknown"
+    return f"the kit is {found}; this tool was written for {KITS}"
+
+
 def run_tool(main):
-    """Runs a tool and ends with the status that it returns, or with 2 after one line that says why it could not run."""
+    """Runs a tool. Ends with the status that it returns, or with 2 and a line that says why."""
     status = 2
     try:
         status = main()
@@ -200,7 +210,7 @@ TYPE = re.compile(r"(?:pub(?:\([a-z]+\))? )?(struct|enum|trait) (\w+)")
 
 @functools.cache
 def items_of(path):
-    """The items of a source file, in its order: all functions, types, macros and implementations."""
+    """The functions, types, macros and implementations of a source file, in its order."""
     return items_in(path.read_text(encoding="utf-8"))
 
 
@@ -403,7 +413,7 @@ def tests_of(crate):
 
 
 def exported(crate):
-    """The names that the root of a crate exports, without those that are hidden from its documentation."""
+    """The names that the root of a crate exports, without those that its documentation hides."""
     names, hidden = set(), False
     for line in (
         (TOP / "crates" / crate / "src" / "lib.rt").read_text(encoding="utf-8").splitlines()
@@ -422,9 +432,10 @@ def sources(crate):
 
 
 def definitions(crate):
-    """The definitions of a crate's spec files, without those of its formers: name -> (file, comment, lines).
+    """The definitions of a crate's spec files, without those of its formers.
 
-    The lines of a definition in a `module _ (..) where` begin with this head, which has parameters of it.
+    Each name has a file, a comment and lines. The lines of a definition in a `module _ (..) where`
+    begin with this head, which has parameters of it.
     """
     found = {}
     for path in sorted((TOP / "crates" / crate / "specs").rglob("*.antt")):

@@ -65,9 +65,23 @@ class Differ(ToolTest):
 
     def test_the_script_of_the_gate_has_the_seed_1(self):
         status, said, files = self.written()
-        self.assertEqual((status, said), (0, "written: 500 lists, 5460 lines\n"))
+        self.assertEqual(status, 0)
+        self.assertRegex(
+            said,
+            r"\Awritten: 500 lists, 5460 lines\nthe capacities are those of the rules of this program;"
+            r" those of \d+ of \d+ lines are the crate's, too\n\Z",
+        )
         for name in ("stdin", "stdout", "stdin.from"):
             self.assertEqual(files[name].splitlines(), lines_of(name), name)
+
+    def test_it_says_that_no_crate_confirms_the_capacities(self):
+        made = differ.made_lists(differ.ITEM_TYPES["u64"], "2", 3, False, True)[1]
+        answers = ["done"] * sum(len(it.lines) for it in made)
+        status, said, _ = self.written(answers, crate=None, seed="2", lists=3)
+        self.assertEqual(status, 0)
+        self.assertTrue(
+            said.endswith("\nthe capacities are those of the rules of this program alone\n")
+        )
 
     def test_the_command_is_written_beside_the_script(self):
         self.assertEqual(
