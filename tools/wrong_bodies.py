@@ -33,7 +33,7 @@ class Body:
         self.what = " ".join(table["what"].split())
         self.mark = table["mark"]
         self.alone = "alone" in table
-        # The crate or the tool that sees the body, and which test or search of it; empty if unknown.
+        # The crate or the tool that sees the body, and which test or search; empty if unknown.
         self.seen = tuple(table["seen"].split(" ", 1))
         self.pairs = [
             (it["old"], it["new"])
@@ -50,7 +50,7 @@ class Body:
             raise Failed(f"{place}: {name} has no old and new text")
 
     def spans(self, text):
-        """For each pair: where the replaced part of the text begins and ends, and what replaces it."""
+        """For each pair: where the replaced part begins and ends, and what replaces it."""
         for old, new in self.pairs:
             marked = re.fullmatch(r"(.*)⟦(.*)⟧(.*)", old, re.S)
             before, part, after = marked.groups() if marked else ("", old, "")
@@ -87,7 +87,7 @@ def rows_of(lines):
 
 
 def bodies_of(path):
-    """The wrong bodies of a file: of tools/mutants.d, or another one whose bodies name their files."""
+    """The wrong bodies of a file of tools/mutants.d, or of one whose bodies name their files."""
     place, file = path, None
     if BODIES in path.parents:
         crate, *rest = path.relative_to(BODIES).with_suffix(".rt").parts
@@ -110,6 +110,8 @@ def bodies_of(path):
 def wrong_bodies(path=None):
     """The wrong bodies of a file, or all of tools/mutants.d, in the order of their files."""
     found = {}
+    if not path and not BODIES.is_dir():
+        raise Failed("there is no folder tools/mutants.d")
     for path in [path] if path else sorted(BODIES.rglob("*.toml")):
         for body in bodies_of(path):
             if body.name in found:

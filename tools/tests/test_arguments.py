@@ -54,6 +54,44 @@ class Arguments(ToolTest):
                 # A tool that takes the number should not begin to build.
                 self.refuses(says, name, f"{option}={text}", PATH=str(self.folder()), RT="/no/rt")
 
+    def test_a_missing_file_or_folder_is_one_line(self):
+        missing = [
+            ("audit", (), "crates/thin_rows/src", "there is no folder crates/thin_rows/src"),
+            (
+                "differ",
+                (),
+                "tools/replay_rust",
+                "tools/replay_rust/build: No such file or directory",
+            ),
+            ("evidence", (), "docs/evidence.toml", "docs/evidence.toml: No such file or directory"),
+            ("evidence", (), "tools/mutants.d", "there is no folder tools/mutants.d"),
+            ("index", ("--check",), "crates/bench/src", "there is no folder crates/bench/src"),
+            ("mutants", ("--check",), "tools/mutants.d", "there is no folder tools/mutants.d"),
+            ("pages", (), "crates/thin_examples", "no folder crates/thin_examples/src"),
+            ("reference", (), "crates/thin_rows/src", "there is no folder crates/thin_rows/src"),
+            (
+                "refused_programs",
+                (),
+                "tools/refused_programs.d",
+                "refused_programs.d: No such file",
+            ),
+            ("speed", (), "tools/speed.json", "tools/speed.json: No such file or directory"),
+            ("speed", ("--picture",), "docs/FIGURES.md", "docs/FIGURES.md: No such file"),
+        ]
+        programs = self.folder()
+        for name in ("rt", "rustc"):
+            (programs / name).write_text("#!/bin/sh\nexit 1\n", encoding="utf-8")
+            (programs / name).chmod(0o755)
+        top = self.copy("proofs", "specs")
+        for name, arguments, gone, says in missing:
+            with self.subTest(f"{name} without {gone}"):
+                (top / gone).rename(top / "gone")
+                ran = self.run_tool(name, *arguments, top=top, PATH=str(programs))
+                (top / "gone").rename(top / gone)
+                self.assertEqual((ran.returncode, ran.stdout, ran.stderr.count("\n")), (2, "", 1))
+                self.assertTrue(ran.stderr.startswith(f"{name}: "))
+                self.assertIn(says, ran.stderr)
+
 
 class Ending(unittest.TestCase):
     def ended(self, main):
