@@ -1,6 +1,5 @@
 //! Conversions of other types into lists, and of lists into other types.
 
-mod bytes;
 mod from;
 mod into;
 mod into_iter;

@@ -11,6 +11,7 @@ mod macros;
 mod open_block;
 mod put;
 mod ranges;
+mod write;
 
 pub use convert::IntoIter;
 pub use edits::{Drain, ExtractIf, Splice};

@@ -1,4 +1,4 @@
-//! Methods that make a list from an array, a vector, a boxed slice or a slice.
+//! Methods that make a list from an array, a vector, a boxed slice, a slice or a text.
 ghost use Rattle.std.specs.Prelude.{◌≡◌, ◌≤◌, [], IfErr, IfOk, IsOk, length};
 ghost use Rattle.std.specs.Box.{boxed_slice_items};
 ghost use Rattle.std.specs.List.{AllZip};
@@ -15,18 +15,16 @@ use std::boxed::BoxedSlice;
 use thin_block::{ThinVecError, fits};
 
 impl<T, A: Allocator> ThinVec<T, A> {
-    /// Moves the items of an array into a new list, in order. The capacity of the list is exactly
-    /// `N`. If the array is empty, the call allocates nothing.
+    /// Moves the items of an array into a new list.
     ///
-    /// Like every array, `items` must occupy fewer than 2^63 bytes. If `T` is a concrete type, the
-    /// prover proves this without help. If `T` is a type parameter of the caller, the caller needs
-    /// the precondition `N * type_size T.row < 2 ^ 63`. (`type_size` is defined in
-    /// `Rattle.std.specs.Mem`.) The macro `thin_vec!` does not need this precondition.
+    /// If `T` is a type parameter of the caller, the caller needs the precondition
+    /// `N * type_size T.row < 2 ^ 63`, as for every array. (`type_size` is defined in
+    /// `Rattle.std.specs.Mem`.) The macro `thin_vec!` does not need it.
     ///
     /// # Errors
     ///
-    /// Fails in the same cases as `with_capacity`. On failure, the error holds the array, so the
-    /// caller owns it again, and `alloc` is dropped.
+    /// Fails as `with_capacity` does. The error returns the array to the caller, and `alloc` is
+    /// dropped.
     pub fn from_array<const N: usize>(
         alloc: A,
         items: [T; N],
@@ -40,7 +38,7 @@ impl<T, A: Allocator> ThinVec<T, A> {
         // When it must succeed.
         ensures succeeds { N ≡ 0 → IsOk result }
 
-        // On failure, the error holds the array.
+        // On failure.
         ensures value_returned { IfErr result (λ error. error.value ≡ items) }
         ensures overflow { OverflowsIffTooLarge T.row N (map_cause result) }
     {
@@ -58,14 +56,12 @@ impl<T, A: Allocator> ThinVec<T, A> {
         }
     }
 
-    /// Moves the items of a vector into a new list, in order, and frees the allocation of the
-    /// vector. The vector may use any allocator. The capacity of the list is exactly the number of
-    /// items. If the vector is empty, the call allocates nothing.
+    /// Moves the items of a vector into a new list, and frees the allocation of the vector.
     ///
     /// # Errors
     ///
-    /// Fails in the same cases as `with_capacity`. On failure, the error holds the vector, so the
-    /// caller owns it again, and `alloc` is dropped.
+    /// Fails as `with_capacity` does. The error returns the vector to the caller, and `alloc` is
+    /// dropped.
     pub fn from_vec<B: Allocator>(
         alloc: A,
         items: Vec<T, B>,
@@ -81,7 +77,7 @@ impl<T, A: Allocator> ThinVec<T, A> {
         // When it must succeed.
         ensures succeeds_empty { length items.items ≡ 0 → IsOk result }
 
-        // On failure, the error holds the vector.
+        // On failure.
         ensures value_returned { IfErr result (λ error. error.value ≡ items) }
         ensures overflow { OverflowsIffTooLarge T.row (length items.items) (map_cause result) }
     {
@@ -97,14 +93,13 @@ impl<T, A: Allocator> ThinVec<T, A> {
         }
     }
 
-    /// Moves the items of a boxed slice into a new list, in order, and frees the allocation of the
-    /// boxed slice. The boxed slice may use any allocator. The capacity of the list is exactly the
-    /// number of items. If the boxed slice is empty, the call allocates nothing.
+    /// Moves the items of a boxed slice into a new list, and frees the allocation of the boxed
+    /// slice.
     ///
     /// # Errors
     ///
-    /// Fails in the same cases as `with_capacity`. On failure, the error holds the boxed slice, so
-    /// the caller owns it again, and `alloc` is dropped.
+    /// Fails as `with_capacity` does. The error returns the boxed slice to the caller, and `alloc`
+    /// is dropped.
     pub fn from_boxed_slice<B: Allocator>(
         alloc: A,
         items: BoxedSlice<T, B>,
@@ -120,7 +115,7 @@ impl<T, A: Allocator> ThinVec<T, A> {
         // When it must succeed.
         ensures succeeds_empty { length (boxed_slice_items items) ≡ 0 → IsOk result }
 
-        // On failure, the error holds the boxed slice.
+        // On failure.
         ensures value_returned { IfErr result (λ error. error.value ≡ items) }
         ensures overflow { OverflowsIffTooLarge T.row (length (boxed_slice_items items))
             (map_cause result) }
@@ -137,8 +132,7 @@ impl<T, A: Allocator> ThinVec<T, A> {
         }
     }
 
-    // Moves the items of the vector `items` into this list, in order, and frees the vector. The
-    // list must be empty, and must have room for the items.
+    // Moves the items of `items` into this empty list, and frees the vector.
     fn extend_from_vec_reserved<B: Allocator>(&mut self, items: Vec<T, B>)
         requires is_empty { self.old.items ≡ [] }
         requires room { length items.items ≤ self.old.capacity }
@@ -156,15 +150,11 @@ impl<T, A: Allocator> ThinVec<T, A> {
 }
 
 impl<T: Copy, A: Allocator> ThinVec<T, A> {
-    /// Makes a list of copies of the items of a slice, in order. The capacity of the list is
-    /// exactly the number of items. If the slice is empty, the call allocates nothing. The items
-    /// are copied byte for byte, so this method is faster than `from_slice`.
-    ///
-    /// This method exists neither in Rust's `Vec` nor in the Rust crate thin-vec.
+    /// Makes a list of copies of the items of a slice, faster than `from_slice`.
     ///
     /// # Errors
     ///
-    /// Fails in the same cases as `with_capacity`. On failure, `alloc` is dropped.
+    /// Fails as `with_capacity` does. On failure, `alloc` is dropped.
     pub fn from_copies(alloc: A, items: &[T]) -> Result<ThinVec<T, A>, ThinVecError>
         // On success.
         ensures items { IfOk result (λ list. list.items ≡ items.now) }
@@ -189,14 +179,39 @@ impl<T: Copy, A: Allocator> ThinVec<T, A> {
     }
 }
 
-impl<T: Clone, A: Allocator> ThinVec<T, A> {
-    /// Makes a list of clones of the items of a slice, in order. The capacity is exactly the number
-    /// of items. An empty slice needs no allocation. For `Copy` items, `from_copies` is faster.
+impl<A: Allocator> ThinVec<u8, A> {
+    ghost use Rattle.std.specs.Borrow.{u8};
+
+    /// Makes a list of the bytes of `text`.
     ///
     /// # Errors
     ///
-    /// Fails in the same cases as `with_capacity`, and with `OutOfMemory` if an item cannot be
-    /// cloned. On failure, `alloc` and all clones are dropped.
+    /// Fails as `with_capacity` does. On failure, `alloc` is dropped.
+    pub fn from_str(alloc: A, text: &str) -> Result<ThinVec<u8, A>, ThinVecError>
+        // On success.
+        ensures items { IfOk result (λ list. list.items ≡ text.now) }
+        ensures capacity { IfOk result (λ list. list.capacity ≡ length text.now) }
+        ensures cost { IfOk result
+            (λ list. list.cost ≡ add_moves (length text.now) (cost_of_new (length text.now))) }
+        ensures new { IfOk result (IsFreshList u8 alloc) }
+
+        // When it must succeed.
+        ensures succeeds_empty { length text.now ≡ 0 → IsOk result }
+
+        // On failure.
+        ensures overflow { OverflowsIffTooLarge u8 (length text.now) result }
+    {
+        ThinVec::from_copies(alloc, text.as_bytes())
+    }
+}
+
+impl<T: Clone, A: Allocator> ThinVec<T, A> {
+    /// Makes a list of clones of the items of a slice. For `Copy` items, `from_copies` is faster.
+    ///
+    /// # Errors
+    ///
+    /// Fails as `with_capacity` does, and with `OutOfMemory` if an item cannot be cloned. On
+    /// failure, `alloc` and all clones are dropped.
     #[tactic(auto, using(thin_block::proofs::CapacityLemmas::exact))]
     pub fn from_slice(alloc: A, items: &[T]) -> Result<ThinVec<T, A>, ThinVecError>
         // On success.
@@ -221,8 +236,7 @@ impl<T: Clone, A: Allocator> ThinVec<T, A> {
     }
 }
 
-// Returns the number of items in the array `items`. The contract states that this number is `N`, and
-// `from_array` needs this fact after the array was moved.
+// Returns the length of `items`. `from_array` needs the contract once the array was moved.
 fn count<T, const N: usize>(items: &[T; N]) -> usize
     ensures value { result ≡ N }
     ensures len { result ≡ length items.now }

@@ -1,7 +1,7 @@
 -- The last front item is the last kept item. The test may change only this item in the block.
 use Rattle.std.proofs.Common.{◌-◌, refl, ap, sym, ◌∙◌, arith, length}
 use Rattle.thin_block.specs.Lends.{set_slot}
-use Rattle.thin_vec.proofs.open_block.DedupLemmas.{WrittenLast, last-filled, write-last-step}
+use Rattle.thin_vec.proofs.open_block.WriteLemmas.{WrittenLast, last-filled, write-last-step}
 use Rattle.thin_vec.proofs.open_block.OpenBlock.test_last.Goals as goal
 
 pub slot_mut-requires : goal.slot_mut-requires

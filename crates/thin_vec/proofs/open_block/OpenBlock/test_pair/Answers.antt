@@ -5,7 +5,7 @@ use lib.ListN.{set}
 use Rattle.thin_block.specs.Lends.{set_slots}
 use Rattle.thin_vec.specs.OpenBlock.{open_view}
 use Rattle.thin_vec.proofs.OpenBlockLemmas.{rest-filled}
-use Rattle.thin_vec.proofs.open_block.DedupLemmas.{WrittenTwo, parts-of, write-two-step}
+use Rattle.thin_vec.proofs.open_block.WriteLemmas.{WrittenTwo, parts-of, write-two-step}
 use Rattle.thin_vec.proofs.open_block.OpenBlock.test_pair.Goals as goal
 
 pub slice_mut-requires-clause-filled : goal.slice_mut-requires-clause-filled

@@ -4,7 +4,7 @@ use Rattle.std.proofs.Common.{◌+◌, ◌∙◌, Some, ap, length, refl, sym}
 use Rattle.std.specs.Borrow.{u8}
 use Rattle.thin_block.proofs.CapacityLemmas.{ruled-at}
 use Rattle.thin_block.proofs.ResultLemmas.{none-some}
-use Rattle.thin_vec.proofs.convert.bytes.ThinVecU8Write.write_all.Goals as goal
+use Rattle.thin_vec.proofs.write.ThinVecU8Write.write_all.Goals as goal
 
 pub returns-clause-capacity : goal.returns-clause-capacity
 returns-clause-capacity g c =

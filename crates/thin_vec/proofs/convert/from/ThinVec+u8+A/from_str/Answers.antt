@@ -5,7 +5,7 @@ use Rattle.std.specs.Borrow.{u8}
 use Rattle.thin_block.proofs.CapacityLemmas.{exact-at}
 use Rattle.thin_block.specs.Growth.{exact_capacity}
 use Rattle.thin_vec.proofs.list.ReservesLemmas.{tells-same}
-use Rattle.thin_vec.proofs.convert.bytes.ThinVec+u8+A.from_str.Goals as goal
+use Rattle.thin_vec.proofs.convert.from.ThinVec+u8+A.from_str.Goals as goal
 
 pub returns-clause-overflow : goal.returns-clause-overflow
 returns-clause-overflow g c =
