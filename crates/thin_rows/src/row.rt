@@ -10,8 +10,7 @@ use std::marker::Model;
 use std::{fmt, mem};
 use thin_vec::{Rejected, ThinVec};
 
-// A row, which is a finite map from columns to values. The row owns a block of memory only if it
-// has an entry.
+// A row, which is a finite map from columns to values. A row without entries owns no block.
 #[derive(Drop)]
 pub(crate) struct Row<V, A: Allocator> {
     entries: ThinVec<(usize, V), A>,
@@ -41,7 +40,7 @@ impl<V, A: Allocator> Row<V, A> {
     ghost use Rattle.thin_rows.specs.EntryType.{entry_type};
     ghost use Rattle.thin_rows.specs.Lends.{LendsColumn, LendsColumnIfSome};
 
-    // Returns a row without entries. No memory is allocated.
+    // Returns a row without entries.
     pub(crate) fn new(alloc: A) -> Row<V, A>
         ensures value { result ≡ map.empty }
     {
@@ -65,8 +64,7 @@ impl<V, A: Allocator> Row<V, A> {
         self.entries.len()
     }
 
-    // Returns whether the row owns a block of memory. This is the case if and only if the row has
-    // an entry.
+    // Returns whether the row owns a block.
     pub(crate) fn owns_block(&self) -> bool
         ensures value { IsTrue result ↔ (0 < map.len self.now) }
     {
@@ -96,9 +94,8 @@ impl<V, A: Allocator> Row<V, A> {
         }
     }
 
-    // Returns a mutable reference to the value at `column`, whose entry must be at the index `at`.
-    // `get_mut` calls it in one arm alone: the loan out of a row is proved here, without the
-    // search.
+    // Returns a mutable reference to the value of the entry at the index `at`. It is apart from
+    // `get_mut`, so that the loan out of a row is proved without the search.
     fn value_mut(&mut self, column: usize, at: usize) -> &mut V
         requires found { IsFoundAt (map.entries self.old) column at }
         ensures* writes_back { sem 𝓛
@@ -108,8 +105,8 @@ impl<V, A: Allocator> Row<V, A> {
         &mut self.entries[at].1
     }
 
-    // Writes `value` at `column`, and returns the old value, if any. If `column` has no entry and
-    // there is no room for a new one, fails with an error that contains `value`.
+    // Writes `value` at `column`, and returns the old value, if any. Fails only if a new entry is
+    // needed, and there is no room for it.
     pub(crate) fn set(&mut self, column: usize, value: V) -> Result<Option<V>, Rejected<V>>
         ensures succeeds { IsSome (map.get self.old column) → IsOk result }
         ensures value { IfOk result (λ old. old ≡ map.get self.old column) }
@@ -136,8 +133,7 @@ impl<V, A: Allocator> Row<V, A> {
         }
     }
 
-    // Removes the entry at `column`, if there is one, and returns its value. If the row then has no
-    // entries, frees the block of the row.
+    // Removes the entry at `column`, if there is one, and returns its value.
     pub(crate) fn remove(&mut self, column: usize) -> Option<V>
         ensures value { result ≡ map.get self.old column }
         ensures entries { self.new ≡ map.remove self.old column }
@@ -153,7 +149,7 @@ impl<V, A: Allocator> Row<V, A> {
 }
 
 impl<V: Drop, A: Allocator> Row<V, A> {
-    // Removes all entries, drops their values, and frees the block of the row.
+    // Removes all entries, and drops their values.
     pub(crate) fn clear(&mut self)
         ensures entries { self.new ≡ map.empty }
     {
@@ -163,7 +159,7 @@ impl<V: Drop, A: Allocator> Row<V, A> {
 }
 
 impl<V: fmt::Debug, A: Allocator> fmt::Debug for Row<V, A> {
-    // Prints the row in the same way as std prints a map.
+    // Prints the row as std prints a map.
     fn fmt<W: fmt::Write>(&self, f: &mut fmt::Formatter<W>) -> fmt::Result {
         let mut map = f.debug_map();
         for (column, value) in self.entries.as_slice() {
@@ -173,7 +169,7 @@ impl<V: fmt::Debug, A: Allocator> fmt::Debug for Row<V, A> {
     }
 }
 
-// Frees the block of `list` if `list` is empty. This requests no memory, so it cannot fail.
+// Frees the block of `list` if `list` is empty.
 fn free_if_empty<T, A: Allocator>(list: &mut ThinVec<T, A>)
     ensures items { list.new.items ≡ list.old.items }
     ensures capacity { (0 < list.new.capacity) ↔ (0 < length list.new.items) }

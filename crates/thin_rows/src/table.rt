@@ -12,12 +12,8 @@ use std::fmt;
 use std::marker::Model;
 use thin_vec::{Rejected, ThinVec, ThinVecError};
 
-/// A sparse table, which maps a row and a column to a value. The number of rows is fixed.
-///
-/// A row keeps its entries in one block, sorted by column. A row without entries owns no block.
-///
-/// Row numbers that are passed to methods must be less than the number of rows. The methods do not
-/// test this.
+/// A sparse table, which maps a row and a column to a value. The number of rows is fixed. A row
+/// keeps its entries in one block, sorted by column. A row without entries owns no block.
 #[derive(Drop)]
 pub struct Rows<V, A: Allocator = Global> {
     rows: ThinVec<Row<V, A>, A>,
@@ -39,8 +35,8 @@ impl<V, A: Allocator + Copy> Rows<V, A> {
     ghost use Rattle.thin_vec.specs.List.Capacity.{OverflowsIffTooLarge};
     ghost use Rattle.thin_rows.specs.RowType.{row_type};
 
-    /// Returns a table with `rows` rows and no entries. Allocates one block, or none if `rows` is
-    /// 0. The table and each row keep a copy of `alloc`.
+    /// Returns a table with `rows` rows and no entries. The table and each row keep a copy of
+    /// `alloc`.
     ///
     /// # Errors
     ///
@@ -79,7 +75,7 @@ impl<V, A: Allocator> Rows<V, A> {
         self.rows.len()
     }
 
-    /// Returns the number of entries in all rows, but at most `usize::MAX`. Visits each row.
+    /// Returns the number of entries, but at most `usize::MAX`. Visits each row.
     pub fn len(&self) -> usize
         ensures value { result ≡ min (sum (map (λ row. columns.len row) self.now)) (2 ^ 64 - 1) }
     {
@@ -110,14 +106,12 @@ impl<V, A: Allocator> Rows<V, A> {
     }
 
     /// Writes `value` at the given row and column, and returns the old value, if there was one.
-    /// Afterwards, the table owns `value`, and the caller owns the returned value.
     ///
     /// # Errors
     ///
-    /// Fails only if a new entry is needed and the row cannot get room for it. The cause is
-    /// `OutOfMemory` if the allocator fails, and `CapacityOverflow` if the new capacity of the row
-    /// would be too large. The error returns `value` to the caller. The table is unchanged, and a
-    /// row that owned no block before the call owns no block after it.
+    /// Fails only if a new entry is needed. The cause is `OutOfMemory` if the allocator fails, and
+    /// `CapacityOverflow` if the new capacity of the row would be too large. The error returns
+    /// `value` to the caller.
     pub fn set(&mut self, row: usize, column: usize, value: V) -> Result<Option<V>, Rejected<V>>
         requires in_bounds { row < length self.old }
 
@@ -128,8 +122,7 @@ impl<V, A: Allocator> Rows<V, A> {
         // When it must succeed.
         ensures succeeds { IsSome (value_at self.old row column) → IsOk result }
 
-        // On failure, the table is unchanged. The error contains `value`, and its cause is
-        // `CapacityOverflow` if and only if the new capacity of the row would be too large.
+        // On failure.
         ensures overflow { OnErr result (OverflowsIff (grown_capacity doubling (entry_type V.row)
             (columns.len (row_at self.old row)) (columns.len (row_at self.old row) + 1))
             (map_cause result)) }
@@ -139,8 +132,8 @@ impl<V, A: Allocator> Rows<V, A> {
         self.rows[row].set(column, value)
     }
 
-    /// Removes the entry at the given row and column, if there is one, and returns its value. If
-    /// the row then has no entries, frees the block of the row. Requests no memory.
+    /// Removes the entry at the given row and column, if there is one, and returns its value.
+    /// Requests no memory.
     pub fn remove(&mut self, row: usize, column: usize) -> Option<V>
         requires in_bounds { row < length self.old }
         ensures value { result ≡ value_at self.old row column }
@@ -149,8 +142,7 @@ impl<V, A: Allocator> Rows<V, A> {
         self.rows[row].remove(column)
     }
 
-    /// Returns the entries of a row as pairs of a column and a value, in increasing order of the
-    /// columns.
+    /// Returns the entries of a row, in increasing order of their columns.
     #[tactic(auto, using(crate::proofs::EntriesLemmas::columns_increase))]
     pub fn row(&self, row: usize) -> &[(usize, V)]
         requires in_bounds { row < length self.now }
@@ -160,8 +152,7 @@ impl<V, A: Allocator> Rows<V, A> {
         self.rows[row].entries()
     }
 
-    /// Returns whether a row owns a block of memory. This is the case if and only if the row has an
-    /// entry.
+    /// Returns whether a row owns a block, that is, whether it has an entry.
     pub fn owns_block(&self, row: usize) -> bool
         requires in_bounds { row < length self.now }
         ensures value { IsTrue result ↔ (0 < columns.len (row_at self.now row)) }
@@ -171,8 +162,7 @@ impl<V, A: Allocator> Rows<V, A> {
 }
 
 impl<V: Drop, A: Allocator> Rows<V, A> {
-    /// Removes all entries of a row and drops their values. The call requests no memory, and frees
-    /// the block of the row.
+    /// Removes all entries of a row, and drops their values. Requests no memory.
     pub fn clear_row(&mut self, row: usize)
         requires in_bounds { row < length self.old }
         ensures table { self.new ≡ with_empty_row self.old row }
@@ -182,7 +172,6 @@ impl<V: Drop, A: Allocator> Rows<V, A> {
 }
 
 impl<V: fmt::Debug, A: Allocator> fmt::Debug for Rows<V, A> {
-    // Prints the rows in order. Each row is printed as std prints a map.
     fn fmt<W: fmt::Write>(&self, f: &mut fmt::Formatter<W>) -> fmt::Result {
         self.rows.fmt(f)
     }

@@ -16,20 +16,16 @@ use thin_block::ThinVecError;
 ///
 /// - `thin_vec![alloc =>]` makes an empty list without an allocation.
 /// - `thin_vec![alloc => x, y]` makes a list of the given items. The capacity is the number of
-///   items.
+///   items. They are evaluated only if the memory was allocated.
 /// - `thin_vec![alloc => x; k]` makes a list of `k` items: clones of `x`, and then `x` itself.
-///   `Doubling` chooses the capacity. If `k` is 0, the capacity is 0, and `x` is dropped.
+///   `Doubling` chooses the capacity. If `k` is 0, `x` is dropped.
 ///
 /// Instead of `alloc =>`, you can write `in alloc;`, as in `thin_vec![in alloc; x, y]`. The first
-/// form is then `thin_vec![in alloc]`. A trailing comma is allowed after items, but not after `k`.
-///
-/// The macro evaluates `alloc` first. The second form then requests the memory, and evaluates the
-/// items only if the request succeeds. The third form evaluates `x` and then `k` before it requests
-/// the memory.
+/// form is then `thin_vec![in alloc]`.
 ///
 /// # Errors
 ///
-/// On failure, no list is made. In the third form, `x` and its clones are dropped.
+/// On failure, `x` and its clones are dropped.
 ///
 /// - `CapacityOverflow`: the capacity would be too large.
 /// - `OutOfMemory`: the allocator failed or, in the third form, `x` could not be cloned.
@@ -64,8 +60,7 @@ macro_rules! thin_vec {
     };
 }
 
-/// Counts the arguments without evaluating them. `thin_vec!` calls this macro to compute the
-/// capacity of the list.
+/// Counts the arguments without evaluating them.
 #[doc(hidden)]
 #[macro_export]
 macro_rules! count_items {
@@ -77,15 +72,11 @@ macro_rules! count_items {
     };
 }
 
-/// Makes the list for `thin_vec![alloc => value; count]`: clones of `value`, and then `value`
-/// itself. If `count` is 0, `value` is dropped.
+/// Makes the list for `thin_vec![alloc => value; count]`.
 ///
 /// # Errors
 ///
-/// On failure, no list is made. `value` and its clones are dropped.
-///
-/// - `CapacityOverflow`: the capacity for `count` items would be too large.
-/// - `OutOfMemory`: the allocator failed, or `value` could not be cloned.
+/// Fails as the macro does.
 #[doc(hidden)]
 pub fn repeated<T: Clone, A: Allocator>(
     alloc: A,

@@ -14,18 +14,16 @@ use thin_block::Block;
 
 /// The result of a function that moves items of an iterator into empty slots, in order.
 pub(crate) struct Filled<I> {
-    /// The iterator after the call. It yields the items that were not taken from it during the
-    /// call.
+    /// The iterator, which yields the items that were not taken.
     pub(crate) rest: I,
-    /// The index of the slot directly after the last item that was placed. If no item was placed,
-    /// this is the index of the first of the empty slots.
+    /// The index of the slot after the last item that was placed.
     pub(crate) end: usize,
     /// Whether the iterator returned `None` before the slots were full.
     pub(crate) ended: bool,
 }
 
-// Moves the items of the vector `items` into the empty slots from index `start` onward, in the same
-// order, and frees the vector.
+// Moves the items of `items` into the empty slots from index `start` onward, in the same order, and
+// frees the vector. The last item is moved first, because `pop` moves no other item of the vector.
 pub(crate) fn put_vec<T, A: Allocator, B: Allocator>(
     block: &mut Block<T, A>,
     start: usize,
@@ -44,8 +42,8 @@ pub(crate) fn put_vec<T, A: Allocator, B: Allocator>(
     items.destroy_empty();
 }
 
-// Puts clones of `items` into the empty slots from index `start` onward, in order, until an item
-// cannot be cloned. Returns the number of clones.
+// Puts clones of `items` into the empty slots from index `start` onward, until an item cannot be
+// cloned. Returns the number of clones.
 pub(crate) fn put_clones<T: Clone, A: Allocator>(
     block: &mut Block<T, A>,
     start: usize,
@@ -71,8 +69,8 @@ pub(crate) fn put_clones<T: Clone, A: Allocator>(
     items.len()
 }
 
-// Puts clones of `value` into the `count` empty slots from index `start` onward. Stops early if
-// `value` cannot be cloned. Returns the number of clones that were made.
+// Puts clones of `value` into the `count` empty slots from index `start` onward, until `value`
+// cannot be cloned. Returns the number of clones.
 pub(crate) fn put_repeated<T: Clone, A: Allocator>(
     block: &mut Block<T, A>,
     start: usize,
@@ -99,8 +97,7 @@ pub(crate) fn put_repeated<T: Clone, A: Allocator>(
     count
 }
 
-// Fills the `count` empty slots from index `start` onward with the results of calls to `make`, in
-// order.
+// Fills the `count` empty slots from index `start` onward with the results of `make`.
 pub(crate) fn put_results<T, A: Allocator, F: FnMut() -> T>(
     block: &mut Block<T, A>,
     start: usize,
@@ -122,8 +119,7 @@ pub(crate) fn put_results<T, A: Allocator, F: FnMut() -> T>(
     }
 }
 
-// Moves items of `iter` into the empty slots `start..end` of `block`, in order, until the slots are
-// full or `iter` ends. Returns the block and the rest of the iterator.
+// Moves items of `iter` into the empty slots `start..end`, until they are full or `iter` ends.
 pub(crate) fn put_iter<T, A: Allocator, I: Iterator<Item = T>>(
     block: Block<T, A>,
     start: usize,

@@ -6,11 +6,8 @@ ghost use Rattle.thin_vec.specs.Ranges.{range_between};
 use std::ops::Bound;
 
 /// Returns the inclusive start and the exclusive end of the range with the bounds `start` and
-/// `end`, for a list of length `len`. Returns `None` if the inclusive start is greater than the
-/// exclusive end, or if the range ends after the end of the list.
-///
-/// Rust's `slice::range` panics instead of returning `None`. The Rust crate thin-vec has no such
-/// function.
+/// `end`, for a list of length `len`. Returns `None` where Rust's `slice::range` panics: if the
+/// start is greater than the end, or the end greater than `len`.
 pub fn bounds(start: Bound<usize>, end: Bound<usize>, len: usize) -> Option<(usize, usize)>
     ensures value { result ≡ range_between start end len }
     ensures start_le_end { IfSome result (λ range. range.0 ≤ range.1) }

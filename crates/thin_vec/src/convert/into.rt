@@ -10,14 +10,13 @@ use std::boxed::BoxedSlice;
 use thin_block::{Growth, ThinVecError};
 
 impl<T, A: Allocator, G: Growth> ThinVec<T, A, G> {
-    /// Moves the items of the list, in order, into a new `Vec` that uses the allocator `alloc`. The
-    /// capacity of the `Vec` is exactly the number of items. The allocation of the list is freed.
-    /// If the list is empty, the call allocates nothing.
+    /// Moves the items of the list into a new `Vec` with the allocator `alloc`, and frees the
+    /// allocation of the list.
     ///
     /// # Errors
     ///
-    /// Fails with `OutOfMemory` if `alloc` cannot allocate the memory. On failure, the error holds
-    /// the unchanged list, so the caller owns it again. `alloc` is dropped.
+    /// Fails with `OutOfMemory` if `alloc` fails. The error returns the unchanged list to the
+    /// caller, and `alloc` is dropped.
     pub fn into_vec(self, alloc: A) -> Result<Vec<T, A>, Rejected<ThinVec<T, A, G>>>
         // On success.
         ensures items { IfOk result (λ vec. vec.items ≡ self.items) }
@@ -27,7 +26,7 @@ impl<T, A: Allocator, G: Growth> ThinVec<T, A, G> {
         // When it must succeed.
         ensures succeeds_empty { length self.items ≡ 0 → IsOk result }
 
-        // On failure, the cause is `OutOfMemory`, and the error holds the unchanged list.
+        // On failure.
         ensures cause { IfErr result (λ refused. refused.cause ≡ ThinVecError.OutOfMemory) }
         ensures value_returned { IfErr result (λ refused. refused.value ≡ self) }
         ensures bounds { IfErr result (λ refused. IsBounded T.row refused.value) }
@@ -49,14 +48,12 @@ impl<T, A: Allocator, G: Growth> ThinVec<T, A, G> {
         Ok(vec)
     }
 
-    /// Moves the items of the list, in order, into a new boxed slice that uses the allocator
-    /// `alloc`. The allocation of the list is freed. If the list is empty, the call allocates
-    /// nothing.
+    /// Moves the items of the list into a new boxed slice with the allocator `alloc`, and frees the
+    /// allocation of the list.
     ///
     /// # Errors
     ///
-    /// Fails with `OutOfMemory` if `alloc` cannot allocate the memory. On failure, the error holds
-    /// the unchanged list, so the caller owns it again. `alloc` is dropped.
+    /// Fails as `into_vec` does.
     pub fn into_boxed_slice(self, alloc: A) -> Result<BoxedSlice<T, A>, Rejected<ThinVec<T, A, G>>>
         // On success.
         ensures items { IfOk result (λ boxed. boxed_slice_items boxed ≡ self.items) }
@@ -65,7 +62,7 @@ impl<T, A: Allocator, G: Growth> ThinVec<T, A, G> {
         // When it must succeed.
         ensures succeeds_empty { length self.items ≡ 0 → IsOk result }
 
-        // On failure, the cause is `OutOfMemory`, and the error holds the unchanged list.
+        // On failure.
         ensures cause { IfErr result (λ refused. refused.cause ≡ ThinVecError.OutOfMemory) }
         ensures value_returned { IfErr result (λ refused. refused.value ≡ self) }
         ensures bounds { IfErr result (λ refused. IsBounded T.row refused.value) }
@@ -73,19 +70,16 @@ impl<T, A: Allocator, G: Growth> ThinVec<T, A, G> {
         Ok(self.into_vec(alloc)?.into_boxed_slice())
     }
 
-    /// If the list has exactly `N` items, moves them into an array, in order, and returns the
-    /// array. The allocation of the list is freed. The call allocates nothing.
+    /// If the list has exactly `N` items, moves them into an array, and frees the allocation of the
+    /// list.
     ///
-    /// Like every array, the result must occupy fewer than 2^63 bytes. If `T` is a concrete type,
-    /// the prover proves this without help. If `T` is a type parameter of the caller, the caller
-    /// needs the precondition `N * type_size T.row < 2 ^ 63`. (`type_size` is defined in
-    /// `Rattle.std.specs.Mem`.) The methods `into_vec` and `into_iter` do not need this
-    /// precondition.
+    /// If `T` is a type parameter of the caller, the caller needs the precondition
+    /// `N * type_size T.row < 2 ^ 63`, as for every array. (`type_size` is defined in
+    /// `Rattle.std.specs.Mem`.) The methods `into_vec` and `into_iter` do not need it.
     ///
     /// # Errors
     ///
-    /// Fails if the number of items is not `N`. The error is the unchanged list, so the caller owns
-    /// it again.
+    /// Fails if the number of items is not `N`. The error is the list, which the caller owns again.
     pub fn into_array<const N: usize>(self) -> Result<[T; N], ThinVec<T, A, G>>
         // On success.
         ensures items { IfOk result (λ items. items ≡ self.items) }
@@ -93,7 +87,7 @@ impl<T, A: Allocator, G: Growth> ThinVec<T, A, G> {
         // When it succeeds.
         ensures variant { IsOk result ↔ (length self.items ≡ N) }
 
-        // On failure, the error is the unchanged list.
+        // On failure.
         ensures value_returned { IfErr result (λ list. list ≡ self) }
         ensures bounds { IfErr result (λ list. IsBounded T.row list) }
     {

@@ -15,15 +15,13 @@ use std::marker::{Model, PhantomData};
 use thin_block::{Block, Doubling, Growth, ThinVecError};
 
 /// An iterator that yields the items of a list from either end. It owns the items that have not
-/// been yielded yet. It also owns the allocation and the allocator of the list. Dropping the
-/// iterator drops the remaining items, and frees the allocation. No item is moved before it is
-/// yielded.
+/// been yielded yet, the allocation and the allocator of the list. Dropping the iterator drops
+/// those items, and frees the allocation.
 ///
 /// Contracts describe an `IntoIter` by the same fields as a list. The field `items` contains the
 /// items that have not been yielded yet.
 pub struct IntoIter<T, A: Allocator = Global, G: Growth = Doubling> {
-    // The items that have not been yielded yet are in the slots `start..end` of the block. The
-    // length that is stored in the block is no longer used.
+    // The items are in the slots `start..end`. The length that the block stores is not used.
     block: Block<T, A>,
     alloc: A,
     start: usize,
@@ -45,9 +43,8 @@ impl<T, A: Allocator, G: Growth> Model for IntoIter<T, A, G> {
 }
 
 impl<T, A: Allocator, G: Growth> ThinVec<T, A, G> {
-    /// Converts the list into an iterator that yields its items from either end. The iterator owns
-    /// the items, the allocation and the allocator of the list. The call allocates nothing, and
-    /// moves no item.
+    /// Converts the list into an iterator that yields its items from either end, and owns them. The
+    /// call allocates nothing, and moves no item.
     pub fn into_iter(self) -> IntoIter<T, A, G>
         ensures value { result ≡ self }
         ensures bounds { length self.items < 2 ^ 64 }
@@ -90,8 +87,7 @@ impl<T, A: Allocator, G: Growth> IntoIter<T, A, G> {
         self.end - self.start
     }
 
-    /// Returns a size hint whose lower bound and upper bound are both the number of items that have
-    /// not been yielded yet.
+    /// Returns the number of items that have not been yielded yet, as both bounds.
     pub fn size_hint(&self) -> (usize, Option<usize>)
         ensures value { result ≡ (length self.now.items, Some (length self.now.items)) }
     {
@@ -99,8 +95,7 @@ impl<T, A: Allocator, G: Growth> IntoIter<T, A, G> {
         (len, Some(len))
     }
 
-    /// Yields the first item that has not been yielded yet, or returns `None` if all items have
-    /// been yielded.
+    /// Yields the first item that has not been yielded yet, or returns `None` if there is none.
     pub fn next(&mut self) -> Option<T>
         ensures variant { IsSome result ↔ (0 < length self.old.items) }
         ensures items { self.old.items ≡ option_to_list result ++ self.new.items }
@@ -112,8 +107,7 @@ impl<T, A: Allocator, G: Growth> IntoIter<T, A, G> {
         Some(self.take_first())
     }
 
-    /// Yields the last item that has not been yielded yet, or returns `None` if all items have been
-    /// yielded.
+    /// Yields the last item that has not been yielded yet, or returns `None` if there is none.
     pub fn next_back(&mut self) -> Option<T>
         ensures steps { YieldsLast rest self.old result self.new }
         ensures changes { self.new ≡ record self.old { items = self.new.items } }
@@ -124,7 +118,7 @@ impl<T, A: Allocator, G: Growth> IntoIter<T, A, G> {
         Some(self.take_last())
     }
 
-    // Yields the first item that has not been yielded yet. There must be such an item.
+    // Yields the first item.
     fn take_first(&mut self) -> T
         requires nonempty { 0 < length self.old.items }
         ensures items { self.old.items ≡ result ∷ self.new.items }
@@ -135,7 +129,7 @@ impl<T, A: Allocator, G: Growth> IntoIter<T, A, G> {
         self.block.take(first)
     }
 
-    // Yields the last item that has not been yielded yet. There must be such an item.
+    // Yields the last item.
     fn take_last(&mut self) -> T
         requires nonempty { 0 < length self.old.items }
         ensures items { self.old.items ≡ self.new.items ++ result ∷ [] }
@@ -152,8 +146,8 @@ impl<T, A: Allocator, G: Growth> IntoIter<T, A, G> {
         self.block.slice(self.start, self.end)
     }
 
-    /// Returns the items that the iterator has not yielded yet, in order, as a mutable slice. If
-    /// the caller changes an item, the iterator yields the changed item.
+    /// Returns the items that have not been yielded yet, in order, as a mutable slice. If the
+    /// caller changes an item, the iterator yields the changed item.
     pub fn as_mut_slice(&mut self) -> &mut [T]
         ensures* writes_back { sem 𝓛
             (LendsRest T.row A.row G.row A.Allocator G.Growth self.entry result) }
@@ -162,7 +156,7 @@ impl<T, A: Allocator, G: Growth> IntoIter<T, A, G> {
         self.block.slice_mut(self.start, self.end)
     }
 
-    // Consumes the iterator, which must have yielded all its items, and frees its allocation.
+    // Frees the allocation.
     pub(crate) fn release(self)
         requires is_empty { self.items ≡ [] }
     {
@@ -181,15 +175,12 @@ impl<T: Clone, A: Allocator, G: Growth> IntoIter<T, A, G> {
     ghost use Rattle.thin_vec.specs.Cheap.{IsCheap};
     ghost use Rattle.thin_vec.specs.ThinVec.{cost_of_new};
 
-    /// Makes an iterator that yields clones of the remaining items, in order. The new iterator uses
-    /// the allocator `alloc`, and its allocation has room for exactly these clones. If no item
-    /// remains, the call allocates nothing.
+    /// Makes an iterator that yields clones of the items that have not been yielded yet.
     ///
     /// # Errors
     ///
-    /// Fails with `OutOfMemory` if `alloc` cannot allocate the memory, or if an item cannot be
-    /// cloned. On failure, `alloc` is dropped, and the clones that were already made are dropped,
-    /// too.
+    /// Fails with `OutOfMemory` if `alloc` fails, or if an item cannot be cloned. On failure,
+    /// `alloc` and the clones are dropped.
     pub fn clone(&self, alloc: A) -> Result<IntoIter<T, A, G>, ThinVecError>
         // On success.
         ensures items { IfOk result (λ it. AllZip T.is_clone self.now.items it.items) }
@@ -207,8 +198,7 @@ impl<T: Clone, A: Allocator, G: Growth> IntoIter<T, A, G> {
         // On failure.
         ensures cause { IfErr result (λ cause. cause ≡ ThinVecError.OutOfMemory) }
     {
-        // This call is needed only for the proof: the contract of `cap` limits the capacity, and
-        // the number of items does not exceed the capacity.
+        // For the proof alone: the contract of `cap` limits the number of items.
         let _room = self.block.cap();
         let list = ThinVec::from_fitting_slice(alloc, self.as_slice())?;
         Ok(list.into_iter())
@@ -256,7 +246,6 @@ impl<T: fmt::Debug, A: Allocator, G: Growth> fmt::Debug for IntoIter<T, A, G> {
 }
 
 impl<T: Drop, A: Allocator, G: Growth> Drop for IntoIter<T, A, G> {
-    // Drops the items that have not been yielded yet, and then frees the allocation.
     fn drop(mut self) {
         while let Some(_item) = self.next() {}
         self.release();

@@ -16,13 +16,8 @@ impl<T: Drop, A: Allocator, G: Growth> ThinVec<T, A, G> {
     ghost use Rattle.thin_vec.specs.ThinVec.{IsBounded};
 
     /// Calls `same` once for each item except the first, in order. If `same` returns true, the item
-    /// is removed and dropped.
-    ///
-    /// As with Rust's `Vec::dedup_by`, the first argument of `same` is the item, and the second
-    /// argument is the last item kept before it. The closure may change both items.
-    ///
-    /// Each kept item that follows the first removed item is moved once. No other item is moved
-    /// within the list.
+    /// is removed and dropped. The first argument of `same` is the item, and the second argument is
+    /// the last item kept before it. The closure may change both.
     pub fn dedup_by<F: FnMut(&mut T, &mut T) -> bool>(&mut self, same: F)
         requires callable { F.IsAlwaysCallable same }
         ensures deduped { IsDedupedBy (CalledAtPairMut F.FnMut) same self.old self.new }
@@ -36,8 +31,8 @@ impl<T: Drop, A: Allocator, G: Growth> ThinVec<T, A, G> {
         let SameBy { same: _ } = test;
     }
 
-    // Tests each item except the first, in order, against the last item kept before it. Removes and
-    // drops the items that the test finds to be duplicates.
+    // Tests each item except the first against the last item kept before it, and drops those that
+    // the test finds to be duplicates.
     fn dedup_with<J: PairTest<T>>(&mut self, test: &mut J)
         requires callable { J.ready test.old }
         ensures deduped { IsDedupedTo J.tests test.old self.old self.new test.new }
@@ -57,13 +52,8 @@ impl<T: Drop, A: Allocator, G: Growth> ThinVec<T, A, G> {
     }
 
     /// Removes and drops each item whose key is equal to the key of the last item kept before it.
-    /// The closure `key` computes the key of an item, and may change the item.
-    ///
     /// For each item except the first, `key` is called with this item, and then with the last item
-    /// kept before it, as in Rust's `Vec::dedup_by_key`.
-    ///
-    /// Each kept item that follows the first removed item is moved once. No other item is moved
-    /// within the list.
+    /// kept before it. The closure may change both.
     pub fn dedup_by_key<K: PartialEq + Drop, F: FnMut(&mut T) -> K>(&mut self, key: F)
         requires callable { F.IsAlwaysCallable key }
         ensures deduped { IsDedupedBy (ComparesKeys F.FnMut K.eq) key self.old self.new }
@@ -83,11 +73,8 @@ impl<T: PartialEq + Drop, A: Allocator, G: Growth> ThinVec<T, A, G> {
     ghost use Rattle.thin_vec.specs.Edits.Dedup.{dedup_flags};
     ghost use Rattle.thin_vec.specs.ThinVec.{IsBounded};
 
-    /// Removes and drops each item that is equal to the last item kept before it, like Rust's
-    /// `Vec::dedup`. If the list is sorted, one item of each value remains.
-    ///
-    /// Each item except the first is compared once. Each kept item that follows the first removed
-    /// item is moved once. No other item is moved within the list.
+    /// Removes and drops each item that is equal to the last item kept before it. If the list is
+    /// sorted, one item of each value remains.
     pub fn dedup(&mut self)
         ensures items { self.new.items ≡ dedup T.eq self.old.items }
         ensures cost { self.new.cost ≡ add_moves (moves_of_retain (dedup_flags T.eq self.old.items))
@@ -103,20 +90,17 @@ impl<T: PartialEq + Drop, A: Allocator, G: Growth> ThinVec<T, A, G> {
     }
 }
 
-// The test that `dedup_by` uses. An item is removed if the closure `same` returns true for this
-// item and the last item that was kept before it.
+// The test that `dedup_by` uses.
 struct SameBy<F> {
     same: F,
 }
 
-// The test that `dedup_by_key` uses. An item is removed if the closure `key` returns equal keys for
-// this item and for the last item that was kept before it.
+// The test that `dedup_by_key` uses.
 struct SameKey<F> {
     key: F,
 }
 
-// The test that `dedup` uses. An item is removed if it is equal to the last item that was kept
-// before it.
+// The test that `dedup` uses.
 struct SameItem {}
 
 impl<T, F: FnMut(&mut T, &mut T) -> bool> PairTest<T> for SameBy<F> {

@@ -14,21 +14,12 @@ impl<T: Copy, A: Allocator, G: Growth> ThinVec<T, A, G> {
     /// Replaces the items `start..end` with copies of `items`, in order. The old items of the range
     /// are dropped.
     ///
-    /// This method exists neither in Rust's `Vec` nor in the Rust crate thin-vec.
-    ///
-    /// Copying an item cannot fail. So the old items are dropped before the new items are copied,
-    /// and the call needs room for only `items.len() - (end - start)` more items. If `items` is not
-    /// longer than the range, the call needs no additional room, and cannot fail. Each item after
-    /// the range is moved at most once.
-    ///
     /// # Errors
     ///
-    /// On failure, the list is unchanged.
+    /// Fails only if `items` is longer than the range, and the list has no room for the surplus.
     ///
-    /// - `CapacityOverflow`: there is not enough room for the additional items, and the growth rule
-    ///   chooses no capacity for them.
-    /// - `OutOfMemory`: there is not enough room for the additional items, and the allocator
-    ///   failed.
+    /// - `CapacityOverflow`: the new capacity would be too large.
+    /// - `OutOfMemory`: the allocator failed.
     pub fn replace_range_from_copies(
         &mut self,
         start: usize,
@@ -57,6 +48,7 @@ impl<T: Copy, A: Allocator, G: Growth> ThinVec<T, A, G> {
         ensures preserved { PreservesList T.row self.old self.new }
     {
         let more = items.len().saturating_sub(end - start);
+        // With `?`, the proof of `capacity` would not see the cause behind `From`.
         match self.reserve(more) {
             Ok(()) => (),
             Err(cause) => return Err(cause),
@@ -70,24 +62,12 @@ impl<T: Copy, A: Allocator, G: Growth> ThinVec<T, A, G> {
 
 impl<T: Drop, A: Allocator, G: Growth> ThinVec<T, A, G> {
     /// Replaces the items `start..end` with the items of `other`, in order. The old items of the
-    /// range are dropped. The items of `other` are moved: after the call, `other` is empty, and
-    /// keeps its capacity.
-    ///
-    /// This method exists neither in Rust's `Vec` nor in the Rust crate thin-vec.
-    ///
-    /// The call first makes room, which is the only step that can fail. Then it drops the old
-    /// items, and moves the new items into their place. So the call needs room for only
-    /// `other.len() - (end - start)` more items. If `other` is not longer than the range, the call
-    /// needs no additional room, and cannot fail. Each item after the range is moved at most once.
+    /// range are dropped. After the call, `other` is empty, and keeps its capacity.
     ///
     /// # Errors
     ///
-    /// On failure, both lists are unchanged.
-    ///
-    /// - `CapacityOverflow`: there is not enough room for the additional items, and the new
-    ///   capacity would be too large.
-    /// - `OutOfMemory`: there is not enough room for the additional items, and the allocator
-    ///   failed.
+    /// Fails only if `other` is longer than the range, and the list has no room for the surplus.
+    /// The causes are those of `replace_range_from_copies`.
     pub fn replace_range_from_list(
         &mut self,
         start: usize,

@@ -1,9 +1,5 @@
 //! The methods `retain` and `retain_mut`, which keep the items for which a closure returns true,
 //! and drop the other items.
-//!
-//! The removed items leave a gap of empty slots. A kept item behind the gap is moved down to the
-//! start of the gap after its test. If the items are large, they wait until the next removal, or
-//! until the last test, and are then moved together.
 ghost use Rattle.std.specs.Prelude.{◌≡◌, ◌<◌, ◌≤◌, length};
 ghost use Rattle.std.specs.List.Retain.{IsFiltered};
 ghost use Rattle.std.specs.Fn.{CalledAt, CalledAtMut};
@@ -18,11 +14,8 @@ impl<T: Drop, A: Allocator, G: Growth> ThinVec<T, A, G> {
     ghost use Rattle.thin_vec.specs.Edits.Retain.{IsRetained, IsRetainedTo, ReadsOnly};
     ghost use Rattle.thin_vec.specs.ThinVec.{IsBounded};
 
-    /// Keeps the items for which `keep` returns true, and drops the other items, like Rust's
-    /// `Vec::retain`. The closure `keep` is called once for each item, in order.
-    ///
-    /// Each kept item that follows the first removed item is moved once. No other item is moved
-    /// within the list. The capacity does not change.
+    /// Keeps the items for which `keep` returns true, and drops the other items. Calls `keep` once
+    /// for each item, in order.
     pub fn retain<F: FnMut(&T) -> bool>(&mut self, keep: F)
         requires callable { F.IsAlwaysCallable keep }
         ensures retained { IsRetained (ReadsOnly (CalledAt F.FnMut)) keep self.old self.new }
@@ -37,8 +30,7 @@ impl<T: Drop, A: Allocator, G: Growth> ThinVec<T, A, G> {
         let KeepByRef { keep: _ } = test;
     }
 
-    /// Keeps the items for which `keep` returns true, and drops the other items. Unlike the closure
-    /// of `retain`, `keep` may change the items.
+    /// Does the same as `retain`, with a closure that may change the items.
     pub fn retain_mut<F: FnMut(&mut T) -> bool>(&mut self, keep: F)
         requires callable { F.IsAlwaysCallable keep }
         ensures retained { IsRetained (CalledAtMut F.FnMut) keep self.old self.new }
@@ -52,7 +44,7 @@ impl<T: Drop, A: Allocator, G: Growth> ThinVec<T, A, G> {
         let KeepByMut { keep: _ } = test;
     }
 
-    // Tests each item once, in order, and drops the items that are not kept.
+    // Tests each item once, in order, and drops the items that fail the test.
     fn retain_with<J: Test<T>>(&mut self, test: &mut J)
         requires callable { J.ready test.old }
         ensures retained { IsRetainedTo J.tests test.old self.old self.new test.new }
@@ -69,14 +61,12 @@ impl<T: Drop, A: Allocator, G: Growth> ThinVec<T, A, G> {
     }
 }
 
-// The test that `retain` uses: an item is kept if the closure `keep` returns true. The closure
-// cannot write to the item.
+// The test that `retain` uses.
 struct KeepByRef<F> {
     keep: F,
 }
 
-// The test that `retain_mut` uses: an item is kept if the closure `keep` returns true. The closure
-// may write to the item.
+// The test that `retain_mut` uses.
 struct KeepByMut<F> {
     keep: F,
 }

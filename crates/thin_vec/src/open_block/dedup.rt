@@ -1,5 +1,5 @@
 //! Functions that keep the first item of a range, and test each other item against the last item
-//! that was kept before it. The `dedup` methods use them.
+//! that was kept before it.
 ghost use Rattle.std.specs.Prelude.{◌≡◌, ◌+◌, ◌-◌, ◌<◌, ◌∷◌, ◌++◌, [], Bool, length};
 ghost use Rattle.thin_block.specs.Cost.{add_moves};
 
@@ -7,25 +7,21 @@ use crate::open_block::OpenBlock;
 use std::alloc::Allocator;
 use thin_block::item_size;
 
-// If an item has at least this many bytes, the kept items that lie side by side are moved together.
-// Smaller items are moved one by one, which was measured to be faster for them. From this size on,
-// moving them together costs nothing.
+// The size of an item in bytes from which kept items that lie side by side are moved together.
+// Moving smaller items one by one was measured to be faster.
 const LARGE: usize = 128;
 
-/// Decides whether an item of a list is to be removed, by a test against the last kept item before
-/// it. The test may write to both items.
+/// A test of an item against the last kept item before it. It decides whether the item is to be
+/// removed, and may write to both items.
 pub(crate) trait PairTest<T> {
     /// `tests s x k b t y l` holds if one test of the item `x` against the kept item `k` may return
-    /// `b`, and change the state of the test from `s` to `t`, `x` to `y`, and `k` to `l`. If `b` is
-    /// true, the item `y` is to be removed.
+    /// `b`, and change the state of the test from `s` to `t`, `x` to `y`, and `k` to `l`.
     ghost tests: { Self → T → T → Bool → Self → T → T → Type 0 };
 
-    /// `ready s` holds if the test can be called in the state `s` with any two items. Each such
-    /// call leaves the test in a state that is ready again.
+    /// `ready s` holds if the test can be called in the state `s` with any two items.
     ghost ready: { Self → Type 0 };
 
-    /// Returns whether the item `later` is to be removed. `kept` is the last item that was kept
-    /// before `later`.
+    /// Returns whether the item `later` is to be removed.
     fn test(&mut self, later: &mut T, kept: &mut T) -> bool
         requires callable { ready self.old }
         ensures tested { tests self.old later.old kept.old result self.new later.new kept.new }
@@ -35,8 +31,7 @@ pub(crate) trait PairTest<T> {
 impl<T, A: Allocator> OpenBlock<T, A> {
     ghost use Rattle.thin_vec.specs.OpenBlock.Dedup.{TestsPairAt, TestsLast, TestsNext};
 
-    // Tests the item at index `k` of the remaining items against the item at index `k - 1`, and
-    // returns whether the item at index `k` is to be removed. `k` must not be 0.
+    // Tests the middle item at index `k` against the one before it.
     pub(crate) fn test_pair<J: PairTest<T>>(&mut self, k: usize, test: &mut J) -> bool
         requires nonzero { 0 < k }
         requires in_bounds { k < length self.old.rest }
@@ -51,8 +46,7 @@ impl<T, A: Allocator> OpenBlock<T, A> {
         test.test(&mut later[0], &mut kept[0])
     }
 
-    // Tests the item `later` against the last item that was kept. Returns whether `later` is to be
-    // removed. The kept item is not moved.
+    // Tests the item `later` against the last front item.
     pub(crate) fn test_last<J: PairTest<T>>(&mut self, later: &mut T, test: &mut J) -> bool
         requires nonempty { 0 < length self.old.front }
         requires callable { J.ready test.old }
@@ -64,8 +58,7 @@ impl<T, A: Allocator> OpenBlock<T, A> {
         test.test(later, self.block.slot_mut(self.front_end - 1))
     }
 
-    // Tests the first of the remaining items against the item `kept`, and returns whether the first
-    // of the remaining items is to be removed. Neither item is moved.
+    // Tests the first middle item against the item `kept`.
     pub(crate) fn test_next<J: PairTest<T>>(&mut self, kept: &mut T, test: &mut J) -> bool
         requires nonempty { 0 < length self.old.rest }
         requires callable { J.ready test.old }
@@ -81,9 +74,9 @@ impl<T, A: Allocator> OpenBlock<T, A> {
 impl<T, A: Allocator> OpenBlock<T, A> {
     ghost use Rattle.thin_vec.specs.OpenBlock.Dedup.{TestsPairsUpTo};
 
-    // Tests each remaining item except the first against the item before it. Stops at the first
-    // item that is to be removed, and returns its index among the remaining items. If no item is to
-    // be removed, returns the number of remaining items. No item is moved or dropped.
+    // Tests each middle item except the first against the item before it, up to the first that is
+    // to be removed. Returns the index of this item, or the number of middle items if all are to be
+    // kept.
     fn test_pairs<J: PairTest<T>>(&mut self, test: &mut J) -> usize
         requires nonempty { 0 < length self.old.rest }
         requires callable { J.ready test.old }
@@ -106,8 +99,9 @@ impl<T, A: Allocator> OpenBlock<T, A> {
 impl<T: Drop, A: Allocator> OpenBlock<T, A> {
     ghost use Rattle.thin_vec.specs.OpenBlock.Dedup.{DedupsRest, DedupsSome};
 
-    // Keeps the first remaining item. Tests each other remaining item against the last kept item
-    // before it, and drops the items that are to be removed.
+    // Keeps the first middle item, tests each other one against the last kept item before it, and
+    // drops those that are to be removed. Up to the first removal there is no gap, so the first
+    // loop moves nothing.
     pub(crate) fn dedup_rest<J: PairTest<T>>(&mut self, test: &mut J)
         requires nonempty { 0 < length self.old.rest }
         requires is_empty { self.old.front ≡ [] }
@@ -125,12 +119,12 @@ impl<T: Drop, A: Allocator> OpenBlock<T, A> {
         }
     }
 
-    // Tests the first remaining item against the last kept item. Appends it to the kept items, or
-    // drops it. If it is kept and the items are large, goes on with the items after it, up to the
-    // first item that is to be removed. Moves the items before that item together, and drops it.
+    // Tests the first middle item against the last kept item, and appends it to the front or drops
+    // it. If it is kept and the items are large, goes on up to the next item that is to be removed,
+    // which is dropped, and moves the items before that one together.
     //
-    // The first remaining item is taken out of the block before its test, because the block
-    // provides two mutable references only for adjacent items.
+    // The first middle item is taken out of the block before its test, because the block provides
+    // two mutable references only for adjacent items.
     fn dedup_next<J: PairTest<T>>(&mut self, test: &mut J)
         requires has_front { 0 < length self.old.front }
         requires nonempty { 0 < length self.old.rest }
@@ -138,8 +132,7 @@ impl<T: Drop, A: Allocator> OpenBlock<T, A> {
         requires callable { J.ready test.old }
         ensures deduped { DedupsSome J.tests test.old self.old test.new self.new }
 
-        // `dedup_rest` calls this function in a loop. The proof of the loop needs this clause
-        // and the next two.
+        // For the proof of the loop in `dedup_rest`.
         ensures has_front { 0 < length self.new.front }
         ensures decreases { length self.new.rest < length self.old.rest }
         ensures callable { J.ready test.new }

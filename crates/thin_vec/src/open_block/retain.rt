@@ -1,5 +1,5 @@
-//! Functions that test the items of a range one by one, and move the kept items down to the front of
-//! the block. `retain` and `extract_if` use them.
+//! Functions that test the items of a range one by one, and move the kept items down to the front
+//! of the block.
 ghost use Rattle.std.specs.Prelude.{◌≡◌, ◌↔◌, ◌+◌, ◌<◌, ◌≤◌, ◌==◌, ◌++◌, Bool, IsTrue, drop, length, take};
 ghost use Rattle.thin_block.specs.Cost.{add_moves};
 
@@ -7,19 +7,17 @@ use crate::open_block::OpenBlock;
 use std::alloc::Allocator;
 use thin_block::item_size;
 
-// If an item has at least this many bytes, the kept items that lie side by side are moved together.
-// Smaller items are moved one by one: moving them together was measured to cost `retain` up to twice
-// the instructions. From this size on it costs nothing.
+// The size of an item in bytes from which kept items that lie side by side are moved together.
+// Moving smaller items together was measured to cost `retain` up to twice the instructions.
 const LARGE: usize = 512;
 
 /// A test of one item. It decides whether the item is to be kept, and may write to the item.
 pub(crate) trait Test<T> {
     /// `tests s x b t y` holds if one call may return `b`, and change the state of the test from
-    /// `s` to `t` and the item from `x` to `y`. If `b` is true, the item is kept.
+    /// `s` to `t` and the item from `x` to `y`.
     ghost tests: { Self → T → Bool → Self → T → Type 0 };
 
-    /// `ready s` holds if the test can be called in the state `s` with any item. Each such call
-    /// leaves the test in a state that is ready again.
+    /// `ready s` holds if the test can be called in the state `s` with any item.
     ghost ready: { Self → Type 0 };
 
     /// Returns whether `item` is to be kept.
@@ -32,8 +30,7 @@ pub(crate) trait Test<T> {
 impl<T, A: Allocator> OpenBlock<T, A> {
     ghost use Rattle.thin_vec.specs.OpenBlock.Retain.{TestsAt, TestsUpTo};
 
-    // Tests the item at index `k` of the remaining items, and returns whether this item is to be
-    // kept. The item is not moved.
+    // Tests the middle item at index `k`, and returns whether it is to be kept.
     pub(crate) fn test<J: Test<T>>(&mut self, k: usize, test: &mut J) -> bool
         requires in_bounds { k < length self.old.rest }
         requires callable { J.ready test.old }
@@ -44,9 +41,8 @@ impl<T, A: Allocator> OpenBlock<T, A> {
         test.test(self.block.slot_mut(self.rest_start + k))
     }
 
-    // Tests the remaining items, and stops at the first item that is to be removed. Returns the
-    // index of this item among the remaining items. If there is no such item, returns the number of
-    // the remaining items. No item is moved.
+    // Tests the middle items up to the first that is to be removed. Returns the index of this item,
+    // or the number of middle items if all are to be kept.
     pub(crate) fn test_run<J: Test<T>>(&mut self, test: &mut J) -> usize
         requires callable { J.ready test.old }
         ensures tested { TestsUpTo J.tests result test.old self.old.rest test.new self.new.rest }
@@ -67,9 +63,8 @@ impl<T, A: Allocator> OpenBlock<T, A> {
 impl<T, A: Allocator> OpenBlock<T, A> {
     ghost use Rattle.thin_vec.specs.OpenBlock.Retain.{SeeksRejected};
 
-    // Tests the remaining items, in order, up to the first item that is to be removed. Returns
-    // whether there is such an item. Keeps the tested items before it, and moves them down if there
-    // is a gap.
+    // Tests the middle items up to the first that is to be removed, and appends those before it to
+    // the front. Returns whether there is an item to be removed.
     pub(crate) fn seek_rejected<J: Test<T>>(&mut self, test: &mut J) -> bool
         requires callable { J.ready test.old }
         ensures tested { SeeksRejected J.tests test.old self.old test.new self.new }
@@ -99,8 +94,8 @@ impl<T, A: Allocator> OpenBlock<T, A> {
 impl<T: Drop, A: Allocator> OpenBlock<T, A> {
     ghost use Rattle.thin_vec.specs.OpenBlock.Retain.{RetainsRest};
 
-    // Tests the remaining items, in order. Drops the items that are not kept, and appends the
-    // others to the front.
+    // Tests all middle items. Drops those that are not kept, and appends the others to the front.
+    // Up to the first removal there is no gap, so the first loop moves nothing.
     pub(crate) fn retain_rest<J: Test<T>>(&mut self, test: &mut J)
         requires no_gap { self.old.gap ≡ 0 }
         requires callable { J.ready test.old }
