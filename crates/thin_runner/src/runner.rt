@@ -9,7 +9,8 @@ use crate::judge::Judge;
 use crate::steps::Context;
 use std::alloc::Allocator;
 use std::marker::PhantomData;
-use thin_vec::{Growth, ThinVec, ThinVecError};
+use std::mem;
+use thin_vec::{Growth, Rejected, ThinVec, ThinVecError};
 
 // Returns whether `command` has neither an index nor a range, or has one that is in bounds.
 fn is_in_range<T, A: Allocator, G: Growth>(
@@ -55,21 +56,45 @@ pub fn step<T: Clone + Eq, A: Allocator + Copy, G: Growth, J: Judge<T>>(
         of: PhantomData,
     };
     match command {
-        Command::Push(value) => context.push(list, value),
-        Command::Pop => context.pop(list),
-        Command::Insert(index, value) => context.insert(list, index, value),
-        Command::Remove(index) => context.remove(list, index),
-        Command::SwapRemove(index) => context.swap_remove(list, index),
-        Command::Set(index, value) => context.set(list, index, value),
-        Command::Truncate(len) => context.truncate(list, len),
-        Command::Clear => context.clear(list),
-        Command::Reserve(additional) => context.reserve(list, additional),
-        Command::ReserveExact(additional) => context.reserve_exact(list, additional),
-        Command::ShrinkToFit => context.shrink_to_fit(list),
+        Command::Push(value) => match list.push(value) {
+            Ok(()) => Reply::Done,
+            Err(Rejected { value, cause }) => Reply::Returned(value, cause),
+        },
+        Command::Pop => Reply::Item(list.pop()),
+        Command::Insert(index, value) => match list.insert(index, value) {
+            Ok(()) => Reply::Done,
+            Err(Rejected { value, cause }) => Reply::Returned(value, cause),
+        },
+        Command::Remove(index) => Reply::Item(Some(list.remove(index))),
+        Command::SwapRemove(index) => Reply::Item(Some(list.swap_remove(index))),
+        Command::Set(index, value) => Reply::Item(Some(mem::replace(&mut list[index], value))),
+        Command::Truncate(len) => {
+            list.truncate(len);
+            Reply::Done
+        }
+        Command::Clear => {
+            list.clear();
+            Reply::Done
+        }
+        Command::Reserve(additional) => match list.reserve(additional) {
+            Ok(()) => Reply::Done,
+            Err(cause) => Reply::Refused(cause),
+        },
+        Command::ReserveExact(additional) => match list.reserve_exact(additional) {
+            Ok(()) => Reply::Done,
+            Err(cause) => Reply::Refused(cause),
+        },
+        Command::ShrinkToFit => match list.shrink_to_fit() {
+            Ok(()) => Reply::Done,
+            Err(cause) => Reply::Refused(cause),
+        },
         Command::Resize(len, value) => context.resize(list, len, value),
         Command::ExtendFromSlice(items) => context.extend_from_slice(list, items),
         Command::Extend(items, lower) => context.extend(list, items, lower),
-        Command::Append(other) => context.append(list, other),
+        Command::Append(mut other) => match list.append(&mut other) {
+            Ok(()) => Reply::Other(other, None),
+            Err(cause) => Reply::Other(other, Some(cause)),
+        },
         Command::SplitOff(at) => context.split_off(list, at),
         Command::Clone => context.clone(list),
         Command::Retain => context.retain(list),

@@ -1,6 +1,6 @@
-//! Implements the commands. There is one method for each command.
+//! Implements the commands whose proofs are written out, and `Drain`. The function `step` carries
+//! out the others itself.
 mod filters;
-mod items;
 mod many;
 mod ranges;
 mod room;

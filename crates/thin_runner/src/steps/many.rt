@@ -1,7 +1,6 @@
-//! Implements the commands that may add many items: `Resize`, `ExtendFromSlice`, `Extend` and
-//! `Append`.
+//! Implements the commands `Resize`, `ExtendFromSlice` and `Extend`, which may add many items.
 ghost use Rattle.thin_runner.specs.Steps.{Allows};
-ghost use Rattle.thin_runner.specs.declared.command.Command.TheVariants.{Resize, ExtendFromSlice, Extend, Append};
+ghost use Rattle.thin_runner.specs.declared.command.Command.TheVariants.{Resize, ExtendFromSlice, Extend};
 
 use crate::command::Reply;
 use crate::hinted::Hinted;
@@ -61,20 +60,6 @@ impl<T: Clone + Eq, A: Allocator + Copy, G: Growth, J: Judge<T>> Context<T, A, G
                     rest,
                 }
             }
-        }
-    }
-
-    pub(crate) fn append(
-        self,
-        list: &mut ThinVec<T, A, G>,
-        mut other: ThinVec<T, A, G>,
-    ) -> Reply<T, A, G>
-        ensures allowed { Allows T.is_clone T.is_infallible T.eq J.model G.rule T.row self.alloc
-            self.judge list.old (Append other) result list.new }
-    {
-        match list.append(&mut other) {
-            Ok(()) => Reply::Other(other, None),
-            Err(cause) => Reply::Other(other, Some(cause)),
         }
     }
 }

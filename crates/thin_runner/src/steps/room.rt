@@ -1,9 +1,7 @@
-//! Implements the commands `Reserve`, `ReserveExact` and `ShrinkToFit`, which change only the
-//! capacity. Also implements the commands `SplitOff` and `Clone`, which make a list without spare
-//! capacity.
+//! Implements the commands `SplitOff` and `Clone`, which make a list without spare capacity.
 ghost use Rattle.std.specs.Prelude.{◌≤◌, length};
 ghost use Rattle.thin_runner.specs.Steps.{Allows};
-ghost use Rattle.thin_runner.specs.declared.command.Command.TheVariants.{Reserve, ReserveExact, ShrinkToFit, SplitOff, Clone};
+ghost use Rattle.thin_runner.specs.declared.command.Command.TheVariants.{SplitOff, Clone};
 
 use crate::command::Reply;
 use crate::judge::Judge;
@@ -12,40 +10,6 @@ use std::alloc::Allocator;
 use thin_vec::{Growth, ThinVec};
 
 impl<T: Clone + Eq, A: Allocator + Copy, G: Growth, J: Judge<T>> Context<T, A, G, J> {
-    pub(crate) fn reserve(self, list: &mut ThinVec<T, A, G>, additional: usize) -> Reply<T, A, G>
-        ensures allowed { Allows T.is_clone T.is_infallible T.eq J.model G.rule T.row self.alloc
-            self.judge list.old (Reserve additional) result list.new }
-    {
-        match list.reserve(additional) {
-            Ok(()) => Reply::Done,
-            Err(cause) => Reply::Refused(cause),
-        }
-    }
-
-    pub(crate) fn reserve_exact(
-        self,
-        list: &mut ThinVec<T, A, G>,
-        additional: usize,
-    ) -> Reply<T, A, G>
-        ensures allowed { Allows T.is_clone T.is_infallible T.eq J.model G.rule T.row self.alloc
-            self.judge list.old (ReserveExact additional) result list.new }
-    {
-        match list.reserve_exact(additional) {
-            Ok(()) => Reply::Done,
-            Err(cause) => Reply::Refused(cause),
-        }
-    }
-
-    pub(crate) fn shrink_to_fit(self, list: &mut ThinVec<T, A, G>) -> Reply<T, A, G>
-        ensures allowed { Allows T.is_clone T.is_infallible T.eq J.model G.rule T.row self.alloc
-            self.judge list.old ShrinkToFit result list.new }
-    {
-        match list.shrink_to_fit() {
-            Ok(()) => Reply::Done,
-            Err(cause) => Reply::Refused(cause),
-        }
-    }
-
     pub(crate) fn split_off(self, list: &mut ThinVec<T, A, G>, at: usize) -> Reply<T, A, G>
         requires in_bounds { at ≤ length list.old.items }
         ensures allowed { Allows T.is_clone T.is_infallible T.eq J.model G.rule T.row self.alloc

@@ -1,42 +1,5 @@
--- Each arm of `step` calls one method, whose clause `allowed` is that of `step`.
+-- An arm of `step` that calls a method of `Context` has the clause `allowed` of this method.
 use Rattle.thin_runner.proofs.runner.step.Goals as goal
-
-pub returns-in-Push : goal.returns-in-Push
-returns-in-Push g c = record { allowed = rw c.in-Push.is c.push.ensures.allowed }
-
-pub returns-in-Pop : goal.returns-in-Pop
-returns-in-Pop g c = record { allowed = rw c.in-Pop.is c.pop.ensures.allowed }
-
-pub returns-in-Insert : goal.returns-in-Insert
-returns-in-Insert g c = record { allowed = rw c.in-Insert.is c.insert.ensures.allowed }
-
-pub returns-in-Remove : goal.returns-in-Remove
-returns-in-Remove g c = record { allowed = rw c.in-Remove.is c.remove.ensures.allowed }
-
-pub returns-in-SwapRemove : goal.returns-in-SwapRemove
-returns-in-SwapRemove g c = record { allowed = rw c.in-SwapRemove.is c.swap_remove.ensures.allowed }
-
-pub returns-in-Set : goal.returns-in-Set
-returns-in-Set g c = record { allowed = rw c.in-Set.is c.set.ensures.allowed }
-
-pub returns-in-Truncate : goal.returns-in-Truncate
-returns-in-Truncate g c = record { allowed = rw c.in-Truncate.is c.truncate.ensures.allowed }
-
-pub returns-in-Clear : goal.returns-in-Clear
-returns-in-Clear g c = record { allowed = rw c.in-Clear.is c.clear.ensures.allowed }
-
-pub returns-in-Reserve : goal.returns-in-Reserve
-returns-in-Reserve g c = record { allowed = rw c.in-Reserve.is c.reserve.ensures.allowed }
-
-pub returns-in-ReserveExact : goal.returns-in-ReserveExact
-returns-in-ReserveExact g c = record {
-  allowed = rw c.in-ReserveExact.is c.reserve_exact.ensures.allowed;
-}
-
-pub returns-in-ShrinkToFit : goal.returns-in-ShrinkToFit
-returns-in-ShrinkToFit g c = record {
-  allowed = rw c.in-ShrinkToFit.is c.shrink_to_fit.ensures.allowed;
-}
 
 pub returns-in-Resize : goal.returns-in-Resize
 returns-in-Resize g c = record { allowed = rw c.in-Resize.is c.resize.ensures.allowed }
@@ -48,9 +11,6 @@ returns-in-ExtendFromSlice g c = record {
 
 pub returns-in-Extend : goal.returns-in-Extend
 returns-in-Extend g c = record { allowed = rw c.in-Extend.is c.extend.ensures.allowed }
-
-pub returns-in-Append : goal.returns-in-Append
-returns-in-Append g c = record { allowed = rw c.in-Append.is c.append.ensures.allowed }
 
 pub returns-in-SplitOff : goal.returns-in-SplitOff
 returns-in-SplitOff g c = record { allowed = rw c.in-SplitOff.is c.split_off.ensures.allowed }
