@@ -214,7 +214,7 @@ fn show_replace(rt: &impl Print, alloc: Global) -> io::Result<()> {
     )?;
     show(rt, "replace_lines", lines)?;
     let mut names = ThinVec::from_array(alloc, [1, 4])?;
-    replace::insert_names(&mut names, 1, &[2, 3])?;
+    replace::insert_names(alloc, &mut names, 1, &[2, 3])?;
     show(rt, "insert_names", names)
 }
 

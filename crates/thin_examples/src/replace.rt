@@ -56,9 +56,10 @@ pub fn replace_lines<T: Drop, A: Allocator, G: Growth>(
 ///
 /// # Errors
 ///
-/// Fails if there is no room for the clones, or if a name cannot be cloned. On failure, the list
-/// keeps its old names, but its capacity may have grown.
+/// Fails if there is no room for the clones, or if a name cannot be cloned. On failure, the list is
+/// unchanged.
 pub fn insert_names<T: Clone, A: Allocator, G: Growth>(
+    alloc: A,
     list: &mut ThinVec<T, A, G>,
     at: usize,
     names: &[T],
@@ -66,9 +67,9 @@ pub fn insert_names<T: Clone, A: Allocator, G: Growth>(
     requires in_bounds { at ≤ length list.old.items }
     ensures items { OnOk result (ReplacesByClones T.is_clone list.old.items at at names.now
         list.new.items) }
-    ensures err { OnErr result (list.new.items ≡ list.old.items) }
+    ensures err { OnErr result (list.new ≡ list.old) }
 {
-    list.replace_range(at, at, names)
+    list.replace_range(alloc, at, at, names)
 }
 
 /// Replaces the third and the fourth of five numbers with three new numbers. Each new number is

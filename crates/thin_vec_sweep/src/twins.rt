@@ -265,7 +265,7 @@ impl Twins {
         let done = match call {
             25 => self
                 .list
-                .replace_range(start, end, items.as_slice())
+                .replace_range(alloc, start, end, items.as_slice())
                 .is_ok(),
             26 => self
                 .list

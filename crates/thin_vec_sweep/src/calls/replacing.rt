@@ -35,11 +35,12 @@ fn replace_range<T: Numbered, G: Growth, R: Abort>(rt: &R, case: &mut Case<T, G>
     let items = case.items(rt, case.replacements());
     case.begin("replace_range");
     assert!(rt; start <= end && end <= case.list.len());
-    let answer = case.list.replace_range(start, end, items.as_slice());
+    let alloc = &case.ledger.alloc;
+    let answer = case.list.replace_range(alloc, start, end, items.as_slice());
     let count = items.len();
     drop(items);
     answer?;
-    Ok(Due::NOTHING.clones(count))
+    Ok(Due::block_of(count).clones(count))
 }
 
 // The other list keeps its block.
