@@ -1,7 +1,7 @@
 -- These lemmas split the memory of a block into its header and its slots, and put these parts back
 -- together.
 use Rattle.std.proofs.Common.{◌≡◌, Bool, true, ℕ, Some, None, ◌+◌, ◌*◌, ◌<◌, List, [], ◌∷◌, ◌++◌, length, refl, sym, ap, subst, ◌∙◌, arith, w64, Option}
-use Rattle.thin_block.proofs.WalkPrelude.{Ura, Ty, Width, Args, w8, w16, w32, w128, a_type, dcons, dnil, ty_int, ty_array, size, align, align_w, align-bytes, size-raw, lone, cell_at, mem, Val, vstruct, vcons, vnil, bytes, ent, emp, sep, wand, id⊢, never, apply∗, Lft, GName, Share, Fml, ftrue, fsep, froom, flft, fbor, Logic, sem, ‵, ◌⊛◌, ◌$◌, ◌∵◌, !, qed, by, move, keep, drop, use0, use1, use2, split, split3, join, fsplit, fsplit3, fjoin, rewrite, keeps, assume, feq_i, feq_l, Item, Goal, Step, step, Seq, done, RattleType, param, bounded, Ptr, RawPtr, block_ptr, ptr_val, Struct, usize, shows, nothing, peeks, full_share, El, R, Al, type_size, type_align}
+use Rattle.thin_block.proofs.WalkPrelude.{Ura, Ty, Width, Args, w8, w16, w32, w128, a_type, dcons, dnil, ty_int, ty_array, size, align, align_w, align-bytes, size-raw, lone, cell_at, mem, Val, vstruct, vcons, vnil, bytes, ent, emp, sep, wand, id⊢, never, apply∗, Lft, GName, Share, Fml, ftrue, fsep, fat, froom, flft, fbor, vint, uint_in, uint_out, lies_at, Logic, sem, ‵, ◌⊛◌, ◌$◌, ◌∵◌, !, qed, by, move, keep, drop, use0, use1, use2, split, split3, join, fsplit, fsplit3, fjoin, rewrite, keeps, assume, feq_i, feq_l, Item, Goal, Step, step, Seq, done, RattleType, param, bounded, Ptr, RawPtr, block_ptr, ptr_val, Struct, usize, shows, nothing, peeks, full_share, El, R, Al, type_size, type_align}
 use mir.Syntax.{Tys, tcons, tnil}
 use mir.Raw.{raw}
 use prog.Memory.{up}
@@ -19,7 +19,7 @@ use denote.Struct.Lending.{lent_at}
 use denote.Steps.{opens, closes}
 use borrow.Author.Tests.{clash}
 use Rattle.std.specs.Option.{is_some}
-use Rattle.thin_block.specs.Ownership.{is_nonempty, fits_block, slots_own, unjoined_room, block_type, header_owns, block_owns}
+use Rattle.thin_block.specs.Ownership.{is_nonempty, fits_block, slots_own, unjoined_room, block_type, header_owns, header_room, dealloc_right, block_owns}
 use Rattle.thin_block.specs.Capacity.{block_align, block_bytes}
 use Rattle.thin_block.proofs.sizes.SizesLemmas.{fits_none}
 use Rattle.thin_block.specs.contracts.block.Block as block
@@ -122,6 +122,45 @@ module _ {M : Type 1} {𝓤 : Ura M} (𝓛 : Logic 𝓤) (R : RattleType) where
       rewrite ! 2 (λ (k : ℕ). ‵ (froom (items R c) b k)) (sym third) refl $
       move ! (2 ∷ 4 ∷ []) $ join ! $ move ! (2 ∷ 0 ∷ []) $ join ! $ move ! (1 ∷ 0 ∷ []) $ join ! $
       by ! (apply∗ 𝓤 rooms (H.room (block_type R c) b o))
+
+-- In this module, a block of `c` slots has the length `n`, and its header is at the offset `o` of
+-- the allocation `b`.
+module _ {M : Type 1} {𝓤 : Ura M} (𝓛 : Logic 𝓤) (t : Ty → Ptr → Fml) (R : RattleType)
+    (n c b o : ℕ) where
+  open 𝓛 use {H}
+
+  -- `Half at k` is one half of the header, at the offset `at`. It contains the number `k`.
+  abbrev Half : ℕ → ℕ → Fml
+  Half at k = fat full_share (ty_int w64) b at (vint w64 k)
+
+  -- Separates the memory of the header, which is unused from then on, from the right to free the
+  -- block.
+  pub header_unwritten : ent 𝓤 (sem 𝓛 (header_owns t R n c b o))
+      (sep 𝓤 (sem 𝓛 (header_room b o)) (sem 𝓛 (dealloc_right t R c b o)))
+  header_unwritten =
+      qed 𝓛 (‵ (header_owns t R n c b o) ∷ []) ∵ fsplit3 ! $
+      use1 𝓛 (‵ (Half o c)) (uint_out 𝓛 full_share w64 c b o) $
+      use1 𝓛 (‵ (froom (ty_int w64) b o)) (𝓛.laws.at_room (ty_int w64) b o (vint w64 c)) $
+      move ! (1 ∷ []) $ use1 𝓛 (‵ (Half (o + 8) n)) (uint_out 𝓛 full_share w64 n b (o + 8)) $
+      use1 𝓛 (‵ (froom (ty_int w64) b (o + 8)))
+      (𝓛.laws.at_room (ty_int w64) b (o + 8) (vint w64 n)) $
+      move ! (2 ∷ []) $ fsplit ! $ drop ! $ move ! (2 ∷ 1 ∷ []) $ fjoin ! $ done !
+
+  -- Joins the capacity and the length, which the code has written, with the right to free the
+  -- block.
+  pub header_written : fits_block R c ≡ true
+      → ent 𝓤 (sep 𝓤 (sem 𝓛 (Half o c))
+      (sep 𝓤 (sem 𝓛 (Half (8 + o) n)) (sem 𝓛 (dealloc_right t R c b o))))
+      (sem 𝓛 (header_owns t R n c b o))
+  header_written fits =
+      qed 𝓛 (‵ (Half o c) ∷ ‵ (Half (8 + o) n) ∷ ‵ (dealloc_right t R c b o) ∷ []) ∵
+      use1 𝓛 (‵ (lies_at usize full_share (block_ptr b o) c)) (uint_in 𝓛 full_share w64 c b o) $
+      move ! (1 ∷ []) $ rewrite ! 0 (λ (k : ℕ). ‵ (Half k n))
+      (let turned : 8 + o ≡ o + 8 = omega arith in turned) refl $
+      use1 𝓛 (‵ (lies_at usize full_share (block_ptr b (o + 8)) n))
+      (uint_in 𝓛 full_share w64 n b (o + 8)) $ move ! (2 ∷ []) $
+      feq_i ! Bool (fits_block R c) true fits $ fjoin ! $ move ! (1 ∷ 0 ∷ []) $ fjoin ! $
+      move ! (1 ∷ 0 ∷ []) $ fjoin ! $ done !
 
 -- `header t R n c a b o` states what a block with the length `n` and `c` slots for items of type
 -- `R` owns besides these slots. If the option `a` contains an allocator, the block owns its header

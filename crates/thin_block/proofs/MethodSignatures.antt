@@ -1,7 +1,7 @@
 -- These lemmas begin and end the proofs of methods that take `&mut self` or `&self`. They also say
 -- which arguments a method gives back to its caller.
 use Rattle.std.proofs.Common.{◌≡◌, true, ℕ, zero, suc, ◌+◌, ◌^◌, ◌<◌, List, [], ◌∷◌, length, refl, sym, w64, T}
-use Rattle.thin_block.proofs.WalkPrelude.{Ura, Fn, ty_int, Args, a_type, a_number, dcons, dnil, named, Val, vint, vptr, vunit, WT, has_ty, full_share, SProp, ent, sep, id⊢, Fml, Lft, Share, ftrue, fsep, feq, flft, fbor, Calls, Loops, Wp, WpFn, fact, tables, Logic, sem, Item, Goal, Seq, Sq, Step, step, ‵, raw, ◌⊛◌, prop, runs, at_ret, keep, ◌$◌, ◌∵◌, !, qed, move, use1, split, join, fsplit, fsplit3, fjoin, fjoin3, feq_i, rewrite, regoal, drop, enter, exec, env, yes, cell_at, mem, bounded, number, Laws, RattleType, owns, block_ptr, Slot, plain, types_at, nothing, heard, Stays, stay_ref, stay_dropped, Goes-ref, Goes-dropped, Al, El, R, Facts, Shown, after}
+use Rattle.thin_block.proofs.WalkPrelude.{Ura, Fn, ty_int, Args, a_type, a_number, dcons, dnil, named, Val, vint, vptr, vunit, WT, has_ty, full_share, SProp, ent, sep, id⊢, Fml, Lft, Share, ftrue, fsep, feq, flft, fbor, Calls, Loops, Wp, WpFn, fact, tables, Logic, sem, Item, Goal, Seq, Sq, Step, step, ‵, raw, ◌⊛◌, prop, runs, at_ret, keep, ◌$◌, ◌∵◌, !, qed, move, use1, split, join, fsplit, fsplit3, fjoin, fjoin3, feq_i, rewrite, regoal, drop, enter, exec, env, yes, cell_at, mem, bounded, number, Laws, RattleType, owns, usize, block_ptr, Slot, plain, types_at, nothing, heard, Stays, stay_ref, stay_dropped, Goes-ref, Goes-dropped, Al, El, R, Facts, Shown, after}
 use mir.Syntax.{Dict}
 use base.Stored.{Gv}
 use base.Fml.{fobs, fauth, fobor}
@@ -53,6 +53,10 @@ module _ {M : Type 1} {𝓤 : Ura M} {𝓛 : Logic 𝓤} {K : Type 0} {Γ : List
   heard_all k (φ ∷ ψ ∷ φs) next =
       use1 𝓛 (raw (fact 𝓤 φ) ⊛ raw (Facts 𝓤 (ψ ∷ φs))) (id⊢ 𝓤 _) $ split k $
       heard k φ (λ x. heard_all k (ψ ∷ φs) (λ xs. next (x, xs)))
+
+-- A contract says nothing about a number after the call.
+pub still : {M : Type 1} {𝓤 : Ura M} (𝓛 : Logic 𝓤) (n : ℕ) → Silent 𝓛 n (plain (λ _. usize)) yes
+still 𝓛 n κs x f = refl
 
 -- `ptr_of r` is the address to which the reference `r` points, as a machine value.
 abbrev pub ptr_of : {X : Type 0} → MutBor X → Val

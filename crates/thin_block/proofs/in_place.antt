@@ -1,2 +1,3 @@
 -- These are the lemma files about `src/in_place.rt`. Rattle includes this file automatically.
+pub mod ArrayMemory
 pub mod ResizedCall

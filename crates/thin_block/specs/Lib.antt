@@ -9,6 +9,7 @@ pub mod Slots
 pub mod Cost
 pub mod Ownership
 pub mod Words
+pub mod InPlace
 pub mod Block
 pub mod Lends
 pub mod Shifts

@@ -176,8 +176,8 @@ padded_right t τ s c b o = fex ℕ (λ start.
     fsep (feq ℕ (start + s) (o + 16)) (padded_right_at t τ s c b start o))
 
 -- `dealloc_right_if p t w τ s c b o` is the right to free a block of `c` slots for items of the
--- type `τ` and the size `s`. `p` says whether the block is padded. `w` says how its items form words if
--- it is not.
+-- type `τ` and the size `s`. `p` says whether the block is padded. `w` says how its items form
+-- words if it is not.
 abbrev pub dealloc_right_if : Bool → (Ty → Ptr → Fml) → Option (ℕ × ℕ) → Ty → ℕ → ℕ → ℕ → ℕ → Fml
 dealloc_right_if true t w τ s c b o = padded_right t τ s c b o
 dealloc_right_if false t w τ s c b o = dealloc_right_of t w τ c b o

@@ -5,10 +5,10 @@ ghost use Rattle.std.specs.Prelude.{◌≡◌, ◌+◌, ◌*◌, ◌/◌, ◌<�
 ghost use Rattle.std.specs.declared.option.Option.TheVariants.{Some};
 ghost use Rattle.std.specs.Int.{div_ceil};
 ghost use Rattle.std.specs.Mem.{type_size};
-ghost use Rattle.core.specs.Allocator.{FitsBlock, block_with_items, resized_if_ok};
 ghost use types.Logic.{sem};
 ghost use Rattle.thin_block.specs.Capacity.{Fits, in_words};
 ghost use Rattle.thin_block.specs.Cost.{add_realloc};
+ghost use Rattle.thin_block.specs.InPlace.{FitsGap, gapped_items, gapped_if_ok};
 ghost use Rattle.thin_block.specs.Slots.{IsPacked, empty_slots, write_slots, slot_range};
 
 use crate::block::Block;
@@ -18,32 +18,53 @@ use crate::words::{Word, make_words};
 use std::alloc::{AllocError, Allocator};
 use std::marker::PhantomData;
 use std::mem::replace;
+use std::ptr::copy_nonoverlapping;
 
 // The least total size of the items, in words of 8 bytes, for which the allocator resizes the
 // block, possibly in place. For fewer words, it is cheaper to allocate a new block.
 pub(crate) const LONG: usize = 32;
 
-// Resizes an allocation from `held` to `wanted` values of the type `T`. Calls `alloc.grow` if
-// `wanted` is greater than `held`, and `alloc.shrink` otherwise.
-pub(crate) unsafe fn grow_or_shrink<T, A: Allocator>(
+// Resizes an allocation from `held` to `wanted` values of the type `T`. It begins with a gap, which
+// is unused memory for `gap` values, and `len` values follow the gap. If the allocator fails, the
+// call fails, and the allocation is unchanged.
+//
+// While the allocator runs, the last values are stored in the gap. So the allocation begins with an
+// array of `len` values.
+#[inline(always)]
+pub(crate) unsafe fn resize_array<T, A: Allocator>(
     alloc: &A,
     start: *mut T,
+    gap: usize,
     len: usize,
     held: usize,
     wanted: usize,
 ) -> Result<*mut T, AllocError>
     ghost items: { List T }
-    requires fits { (len ≤ held) × ((len ≤ wanted)
-        × (FitsBlock T.row held × FitsBlock T.row wanted)) }
-    requires* memory { sem 𝓛 (block_with_items (A.dealloc_token alloc.now) T.row start len held
+    requires fits { FitsGap T.row gap len held wanted items }
+    requires* memory { sem 𝓛 (gapped_items (A.dealloc_token alloc.now) T.row start gap len held
         items) }
-    ensures* memory { sem 𝓛 (resized_if_ok (A.dealloc_token alloc.now) T.row start len held wanted
-        items result) }
+    ensures* memory { sem 𝓛 (gapped_if_ok (A.dealloc_token alloc.now) T.row start gap len held
+        wanted items result) }
 {
-    if held < wanted {
-        return unsafe { alloc.grow(start, len, held, wanted) };
+    unsafe {
+        let last = start.add(len);
+        copy_nonoverlapping(last as *const T, start, gap);
+        let resized = if held < wanted {
+            alloc.grow(start, len, held, wanted)
+        } else {
+            alloc.shrink(start, len, held, wanted)
+        };
+        match resized {
+            Ok(start) => {
+                copy_nonoverlapping(start as *const T, start.add(len), gap);
+                Ok(start)
+            }
+            Err(refused) => {
+                copy_nonoverlapping(start as *const T, last, gap);
+                Err(refused)
+            }
+        }
     }
-    unsafe { alloc.shrink(start, len, held, wanted) }
 }
 
 impl<T, A: Allocator> Block<T, A> {
@@ -139,14 +160,8 @@ impl<T, A: Allocator> Block<T, A> {
         } = self;
         unsafe {
             make_words(at.add(HEADER_WORDS) as *mut [T; M], count);
-            let first = at as *mut [Word<T, M>; K];
-            let last = (at as *mut Word<T, M>).add(count) as *mut [Word<T, M>; K];
-            first.write(last.read());
-            match grow_or_shrink(alloc, at as *mut Word<T, M>, count, held, wanted) {
+            match resize_array(alloc, at as *mut Word<T, M>, K, count, held, wanted) {
                 Ok(start) => {
-                    let first = start as *mut [Word<T, M>; K];
-                    let last = start.add(count) as *mut [Word<T, M>; K];
-                    last.write(first.read());
                     let at = start as *mut usize;
                     *at = cap;
                     *at.add(1) = len;
@@ -157,7 +172,6 @@ impl<T, A: Allocator> Block<T, A> {
                     })
                 }
                 Err(_refused) => {
-                    last.write(first.read());
                     *at = old;
                     *at.add(1) = len;
                     Err(Block {

@@ -13,7 +13,7 @@ ghost use Rattle.thin_block.specs.Slots.{IsPacked, empty_slots, write_slots, slo
 
 use crate::block::Block;
 use crate::errors::ThinVecError;
-use crate::in_place::grow_or_shrink;
+use crate::in_place::resize_array;
 use crate::sizes::{HEADER, HEADER_WORDS, item_size};
 use std::alloc::{AllocError, Allocator};
 use std::marker::PhantomData;
@@ -176,14 +176,8 @@ impl<T, A: Allocator> Block<T, A> {
         unsafe {
             let end = (at.add(HEADER_WORDS) as *mut T).add(old) as *mut *mut T;
             let start = *end;
-            let first = start as *mut [T; 1];
-            let last = start.add(len) as *mut [T; 1];
-            first.write(last.read());
-            match grow_or_shrink(alloc, start, len, held, wanted) {
+            match resize_array(alloc, start, 1, len, held, wanted) {
                 Ok(start) => {
-                    let first = start as *mut [T; 1];
-                    let last = start.add(len) as *mut [T; 1];
-                    last.write(first.read());
                     let at = (start as *mut u8).add(front) as *mut usize;
                     *at = cap;
                     *at.add(1) = len;
@@ -196,7 +190,6 @@ impl<T, A: Allocator> Block<T, A> {
                     })
                 }
                 Err(_refused) => {
-                    last.write(first.read());
                     *at = old;
                     *at.add(1) = len;
                     *end = start;

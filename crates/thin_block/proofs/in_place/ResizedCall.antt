@@ -1,19 +1,13 @@
--- These lemmas verify a call of the function `grow_or_shrink`, which grows or shrinks a block. They
--- state what the caller owns before and after the call.
-use Rattle.std.proofs.Common.{ℕ, ◌≤◌, List, [], ◌∷◌, refl, w64, ◌^◌, ◌<◌}
-use Rattle.thin_block.proofs.WalkPrelude.{Ura, Val, vint, vptr, SProp, ent, sep, ex, emp, never, id⊢, fst∗, Lft, Share, Fml, ftrue, ffalse, fsep, flft, ◌⊑◌, Fun, fact, fact_i, Memory, Routine, Logic, sem, ‵, raw, ◌⊛◌, exists, later, pick, updating, await, ◌$◌, ◌∵◌, !, qed, move, keep, drop, use0, use1, use2, split, split3, join, fjoin, feq_i, flt_i, done, block_ptr, null_ptr, nothing, triple_of, array_of, block_with_items, Al, token, El, R, el_x}
+-- These lemmas verify a call of the function `resize_array`. They state what the caller owns before
+-- and after the call.
+use Rattle.std.proofs.Common.{ℕ, List, [], ◌∷◌, refl, w64, ◌^◌, ◌<◌}
+use Rattle.thin_block.proofs.WalkPrelude.{Ura, Val, vint, vptr, SProp, ent, sep, ex, emp, never, id⊢, Lft, Share, Fml, ftrue, fsep, flft, ◌⊑◌, Fun, fact, fact_i, Memory, Routine, Logic, sem, ‵, raw, ◌⊛◌, exists, later, pick, updating, await, ◌$◌, ◌∵◌, !, qed, move, keep, drop, use0, use1, use2, split, split3, join, fjoin, feq_i, flt_i, done, block_ptr, nothing, triple_of, Al, token, El, R, el_x}
 use types.Kit.{now as at_once}
 use denote.Triple.Statement.{Contract}
-use Rattle.core.specs.Allocator.{FitsBlock, resized_if_ok}
 use Rattle.core.proofs.alloc.Calls.{seen, Answer}
-use Rattle.core.proofs.alloc.Resizes.{Sizes, Flagged, by_flag}
-use Rattle.thin_block.specs.contracts.in_place.grow_or_shrink as F
-
--- `Sized E len held wanted` holds if `len` items fit into memory blocks for `held` and for `wanted`
--- items, and both memory blocks are small enough to be allocated.
-abbrev pub Sized : El → Sizes
-Sized E len held wanted = (len ≤ held) × ((len ≤ wanted)
-    × (FitsBlock (R E) held × FitsBlock (R E) wanted))
+use Rattle.core.proofs.alloc.Resizes.{Flagged, by_flag}
+use Rattle.thin_block.specs.InPlace.{FitsGap, gapped_items, gapped_if_ok}
+use Rattle.thin_block.specs.contracts.in_place.resize_array as F
 
 module _ (E : El) (Y : Al) {M : Type 1} {𝓤 : Ura M} (𝓛 : Logic 𝓤) (at_mem : Memory → SProp 𝓤)
     (run : Routine → Fun 𝓤) where
@@ -23,20 +17,23 @@ module _ (E : El) (Y : Al) {M : Type 1} {𝓤 : Ura M} (𝓛 : Logic 𝓤) (at_m
   Resizing = triple_of 𝓛 (F.signature E.row Y.row) (F.spec E.row Y.row Y.g Y.d Y.drops 𝓛 at_mem run)
 
   module _ (κ κT κA : Lft) (q qT qA : Share) (out : κ ⊑ κA) (p : ℕ × ℕ) (a : Y.row.Denot)
-      (b o len held wanted : ℕ) (xs : List (el_x E)) where
-    -- `at_resizing` contains the ghost arguments of a call of `grow_or_shrink`.
+      (b o gap len held wanted : ℕ) (xs : List (el_x E)) where
+    -- `at_resizing` contains the ghost arguments of a call of `resize_array`.
     abbrev pub at_resizing : Resizing.Ghost
     at_resizing = (
       (
         (κ, (κT, (κA, tt))),
         (q, (qT, (qA, tt))),
         (out, tt),
-        (record { ref_ptr = p; now = a }, (block_ptr b o, (len, (held, (wanted, tt))))),
+        (record { ref_ptr = p; now = a }, (block_ptr b o, (gap, (len, (held, (wanted, tt)))))),
         (
           vptr p.0 p.1 ∷ [],
           (
             vptr b o ∷ [],
-            (vint w64 len ∷ [], (vint w64 held ∷ [], (vint w64 wanted ∷ [], tt))),
+            (
+              vint w64 gap ∷ [],
+              (vint w64 len ∷ [], (vint w64 held ∷ [], (vint w64 wanted ∷ [], tt))),
+            ),
           ),
         ),
       ),
@@ -44,20 +41,21 @@ module _ (E : El) (Y : Al) {M : Type 1} {𝓤 : Ura M} (𝓛 : Logic 𝓤) (at_m
     )
 
     abbrev Block : Fml
-    Block = block_with_items (token Y a) (R E) (block_ptr b o) len held xs
+    Block = gapped_items (token Y a) (R E) (block_ptr b o) gap len held xs
 
-    -- `leaves r` states what the caller owns after the call to `grow_or_shrink` has returned `r`.
+    -- `leaves r` states what the caller owns after the call to `resize_array` has returned `r`.
     abbrev pub leaves : Answer.Denot → Fml
-    leaves = resized_if_ok (token Y a) (R E) (block_ptr b o) len held wanted xs
+    leaves = gapped_if_ok (token Y a) (R E) (block_ptr b o) gap len held wanted xs
 
-    pub Resizing-goes : κT ⊑ E.row.lives → κA ⊑ Y.row.lives → Sized E len held wanted
-        → len < 2 ^ 64 → held < 2 ^ 64 → wanted < 2 ^ 64
+    pub Resizing-goes : κT ⊑ E.row.lives → κA ⊑ Y.row.lives
+        → FitsGap (R E) gap len held wanted xs → gap < 2 ^ 64 → len < 2 ^ 64 → held < 2 ^ 64
+        → wanted < 2 ^ 64
         → ent 𝓤 (sep 𝓤 (sem 𝓛 Block) (sep 𝓤 (sem 𝓛 (seen Y κ p a))
         (sep 𝓤 (A.lft κ q) (sep 𝓤 (A.lft κT qT) (A.lft κA qA))))) (Resizing.pre at_resizing)
-    Resizing-goes leT leA sizes fl fh fw =
+    Resizing-goes leT leA fits fg fl fh fw =
         qed 𝓛 (‵ Block ∷ ‵ (seen Y κ p a) ∷ ‵ (flft κ q) ∷ ‵ (flft κT qT) ∷ ‵ (flft κA qA) ∷ []) ∵
-        use0 𝓛 (raw (fact 𝓤 (Sized E len held wanted)))
-        (fact_i 𝓤 (Sized E len held wanted) (emp 𝓤) sizes) $ join ! $
+        use0 𝓛 (raw (fact 𝓤 (FitsGap (R E) gap len held wanted xs)))
+        (fact_i 𝓤 (FitsGap (R E) gap len held wanted xs) (emp 𝓤) fits) $ join ! $
         use0 𝓛 (raw (fact 𝓤 (κA ⊑ Y.row.lives))) (fact_i 𝓤 (κA ⊑ Y.row.lives) (emp 𝓤) leA) $
         join ! $
         use0 𝓛 (raw (fact 𝓤 (κT ⊑ E.row.lives))) (fact_i 𝓤 (κT ⊑ E.row.lives) (emp 𝓤) leT) $
@@ -68,6 +66,8 @@ module _ (E : El) (Y : Al) {M : Type 1} {𝓤 : Ura M} (𝓛 : Logic 𝓤) (at_m
         feq_i ! (List Val) (vint w64 held ∷ []) (vint w64 held ∷ []) refl $ fjoin ! $ fjoin ! $
         flt_i ! len (2 ^ 64) fl $
         feq_i ! (List Val) (vint w64 len ∷ []) (vint w64 len ∷ []) refl $ fjoin ! $ fjoin ! $
+        flt_i ! gap (2 ^ 64) fg $
+        feq_i ! (List Val) (vint w64 gap ∷ []) (vint w64 gap ∷ []) refl $ fjoin ! $ fjoin ! $
         feq_i ! (List Val) (vptr b o ∷ []) (vptr b o ∷ []) refl $ fjoin ! $ move ! (2 ∷ []) $
         feq_i ! (List Val) (vptr p.0 p.1 ∷ []) (vptr p.0 p.1 ∷ []) refl $ fjoin ! $ fjoin ! $
         -- The context is now: the arguments; one entry for the required facts and the memory of the
@@ -82,11 +82,10 @@ module _ (E : El) (Y : Al) {M : Type 1} {𝓤 : Ura M} (𝓛 : Logic 𝓤) (at_m
         qed 𝓛 (raw (Resizing.post at_resizing v) ∷ []) ∵ updating ! $
         use1 𝓛 (later (exists (λ (r : Answer.Denot).
         ((‵ (flft κ q) ⊛ ‵ (flft κT qT) ⊛ ‵ (flft κA qA) ⊛ ‵ ftrue) ⊛ ‵ (Answer.own_val r (v ∷ [])))
-        ⊛ exists (λ (ws : Unit {0} × (Unit {0} × (Unit {0} × (Unit {0} × (Unit {0} × Unit {0}))))).
-        ‵
-        (fsep ftrue (fsep ftrue (fsep ftrue (fsep ftrue (fsep ftrue ftrue))))) ⊛ ‵ (leaves r)))))
+        ⊛ exists (λ (ws : Unit {0} × (Unit {0} × (Unit {0} × (Unit {0} × (Unit {0} × (Unit {0}
+        × Unit {0})))))). ‵ (fsep ftrue (fsep ftrue (fsep ftrue (fsep ftrue (fsep ftrue
+        (fsep ftrue ftrue)))))) ⊛ ‵ (leaves r)))))
         (id⊢ 𝓤 _) $ await ! tt $ pick ! (λ r. split ! $ move ! (1 ∷ []) $ pick ! (λ ws. split ! $
         drop ! $ move ! (1 ∷ []) $ split ! $ split3 ! $ move ! (3 ∷ 4 ∷ []) $
-        use2 𝓛 (raw (ex 𝓤 (Flagged 𝓛 leaves v))) (by_flag 𝓛 leaves
-        (fst∗ 𝓤 (never 𝓤) (sem 𝓛 (fsep ffalse (token Y a (array_of (R E) wanted) null_ptr)))) v r) $
+        use2 𝓛 (raw (ex 𝓤 (Flagged 𝓛 leaves v))) (by_flag 𝓛 leaves (id⊢ 𝓤 (never 𝓤)) v r) $
         move ! (3 ∷ []) $ split ! $ keep ! (2 ∷ 3 ∷ 4 ∷ 0 ∷ []) $ at_once ! $ done !))

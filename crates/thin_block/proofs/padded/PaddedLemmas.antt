@@ -56,7 +56,6 @@ eight_divides w128 h = tt
 pub record InEights (s a n : ℕ) : Type 0 where
   pub size : (n + 2) * 8 ≡ s
   pub align : Dv 8 a
-  pub some : 0 < n
 
 -- `pieces s` is the number of pieces of 8 bytes that an item of the size `s` takes beyond the 16
 -- bytes of a header.
@@ -73,7 +72,7 @@ in_eights R c e =
     let whole = dv→ 8 (type_size R)
     (dv_trans 8 (type_align R) (type_size R) eight (align_size (layout R))) in
     let wide = h.wide in
-    record { size = omega arith; align = eight; some = omega arith }
+    record { size = omega arith; align = eight }
 
 -- Blocks whose items form words are not padded.
 pub words_unpadded : (R : RattleType) (m k c : ℕ) → in_words (type_size R) ≡ Some (m, k)

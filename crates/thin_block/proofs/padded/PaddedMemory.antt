@@ -1,7 +1,7 @@
 -- These lemmas convert the memory of an item into memory for the padding and the header of a block,
 -- or for the address of an allocation, and back.
-use Rattle.std.proofs.Common.{◌≡◌, true, ℕ, suc, Some, None, ◌+◌, ◌*◌, List, [], ◌∷◌, ◌++◌, length, refl, sym, ap, subst, ◌∙◌, arith, w64, append_assoc, Bool, Option}
-use Rattle.thin_block.proofs.WalkPrelude.{length-append, Ura, ent, sep, apply∗, full_share, Fml, fsep, fat, froom, feq, Ty, ty_int, ty_array, size, align, size-raw, vint, uint_out, usize, lies_at, Logic, sem, ‵, ◌⊛◌, ◌$◌, ◌∵◌, !, qed, by, move, keep, drop, use0, use1, use2, use3, split, split3, fsplit, fsplit3, fjoin, rewrite, keeps, assume, done, nothing, feq_i, feq_l, lone, Ptr, block_ptr, RattleType, El, R, el_x, elτ, array_of, type_size, type_align}
+use Rattle.std.proofs.Common.{◌≡◌, true, ℕ, suc, Some, None, ◌+◌, ◌-◌, ◌*◌, List, [], ◌∷◌, ◌++◌, length, refl, sym, ap, subst, ◌∙◌, arith, w64, append_assoc, Bool, Option}
+use Rattle.thin_block.proofs.WalkPrelude.{length-append, Ura, ent, sep, apply∗, Fml, fsep, froom, feq, Ty, ty_int, ty_array, size, align, size-raw, Logic, sem, ‵, ◌⊛◌, ◌$◌, ◌∵◌, !, qed, by, move, keep, use1, use2, split, split3, fsplit, fsplit3, fjoin, fjoin3, rewrite, keeps, assume, done, nothing, feq_i, feq_l, lone, Ptr, block_ptr, RattleType, El, R, el_x, elτ, array_of, type_size, type_align}
 use Rattle.std.proofs.lemmas.List.{length-map, length-replicate, replicate-append-replicate}
 use mir.Syntax.{ty_ptr}
 use prog.RawLaws.{align-raw}
@@ -9,11 +9,12 @@ use prog.Align.{Dv}
 use base.Fml.{fwand}
 use base.Logic.{guard, ex}
 use types.Kit.{fpick, fpack, check, show}
-use denote.RawPtr.Room.{past, room_cut, room_glue}
-use Rattle.thin_block.specs.Ownership.{erased_type, words_of, header_room, pads, padded_type, end_of, padded_right_at, dealloc_right_if, header_owns, fits_block, slots_own}
+use Rattle.thin_block.specs.Ownership.{erased_type, words_of, header_room, pads, padded_type, end_of, padded_right_at, dealloc_right, dealloc_right_if, header_owns, slots_own}
+use Rattle.thin_block.specs.InPlace.{gapped_items}
 use Rattle.thin_block.specs.Slots.{filled_slots, empty_slots}
-use Rattle.thin_block.proofs.SlotMemory.{Slot, cut, glue, to_room, of_room}
-use Rattle.thin_block.proofs.words.WordRooms.{past_is}
+use Rattle.thin_block.proofs.HeaderMemory.{header_unwritten}
+use Rattle.thin_block.proofs.SlotMemory.{Slot, cut, glue, to_raw, of_raw}
+use Rattle.thin_block.proofs.words.WordRooms.{front_out}
 use Rattle.thin_block.proofs.padded.PaddedLemmas.{InEights, in_eights, pieces}
 
 -- `half` is the type of one half of the header. Both the capacity and the length have this type.
@@ -23,52 +24,6 @@ half = ty_int w64
 module _ {M : Type 1} {𝓤 : Ura M} (𝓛 : Logic 𝓤) (τ : Ty) (b n : ℕ)
     (hd : InEights (size τ) (align τ) n) where
   open 𝓛 use {H}
-
-  abbrev all : Ty
-  all = ty_array half (n + 2)
-
-  abbrev two : Ty
-  two = ty_array half 2
-
-  module _ (start at : ℕ) (place : start + size τ ≡ at + 16) where
-    after_front : past half n start ≡ at
-    after_front = let is = past_is half n start in let whole = hd.size in omega arith
-
-    abbrev Header : Fml
-    Header = fwand (header_room b at) (froom τ b start)
-
-    -- Splits memory for an item into the two halves of a header at its end, and the right to
-    -- convert them back.
-    pub front_out : ent 𝓤 (H.room τ b start)
-        (sep 𝓤 (H.room half b at) (sep 𝓤 (H.room half b (at + 8)) (sem 𝓛 Header)))
-    front_out =
-        qed 𝓛 (‵ (froom τ b start) ∷ []) ∵
-        use1 𝓛 (‵ (froom all b start) ⊛ ‵ (fwand (froom all b start) (froom τ b start)))
-        (𝓛.laws.room_as τ all b start hd.size hd.align) $ split ! $
-        use1 𝓛 (‵ (froom (ty_array half n) b start) ⊛ ‵ (froom two b (past half n start)))
-        (room_cut 𝓛 half n 2 b start) $ split ! $ move ! (1 ∷ []) $
-        rewrite ! 0 (λ (k : ℕ). ‵ (froom two b k)) after_front refl $
-        use1 𝓛 (‵ (froom half b at) ⊛ ‵ (froom (ty_array half 1) b (at + 8)))
-        (𝓛.laws.room_uncons half 1 b at) $ split ! $ move ! (1 ∷ []) $
-        use1 𝓛 (‵ (froom half b (at + 8)) ⊛ ‵ (froom (ty_array half 0) b (at + 8 + 8)))
-        (𝓛.laws.room_uncons half 0 b (at + 8)) $ split ! $ move ! (2 ∷ 0 ∷ 3 ∷ 4 ∷ []) $
-        keeps ! $ keeps ! $ keep ! (0 ∷ 1 ∷ []) $
-        -- The context is now: memory for the padding; the right to convert the whole back.
-        assume {P = H.room τ b start} ! (‵ (header_room b at)) $ fsplit ! $
-        use0 𝓛 (‵ (froom (ty_array half 0) b (at + 8 + 8)))
-        (𝓛.laws.room_nil half b (at + 8 + 8)) $ move ! (2 ∷ 0 ∷ []) $
-        use2 𝓛 (‵ (froom (ty_array half 1) b (at + 8))) (𝓛.laws.room_cons half 0 b (at + 8)) $
-        move ! (1 ∷ 0 ∷ []) $ use2 𝓛 (‵ (froom two b at)) (𝓛.laws.room_cons half 1 b at) $
-        rewrite ! 0 (λ (k : ℕ). ‵ (froom two b k)) (sym after_front) refl $
-        move ! (1 ∷ 0 ∷ []) $ use2 𝓛 (‵ (froom all b start)) (room_glue 𝓛 half n 2 b start) $
-        by ! (apply∗ 𝓤 (H.room all b start) (H.room τ b start))
-
-    -- Undoes `front_out`.
-    pub front_in : ent 𝓤 (sep 𝓤 (H.room half b at) (sep 𝓤 (H.room half b (at + 8)) (sem 𝓛 Header)))
-        (H.room τ b start)
-    front_in =
-        qed 𝓛 (‵ (froom half b at) ∷ ‵ (froom half b (at + 8)) ∷ ‵ Header ∷ []) ∵
-        fjoin ! $ by ! (apply∗ 𝓤 (sem 𝓛 (header_room b at)) (H.room τ b start))
 
   module _ (o : ℕ) where
     abbrev pointers : Ty
@@ -114,7 +69,6 @@ module _ {M : Type 1} {𝓤 : Ura M} (𝓛 : Logic 𝓤) (E : El) (b c : ℕ) (p
         record {
           size = h.size ∙ sym (size-raw (elτ E));
           align = subst (λ (a : ℕ). Dv 8 a) (sym (align-raw (elτ E))) h.align;
-          some = h.some;
         }
 
     -- Splits memory for an item into memory for an address, as `address_out` does.
@@ -123,14 +77,8 @@ module _ {M : Type 1} {𝓤 : Ura M} (𝓛 : Logic 𝓤) (E : El) (b c : ℕ) (p
     item_address_out o = address_out 𝓛 τ' b (pieces s) hd' o
 
     module _ (start o : ℕ) (place : start + s ≡ o + 16) where
-      abbrev end : ℕ
-      end = end_of s c o
-
       abbrev Header' : Fml
       Header' = fwand (header_room b o) (froom τ' b start)
-
-      abbrev Address : Fml
-      Address = fwand (froom ty_ptr b end) (froom τ' b end)
 
       place' : start + size τ' ≡ o + 16
       place' = (λ i. start + size-raw (elτ E) i) ∙ place
@@ -139,65 +87,6 @@ module _ {M : Type 1} {𝓤 : Ura M} (𝓛 : Logic 𝓤) (E : El) (b c : ℕ) (p
       pub item_front_out : ent 𝓤 (H.room τ' b start)
           (sep 𝓤 (H.room half b o) (sep 𝓤 (H.room half b (o + 8)) (sem 𝓛 Header')))
       item_front_out = front_out 𝓛 τ' b (pieces s) hd' start o place'
-
-      after_slots : past τ' c (o + 16) ≡ end
-      after_slots =
-          let is = past_is τ' c (o + 16) in
-          let same : c * size τ' ≡ c * s = ap (λ (k : ℕ). c * k) (size-raw (elτ E)) in
-          omega arith
-
-      -- Splits the memory of a padded block into its parts, with the rights to join them again.
-      pub padded_out : ent 𝓤 (H.room (padded_type τ' c) b start)
-          (sep 𝓤 (H.room half b o) (sep 𝓤 (H.room half b (o + 8))
-          (sep 𝓤 (H.room (array_of (R E) c) b (o + 16)) (sep 𝓤 (H.room ty_ptr b end)
-          (sep 𝓤 (sem 𝓛 Header') (sem 𝓛 Address))))))
-      padded_out =
-          qed 𝓛 (‵ (froom (padded_type τ' c) b start) ∷ []) ∵
-          rewrite ! 0 (λ (k : ℕ). ‵ (froom (ty_array τ' k) b start)) {x = suc (c + 1)}
-          (omega arith) refl $
-          use1 𝓛 (‵ (froom τ' b start) ⊛ ‵ (froom (ty_array τ' (c + 1)) b (start + size τ')))
-          (𝓛.laws.room_uncons τ' (c + 1) b start) $ split ! $
-          use1 𝓛 (‵ (froom half b o) ⊛ ‵ (froom half b (o + 8)) ⊛ ‵ Header')
-          item_front_out $ split3 ! $ move ! (3 ∷ []) $
-          rewrite ! 0 (λ (k : ℕ). ‵ (froom (ty_array τ' (c + 1)) b k)) place' refl $
-          use1 𝓛 (‵ (froom (ty_array τ' c) b (o + 16)) ⊛ ‵
-          (froom (ty_array τ' 1) b (past τ' c (o + 16))))
-          (room_cut 𝓛 τ' c 1 b (o + 16)) $ split ! $ move ! (1 ∷ []) $
-          rewrite ! 0 (λ (k : ℕ). ‵ (froom (ty_array τ' 1) b k)) after_slots refl $
-          use1 𝓛 (‵ (froom τ' b end) ⊛ ‵ (froom (ty_array τ' 0) b (end + size τ')))
-          (𝓛.laws.room_uncons τ' 0 b end) $ split ! $
-          use1 𝓛 (‵ (froom ty_ptr b end) ⊛ ‵ Address)
-          (item_address_out end) $ split ! $
-          -- The context is now: memory for the address; the right to convert it back; memory for no
-          -- items; memory for the slots; memory for the capacity; memory for the length; the right
-          -- to convert the header back.
-          keep ! (4 ∷ 5 ∷ 3 ∷ 0 ∷ 6 ∷ 1 ∷ []) $ done !
-
-      -- Undoes `padded_out`.
-      pub padded_in : ent 𝓤 (sep 𝓤 (H.room half b o) (sep 𝓤 (H.room half b (o + 8))
-          (sep 𝓤 (H.room (array_of (R E) c) b (o + 16)) (sep 𝓤 (H.room ty_ptr b end)
-          (sep 𝓤 (sem 𝓛 Header') (sem 𝓛 Address))))))
-          (H.room (padded_type τ' c) b start)
-      padded_in =
-          qed 𝓛 (‵ (froom half b o) ∷ ‵ (froom half b (o + 8)) ∷ ‵
-          (froom (array_of (R E) c) b (o + 16)) ∷ ‵ (froom ty_ptr b end) ∷ ‵ Header' ∷ ‵ Address
-          ∷ []) ∵
-          move ! (3 ∷ 5 ∷ []) $ use2 𝓛 (‵ (froom τ' b end))
-          (apply∗ 𝓤 (H.room ty_ptr b end) (H.room τ' b end)) $
-          use0 𝓛 (‵ (froom (ty_array τ' 0) b (end + size τ')))
-          (𝓛.laws.room_nil τ' b (end + size τ')) $ move ! (1 ∷ 0 ∷ []) $
-          use2 𝓛 (‵ (froom (ty_array τ' 1) b end)) (𝓛.laws.room_cons τ' 0 b end) $
-          rewrite ! 0 (λ (k : ℕ). ‵ (froom (ty_array τ' 1) b k)) (sym after_slots) refl $
-          move ! (3 ∷ 0 ∷ []) $ use2 𝓛 (‵ (froom (ty_array τ' (c + 1)) b (o + 16)))
-          (room_glue 𝓛 τ' c 1 b (o + 16)) $
-          rewrite ! 0 (λ (k : ℕ). ‵ (froom (ty_array τ' (c + 1)) b k)) (sym place') refl $
-          move ! (1 ∷ 2 ∷ 3 ∷ []) $ use3 𝓛 (‵ (froom τ' b start))
-          (front_in 𝓛 τ' b (pieces s) hd' start o place') $
-          use2 𝓛 (‵ (froom (ty_array τ' (suc (c + 1))) b start))
-          (𝓛.laws.room_cons τ' (c + 1) b start) $
-          rewrite ! 0 (λ (k : ℕ). ‵ (froom (ty_array τ' k) b start)) {x = c + 2} (omega arith)
-          refl $
-          done !
 
     module _ (t : Ty → Ptr → Fml) (n o : ℕ) where
       -- `Opened start` is what a padded block owns besides its slots, if its memory begins at the
@@ -209,37 +98,25 @@ module _ {M : Type 1} {𝓤 : Ura M} (𝓛 : Logic 𝓤) (E : El) (b c : ℕ) (p
       pub padded_apart : ent 𝓤 (sem 𝓛 (header_owns t (R E) n c b o))
           (ex 𝓤 (λ (start : ℕ). guard 𝓤 (start + s ≡ o + 16) (sem 𝓛 (Opened start))))
       padded_apart =
-          qed 𝓛 (‵ (header_owns t (R E) n c b o) ∷ []) ∵ fsplit3 ! $
-          use1 𝓛 (‵ (fat full_share half b o (vint w64 c))) (uint_out 𝓛 full_share w64 c b o) $
-          use1 𝓛 (‵ (froom half b o)) (𝓛.laws.at_room half b o (vint w64 c)) $ move ! (1 ∷ []) $
-          use1 𝓛 (‵ (fat full_share half b (o + 8) (vint w64 n)))
-          (uint_out 𝓛 full_share w64 n b (o + 8)) $
-          use1 𝓛 (‵ (froom half b (o + 8))) (𝓛.laws.at_room half b (o + 8) (vint w64 n)) $
-          move ! (2 ∷ []) $ fsplit ! $ drop ! $
+          qed 𝓛 (‵ (header_owns t (R E) n c b o) ∷ []) ∵
+          use1 𝓛 (‵ (header_room b o) ⊛ ‵ (dealloc_right t (R E) c b o))
+          (header_unwritten 𝓛 t (R E) n c b o) $ split ! $ move ! (1 ∷ []) $
           rewrite ! 0 (λ (p : Bool).
           ‵ (dealloc_right_if p t (words_of (R E)) τ' s c b o)) pad refl $
-          fpick ! (λ start. fsplit ! $ feq_l ! (λ place.
-          move ! (2 ∷ 1 ∷ []) $ fjoin ! $ move ! (0 ∷ 1 ∷ []) $ fjoin ! $
+          fpick ! (λ start. fsplit ! $ feq_l ! (λ place. move ! (1 ∷ 0 ∷ []) $ fjoin ! $
           show ! (λ (start : ℕ). guard 𝓤 (start + s ≡ o + 16) (sem 𝓛 (Opened start))) start $
           check ! place $ done !))
 
-      -- Joins the header and the rest into what a padded block owns besides its slots.
-      pub padded_whole : (start : ℕ) → start + s ≡ o + 16 → fits_block (R E) c ≡ true
-          → ent 𝓤 (sep 𝓤 (sem 𝓛 (lies_at usize full_share (block_ptr b o) c))
-          (sep 𝓤 (sem 𝓛 (lies_at usize full_share (block_ptr b (o + 8)) n))
-          (sem 𝓛 (padded_right_at t τ' s c b start o))))
-          (sem 𝓛 (header_owns t (R E) n c b o))
-      padded_whole start place fits =
-          qed 𝓛 (‵ (lies_at usize full_share (block_ptr b o) c) ∷ ‵
-          (lies_at usize full_share (block_ptr b (o + 8)) n) ∷ ‵
-          (padded_right_at t τ' s c b start o) ∷ []) ∵ move ! (2 ∷ []) $
+      -- Joins the parts of the right to free a padded block.
+      pub padded_right_in : (start : ℕ) → start + s ≡ o + 16
+          → ent 𝓤 (sem 𝓛 (padded_right_at t τ' s c b start o)) (sem 𝓛 (dealloc_right t (R E) c b o))
+      padded_right_in start place =
+          qed 𝓛 (‵ (padded_right_at t τ' s c b start o) ∷ []) ∵
           feq_i ! ℕ (start + s) (o + 16) place $ fjoin ! $
           fpack ! ℕ (λ (k : ℕ). fsep (feq ℕ (k + s) (o + 16)) (padded_right_at t τ' s c b k o))
           start $
           rewrite ! 0 (λ (p : Bool).
-          ‵ (dealloc_right_if p t (words_of (R E)) τ' s c b o)) (sym pad) refl $
-          feq_i ! Bool (fits_block (R E) c) true fits $ fjoin ! $
-          move ! (2 ∷ 0 ∷ []) $ fjoin ! $ move ! (1 ∷ 0 ∷ []) $ fjoin ! $ done !
+          ‵ (dealloc_right_if p t (words_of (R E)) τ' s c b o)) (sym pad) refl $ done !
 
 module _ {M : Type 1} {𝓤 : Ura M} (𝓛 : Logic 𝓤) (E : El) (b : ℕ) where
   open 𝓛 use {H}
@@ -248,18 +125,19 @@ module _ {M : Type 1} {𝓤 : Ura M} (𝓛 : Logic 𝓤) (E : El) (b : ℕ) wher
   Slots at xs = slots_own (R E) xs b at
 
   -- Memory for one item is memory for an array of one item.
-  pub one_in : (o : ℕ) → ent 𝓤 (H.room (erased_type (R E)) b o) (H.room (ty_array (elτ E) 1) b o)
+  pub one_in : (o : ℕ) → ent 𝓤 (H.room (erased_type (R E)) b o) (H.room (array_of (R E) 1) b o)
   one_in o =
       qed 𝓛 (‵ (froom (erased_type (R E)) b o) ∷ []) ∵ nothing ! $ move ! (1 ∷ 0 ∷ []) $ fjoin ! $
-      by ! (to_room E 𝓛 b 1 o)
+      by ! (to_raw E 𝓛 b 1 o)
 
-  pub one_out : (o : ℕ) → ent 𝓤 (H.room (ty_array (elτ E) 1) b o) (H.room (erased_type (R E)) b o)
+  pub one_out : (o : ℕ) → ent 𝓤 (H.room (array_of (R E) 1) b o) (H.room (erased_type (R E)) b o)
   one_out o =
-      qed 𝓛 (‵ (froom (ty_array (elτ E) 1) b o) ∷ []) ∵
-      use1 𝓛 (‵ (Slots o (empty_slots 1))) (of_room E 𝓛 b 1 o) $ fsplit ! $ keep ! (0 ∷ []) $ done !
+      qed 𝓛 (‵ (froom (array_of (R E) 1) b o) ∷ []) ∵
+      use1 𝓛 (‵ (Slots o (empty_slots 1))) (of_raw E 𝓛 b 1 o) $ fsplit ! $ keep ! (0 ∷ []) $ done !
 
   -- In these lemmas, a block holds the items `xs`, which fill its first slots, and `m` empty slots.
-  module _ (xs : List (el_x E)) (m c at : ℕ) (all : c ≡ length xs + m) where
+  -- `k` is one more than `m`.
+  module _ (xs : List (el_x E)) (m k c at : ℕ) (all : c ≡ length xs + m) (more : k ≡ m + 1) where
     abbrev end' : ℕ
     end' = c * type_size (R E) + at
 
@@ -273,16 +151,17 @@ module _ {M : Type 1} {𝓤 : Ura M} (𝓛 : Logic 𝓤) (E : El) (b : ℕ) wher
         let bare_ones = length-replicate {A = Option (el_x E)} m None in
         omega arith
 
-    one_more : Row ++ empty_slots 1 ≡ filled_slots xs ++ empty_slots (m + 1)
+    one_more : Row ++ empty_slots 1 ≡ filled_slots xs ++ empty_slots k
     one_more = append_assoc (filled_slots xs) (empty_slots m) (empty_slots 1)
-        ∙ ap (λ (l : List (Slot E)). filled_slots xs ++ l) (replicate-append-replicate m 1 None)
+        ∙ (ap (λ (l : List (Slot E)). filled_slots xs ++ l) (replicate-append-replicate m 1 None)
+        ∙ ap (λ (n : ℕ). filled_slots xs ++ empty_slots n) (sym more))
 
     at_end : end' ≡ length Row * type_size (R E) + at
-    at_end = ap (λ (k : ℕ). k * type_size (R E) + at) (sym long)
+    at_end = ap (λ (n : ℕ). n * type_size (R E) + at) (sym long)
 
     -- The memory directly after the slots is used as one more empty slot.
     pub slot_added : ent 𝓤 (sep 𝓤 (sem 𝓛 (Slots at Row)) (H.room (erased_type (R E)) b end'))
-        (sem 𝓛 (Slots at (filled_slots xs ++ empty_slots (m + 1))))
+        (sem 𝓛 (Slots at (filled_slots xs ++ empty_slots k)))
     slot_added =
         qed 𝓛 (‵ (Slots at Row) ∷ ‵ (froom (erased_type (R E)) b end') ∷ []) ∵ move ! (1 ∷ []) $
         nothing ! $ move ! (1 ∷ 0 ∷ []) $ fjoin ! $ move ! (1 ∷ 0 ∷ []) $
@@ -291,11 +170,131 @@ module _ {M : Type 1} {𝓤 : Ura M} (𝓛 : Logic 𝓤) (E : El) (b : ℕ) wher
         rewrite ! 0 (λ (l : List (Slot E)). ‵ (Slots at l)) one_more refl $ done !
 
     -- Undoes `slot_added`.
-    pub slot_removed : ent 𝓤 (sem 𝓛 (Slots at (filled_slots xs ++ empty_slots (m + 1))))
+    pub slot_removed : ent 𝓤 (sem 𝓛 (Slots at (filled_slots xs ++ empty_slots k)))
         (sep 𝓤 (sem 𝓛 (Slots at Row)) (H.room (erased_type (R E)) b end'))
     slot_removed =
-        qed 𝓛 (‵ (Slots at (filled_slots xs ++ empty_slots (m + 1))) ∷ []) ∵
+        qed 𝓛 (‵ (Slots at (filled_slots xs ++ empty_slots k)) ∷ []) ∵
         rewrite ! 0 (λ (l : List (Slot E)). ‵ (Slots at l)) (sym one_more) refl $
         use1 𝓛 (‵ (Slots at Row) ⊛ ‵ (Slots end' (empty_slots 1)))
         (cut E 𝓛 b Row (empty_slots 1) at end' at_end) $ split ! $ move ! (1 ∷ []) $ fsplit ! $
         keep ! (2 ∷ 0 ∷ []) $ done !
+
+-- In this module, an array of `c + 2` items, whose gap is one item, is the memory of a padded
+-- block.
+module _ {M : Type 1} {𝓤 : Ura M} (𝓛 : Logic 𝓤) (E : El) (b c : ℕ) (pad : pads (R E) c ≡ true)
+    (t : Ty → Ptr → Fml) (start o : ℕ) (place : start + type_size (R E) ≡ o + 16) (n m all : ℕ)
+    (xs : List (el_x E)) (slots : c ≡ length xs + m) (count : length xs ≡ n) (total : all ≡ c + 2)
+  where
+    open 𝓛 use {H}
+
+    abbrev τ₀ : Ty
+    τ₀ = erased_type (R E)
+
+    abbrev last : ℕ
+    last = end_of (type_size (R E)) c o
+
+    abbrev gapped : ℕ → Fml
+    gapped at = slots_own (R E) (filled_slots xs ++ empty_slots (all - (1 + n))) b at
+
+    abbrev Parts : Fml
+    Parts = slots_own (R E) (filled_slots xs ++ empty_slots m) b (o + 16)
+
+    -- `Kept` is the right to free the block, without the address of its memory.
+    abbrev pub Kept : Fml
+    Kept = fsep (fwand (header_room b o) (froom τ₀ b start))
+        (fsep (fwand (froom ty_ptr b last) (froom τ₀ b last)) (t (padded_type τ₀ c)
+        (block_ptr b start)))
+
+    at_gap : o + 16 ≡ start + 1 * type_size (R E)
+    at_gap = let one : 1 * type_size (R E) ≡ type_size (R E) = omega arith in omega arith
+
+    one_left : all - (1 + n) ≡ m + 1
+    one_left = omega arith
+
+    -- Uses the memory of a padded block as an array.
+    pub array_in : ent 𝓤 (sep 𝓤 (sem 𝓛 (header_room b o)) (sep 𝓤 (H.room ty_ptr b last)
+        (sep 𝓤 (sem 𝓛 Parts) (sem 𝓛 Kept))))
+        (sem 𝓛 (gapped_items t (R E) (block_ptr b start) 1 n all xs))
+    array_in =
+        qed 𝓛 (‵ (header_room b o) ∷ ‵ (froom ty_ptr b last) ∷ ‵ Parts ∷ ‵ Kept ∷ []) ∵
+        move ! (3 ∷ []) $ fsplit3 ! $ move ! (3 ∷ 0 ∷ []) $
+        use2 𝓛 (‵ (froom τ₀ b start)) (apply∗ 𝓤 (sem 𝓛 (header_room b o)) (H.room τ₀ b start)) $
+        use1 𝓛 (‵ (froom (array_of (R E) 1) b start)) (one_in 𝓛 E b start) $ move ! (3 ∷ 1 ∷ []) $
+        use2 𝓛 (‵ (froom τ₀ b last)) (apply∗ 𝓤 (H.room ty_ptr b last) (H.room τ₀ b last)) $
+        -- The context is now: memory for one item after the slots; the gap; the right to free the
+        -- memory; the slots.
+        move ! (3 ∷ 0 ∷ []) $ use2 𝓛 (‵ (gapped (o + 16)))
+        (slot_added 𝓛 E b xs m (all - (1 + n)) c (o + 16) slots one_left) $
+        rewrite ! 0 (λ (k : ℕ). ‵ (gapped k)) at_gap refl $ move ! (2 ∷ []) $
+        rewrite ! 0 (λ (k : ℕ). ‵ (t (array_of (R E) k) (block_ptr b start))) (sym total) refl $
+        move ! (2 ∷ 1 ∷ 0 ∷ []) $ fjoin3 ! $ done !
+
+    -- Undoes `array_in`.
+    pub array_out : ent 𝓤 (sem 𝓛 (gapped_items t (R E) (block_ptr b start) 1 n all xs))
+        (sep 𝓤 (H.room half b o) (sep 𝓤 (H.room half b (8 + o)) (sep 𝓤 (H.room ty_ptr b last)
+        (sep 𝓤 (sem 𝓛 Parts) (sem 𝓛 Kept)))))
+    array_out =
+        qed 𝓛 (‵ (gapped_items t (R E) (block_ptr b start) 1 n all xs) ∷ []) ∵ fsplit3 ! $
+        use1 𝓛 (‵ (froom τ₀ b start)) (one_out 𝓛 E b start) $
+        use1 𝓛 (‵ (froom half b o) ⊛ ‵ (froom half b (o + 8)) ⊛ ‵
+        (fwand (header_room b o) (froom τ₀ b start)))
+        (item_front_out 𝓛 E b c pad start o place) $ split3 ! $
+        rewrite ! 1 (λ (k : ℕ). ‵ (froom half b k))
+        (let turned : o + 8 ≡ 8 + o = omega arith in turned) refl $ move ! (3 ∷ []) $
+        rewrite ! 0 (λ (k : ℕ). ‵ (gapped k)) (sym at_gap) refl $
+        use1 𝓛 (‵ Parts ⊛ ‵ (froom τ₀ b last))
+        (slot_removed 𝓛 E b xs m (all - (1 + n)) c (o + 16) slots one_left) $ split ! $
+        move ! (1 ∷ []) $
+        use1 𝓛 (‵ (froom ty_ptr b last) ⊛ ‵ (fwand (froom ty_ptr b last) (froom τ₀ b last)))
+        (item_address_out 𝓛 E b c pad last) $ split ! $ move ! (6 ∷ []) $
+        rewrite ! 0 (λ (k : ℕ). ‵ (t (array_of (R E) k) (block_ptr b start))) total refl $
+        -- The context is now: the right to free the memory; memory for the address; the right to
+        -- convert it back; the slots; memory for the header; the right to convert it back.
+        move ! (2 ∷ 0 ∷ []) $ fjoin ! $ move ! (5 ∷ 0 ∷ []) $ fjoin ! $
+        move ! (3 ∷ 4 ∷ 1 ∷ 2 ∷ 0 ∷ []) $ done !
+
+-- In this module, the memory of a padded block without items is used as an array.
+module _ {M : Type 1} {𝓤 : Ura M} (𝓛 : Logic 𝓤) (E : El) (b c : ℕ) (t : Ty → Ptr → Fml) (start : ℕ)
+  where
+    open 𝓛 use {H}
+
+    abbrev whole : Ty
+    whole = padded_type (erased_type (R E)) c
+
+    abbrev Token : Fml
+    Token = t whole (block_ptr b start)
+
+    abbrev Free : ℕ → ℕ → Fml
+    Free at k = slots_own (R E) (empty_slots k) b at
+
+    abbrev second : ℕ
+    second = start + 1 * type_size (R E)
+
+    cut_one : empty_slots {T = el_x E} (c + 2) ≡ empty_slots 1 ++ empty_slots (c + 2 - (1 + 0))
+    cut_one = sym (replicate-append-replicate 1 (c + 2 - (1 + 0)) None
+        ∙ ap (λ (k : ℕ). empty_slots k) (let e : 1 + (c + 2 - (1 + 0)) ≡ c + 2 = omega arith in e))
+
+    at_second : second ≡ length (empty_slots {T = el_x E} 1) * type_size (R E) + start
+    at_second = omega arith
+
+    abbrev Array' : Fml
+    Array' = gapped_items t (R E) (block_ptr b start) 1 0 (c + 2) []
+
+    pub memory_in : ent 𝓤 (sep 𝓤 (H.room whole b start) (sem 𝓛 Token)) (sem 𝓛 Array')
+    memory_in =
+        qed 𝓛 (‵ (froom whole b start) ∷ ‵ Token ∷ []) ∵
+        use1 𝓛 (‵ (Free start (c + 2))) (of_raw E 𝓛 b (c + 2) start) $
+        rewrite ! 0 (λ (l : List (Slot E)). ‵ (slots_own (R E) l b start)) cut_one refl $
+        use1 𝓛 (‵ (Free start 1) ⊛ ‵ (Free second (c + 2 - (1 + 0))))
+        (cut E 𝓛 b (empty_slots 1) (empty_slots (c + 2 - (1 + 0))) start second at_second) $
+        split ! $
+        use1 𝓛 (‵ (froom (array_of (R E) 1) b start)) (to_raw E 𝓛 b 1 start) $ fjoin3 ! $ done !
+
+    pub memory_out : ent 𝓤 (sem 𝓛 Array') (sep 𝓤 (H.room whole b start) (sem 𝓛 Token))
+    memory_out =
+        qed 𝓛 (‵ Array' ∷ []) ∵ fsplit3 ! $
+        use1 𝓛 (‵ (Free start 1)) (of_raw E 𝓛 b 1 start) $
+        use2 𝓛 (‵ (slots_own (R E) (empty_slots 1 ++ empty_slots (c + 2 - (1 + 0))) b start))
+        (glue E 𝓛 b (empty_slots 1) (empty_slots (c + 2 - (1 + 0))) start second at_second) $
+        rewrite ! 0 (λ (l : List (Slot E)). ‵ (slots_own (R E) l b start)) (sym cut_one) refl $
+        use1 𝓛 (‵ (froom whole b start)) (to_raw E 𝓛 b (c + 2) start) $ done !

@@ -8,6 +8,7 @@ use denote.Index.{place, place_is}
 use denote.RawPtr.Room.{past, room_cut, room_glue}
 use Rattle.thin_block.specs.Ownership.{word_of, word_wand, word_wands, header_room, header_wand, slots_wand}
 use Rattle.thin_block.proofs.words.WordsLemmas.{InWords}
+use Rattle.thin_block.proofs.padded.PaddedLemmas.{InEights}
 
 past-place : (τ : Ty) (n o : ℕ) → past τ n o ≡ place (size τ) o n
 past-place τ zero o = refl
@@ -15,6 +16,61 @@ past-place τ (suc n) o = past-place τ n (o + size τ)
 
 pub past_is : (τ : Ty) (n o : ℕ) → past τ n o ≡ o + n * size τ
 past_is τ n o = past-place τ n o ∙ (place_is (size τ) o n ∙ add_comm (n * size τ) o)
+
+-- `half` is the type of one half of the header. Both the capacity and the length have this type.
+abbrev half : Ty
+half = ty_int w64
+
+-- In this module, memory of the type `τ` can be used as `n + 2` pieces of 8 bytes.
+module _ {M : Type 1} {𝓤 : Ura M} (𝓛 : Logic 𝓤) (τ : Ty) (b n : ℕ)
+    (hd : InEights (size τ) (align τ) n) where
+  open 𝓛 use {H}
+
+  abbrev all : Ty
+  all = ty_array half (n + 2)
+
+  abbrev two : Ty
+  two = ty_array half 2
+
+  module _ (start at : ℕ) (place : start + size τ ≡ at + 16) where
+    after_front : past half n start ≡ at
+    after_front = let is = past_is half n start in let whole = hd.size in omega arith
+
+    abbrev Header : Fml
+    Header = fwand (header_room b at) (froom τ b start)
+
+    -- Splits memory for an item into the two halves of a header at its end, and the right to
+    -- convert them back.
+    pub front_out : ent 𝓤 (H.room τ b start)
+        (sep 𝓤 (H.room half b at) (sep 𝓤 (H.room half b (at + 8)) (sem 𝓛 Header)))
+    front_out =
+        qed 𝓛 (‵ (froom τ b start) ∷ []) ∵
+        use1 𝓛 (‵ (froom all b start) ⊛ ‵ (fwand (froom all b start) (froom τ b start)))
+        (𝓛.laws.room_as τ all b start hd.size hd.align) $ split ! $
+        use1 𝓛 (‵ (froom (ty_array half n) b start) ⊛ ‵ (froom two b (past half n start)))
+        (room_cut 𝓛 half n 2 b start) $ split ! $ move ! (1 ∷ []) $
+        rewrite ! 0 (λ (k : ℕ). ‵ (froom two b k)) after_front refl $
+        use1 𝓛 (‵ (froom half b at) ⊛ ‵ (froom (ty_array half 1) b (at + 8)))
+        (𝓛.laws.room_uncons half 1 b at) $ split ! $ move ! (1 ∷ []) $
+        use1 𝓛 (‵ (froom half b (at + 8)) ⊛ ‵ (froom (ty_array half 0) b (at + 8 + 8)))
+        (𝓛.laws.room_uncons half 0 b (at + 8)) $ split ! $ move ! (2 ∷ 0 ∷ 3 ∷ 4 ∷ []) $
+        keeps ! $ keeps ! $ keep ! (0 ∷ 1 ∷ []) $
+        -- The context is now: memory for the padding; the right to convert the whole back.
+        assume {P = H.room τ b start} ! (‵ (header_room b at)) $ fsplit ! $
+        use0 𝓛 (‵ (froom (ty_array half 0) b (at + 8 + 8)))
+        (𝓛.laws.room_nil half b (at + 8 + 8)) $ move ! (2 ∷ 0 ∷ []) $
+        use2 𝓛 (‵ (froom (ty_array half 1) b (at + 8))) (𝓛.laws.room_cons half 0 b (at + 8)) $
+        move ! (1 ∷ 0 ∷ []) $ use2 𝓛 (‵ (froom two b at)) (𝓛.laws.room_cons half 1 b at) $
+        rewrite ! 0 (λ (k : ℕ). ‵ (froom two b k)) (sym after_front) refl $
+        move ! (1 ∷ 0 ∷ []) $ use2 𝓛 (‵ (froom all b start)) (room_glue 𝓛 half n 2 b start) $
+        by ! (apply∗ 𝓤 (H.room all b start) (H.room τ b start))
+
+    -- Undoes `front_out`.
+    pub front_in : ent 𝓤 (sep 𝓤 (H.room half b at) (sep 𝓤 (H.room half b (at + 8)) (sem 𝓛 Header)))
+        (H.room τ b start)
+    front_in =
+        qed 𝓛 (‵ (froom half b at) ∷ ‵ (froom half b (at + 8)) ∷ ‵ Header ∷ []) ∵
+        fjoin ! $ by ! (apply∗ 𝓤 (sem 𝓛 (header_room b at)) (H.room τ b start))
 
 module _ {M : Type 1} {𝓤 : Ura M} (𝓛 : Logic 𝓤) (τ : Ty) (m k b : ℕ)
     (hd : InWords (size τ) (align τ) m k) where
@@ -28,13 +84,6 @@ module _ {M : Type 1} {𝓤 : Ura M} (𝓛 : Logic 𝓤) (τ : Ty) (m k b : ℕ)
 
   abbrev run : Ty
   run = ty_array τ m
-
-  -- `half` is the type of one half of the header. Both the capacity and the length have this type.
-  abbrev half : Ty
-  half = ty_int w64
-
-  abbrev two : Ty
-  two = ty_array half 2
 
   abbrev units : Ty
   units = ty_array ω k
@@ -94,31 +143,18 @@ module _ {M : Type 1} {𝓤 : Ura M} (𝓛 : Logic 𝓤) (τ : Ty) (m k b : ℕ)
   after_header : (o : ℕ) → past ω k o ≡ o + 16
   after_header o = past_is ω k o ∙ ap (λ (n : ℕ). o + n) header_bytes
 
+  eights : InEights (size units) (align units) 0
+  eights = record { size = sym header_bytes; align = hd.eight }
+
   -- Splits memory for `k` words into the halves of the header, and the right to convert them back.
   pub header_out : (o : ℕ) → ent 𝓤 (H.room units b o)
       (sep 𝓤 (H.room half b o) (sep 𝓤 (H.room half b (o + 8)) (sem 𝓛 (header_wand τ m k b o))))
-  header_out o =
-      qed 𝓛 (‵ (froom units b o) ∷ []) ∵
-      use1 𝓛 (‵ (froom two b o) ⊛ ‵ (fwand (froom two b o) (froom units b o)))
-      (𝓛.laws.room_as units two b o (sym header_bytes) hd.eight) $ split ! $
-      use1 𝓛 (‵ (froom half b o) ⊛ ‵ (froom (ty_array half 1) b (o + 8)))
-      (𝓛.laws.room_uncons half 1 b o) $ split ! $ move ! (1 ∷ []) $
-      use1 𝓛 (‵ (froom half b (o + 8)) ⊛ ‵ (froom (ty_array half 0) b (o + 8 + 8)))
-      (𝓛.laws.room_uncons half 0 b (o + 8)) $ split ! $ move ! (2 ∷ 0 ∷ 3 ∷ []) $
-      keeps ! $ keeps ! $ keep ! (0 ∷ []) $
-      assume {P = H.room units b o} ! (‵ (header_room b o)) $ fsplit ! $
-      use0 𝓛 (‵ (froom (ty_array half 0) b (o + 8 + 8)))
-      (𝓛.laws.room_nil half b (o + 8 + 8)) $ move ! (2 ∷ 0 ∷ []) $
-      use2 𝓛 (‵ (froom (ty_array half 1) b (o + 8))) (𝓛.laws.room_cons half 0 b (o + 8)) $
-      move ! (1 ∷ 0 ∷ []) $ use2 𝓛 (‵ (froom two b o)) (𝓛.laws.room_cons half 1 b o) $
-      by ! (apply∗ 𝓤 (H.room two b o) (H.room units b o))
+  header_out o = front_out 𝓛 units b 0 eights o o (ap (λ (n : ℕ). o + n) header_bytes)
 
   -- Undoes `header_out`.
   pub header_in : (o : ℕ) → ent 𝓤 (sep 𝓤 (H.room half b o) (sep 𝓤 (H.room half b (o + 8))
       (sem 𝓛 (header_wand τ m k b o)))) (H.room units b o)
-  header_in o =
-      qed 𝓛 (‵ (froom half b o) ∷ ‵ (froom half b (o + 8)) ∷ ‵ (header_wand τ m k b o) ∷ []) ∵
-      fjoin ! $ by ! (apply∗ 𝓤 (sem 𝓛 (header_room b o)) (H.room units b o))
+  header_in o = front_in 𝓛 units b 0 eights o o (ap (λ (n : ℕ). o + n) header_bytes)
 
   -- Splits memory for `w` words into memory for `c` slots, and the right to convert it back.
   slots_out : (w c o : ℕ) → c ≤ w * m → ent 𝓤 (H.room (ty_array ω w) b o)

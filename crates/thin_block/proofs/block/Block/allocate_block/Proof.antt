@@ -1,7 +1,7 @@
 -- This file proves the contract of `allocate_block`, which allocates the memory of a block with
 -- empty slots and writes its header.
 use Rattle.std.proofs.Common.{◌≡◌, ℕ, ◌+◌, ◌<◌, List, [], ◌∷◌, ◌++◌, length, replicate, Bool, true, false, refl, sym, ap, ◌∙◌, arith, lit<, w64, Some, None, Option}
-use Rattle.thin_block.proofs.WalkPrelude.{Ty, Body, ty_int, Val, WT, vint, vptr, vstruct, vcons, vnil, inst_fn, length-replicate, full_share, SProp, Lft, Share, fat, froom, flft, size, align, capped, capped_is, Env, ⊑_trans, tables, After, ‵, raw, ◌⊛◌, later, at_ret, ◌$◌, !, move, keep, drop, use0, use1, use2, split, split3, join, rewrite, fsplit, fjoin, feq_i, await, suffices, done, whole, agg, stop, fld, lit, bin, init, of_opd, no_more, and_then, assigns, assigns_last, first, blocks, exec, returns, alloc_all, pass_all, free_all, look_at, get, get_in, through, sets, sets_last, lands_as, env, RattleType, usize, uint_in, Ptr, block_ptr, lies_at, calls_at, walk_of, ends_at, token, fm, proved_at, type_size, type_align, R, slot_at, then_runs, after, head, arm_body, says_all, refused_made}
+use Rattle.thin_block.proofs.WalkPrelude.{Ty, Body, ty_int, Val, WT, vint, vptr, vstruct, vcons, vnil, inst_fn, length-replicate, SProp, Lft, Share, froom, flft, size, align, capped, capped_is, Env, ⊑_trans, tables, After, ‵, raw, ◌⊛◌, later, at_ret, ◌$◌, !, move, keep, drop, use0, use1, use2, use3, split, split3, join, rewrite, fsplit, fjoin, await, suffices, done, whole, agg, stop, fld, lit, bin, init, of_opd, no_more, and_then, assigns, assigns_last, first, blocks, exec, returns, alloc_all, pass_all, free_all, look_at, get, get_in, through, sets, sets_last, lands_as, env, RattleType, Ptr, block_ptr, calls_at, walk_of, ends_at, token, fm, proved_at, type_size, type_align, R, slot_at, then_runs, after, head, arm_body, says_all, refused_made}
 use types.Match.{live, vrt, in_variant}
 use types.Run.{switches_on}
 use types.ByLocal.{get_tag}
@@ -14,9 +14,9 @@ use Rattle.thin_block.specs.Capacity.{Fits, block_align, block_bytes}
 use Rattle.thin_block.specs.Ownership.{fits_block, slots_own, header_owns, erased_type, words_of, rejoin_wand, pads, dealloc_right_if, requested_type as whole_block}
 use Rattle.thin_block.proofs.sizes.SizesLemmas.{fits_tells, opened, rounded}
 use Rattle.thin_block.proofs.WordConversionLemmas.{asked_size, asked_align, carve_asked}
-use Rattle.thin_block.proofs.HeaderMemory.{args, Br, any_some, block_val, block_made, items}
+use Rattle.thin_block.proofs.HeaderMemory.{args, Br, any_some, block_val, block_made, header_written, items}
 use Rattle.thin_block.proofs.SlotMemory.{of_raw}
-use Rattle.thin_block.proofs.MethodSignatures.{item, source, others, dropped, all_go, arrives, heard_all, enters, blank}
+use Rattle.thin_block.proofs.MethodSignatures.{item, source, others, dropped, all_go, arrives, heard_all, enters, blank, still, word}
 use Rattle.thin_block.specs.contracts.block.Block.allocate_block.{ended, clauses}
 use Rattle.thin_block.specs.contracts.block.Block.allocate_block.Key.{name as #self}
 use Rattle.thin_block.proofs.block.Block.allocate_block.Statement.{statement}
@@ -29,11 +29,9 @@ allocate_block_spec 𝓤 𝓛 𝓜 𝓡 wired T A LT LA g d dd met md =
     let c = clauses T A g d dd 𝓛 𝓜.mem 𝓡.returns in let ps = En₀.signature.params in
     let hs = dropped ps En₀.kept in let fn = inst_fn (args E Y) compiled.function in
     let 𝓣 = tables 𝓤 𝓛.H 𝓜 𝓡 𝓡.env in let C = 𝓣.C in let Λ = 𝓣.Λ in
+    let q = still 𝓛 4 in
     proved_at 𝓛 En₀ hs c 𝓜 𝓡
-    (all_go 𝓛 ps En₀.kept (
-      (λ κs x f. refl),
-      ((λ κs x f. refl), ((λ κs x f. refl), ((λ κs x f. refl), ((λ κs x f. refl), tt)))),
-    ))
+    (all_go 𝓛 ps En₀.kept ((λ κs x f. refl), (q, (q, (q, ((λ κs x f. refl), tt))))))
     (#self (args E Y)) fn (compiled.unfolded 𝓤 𝓛.H 𝓜 𝓡 wired (T, (A, tt)) d dd) (λ z are.
     let Post : Val → SProp 𝓤 = (walk_of 𝓛 En₀ hs c).post z in
     let a = z.0.3 in
@@ -74,16 +72,9 @@ allocate_block_spec 𝓤 𝓛 𝓜 𝓡 wired T A LT LA g d dd met md =
     (vptr at.0 at.1 ∷ vint w64 cap ∷ vint w64 bytes ∷ vint w64 al ∷ vptr old_at.0 old_at.1 ∷ [])
     (λ i. are.0.0 i ++ (are.1.0.0 i
     ++ (are.1.1.0.0 i ++ (are.1.1.1.0.0 i ++ (are.1.1.1.1.0.0 i ++ []))))) $
-    alloc_all ! (λ l. pass_all ! refl (
-      (tt, tt),
-      (
-        (tt, record { fits = are.1.0.1 }),
-        (
-          (tt, record { fits = are.1.1.0.1 }),
-          ((tt, record { fits = are.1.1.1.0.1 }), ((tt, tt), tt)),
-        ),
-      ),
-    ) $
+    let w₁ = word are.1.0.1 in let w₂ = word are.1.1.0.1 in let w₃ = word are.1.1.1.0.1 in
+    alloc_all ! (λ l. pass_all ! refl
+    ((tt, tt), (w₁, (w₂, (w₃, ((tt, tt), tt))))) $
     let En : Env 𝓤 𝓛.H = env fn.locals l in
     use2 𝓛 (raw ((Takes Y 𝓛 𝓜.mem 𝓡.returns).pre y))
     (Takes-goes Y 𝓛 𝓜.mem 𝓡.returns κ q at h (⊑_trans κ z.0.0.1.1.1.0 A.lives z.0.2.0 le)
@@ -146,19 +137,14 @@ allocate_block_spec 𝓤 𝓛 𝓜 𝓡 wired T A LT LA g d dd met md =
     exec ! C Λ En (after 2 fn.body) (at_ret En Post) $
     sets ! (of_opd ! (get ! refl)) refl (tt, (record { fits = lit< tt }, (words, tt))) $
     returns ! (look_at ! 0 refl) $ free_all ! refl $
-    rewrite ! 1 (λ (k : ℕ). ‵ (fat full_share (ty_int w64) b k (vint w64 0)))
-    (let turned : 8 + o ≡ o + 8 = omega arith in turned) refl $
-    use1 𝓛 (‵ (lies_at usize full_share (block_ptr b o) cap)) (uint_in 𝓛 full_share w64 cap b o) $
-    move ! (1 ∷ []) $
-    use1 𝓛 (‵ (lies_at usize full_share (block_ptr b (o + 8)) 0))
-    (uint_in 𝓛 full_share w64 0 b (o + 8)) $ move ! (2 ∷ []) $
+    move ! (2 ∷ []) $
     use1 𝓛 (‵ (slots_own Rt none b (o + 16))) (of_raw E 𝓛 b cap (o + 16)) $ move ! (3 ∷ 4 ∷ []) $
     fjoin ! $
     rewrite ! 0 (λ (p : Bool).
     ‵ (dealloc_right_if p (token Y h) (words_of Rt) (erased_type Rt) (type_size Rt) cap b o))
-    (sym unpadded) refl $
-    feq_i ! Bool (fits_block Rt cap) true fits $ fjoin ! $
-    move ! (2 ∷ 0 ∷ []) $ fjoin ! $ move ! (2 ∷ 0 ∷ []) $ fjoin ! $
+    (sym unpadded) refl $ move ! (2 ∷ 3 ∷ 0 ∷ []) $
+    use3 𝓛 (‵ (header_owns (token Y h) Rt 0 cap b o))
+    (header_written 𝓛 (token Y h) Rt 0 cap b o fits) $
     rewrite ! 0 (λ (k : ℕ). ‵ (header_owns (token Y h) Rt 0 k b o)) (sym long) refl $
     block_made E Y ! x b o refl $
     use1 𝓛 (‵ (Out.own_val (Ok x) (live 0 (vcons (block_val p) vnil) ∷ [])))

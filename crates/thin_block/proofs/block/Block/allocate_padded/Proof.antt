@@ -1,9 +1,8 @@
 -- This file proves the contract of `allocate_padded`, which allocates the memory of a padded block
 -- with empty slots, and writes its header and the address of the memory.
 use Rattle.std.proofs.Common.{◌≡◌, ℕ, ◌+◌, ◌*◌, ◌<◌, ◌^◌, List, [], ◌∷◌, ◌++◌, length, replicate, true, refl, sym, ap, ◌∙◌, arith, lit<, w64, Some, None, Option}
-use Rattle.thin_block.proofs.WalkPrelude.{Ty, Body, ty_int, Val, WT, vint, vptr, vstruct, vcons, vnil, inst_fn, length-replicate, full_share, SProp, Lft, Share, fat, froom, flft, size, align, capped, capped_is, Env, ⊑_trans, tables, After, ‵, raw, ◌⊛◌, later, at_ret, ◌$◌, !, move, keep, drop, use0, use1, use2, use3, split, split3, join, rewrite, fsplit, fjoin, await, suffices, done, whole, agg, stop, fld, lit, bin, init, of_opd, no_more, and_then, assigns, first, exec, returns, alloc_all, pass_all, free_all, look_at, get, get_in, through, sets, sets_last, lands_as, env, RattleType, usize, uint_in, Ptr, block_ptr, lies_at, calls_at, walk_of, ends_at, token, fm, proved_at, type_size, type_align, R, slot_at, then_runs, after, head, arm_body, says_all, refused_made}
+use Rattle.thin_block.proofs.WalkPrelude.{Ty, Body, ty_int, Val, WT, vint, vptr, vstruct, vcons, vnil, inst_fn, length-replicate, SProp, Lft, Share, Fml, froom, flft, size, align, capped, capped_is, Env, ⊑_trans, tables, After, ‵, raw, ◌⊛◌, later, at_ret, ◌$◌, !, move, keep, drop, use0, use1, use2, use3, split, split3, join, rewrite, fsplit, fjoin, await, suffices, done, whole, agg, stop, fld, lit, bin, init, of_opd, no_more, and_then, assigns, first, exec, returns, alloc_all, pass_all, free_all, look_at, get, get_in, through, sets, sets_last, lands_as, env, RattleType, Ptr, block_ptr, calls_at, walk_of, ends_at, token, fm, proved_at, type_size, type_align, R, slot_at, then_runs, after, head, arm_body, says_all, refused_made}
 use mir.Syntax.{ty_ptr}
-use base.Fml.{fwand}
 use types.Match.{live, vrt, in_variant}
 use types.Run.{switches_on}
 use types.ByLocal.{get_tag}
@@ -13,14 +12,15 @@ use Rattle.core.specs.declared.result.Result.TheVariants.{Ok, Err}
 use Rattle.std_alloc.proofs.ResultValues.{ok_of, err_of}
 use Rattle.thin_block.specs.Cost.{add_request}
 use Rattle.thin_block.specs.Capacity.{Fits}
-use Rattle.thin_block.specs.Ownership.{fits_block, slots_own, header_owns, header_room, erased_type, pads, end_of, padded_type as whole_block}
+use Rattle.thin_block.specs.InPlace.{gapped_items}
+use Rattle.thin_block.specs.Ownership.{fits_block, slots_own, header_owns, dealloc_right, erased_type, pads, end_of, padded_type as whole_block}
 use Rattle.thin_block.proofs.sizes.SizesLemmas.{fits_tells, opened, rounded}
 use Rattle.thin_block.proofs.padded.PaddedLemmas.{Padded, padded_tells}
-use Rattle.thin_block.proofs.padded.PaddedMemory.{padded_size, padded_align, padded_out, padded_whole}
-use Rattle.thin_block.proofs.HeaderMemory.{args, Br, any_some, block_val, block_made, items}
-use Rattle.thin_block.proofs.SlotMemory.{of_raw, reach}
+use Rattle.thin_block.proofs.padded.PaddedMemory.{Kept, padded_size, padded_align, memory_in, array_out, padded_right_in}
+use Rattle.thin_block.proofs.HeaderMemory.{args, Br, any_some, block_val, block_made, header_written}
+use Rattle.thin_block.proofs.SlotMemory.{reach}
 use Rattle.thin_block.proofs.Addresses.{slot_found}
-use Rattle.thin_block.proofs.MethodSignatures.{item, source, others, dropped, all_go, arrives, heard_all, enters, blank}
+use Rattle.thin_block.proofs.MethodSignatures.{item, source, others, dropped, all_go, arrives, heard_all, enters, blank, still, word}
 use Rattle.thin_block.specs.contracts.block.Block.allocate_padded.{ended, clauses}
 use Rattle.thin_block.specs.contracts.block.Block.allocate_padded.Key.{name as #self}
 use Rattle.thin_block.proofs.block.Block.allocate_padded.Statement.{statement}
@@ -33,14 +33,9 @@ allocate_padded_spec 𝓤 𝓛 𝓜 𝓡 wired T A LT LA g d dd met md =
     let c = clauses T A g d dd 𝓛 𝓜.mem 𝓡.returns in let ps = En₀.signature.params in
     let hs = dropped ps En₀.kept in let fn = inst_fn (args E Y) compiled.function in
     let 𝓣 = tables 𝓤 𝓛.H 𝓜 𝓡 𝓡.env in let C = 𝓣.C in let Λ = 𝓣.Λ in
+    let q = still 𝓛 4 in
     proved_at 𝓛 En₀ hs c 𝓜 𝓡
-    (all_go 𝓛 ps En₀.kept (
-      (λ κs x f. refl),
-      (
-        (λ κs x f. refl),
-        ((λ κs x f. refl), ((λ κs x f. refl), ((λ κs x f. refl), ((λ κs x f. refl), tt)))),
-      ),
-    ))
+    (all_go 𝓛 ps En₀.kept ((λ κs x f. refl), (q, (q, (q, (q, ((λ κs x f. refl), tt)))))))
     (#self (args E Y)) fn (compiled.unfolded 𝓤 𝓛.H 𝓜 𝓡 wired (T, (A, tt)) d dd) (λ z are.
     let Post : Val → SProp 𝓤 = (walk_of 𝓛 En₀ hs c).post z in
     let a = z.0.3 in
@@ -83,19 +78,10 @@ allocate_padded_spec 𝓤 𝓛 𝓜 𝓡 wired T A LT LA g d dd met md =
     ∷ vptr old_at.0 old_at.1 ∷ [])
     (λ i. are.0.0 i ++ (are.1.0.0 i ++ (are.1.1.0.0 i ++ (are.1.1.1.0.0 i
     ++ (are.1.1.1.1.0.0 i ++ (are.1.1.1.1.1.0.0 i ++ [])))))) $
-    alloc_all ! (λ l. pass_all ! refl (
-      (tt, tt),
-      (
-        (tt, record { fits = are.1.0.1 }),
-        (
-          (tt, record { fits = are.1.1.0.1 }),
-          (
-            (tt, record { fits = are.1.1.1.0.1 }),
-            ((tt, record { fits = are.1.1.1.1.0.1 }), ((tt, tt), tt)),
-          ),
-        ),
-      ),
-    ) $
+    let w₁ = word are.1.0.1 in let w₂ = word are.1.1.0.1 in let w₃ = word are.1.1.1.0.1 in
+    let w₄ = word are.1.1.1.1.0.1 in
+    alloc_all ! (λ l. pass_all ! refl
+    ((tt, tt), (w₁, (w₂, (w₃, (w₄, ((tt, tt), tt)))))) $
     let En : Env 𝓤 𝓛.H = env fn.locals l in
     use2 𝓛 (raw ((Takes Y 𝓛 𝓜.mem 𝓡.returns).pre y))
     (Takes-goes Y 𝓛 𝓜.mem 𝓡.returns κ q at h (⊑_trans κ z.0.0.1.1.1.0 A.lives z.0.2.0 le)
@@ -115,6 +101,8 @@ allocate_padded_spec 𝓤 𝓛 𝓜 𝓡 wired T A LT LA g d dd met md =
     let p : Ptr = block_ptr b header in
     let end : ℕ = end_of s cap header in
     let words : WT (block_val p) = (tt, (tt, (tt, tt))) in
+    let tok : Ty → Ptr → Fml = token Y h in
+    let here : cap ≡ 0 + cap = omega arith in
     let none : List (Option T.Denot) = replicate cap None in
     let long : length none ≡ cap = length-replicate cap None in
     let x : B.Denot =
@@ -137,17 +125,15 @@ allocate_padded_spec 𝓤 𝓛 𝓜 𝓡 wired T A LT LA g d dd met md =
     exec ! C Λ En (arm_body 0 both) Then $
     sets ! (of_opd ! (get_in ! (vrt ! refl (fld ! refl (stop !)))
     (in_variant ! 0 0 refl refl (whole !)))) refl (tt, tt) $
-    use1 𝓛 (‵ (froom (ty_int w64) b header) ⊛ ‵ (froom (ty_int w64) b (header + 8)) ⊛ ‵
-    (froom (items Rt cap) b (header + 16)) ⊛ ‵ (froom ty_ptr b end) ⊛ ‵
-    (fwand (header_room b header) (froom (erased_type Rt) b o)) ⊛ ‵
-    (fwand (froom ty_ptr b end) (froom (erased_type Rt) b end)))
-    (padded_out 𝓛 E b cap pad o header place) $ split3 ! $ move ! (2 ∷ []) $ split3 ! $
-    move ! (2 ∷ []) $ split ! $ move ! (4 ∷ 5 ∷ 3 ∷ 2 ∷ 0 ∷ 1 ∷ []) $
+    use2 𝓛 (‵ (gapped_items tok Rt (block_ptr b o) 1 0 (cap + 2) []))
+    (memory_in 𝓛 E b cap tok o) $
+    let kept : Fml = Kept 𝓛 E b cap pad tok o header place 0 cap (cap + 2) [] here refl refl in
+    use1 𝓛 (‵ (froom (ty_int w64) b header) ⊛ ‵ (froom (ty_int w64) b (8 + header)) ⊛ ‵
+    (froom ty_ptr b end) ⊛ ‵ (slots_own Rt none b (header + 16)) ⊛ ‵ kept)
+    (array_out 𝓛 E b cap pad tok o header place 0 cap (cap + 2) [] here refl refl) $ split3 ! $
+    move ! (2 ∷ []) $ split3 ! $ move ! (3 ∷ 4 ∷ 0 ∷ []) $
     -- The context is now: memory for the capacity; memory for the length; memory for the address of
-    -- the memory; memory for the slots; the rights to convert the header, and the address, into
-    -- memory for items; the right to free the memory; the lifetime tokens.
-    rewrite ! 1 (λ (k : ℕ). ‵ (froom (ty_int w64) b k))
-    (let turned : header + 8 ≡ 8 + header = omega arith in turned) refl $
+    -- the memory; the slots; the right to free the block, without the address; the lifetime tokens.
     sets ! (bin ! (get ! refl) (get ! refl) tt) refl (tt, tt) $
     sets ! (of_opd ! (get ! refl)) refl (tt, tt) $
     slot_found E ! b header cap near refl ((tt, tt), (tt, tt)) $
@@ -167,17 +153,12 @@ allocate_padded_spec 𝓤 𝓛 𝓜 𝓡 wired T A LT LA g d dd met md =
     exec ! C Λ En (after 2 fn.body) (at_ret En Post) $
     sets ! (of_opd ! (get ! refl)) refl (tt, (record { fits = lit< tt }, (words, tt))) $
     returns ! (look_at ! 0 refl) $ free_all ! refl $
-    rewrite ! 1 (λ (k : ℕ). ‵ (fat full_share (ty_int w64) b k (vint w64 0)))
-    (let turned : 8 + header ≡ header + 8 = omega arith in turned) refl $
-    use1 𝓛 (‵ (lies_at usize full_share (block_ptr b header) cap))
-    (uint_in 𝓛 full_share w64 cap b header) $ move ! (1 ∷ []) $
-    use1 𝓛 (‵ (lies_at usize full_share (block_ptr b (header + 8)) 0))
-    (uint_in 𝓛 full_share w64 0 b (header + 8)) $ move ! (3 ∷ []) $
-    use1 𝓛 (‵ (slots_own Rt none b (header + 16))) (of_raw E 𝓛 b cap (header + 16)) $
-    move ! (5 ∷ 6 ∷ []) $ fjoin ! $ move ! (5 ∷ 0 ∷ []) $ fjoin ! $ move ! (4 ∷ 0 ∷ []) $ fjoin ! $
-    move ! (3 ∷ 2 ∷ 0 ∷ []) $ use3 𝓛 (‵ (header_owns (token Y h) Rt 0 cap b header))
-    (padded_whole 𝓛 E b cap pad (token Y h) 0 header o place fits) $
-    rewrite ! 0 (λ (k : ℕ). ‵ (header_owns (token Y h) Rt 0 k b header)) (sym long) refl $
+    move ! (2 ∷ 4 ∷ []) $ fjoin ! $
+    use1 𝓛 (‵ (dealloc_right tok Rt cap b header))
+    (padded_right_in 𝓛 E b cap pad tok 0 header o place) $ move ! (1 ∷ 2 ∷ 0 ∷ []) $
+    use3 𝓛 (‵ (header_owns tok Rt 0 cap b header))
+    (header_written 𝓛 tok Rt 0 cap b header fits) $
+    rewrite ! 0 (λ (k : ℕ). ‵ (header_owns tok Rt 0 k b header)) (sym long) refl $
     block_made E Y ! x b header refl $
     use1 𝓛 (‵ (Out.own_val (Ok x) (live 0 (vcons (block_val p) vnil) ∷ [])))
     (ok_of 𝓛 B AE.the_row x (block_val p)) $

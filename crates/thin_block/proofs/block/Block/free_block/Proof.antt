@@ -11,7 +11,7 @@ use Rattle.thin_block.proofs.sizes.SizesLemmas.{fits_tells, rounded}
 use Rattle.thin_block.proofs.WordConversionLemmas.{asked_size, asked_align, gather}
 use Rattle.thin_block.proofs.HeaderMemory.{args, header, t, block_val, block_had, items}
 use Rattle.thin_block.proofs.SlotMemory.{to_raw}
-use Rattle.thin_block.proofs.MethodSignatures.{item, source, others, dropped, all_go, arrives, heard_all, enters, blank}
+use Rattle.thin_block.proofs.MethodSignatures.{item, source, others, dropped, all_go, arrives, heard_all, enters, blank, still, word}
 use Rattle.thin_block.specs.contracts.block.Block.free_block.{ended, clauses}
 use Rattle.thin_block.specs.contracts.block.Block.free_block.Key.{name as #self}
 use Rattle.thin_block.proofs.block.Block.free_block.Statement.{statement}
@@ -23,10 +23,10 @@ free_block_spec 𝓤 𝓛 𝓜 𝓡 wired T A LT LA g d dd met md =
     let c = clauses T A g d dd 𝓛 𝓜.mem 𝓡.returns in let ps = En₀.signature.params in
     let hs = dropped ps En₀.kept in let fn = inst_fn (args E Y) compiled.function in
     let 𝓣 = tables 𝓤 𝓛.H 𝓜 𝓡 𝓡.env in let C = 𝓣.C in let Λ = 𝓣.Λ in
+    let q = still 𝓛 3 in
     proved_at 𝓛 En₀ hs c 𝓜 𝓡 (
       Goes-blank 𝓛 3 (slot_at 0 ps) En₀.kept.0 (λ κs x f. tt),
-      all_go 𝓛 (others ps) En₀.kept.1
-          ((λ κs x f. refl), ((λ κs x f. refl), ((λ κs x f. refl), tt))),
+      all_go 𝓛 (others ps) En₀.kept.1 ((λ κs x f. refl), (q, (q, tt))),
     )
     (#self (args E Y)) fn (compiled.unfolded 𝓤 𝓛.H 𝓜 𝓡 wired (T, (A, tt)) d dd) (λ z are.
     let Post : Val → SProp 𝓤 = (walk_of 𝓛 En₀ hs c).post z in
@@ -75,16 +75,10 @@ free_block_spec 𝓤 𝓛 𝓜 𝓡 wired T A LT LA g d dd met md =
     enters ! fn (block_val (block_ptr b o) ∷ vptr handle_at.0 handle_at.1 ∷ vint w64
     bytes ∷ vint w64 al ∷ [])
     (λ i. told i ++ (are.1.0.0 i ++ (are.1.1.0.0 i ++ (are.1.1.1.0.0 i ++ [])))) $
-    alloc_all ! (λ l. pass_all ! refl (
-      (tt, (tt, (tt, (tt, tt)))),
-      (
-        (tt, tt),
-        (
-          (tt, record { fits = are.1.1.0.1 }),
-          ((tt, record { fits = are.1.1.1.0.1 }), tt),
-        ),
-      ),
-    ) $ let En : Env 𝓤 𝓛.H = env fn.locals l in
+    let w₁ = word are.1.1.0.1 in let w₂ = word are.1.1.1.0.1 in
+    alloc_all ! (λ l. pass_all ! refl
+    ((tt, (tt, (tt, (tt, tt)))), ((tt, tt), (w₁, (w₂, tt)))) $
+    let En : Env 𝓤 𝓛.H = env fn.locals l in
     sets ! (of_opd ! (get_in ! (fld ! refl (stop !)) (sub ! 0 refl (whole !)))) refl (tt, tt) $
     first ! $ blocks ! $
     sets ! (of_opd ! (get ! refl)) refl (tt, tt) $

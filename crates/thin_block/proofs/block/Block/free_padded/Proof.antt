@@ -1,19 +1,20 @@
 -- This file proves the contract of `free_padded`. The proof joins the parts of the padded block
 -- into one piece of memory, which the function returns to the allocator.
 use Rattle.std.proofs.Common.{◌≡◌, ℕ, ◌+◌, List, [], ◌∷◌, ◌++◌, ◌*◌, ◌<◌, ◌^◌, length, true, refl, sym, ap, subst, ◌∙◌, arith, w64, Some, Option}
-use Rattle.thin_block.proofs.WalkPrelude.{Ty, place, Val, vint, vptr, vunit, inst_fn, SProp, Lft, Share, froom, flft, size, align, capped, capped_is, Env, ⊑_trans, tables, ‵, raw, given, exists, pick, group, later, at_ret, ◌$◌, !, by, move, keep, drop, use1, use3, join, learn, rewrite, regoal, fsplit, fsplit3, feq_i, await, whole, sub, stop, fld, load, look, through, unit_lit, of_opd, no_more, and_then, first, blocks, exec, returns, alloc_all, pass_all, free_all, look_at, get, get_in, sets, lands_last, env, RattleType, block_ptr, nothing, calls_at_last, walk_of, token, fm, proved_at, leaves, type_size, type_align, R, slot_at, then_runs, out_of_block, after}
+use Rattle.thin_block.proofs.WalkPrelude.{Ty, place, Val, vint, vptr, vunit, inst_fn, SProp, Lft, Share, Fml, froom, flft, size, align, capped, capped_is, Env, ⊑_trans, tables, ‵, raw, ◌⊛◌, given, exists, pick, group, later, at_ret, ◌$◌, !, by, move, keep, drop, use1, use3, split, join, learn, rewrite, regoal, fsplit, feq_i, await, whole, sub, stop, fld, load, look, through, unit_lit, of_opd, no_more, and_then, first, blocks, exec, returns, alloc_all, pass_all, free_all, look_at, get, get_in, sets, lands_last, env, RattleType, Ptr, block_ptr, nothing, calls_at_last, walk_of, token, fm, proved_at, leaves, type_size, type_align, R, slot_at, then_runs, out_of_block, after}
 use mir.Syntax.{ty_ptr}
 use types.Kit.{settles}
 use Rattle.core.proofs.alloc.Calls.{Goes-blank, Gives, at_gives, Gives-goes, Gives-Gives}
 use Rattle.thin_block.specs.Slots.{empty_slots}
+use Rattle.thin_block.specs.InPlace.{gapped_items}
 use Rattle.thin_block.specs.Ownership.{fits_block, slots_own, header_owns, pads, erased_type, end_of, padded_type as whole_block}
 use Rattle.thin_block.proofs.sizes.SizesLemmas.{rounded}
 use Rattle.thin_block.proofs.padded.PaddedLemmas.{Padded, padded_tells}
-use Rattle.thin_block.proofs.padded.PaddedMemory.{Opened, padded_apart, padded_in, padded_size, padded_align}
-use Rattle.thin_block.proofs.HeaderMemory.{args, header, t, block_val, block_had, items}
-use Rattle.thin_block.proofs.SlotMemory.{to_raw, reach}
+use Rattle.thin_block.proofs.padded.PaddedMemory.{Opened, padded_apart, array_in, memory_out, padded_size, padded_align}
+use Rattle.thin_block.proofs.HeaderMemory.{args, header, t, block_val, block_had}
+use Rattle.thin_block.proofs.SlotMemory.{reach}
 use Rattle.thin_block.proofs.Addresses.{slot_found}
-use Rattle.thin_block.proofs.MethodSignatures.{item, source, others, dropped, all_go, arrives, heard_all, enters, blank}
+use Rattle.thin_block.proofs.MethodSignatures.{item, source, others, dropped, all_go, arrives, heard_all, enters, blank, still, word}
 use Rattle.thin_block.specs.contracts.block.Block.free_padded.{ended, clauses}
 use Rattle.thin_block.specs.contracts.block.Block.free_padded.Key.{name as #self}
 use Rattle.thin_block.proofs.block.Block.free_padded.Statement.{statement}
@@ -25,10 +26,10 @@ free_padded_spec 𝓤 𝓛 𝓜 𝓡 wired T A LT LA g d dd met md =
     let c = clauses T A g d dd 𝓛 𝓜.mem 𝓡.returns in let ps = En₀.signature.params in
     let hs = dropped ps En₀.kept in let fn = inst_fn (args E Y) compiled.function in
     let 𝓣 = tables 𝓤 𝓛.H 𝓜 𝓡 𝓡.env in let C = 𝓣.C in let Λ = 𝓣.Λ in
+    let q = still 𝓛 3 in
     proved_at 𝓛 En₀ hs c 𝓜 𝓡 (
       Goes-blank 𝓛 3 (slot_at 0 ps) En₀.kept.0 (λ κs x f. tt),
-      all_go 𝓛 (others ps) En₀.kept.1
-          ((λ κs x f. refl), ((λ κs x f. refl), ((λ κs x f. refl), ((λ κs x f. refl), tt)))),
+      all_go 𝓛 (others ps) En₀.kept.1 ((λ κs x f. refl), (q, (q, (q, tt)))),
     )
     (#self (args E Y)) fn (compiled.unfolded 𝓤 𝓛.H 𝓜 𝓡 wired (T, (A, tt)) d dd) (λ z are.
     let Post : Val → SProp 𝓤 = (walk_of 𝓛 En₀ hs c).post z in
@@ -61,24 +62,21 @@ free_padded_spec 𝓤 𝓛 𝓜 𝓡 wired T A LT LA g d dd met md =
     let near : cap * s < 2 ^ 64 = (let low = reach Rt cap cap fits' (omega arith) in omega arith) in
     let wide : Padded s (type_align Rt) cap = padded_tells s (type_align Rt) cap pad in
     let end : ℕ = end_of s cap o in
+    let tok : Ty → Ptr → Fml = token Y h in
+    let here : cap ≡ 0 + cap = omega arith in
     rewrite ! 0 (λ (u : Option A.Denot). ‵ (header (t E Y) Rt x.len (length xs) u b o))
     from refl $
-    rewrite ! 0 (λ (n : ℕ). ‵ (header_owns (token Y h) Rt x.len n b o)) (sym cap_is) refl $
-    move ! (1 ∷ []) $
-    rewrite ! 0 (λ (ys : List (Option T.Denot)). ‵ (slots_own Rt ys b (o + 16))) bare refl $
-    rewrite ! 0 (λ (n : ℕ). ‵ (slots_own Rt (empty_slots n) b (o + 16))) (sym cap_is) refl $
-    use1 𝓛 (‵ (froom (items Rt cap) b (o + 16))) (to_raw E 𝓛 b cap (o + 16))
-    $ move ! (1 ∷ 0 ∷ []) $
+    rewrite ! 0 (λ (n : ℕ). ‵ (header_owns tok Rt x.len n b o)) (sym cap_is) refl $
+    rewrite ! 1 (λ (ys : List (Option T.Denot)). ‵ (slots_own Rt ys b (o + 16)))
+    (bare ∙ ap (λ (n : ℕ). empty_slots n) (sym cap_is)) refl $
     use1 𝓛 (exists (λ (start : ℕ). given (start + s ≡ o + 16)
-    (‵ (Opened 𝓛 E b cap pad (token Y h) x.len o start))))
-    (padded_apart 𝓛 E b cap pad (token Y h) x.len o) $ pick ! (λ start. learn ! (λ front.
-    fsplit ! $ move ! (1 ∷ []) $ fsplit3 ! $ move ! (2 ∷ []) $ fsplit ! $ move ! (6 ∷ []) $
-    fsplit ! $ fsplit ! $ drop ! $
-    -- The context is now: the reference to the allocator; what the numbers own; the right to
-    -- convert the memory of the address; the right to free the block; the address; the right to
-    -- convert the header; memory for the header; memory for the slots; the lifetime token of the
-    -- reference; the other lifetime tokens.
-    keep ! (4 ∷ 6 ∷ 7 ∷ 5 ∷ 2 ∷ 3 ∷ 0 ∷ 8 ∷ 9 ∷ []) $
+    (‵ (Opened 𝓛 E b cap pad tok x.len o start))))
+    (padded_apart 𝓛 E b cap pad tok x.len o) $ pick ! (λ start. learn ! (λ front.
+    fsplit ! $ move ! (1 ∷ []) $ fsplit ! $ move ! (4 ∷ []) $ fsplit ! $ fsplit ! $ drop ! $
+    -- The context is now: the reference to the allocator; what the numbers own; the address; the
+    -- right to free the block, without the address; memory for the header; the slots; the lifetime
+    -- token of the reference; the other lifetime tokens.
+    keep ! (2 ∷ 4 ∷ 5 ∷ 3 ∷ 0 ∷ 6 ∷ 7 ∷ []) $
     let sized : capped (size τ) ≡ bytes = ap capped (padded_size Rt cap ∙ sym bytes_are)
     ∙ capped_is bytes (let low = wide.short in omega arith) in
     let laid : capped (align τ) ≡ al = ap capped (padded_align Rt cap ∙ sym align_is)
@@ -88,27 +86,21 @@ free_padded_spec 𝓤 𝓛 𝓜 𝓡 wired T A LT LA g d dd met md =
     cap ∷ vint w64 bytes ∷ vint w64 al ∷ [])
     (λ i. told i ++ (are.1.0.0 i ++ (are.1.1.0.0 i ++ (are.1.1.1.0.0 i ++ (are.1.1.1.1.0.0 i
     ++ []))))) $
-    alloc_all ! (λ l. pass_all ! refl (
-      (tt, (tt, (tt, (tt, tt)))),
-      (
-        (tt, tt),
-        (
-          (tt, record { fits = are.1.1.0.1 }),
-          (
-            (tt, record { fits = are.1.1.1.0.1 }),
-            ((tt, record { fits = are.1.1.1.1.0.1 }), tt),
-          ),
-        ),
-      ),
-    ) $ let En : Env 𝓤 𝓛.H = env fn.locals l in
+    let w₁ = word are.1.1.0.1 in let w₂ = word are.1.1.1.0.1 in let w₃ = word are.1.1.1.1.0.1 in
+    alloc_all ! (λ l. pass_all ! refl
+    ((tt, (tt, (tt, (tt, tt)))), ((tt, tt), (w₁, (w₂, (w₃, tt))))) $
+    let En : Env 𝓤 𝓛.H = env fn.locals l in
     sets ! (of_opd ! (get_in ! (fld ! refl (stop !)) (sub ! 0 refl (whole !)))) refl (tt, tt) $
     first ! $ blocks ! $
     slot_found E ! b o cap near refl ((tt, tt), (tt, tt)) $
     sets ! (of_opd ! (get ! refl)) refl (tt, tt) $
     sets ! (of_opd ! (load ! (through ! refl (stop !)) (look ! 0 refl))) refl (tt, tt) $
     use1 𝓛 (‵ (froom ty_ptr b end)) (𝓛.laws.at_room ty_ptr b end (vptr b start)) $
-    move ! (1 ∷ []) $ fsplit ! $ move ! (0 ∷ 1 ∷ 3 ∷ 2 ∷ 4 ∷ 5 ∷ []) $ group ! 6 $
-    use1 𝓛 (‵ (froom τ b start)) (padded_in 𝓛 E b cap pad start o front) $
+    move ! (1 ∷ 0 ∷ 2 ∷ 3 ∷ []) $ group ! 4 $
+    use1 𝓛 (‵ (gapped_items tok Rt (block_ptr b start) 1 0 (cap + 2) []))
+    (array_in 𝓛 E b cap pad tok start o front 0 cap (cap + 2) [] here refl refl) $
+    use1 𝓛 (‵ (froom τ b start) ⊛ ‵ (tok τ (block_ptr b start)))
+    (memory_out 𝓛 E b cap tok start) $ split ! $
     move ! (2 ∷ 3 ∷ []) $ join ! $ move ! (1 ∷ 2 ∷ 0 ∷ []) $
     use3 𝓛 (raw ((Gives Y 𝓛 𝓜.mem 𝓡.returns).pre y))
     (Gives-goes Y 𝓛 𝓜.mem 𝓡.returns κ q handle_at h (⊑_trans κ z.0.0.1.1.0 A.lives z.0.2.0 le)

@@ -1,15 +1,13 @@
 -- This file proves the contract of `resize_padded`, which uses a padded block as an array of items,
 -- resizes the array, and uses it as a padded block again.
-use Rattle.std.proofs.Common.{◌≡◌, ℕ, ◌+◌, ◌-◌, ◌*◌, ◌^◌, ◌<◌, ◌≤◌, List, [], ◌∷◌, ◌++◌, length, true, refl, sym, ap, subst, ◌∙◌, arith, lit<, w64, Some, None, Option, take, drop as rest}
-use Rattle.thin_block.proofs.WalkPrelude.{length-take, length-append, Fn, Body, ty_int, ty_array, Val, WT, vint, vptr, vcons, vnil, inst_fn, full_share, SProp, sem, apply∗, ex, Fml, Lft, Share, ftrue, fat, froom, flft, Env, WpFn, tables, After, ‵, raw, ◌⊛◌, exists, given, pick, learn, later, prop, at_ret, ◌$◌, ◌∵◌, !, qed, move, keep, drop, group, use1, use2, use3, split, split3, join, regoal, rewrite, fsplit, fsplit3, fjoin, await, suffices, done, whole, sub, agg, stop, fld, lit, bin, init, look, load, of_opd, no_more, and_then, assigns, first, blocks, exec, returns, enter, alloc_all, pass_all, free_all, look_at, get, get_in, through, sets, sets_last, lands_as, env, Array, usize, part_at, RattleType, owns, layout, param_laws, Is, shows, uint_in, Ptr, block_ptr, lies_at, types_at, peeks, calls_at, walk_of, ends_at, part_out, part_in, array_of, block_with_items, token, fm, proved_at, type_align, R, slot_at, then_runs, out_of_block, after, head, inside, arm_body, says_all}
-use Rattle.std.proofs.lemmas.List.{take-append-drop, length-drop, length-map, length-replicate}
+use Rattle.std.proofs.Common.{◌≡◌, ℕ, ◌+◌, ◌-◌, ◌*◌, ◌^◌, ◌<◌, ◌≤◌, List, [], ◌∷◌, ◌++◌, length, true, refl, sym, ap, subst, ◌∙◌, arith, lit<, w64, Some, None, Option}
+use Rattle.thin_block.proofs.WalkPrelude.{length-append, Fn, Body, ty_int, Val, WT, vint, vptr, vcons, vnil, inst_fn, SProp, ex, Fml, Lft, Share, ftrue, froom, flft, Env, WpFn, tables, After, ‵, raw, ◌⊛◌, exists, given, pick, learn, later, prop, at_ret, ◌$◌, ◌∵◌, !, qed, move, keep, drop, group, use1, use3, split, split3, join, regoal, rewrite, fsplit, fjoin, await, suffices, done, whole, sub, agg, stop, fld, lit, bin, init, look, load, of_opd, no_more, and_then, assigns, first, blocks, exec, returns, enter, alloc_all, pass_all, free_all, look_at, get, get_in, through, sets, sets_last, lands_as, env, RattleType, owns, Ptr, block_ptr, types_at, calls_at, walk_of, ends_at, token, fm, proved_at, type_align, R, slot_at, then_runs, out_of_block, after, head, inside, arm_body, says_all}
+use Rattle.std.proofs.lemmas.List.{length-map, length-replicate}
 use mir.Syntax.{Ty, ty_ptr}
-use base.Fml.{fwand}
 use contract.BorrowLft.{◌⊑◌}
 use types.Match.{live, vrt, in_variant}
 use types.Run.{switches_on}
 use types.ByLocal.{get_tag}
-use denote.Array.{Array-Lawful}
 use denote.Signature.{type_at}
 use Rattle.core.proofs.alloc.Calls.{Goes-blank}
 use Rattle.core.proofs.alloc.Resizes.{Flagged, flagged}
@@ -17,22 +15,22 @@ use Rattle.core.specs.declared.result.Result.TheVariants.{Ok, Err}
 use Rattle.std_alloc.proofs.ResultValues.{ok_of, err_of}
 use Rattle.thin_block.specs.Cost.{add_realloc}
 use Rattle.thin_block.specs.Slots.{items_in, filled_slots, empty_slots, write_slots, slot_range}
-use Rattle.thin_block.specs.Ownership.{fits_block, slots_own, header_owns, header_room, erased_type, pads, end_of}
+use Rattle.thin_block.specs.Ownership.{fits_block, slots_own, header_owns, dealloc_right, pads, end_of}
 use Rattle.thin_block.proofs.sizes.SizesLemmas.{fits_tells, opened}
-use Rattle.thin_block.proofs.HeaderMemory.{args, Br, header, t, any_some, block_val, block_had, block_made}
+use Rattle.thin_block.proofs.HeaderMemory.{args, Br, header, t, any_some, block_val, block_had, block_made, header_written}
 use Rattle.thin_block.proofs.SlotMemory.{sz, reach}
-use Rattle.thin_block.proofs.Addresses.{slot_found, moves_on}
+use Rattle.thin_block.proofs.Addresses.{slot_found}
 use Rattle.thin_block.proofs.SlotsLemmas.{packed-carried}
-use Rattle.thin_block.proofs.WordConversionLemmas.{turn_out, turn_back, turn_up, turn_down}
 use Rattle.thin_block.proofs.padded.PaddedLemmas.{Padded, padded_tells}
-use Rattle.thin_block.proofs.padded.PaddedMemory.{Opened, padded_apart, padded_whole, item_front_out, item_address_out, one_in, one_out, slot_added, slot_removed}
-use Rattle.thin_block.proofs.in_place.ResizedCall.{Sized, Resizing, at_resizing, leaves, Resizing-goes, Resizing-gives}
+use Rattle.thin_block.proofs.padded.PaddedMemory.{Kept, Opened, padded_apart, padded_right_in, array_in, array_out}
+use Rattle.thin_block.proofs.in_place.ResizedCall.{Resizing, at_resizing, leaves, Resizing-goes, Resizing-gives}
+use Rattle.thin_block.specs.InPlace.{FitsGap, gapped_items}
 use Rattle.thin_block.specs.Block.{block_view}
-use Rattle.thin_block.proofs.MethodSignatures.{item, source, others, dropped, all_go, heard_all, blank}
+use Rattle.thin_block.proofs.MethodSignatures.{item, source, others, dropped, all_go, heard_all, blank, still, word}
 use Rattle.thin_block.specs.contracts.block.Block.resize_padded.{ended, clauses}
 use Rattle.thin_block.specs.contracts.block.Block.resize_padded.Key.{name as #self}
 use Rattle.thin_block.proofs.block.Block.resize_padded.Statement.{statement}
-use Rattle.thin_block.proofs.in_place.grow_or_shrink.Met as grow_or_shrink_met
+use Rattle.thin_block.proofs.in_place.resize_array.Met as resize_array_met
 use Rattle.thin_block.proofs.block.Block.resize_padded.Code as compiled
 
 pub resize_padded_spec : {M : Type 1} → statement M
@@ -41,7 +39,6 @@ resize_padded_spec 𝓤 𝓛 𝓜 𝓡 wired T A LT LA g d dd met md =
     let E = item LT in let Y = source LA g d dd in
     let B : RattleType = Br E Y in
     let Rt : RattleType = R E in
-    let Arr : RattleType = Array Rt 1 in
     let En₀ = ended T A g d dd in
     let ps = En₀.signature.params in
     let c = clauses T A g d dd 𝓛 𝓜.mem 𝓡.returns in
@@ -50,28 +47,15 @@ resize_padded_spec 𝓤 𝓛 𝓜 𝓡 wired T A LT LA g d dd met md =
     let 𝓣 = tables 𝓤 H 𝓜 𝓡 𝓡.env in
     let C = 𝓣.C in
     let Λ = 𝓣.Λ in
+    let q = still 𝓛 3 in
     proved_at 𝓛 En₀ hs c 𝓜 𝓡 (
       Goes-blank 𝓛 3 (slot_at 0 ps) En₀.kept.0 (λ κs x f. tt),
-      all_go 𝓛 (others ps) En₀.kept.1 (
-        (λ κs x f. refl),
-        (
-          (λ κs x f. refl),
-          (
-            (λ κs x f. refl),
-            (
-              (λ κs x f. refl),
-              ((λ κs x f. refl), ((λ κs x f. refl), ((λ κs x f. refl), tt))),
-            ),
-          ),
-        ),
-      ),
+      all_go 𝓛 (others ps) En₀.kept.1 ((λ κs x f. refl), (q, (q, (q, (q, (q, (q, tt))))))),
     )
     (#self (args E Y)) fn (compiled.unfolded 𝓤 H 𝓜 𝓡 wired (T, (A, tt)) d dd) (λ z are.
     let Post : Val → SProp 𝓤 = (walk_of 𝓛 En₀ hs c).post z in
     let a = z.0.3 in
     let vss = z.0.4 in
-    let ω : Ty = layout T in
-    let τ' : Ty = erased_type Rt in
     let s : ℕ = sz E in
     let κ : Lft = z.0.0.0 in
     let q : Share = z.0.1.0 in
@@ -105,7 +89,6 @@ resize_padded_spec 𝓤 𝓛 𝓜 𝓡 wired T A LT LA g d dd met md =
     let held_is : held ≡ old + 2 = said.1.1.1.1.1.1.1.1.1.1.1.0 in
     let wanted_is : wanted ≡ cap + 2 = said.1.1.1.1.1.1.1.1.1.1.1.1.0 in
     let front_is : front + 16 ≡ s = said.1.1.1.1.1.1.1.1.1.1.1.1.1 in
-    let one : 1 * s ≡ s = omega arith in
     let items : List T.Denot = items_in x.slots in
     let all : len ≡ length items = len_is ∙ packed.len in
     let counted : length x.slots ≡ length items + (length x.slots - length items) =
@@ -116,21 +99,11 @@ resize_padded_spec 𝓤 𝓛 𝓜 𝓡 wired T A LT LA g d dd met md =
     let within : len ≤ old = omega arith in
     let j : ℕ = old - len in
     let j' : ℕ = cap - x.len in
-    let filled : old + 1 ≡ len + (j + 1) = omega arith in
-    let filled' : cap + 1 ≡ len + (j' + 1) = omega arith in
-    let held_one : held ≡ 1 + (old + 1) = omega arith in
-    let wanted_one : wanted ≡ 1 + (cap + 1) = omega arith in
     let slots_are : old ≡ length items + j = omega arith in
     let slots_are' : cap ≡ length items + j' = omega arith in
     let row : x.slots ≡ filled_slots items ++ empty_slots j = packed.row
     ∙ (λ i. filled_slots items ++ empty_slots
     (let e : length x.slots - length items ≡ j = omega arith in e i)) in
-    -- `ys` is the last item, and `xs` are the items before it.
-    let xs : List T.Denot = take (len - 1) items in
-    let ys : List T.Denot = rest (len - 1) items in
-    let long : length ys ≡ 1 = omega (arith, length-drop (len - 1) items) in
-    let parted : len ≡ length xs + 1 = omega (arith, length-take (len - 1) items) in
-    let joined : items ≡ xs ++ ys = sym (take-append-drop (len - 1) items) in
     split ! $ split3 ! $ move ! (2 ∷ []) $ split ! $ move ! (4 ∷ []) $ fsplit ! $
     block_had E Y ! x vss.0 (λ b o at told fits.
     -- The context is now: the header; the slots; what the other arguments own; the lifetime tokens
@@ -138,10 +111,8 @@ resize_padded_spec 𝓤 𝓛 𝓜 𝓡 wired T A LT LA g d dd met md =
     let here : Ptr = block_ptr b o in
     let wide : Padded s (type_align Rt) old = padded_tells s (type_align Rt) old pad in
     let wide' : Padded s (type_align Rt) cap = padded_tells s (type_align Rt) cap pad' in
-    let near : len * s < 2 ^ 63 = reach Rt len (length x.slots) fits (omega arith) in
     let near_end : old * s < 2 ^ 64 =
     let low = reach Rt old (length x.slots) fits (omega arith) in omega arith in
-    let short : len * s < 2 ^ 64 = omega arith in
     let fits_cap : fits_block Rt cap ≡ true = opened Rt cap small in
     let near_end' : cap * s < 2 ^ 64 =
     let low = reach Rt cap cap fits_cap (omega arith) in omega arith in
@@ -155,137 +126,75 @@ resize_padded_spec 𝓤 𝓛 𝓜 𝓡 wired T A LT LA g d dd met md =
     rewrite ! 0 (λ (n : ℕ). ‵ (header_owns tok Rt x.len n b o)) (sym old_is) refl $
     use1 𝓛 (exists (λ (start : ℕ). given (start + s ≡ o + 16) (‵ (Opened 𝓛 E b old pad tok x.len o
     start)))) (padded_apart 𝓛 E b old pad tok x.len o) $ pick ! (λ start. learn ! (λ place.
-    let there : ℕ = len * s + start in
-    fsplit ! $ move ! (1 ∷ []) $ fsplit3 ! $ move ! (2 ∷ []) $ fsplit ! $
-    -- The context is now: the right to convert the memory after the slots; the right to free the
-    -- memory; the address; the right to convert the header; memory for the header; the slots; ...
-    move ! (2 ∷ 3 ∷ 4 ∷ 5 ∷ 0 ∷ 1 ∷ []) $
-    rewrite ! 3 (λ (l : List (Option T.Denot)). ‵ (slots_own Rt l b (o + 16))) row refl $
-    move ! (6 ∷ []) $ fsplit ! $ fsplit ! $ drop ! $
-    keep ! (2 ∷ 3 ∷ 4 ∷ 5 ∷ 6 ∷ 7 ∷ 0 ∷ 10 ∷ 11 ∷ 8 ∷ 9 ∷ []) $
-    -- The context is now: the address after the slots; the right to convert the header; memory for
-    -- the header; the slots; the right to convert the address; the right to free the block; the
-    -- shared reference to the allocator; the lifetime tokens of this reference and of `T`; the
-    -- lifetime token of `A`; an empty entry.
+    fsplit ! $ move ! (1 ∷ []) $ fsplit ! $ move ! (3 ∷ []) $
+    rewrite ! 0 (λ (l : List (Option T.Denot)). ‵ (slots_own Rt l b (o + 16))) row refl $
+    move ! (4 ∷ []) $ fsplit ! $ fsplit ! $ drop ! $
+    keep ! (3 ∷ 5 ∷ 2 ∷ 4 ∷ 0 ∷ 8 ∷ 9 ∷ 6 ∷ 7 ∷ []) $
+    -- The context is now: the address after the slots; memory for the header; the slots; the right
+    -- to free the block, without the address; the shared reference to the allocator; the lifetime
+    -- tokens of this reference and of `T`; the lifetime token of `A`; an empty entry.
     regoal ! (λ (us : List Val). prop (WpFn 𝓤 H C Λ fn us Post))
     (λ i. told i ++ (are.1.0.0 i ++ (are.1.1.0.0 i ++ (are.1.1.1.0.0 i ++ (are.1.1.1.1.0.0 i
     ++ (are.1.1.1.1.1.0.0 i ++ (are.1.1.1.1.1.1.0.0 i ++ (are.1.1.1.1.1.1.1.0.0 i ++ []))))))))
     refl $
     enter ! C Λ fn (block_val here ∷ vptr handle_at.0 handle_at.1 ∷ vint w64 len ∷ vint w64
     old ∷ vint w64 cap ∷ vint w64 held ∷ vint w64 wanted ∷ vint w64 front ∷ []) Post $
-    alloc_all ! (λ l. pass_all ! refl (
-      (tt, (tt, (tt, (tt, tt)))),
-      (
-        (tt, tt),
-        (
-          (tt, record { fits = are.1.1.0.1 }),
-          (
-            (tt, record { fits = are.1.1.1.0.1 }),
-            (
-              (tt, record { fits = are.1.1.1.1.0.1 }),
-              (
-                (tt, record { fits = are.1.1.1.1.1.0.1 }),
-                (
-                  (tt, record { fits = are.1.1.1.1.1.1.0.1 }),
-                  ((tt, record { fits = are.1.1.1.1.1.1.1.0.1 }), tt),
-                ),
-              ),
-            ),
-          ),
-        ),
-      ),
-    ) $
+    let w₁ = word are.1.1.0.1 in let w₂ = word are.1.1.1.0.1 in let w₃ = word are.1.1.1.1.0.1 in
+    let w₄ = word are.1.1.1.1.1.0.1 in let w₅ = word are.1.1.1.1.1.1.0.1 in
+    let w₆ = word are.1.1.1.1.1.1.1.0.1 in
+    alloc_all ! (λ l. pass_all ! refl
+    ((tt, (tt, (tt, (tt, tt)))), ((tt, tt), (w₁, (w₂, (w₃, (w₄, (w₅, (w₆, tt)))))))) $
     let En : Env 𝓤 H = env fn.locals l in
     sets ! (of_opd ! (get_in ! (fld ! refl (stop !)) (sub ! 0 refl (whole !)))) refl (tt, tt) $
     first ! $ blocks ! $
     slot_found E ! b o old near_end refl ((tt, tt), (tt, tt)) $
     sets ! (of_opd ! (get ! refl)) refl (tt, tt) $
     sets ! (of_opd ! (load ! (through ! refl (stop !)) (look ! 0 refl))) refl (tt, tt) $
-    -- The memory of the address, and that of the header, is used as memory for items.
     use1 𝓛 (‵ (froom ty_ptr b end)) (𝓛.laws.at_room ty_ptr b end (vptr b start)) $
-    move ! (0 ∷ 4 ∷ []) $ use2 𝓛 (‵ (froom τ' b end))
-    (apply∗ 𝓤 (H.room ty_ptr b end) (H.room τ' b end)) $
-    move ! (3 ∷ 0 ∷ []) $ use2 𝓛 (‵ (slots_own Rt (filled_slots items ++ empty_slots (j + 1)) b
-    (o + 16))) (slot_added 𝓛 E b items j old (o + 16) slots_are) $
-    rewrite ! 0 (λ (k : ℕ). ‵ (slots_own Rt (filled_slots items ++ empty_slots (j + 1)) b k))
-    (sym place) refl $
-    rewrite ! 0 (λ (ls : List T.Denot).
-    ‵ (slots_own Rt (filled_slots ls ++ empty_slots (j + 1)) b (start + s))) joined refl $
-    move ! (2 ∷ 1 ∷ []) $ use2 𝓛 (‵ (froom τ' b start))
-    (apply∗ 𝓤 (sem 𝓛 (header_room b o)) (H.room τ' b start)) $
-    use1 𝓛 (‵ (froom (ty_array ω 1) b start)) (one_in 𝓛 E b start) $ move ! (1 ∷ 0 ∷ []) $
-    use1 𝓛 (‵ (slots_own Rt (filled_slots xs) b (start + s)) ⊛
-    ‵ (part_at (Array Rt 1) full_share ys b there) ⊛ ‵
-    (slots_own Rt (empty_slots (j + 1)) b (1 * s + there)))
-    (turn_out 𝓛 E b 1 s one start xs ys long len (j + 1) parted)
-    $ split3 ! $ move ! (1 ∷ 0 ∷ 2 ∷ []) $
-    -- The context is now: the last item; the items before it; the empty slots; memory for an item
-    -- at the start; the right to free the block; the shared reference to the allocator; the
-    -- lifetime tokens of this reference, of `T` and of `A`; an empty entry.
-    use1 𝓛 (exists (λ (u : Val). ‵ (fat full_share (ty_array ω 1) b there u) ⊛ ‵
-    (Arr.own_val ys (u ∷ [])))) (part_out 𝓛 (Array Rt 1) refl full_share ys b there) $
-    pick ! (λ u₁. split ! $
-    move ! (1 ∷ []) $ peeks ! Arr (Is Arr) (shows 𝓛 Arr) ys (u₁ ∷ []) (λ is_u.
-    let good = ((Array-Lawful 𝓛 Rt ((param_laws 0 T LT).lawful 𝓛) 1).typed ys (u₁ ∷ []) is_u).0 in
-    sets ! (of_opd ! (get ! refl)) refl (tt, tt) $
-    moves_on E ! b start len short refl (tt, tt) $
-    sets ! (of_opd ! (get ! refl)) refl (tt, tt) $
-    move ! (1 ∷ []) $
-    sets ! (of_opd ! (load ! (through ! refl (stop !)) (look ! 0 refl))) refl good $
-    assigns ! (of_opd ! (get ! refl)) (through ! refl (stop !)) (init ! 4 refl good) $
-    -- The bytes of the last item have been copied to the start. The context is now: these bytes at
-    -- their old address; the resources that the item owns; the items before it; the empty slots;
-    -- the copied bytes; the right to free the block; the reference to the allocator; the tokens.
-    use1 𝓛 (‵ (froom (ty_array ω 1) b there)) (𝓛.laws.at_room (ty_array ω 1) b there u₁) $
-    move ! (4 ∷ 1 ∷ []) $ use2 𝓛 (‵ (part_at (Array Rt 1) full_share ys b start))
-    (part_in 𝓛 (Array Rt 1) refl full_share ys b start u₁) $
-    move ! (0 ∷ 2 ∷ 1 ∷ 3 ∷ 4 ∷ []) $
-    rewrite ! 4 (λ (n : ℕ). ‵ (tok (array_of Rt n) (block_ptr b start))) (sym held_is) refl $
-    group ! 5 $
-    use1 𝓛 (‵ (block_with_items tok Rt (block_ptr b start) len held (ys ++ xs)))
-    (turn_up 𝓛 E b 1 s one start xs ys long len (j + 1) parted tok (old + 1) held filled held_one) $
+    move ! (1 ∷ 0 ∷ 2 ∷ 3 ∷ []) $ group ! 4 $
+    use1 𝓛 (‵ (gapped_items tok Rt (block_ptr b start) 1 len held items))
+    (array_in 𝓛 E b old pad tok start o place len j held items slots_are (sym all) held_is) $
     let y = at_resizing E Y 𝓛 𝓜.mem 𝓡.returns κ κT κA q qT qA z.0.2.0 handle_at h b start
-    len held wanted (ys ++ xs) in
-    let left = leaves E Y 𝓛 𝓜.mem 𝓡.returns κ κT κA q qT qA z.0.2.0 handle_at h b start len
-    held wanted (ys ++ xs) in
-    let sizes : Sized E len held wanted = (
-      omega arith,
-      (
-        omega arith,
-        (
-          subst (λ (n : ℕ). n * s < 2 ^ 63) (sym held_is) wide.short,
-          subst (λ (n : ℕ). n * s < 2 ^ 63) (sym wanted_is) wide'.short,
-        ),
-      ),
-    ) in
+    1 len held wanted items in
+    let left = leaves E Y 𝓛 𝓜.mem 𝓡.returns κ κT κA q qT qA z.0.2.0 handle_at h b start 1 len
+    held wanted items in
+    let sizes : FitsGap Rt 1 len held wanted items =
+    record {
+      count = sym all;
+      enough = omega arith;
+      room = omega arith;
+      new_room = omega arith;
+      fits = subst (λ (n : ℕ). n * s < 2 ^ 63) (sym held_is) wide.short;
+      new_fits = subst (λ (n : ℕ). n * s < 2 ^ 63) (sym wanted_is) wide'.short;
+    } in
     group ! 5 $
     use1 𝓛 (raw (V.pre y))
-    (Resizing-goes E Y 𝓛 𝓜.mem 𝓡.returns κ κT κA q qT qA z.0.2.0 handle_at h b start len held
-    wanted (ys ++ xs) leT leA sizes are.1.1.0.1 are.1.1.1.1.1.0.1 are.1.1.1.1.1.1.0.1) $
+    (Resizing-goes E Y 𝓛 𝓜.mem 𝓡.returns κ κT κA q qT qA z.0.2.0 handle_at h b start 1 len held
+    wanted items leT leA sizes (lit< tt) are.1.1.0.1 are.1.1.1.1.1.0.1 are.1.1.1.1.1.1.0.1) $
     calls_at ! (fm 𝓛 𝓜 𝓡) V
-    (grow_or_shrink_met.met 𝓤 𝓛 𝓜 𝓡
-    (compiled.calls-thin_block::in_place::grow_or_shrink 𝓡.env wired) T A LT LA g d dd met md) y
-    (and_then ! (get ! refl) (and_then ! (get ! refl) (and_then ! (get ! refl)
-    (and_then ! (get ! refl) (and_then ! (get ! refl) (no_more !)))))) (λ u.
+    (resize_array_met.met 𝓤 𝓛 𝓜 𝓡
+    (compiled.calls-thin_block::in_place::resize_array 𝓡.env wired) T A LT LA g d dd met md) y
+    (and_then ! (get ! refl) (and_then ! (get ! refl) (and_then ! (lit ! tt)
+    (and_then ! (get ! refl) (and_then ! (get ! refl) (and_then ! (get ! refl) (no_more !)))))))
+    (λ u.
     use1 𝓛 (later (raw (ex 𝓤 (Flagged 𝓛 left u)) ⊛ ‵ (flft κ q) ⊛ ‵ (flft κT qT) ⊛ ‵ (flft κA qA)))
-    (Resizing-gives E Y 𝓛 𝓜.mem 𝓡.returns κ κT κA q qT qA z.0.2.0 handle_at h b start len held
-    wanted (ys ++ xs) u) $ await ! tt $ split ! $ move ! (1 ∷ []) $ split3 ! $
+    (Resizing-gives E Y 𝓛 𝓜.mem 𝓡.returns κ κT κA q qT qA z.0.2.0 handle_at h b start 1 len held
+    wanted items u) $ await ! tt $ split ! $ move ! (1 ∷ []) $ split3 ! $
     -- The context is now: the lifetime tokens of the allocator reference, of `T` and of `A`; the
-    -- result of `grow_or_shrink`; an empty entry.
+    -- result of `resize_array`; an empty entry.
     move ! (2 ∷ 4 ∷ []) $ join ! $ move ! (2 ∷ 0 ∷ []) $ join ! $ move ! (1 ∷ 0 ∷ []) $ join ! $
     move ! (1 ∷ []) $
-    -- The context is now: the resources that `grow_or_shrink` has returned; the lifetime tokens.
+    -- The context is now: the resources that `resize_array` has returned; the lifetime tokens.
     let inner : Body = inside (head (after 1 fn.body)) in
-    let both : Body = head (after 13 inner) in
+    let both : Body = head (after 7 inner) in
     let Last : After 𝓤 H = out_of_block 𝓛
     (then_runs 𝓛 C Λ En (after 2 fn.body) (at_ret En Post)) in
-    let Then : After 𝓤 H = then_runs 𝓛 C Λ En (after 14 inner) Last in
+    let Then : After 𝓤 H = then_runs 𝓛 C Λ En (after 8 inner) Last in
     flagged ! u left
     (λ b' o' e.
     let header' : ℕ = front + o' in
     let place' : o' + s ≡ header' + 16 = omega arith in
     let p : Ptr = block_ptr b' header' in
-    let there' : ℕ = len * s + o' in
     let end' : ℕ = end_of s cap header' in
     let news : List (Option T.Denot) = filled_slots items ++ empty_slots j' in
     let some_more : length news ≡ cap =
@@ -314,50 +223,16 @@ resize_padded_spec 𝓤 𝓛 𝓜 𝓡 wired T A LT LA g d dd met md =
     exec ! C Λ En (arm_body 0 both) Then $
     sets ! (of_opd ! (get_in ! (vrt ! refl (fld ! refl (stop !)))
     (in_variant ! 0 0 refl refl (whole !)))) refl (tt, tt) $
-    sets ! (of_opd ! (get ! refl)) refl (tt, tt) $
-    moves_on E ! b' o' len short refl (tt, tt) $
-    sets ! (of_opd ! (get ! refl)) refl (tt, tt) $
-    use1 𝓛 (‵ (part_at (Array Rt 1) full_share ys b' o') ⊛
-    ‵ (slots_own Rt (filled_slots xs) b' (o' + s))
-    ⊛ ‵ (froom (ty_array ω 1) b' there') ⊛
-    ‵ (slots_own Rt (empty_slots (j' + 1)) b' (1 * s + there')) ⊛ ‵ (tok (array_of Rt wanted) (block_ptr b' o')))
-    (turn_down 𝓛 E b' 1 s one o' xs ys long len (j' + 1) parted tok (cap + 1) wanted filled'
-    wanted_one) $
-    split3 ! $ move ! (2 ∷ []) $ split3 ! $ move ! (3 ∷ []) $
-    use1 𝓛 (exists (λ (u : Val). ‵ (fat full_share (ty_array ω 1) b' o' u) ⊛ ‵
-    (Arr.own_val ys (u ∷ [])))) (part_out 𝓛 (Array Rt 1) refl full_share ys b' o') $
-    pick ! (λ u₂. split ! $
-    move ! (1 ∷ []) $ peeks ! Arr (Is Arr) (shows 𝓛 Arr) ys (u₂ ∷ []) (λ is_u₂.
-    let good' = ((Array-Lawful 𝓛 Rt ((param_laws 0 T LT).lawful 𝓛) 1).typed ys (u₂ ∷ []) is_u₂).0 in
-    move ! (1 ∷ []) $
-    -- The call has succeeded. The context is now: the bytes of the last item, at the start of the
-    -- memory; the resources that this item owns; uninitialized memory after the other items; the
-    -- empty slots; the right to free the block; the other items; the lifetime tokens.
-    sets ! (of_opd ! (load ! (through ! refl (stop !)) (look ! 0 refl))) refl good' $
-    assigns ! (of_opd ! (get ! refl)) (through ! refl (stop !)) (init ! 2 refl good') $
-    use1 𝓛 (‵ (froom (ty_array ω 1) b' o')) (𝓛.laws.at_room (ty_array ω 1) b' o' u₂) $
-    use1 𝓛 (‵ (froom τ' b' o')) (one_out 𝓛 E b' o') $
-    use1 𝓛 (‵ (froom (ty_int w64) b' header') ⊛ ‵ (froom (ty_int w64) b' (header' + 8)) ⊛ ‵
-    (fwand (header_room b' header') (froom τ' b' o')))
-    (item_front_out 𝓛 E b' cap pad' o' header' place') $ split3 ! $ move ! (4 ∷ 3 ∷ []) $
-    use2 𝓛 (‵ (part_at (Array Rt 1) full_share ys b' there'))
-    (part_in 𝓛 (Array Rt 1) refl full_share ys b' there' u₂) $ move ! (6 ∷ 0 ∷ 4 ∷ []) $
-    use3 𝓛 (‵ (slots_own Rt (filled_slots (xs ++ ys) ++ empty_slots (j' + 1)) b' (o' + s)))
-    (turn_back 𝓛 E b' 1 s one o' xs ys long len (j' + 1) parted) $
-    rewrite ! 0 (λ (l : List T.Denot).
-    ‵ (slots_own Rt (filled_slots l ++ empty_slots (j' + 1)) b' (o' + s)))
-    (sym joined) refl $
-    rewrite ! 0 (λ (k : ℕ). ‵ (slots_own Rt (filled_slots items ++ empty_slots (j' + 1)) b' k))
-    place' refl $
-    use1 𝓛 (‵ (slots_own Rt news b' (header' + 16)) ⊛ ‵ (froom τ' b' end'))
-    (slot_removed 𝓛 E b' items j' cap (header' + 16) slots_are') $ split ! $ move ! (1 ∷ []) $
-    use1 𝓛 (‵ (froom ty_ptr b' end') ⊛ ‵ (fwand (froom ty_ptr b' end') (froom τ' b' end')))
-    (item_address_out 𝓛 E b' cap pad' end') $ split ! $ move ! (3 ∷ 4 ∷ 0 ∷ []) $
-    -- The last item is back behind the other items. The context is now: memory for the capacity;
-    -- memory for the length; memory for the address; the right to convert the address back; the
-    -- slots; the right to convert the header back; the right to free the memory; the tokens.
-    rewrite ! 1 (λ (n : ℕ). ‵ (froom (ty_int w64) b' n))
-    (let turned : header' + 8 ≡ 8 + header' = omega arith in turned) refl $
+    let kept' : Fml = Kept 𝓛 E b' cap pad' tok o' header' place' len j' wanted items slots_are'
+    (sym all) wanted_is in
+    use1 𝓛 (‵ (froom (ty_int w64) b' header') ⊛ ‵ (froom (ty_int w64) b' (8 + header')) ⊛ ‵
+    (froom ty_ptr b' end') ⊛ ‵ (slots_own Rt news b' (header' + 16)) ⊛ ‵ kept')
+    (array_out 𝓛 E b' cap pad' tok o' header' place' len j' wanted items slots_are' (sym all)
+    wanted_is) $
+    split3 ! $ move ! (2 ∷ []) $ split3 ! $ move ! (3 ∷ 4 ∷ 0 ∷ []) $
+    -- The call has succeeded. The context is now: memory for the capacity; memory for the length;
+    -- memory for the address; the slots; the right to free the block, without the address; the
+    -- lifetime tokens.
     sets ! (of_opd ! (get ! refl)) refl (tt, tt) $
     sets ! (bin ! (get ! refl) (get ! refl) tt) refl (tt, tt) $
     sets ! (of_opd ! (get ! refl)) refl (tt, tt) $
@@ -375,22 +250,16 @@ resize_padded_spec 𝓤 𝓛 𝓜 𝓡 wired T A LT LA g d dd met md =
     (and_then ! (get ! refl) (and_then ! (get ! refl) (no_more !))))) refl (tt, words) $
     sets_last ! (agg ! (and_then ! (lit ! tt) (and_then ! (get ! refl) (no_more !)))) refl
     (tt, (record { fits = lit< tt }, (words, tt))) $
-    exec ! C Λ En (after 14 inner) Last $
+    exec ! C Λ En (after 8 inner) Last $
     sets_last ! (of_opd ! (get ! refl)) refl (tt, (record { fits = lit< tt }, (words, tt))) $
     exec ! C Λ En (after 2 fn.body) (at_ret En Post) $
     sets ! (of_opd ! (get ! refl)) refl (tt, (record { fits = lit< tt }, (words, tt))) $
     returns ! (look_at ! 0 refl) $ free_all ! refl $
-    rewrite ! 1 (λ (n : ℕ). ‵ (fat full_share (ty_int w64) b' n (vint w64 len)))
-    (let turned : 8 + header' ≡ header' + 8 = omega arith in turned) refl $
-    use1 𝓛 (‵ (lies_at usize full_share (block_ptr b' header') cap))
-    (uint_in 𝓛 full_share w64 cap b' header') $ move ! (1 ∷ []) $
-    use1 𝓛 (‵ (lies_at usize full_share (block_ptr b' (header' + 8)) len))
-    (uint_in 𝓛 full_share w64 len b' (header' + 8)) $
-    rewrite ! 6 (λ (n : ℕ). ‵ (tok (array_of Rt n) (block_ptr b' o'))) wanted_is refl $
-    move ! (3 ∷ 6 ∷ []) $ fjoin ! $ move ! (5 ∷ 0 ∷ []) $ fjoin ! $ move ! (3 ∷ 0 ∷ []) $ fjoin ! $
-    move ! (2 ∷ 1 ∷ 0 ∷ []) $
+    move ! (2 ∷ 4 ∷ []) $ fjoin ! $
+    use1 𝓛 (‵ (dealloc_right tok Rt cap b' header'))
+    (padded_right_in 𝓛 E b' cap pad' tok len header' o' place') $ move ! (1 ∷ 2 ∷ 0 ∷ []) $
     use3 𝓛 (‵ (header_owns tok Rt len cap b' header'))
-    (padded_whole 𝓛 E b' cap pad' tok len header' o' place' fits_cap) $
+    (header_written 𝓛 tok Rt len cap b' header' fits_cap) $
     rewrite ! 0 (λ (n : ℕ). ‵ (header_owns tok Rt n cap b' header')) len_is refl $
     rewrite ! 0 (λ (n : ℕ). ‵ (header_owns tok Rt x.len n b' header')) (sym some_more) refl $
     block_made E Y ! y' b' header' refl $
@@ -400,50 +269,22 @@ resize_padded_spec 𝓤 𝓛 𝓜 𝓡 wired T A LT LA g d dd met md =
     suffices ! _ (ends_at 𝓛 En₀ hs c z (live 0 (vcons (block_val p) vnil)) (Ok y')
     (tt, (tt, (tt, (tt, (tt, (tt, (tt, (tt, tt))))))))
     (tt, (tt, (tt, (tt, (tt, (tt, (tt, (tt, tt))))))))) $
-    says_all ! (_ ∷ _ ∷ []) (changes, tt) $ done !)))
+    says_all ! (_ ∷ _ ∷ []) (changes, tt) $ done !)
     (λ e.
     lands_as ! e refl (tt, (record { fits = lit< tt }, (tt, tt))) $
     first ! $ switches_on ! (get_tag ! (vrt ! refl (fld ! refl (stop !))) (whole !)) $
     exec ! C Λ En (arm_body 1 both) Then $
     sets ! (of_opd ! (get_in ! (vrt ! refl (fld ! refl (stop !)))
     (in_variant ! 1 0 refl refl (whole !)))) refl (tt, tt) $
-    use1 𝓛 (‵ (part_at (Array Rt 1) full_share ys b start) ⊛
-    ‵ (slots_own Rt (filled_slots xs) b (start + s))
-    ⊛ ‵ (froom (ty_array ω 1) b there) ⊛ ‵ (slots_own Rt (empty_slots (j + 1)) b (1 * s + there))
-    ⊛ ‵ (tok (array_of Rt held) (block_ptr b start)))
-    (turn_down 𝓛 E b 1 s one start xs ys long len (j + 1) parted tok (old + 1) held filled held_one)
-    $
-    split3 ! $ move ! (2 ∷ []) $ split3 ! $ move ! (3 ∷ []) $
-    use1 𝓛 (exists (λ (u : Val). ‵ (fat full_share (ty_array ω 1) b start u) ⊛ ‵
-    (Arr.own_val ys (u ∷ [])))) (part_out 𝓛 (Array Rt 1) refl full_share ys b start) $
-    pick ! (λ u₂. split ! $
-    move ! (1 ∷ []) $ peeks ! Arr (Is Arr) (shows 𝓛 Arr) ys (u₂ ∷ []) (λ is_u₂.
-    let good' = ((Array-Lawful 𝓛 Rt ((param_laws 0 T LT).lawful 𝓛) 1).typed ys (u₂ ∷ []) is_u₂).0 in
-    move ! (1 ∷ []) $
+    let kept : Fml = Kept 𝓛 E b old pad tok start o place len j held items slots_are (sym all)
+    held_is in
+    use1 𝓛 (‵ (froom (ty_int w64) b o) ⊛ ‵ (froom (ty_int w64) b (8 + o)) ⊛ ‵
+    (froom ty_ptr b end) ⊛ ‵ (slots_own Rt (filled_slots items ++ empty_slots j) b (o + 16))
+    ⊛ ‵ kept)
+    (array_out 𝓛 E b old pad tok start o place len j held items slots_are (sym all) held_is) $
+    split3 ! $ move ! (2 ∷ []) $ split3 ! $ move ! (3 ∷ 4 ∷ 0 ∷ []) $
     -- The call has failed. From here on, the steps and the context are as in the case of success,
     -- with the old address and the old capacity.
-    sets ! (of_opd ! (load ! (through ! refl (stop !)) (look ! 0 refl))) refl good' $
-    assigns ! (of_opd ! (get ! refl)) (through ! refl (stop !)) (init ! 2 refl good') $
-    use1 𝓛 (‵ (froom (ty_array ω 1) b start)) (𝓛.laws.at_room (ty_array ω 1) b start u₂) $
-    use1 𝓛 (‵ (froom τ' b start)) (one_out 𝓛 E b start) $
-    use1 𝓛 (‵ (froom (ty_int w64) b o) ⊛ ‵ (froom (ty_int w64) b (o + 8)) ⊛ ‵
-    (fwand (header_room b o) (froom τ' b start)))
-    (item_front_out 𝓛 E b old pad start o place) $ split3 ! $ move ! (4 ∷ 3 ∷ []) $
-    use2 𝓛 (‵ (part_at (Array Rt 1) full_share ys b there))
-    (part_in 𝓛 (Array Rt 1) refl full_share ys b there u₂) $ move ! (6 ∷ 0 ∷ 4 ∷ []) $
-    use3 𝓛 (‵ (slots_own Rt (filled_slots (xs ++ ys) ++ empty_slots (j + 1)) b (start + s)))
-    (turn_back 𝓛 E b 1 s one start xs ys long len (j + 1) parted) $
-    rewrite ! 0 (λ (l : List T.Denot).
-    ‵ (slots_own Rt (filled_slots l ++ empty_slots (j + 1)) b (start + s)))
-    (sym joined) refl $
-    rewrite ! 0 (λ (k : ℕ). ‵ (slots_own Rt (filled_slots items ++ empty_slots (j + 1)) b k))
-    place refl $
-    use1 𝓛 (‵ (slots_own Rt (filled_slots items ++ empty_slots j) b (o + 16)) ⊛ ‵ (froom τ' b end))
-    (slot_removed 𝓛 E b items j old (o + 16) slots_are) $ split ! $ move ! (1 ∷ []) $
-    use1 𝓛 (‵ (froom ty_ptr b end) ⊛ ‵ (fwand (froom ty_ptr b end) (froom τ' b end)))
-    (item_address_out 𝓛 E b old pad end) $ split ! $ move ! (3 ∷ 4 ∷ 0 ∷ []) $
-    rewrite ! 1 (λ (n : ℕ). ‵ (froom (ty_int w64) b n))
-    (let turned : o + 8 ≡ 8 + o = omega arith in turned) refl $
     assigns ! (of_opd ! (get ! refl)) (through ! refl (stop !))
     (init ! 0 refl (tt, record { fits = are.1.1.1.0.1 })) $
     sets ! (bin ! (get ! refl) (lit ! tt) tt) refl (tt, tt) $
@@ -456,22 +297,16 @@ resize_padded_spec 𝓤 𝓛 𝓜 𝓡 wired T A LT LA g d dd met md =
     (and_then ! (get ! refl) (and_then ! (get ! refl) (no_more !))))) refl (tt, words) $
     sets_last ! (agg ! (and_then ! (lit ! tt) (and_then ! (get ! refl) (no_more !)))) refl
     (tt, (record { fits = lit< tt }, (words, tt))) $
-    exec ! C Λ En (after 14 inner) Last $
+    exec ! C Λ En (after 8 inner) Last $
     sets_last ! (of_opd ! (get ! refl)) refl (tt, (record { fits = lit< tt }, (words, tt))) $
     exec ! C Λ En (after 2 fn.body) (at_ret En Post) $
     sets ! (of_opd ! (get ! refl)) refl (tt, (record { fits = lit< tt }, (words, tt))) $
     returns ! (look_at ! 0 refl) $ free_all ! refl $
-    rewrite ! 1 (λ (n : ℕ). ‵ (fat full_share (ty_int w64) b n (vint w64 len)))
-    (let turned : 8 + o ≡ o + 8 = omega arith in turned) refl $
-    use1 𝓛 (‵ (lies_at usize full_share (block_ptr b o) old)) (uint_in 𝓛 full_share w64 old b o) $
-    move ! (1 ∷ []) $
-    use1 𝓛 (‵ (lies_at usize full_share (block_ptr b (o + 8)) len))
-    (uint_in 𝓛 full_share w64 len b (o + 8)) $
-    rewrite ! 6 (λ (n : ℕ). ‵ (tok (array_of Rt n) (block_ptr b start))) held_is refl $
-    move ! (3 ∷ 6 ∷ []) $ fjoin ! $ move ! (5 ∷ 0 ∷ []) $ fjoin ! $ move ! (3 ∷ 0 ∷ []) $ fjoin ! $
-    move ! (2 ∷ 1 ∷ 0 ∷ []) $
+    move ! (2 ∷ 4 ∷ []) $ fjoin ! $
+    use1 𝓛 (‵ (dealloc_right tok Rt old b o))
+    (padded_right_in 𝓛 E b old pad tok len o start place) $ move ! (1 ∷ 2 ∷ 0 ∷ []) $
     use3 𝓛 (‵ (header_owns tok Rt len old b o))
-    (padded_whole 𝓛 E b old pad tok len o start place fits_old) $
+    (header_written 𝓛 tok Rt len old b o fits_old) $
     rewrite ! 0 (λ (n : ℕ). ‵ (header_owns tok Rt n old b o)) len_is refl $
     rewrite ! 0 (λ (n : ℕ). ‵ (header_owns tok Rt x.len n b o)) old_is refl $
     rewrite ! 0 (λ (u : Option A.Denot). ‵ (header (t E Y) Rt x.len (length x.slots) u b o))
@@ -484,4 +319,4 @@ resize_padded_spec 𝓤 𝓛 𝓜 𝓡 wired T A LT LA g d dd met md =
     suffices ! _ (ends_at 𝓛 En₀ hs c z (live 1 (vcons (block_val here) vnil)) (Err x)
     (tt, (tt, (tt, (tt, (tt, (tt, (tt, (tt, tt))))))))
     (tt, (tt, (tt, (tt, (tt, (tt, (tt, (tt, tt))))))))) $
-    says_all ! (_ ∷ _ ∷ []) (tt, refl) $ done !))))))))))))
+    says_all ! (_ ∷ _ ∷ []) (tt, refl) $ done !))))))))

@@ -1,12 +1,12 @@
 -- This file proves the contract of `resize_words`, which converts a block into an array of words,
 -- resizes the array, and converts it back into a block.
-use Rattle.std.proofs.Common.{◌≡◌, ℕ, ◌+◌, ◌-◌, ◌*◌, ◌^◌, ◌<◌, ◌≤◌, List, [], ◌∷◌, ◌++◌, length, true, refl, sym, ap, subst, ◌∙◌, arith, lit<, w64, Some, None, Option, take, drop as rest}
-use Rattle.thin_block.proofs.WalkPrelude.{div_ceil, length-take, length-append, Ty, Fn, Body, Args, ty_int, ty_array, a_type, a_number, dcons, dnil, bare, Val, WT, vint, vptr, vcons, vnil, inst_fn, full_share, SProp, ex, emp, id⊢, Fml, Lft, Share, ftrue, fsep, fat, froom, flft, Env, WpFn, ◌⊑◌, fact, fact_i, tables, After, ‵, raw, ◌⊛◌, exists, pick, later, prop, at_ret, ◌$◌, ◌∵◌, !, qed, move, keep, drop, group, use0, use1, use2, use3, split, split3, join, regoal, rewrite, fsplit, await, feq_l, suffices, done, whole, sub, agg, stop, fld, lit, bin, init, look, load, size_word, of_opd, no_more, and_then, assigns, first, blocks, exec, returns, enter, alloc_all, pass_all, free_all, look_at, get, get_in, through, is, sets, sets_last, lands_as, env, Array, usize, unit, part_at, RattleType, owns, yes, layout, param, number, bounded, ArrayAt, param_laws, array_at_laws, Is, shows, uint_in, Ptr, RawPtr, block_ptr, lies_at, types_at, peeks, nothing, only, calls_at, triple_of, walk_of, ends_at, part_out, part_in, array_of, block_with_items, Al, token, fm, uncapped, proved_at, type_size, type_align, El, R, slot_at, then_runs, out_of_block, after, head, inside, arm_body, says_all}
-use Rattle.std.proofs.lemmas.List.{take-append-drop, length-drop, length-map, length-replicate}
+use Rattle.std.proofs.Common.{◌≡◌, ℕ, ◌+◌, ◌-◌, ◌*◌, ◌^◌, ◌<◌, ◌≤◌, List, [], ◌∷◌, ◌++◌, length, true, refl, sym, ap, subst, ◌∙◌, arith, lit<, w64, Some, None, Option}
+use Rattle.thin_block.proofs.WalkPrelude.{div_ceil, length-append, Ty, Fn, Body, Args, ty_int, a_type, a_number, dcons, dnil, bare, Val, WT, vint, vptr, vcons, vnil, inst_fn, SProp, ex, emp, id⊢, Fml, Lft, Share, ftrue, fsep, froom, flft, Env, WpFn, ◌⊑◌, fact, fact_i, tables, After, ‵, raw, ◌⊛◌, exists, pick, later, prop, at_ret, ◌$◌, ◌∵◌, !, qed, move, keep, drop, group, use0, use1, use2, use3, split, split3, join, regoal, rewrite, fsplit, await, fjoin3, feq_l, suffices, done, whole, sub, agg, stop, fld, lit, bin, init, of_opd, no_more, and_then, assigns, first, blocks, exec, returns, enter, alloc_all, pass_all, free_all, look_at, get, get_in, through, is, sets, sets_last, lands_as, env, usize, unit, RattleType, owns, yes, layout, param, number, bounded, Ptr, RawPtr, block_ptr, types_at, nothing, only, calls_at, triple_of, walk_of, ends_at, array_of, Al, token, fm, proved_at, type_size, type_align, El, R, slot_at, then_runs, out_of_block, after, head, inside, arm_body, says_all}
+use Rattle.std.proofs.lemmas.List.{length-map, length-replicate}
 use native.Mathlib.Nat.{mul_assoc}
 use contract.BorrowLft.{⊑_meet, ⊑_static}
 use types.Match.{live, vrt, in_variant}
-use types.Run.{switches_on}
+use types.Run.{switches_on, num_lit}
 use types.ByLocal.{get_tag}
 use denote.Param.{arg}
 use denote.Param.Laws.{arg_laws}
@@ -20,22 +20,23 @@ use Rattle.std_alloc.proofs.ResultValues.{ok_of, err_of}
 use Rattle.thin_block.specs.Cost.{add_realloc}
 use Rattle.thin_block.specs.Capacity.{block_bytes}
 use Rattle.thin_block.specs.Slots.{items_in, filled_slots, empty_slots, write_slots, slot_range}
-use Rattle.thin_block.specs.Ownership.{fits_block, slots_own, header_owns, word_of, header_wand, slots_wand}
+use Rattle.thin_block.specs.Ownership.{fits_block, slots_own, header_owns, dealloc_right, word_of, slots_wand}
 use Rattle.thin_block.specs.Words.{runs_at}
 use Rattle.thin_block.proofs.sizes.SizesLemmas.{fits_tells, opened}
-use Rattle.thin_block.proofs.HeaderMemory.{Br, header, t, any_some, block_val, block_had, block_made}
+use Rattle.thin_block.proofs.HeaderMemory.{Br, header, t, any_some, block_val, block_had, block_made, header_written}
 use Rattle.thin_block.proofs.SlotMemory.{sz, reach}
 use Rattle.thin_block.proofs.SlotsLemmas.{packed-carried}
-use Rattle.thin_block.proofs.WordConversionLemmas.{turn_out, turn_back, turn_up, turn_down, units_out, header_apart, header_whole}
+use Rattle.thin_block.proofs.WordConversionLemmas.{Kept, header_apart, right_in, words_apart}
 use Rattle.thin_block.proofs.words.WordsLemmas.{InWords, words_told}
-use Rattle.thin_block.proofs.words.WordsMemory.{word_el, words_made, words_long, chunks_long, words_in, words_joined, words_back}
-use Rattle.thin_block.proofs.in_place.ResizedCall.{Sized, Resizing, at_resizing, leaves, Resizing-goes, Resizing-gives}
+use Rattle.thin_block.proofs.words.WordsMemory.{word_el, words_made, words_long, chunks_long, words_in, words_joined}
+use Rattle.thin_block.proofs.in_place.ResizedCall.{Resizing, at_resizing, leaves, Resizing-goes, Resizing-gives}
+use Rattle.thin_block.specs.InPlace.{FitsGap}
 use Rattle.thin_block.specs.Block.{block_view}
-use Rattle.thin_block.proofs.MethodSignatures.{others, dropped, all_go, heard_all, blank}
+use Rattle.thin_block.proofs.MethodSignatures.{others, dropped, all_go, heard_all, blank, still, word}
 use Rattle.thin_block.specs.contracts.block.Block.resize_words.{ended, clauses}
 use Rattle.thin_block.specs.contracts.block.Block.resize_words.Key.{name as #self}
 use Rattle.thin_block.proofs.block.Block.resize_words.Statement.{statement}
-use Rattle.thin_block.proofs.in_place.grow_or_shrink.Met as grow_or_shrink_met
+use Rattle.thin_block.proofs.in_place.resize_array.Met as resize_array_met
 use Rattle.thin_block.proofs.words.make_words.Met as make_met
 use Rattle.thin_block.specs.contracts.words.make_words as make
 use Rattle.thin_block.proofs.block.Block.resize_words.Code as compiled
@@ -45,7 +46,7 @@ resize_words_spec 𝓤 𝓛 𝓜 𝓡 wired T A m k LT LA fits_m fits_k g d dd m
     let H = 𝓛.H in
     let E : El = record { row = T; laws = LT } in
     let W : El = word_el T LT m in
-    -- `X` is the type argument of the call to `grow_or_shrink`: the type of a word, with its
+    -- `X` is the type argument of the call to `resize_array`: the type of a word, with its
     -- layout.
     let X : RattleType = arg (word_of (layout T) m) yes W.row in
     let EX : El = record {
@@ -58,7 +59,6 @@ resize_words_spec 𝓤 𝓛 𝓜 𝓡 wired T A m k LT LA fits_m fits_k g d dd m
     let Kr : RattleType = number k in
     let args_MK : Args = bounded (a_type ∷ a_type ∷ a_number ∷ a_number ∷ [])
     (T, (A, (Mr, (Kr, tt)))) (dcons d (dcons dd dnil)) in
-    let Arr : RattleType = ArrayAt (R W) (param 3 Kr) in
     let En₀ = ended T A Mr Kr g d dd in
     let ps = En₀.signature.params in
     let c = clauses T A Mr Kr g d dd 𝓛 𝓜.mem 𝓡.returns in
@@ -67,21 +67,10 @@ resize_words_spec 𝓤 𝓛 𝓜 𝓡 wired T A m k LT LA fits_m fits_k g d dd m
     let 𝓣 = tables 𝓤 H 𝓜 𝓡 𝓡.env in
     let C = 𝓣.C in
     let Λ = 𝓣.Λ in
+    let q = still 𝓛 5 in
     proved_at 𝓛 En₀ hs c 𝓜 𝓡 (
       Goes-blank 𝓛 5 (slot_at 0 ps) En₀.kept.0 (λ κs x f. tt),
-      all_go 𝓛 (others ps) En₀.kept.1 (
-        (λ κs x f. refl),
-        (
-          (λ κs x f. refl),
-          (
-            (λ κs x f. refl),
-            (
-              (λ κs x f. refl),
-              ((λ κs x f. refl), ((λ κs x f. refl), ((λ κs x f. refl), tt))),
-            ),
-          ),
-        ),
-      ),
+      all_go 𝓛 (others ps) En₀.kept.1 ((λ κs x f. refl), (q, (q, (q, (q, (q, (q, tt))))))),
     )
     (#self args_MK) fn (compiled.unfolded 𝓤 H 𝓜 𝓡 wired (T, (A, (Mr, (Kr, tt)))) d dd) (λ z are.
     let Post : Val → SProp 𝓤 = (walk_of 𝓛 En₀ hs c).post z in
@@ -145,33 +134,23 @@ resize_words_spec 𝓤 𝓛 𝓜 𝓡 wired T A m k LT LA fits_m fits_k g d dd m
     let w' : ℕ = div_ceil cap m in
     let count_fits : count ≤ w = hd.counts.holds count old (omega arith) in
     let count_fits' : count ≤ w' = hd.counts.holds count cap (omega arith) in
-    let v : ℕ = w - count in
-    let v' : ℕ = w' - count in
+    let v : ℕ = held - (k + count) in
     let fill : w ≡ v + count = omega arith in
-    let fill' : w' ≡ v' + count = omega arith in
-    let filled : w ≡ count + v = omega arith in
-    let filled' : w' ≡ count + v' = omega arith in
+    let held_room : k + count ≤ held = omega arith in
+    let new_room : k + count ≤ wanted = omega arith in
     let slots_are : old ≡ length items + j = omega arith in
     let slots_are' : cap ≡ length items + j' = omega arith in
     let row : x.slots ≡ filled_slots items ++ empty_slots j = packed.row
     ∙ (λ i. filled_slots items ++ empty_slots
     (let e : length x.slots - length items ≡ j = omega arith in e i)) in
-    -- The items form `count` words, `ws`, and `xss` lists the items of each. `ys` are the last `k`
-    -- words, and `xs` are the words before them.
+    -- The items form `count` words, `ws`, and `xss` lists the items of each.
     let xss : List (List T.Denot) = first_chunks m count items in
     let ws : List W.row.Denot = words_made T m count items in
-    let many : length ws ≡ count = words_long T m count items in
-    let xs : List W.row.Denot = take (count - k) ws in
-    let ys : List W.row.Denot = rest (count - k) ws in
-    let long : length ys ≡ k = omega (arith, length-drop (count - k) ws) in
-    let parted : count ≡ length xs + k = omega (arith, length-take (count - k) ws) in
-    let joined : ws ≡ xs ++ ys = sym (take-append-drop (count - k) ws) in
     split ! $ split3 ! $ move ! (2 ∷ []) $ split3 ! $ move ! (5 ∷ []) $ fsplit ! $
     block_had E Y ! x vss.0 (λ b o at told fits.
     -- The context is now: the header; the slots; what the other arguments own; the lifetime tokens
     -- of `A`, `M` and `K`, of the shared reference to the allocator, and of `T`.
     let here : Ptr = block_ptr b o in
-    let there : ℕ = count * s + o in
     let same_bytes : count * s ≡ len * type_size Rt = ap (λ (n : ℕ). count * n) hd.size
     ∙ (sym (mul_assoc count m (type_size Rt)) ∙ ap (λ (n : ℕ). n * type_size Rt) count_is) in
     let near : len * type_size Rt < 2 ^ 63 = reach Rt len (length x.slots) fits (omega arith) in
@@ -187,7 +166,7 @@ resize_words_spec 𝓤 𝓛 𝓜 𝓡 wired T A m k LT LA fits_m fits_k g d dd m
     rewrite ! 0 (λ (u : Option A.Denot). ‵ (header (t E Y) Rt x.len (length x.slots) u b o)) from
     refl $
     rewrite ! 0 (λ (n : ℕ). ‵ (header_owns tok Rt x.len n b o)) (sym old_is) refl $
-    use1 𝓛 (‵ (froom (ty_array ω k) b o) ⊛ ‵ (slots_wand τ' m w old b (o + 16)) ⊛ ‵
+    use1 𝓛 (‵ (froom (array_of Rw k) b o) ⊛ ‵ (slots_wand τ' m w old b (o + 16)) ⊛ ‵
     (tok (array_of Rw held) here))
     (header_apart 𝓛 T LT b m k in_words o tok x.len old held held_is) $ split3 ! $
     move ! (3 ∷ 1 ∷ []) $
@@ -207,28 +186,11 @@ resize_words_spec 𝓤 𝓛 𝓜 𝓡 wired T A m k LT LA fits_m fits_k g d dd m
     refl $
     enter ! C Λ fn (block_val here ∷ vptr handle_at.0 handle_at.1 ∷ vint w64 len ∷ vint w64
     old ∷ vint w64 cap ∷ vint w64 count ∷ vint w64 held ∷ vint w64 wanted ∷ []) Post $
-    alloc_all ! (λ l. pass_all ! refl (
-      (tt, (tt, (tt, (tt, tt)))),
-      (
-        (tt, tt),
-        (
-          (tt, record { fits = are.1.1.0.1 }),
-          (
-            (tt, record { fits = are.1.1.1.0.1 }),
-            (
-              (tt, record { fits = are.1.1.1.1.0.1 }),
-              (
-                (tt, record { fits = are.1.1.1.1.1.0.1 }),
-                (
-                  (tt, record { fits = are.1.1.1.1.1.1.0.1 }),
-                  ((tt, record { fits = are.1.1.1.1.1.1.1.0.1 }), tt),
-                ),
-              ),
-            ),
-          ),
-        ),
-      ),
-    ) $
+    let w₁ = word are.1.1.0.1 in let w₂ = word are.1.1.1.0.1 in let w₃ = word are.1.1.1.1.0.1 in
+    let w₄ = word are.1.1.1.1.1.0.1 in let w₅ = word are.1.1.1.1.1.1.0.1 in
+    let w₆ = word are.1.1.1.1.1.1.1.0.1 in
+    alloc_all ! (λ l. pass_all ! refl
+    ((tt, (tt, (tt, (tt, tt)))), ((tt, tt), (w₁, (w₂, (w₃, (w₄, (w₅, (w₆, tt)))))))) $
     let En : Env 𝓤 H = env fn.locals l in
     sets ! (of_opd ! (get_in ! (fld ! refl (stop !)) (sub ! 0 refl (whole !)))) refl (tt, tt) $
     first ! $ blocks ! $
@@ -278,95 +240,60 @@ resize_words_spec 𝓤 𝓛 𝓜 𝓡 wired T A m k LT LA fits_m fits_k g d dd m
     use2 𝓛 (‵ (slots_own Rw (filled_slots ws ++ empty_slots v) b (o + 16)))
     (words_joined 𝓛 T LT m k b hd items count j v w old (o + 16) whole_words slots_are fill
     (hd.counts.covers old)) $
-    rewrite ! 0 (λ (l : List W.row.Denot).
-    ‵ (slots_own Rw (filled_slots l ++ empty_slots v) b (o + 16))) joined
-    refl $
-    use1 𝓛 (‵ (slots_own Rw (filled_slots xs) b (o + 16)) ⊛
-    ‵ (part_at (Array Rw k) full_share ys b there) ⊛ ‵
-    (slots_own Rw (empty_slots v) b (k * s + there)))
-    (turn_out 𝓛 W b k 16 sixteen o xs ys long count v parted)
-    $ split3 ! $ move ! (3 ∷ []) $ split3 ! $ move ! (2 ∷ []) $ drop ! $
-    -- The context is now: the lifetime tokens of `T` and `M`; the earlier words; the last `k`
-    -- words; the empty words; and the other entries as before.
-    move ! (1 ∷ 10 ∷ []) $ join ! $ move ! (9 ∷ 0 ∷ []) $ join ! $
-    move ! (3 ∷ 2 ∷ 4 ∷ 5 ∷ 6 ∷ 7 ∷ 8 ∷ 1 ∷ 0 ∷ []) $
-    -- The context is now: the last `k` words; the words before them; the empty words; memory for
-    -- the header; the right to free the block; the shared reference to the allocator; the lifetime
-    -- tokens of this reference and of `T`; the lifetime tokens of `A`, `M` and `K`.
-    use1 𝓛 (exists (λ (u : Val). ‵ (fat full_share (ty_array ω k) b there u) ⊛ ‵
-    (Arr.own_val ys (u ∷ [])))) (part_out 𝓛 (Array Rw k) refl full_share ys b there) $
-    pick ! (λ u₁. split ! $
-    move ! (1 ∷ []) $ peeks ! Arr (Is Arr) (shows 𝓛 Arr) ys (u₁ ∷ []) (λ is_u.
-    let good = (((array_at_laws 3 Rw (param_laws 0 W.row W.laws) k).lawful 𝓛).typed ys (u₁ ∷ [])
-    is_u).0 in
-    sets ! (of_opd ! (get ! refl)) refl (tt, tt) $
-    sets ! (of_opd ! (get ! refl)) refl (tt, tt) $
-    sets ! (is ! (bin ! (get ! refl) (size_word !)
-    (record { fits = subst (λ (n : ℕ). n < 2 ^ 64) (sym (uncapped count s short)) short }))
-    (ap (vint w64) (uncapped count s short))) refl (tt, record { fits = short }) $
-    sets ! (bin ! (get ! refl) (get ! refl) tt) refl (tt, tt) $
-    sets ! (of_opd ! (get ! refl)) refl (tt, tt) $
-    move ! (1 ∷ []) $
-    sets ! (of_opd ! (load ! (through ! refl (stop !)) (look ! 0 refl))) refl good $
-    assigns ! (of_opd ! (get ! refl)) (through ! refl (stop !)) (init ! 4 refl good) $
-    -- The bytes of the last `k` words have been copied to the header. The context is now: these
-    -- bytes at their old address; the resources that these words own; the words before them; the
-    -- empty words; the copied bytes; the right to free the block; the reference to the allocator;
-    -- the tokens.
-    use1 𝓛 (‵ (froom (ty_array ω k) b there)) (𝓛.laws.at_room (ty_array ω k) b there u₁) $
-    move ! (4 ∷ 1 ∷ []) $ use2 𝓛 (‵ (part_at (Array Rw k) full_share ys b o))
-    (part_in 𝓛 (Array Rw k) refl full_share ys b o u₁) $
-    -- The context is now: the last `k` words, in the memory of the header; uninitialized memory at
-    -- their old address; the words before them; the empty words; the right to free the block; the
-    -- shared reference to the allocator; the lifetime tokens.
-    move ! (0 ∷ 2 ∷ 1 ∷ 3 ∷ 4 ∷ []) $ group ! 5 $
-    use1 𝓛 (‵ (block_with_items tok Rw here count held (ys ++ xs)))
-    (turn_up 𝓛 W b k 16 sixteen o xs ys long count v parted tok w held filled held_is) $
+    rewrite ! 0 (λ (n : ℕ). ‵ (slots_own Rw (filled_slots ws ++ empty_slots v) b (o + n)))
+    (sym sixteen) refl $
+    move ! (1 ∷ []) $ split3 ! $ move ! (2 ∷ []) $ drop ! $ move ! (1 ∷ 8 ∷ []) $ join ! $
+    move ! (7 ∷ 0 ∷ []) $ join ! $ move ! (3 ∷ 2 ∷ 4 ∷ 5 ∷ 6 ∷ 1 ∷ 0 ∷ []) $ fjoin3 ! $
+    -- The context is now: the words behind the memory for the header; the shared reference to the
+    -- allocator; the lifetime tokens of this reference and of `T`; the lifetime tokens of `A`, `M`
+    -- and `K`.
     let fits_room : (c n : ℕ) → n ≡ k + div_ceil c m → block_bytes (type_size Rt) (type_align Rt) c
     < 2 ^ 63 → n * s < 2 ^ 63 = λ c n is small. subst (λ (i : ℕ). i < 2 ^ 63)
     (sym (ap (λ (i : ℕ). i * s) is ∙ (ap (λ (i : ℕ). (k + div_ceil c m) * i) hd.size
     ∙ hd.bytes_are c))) small in
     let y = at_resizing EX Y 𝓛 𝓜.mem 𝓡.returns κ κT κA q qT z.0.1.1.1.0 z.0.2.0 handle_at h b o
-    count held wanted (ys ++ xs) in
-    let left = leaves EX Y 𝓛 𝓜.mem 𝓡.returns κ κT κA q qT z.0.1.1.1.0 z.0.2.0 handle_at h b o count
-    held wanted (ys ++ xs) in
-    let sizes : Sized EX count held wanted = (
-      omega arith,
-      (
-        omega arith,
-        (fits_room old held held_is told_old.short, fits_room cap wanted wanted_is told_cap.short),
-      ),
-    ) in
+    k count held wanted ws in
+    let left = leaves EX Y 𝓛 𝓜.mem 𝓡.returns κ κT κA q qT z.0.1.1.1.0 z.0.2.0 handle_at h b o k
+    count held wanted ws in
+    let sizes : FitsGap (R EX) k count held wanted ws =
+    record {
+      count = words_long T m count items;
+      enough = room;
+      room = held_room;
+      new_room = new_room;
+      fits = fits_room old held held_is told_old.short;
+      new_fits = fits_room cap wanted wanted_is told_cap.short;
+    } in
     sets ! (of_opd ! (get ! refl)) refl (tt, tt) $
     move ! (4 ∷ []) $ split ! $ move ! (2 ∷ 3 ∷ 4 ∷ 5 ∷ 0 ∷ []) $ group ! 5 $
     use1 𝓛 (raw (V.pre y))
-    (Resizing-goes EX Y 𝓛 𝓜.mem 𝓡.returns κ κT κA q qT z.0.1.1.1.0 z.0.2.0 handle_at h b o count
-    held wanted (ys ++ xs) leW leA sizes are.1.1.1.1.1.0.1 are.1.1.1.1.1.1.0.1
-    are.1.1.1.1.1.1.1.0.1) $
+    (Resizing-goes EX Y 𝓛 𝓜.mem 𝓡.returns κ κT κA q qT z.0.1.1.1.0 z.0.2.0 handle_at h b o k
+    count held wanted ws leW leA sizes fits_k.fits are.1.1.1.1.1.0.1
+    are.1.1.1.1.1.1.0.1 are.1.1.1.1.1.1.1.0.1) $
     calls_at ! (fm 𝓛 𝓜 𝓡) V
-    (grow_or_shrink_met.met 𝓤 𝓛 𝓜 𝓡
-    (compiled.calls-thin_block::in_place::grow_or_shrink 𝓡.env wired) X A EX.laws
+    (resize_array_met.met 𝓤 𝓛 𝓜 𝓡
+    (compiled.calls-thin_block::in_place::resize_array 𝓡.env wired) X A EX.laws
     LA g d dd met md) y
-    (and_then ! (get ! refl) (and_then ! (get ! refl) (and_then ! (get ! refl)
-    (and_then ! (get ! refl) (and_then ! (get ! refl) (no_more !)))))) (λ u.
+    (and_then ! (get ! refl) (and_then ! (get ! refl)
+    (and_then ! (num_lit ! fits_k) (and_then ! (get ! refl)
+    (and_then ! (get ! refl) (and_then ! (get ! refl) (no_more !))))))) (λ u.
     use1 𝓛 (later (raw (ex 𝓤 (Flagged 𝓛 left u)) ⊛ ‵ (flft κ q) ⊛ ‵ (flft κT qT) ⊛ ‵
     (flft κA z.0.1.1.1.0)))
-    (Resizing-gives EX Y 𝓛 𝓜.mem 𝓡.returns κ κT κA q qT z.0.1.1.1.0 z.0.2.0 handle_at h b o count
-    held wanted (ys ++ xs) u) $ await ! tt $ split ! $ move ! (1 ∷ []) $ split3 ! $
+    (Resizing-gives EX Y 𝓛 𝓜.mem 𝓡.returns κ κT κA q qT z.0.1.1.1.0 z.0.2.0 handle_at h b o k
+    count held wanted ws u) $ await ! tt $ split ! $ move ! (1 ∷ []) $ split3 ! $
     -- The context is now: the lifetime tokens of the allocator reference, of `T` and of `A`; the
-    -- result of `grow_or_shrink`; the lifetime tokens of `M` and `K`.
+    -- result of `resize_array`; the lifetime tokens of `M` and `K`.
     move ! (2 ∷ 4 ∷ []) $ join ! $ move ! (2 ∷ 0 ∷ []) $ join ! $ move ! (1 ∷ 0 ∷ []) $ join ! $
     move ! (1 ∷ []) $
-    -- The context is now: the resources that `grow_or_shrink` has returned; the lifetime tokens.
+    -- The context is now: the resources that `resize_array` has returned; the lifetime tokens.
     let inner : Body = inside (head (after 1 fn.body)) in
-    let both : Body = head (after 12 inner) in
+    let both : Body = head (after 5 inner) in
     let Last : After 𝓤 H = out_of_block 𝓛
     (then_runs 𝓛 C Λ En (after 2 fn.body) (at_ret En Post)) in
-    let Then : After 𝓤 H = then_runs 𝓛 C Λ En (after 13 inner) Last in
+    let Then : After 𝓤 H = then_runs 𝓛 C Λ En (after 6 inner) Last in
     flagged ! u left
     (λ b' o' e.
     let p : Ptr = block_ptr b' o' in
-    let there' : ℕ = count * s + o' in
     let news : List (Option T.Denot) = filled_slots items ++ empty_slots j' in
     let some_more : length news ≡ cap =
     let front = length-append (filled_slots items) (empty_slots {T = T.Denot} j') in
@@ -393,36 +320,13 @@ resize_words_spec 𝓤 𝓛 𝓜 𝓡 wired T A m k LT LA fits_m fits_k g d dd m
     exec ! C Λ En (arm_body 0 both) Then $
     sets ! (of_opd ! (get_in ! (vrt ! refl (fld ! refl (stop !)))
     (in_variant ! 0 0 refl refl (whole !)))) refl (tt, tt) $
-    sets ! (of_opd ! (get ! refl)) refl (tt, tt) $
-    sets ! (is ! (bin ! (get ! refl) (size_word !)
-    (record { fits = subst (λ (n : ℕ). n < 2 ^ 64) (sym (uncapped count s short)) short }))
-    (ap (vint w64) (uncapped count s short))) refl (tt, record { fits = short }) $
-    sets ! (bin ! (get ! refl) (get ! refl) tt) refl (tt, tt) $
-    sets ! (of_opd ! (get ! refl)) refl (tt, tt) $
-    use1 𝓛 (‵ (part_at (Array Rw k) full_share ys b' o') ⊛
-    ‵ (slots_own Rw (filled_slots xs) b' (o' + 16))
-    ⊛ ‵ (froom (ty_array ω k) b' there') ⊛ ‵ (slots_own Rw (empty_slots v') b' (k * s + there')) ⊛ ‵
-    (tok (array_of Rw wanted) (block_ptr b' o')))
-    (turn_down 𝓛 W b' k 16 sixteen o' xs ys long count v' parted tok w' wanted filled' wanted_is) $
-    split3 ! $ move ! (2 ∷ []) $ split3 ! $ move ! (3 ∷ []) $
-    use1 𝓛 (exists (λ (u : Val). ‵ (fat full_share (ty_array ω k) b' o' u) ⊛ ‵
-    (Arr.own_val ys (u ∷ [])))) (part_out 𝓛 (Array Rw k) refl full_share ys b' o') $
-    pick ! (λ u₂. split ! $
-    move ! (1 ∷ []) $ peeks ! Arr (Is Arr) (shows 𝓛 Arr) ys (u₂ ∷ []) (λ is_u₂.
-    let good' = (((array_at_laws 3 Rw (param_laws 0 W.row W.laws) k).lawful 𝓛).typed ys (u₂ ∷ [])
-    is_u₂).0 in
-    move ! (1 ∷ []) $
-    -- The call has succeeded. The context is now: the bytes of the last `k` words, in the memory of
-    -- the header; the resources that these words own; uninitialized memory after the preceding
-    -- words; the empty words; the right to free the block; the preceding words; the lifetime
-    -- tokens.
-    sets ! (of_opd ! (load ! (through ! refl (stop !)) (look ! 0 refl))) refl good' $
-    assigns ! (of_opd ! (get ! refl)) (through ! refl (stop !)) (init ! 2 refl good') $
-    use1 𝓛 (‵ (froom (ty_array ω k) b' o')) (𝓛.laws.at_room (ty_array ω k) b' o' u₂) $
-    use1 𝓛 (‵ (froom (ty_int w64) b' o') ⊛ ‵ (froom (ty_int w64) b' (o' + 8)) ⊛ ‵
-    (header_wand τ' m k b' o')) (units_out 𝓛 T LT b' m k in_words o') $ split3 ! $
-    rewrite ! 1 (λ (n : ℕ). ‵ (froom (ty_int w64) b' n))
-    (let turned : o' + 8 ≡ 8 + o' = omega arith in turned) refl $
+    let kept' : Fml = Kept 𝓛 T LT b' m k in_words o' tok len cap wanted wanted_is in
+    use1 𝓛 (‵ (froom (ty_int w64) b' o') ⊛ ‵ (froom (ty_int w64) b' (8 + o')) ⊛ ‵
+    (slots_own Rt news b' (o' + 16)) ⊛ ‵ kept')
+    (words_apart 𝓛 T LT b' m k in_words o' tok len cap wanted wanted_is items count j' whole_words
+    slots_are' new_room) $ split3 ! $ move ! (2 ∷ []) $ split ! $ move ! (2 ∷ 3 ∷ []) $
+    -- The call has succeeded. The context is now: memory for the capacity; memory for the length;
+    -- the slots; the right to free the block; the lifetime tokens.
     sets ! (of_opd ! (get ! refl)) refl (tt, tt) $
     assigns ! (of_opd ! (get ! refl)) (through ! refl (stop !))
     (init ! 0 refl (tt, record { fits = are.1.1.1.1.0.1 })) $
@@ -435,38 +339,16 @@ resize_words_spec 𝓤 𝓛 𝓜 𝓡 wired T A m k LT LA fits_m fits_k g d dd m
     (and_then ! (get ! refl) (and_then ! (get ! refl) (no_more !))))) refl (tt, words) $
     sets_last ! (agg ! (and_then ! (lit ! tt) (and_then ! (get ! refl) (no_more !)))) refl
     (tt, (record { fits = lit< tt }, (words, tt))) $
-    exec ! C Λ En (after 13 inner) Last $
+    exec ! C Λ En (after 6 inner) Last $
     sets_last ! (of_opd ! (get ! refl)) refl (tt, (record { fits = lit< tt }, (words, tt))) $
     exec ! C Λ En (after 2 fn.body) (at_ret En Post) $
     sets ! (of_opd ! (get ! refl)) refl (tt, (record { fits = lit< tt }, (words, tt))) $
     returns ! (look_at ! 0 refl) $ free_all ! refl $
-    -- The last `k` words are back behind the preceding words. The context is now: the capacity in
-    -- the header; the length in the header; the right to convert the header back into words; the
-    -- resources that the last `k` words own; the bytes of these words; the empty words; the right
-    -- to free the block; the preceding words; the lifetime tokens.
-    rewrite ! 1 (λ (n : ℕ). ‵ (fat full_share (ty_int w64) b' n (vint w64 len)))
-    (let turned : 8 + o' ≡ o' + 8 = omega arith in turned) refl $
-    use1 𝓛 (‵ (lies_at usize full_share (block_ptr b' o') cap))
-    (uint_in 𝓛 full_share w64 cap b' o') $
-    move ! (1 ∷ []) $
-    use1 𝓛 (‵ (lies_at usize full_share (block_ptr b' (o' + 8)) len))
-    (uint_in 𝓛 full_share w64 len b' (o' + 8)) $ move ! (4 ∷ 3 ∷ []) $
-    use2 𝓛 (‵ (part_at (Array Rw k) full_share ys b' there'))
-    (part_in 𝓛 (Array Rw k) refl full_share ys b' there' u₂) $ move ! (6 ∷ 0 ∷ 4 ∷ []) $
-    use3 𝓛 (‵ (slots_own Rw (filled_slots (xs ++ ys) ++ empty_slots v') b' (o' + 16)))
-    (turn_back 𝓛 W b' k 16 sixteen o' xs ys long count v' parted) $
-    rewrite ! 0 (λ (l : List W.row.Denot).
-    ‵ (slots_own Rw (filled_slots l ++ empty_slots v') b' (o' + 16)))
-    (sym joined) refl $
-    use1 𝓛 (‵ (slots_own Rt news b' (o' + 16)) ⊛ ‵ (slots_wand τ' m w' cap b' (o' + 16)))
-    (words_back 𝓛 T LT m k b' hd items count j' v' w' cap (o' + 16) whole_words slots_are' fill'
-    (hd.counts.covers cap)) $ split ! $
-    -- The context is now: the slots; the right to convert them back into words; the length; the
-    -- capacity; the right to convert the header back into words; the right to free the block; the
-    -- lifetime tokens.
-    move ! (3 ∷ 2 ∷ 4 ∷ 1 ∷ 5 ∷ []) $ group ! 5 $
-    use1 𝓛 (‵ (header_owns tok Rt len cap b' o'))
-    (header_whole 𝓛 T LT b' m k in_words o' tok len cap wanted wanted_is fits_cap) $
+    move ! (3 ∷ []) $
+    use1 𝓛 (‵ (dealloc_right tok Rt cap b' o'))
+    (right_in 𝓛 T LT b' m k in_words o' tok len cap wanted wanted_is) $ move ! (1 ∷ 2 ∷ 0 ∷ []) $
+    use3 𝓛 (‵ (header_owns tok Rt len cap b' o'))
+    (header_written 𝓛 tok Rt len cap b' o' fits_cap) $
     rewrite ! 0 (λ (n : ℕ). ‵ (header_owns tok Rt n cap b' o')) len_is refl $
     rewrite ! 0 (λ (n : ℕ). ‵ (header_owns tok Rt x.len n b' o')) (sym some_more) refl $
     block_made E Y ! y' b' o' refl $
@@ -476,35 +358,20 @@ resize_words_spec 𝓤 𝓛 𝓜 𝓡 wired T A m k LT LA fits_m fits_k g d dd m
     suffices ! _ (ends_at 𝓛 En₀ hs c z (live 0 (vcons (block_val p) vnil)) (Ok y')
     (tt, (tt, (tt, (tt, (tt, (tt, (tt, (tt, tt))))))))
     (tt, (tt, (tt, (tt, (tt, (tt, (tt, (tt, tt))))))))) $
-    says_all ! (_ ∷ _ ∷ []) (changes, tt) $ done !)))
+    says_all ! (_ ∷ _ ∷ []) (changes, tt) $ done !)
     (λ e.
     lands_as ! e refl (tt, (record { fits = lit< tt }, (tt, tt))) $
     first ! $ switches_on ! (get_tag ! (vrt ! refl (fld ! refl (stop !))) (whole !)) $
     exec ! C Λ En (arm_body 1 both) Then $
     sets ! (of_opd ! (get_in ! (vrt ! refl (fld ! refl (stop !)))
     (in_variant ! 1 0 refl refl (whole !)))) refl (tt, tt) $
-    use1 𝓛 (‵ (part_at (Array Rw k) full_share ys b o) ⊛
-    ‵ (slots_own Rw (filled_slots xs) b (o + 16))
-    ⊛ ‵ (froom (ty_array ω k) b there) ⊛ ‵ (slots_own Rw (empty_slots v) b (k * s + there)) ⊛ ‵
-    (tok (array_of Rw held) (block_ptr b o)))
-    (turn_down 𝓛 W b k 16 sixteen o xs ys long count v parted tok w held filled held_is) $
-    split3 ! $ move ! (2 ∷ []) $ split3 ! $ move ! (3 ∷ []) $
-    use1 𝓛 (exists (λ (u : Val). ‵ (fat full_share (ty_array ω k) b o u) ⊛ ‵
-    (Arr.own_val ys (u ∷ [])))) (part_out 𝓛 (Array Rw k) refl full_share ys b o) $
-    pick ! (λ u₂. split ! $
-    move ! (1 ∷ []) $ peeks ! Arr (Is Arr) (shows 𝓛 Arr) ys (u₂ ∷ []) (λ is_u₂.
-    let good' = (((array_at_laws 3 Rw (param_laws 0 W.row W.laws) k).lawful 𝓛).typed ys (u₂ ∷ [])
-    is_u₂).0 in
-    move ! (1 ∷ []) $
+    let kept : Fml = Kept 𝓛 T LT b m k in_words o tok len old held held_is in
+    use1 𝓛 (‵ (froom (ty_int w64) b o) ⊛ ‵ (froom (ty_int w64) b (8 + o)) ⊛ ‵
+    (slots_own Rt (filled_slots items ++ empty_slots j) b (o + 16)) ⊛ ‵ kept)
+    (words_apart 𝓛 T LT b m k in_words o tok len old held held_is items count j whole_words
+    slots_are held_room) $ split3 ! $ move ! (2 ∷ []) $ split ! $ move ! (2 ∷ 3 ∷ []) $
     -- The call has failed. From here on, the steps and the context are as in the case of success,
     -- with the old address and the old capacity.
-    sets ! (of_opd ! (load ! (through ! refl (stop !)) (look ! 0 refl))) refl good' $
-    assigns ! (of_opd ! (get ! refl)) (through ! refl (stop !)) (init ! 2 refl good') $
-    use1 𝓛 (‵ (froom (ty_array ω k) b o)) (𝓛.laws.at_room (ty_array ω k) b o u₂) $
-    use1 𝓛 (‵ (froom (ty_int w64) b o) ⊛ ‵ (froom (ty_int w64) b (o + 8)) ⊛ ‵
-    (header_wand τ' m k b o)) (units_out 𝓛 T LT b m k in_words o) $ split3 ! $
-    rewrite ! 1 (λ (n : ℕ). ‵ (froom (ty_int w64) b n))
-    (let turned : o + 8 ≡ 8 + o = omega arith in turned) refl $
     assigns ! (of_opd ! (get ! refl)) (through ! refl (stop !))
     (init ! 0 refl (tt, record { fits = are.1.1.1.0.1 })) $
     sets ! (bin ! (get ! refl) (lit ! tt) tt) refl (tt, tt) $
@@ -516,31 +383,16 @@ resize_words_spec 𝓤 𝓛 𝓜 𝓡 wired T A m k LT LA fits_m fits_k g d dd m
     (and_then ! (get ! refl) (and_then ! (get ! refl) (no_more !))))) refl (tt, words) $
     sets_last ! (agg ! (and_then ! (lit ! tt) (and_then ! (get ! refl) (no_more !)))) refl
     (tt, (record { fits = lit< tt }, (words, tt))) $
-    exec ! C Λ En (after 13 inner) Last $
+    exec ! C Λ En (after 6 inner) Last $
     sets_last ! (of_opd ! (get ! refl)) refl (tt, (record { fits = lit< tt }, (words, tt))) $
     exec ! C Λ En (after 2 fn.body) (at_ret En Post) $
     sets ! (of_opd ! (get ! refl)) refl (tt, (record { fits = lit< tt }, (words, tt))) $
     returns ! (look_at ! 0 refl) $ free_all ! refl $
-    rewrite ! 1 (λ (n : ℕ). ‵ (fat full_share (ty_int w64) b n (vint w64 len)))
-    (let turned : 8 + o ≡ o + 8 = omega arith in turned) refl $
-    use1 𝓛 (‵ (lies_at usize full_share (block_ptr b o) old)) (uint_in 𝓛 full_share w64 old b o) $
-    move ! (1 ∷ []) $
-    use1 𝓛 (‵ (lies_at usize full_share (block_ptr b (o + 8)) len))
-    (uint_in 𝓛 full_share w64 len b (o + 8)) $ move ! (4 ∷ 3 ∷ []) $
-    use2 𝓛 (‵ (part_at (Array Rw k) full_share ys b there))
-    (part_in 𝓛 (Array Rw k) refl full_share ys b there u₂) $ move ! (6 ∷ 0 ∷ 4 ∷ []) $
-    use3 𝓛 (‵ (slots_own Rw (filled_slots (xs ++ ys) ++ empty_slots v) b (o + 16)))
-    (turn_back 𝓛 W b k 16 sixteen o xs ys long count v parted) $
-    rewrite ! 0 (λ (l : List W.row.Denot).
-    ‵ (slots_own Rw (filled_slots l ++ empty_slots v) b (o + 16)))
-    (sym joined) refl $
-    use1 𝓛 (‵ (slots_own Rt (filled_slots items ++ empty_slots j) b (o + 16)) ⊛ ‵
-    (slots_wand τ' m w old b (o + 16)))
-    (words_back 𝓛 T LT m k b hd items count j v w old (o + 16) whole_words slots_are fill
-    (hd.counts.covers old)) $ split ! $
-    move ! (3 ∷ 2 ∷ 4 ∷ 1 ∷ 5 ∷ []) $ group ! 5 $
-    use1 𝓛 (‵ (header_owns tok Rt len old b o))
-    (header_whole 𝓛 T LT b m k in_words o tok len old held held_is fits_old) $
+    move ! (3 ∷ []) $
+    use1 𝓛 (‵ (dealloc_right tok Rt old b o))
+    (right_in 𝓛 T LT b m k in_words o tok len old held held_is) $ move ! (1 ∷ 2 ∷ 0 ∷ []) $
+    use3 𝓛 (‵ (header_owns tok Rt len old b o))
+    (header_written 𝓛 tok Rt len old b o fits_old) $
     rewrite ! 0 (λ (n : ℕ). ‵ (header_owns tok Rt n old b o)) len_is refl $
     rewrite ! 0 (λ (n : ℕ). ‵ (header_owns tok Rt x.len n b o)) old_is refl $
     rewrite ! 0 (λ (u : Option A.Denot). ‵ (header (t E Y) Rt x.len (length x.slots) u b o))
@@ -553,4 +405,4 @@ resize_words_spec 𝓤 𝓛 𝓜 𝓡 wired T A m k LT LA fits_m fits_k g d dd m
     suffices ! _ (ends_at 𝓛 En₀ hs c z (live 1 (vcons (block_val here) vnil)) (Err x)
     (tt, (tt, (tt, (tt, (tt, (tt, (tt, (tt, tt))))))))
     (tt, (tt, (tt, (tt, (tt, (tt, (tt, (tt, tt))))))))) $
-    says_all ! (_ ∷ _ ∷ []) (tt, refl) $ done !))))))))))))))
+    says_all ! (_ ∷ _ ∷ []) (tt, refl) $ done !))))))))))
