@@ -1,8 +1,8 @@
 """Draws docs/figures.svg from the tables of docs/FIGURES.md. It is not a program.
 
-Each row has a bar for `ThinVec` and one for the `Vec` of Rattle's library, in times of Rust's `Vec`.
-The colours can be told apart by their brightness, and change with the light or dark scheme of the
-reader."""
+Each row has a bar for `ThinVec` and one for the `Vec` of Rattle's library, in times of Rust's
+`Vec`. The colours can be told apart by their brightness, and change with the light or dark scheme
+of the reader."""
 import html
 import re
 
@@ -18,17 +18,19 @@ STYLE = """
 text { font: 13px system-ui, -apple-system, "Segoe UI", Roboto, Arial, sans-serif; fill: #1f2328; }
 .back { fill: #ffffff; } .head { font-weight: 600; } .title { font-size: 16px; font-weight: 600; }
 .small { font-size: 11px; fill: #59636e; } .value { font-size: 11px; fill: #59636e; }
-.value { paint-order: stroke; stroke: #ffffff; stroke-width: 3px; } .line { stroke: #d1d9e0; } .one { stroke: #59636e; }
+.value { paint-order: stroke; stroke: #ffffff; stroke-width: 3px; }
+.line { stroke: #d1d9e0; } .one { stroke: #59636e; }
 .thin { fill: #0550ae; } .kit { fill: #9fb8d9; }
 @media (prefers-color-scheme: dark) {
-text { fill: #f0f6fc; } .back { fill: #0d1117; } .small { fill: #9198a1; } .value { fill: #9198a1; stroke: #0d1117; } .line { stroke: #3d444d; }
-.one { stroke: #9198a1; } .thin { fill: #79c0ff; } .kit { fill: #3a5f8a; }
+text { fill: #f0f6fc; } .back { fill: #0d1117; } .small { fill: #9198a1; }
+.value { fill: #9198a1; stroke: #0d1117; } .line { stroke: #3d444d; } .one { stroke: #9198a1; }
+.thin { fill: #79c0ff; } .kit { fill: #3a5f8a; }
 }
 """
 
 
 def tables_of(page):
-    """The tables of the page: the rows by the name in their first cell, with their cells by heads."""
+    """The tables of the page: rows by the name in their first cell, with their cells by heads."""
     found, heads = [], None
     for line in page.splitlines():
         cells = [cell.strip() for cell in line.strip("|").split(" | ")]
@@ -76,9 +78,8 @@ def text(x, y, said, kind="", anchor="start"):
 
 def bar(y, ratio, who):
     """A bar with its number. A bar that would be too long ends in two gaps."""
-    lines = [
-        f'<rect x="{LEFT}" y="{y}" width="{across(ratio) - LEFT:.1f}" height="{BAR}" class="{who}"/>'
-    ]
+    width = f"{across(ratio) - LEFT:.1f}"
+    lines = [f'<rect x="{LEFT}" y="{y}" width="{width}" height="{BAR}" class="{who}"/>']
     if ratio > MOST:
         lines += [
             f'<rect x="{across(ratio) - gap:.1f}" y="{y}" width="3" height="{BAR}" class="back"/>'
@@ -89,7 +90,7 @@ def bar(y, ratio, who):
 
 
 def drawn(page, groups):
-    """The picture of these groups, each with a title, a measure, and rows of a workload and a label."""
+    """The picture of groups: a title, a measure, and rows of a workload and a label."""
     known, lines, y = ratios(page), [], TOP_OF_ROWS
     for group in groups:
         lines.append(text(16, y + 14, group["title"], "head"))
@@ -109,7 +110,7 @@ def drawn(page, groups):
     head = [
         f'<svg xmlns="http://www.w3.org/2000/svg" viewBox="0 0 {WIDTH} {height}" width="{WIDTH}"'
         f' height="{height}" role="img" aria-labelledby="title">',
-        "<title id=\"title\">Times and memory of ThinVec and of Rattle's Vec beside Rust's Vec</title>",
+        "<title id=\"title\">ThinVec and Rattle's Vec beside Rust's Vec</title>",
         f"<style>{STYLE}</style>",
         f'<rect width="{WIDTH}" height="{height}" class="back"/>',
         text(16, 28, "Beside Rust's Vec, which is 1: shorter is better", "title"),

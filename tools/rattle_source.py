@@ -425,6 +425,11 @@ def exported(crate):
     return names
 
 
+def crates():
+    """The names of the folders in crates/."""
+    return sorted(path.name for path in (TOP / "crates").iterdir() if path.is_dir())
+
+
 def sources(crate):
     """The source files of a crate: a module before its submodules."""
     root = TOP / "crates" / crate / "src"

@@ -1,7 +1,7 @@
 """tools/audit: it passes on the repository, and sees a new and a missing line."""
 import unittest
 
-from tool import ToolTest, change
+from tool import ToolTest, change, load
 
 
 class Audit(ToolTest):
@@ -17,7 +17,8 @@ class Audit(ToolTest):
         change(top / "tools" / "audit.expected", "# unsafe\n", "# unsafe\nnone.rt:gone: unsafe\n")
         said = self.finds("audit", "--only", "unsafe", top=top)
         self.assertIn(
-            "1 new, 1 gone\n  + thin_runner/src/lib.rt:planted: unsafe fn planted() {}\n  - none.rt:gone: unsafe\n",
+            "1 new, 1 gone\n  + thin_runner/src/lib.rt:planted: unsafe fn planted() {}\n"
+            "  - none.rt:gone: unsafe\n",
             said,
         )
         self.passes("audit", "--write", top=top)
@@ -29,6 +30,41 @@ class Audit(ToolTest):
         ran = self.run_tool("audit", "--only", "typo")
         self.assertEqual((ran.returncode, ran.stdout), (2, ""))
         self.assertRegex(ran.stderr, r"\Aaudit: no search is called 'typo': .*\n\Z")
+
+    def test_a_search_that_is_compared_with_nothing(self):
+        audit = load("audit")
+        for name in audit.LISTED:
+            with self.subTest(name):
+                says = f"the search {name!r} is compared with nothing: --list prints its lines"
+                self.refuses(f"{says} (--help lists the options)", "audit", "--only", name)
+        said = self.passes("audit", "--list")
+        for name in audit.FINDS:
+            self.assertEqual(f"\n{said}".count(f"\n# {name}\n"), 1, name)
+
+    def test_wrong_uses(self):
+        top = self.copy("mutants.d", "proofs", "specs")
+        path = top / "tools" / "audit.expected"
+        text = path.read_text(encoding="utf-8")
+        says = "argument --write: not allowed with argument --list (--help lists the options)"
+        self.refuses(says, "audit", "--list", "--write", top=top)
+        path.write_text(f"none.rt: a line\n{text}", encoding="utf-8")
+        says = "tools/audit.expected: the line 'none.rt: a line' is in no section"
+        self.refuses(says, "audit", top=top)
+        path.write_text(f"{text}\n# draws\n", encoding="utf-8")
+        said = self.finds("audit", "--only", "unsafe", top=top)
+        self.assertIn("has a section 'draws', and no search is compared with it\n", said)
+
+    def test_it_reads_each_crate_of_the_product(self):
+        top = self.copy("mutants.d", "docs")
+        crates = ("thin_block", "thin_vec", "thin_rows", "thin_runner")
+        more = "\nuse std::{\n    mem,\n    io,\n};\nfn planted() {\n    mem::swap(1);\n}\n"
+        for crate in crates:
+            path = top / "crates" / crate / "src" / "lib.rt"
+            path.write_text(path.read_text(encoding="utf-8") + more, encoding="utf-8")
+        said = self.finds("audit", "--only", "replaced", top=top)
+        for crate in crates:
+            self.assertIn(f"  + {crate}/src/lib.rt: use std::{{ mem, io, }};\n", said)
+            self.assertIn(f"  + {crate}/src/lib.rt:planted: mem::swap(1);\n", said)
 
     def test_no_file_of_expected_lines(self):
         top = self.copy("mutants.d", "proofs", "specs")

@@ -1,4 +1,7 @@
-"""tools/differ: the lists that it makes, and what it compares. Functions stand in the place of both programs."""
+"""tools/differ: the lists that it makes, and what it compares.
+
+Functions stand in the place of both programs.
+"""
 import contextlib
 import io
 import re

@@ -22,6 +22,27 @@ class Evidence(ToolTest):
             f"{place}: promise planted, tests: no test thin_tests planted\n",
         )
 
+    def test_it_follows_what_is_in_another_crate_now(self):
+        top = self.copy("proofs", "specs")
+        tests = top / "crates" / "thin_tests" / "src"
+        moved = next(
+            path
+            for path in tests.rglob("*.rt")
+            if "fn converting_to_io_error_drops_the_refusal" in path.read_text(encoding="utf-8")
+        )
+        moved.rename(top / "crates" / "run_tests" / "src" / "moved.rt")
+        said = self.passes("evidence", "--follow", top=top)
+        for name in ("alloc", "io", "thin_vec"):
+            test = f"converting_to_{name}_error_drops_the_refusal"
+            self.assertIn(f"\nthin_tests {test} is run_tests {test}\n", f"\n{said}")
+        test = "converting_to_«error»_drops_the_refusal"
+        self.assertIn(f"thin_tests {test} is run_tests {test}\n", said)
+        kept = (top / "tools" / "mutants.d" / "thin_vec" / "errors.toml").read_text(
+            encoding="utf-8"
+        )
+        self.assertNotIn('"thin_tests converting_to_', kept)
+        self.assertEqual(self.passes("evidence", "--follow", top=top), "")
+
     def test_no_file_of_promises(self):
         top = self.copy("crates", "mutants.d")
         path = top / "docs" / "evidence.toml"

@@ -1,4 +1,4 @@
-"""tools/mutants: the wrong bodies fit the sources, and what does not fit is told. Nothing is built."""
+"""tools/mutants: wrong bodies fit the sources, and what does not is told. Nothing is built."""
 import re
 import shutil
 import unittest

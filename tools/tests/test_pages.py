@@ -1,11 +1,17 @@
-"""tools/pages: what is wrong with a page, and how it asks the other tools. The repository is a small one."""
+"""tools/pages: what is wrong with a page, and how it asks the other tools.
+
+The repository is a small one.
+"""
 import shutil
 import unittest
 
 from tool import TOP, ToolTest
 
 STUB = "#!/usr/bin/env python3\nimport sys\nprint({says!r}, file=sys.stderr)\nsys.exit({status})\n"
-README = "# One\n\n# One\n\n[one](#one-1) [an example](crates/thin_examples/README.md#one)\n\n```rust\nlet a = 1;\n```\n"
+README = (
+    "# One\n\n# One\n\n[one](#one-1) [an example](crates/thin_examples/README.md#one)\n\n"
+    "```rust\nlet a = 1;\n```\n"
+)
 EXAMPLES = "# One\n\n| Example | Prints |\n|---|---|\n| [`one`](src/main.rt) | `1` |\n"
 
 

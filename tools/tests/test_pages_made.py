@@ -1,4 +1,4 @@
-"""tools/index and tools/reference: the pages are as the code is, a change is seen, and --write follows it."""
+"""tools/index and tools/reference: a page is as the code is, and --write follows a change."""
 import unittest
 
 from tool import ToolTest, change
@@ -30,7 +30,8 @@ class MadePages(ToolTest):
         top = self.copy("mutants.d", "proofs", "specs")
         page = top / "crates" / "thin_vec" / "REFERENCE.md"
         page.write_text("", encoding="utf-8")
-        says = "no reference of typo: there are those of thin_vec and thin_rows (--help lists the options)"
+        says = "no reference of typo: there are those of thin_vec and thin_rows"
+        says += " (--help lists the options)"
         self.refuses(says, "reference", "thin_vec", "typo", "--write", top=top)
         self.assertEqual(page.read_text(encoding="utf-8"), "")
 

@@ -1,4 +1,4 @@
-"""What the tests of the tools share: they import a tool, run it, and make copies of the repository."""
+"""What the tests of the tools share: they import a tool, run it, and copy the repository."""
 import contextlib
 import importlib.machinery
 import importlib.util
@@ -40,7 +40,7 @@ def load(name):
 
 
 def run(top, name, arguments, environment):
-    """Runs a tool of the repository `top` in this process, which takes a tenth of a second less than in another one."""
+    """Runs a tool of the repository `top` in this process, which is quicker than in another one."""
     path, out, errors = str(top / "tools" / name), io.StringIO(), io.StringIO()
     kept = {module: sys.modules.pop(module, None) for module in OWN_MODULES}
     with contextlib.ExitStack() as stack:
