@@ -1,9 +1,11 @@
 """tools/mutants: wrong bodies fit the sources, and what does not is told. Nothing is built."""
 import re
 import shutil
+import types
 import unittest
+from unittest import mock
 
-from tool import ToolTest
+from tool import ToolTest, load
 
 
 class Mutants(ToolTest):
@@ -87,6 +89,17 @@ seen = "thin_tests drops_each_value_once"
             path.write_text(wrong, encoding="utf-8")
             self.refuses(f"{path}: {says}", "mutants", "--list", "--from", path)
         self.refuses("/no/file: No such file or directory", "mutants", "--from", "/no/file")
+
+    def test_the_quickest_test_that_sees_a_body(self):
+        mutants = load("mutants")
+        trial = mutants.Trial([], types.SimpleNamespace(jobs=1), self.folder())
+        # Of these tests, each sees the bodies whose numbers stand beside it.
+        sees = {"slow": (1, 2), "quick": (2,), "blind": ()}
+        tests = mock.Mock(crate="one", fails=lambda test, number: number in sees[test])
+        for took, test in ((3, "slow"), (2, "quick"), (1, "blind")):
+            trial.took[tests, test] = took
+        found = [trial.quickest(number) for number in (0, 1, 2)]
+        self.assertEqual(found, [None, "one slow", "one quick"])
 
     def test_an_unknown_body(self):
         self.refuses("there is no such body: typo", "mutants", "--only", "typo", RT="/no/rt")
