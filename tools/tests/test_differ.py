@@ -146,6 +146,24 @@ class Differ(ToolTest):
                 differ.difference_of_spoiled(True, ["typo"])[:1], ["thin_replay: status 1: told"]
             )
 
+    def test_a_copy_for_other_items_has_one_other_file(self):
+        top = self.folder()
+        self.assertEqual(
+            differ.write_copy(differ.ITEM_TYPES["pair"], top), top / "crates" / "thin_replay"
+        )
+        item = Path("replay", "src", "item.rt")
+        for path in (TOP / "crates" / "replay" / "src").rglob("*.rt"):
+            place = path.relative_to(TOP / "crates")
+            text = (top / "crates" / place).read_text(encoding="utf-8")
+            if place != item:
+                self.assertEqual(text, path.read_text(encoding="utf-8"), place)
+        text = (top / "crates" / item).read_text(encoding="utf-8")
+        self.assertIn("\npub type Item = (u64, u64);\n", text)
+        # What the file of the repository has, the other one has, too.
+        for line in (TOP / "crates" / item).read_text(encoding="utf-8").splitlines():
+            if line.startswith("pub ") and "type" not in line:
+                self.assertIn(line, text)
+
     def test_what_it_needs(self):
         programs = self.folder()
         self.refuses(

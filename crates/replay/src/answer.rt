@@ -2,6 +2,7 @@
 //! capacity of the list, its items, and the text of `help`.
 
 use crate::forms::{FORMS, NOTES};
+use crate::item::Item;
 use std::io::{self, Write};
 use thin_runner::command::Reply;
 use thin_runner::hinted::Hinted;
@@ -21,18 +22,18 @@ pub fn write_help(out: &mut impl Write) -> io::Result<()> {
 }
 
 /// Writes the items of the list, and ends the line.
-pub fn write_items(out: &mut impl Write, list: &ThinVec<u64>) -> io::Result<()> {
+pub fn write_items(out: &mut impl Write, list: &ThinVec<Item>) -> io::Result<()> {
     writeln!(out, "items {list:?}")
 }
 
 /// Writes the length and the capacity of the list, and ends the line.
-pub fn write_state(out: &mut impl Write, list: &ThinVec<u64>) -> io::Result<()> {
+pub fn write_state(out: &mut impl Write, list: &ThinVec<Item>) -> io::Result<()> {
     let (length, capacity) = (list.len(), list.capacity());
     writeln!(out, "; length {length}; capacity {capacity}")
 }
 
 /// Writes the reply.
-pub fn write_reply(out: &mut impl Write, reply: Reply<u64>) -> io::Result<()> {
+pub fn write_reply(out: &mut impl Write, reply: Reply<Item>) -> io::Result<()> {
     match reply {
         Reply::Done => write!(out, "done"),
         Reply::Item(item) => write!(out, "item {item:?}"),
@@ -42,7 +43,7 @@ pub fn write_reply(out: &mut impl Write, reply: Reply<u64>) -> io::Result<()> {
             write!(out, "list {list:?}; capacity {capacity}")
         }
         Reply::Other(other, refused) => write_other(out, &other, refused),
-        Reply::Returned(item, cause) => write!(out, "failed: {cause}; returned {item}"),
+        Reply::Returned(item, cause) => write!(out, "failed: {cause}; returned {item:?}"),
         Reply::Refused(cause) => write!(out, "failed: {cause}"),
         Reply::Stopped {
             answers,
@@ -65,7 +66,7 @@ pub fn write_reply(out: &mut impl Write, reply: Reply<u64>) -> io::Result<()> {
 // failed, first writes the cause `refused`.
 fn write_other(
     out: &mut impl Write,
-    other: &ThinVec<u64>,
+    other: &ThinVec<Item>,
     refused: Option<ThinVecError>,
 ) -> io::Result<()> {
     if let Some(cause) = refused {
@@ -76,10 +77,10 @@ fn write_other(
 }
 
 // Writes the items that the iterator `rest` has not yielded yet.
-fn write_rest(out: &mut impl Write, rest: Hinted<u64>) -> io::Result<()> {
+fn write_rest(out: &mut impl Write, rest: Hinted<Item>) -> io::Result<()> {
     write!(out, "; rest")?;
     for item in rest {
-        write!(out, " {item}")?;
+        write!(out, " {item:?}")?;
     }
     Ok(())
 }

@@ -10,6 +10,7 @@ mod room;
 mod single;
 
 use crate::divisor_judge::DivisorJudge;
+use crate::item::Item;
 use crate::line_error::LineError;
 use std::alloc::Global;
 use thin_runner::command::Command;
@@ -18,7 +19,7 @@ use thin_runner::command::Command;
 /// command uses no judge, the field `judge` may have any value.
 #[derive(Drop)]
 pub struct Call {
-    pub command: Command<u64>,
+    pub command: Command<Item>,
     pub judge: DivisorJudge,
 }
 
@@ -44,7 +45,7 @@ impl Call {
     }
 
     // Makes a `Call` from a command that uses no judge. The judge in the `Call` is a placeholder.
-    fn unjudged(command: Command<u64>) -> Call
+    fn unjudged(command: Command<Item>) -> Call
         ensures command { result.command ≡ command }
     {
         let judge = DivisorJudge::placeholder();
@@ -54,7 +55,7 @@ impl Call {
 
 // Parses the words of a line as a command that uses no judge. Returns `None` if the words do not
 // have the form of such a command.
-fn parse_command(alloc: Global, words: &[&str]) -> Result<Option<Command<u64>>, LineError>
+fn parse_command(alloc: Global, words: &[&str]) -> Result<Option<Command<Item>>, LineError>
     ensures says { IfOk result (λ found. IfSome found (SaysUnjudged words.now)) }
 {
     if let Some(command) = single::parse(words)? {

@@ -8,12 +8,14 @@ pub mod call;
 mod carried_out;
 pub mod divisor_judge;
 mod forms;
+mod item;
 pub mod line;
 pub mod line_error;
 pub mod replay_error;
 mod words;
 
 use crate::carried_out::carry_out;
+use crate::item::Item;
 use crate::line::Line;
 use crate::line_error::LineError;
 use crate::replay_error::ReplayError;
@@ -102,7 +104,7 @@ fn answer_lines(
 fn answer_line(
     out: &mut impl Write,
     alloc: Global,
-    list: &mut ThinVec<u64>,
+    list: &mut ThinVec<Item>,
     number: usize,
     line: Line,
 ) -> Result<(), ReplayError> {
@@ -129,7 +131,7 @@ fn answer_line(
 }
 
 // Returns whether the reply says that there was not enough memory.
-fn lacks_memory(reply: &Reply<u64>) -> bool {
+fn lacks_memory(reply: &Reply<Item>) -> bool {
     let cause = match reply {
         Reply::Returned(_item, cause) => cause,
         Reply::Refused(cause) => cause,

@@ -3,17 +3,11 @@ ghost use Rattle.std.specs.Prelude.{IfOk};
 ghost use Rattle.std.specs.Str.Parse.{ParsesUnsigned};
 ghost use Rattle.replay.specs.Words.{IsStep, SpellAll, SpellsSteps};
 
+use crate::item::{Item, item_of};
 use crate::line_error::LineError;
 use std::alloc::{AllocError, Global};
 use thin_runner::command::Step;
 use thin_vec::ThinVec;
-
-/// Parses a word as an item of the list. All items are numbers.
-pub fn item_of(word: &str) -> Result<u64, LineError>
-    ensures parses { ParsesUnsigned 64 10 word.now result }
-{
-    number_of(word, "ITEM")
-}
 
 /// Parses a word as a number. Fails if the word is not a number. The error refers to the word as
 /// `name`, for example `ITEM`.
@@ -38,7 +32,7 @@ pub fn count_of(word: &str, name: &'static str) -> Result<usize, LineError>
 }
 
 /// Parses each word as an item, and returns a `Vec` of the items in order.
-pub fn items_of(alloc: Global, words: &[&str]) -> Result<Vec<u64>, LineError>
+pub fn items_of(alloc: Global, words: &[&str]) -> Result<Vec<Item>, LineError>
     ensures items { IfOk result (λ items. SpellAll words.now items.items) }
 {
     let mut items = Vec::new(alloc);
@@ -49,7 +43,7 @@ pub fn items_of(alloc: Global, words: &[&str]) -> Result<Vec<u64>, LineError>
 }
 
 /// Parses each word as an item, and returns a `ThinVec` of the items in order.
-pub fn list_of(alloc: Global, words: &[&str]) -> Result<ThinVec<u64>, LineError>
+pub fn list_of(alloc: Global, words: &[&str]) -> Result<ThinVec<Item>, LineError>
     ensures items { IfOk result (λ list. SpellAll words.now list.items) }
 {
     let mut list = ThinVec::new(alloc);

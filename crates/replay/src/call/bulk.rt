@@ -2,14 +2,15 @@
 ghost use Rattle.std.specs.Prelude.{IfOk, IfSome};
 ghost use Rattle.replay.specs.Lines.{SaysUnjudged};
 
+use crate::item::{Item, item_of};
 use crate::line_error::LineError;
-use crate::words::{count_of, item_of, items_of, list_of};
+use crate::words::{count_of, items_of, list_of};
 use std::alloc::Global;
 use thin_runner::command::Command;
 
 /// Parses the words of a line as a command that adds several items. Returns `None` if the words do
 /// not have the form of such a command.
-pub fn parse(alloc: Global, words: &[&str]) -> Result<Option<Command<u64>>, LineError>
+pub fn parse(alloc: Global, words: &[&str]) -> Result<Option<Command<Item>>, LineError>
     ensures says { IfOk result (λ found. IfSome found (SaysUnjudged words.now)) }
 {
     Ok(Some(match words {

@@ -5,6 +5,7 @@ ghost use Rattle.replay.specs.Lines.{IsCall, IsFilter};
 
 use crate::call::Call;
 use crate::divisor_judge::DivisorJudge;
+use crate::item::Item;
 use crate::line_error::LineError;
 use crate::words::count_of;
 use thin_runner::command::Command;
@@ -40,7 +41,7 @@ pub fn parse(words: &[&str]) -> Result<Option<Call>, LineError>
 
 // If `name` is the name of the command `Retain`, `RetainMut`, `DedupBy` or `DedupByKey`, returns
 // this command. Otherwise, returns `None`.
-fn filter(name: &str) -> Option<Command<u64>>
+fn filter(name: &str) -> Option<Command<Item>>
     ensures filter { IfSome result (IsFilter name.now) }
 {
     match name {

@@ -2,6 +2,7 @@
 ghost use Rattle.std.specs.Prelude.{IfOk, IfSome};
 ghost use Rattle.replay.specs.Lines.{SaysUnjudged};
 
+use crate::item::Item;
 use crate::line_error::LineError;
 use crate::words::{count_of, items_of, steps_of};
 use std::alloc::Global;
@@ -14,7 +15,7 @@ use thin_runner::command::Command;
 ///
 /// Fails if the words have this form, but one of them is invalid. Also fails if there is not enough
 /// memory.
-pub fn parse(alloc: Global, words: &[&str]) -> Result<Option<Command<u64>>, LineError>
+pub fn parse(alloc: Global, words: &[&str]) -> Result<Option<Command<Item>>, LineError>
     ensures says { IfOk result (λ found. IfSome found (SaysUnjudged words.now)) }
 {
     Ok(Some(match words {

@@ -2,13 +2,14 @@
 ghost use Rattle.std.specs.Prelude.{IfOk, IfSome};
 ghost use Rattle.replay.specs.Lines.{SaysUnjudged};
 
+use crate::item::Item;
 use crate::line_error::LineError;
 use crate::words::count_of;
 use thin_runner::command::Command;
 
 /// Parses the words as a command that changes the capacity of the list, or splits or clones the
 /// list. Returns `None` if they have another form.
-pub fn parse(words: &[&str]) -> Result<Option<Command<u64>>, LineError>
+pub fn parse(words: &[&str]) -> Result<Option<Command<Item>>, LineError>
     ensures says { IfOk result (λ found. IfSome found (SaysUnjudged words.now)) }
 {
     Ok(Some(match words {

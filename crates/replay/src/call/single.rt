@@ -2,13 +2,14 @@
 ghost use Rattle.std.specs.Prelude.{IfOk, IfSome};
 ghost use Rattle.replay.specs.Lines.{SaysUnjudged};
 
+use crate::item::{Item, item_of};
 use crate::line_error::LineError;
-use crate::words::{count_of, item_of};
+use crate::words::count_of;
 use thin_runner::command::Command;
 
 /// Parses the words as a command that adds, removes or replaces one item, or as `truncate` or
 /// `clear`. Returns `None` if they have another form.
-pub fn parse(words: &[&str]) -> Result<Option<Command<u64>>, LineError>
+pub fn parse(words: &[&str]) -> Result<Option<Command<Item>>, LineError>
     ensures says { IfOk result (λ found. IfSome found (SaysUnjudged words.now)) }
 {
     Ok(Some(match words {
