@@ -10,10 +10,9 @@ use Rattle.std.specs.Option.{option_to_list}
 use Rattle.std.specs.Prelude.{◌⊎◌, IsSome, MatchOption}
 use Rattle.thin_vec.specs.List.Extend.{CostsInserting, ExtendsCapacity}
 use Rattle.thin_vec.specs.List.Capacity.{PreservesList}
-use Rattle.thin_vec.specs.Edits.Splice.{SpliceErrorAccountsFor, without_middle}
+use Rattle.thin_vec.specs.Edits.Splice.{SpliceErrorAccountsFor}
 use Rattle.thin_vec.specs.declared.SpliceRefused.{SpliceRefused}
 use Rattle.thin_vec.specs.Growth.{GrowthRule}
-use Rattle.thin_vec.specs.Open.{OpenView}
 use Rattle.thin_vec.specs.ThinVec.{HasRoomFor, ListView}
 use Rattle.thin_vec.specs.declared.ThinVecError.{ThinVecError}
 use Rattle.thin_runner.specs.Hinted.{HintedSteps, hinted_claim, hinted_count, hinted_items}
@@ -74,39 +73,16 @@ module _ {T A : Type 0} (s : Hinted T A) (placed : List T)
   stopped-ended (inl gave) none some = absurd (omega (arith, ap length (gave.1 none), some))
   stopped-ended (inr ended) none some = ended.2.2.0.1
 
-module _ {T A : Type 0} (old : ListView T A) (a b : ℕ) where
-  -- `block` is the open block of a splice of the items `a..b` of `old`, and `alloc` is its
-  -- allocator.
-  pub record IsOpened (block : OpenView T A) (alloc : A) : Type 0 where
-    pub front : block.front ≡ take a old.items
-    pub tail : block.tail ≡ drop b old.items
-    pub capacity : block.capacity ≡ old.capacity
-    pub same : alloc ≡ old.alloc
-    pub cost : block.cost ≡ old.cost
+-- These lemmas are about the items `tail` after a range that ends at index `b` of the items `xs`.
+module _ {T : Type 0} (xs tail : List T) (b : ℕ) (is : tail ≡ drop b xs) where
+  pub tail-count : length tail ≡ length xs - b
+  tail-count = ap length is ∙ length-drop b xs
 
-  module _ (block : OpenView T A) (alloc : A) (is : IsOpened block alloc) where
-    pub left-is : without_middle block alloc ≡ without_range old a b
-    left-is = λ i. record {
-      items = is.front i ++ is.tail i;
-      capacity = is.capacity i;
-      alloc = is.same i;
-      cost = is.cost i;
-    }
+  pub some-tail : b < length xs → 0 < length tail
+  some-tail more = omega (arith, tail-count, more)
 
-    pub tail-count : length block.tail ≡ length old.items - b
-    tail-count = ap length is.tail ∙ length-drop b old.items
-
-    pub some-tail : b < length old.items → 0 < length block.tail
-    some-tail more = omega (arith, tail-count, more)
-
-    pub no-tail : b ≡ length old.items → block.tail ≡ []
-    no-tail all = no-items block.tail (omega (arith, tail-count, all))
-
-    pub room-left : (most size : ℕ) → size ≡ most → HasRoomFor (without_range old a b) most
-        → HasRoomFor (without_middle block alloc) size
-    room-left most size count room =
-        subst (λ (n : ℕ). HasRoomFor (without_middle block alloc) n) (sym count)
-        (subst (λ (v : ListView T A). HasRoomFor v most) (sym left-is) room)
+  pub no-tail : b ≡ length xs → tail ≡ []
+  no-tail all = no-items tail (omega (arith, tail-count, all))
 
 module _ {T A : Type 0} {rule : GrowthRule} {R : RattleType} {old : ListView T A} {a b : ℕ} where
   -- The clauses of `extend` and `finish` speak of a list `v` that is `old` without the range

@@ -9,11 +9,10 @@ use Rattle.std.specs.Option.{option_to_list}
 use Rattle.std.specs.Prelude.{MatchBool, cond, filter, not}
 use Rattle.thin_block.specs.declared.growth.Growth.{Ghosts}
 use Rattle.thin_vec.specs.Edits.Dedup.{TestsEachAgainstLast, TestsAllAgainstLast, IsDedupedBy}
-use Rattle.thin_vec.specs.Edits.ExtractIf.{ExtractSteps, extract_block, extract_lender, extract_rest}
+use Rattle.thin_vec.specs.Edits.ExtractIf.{ExtractSteps, extract_block, extract_lender, extract_rest, left_by_extract_if}
 use Rattle.thin_vec.specs.ThinVec.{ListView}
 use Rattle.thin_vec.specs.declared.edits.extract_if.ExtractIf.{ExtractIf}
 use Rattle.thin_vec.specs.declared.edits.extract_if.ExtractState.{ExtractState}
-use Rattle.thin_vec.specs.declared.edits.holder.Holder.{Holder}
 use Rattle.thin_vec.specs.declared.edits.holder.IntoInner.{Ghosts as IntoInnerGhosts}
 
 -- The following lemmas are about `dedup_by` and `dedup_by_key`.
@@ -116,30 +115,36 @@ module _ {T : Type 0} (test : T → Bool) where
         (λ ks n. parts e.1 xs item t ks rest n) e.4
 
 -- This module is about loops over an `ExtractIf` that extracts the items that pass `test`.
-module _ {T F A G : Type 0} {g : Ghosts G}
-    {h : IntoInnerGhosts (Holder (ExtractState T F A)) (ExtractState T F A)} (test : T → Bool) where
+module _ {T F A G H : Type 0} {g : Ghosts G} {h : IntoInnerGhosts H (ExtractState T F A)}
+    (test : T → Bool) where
   -- `IsExtracting` is the invariant of a loop that appends each item yielded by an `ExtractIf` to a
   -- list. When the loop began, the `ExtractIf` was `start` and the list was `old`. Now the
   -- `ExtractIf` is `now` and the list is `held`.
-  pub record IsExtracting (start now : ExtractIf T F A G (Holder (ExtractState T F A)) g h)
-      (old held : List T) : Type 0 where
-    pub gone : held ++ filter test (extract_rest now) ≡ old ++ filter test (extract_rest start)
-    pub stay : (extract_block now).front ++ others test (extract_rest now)
-        ≡ (extract_block start).front ++ others test (extract_rest start)
-    pub tail : (extract_block now).tail ≡ (extract_block start).tail
-    pub lender : extract_lender now ≡ extract_lender start
-    pub count : length held + length (extract_rest now)
-        ≤ length old + length (extract_rest start)
+  pub record IsExtracting (start now : ExtractIf T F A G H g h) (old held : List T) : Type 0
+    where
+      pub gone : held ++ filter test (extract_rest now) ≡ old ++ filter test (extract_rest start)
+      pub stay : (extract_block now).front ++ others test (extract_rest now)
+          ≡ (extract_block start).front ++ others test (extract_rest start)
+      pub tail : (extract_block now).tail ≡ (extract_block start).tail
+      pub lender : extract_lender now ≡ extract_lender start
+      pub count : length held + length (extract_rest now)
+          ≤ length old + length (extract_rest start)
 
-  pub extract_start : (e : ExtractIf T F A G (Holder (ExtractState T F A)) g h) (old : List T)
+  pub extract_start : (e : ExtractIf T F A G H g h) (old : List T)
       → IsExtracting e e old old
   extract_start e old =
       record { gone = refl; stay = refl; tail = refl; lender = refl; count = omega arith }
 
+  pub length-extract_rest : (e : ExtractIf T F A G H g h)
+      → length (extract_rest e) ≤ length (left_by_extract_if e).items
+  length-extract_rest e =
+      let b = extract_block e in
+      omega (arith, length-append b.front (b.rest ++ b.tail), length-append b.rest b.tail)
+
   module _ (R : F → T → Bool → F → T → Type 0)
       (says : (s : F) (x : T) (b : Bool) (t : F) (y : T) → R s x b t y
       → (b ≡ test x) × (y ≡ x)) where
-    pub extract_step : {start now new : ExtractIf T F A G (Holder (ExtractState T F A)) g h}
+    pub extract_step : {start now new : ExtractIf T F A G H g h}
         {old held more : List T} {item : Option T} {x : T} → IsExtracting start now old held
         → ExtractSteps R now item new → item ≡ Some x → more ≡ held ++ x ∷ []
         → IsExtracting start new old more
@@ -165,12 +170,12 @@ module _ {T F A G : Type 0} {g : Ghosts G}
           );
         }
 
-    -- The second part says what the list contains after the `ExtractIf` is dropped.
-    pub extract_end : {start now new : ExtractIf T F A G (Holder (ExtractState T F A)) g h}
+    -- The second part says which items the list has after the `ExtractIf` is dropped.
+    pub extract_end : {start now new : ExtractIf T F A G H g h}
         {old held : List T} {item : Option T} → IsExtracting start now old held
         → ExtractSteps R now item new → item ≡ None
         → (held ≡ old ++ filter test (extract_rest start))
-        × ((extract_block new).front ++ (extract_rest new ++ (extract_block new).tail)
+        × ((left_by_extract_if new).items
         ≡ (extract_block start).front ++ (others test (extract_rest start) ++ (extract_block start).tail))
     extract_end {start} {now} {new} {old} {held} {item} was step none =
         let got = step.extracts in
@@ -188,4 +193,20 @@ module _ {T F A G : Type 0} {g : Ghosts G}
               ∙ (append_assoc ((extract_block now).front) got.kept (others test (extract_rest new))
               ∙ (ap (λ l. (extract_block now).front ++ l) (sym part.stay) ∙ was.stay)))))
               ∙ append_assoc ((extract_block start).front) (others test (extract_rest start)) tail),
+        )
+
+    -- This is `extract_end` for an `ExtractIf` whose range is the whole list.
+    pub extract_end_all : {start now new : ExtractIf T F A G H g h} {old held : List T}
+        {item : Option T} → (extract_block start).front ≡ [] → (extract_block start).tail ≡ []
+        → IsExtracting start now old held → ExtractSteps R now item new → item ≡ None
+        → (held ≡ old ++ filter test (left_by_extract_if start).items)
+        × ((left_by_extract_if new).items ≡ others test (left_by_extract_if start).items)
+    extract_end_all {start} {now} {new} {old} first last was step none =
+        let done = extract_end was step none in
+        let all : (left_by_extract_if start).items ≡ extract_rest start =
+        (λ i. first i ++ (extract_rest start ++ last i)) ∙ append-nil (extract_rest start) in (
+          done.0 ∙ ap (λ l. old ++ filter test l) (sym all),
+          done.1
+              ∙ ((λ i. first i ++ (others test (sym all i) ++ last i))
+              ∙ append-nil (others test (left_by_extract_if start).items)),
         )

@@ -6,7 +6,7 @@ ghost use Rattle.thin_block.specs.Cost.{add_moves, no_cost};
 ghost use Rattle.thin_block.specs.Slots.{packed_slots};
 ghost use Rattle.thin_block.specs.Block.{IsAllocatedBy};
 ghost use Rattle.thin_vec.specs.Open.{OpenView, cost_closed, items_of, range_len, tail_end};
-ghost use Rattle.thin_vec.specs.ThinVec.{HasRoomFor};
+ghost use Rattle.thin_vec.specs.ThinVec.{HasRoomFor, IsBounded};
 
 pub(crate) mod dedup;
 mod fill;
@@ -103,6 +103,7 @@ impl<T, A: Allocator, G: Growth> ThinVec<T, A, G> {
 
         // The list.
         ensures changes { self.new ≡ record self.old { items = []; capacity = 0; cost = no_cost } }
+        ensures bounds { IsBounded T.row self.old }
     {
         let len = self.block.len();
         let block = mem::replace(&mut self.block, Block::none());

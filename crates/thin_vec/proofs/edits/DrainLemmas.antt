@@ -9,34 +9,26 @@ use Rattle.std.specs.Iterator.{Yields}
 use Rattle.thin_vec.specs.Edits.Drain.{DrainKeeps, DrainKeepsAlong, DrainLeaves, DrainSteps, DrainStepsBack, DrainStepsEither, drain_rest}
 use Rattle.thin_vec.specs.Open.{OpenView}
 use Rattle.thin_vec.specs.declared.edits.drain.Drain.{Drain}
-use Rattle.thin_vec.specs.declared.edits.holder.Holder.{Holder}
 use Rattle.thin_vec.specs.declared.edits.holder.IntoInner.{Ghosts as IntoInnerGhosts}
 
-module _ {T A G : Type 0} {g : Ghosts G}
-    {h : IntoInnerGhosts (Holder (OpenView T A)) (OpenView T A)} where
-  drain_keeps_more : (a b c : Drain T A G (Holder (OpenView T A)) g h) → DrainKeeps a b
+module _ {T A G H : Type 0} {g : Ghosts G} {h : IntoInnerGhosts H (OpenView T A)} where
+  drain_keeps_more : (a b c : Drain T A G H g h) → DrainKeeps a b
       → DrainKeeps b c → DrainKeeps a c
   drain_keeps_more a b c p q =
-      record {
-        lender = q.lender ∙ p.lender;
-        kept = q.kept ∙ p.kept;
-        capacity = q.capacity ∙ p.capacity;
-        alloc = q.alloc ∙ p.alloc;
-        cost = q.cost ∙ p.cost;
-      }
+      record { lender = q.lender ∙ p.lender; left = q.left ∙ p.left }
 
-  same : (d : Drain T A G (Holder (OpenView T A)) g h) → DrainKeeps d d
-  same d = record { lender = refl; kept = refl; capacity = refl; alloc = refl; cost = refl }
+  same : (d : Drain T A G H g h) → DrainKeeps d d
+  same d = record { lender = refl; left = refl }
 
-  pub drain_keeps_along : (d : Drain T A G (Holder (OpenView T A)) g h) → DrainKeepsAlong d
+  pub drain_keeps_along : (d : Drain T A G H g h) → DrainKeepsAlong d
   drain_keeps_along d [] later e = subst (λ t. DrainKeeps d t) e (same d)
   drain_keeps_along d (x ∷ xs) later (m, one, e) =
       drain_keeps_more d m later one.keeps (drain_keeps_along m xs later e)
 
   -- Calls to `next` and `next_back`, in any order, take items from the two ends of the range, and
   -- do not change the list that will remain after the `Drain` is dropped.
-  pub drain_leaves : (d : Drain T A G (Holder (OpenView T A)) g h) (items : List T)
-      (later : Drain T A G (Holder (OpenView T A)) g h) → Yields DrainStepsEither d items later
+  pub drain_leaves : (d : Drain T A G H g h) (items : List T)
+      (later : Drain T A G H g h) → Yields DrainStepsEither d items later
       → DrainLeaves d items later
   drain_leaves d [] later e = subst (λ t. DrainLeaves d [] t) e (record {
     keeps = same d;
@@ -67,14 +59,14 @@ module _ {T A G : Type 0} {g : Ghosts G}
         count = omega (arith, h.count, length_push h.after x);
       }
 
-  pub drains_in_order : YieldsInOrder (DrainSteps {T = T} {A = A} {G = G} {g = g} {h = h})
+  pub drains_in_order : YieldsInOrder (DrainSteps {T = T} {A = A} {G = G} {H = H} {g = g} {h = h})
       drain_rest
   drains_in_order p s =
       as_is p (drain_rest p.from)
       (from_front DrainSteps (λ x. x) drain_rest (λ a b n. ap length n.gave.0)
       (λ a x b n. n.gave) p s)
 
-  pub drains_in_reverse : YieldsInReverse (DrainStepsBack {T = T} {A = A} {G = G} {g = g} {h = h})
+  pub drains_in_reverse : YieldsInReverse (DrainStepsBack {T = T} {A = A} {G = G} {H = H} {g = g} {h = h})
       drain_rest
   drains_in_reverse p s =
       as_is_back p (drain_rest p.from)

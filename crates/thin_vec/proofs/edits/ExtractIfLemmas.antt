@@ -1,20 +1,21 @@
 -- These lemmas are about the item that `next` on an `ExtractIf` extracts: the first untested item
 -- for which the closure returns true.
 use Rattle.std.proofs.Common.{◌≡◌, ℕ, ◌+◌, ◌≤◌, Bool, true, false, List, [], ◌∷◌, ◌++◌, Option, None, Some, length, take, drop, refl, sym, ap, subst, ◌∙◌, append_assoc, arith, length-append}
-use Rattle.std.proofs.lemmas.List.{append-nil, drop_at, length-take-le, take_at}
+use Rattle.std.proofs.lemmas.List.{append-nil, drop_at, length-take-le, take-append-drop, take_at}
+use Rattle.std.proofs.lemmas.List.Folds.{drop_split}
 use Rattle.std.specs.List.Retain.{ExtractsNext}
 use Rattle.std.specs.Option.{option_to_list}
-use Rattle.std.specs.Prelude.{◌==◌, MatchBool, if◌then◌else◌, not}
+use Rattle.std.specs.Prelude.{◌==◌, MatchBool, if◌then◌else◌, not, slice_range}
 use Rattle.thin_block.specs.Cost.{Cost, add_moves}
 use Rattle.thin_block.specs.declared.growth.Growth.{Ghosts}
-use Rattle.thin_vec.specs.Edits.ExtractIf.{ExtractKeepsAlong, ExtractLeaves, extract_block}
+use Rattle.thin_vec.specs.Edits.ExtractIf.{ExtractKeepsAlong, ExtractLeaves, extract_block, extract_rest, left_by_extract_if}
 use Rattle.thin_vec.specs.Edits.Retain.{TestResults, TestsInTurn, all_kept}
+use Rattle.thin_vec.specs.List.Capacity.{MovesAtMost}
 use Rattle.thin_vec.specs.OpenBlock.Retain.{TestsUpTo, IsRejectedFirst}
 use Rattle.thin_vec.specs.declared.edits.extract_if.ExtractIf.{ExtractIf}
 use Rattle.thin_vec.specs.declared.edits.extract_if.ExtractState.{ExtractState}
-use Rattle.thin_vec.specs.declared.edits.holder.Holder.{Holder}
 use Rattle.thin_vec.specs.declared.edits.holder.IntoInner.{Ghosts as IntoInnerGhosts}
-use Rattle.thin_vec.proofs.RetainLemmas.{cons-head, cons-not-nil, cons-tail}
+use Rattle.thin_vec.proofs.RetainLemmas.{cons-head, cons-not-nil, cons-tail, moving-more, moving-none}
 
 pub not-not : (b : Bool) → not (not b) ≡ b
 not-not true = refl
@@ -125,33 +126,68 @@ pub cost-of : {T : Type 0} (gap : ℕ) (cost : Cost) (k : ℕ) (xs : List T) →
 cost-of gap cost k xs room =
     ap (λ (n : ℕ). if gap == 0 then cost else add_moves n cost) (sym (length-take-le k xs room))
 
-module _ {T F A G : Type 0} {g : Ghosts G}
-    {h : IntoInnerGhosts (Holder (ExtractState T F A)) (ExtractState T F A)}
+-- The parts of a list before, in and after a range are the whole list.
+pub in-parts : {T : Type 0} (xs : List T) (start end : ℕ) → start ≤ end
+    → take start xs ++ (slice_range xs start end ++ drop end xs) ≡ xs
+in-parts xs start end order =
+    ap (λ l. take start xs ++ l) (sym (drop_split xs start end order))
+    ∙ take-append-drop start xs
+
+moves-if : (b : Bool) (n k : ℕ) (c d : Cost) → d ≡ (if b then c else add_moves n c) → n ≤ k
+    → MovesAtMost k c d
+moves-if true n k c d e few =
+    record { moves = 0; few = omega arith; cost = e ∙ sym (moving-none c) }
+moves-if false n k c d e few = record { moves = n; few = few; cost = e }
+
+moves-join : (m n k : ℕ) (b c d : Cost) → m + n ≤ k → MovesAtMost m b c → MovesAtMost n c d
+    → MovesAtMost k b d
+moves-join m n k b c d few p q = record {
+  moves = p.moves + q.moves;
+  few = omega (arith, few, p.few, q.few);
+  cost = q.cost ∙ (ap (λ x. add_moves q.moves x) p.cost ∙ moving-more q.moves p.moves b);
+}
+
+module _ {T F A G H : Type 0} {g : Ghosts G} {h : IntoInnerGhosts H (ExtractState T F A)}
     (R : F → T → Bool → F → T → Type 0) where
-  pub extract_keeps_along : (d : ExtractIf T F A G (Holder (ExtractState T F A)) g h)
+  pub extract_keeps_along : (d : ExtractIf T F A G H g h)
       → ExtractKeepsAlong R d
   extract_keeps_along d [] later e = subst (λ t. ExtractLeaves d [] t) e (record {
     lender = refl;
-    alloc = refl;
-    capacity = refl;
+    kept = [];
+    left = λ i. record (left_by_extract_if d) {
+      items = sym (append-nil (extract_block d).front) i
+          ++ (extract_rest d ++ (extract_block d).tail);
+    };
+    moves = moves-if ((extract_block d).gap == 0)
+        (length (extract_rest d) + length (extract_block d).tail) _ _ _ refl (omega arith);
+    front = sym (append-nil (extract_block d).front);
     tail = refl;
     gone = omega arith;
-    kept = [];
-    front = sym (append-nil (extract_block d).front);
     count = omega arith;
   })
   extract_keeps_along d (x ∷ xs) later (m, one, e) =
       let on = extract_keeps_along m xs later e in
       let s = one.extracts in
+      let both = length-append s.kept on.kept in
+      let front : (extract_block m).front ++ on.kept
+      ≡ (extract_block d).front ++ (s.kept ++ on.kept) =
+      ap (λ l. l ++ on.kept) s.front ∙ append_assoc (extract_block d).front s.kept on.kept in
       record {
         lender = on.lender ∙ one.lender;
-        alloc = on.alloc ∙ one.alloc;
-        capacity = on.capacity ∙ s.capacity;
+        kept = s.kept ++ on.kept;
+        left = on.left ∙ (λ i. record {
+          items = front i ++ (extract_rest later ++ s.tail i);
+          capacity = s.capacity i;
+          alloc = (one.left i).alloc;
+          cost = (left_by_extract_if later).cost;
+        });
+        moves = moves-join (length s.kept)
+            (length on.kept + length (extract_rest later) + length (extract_block m).tail)
+            _ _ _ _ (omega (arith, both, ap length s.tail))
+            (moves-if ((extract_block d).gap == 0) (length s.kept) _ _ _ s.cost (omega arith))
+            on.moves;
+        front = on.front ∙ front;
         tail = on.tail ∙ s.tail;
         gone = omega (arith, on.gone, s.gap);
-        kept = s.kept ++ on.kept;
-        front = on.front
-            ∙ (ap (λ l. l ++ on.kept) s.front
-            ∙ append_assoc (extract_block d).front s.kept on.kept);
-        count = omega (arith, on.count, s.count, length-append s.kept on.kept);
+        count = omega (arith, on.count, s.count, both);
       }

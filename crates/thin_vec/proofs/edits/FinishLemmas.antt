@@ -9,11 +9,11 @@ use Rattle.std.specs.declared.result.Result.TheVariants.{Ok, Err}
 use Rattle.std.specs.Iterator.{Count, Drains, IsFinite, Yields, size}
 use Rattle.thin_block.specs.Cost.{add_moves}
 use Rattle.thin_block.specs.Growth.{IsLawful, GrowthRule, grown_capacity}
-use Rattle.thin_vec.specs.List.Extend.{IsCapacityAfterExtend, IsKeptOrChosen}
+use Rattle.thin_vec.specs.List.Extend.{IsCapacityAfterExtend, IsKeptOrChosen, RequestsAtMost}
 use Rattle.thin_vec.specs.Put.{YieldsThenMayEnd, IsFilledBy}
 use Rattle.thin_vec.specs.declared.put.Filled.{Filled}
-use Rattle.thin_vec.specs.Edits.Splice.{IsSpliceCause, SpliceErrorAccountsFor, without_middle, with_replacement}
-use Rattle.thin_vec.specs.Edits.Finish.{AddsFromIter, FinishesSplice}
+use Rattle.thin_vec.specs.Edits.Splice.{IsSpliceCause, SpliceErrorAccountsFor}
+use Rattle.thin_vec.specs.Edits.Finish.{AddsFromIter, FinishesSplice, without_middle, with_replacement}
 use Rattle.thin_vec.specs.Open.{OpenView, cost_closed, items_of}
 use Rattle.thin_vec.specs.ThinVec.{ListView}
 use Rattle.thin_vec.specs.declared.errors.SpliceRefused.{SpliceRefused}
@@ -211,17 +211,21 @@ module _ {S T A : Type 0} {steps : S → Option T → S → Type 0} {can : S →
         → IsCapacityAfterExtend rule R (without_middle v a) w.capacity (length w.items)
         (remaining s)
         → (0 < length v.tail → w.cost.blocks ≤ v.cost.blocks + 2)
+        → (v.tail ≡ [] → RequestsAtMost (w.cost.blocks - v.cost.blocks)
+        (length w.items - length (v.front ++ v.tail)) (remaining s))
         → FinishesSplice steps can remaining rule R v a s w (Ok x)
-    finished-ok x items taken ruled blocks = record {
+    finished-ok x items taken ruled blocks requests = record {
       succeeds = λ _. refl;
       succeeds_at_end = λ _ _. refl;
       items = items;
       taken = taken;
       ruled = ruled;
       blocks = blocks;
+      requests = requests;
       placed = tt;
       range = tt;
-      at_end = tt;
+      held = tt;
+      in_hand = tt;
       cause = tt;
     }
 
@@ -245,7 +249,7 @@ module _ {S T A : Type 0} {steps : S → Option T → S → Type 0} {can : S →
           drains-more steps s t xs items.0 p.gave items.1,
           items.2 ∙ between-more v u.items xs items.0 end p.items p.ends,
         )
-        taken ruled blocks
+        taken ruled blocks (λ none. absurd (omega (arith, some, ap length none)))
     finished-from {t} {u} {xs} (Err e) p some ends items placed cause err taken ruled blocks = record {
       succeeds = λ few. ends (omega (arith, few, p.full, p.nearer));
       succeeds_at_end = λ none _. absurd (omega (arith, some, ap length none));
@@ -253,6 +257,7 @@ module _ {S T A : Type 0} {steps : S → Option T → S → Type 0} {can : S →
       taken = taken;
       ruled = ruled;
       blocks = blocks;
+      requests = λ none. absurd (omega (arith, some, ap length none));
       placed = (
         xs,
         ap (λ z. z.items) err ∙ p.items,
@@ -265,6 +270,7 @@ module _ {S T A : Type 0} {steps : S → Option T → S → Type 0} {can : S →
         p.ends,
         p.full,
       );
-      at_end = λ none. absurd (omega (arith, some, ap length none));
+      held = λ none. absurd (omega (arith, some, ap length none));
+      in_hand = λ none. absurd (omega (arith, some, ap length none));
       cause = cause;
     }

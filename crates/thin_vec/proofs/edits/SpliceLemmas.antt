@@ -4,20 +4,21 @@ use Rattle.std.proofs.Common.{if◌then◌else◌, inl, inr, Option, Some, None,
 use Rattle.std.proofs.lemmas.List.{append-nil, drop_at, length-drop, length-take-le, take_at}
 use Rattle.std.specs.Borrow.{RattleType}
 use Rattle.std.specs.Option.{option_to_list}
-use Rattle.std.specs.Prelude.{◌↔◌, IfErr, IsSome, MatchOption}
+use Rattle.std.specs.Prelude.{IfErr, IsSome, MatchOption, vec_capacity}
 use Rattle.std.specs.declared.result.Result.{Result}
 use Rattle.std.specs.declared.result.Result.TheVariants.{Ok, Err}
 use Rattle.std.specs.Iterator.{Count, Drains, Yields, YieldsThen, size}
 use Rattle.thin_vec.specs.Cheap.{IsCheap}
 use Rattle.thin_vec.specs.List.Extend.{IsExtendCause, CostsInserting, IsKeptOrChosen, FailsAtHint, YieldsAndCanContinue}
 use Rattle.std.proofs.lemmas.Bool.Decides.{nat_tests}
-use Rattle.thin_block.specs.declared.errors.ThinVecError.TheVariants.{CapacityOverflow, OutOfMemory}
+use Rattle.thin_block.specs.declared.errors.ThinVecError.TheVariants.{OutOfMemory}
 use Rattle.thin_block.specs.Cost.{Cost, add_realloc, add_moves}
 use Rattle.thin_block.specs.Growth.{IsLawful, GrowthRule}
 use Rattle.std.proofs.lemmas.Bool.{cases_lt, false≢true}
 use Rattle.thin_vec.specs.Open.{OpenView, cost_closed, items_of}
-use Rattle.thin_vec.specs.Edits.Splice.{IsSpliceCause, SpliceErrorAccountsFor, without_middle, with_replacement}
-use Rattle.thin_vec.specs.Edits.Finish.{AddsFromIter}
+use Rattle.thin_vec.specs.Edits.Splice.{IsSpliceCause, SpliceErrorAccountsFor}
+use Rattle.thin_vec.specs.Edits.Finish.{AddsFromIter, without_middle, with_replacement}
+use Rattle.thin_vec.specs.List.Capacity.{LacksRoom}
 use Rattle.thin_vec.specs.ThinVec.{HasRoomFor, ListView, capacity_after_reserve, cost_after_resize}
 use Rattle.thin_vec.specs.declared.errors.ExtendRefused.{ExtendRefused}
 use Rattle.thin_vec.specs.declared.errors.SpliceRefused.{SpliceRefused}
@@ -171,6 +172,11 @@ module _ {S X A : Type 0} (steps : S → Option X → S → Type 0) (can : S →
         λ _. none,
       )
 
+pub when-some : {X : Type 0} (P Q : Type 0) (o : Option X) → MatchOption o P (λ _. Q) → IsSome o
+    → Q
+when-some P Q (Some x) q some = q
+when-some P Q None p some = absurd (false≢true some)
+
 -- The lemmas in this module are about a call to `finish` that failed with `error`. `rule` is the
 -- growth rule, `R` is the type of the items, and `v` is the list after the call. `tail` contains
 -- the items after the replaced range. After the call, the iterator can yield at most `left` items.
@@ -188,30 +194,29 @@ module _ {S T A : Type 0} (rule : GrowthRule) (R : RattleType) (v : ListView T A
   }
 
   pub stop-at-held : 0 < length tail → (error.in_hand ≡ None → 0 < length error.held.items)
-      → (error.in_hand ≡ None → (error.cause ≡ CapacityOverflow)
-      ↔ (capacity_after_reserve rule R v (length error.held.items) ≡ None))
-      → (IsSome error.in_hand → error.cause ≡ OutOfMemory)
+      → (error.in_hand ≡ None → LacksRoom rule R v (length error.held.items) error.cause)
+      → (IsSome error.in_hand
+      → (error.cause ≡ OutOfMemory) × (length error.held.items ≡ vec_capacity error.held))
       → IsSpliceCause rule R v tail left error
-  stop-at-held some more over memory = record {
+  stop-at-held some more lacks memory = record {
     by_hint = λ none empty. absurd (omega (arith, more empty, ap length none));
-    by_held = λ _ empty. over empty;
+    by_held = λ _ empty. lacks empty;
     by_in_hand = λ _ is. memory is;
     by_push = λ no_tail. absurd (omega (arith, some, ap length no_tail));
   }
 
   pub stop-at-end : (e : ExtendRefused T S) → tail ≡ [] → error.held.items ≡ []
-      → error.cause ≡ e.cause → error.in_hand ≡ e.in_hand → IsExtendCause rule R v left e
+      → error.cause ≡ e.cause → error.in_hand ≡ e.in_hand
+      → (IsSome error.in_hand → ¬ (HasRoomFor v 1)) → IsExtendCause rule R v left e
       → IsSpliceCause rule R v tail left error
-  stop-at-end e no_tail none same hand by = record {
+  stop-at-end e no_tail none same hand full by = record {
     by_hint = λ _ empty.
         subst (λ cause. FailsAtHint rule R v left cause) (sym same)
         (by.by_hint (sym hand ∙ empty));
     by_held = λ more _. absurd (omega (arith, more, ap length none));
     by_in_hand = λ some _. absurd (omega (arith, some, ap length no_tail));
-    by_push = λ _ some. let push = by.by_push (subst IsSome hand some) in (
-      λ is. push.0 (sym same ∙ is),
-      λ now. same ∙ push.1 now,
-    );
+    by_push = λ _ some. let push = by.by_push (subst IsSome hand some) in
+        (full some, (λ is. push.0 (sym same ∙ is), λ now. same ∙ push.1 now));
   }
 
 module _ (rule : GrowthRule) (R : RattleType) where

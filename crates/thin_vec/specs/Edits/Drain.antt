@@ -8,72 +8,64 @@ use Rattle.thin_block.specs.declared.growth.Growth.{Ghosts}
 use Rattle.thin_vec.specs.Open.{OpenView, cost_drained}
 use Rattle.thin_vec.specs.ThinVec.{ListView}
 use Rattle.thin_vec.specs.declared.edits.drain.Drain.{Drain}
-use Rattle.thin_vec.specs.declared.edits.holder.Holder.{Holder}
 use Rattle.thin_vec.specs.declared.edits.holder.IntoInner.{Ghosts as IntoInnerGhosts}
 
--- A `Drain` has a field that owns the block of the list until the `Drain` is dropped. In this
--- module, the type of this field is `Holder`, as in every `Drain` that the method `drain` returns.
-module _ {T A G : Type 0} {g : Ghosts G}
-    {h : IntoInnerGhosts (Holder (OpenView T A)) (OpenView T A)} where
-  -- `drain_block d` is the open block that the `Drain` `d` owns. Its front contains the items
-  -- before the range, its `rest` the items of the range that have not been yielded yet, and its
-  -- tail the items after the range. The slots of the yielded items are empty: `gap` is at the start
-  -- of the range, and `gap_after` at its end.
-  --
-  -- When `d` is dropped, the front and the tail remain in the list. The contract of `drop` says so,
-  -- and calls this block `H.inner holder`.
-  abbrev pub drain_block : Drain T A G (Holder (OpenView T A)) g h → OpenView T A
-  drain_block d = d.holder.value
+module _ {T A G H : Type 0} {g : Ghosts G} {h : IntoInnerGhosts H (OpenView T A)} where
+  -- `left_by_drain d` is the list that the `Drain` `d` leaves when it is dropped: its items are
+  -- those before and after the range. The contract of `drain` says what this list is, and calls to
+  -- `next` and `next_back` do not change it. The prover unfolds this definition only on request.
+  unfoldable pub left_by_drain : Drain T A G H g h → ListView T A
+  left_by_drain d = record {
+    items = (h.inner d.holder).front ++ (h.inner d.holder).tail;
+    capacity = (h.inner d.holder).capacity;
+    alloc = d.list.now.alloc;
+    cost = cost_drained (h.inner d.holder);
+  }
 
   -- `drain_rest d` contains the items of the range that the `Drain` `d` has not yielded yet.
-  abbrev pub drain_rest : Drain T A G (Holder (OpenView T A)) g h → List T
-  drain_rest d = (drain_block d).rest
+  abbrev pub drain_rest : Drain T A G H g h → List T
+  drain_rest d = (h.inner d.holder).rest
 
   -- `drain_list d` is the list that the `Drain` `d` borrows, as it is until `d` is dropped. It
   -- stays as it is if `d` is leaked.
-  abbrev pub drain_list : Drain T A G (Holder (OpenView T A)) g h → ListView T A
+  abbrev pub drain_list : Drain T A G H g h → ListView T A
   drain_list d = d.list.now
 
   -- `drain_lender d` is the ghost name of the reference to the list that the `Drain` borrows.
   -- References with equal ghost names borrow the same list.
-  abbrev pub drain_lender : Drain T A G (Holder (OpenView T A)) g h → GName
+  abbrev pub drain_lender : Drain T A G H g h → GName
   drain_lender d = d.list.ghost_name
 
   -- `DrainKeeps old new` states that `old` and `new` borrow the same list, and that dropping `old`
   -- would result in the same list as dropping `new`.
-  pub record DrainKeeps (old new : Drain T A G (Holder (OpenView T A)) g h) : Type 0 where
+  pub record DrainKeeps (old new : Drain T A G H g h) : Type 0 where
     pub lender : drain_lender new ≡ drain_lender old
-    pub kept : (drain_block new).front ++ (drain_block new).tail
-        ≡ (drain_block old).front ++ (drain_block old).tail
-    pub capacity : (drain_block new).capacity ≡ (drain_block old).capacity
-    pub alloc : (drain_list new).alloc ≡ (drain_list old).alloc
-    pub cost : cost_drained (drain_block new) ≡ cost_drained (drain_block old)
+    pub left : left_by_drain new ≡ left_by_drain old
 
   -- `DrainSteps old item new` holds if a call to `next` returned `item` and changed the `Drain`
   -- from `old` to `new`.
-  pub record DrainSteps (old : Drain T A G (Holder (OpenView T A)) g h) (item : Option T)
-      (new : Drain T A G (Holder (OpenView T A)) g h) : Type 0 where
+  pub record DrainSteps (old : Drain T A G H g h) (item : Option T) (new : Drain T A G H g h)
+      : Type 0 where
     pub gave : YieldsFirst drain_rest old item new
     pub keeps : DrainKeeps old new
 
   -- `DrainStepsBack old item new` holds if a call to `next_back` returned `item` and changed the
   -- `Drain` from `old` to `new`.
-  pub record DrainStepsBack (old : Drain T A G (Holder (OpenView T A)) g h) (item : Option T)
-      (new : Drain T A G (Holder (OpenView T A)) g h) : Type 0 where
+  pub record DrainStepsBack (old : Drain T A G H g h) (item : Option T) (new : Drain T A G H g h)
+      : Type 0 where
     pub gave : YieldsLast drain_rest old item new
     pub keeps : DrainKeeps old new
 
   -- `DrainStepsEither old item new` holds if a call to `next` or to `next_back` returned `item` and
   -- changed the `Drain` from `old` to `new`.
-  abbrev pub DrainStepsEither : Drain T A G (Holder (OpenView T A)) g h → Option T
-      → Drain T A G (Holder (OpenView T A)) g h → Type 0
+  abbrev pub DrainStepsEither : Drain T A G H g h → Option T → Drain T A G H g h → Type 0
   DrainStepsEither old item new = DrainSteps old item new ⊎ DrainStepsBack old item new
 
   -- `DrainLeaves first items later` states what calls to `next` and `next_back` leave, after they
   -- yielded `items` and changed the `Drain` from `first` to `later`. The items of `before` were
   -- yielded from the front, and those of `after` from the back.
-  pub record DrainLeaves (first : Drain T A G (Holder (OpenView T A)) g h) (items : List T)
-      (later : Drain T A G (Holder (OpenView T A)) g h) : Type 0 where
+  pub record DrainLeaves (first : Drain T A G H g h) (items : List T)
+      (later : Drain T A G H g h) : Type 0 where
     pub keeps : DrainKeeps first later
     pub before : List T
     pub after : List T
@@ -82,18 +74,18 @@ module _ {T A G : Type 0} {g : Ghosts G}
 
   -- `DrainKeepsAlong d` states that calls to `next` on the `Drain` `d`, however many there are, do
   -- not change the list that will remain after `d` is dropped. This follows from `DrainSteps`.
-  abbrev pub DrainKeepsAlong : Drain T A G (Holder (OpenView T A)) g h → Type 0
-  DrainKeepsAlong first = (items : List T) (later : Drain T A G (Holder (OpenView T A)) g h)
+  abbrev pub DrainKeepsAlong : Drain T A G H g h → Type 0
+  DrainKeepsAlong first = (items : List T) (later : Drain T A G H g h)
       → Yields DrainSteps first items later → DrainKeeps first later
 
   -- `DrainYieldsInOrder d` states that calls to `next` on any `Drain` yield the remaining items of
   -- the range in order. The value `d` only names the type of the `Drain`. This follows from
   -- `DrainSteps`.
-  abbrev pub DrainYieldsInOrder : Drain T A G (Holder (OpenView T A)) g h → Type 0
+  abbrev pub DrainYieldsInOrder : Drain T A G H g h → Type 0
   DrainYieldsInOrder d = YieldsInOrder DrainSteps drain_rest
 
   -- `DrainYieldsInReverse d` states that calls to `next_back` on any `Drain` yield the remaining
   -- items of the range in reverse order. The value `d` only names the type of the `Drain`. This
   -- follows from `DrainStepsBack`.
-  abbrev pub DrainYieldsInReverse : Drain T A G (Holder (OpenView T A)) g h → Type 0
+  abbrev pub DrainYieldsInReverse : Drain T A G H g h → Type 0
   DrainYieldsInReverse d = YieldsInReverse DrainStepsBack drain_rest

@@ -1,18 +1,33 @@
 -- These definitions are for the private functions that `Splice::finish` calls. No public contract
 -- uses these definitions.
-use Rattle.std.specs.Prelude.{◌≡◌, ℕ, ◌+◌, ◌*◌, ◌<◌, ◌≤◌, List, [], IfErr, IsOk, OnErr, OnOk, Option, length}
+use Rattle.std.specs.Prelude.{◌≡◌, ℕ, ◌+◌, ◌-◌, ◌*◌, ◌<◌, ◌≤◌, List, [], ◌++◌, IfErr, IsOk, MatchOption, OnErr, OnOk, Option, length}
 use Rattle.std.specs.Iterator.{Count, Drains, size}
 use Rattle.std.specs.declared.result.Result.{Result}
 use Rattle.std.specs.Borrow.{RattleType}
 use Rattle.thin_block.specs.Growth.{GrowthRule}
 use Rattle.thin_vec.specs.Cheap.{IsCheap}
-use Rattle.thin_vec.specs.List.Extend.{CostsInserting, IsCapacityAfterExtend, IsKeptOrGrown}
-use Rattle.thin_vec.specs.Edits.Splice.{FailsAsExtend, IsSpliceCause, SpliceErrorAccountsFor, without_middle, with_replacement}
+use Rattle.thin_vec.specs.List.Extend.{CostsInserting, IsCapacityAfterExtend, IsKeptOrGrown, RequestsAtMost}
+use Rattle.thin_vec.specs.Edits.Splice.{IsSpliceCause, SpliceErrorAccountsFor}
 use Rattle.thin_vec.specs.Open.{OpenView}
 use Rattle.thin_vec.specs.ThinVec.{HasRoomFor, ListView}
 use Rattle.thin_vec.specs.declared.errors.SpliceRefused.{SpliceRefused}
 
 module _ {T A : Type 0} where
+  -- `without_middle v a` is the list of the front items and the tail items of the open block `v`,
+  -- with the allocator `a`.
+  abbrev pub without_middle : OpenView T A → A → ListView T A
+  without_middle v a = record {
+    items = v.front ++ v.tail;
+    capacity = v.capacity;
+    alloc = a;
+    cost = v.cost;
+  }
+
+  -- `with_replacement v xs` contains the front items of the open block `v`, then the items `xs`,
+  -- and then the tail items of `v`.
+  abbrev pub with_replacement : OpenView T A → List T → List T
+  with_replacement v xs = (v.front ++ xs) ++ v.tail
+
   -- `AddsFromIter rule R v w n left` describes how adding items of an iterator turned the list `v`
   -- into `w`. `rule` is the growth rule of the list, and `R` is the type of the items. The iterator
   -- could yield at most `left` items, and the old items of `v` were moved at most `n` times in
@@ -40,10 +55,15 @@ module _ {S T A : Type 0} (steps : S → Option T → S → Type 0) (can : S →
     pub ruled : IsCapacityAfterExtend rule R (without_middle v a) w.capacity (length w.items)
         (remaining s)
     pub blocks : 0 < length v.tail → w.cost.blocks ≤ v.cost.blocks + 2
+    pub requests : v.tail ≡ [] → RequestsAtMost (w.cost.blocks - v.cost.blocks)
+        (length w.items - length (v.front ++ v.tail)) (remaining s)
     pub placed : IfErr result (λ error. (xs : List T) × (w.items ≡ with_replacement v xs)
         × SpliceErrorAccountsFor steps can remaining s xs error)
     pub range : OnErr result
         (0 < length v.tail → length v.front + length v.tail + v.gap ≤ length w.items)
-    pub at_end : IfErr result (λ error. v.tail ≡ [] → FailsAsExtend (without_middle v a) w s error)
+    pub held : IfErr result (λ error. v.tail ≡ [] → error.held.items ≡ [])
+    pub in_hand : IfErr result (λ error. v.tail ≡ []
+        → MatchOption error.in_hand ((w ≡ without_middle v a) × (error.rest ≡ s))
+        (λ _. length w.items ≡ w.capacity))
     pub cause : IfErr result
         (λ error. IsSpliceCause rule R w v.tail (remaining error.rest) error)

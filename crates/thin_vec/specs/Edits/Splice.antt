@@ -1,16 +1,17 @@
 -- These definitions name the parts of a `Splice`, and describe the list and the error after a call
 -- to `finish`. (std: `Vec::splice`)
-use Rattle.std.specs.Prelude.{◌≡◌, ◌⊎◌, ◌↔◌, ◌<◌, ◌≤◌, [], ◌++◌, IsSome, List, MatchOption, Option, length, ℕ}
+use Rattle.std.specs.Prelude.{◌≡◌, ◌⊎◌, ◌+◌, ◌<◌, ◌≤◌, [], ◌++◌, IsSome, List, Option, length, vec_capacity, ℕ}
 use Rattle.std.specs.Iterator.{Count, YieldsFirst, YieldsLast, YieldsThen}
 use Rattle.std.specs.Option.{option_to_list}
 use Rattle.std.specs.declared.option.Option.TheVariants.{None}
 use Rattle.std.specs.Borrow.{GName, RattleType}
-use Rattle.thin_block.specs.declared.errors.ThinVecError.TheVariants.{CapacityOverflow, OutOfMemory}
+use Rattle.thin_block.specs.declared.errors.ThinVecError.TheVariants.{OutOfMemory}
 use Rattle.thin_block.specs.Growth.{GrowthRule}
 use Rattle.thin_block.specs.declared.growth.Growth.{Ghosts}
+use Rattle.thin_vec.specs.List.Capacity.{LacksRoom}
 use Rattle.thin_vec.specs.List.Extend.{FailsAtHint, YieldsAndCanContinue}
-use Rattle.thin_vec.specs.Open.{OpenView, range_len}
-use Rattle.thin_vec.specs.ThinVec.{HasRoomFor, ListView, capacity_after_reserve}
+use Rattle.thin_vec.specs.Open.{OpenView}
+use Rattle.thin_vec.specs.ThinVec.{HasRoomFor, ListView}
 use Rattle.thin_vec.specs.declared.errors.SpliceRefused.{SpliceRefused}
 use Rattle.thin_vec.specs.declared.edits.splice.Splice.{Splice}
 use Rattle.thin_vec.specs.declared.edits.holder.IntoInner.{Ghosts as IntoInnerGhosts}
@@ -46,53 +47,45 @@ module _ {T A : Type 0} where
         → FailsAtHint rule R w left error.cause
     -- If the error contains only items in `held`, there was no room for these items in the list.
     pub by_held : 0 < length error.held.items → error.in_hand ≡ None
-        → ((error.cause ≡ CapacityOverflow)
-        ↔ (capacity_after_reserve rule R w (length error.held.items) ≡ None))
-    -- If items follow the range and there is an item `in_hand`, the vector `held` could not get
-    -- memory for this item.
-    pub by_in_hand : 0 < length tail → IsSome error.in_hand → error.cause ≡ OutOfMemory
+        → LacksRoom rule R w (length error.held.items) error.cause
+    -- If items follow the range and there is an item `in_hand`, the vector `held` is full, and
+    -- could not get memory for this item.
+    pub by_in_hand : 0 < length tail → IsSome error.in_hand
+        → (error.cause ≡ OutOfMemory) × (length error.held.items ≡ vec_capacity error.held)
     -- If no item follows the range and there is an item `in_hand`, there was no room for this item
     -- in the list.
-    pub by_push : tail ≡ [] → IsSome error.in_hand
-        → ((error.cause ≡ CapacityOverflow) ↔ (capacity_after_reserve rule R w 1 ≡ None))
-
-  -- `FailsAsExtend v w s error` describes a call to `finish` that failed with `error`, where no
-  -- item follows the range. `v` is the list without the items of the range, `w` is the list after
-  -- the call, and `s` is the iterator before the call.
-  pub record FailsAsExtend {S : Type 0} (v w : ListView T A) (s : S) (error : SpliceRefused T S A)
-      : Type 0 where
-    pub held : error.held.items ≡ []
-    -- If no item is `in_hand`, the list is `v`, and no item was taken from the iterator. Otherwise,
-    -- the list is full.
-    pub in_hand : MatchOption error.in_hand ((w ≡ v) × (error.rest ≡ s))
-        (λ _. length w.items ≡ w.capacity)
-
-  -- `without_middle v a` is the list of the front items and the tail items of the open block `v`,
-  -- with the allocator `a`.
-  abbrev pub without_middle : OpenView T A → A → ListView T A
-  without_middle v a = record {
-    items = v.front ++ v.tail;
-    capacity = v.capacity;
-    alloc = a;
-    cost = v.cost;
-  }
-
-  -- `with_replacement v xs` contains the front items of the open block `v`, then the items `xs`,
-  -- and then the tail items of `v`.
-  abbrev pub with_replacement : OpenView T A → List T → List T
-  with_replacement v xs = (v.front ++ xs) ++ v.tail
+    pub by_push : tail ≡ [] → IsSome error.in_hand → LacksRoom rule R w 1 error.cause
 
 module _ {I T A G H : Type 0} {g : Ghosts G} {h : IntoInnerGhosts H (OpenView T A)} where
-  -- `splice_block s` is the open block that the `Splice` `s` owns. Its front contains the items
-  -- before the range, its `rest` the items of the range that have not been yielded yet, and its
-  -- tail the items after the range. The slots of the yielded items are empty: `gap` and
-  -- `gap_after`.
-  abbrev pub splice_block : Splice I T A G H g h → OpenView T A
-  splice_block s = h.inner s.holder
+  -- `left_by_splice s` is the list without the range: the items before and after it. `finish` then
+  -- inserts the items of the iterator between them. The contract of `splice` says what this list
+  -- is, and calls to `next` and `next_back` do not change it. The prover unfolds this definition
+  -- only on request.
+  unfoldable pub left_by_splice : Splice I T A G H g h → ListView T A
+  left_by_splice s = record {
+    items = (h.inner s.holder).front ++ (h.inner s.holder).tail;
+    capacity = (h.inner s.holder).capacity;
+    alloc = s.list.now.alloc;
+    cost = (h.inner s.holder).cost;
+  }
+
+  -- `splice_front s` contains the items before the range.
+  abbrev pub splice_front : Splice I T A G H g h → List T
+  splice_front s = (h.inner s.holder).front
 
   -- `splice_rest s` contains the items of the range that the `Splice` `s` has not yielded yet.
   abbrev pub splice_rest : Splice I T A G H g h → List T
-  splice_rest s = (splice_block s).rest
+  splice_rest s = (h.inner s.holder).rest
+
+  -- `splice_tail s` contains the items after the range.
+  abbrev pub splice_tail : Splice I T A G H g h → List T
+  splice_tail s = (h.inner s.holder).tail
+
+  -- `splice_range_len s` is the number of slots of the range, including the slots whose items have
+  -- already been yielded.
+  abbrev pub splice_range_len : Splice I T A G H g h → ℕ
+  splice_range_len s =
+      (h.inner s.holder).gap + length (h.inner s.holder).rest + (h.inner s.holder).gap_after
 
   -- `splice_iter s` is the iterator whose items will replace the range.
   abbrev pub splice_iter : Splice I T A G H g h → I
@@ -103,29 +96,10 @@ module _ {I T A G H : Type 0} {g : Ghosts G} {h : IntoInnerGhosts H (OpenView T 
   abbrev pub splice_list : Splice I T A G H g h → ListView T A
   splice_list s = s.list.now
 
-  -- `splice_alloc s` is the allocator of the list that the `Splice` borrows.
-  abbrev pub splice_alloc : Splice I T A G H g h → A
-  splice_alloc s = s.list.now.alloc
-
   -- `splice_lender s` is the ghost name of the reference to the list that the `Splice` borrows.
   -- References with equal ghost names borrow the same list.
   abbrev pub splice_lender : Splice I T A G H g h → GName
   splice_lender s = s.list.ghost_name
-
-  -- `splice_outside_range s` is the list without the items of the range, with the present recorded
-  -- cost of the block of the `Splice` `s`.
-  abbrev pub splice_outside_range : Splice I T A G H g h → ListView T A
-  splice_outside_range s = without_middle (splice_block s) (splice_alloc s)
-
-  -- `splice_range s` is the number of slots of the range, including the slots whose items have
-  -- already been yielded.
-  abbrev pub splice_range : Splice I T A G H g h → ℕ
-  splice_range s = range_len (splice_block s)
-
-  -- `splice_replaced s xs` contains the items that the list will contain after the items of the
-  -- range are replaced with `xs`.
-  abbrev pub splice_replaced : Splice I T A G H g h → List T → List T
-  splice_replaced s xs = with_replacement (splice_block s) xs
 
   -- `HasSlotsFor s n` states that the `Splice` `s` can insert `n` items without a request for
   -- memory. It holds in two cases:
@@ -134,20 +108,17 @@ module _ {I T A G H : Type 0} {g : Ghosts G} {h : IntoInnerGhosts H (OpenView T 
   -- - No item follows the range, and the list without the range has room for `n` more items.
   abbrev pub HasSlotsFor : Splice I T A G H g h → ℕ → Type 0
   HasSlotsFor s n =
-      (n ≤ splice_range s)
-      ⊎ (((splice_block s).tail ≡ []) × HasRoomFor (splice_outside_range s) n)
+      (n ≤ splice_range_len s) ⊎ ((splice_tail s ≡ []) × HasRoomFor (left_by_splice s) n)
 
   -- `SpliceKeeps old new` states that `old` and `new` borrow the same list, own the same iterator,
   -- and differ only in which items of the range have already been yielded.
   pub record SpliceKeeps (old new : Splice I T A G H g h) : Type 0 where
     pub lender : splice_lender new ≡ splice_lender old
     pub iter : splice_iter new ≡ splice_iter old
-    pub front : (splice_block new).front ≡ (splice_block old).front
-    pub tail : (splice_block new).tail ≡ (splice_block old).tail
-    pub range : splice_range new ≡ splice_range old
-    pub capacity : (splice_block new).capacity ≡ (splice_block old).capacity
-    pub alloc : splice_alloc new ≡ splice_alloc old
-    pub cost : (splice_block new).cost ≡ (splice_block old).cost
+    pub front : splice_front new ≡ splice_front old
+    pub tail : splice_tail new ≡ splice_tail old
+    pub range : splice_range_len new ≡ splice_range_len old
+    pub left : left_by_splice new ≡ left_by_splice old
 
   -- `SpliceSteps old item new` holds if a call to `next` returned `item` and changed the `Splice`
   -- from `old` to `new`.

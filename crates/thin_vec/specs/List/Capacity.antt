@@ -49,6 +49,14 @@ module _ {T A : Type 0} where
   abbrev pub CostsMoves : ℕ → ListView T A → ListView T A → Type 0
   CostsMoves n v w = w.cost ≡ add_moves n (cost_after_resize v w.capacity)
 
+  -- `LacksRoom rule R w k cause` states why a call failed with the error `cause`: the list `w` has no
+  -- room for `k` more items of the type `R`. The cause is `CapacityOverflow` if and only if the
+  -- growth rule `rule` chooses no capacity for these items.
+  abbrev pub LacksRoom : GrowthRule → RattleType → ListView T A → ℕ → ThinVecError → Type 0
+  LacksRoom rule R w k cause =
+      ¬ (HasRoomFor w k)
+      × ((cause ≡ CapacityOverflow) ↔ (capacity_after_reserve rule R w k ≡ None))
+
   -- `Reserves rule R k v w r` describes a call that needs room for `k` more items of the type `R`,
   -- under the growth rule `rule`. It relates the lists `v` and `w` before and after the call, and
   -- the result `r`.

@@ -54,14 +54,9 @@ IsChosenByRule rule R d n =
 abbrev pub IsKeptOrChosen : GrowthRule → RattleType → ℕ → ℕ → ℕ → Type 0
 IsKeptOrChosen rule R c d n = (d ≡ c) ⊎ IsChosenByRule rule R d n
 
--- `IsCapacityAfterExtend rule R v d n left` holds if the list `v` may have capacity `d` after items
--- of an iterator were added to it. The new length is `n`, the growth rule is `rule`, and the item
--- type is `R`. The iterator could yield at most `left` items.
---
--- The number `h` is at most `left`. For `extend`, it is a possible lower bound in the size hint.
--- For `finish` of a `Splice` with items after the range, `v` is the list without the range. Then
--- `h` is the number of slots of the range plus a possible lower bound for the items that did not
--- fit there.
+-- `IsCapacityAfterExtend rule R v d n left` is the field `ruled` of `ExtendsCapacity`: the list `v`
+-- may have capacity `d` and length `n` after items of an iterator were added to it. No public
+-- contract uses this definition.
 abbrev pub IsCapacityAfterExtend : {T A : Type 0} → GrowthRule → RattleType → ListView T A → ℕ → ℕ
     → Count → Type 0
 IsCapacityAfterExtend rule R v d n left =
@@ -75,12 +70,12 @@ abbrev pub IsCapacityAfterCollect : GrowthRule → RattleType → ℕ → ℕ �
 IsCapacityAfterCollect rule R d n left =
     IsChosenByRule rule R d n ⊎ ((h : ℕ) × IsWithinCount h left × (exact_capacity R 0 h ≡ Some d))
 
--- `RequestsAtMost b n left` bounds the number `b` of requests for memory of a call that appended
+-- `RequestsAtMost requests n left` bounds the number of requests for memory of a call that appended
 -- `n` items of an iterator: there was at most one request for the first `h` items, and at most one
 -- for each item after them. Here, `h` is a possible lower bound in the size hint of the iterator,
 -- which could yield at most `left` items.
 abbrev pub RequestsAtMost : ℕ → ℕ → Count → Type 0
-RequestsAtMost b n left = (h : ℕ) × IsWithinCount h left × (b ≤ 1 + (n - h))
+RequestsAtMost requests n left = (h : ℕ) × IsWithinCount h left × (requests ≤ 1 + (n - h))
 
 module _ {T A : Type 0} where
   -- `ExtendsCapacity rule R v w left` restricts the capacity of the list `w`, which is the list `v`
@@ -94,11 +89,16 @@ module _ {T A : Type 0} where
     pub had_room : HasRoomFor v (size left) → w.capacity ≡ v.capacity
     -- If the capacity changed, it is at least one that the growth rule chooses for more items than
     -- the old capacity.
-    pub loose : IsKeptOrGrown rule R v.capacity w.capacity
+    pub loose : (w.capacity ≡ v.capacity)
+        ⊎ ((want : ℕ) × (n : ℕ) × (v.capacity < want)
+        × (grown_capacity rule R v.capacity want ≡ Some n) × (n ≤ w.capacity))
     -- The new capacity is the old one, one that the growth rule chooses for at most
-    -- `length w.items` items, or the one after `reserve(h)` on `v`. `IsCapacityAfterExtend` says
-    -- what `h` is.
-    pub ruled : IsCapacityAfterExtend rule R v w.capacity (length w.items) left
+    -- `length w.items` items, or the one after `reserve(h)` on `v`, where `h` is at most `left`.
+    -- For `extend`, `h` is a possible lower bound in the size hint. For `finish` of a `Splice` with
+    -- items after the range, it is the number of slots of the range plus a possible lower bound for
+    -- the items that did not fit there.
+    pub ruled : ((w.capacity ≡ v.capacity) ⊎ IsChosenByRule rule R w.capacity (length w.items))
+        ⊎ ((h : ℕ) × IsWithinCount h left × (capacity_after_reserve rule R v h ≡ Some w.capacity))
 
   -- `CostsInserting v w n` bounds the recorded cost of a call that added items to a list, and
   -- changed the list from `v` to `w`. Each added item costs one move, and moving the items that

@@ -1,12 +1,11 @@
 //! The method `drain`, which removes the items of a range from a list, and yields them one by one
 //! from either end.
-ghost use Rattle.std.specs.Prelude.{◌≡◌, ◌+◌, ◌-◌, ◌<◌, ◌≤◌, ◌==◌, ◌++◌, [], IfSome, Some, if◌then◌else◌, length, slice_range};
+ghost use Rattle.std.specs.Prelude.{◌≡◌, ◌-◌, ◌≤◌, ◌==◌, [], IfSome, Some, if◌then◌else◌, length, slice_range};
 ghost use Rattle.std.specs.List.{remove_range};
 ghost use Rattle.std.specs.Iterator.{UpTo, item_count};
 ghost use Rattle.std.specs.Iterator.SizeHint.{IsWithinCount};
 ghost use Rattle.thin_block.specs.Cost.{add_moves, no_cost};
 ghost use Rattle.thin_block.specs.Block.{IsAllocatedBy};
-ghost use Rattle.thin_vec.specs.Open.{cost_drained};
 
 use crate::edits::holder::{Holder, IntoInner};
 use crate::list::ThinVec;
@@ -36,15 +35,14 @@ pub struct Drain<
 
 impl<'a, T: Drop, A: Allocator, G: Growth, H: IntoInner<Inner = OpenBlock<T, A>>> Drop
     for Drain<'a, T, A, G, H> {
+    ghost use Rattle.thin_vec.specs.Edits.Drain.{left_by_drain};
+
     // Drops the items that were not yielded. Moves the items after the drained range down to the
     // start of this range, and puts the block back into the list.
     #[inline(always)]
+    #[tactic(auto, unfolding(crate::specs::Edits::Drain::left_by_drain))]
     fn drop(self)
-        ensures items { self.exit.0.now.items ≡ (H.inner self.entry.holder).front
-            ++ (H.inner self.entry.holder).tail }
-        ensures capacity { self.exit.0.now.capacity ≡ (H.inner self.entry.holder).capacity }
-        ensures alloc { self.exit.0.now.alloc ≡ self.entry.list.now.alloc }
-        ensures cost { self.exit.0.now.cost ≡ cost_drained (H.inner self.entry.holder) }
+        ensures left { self.exit.0.now ≡ left_by_drain self.entry }
     {
         let Drain { list, holder } = self;
         let mut block = holder.into_inner();
@@ -57,7 +55,7 @@ impl<'a, T: Drop, A: Allocator, G: Growth, H: IntoInner<Inner = OpenBlock<T, A>>
 }
 
 impl<T: Drop, A: Allocator, G: Growth> ThinVec<T, A, G> {
-    ghost use Rattle.thin_vec.specs.Edits.Drain.{DrainKeepsAlong, DrainYieldsInOrder, DrainYieldsInReverse, drain_block, drain_lender, drain_list, drain_rest};
+    ghost use Rattle.thin_vec.specs.Edits.Drain.{DrainKeepsAlong, DrainYieldsInOrder, DrainYieldsInReverse, drain_lender, drain_list, drain_rest, left_by_drain};
 
     /// Removes the items `start..end` from the list, and returns an iterator that yields them from
     /// either end. The range must be in bounds. Callers can check a range with the function
@@ -69,6 +67,7 @@ impl<T: Drop, A: Allocator, G: Growth> ThinVec<T, A, G> {
     ///
     /// Neither this call nor dropping the iterator allocates memory or can fail. This call moves no
     /// item. Dropping the iterator moves each item after the range once, unless the range is empty.
+    #[tactic(auto, unfolding(crate::specs::Edits::Drain::left_by_drain))]
     pub fn drain(&mut self, start: usize, end: usize) -> Drain<'_, T, A, G>
         requires start_le_end { start ≤ end }
         requires in_bounds { end ≤ length self.old.items }
@@ -84,14 +83,12 @@ impl<T: Drop, A: Allocator, G: Growth> ThinVec<T, A, G> {
         ensures meanwhile { drain_list result
             ≡ record self.old { items = []; capacity = 0; cost = no_cost } }
 
-        // After the `Drain` is dropped, the list has the following items, capacity and recorded
-        // cost, by the contract of `drop` of `Drain`.
-        ensures items { (drain_block result).front ++ (drain_block result).tail
-            ≡ remove_range self.old.items start end }
-        ensures capacity { (drain_block result).capacity ≡ self.old.capacity }
-        ensures cost { cost_drained (drain_block result)
-            ≡ (if start == end then self.old.cost else add_moves
-            (length self.old.items - end) self.old.cost) }
+        // What the list is after the `Drain` is dropped, by the contract of its `drop`.
+        ensures left { left_by_drain result ≡ record self.old {
+          items = remove_range self.old.items start end;
+          cost = if start == end then self.old.cost else add_moves
+              (length self.old.items - end) self.old.cost;
+        } }
 
         // The `Drain` borrows this list: its reference to the list has the same ghost name as
         // `self`. Calls to `next` do not change the value that the list will have after the `Drain`
@@ -130,6 +127,7 @@ impl<'a, T, A: Allocator, G: Growth> Drain<'a, T, A, G> {
 
     /// Yields the first item that has not been yielded yet, or returns `None` if all items have
     /// been yielded.
+    #[tactic(auto, unfolding(crate::specs::Edits::Drain::left_by_drain))]
     pub fn next(&mut self) -> Option<T>
         ensures steps { DrainSteps self.old result self.new }
     {
@@ -138,6 +136,7 @@ impl<'a, T, A: Allocator, G: Growth> Drain<'a, T, A, G> {
 
     /// Yields the last item that has not been yielded yet, or returns `None` if all items have been
     /// yielded.
+    #[tactic(auto, unfolding(crate::specs::Edits::Drain::left_by_drain))]
     pub fn next_back(&mut self) -> Option<T>
         ensures steps { DrainStepsBack self.old result self.new }
     {

@@ -10,7 +10,6 @@ ghost use Rattle.std.specs.Iterator.{UpTo, at_most};
 ghost use Rattle.std.specs.Iterator.SizeHint.{IsWithinCount};
 ghost use Rattle.thin_block.specs.Block.{IsAllocatedBy};
 ghost use Rattle.thin_block.specs.Cost.{no_cost};
-ghost use Rattle.thin_vec.specs.Open.{cost_closed, items_of};
 
 use crate::edits::holder::{Holder, IntoInner};
 use crate::list::ThinVec;
@@ -77,13 +76,12 @@ impl<
     G: Growth,
     H: IntoInner<Inner = ExtractState<T, F, A>>,
 > Drop for ExtractIf<'a, T, F, A, G, H> {
+    ghost use Rattle.thin_vec.specs.Edits.ExtractIf.{left_by_extract_if};
+
     // Closes the gap that the removed items left, by moving down the items behind the gap. Then
     // puts the block back into the list, and drops the closure.
     fn drop(self)
-        ensures items { self.exit.0.now.items ≡ items_of (H.inner self.entry.holder).block }
-        ensures capacity { self.exit.0.now.capacity ≡ (H.inner self.entry.holder).block.capacity }
-        ensures alloc { self.exit.0.now.alloc ≡ self.entry.list.now.alloc }
-        ensures cost { self.exit.0.now.cost ≡ cost_closed (H.inner self.entry.holder).block }
+        ensures left { self.exit.0.now ≡ left_by_extract_if self.entry }
     {
         let ExtractIf { list, holder } = self;
         let ExtractState { block, picks } = holder.into_inner();
@@ -120,7 +118,7 @@ impl<T, F: FnMut(&mut T) -> bool, A: Allocator> ExtractState<T, F, A> {
 }
 
 impl<T: Drop, A: Allocator, G: Growth> ThinVec<T, A, G> {
-    ghost use Rattle.thin_vec.specs.Edits.ExtractIf.{ExtractKeepsAlong, extract_alloc, extract_block, extract_callee, extract_lender, extract_list, extract_rest};
+    ghost use Rattle.thin_vec.specs.Edits.ExtractIf.{ExtractKeepsAlong, extract_block, extract_callee, extract_lender, extract_list, extract_rest, left_by_extract_if};
 
     /// Returns an iterator that removes the items in the range `start..end` for which `pick`
     /// returns true. The iterator yields the removed items in order. The function `bounds` of this
@@ -158,13 +156,12 @@ impl<T: Drop, A: Allocator, G: Growth> ThinVec<T, A, G> {
         ensures meanwhile { extract_list result
             ≡ record self.old { items = []; capacity = 0; cost = no_cost } }
 
+        // If the `ExtractIf` is dropped now, the list is unchanged.
+        ensures left { left_by_extract_if result ≡ self.old }
+
         // The `ExtractIf` borrows this list: its reference to the list has the same ghost name as
-        // `self`. The capacity, the allocator and the recorded cost of the `ExtractIf` are those
-        // that the list had before the call.
+        // `self`.
         ensures same_reference { extract_lender result ≡ self.entry.ghost_name }
-        ensures capacity { (extract_block result).capacity ≡ self.old.capacity }
-        ensures alloc { extract_alloc result ≡ self.old.alloc }
-        ensures cost { (extract_block result).cost ≡ self.old.cost }
 
         // What calls to `next` leave, however many there are.
         ensures stays { ExtractKeepsAlong (CalledAtMut F.FnMut) result }

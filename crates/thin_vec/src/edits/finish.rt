@@ -4,7 +4,7 @@
 //! - `fill` fills the empty slots of the range.
 //! - `insert_hinted` reserves room for the lower bound of the size hint, and fills this room.
 //! - `insert_held` collects the remaining items in a vector, and moves them into the list.
-ghost use Rattle.std.specs.Prelude.{◌≡◌, ◌+◌, ◌-◌, ◌*◌, ◌<◌, ◌≤◌, [], ◌++◌, ◌∷◌, IfErr, IfOk, IsOk, IsSome, List, MatchOption, None, OnErr, OnOk, Some, drop, false, length, take, ℕ};
+ghost use Rattle.std.specs.Prelude.{◌≡◌, ◌+◌, ◌-◌, ◌*◌, ◌<◌, ◌≤◌, [], ◌++◌, ◌∷◌, IfErr, IfOk, IsOk, IsSome, List, MatchOption, None, OnErr, OnOk, Some, drop, false, length, take, vec_capacity, ℕ};
 ghost use Rattle.std.specs.Iterator.{Drains, IsFinite, Yields, YieldsThen, size};
 ghost use Rattle.std.specs.Iterator.SizeHint.{IsWithinCount};
 ghost use Rattle.std.specs.Option.{option_len, option_to_list};
@@ -20,7 +20,7 @@ use crate::errors::{ExtendRefused, Rejected, SpliceRefused};
 use crate::list::ThinVec;
 use crate::open_block::OpenBlock;
 use crate::put::Filled;
-use std::alloc::{AllocFailed, Allocator};
+use std::alloc::Allocator;
 use std::iter::Iterator;
 use thin_block::{Growth, ThinVecError};
 
@@ -263,22 +263,24 @@ fn collect_rest<T, A: Allocator, I: Iterator<Item = T>>(
         (I.remaining iter) }
     ensures can_next { IsSome result.in_hand → I.can_next result.rest
         × IsFinite (I.remaining result.rest) }
+    ensures full { IsSome result.in_hand
+        → length result.held.items ≡ vec_capacity result.held }
 {
     let mut held = Vec::new(alloc);
     let mut rest = iter;
     let mut next = first;
     loop {
-        match held.push(next) {
+        match held.reserve(1) {
             Ok(()) => (),
-            Err(refused) => {
-                let AllocFailed { value } = refused;
+            Err(_refused) => {
                 return Collected {
                     held,
-                    in_hand: Some(value),
+                    in_hand: Some(next),
                     rest,
                 };
             }
         }
+        held.push_reserved(next);
         // The vector has room for these items, so this loop makes no request for memory.
         while held.len() < held.capacity() {
             let Some(item) = rest.next() else {

@@ -1,10 +1,12 @@
 //! The method `splice`, which removes the items of a range from a list, and puts the items of an
 //! iterator in their place.
-ghost use Rattle.std.specs.Prelude.{◌≡◌, ◌+◌, ◌-◌, ◌*◌, ◌<◌, ◌≤◌, List, [], IfErr, IsOk, OnErr, OnOk, Some, drop, length, slice_range, take};
+ghost use Rattle.std.specs.Prelude.{◌≡◌, ◌+◌, ◌-◌, ◌*◌, ◌<◌, ◌≤◌, ◌++◌, List, [], IfErr, IsOk, MatchOption, OnErr, OnOk, Some, drop, length, slice_range, take};
 ghost use Rattle.std.specs.Iterator.{Drains, IsFinite, size};
 ghost use Rattle.std.specs.Iterator.Runs.{WholeRun};
+ghost use Rattle.std.specs.List.{remove_range};
 ghost use Rattle.thin_vec.specs.List.Capacity.{PreservesList};
-ghost use Rattle.thin_vec.specs.List.Extend.{CostsInserting, ExtendsCapacity};
+ghost use Rattle.thin_vec.specs.List.Extend.{CostsInserting, ExtendsCapacity, RequestsAtMost};
+ghost use Rattle.thin_vec.specs.ThinVec.{IsBounded};
 ghost use Rattle.thin_block.specs.Block.{IsAllocatedBy};
 ghost use Rattle.thin_block.specs.Cost.{no_cost};
 
@@ -38,7 +40,7 @@ pub struct Splice<
 }
 
 impl<T, A: Allocator, G: Growth> ThinVec<T, A, G> {
-    ghost use Rattle.thin_vec.specs.Edits.Splice.{splice_alloc, splice_block, splice_iter, splice_lender, splice_list, splice_range, splice_rest};
+    ghost use Rattle.thin_vec.specs.Edits.Splice.{left_by_splice, splice_front, splice_iter, splice_lender, splice_list, splice_range_len, splice_rest, splice_tail};
 
     /// Begins to replace the items `start..end` with the items of `iter`. The returned `Splice`
     /// yields the old items from either end. Its method `finish` puts the new items in their place.
@@ -46,6 +48,7 @@ impl<T, A: Allocator, G: Growth> ThinVec<T, A, G> {
     /// The range must be in bounds. To check a range, call the function `bounds` of this crate.
     /// `splice` itself cannot fail: it allocates nothing, moves no item, and takes no item from
     /// `iter`.
+    #[tactic(auto, unfolding(crate::specs::Edits::Splice::left_by_splice))]
     pub fn splice<I: Iterator<Item = T>>(
         &mut self,
         start: usize,
@@ -55,19 +58,19 @@ impl<T, A: Allocator, G: Growth> ThinVec<T, A, G> {
         requires start_le_end { start ≤ end }
         requires in_bounds { end ≤ length self.old.items }
 
-        // The `Splice` yields the items of the range. It also stores the length of the range, and
-        // the iterator `iter`, which yields the new items.
+        // The `Splice` yields the items of the range (`rest`). `value` is the iterator whose items
+        // will replace them.
         ensures rest { splice_rest result ≡ slice_range self.old.items start end }
-        ensures range { splice_range result ≡ end - start }
+        ensures range { splice_range_len result ≡ end - start }
         ensures value { splice_iter result ≡ iter }
 
-        // The `Splice` owns the items before and after the range. Its capacity, allocator and
-        // recorded cost are those of the list before the call.
-        ensures front { (splice_block result).front ≡ take start self.old.items }
-        ensures tail { (splice_block result).tail ≡ drop end self.old.items }
-        ensures capacity { (splice_block result).capacity ≡ self.old.capacity }
-        ensures alloc { splice_alloc result ≡ self.old.alloc }
-        ensures cost { (splice_block result).cost ≡ self.old.cost }
+        // `finish` inserts the new items into the list without the range (`left`), between the
+        // items before the range (`front`) and those after it (`tail`).
+        ensures left { left_by_splice result
+            ≡ record self.old { items = remove_range self.old.items start end } }
+        ensures front { splice_front result ≡ take start self.old.items }
+        ensures tail { splice_tail result ≡ drop end self.old.items }
+        ensures bounds { IsBounded T.row self.old }
 
         // Until `finish` is called, and for ever if the `Splice` is leaked, the list is empty.
         ensures meanwhile { splice_list result
@@ -108,6 +111,7 @@ impl<'a, T, I, A: Allocator, G: Growth> Splice<'a, I, T, A, G> {
 
     /// Yields the first item of the range that has not been yielded yet, or returns `None` if all
     /// items have been yielded.
+    #[tactic(auto, unfolding(crate::specs::Edits::Splice::left_by_splice))]
     pub fn next(&mut self) -> Option<T>
         ensures steps { SpliceSteps self.old result self.new }
     {
@@ -115,6 +119,7 @@ impl<'a, T, I, A: Allocator, G: Growth> Splice<'a, I, T, A, G> {
     }
 
     /// Yields the last of the remaining items of the range, or returns `None` if no item remains.
+    #[tactic(auto, unfolding(crate::specs::Edits::Splice::left_by_splice))]
     pub fn next_back(&mut self) -> Option<T>
         ensures steps { SpliceStepsBack self.old result self.new }
     {
@@ -130,7 +135,7 @@ impl<
     G: Growth,
     H: IntoInner<Inner = OpenBlock<T, A>>,
 > Splice<'a, I, T, A, G, H> {
-    ghost use Rattle.thin_vec.specs.Edits.Splice.{FailsAsExtend, HasSlotsFor, IsSpliceCause, SpliceErrorAccountsFor, splice_block, splice_iter, splice_outside_range, splice_range, splice_replaced};
+    ghost use Rattle.thin_vec.specs.Edits.Splice.{HasSlotsFor, IsSpliceCause, SpliceErrorAccountsFor, left_by_splice, splice_front, splice_iter, splice_range_len, splice_tail};
 
     /// Drops the items of the range that were not yielded, and puts the items of the iterator in
     /// their place. After the call, the list holds the items before the range, then the items of
@@ -200,47 +205,60 @@ impl<
         // `xs` of the iterator, and the items after the range. `runs` follows from `items`: it
         // states the same in the form that std's lemmas about adaptors such as `map` expect.
         ensures items { OnOk result ((xs : List T) × Drains I.next_gives (splice_iter self.entry) xs
-            × (self.exit.0.now.items ≡ splice_replaced self.entry xs)) }
+            × (self.exit.0.now.items
+            ≡ (splice_front self.entry ++ xs) ++ splice_tail self.entry)) }
         ensures runs { OnOk result (WholeRun I.next_gives (splice_iter self.entry)
-            (λ p. self.exit.0.now.items ≡ splice_replaced self.entry p.items)) }
+            (λ p. self.exit.0.now.items
+            ≡ (splice_front self.entry ++ p.items) ++ splice_tail self.entry)) }
 
-        // When it must succeed.
+        // When it must succeed, and when it makes no request for memory.
         ensures succeeds { HasSlotsFor self.entry (size (I.remaining (splice_iter self.entry)))
             → IsOk result }
+        ensures had_slots { HasSlotsFor self.entry (size (I.remaining (splice_iter self.entry)))
+            → (self.exit.0.now.capacity ≡ (left_by_splice self.entry).capacity)
+            × (self.exit.0.now.cost.blocks ≡ (left_by_splice self.entry).cost.blocks) }
 
-        // On failure, every item that the iterator yielded is in the list or in the error
-        // (`placed`). If items follow the range, all slots of the range are filled, and more items
-        // may have been inserted after them (`err_full`). If no item follows the range, `held` is
-        // empty. Then the list is full, or the call has only removed the range: it has taken no
-        // item from the iterator (`in_hand`).
+        // On failure, every item that the iterator yielded is in the list or in the error.
         ensures placed { IfErr result (λ error. (xs : List T)
-            × (self.exit.0.now.items ≡ splice_replaced self.entry xs)
+            × (self.exit.0.now.items ≡ (splice_front self.entry ++ xs) ++ splice_tail self.entry)
             × SpliceErrorAccountsFor I.next_gives I.can_next I.remaining
             (splice_iter self.entry) xs error) }
-        ensures err_full { OnErr result (0 < length (splice_block self.entry).tail
-            → length (splice_outside_range self.entry).items + splice_range self.entry
-            ≤ length self.exit.0.now.items) }
-        ensures in_hand { IfErr result (λ error. (splice_block self.entry).tail ≡ []
-            → FailsAsExtend (splice_outside_range self.entry) self.exit.0.now
-            (splice_iter self.entry)
-            error) }
         ensures cause { IfErr result (λ error. IsSpliceCause G.rule T.row self.exit.0.now
-            (splice_block self.entry).tail (I.remaining error.rest) error) }
+            (splice_tail self.entry) (I.remaining error.rest) error) }
+
+        // If items follow the range, a failed call has filled all slots of the range, and may have
+        // inserted more items after them.
+        ensures err_full { OnErr result (0 < length (splice_tail self.entry)
+            → length (left_by_splice self.entry).items + splice_range_len self.entry
+            ≤ length self.exit.0.now.items) }
+
+        // If no item follows the range, the error holds no items in `held`. If it has none in
+        // `in_hand` either, the call has only removed the range. Otherwise the list is full.
+        ensures held { IfErr result (λ error. splice_tail self.entry ≡ []
+            → error.held.items ≡ []) }
+        ensures in_hand { IfErr result (λ error. splice_tail self.entry ≡ []
+            → MatchOption error.in_hand
+            ((self.exit.0.now ≡ left_by_splice self.entry)
+            × (error.rest ≡ splice_iter self.entry))
+            (λ _. length self.exit.0.now.items ≡ self.exit.0.now.capacity)) }
 
         // In every case. The capacity stays the same, or the growth rule chose it for items that
         // the list now contains, or for a size hint of the iterator (`capacity`). The size hint
         // cannot be named, because the contract of `size_hint` only bounds it. The number of moves
         // is only bounded, because it depends on the step in which the iterator ended (`cost`). If
-        // items follow the range, the list requests memory at most twice (the second part of
-        // `cost`).
-        ensures capacity { ExtendsCapacity G.rule T.row
-            (splice_outside_range self.entry) self.exit.0.now
+        // items follow the range, the list requests memory at most twice (`blocks`). If no item
+        // follows it, the list requests memory as often as `extend` does (`blocks_at_end`).
+        ensures capacity { ExtendsCapacity G.rule T.row (left_by_splice self.entry) self.exit.0.now
             (I.remaining (splice_iter self.entry)) }
-        ensures cost { CostsInserting (splice_outside_range self.entry) self.exit.0.now
-            (2 * length (splice_block self.entry).tail)
-            × (0 < length (splice_block self.entry).tail
-            → self.exit.0.now.cost.blocks ≤ (splice_outside_range self.entry).cost.blocks + 2) }
-        ensures preserved { PreservesList T.row (splice_outside_range self.entry) self.exit.0.now }
+        ensures cost { CostsInserting (left_by_splice self.entry) self.exit.0.now
+            (2 * length (splice_tail self.entry)) }
+        ensures blocks { 0 < length (splice_tail self.entry)
+            → self.exit.0.now.cost.blocks ≤ (left_by_splice self.entry).cost.blocks + 2 }
+        ensures blocks_at_end { splice_tail self.entry ≡ [] → RequestsAtMost
+            (self.exit.0.now.cost.blocks - (left_by_splice self.entry).cost.blocks)
+            (length self.exit.0.now.items - length (left_by_splice self.entry).items)
+            (I.remaining (splice_iter self.entry)) }
+        ensures preserved { PreservesList T.row (left_by_splice self.entry) self.exit.0.now }
     {
         let Splice { list, holder, iter } = self;
         let mut block = holder.into_inner();

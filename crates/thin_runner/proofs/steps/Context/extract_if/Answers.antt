@@ -1,7 +1,9 @@
 -- Each call to `next` asks the judge in the closure. The items that were not tested stay in the
 -- list.
-use Rattle.std.proofs.Common.{ℕ, ◌≡◌, ◌+◌, ◌-◌, ◌++◌, ◌∷◌, [], false, suc, take, slice_range, ap, arith, refl, rules, sym, ◌∙◌, append_assoc}
+use Rattle.std.proofs.Common.{ℕ, ◌≡◌, ◌+◌, ◌-◌, ◌++◌, ◌∷◌, [], false, suc, take, slice_range, ap, arith, length, refl, rules, sym, ◌∙◌, append_assoc}
 use Rattle.std.proofs.lemmas.List.{append-nil}
+use Rattle.std.specs.Prelude.{◌==◌, if◌then◌else◌}
+use Rattle.thin_vec.specs.Cost.{add_moves}
 use Rattle.thin_vec.specs.Edits.ExtractIf.{extract_block, extract_callee, extract_rest}
 use Rattle.thin_vec.specs.Edits.Retain.{items_where, all_kept}
 use Rattle.thin_runner.specs.commands.Filters.{extract_results}
@@ -14,6 +16,11 @@ loop-init g c =
     let a = c.args in
     let e = c.extract_if-extract.ensures in
     let extract = c.extract_if-extract.result in
+    let block = extract_block extract in
+    let free : block.cost ≡ a.list.now.cost =
+    sym (ap (λ n. if n == 0 then block.cost else add_moves
+    (length block.rest + length block.tail) block.cost) e.gap)
+    ∙ ap (λ v. v.cost) e.left in
     let results =
     extract_results ask a.self.judge a.count (slice_range a.list.now.items a.start a.end) in
     let all : a.count - 0 ≡ a.count = omega arith in
@@ -26,11 +33,11 @@ loop-init g c =
       room = omega (arith, c.in-Ok.ensures.ok, c.reserve.ensures.len, c.new-answers.ensures.len);
       answers = λ i. none i ++ handed_out (all i) (items_where false (same i));
       extracting = extracting-none results (take a.start a.list.now.items) a.list.now.cost
-          _ same e.front e.gap e.cost;
+          _ same e.front e.gap free;
       tail = e.tail;
       lender = refl;
-      capacity = e.capacity;
-      alloc = e.alloc;
+      capacity = ap (λ v. v.capacity) e.left;
+      alloc = ap (λ v. v.alloc) e.left;
     }
 
 pub loop-preserved : goal.loop-preserved
@@ -79,8 +86,8 @@ loop-preserved g c =
           _ _ s.kept c.next.result at.extracting next s.front s.gap s.cost;
       tail = s.tail ∙ at.tail;
       lender = steps.lender ∙ at.lender;
-      capacity = s.capacity ∙ at.capacity;
-      alloc = steps.alloc ∙ at.alloc;
+      capacity = ap (λ v. v.capacity) steps.left ∙ at.capacity;
+      alloc = ap (λ v. v.alloc) steps.left ∙ at.alloc;
     }
 
 pub returns : goal.returns

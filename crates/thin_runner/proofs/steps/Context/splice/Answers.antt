@@ -1,131 +1,140 @@
 -- If a splice fails, each item of the iterator is in the list, in `held`, in `in_hand` or in
 -- `rest`.
-use Rattle.std.proofs.Common.{rules, inl, inr, ◌≡◌, ◌≤◌, ◌+◌, ◌*◌, ◌-◌, ◌++◌, ◌∙◌, ap, arith, length, length-append, sym}
+use Rattle.std.proofs.Common.{rules, inl, inr, ◌≡◌, ◌≤◌, ◌+◌, ◌*◌, ◌-◌, ◌++◌, ◌∙◌, ap, arith, drop, length, length-append, sym, take}
 use Rattle.std.proofs.lemmas.Bool.{false≢true}
 use Rattle.std.specs.Iterator.{at_most, size}
 use mathlib.Core.Logic.{⊎_elim}
 use Rattle.thin_runner.specs.Hinted.{hinted_claim, hinted_count, hinted_items}
 use Rattle.thin_runner.proofs.HintedLemmas.{drains-items}
-use Rattle.thin_runner.proofs.SplicesLemmas.{IsOpened, at-no-in-hand, at-some-in-hand, left-is, no-tail, replaces, replaces-of, room-left, some-tail, stops-of, stopped-claim, stopped-ended, stopped-items, tail-count}
+use Rattle.thin_runner.proofs.SplicesLemmas.{at-no-in-hand, at-some-in-hand, no-tail, replaces, replaces-of, some-tail, stops-of, stopped-claim, stopped-ended, stopped-items, tail-count}
 use Rattle.thin_runner.specs.commands.Splices.{without_range}
-use Rattle.thin_vec.specs.Edits.Splice.{splice_alloc, splice_block, splice_iter}
+use Rattle.thin_vec.specs.Edits.Splice.{left_by_splice, splice_front, splice_iter, splice_tail}
 use Rattle.thin_vec.specs.ThinVec.{HasRoomFor}
+use Rattle.thin_runner.proofs.steps.Context.splice.Goals.{After-take_ends}
 use Rattle.thin_runner.proofs.steps.Context.splice.Goals as goal
+
+left : (g : _) (c : After-take_ends g) → left_by_splice c.take_ends.new.splice
+    ≡ without_range c.args.list.now c.args.start c.args.end
+left g c = c.take_ends.ensures.preserved.left ∙ c.splice-splice.ensures.left
+
+front : (g : _) (c : After-take_ends g)
+    → splice_front c.take_ends.new.splice ≡ take c.args.start c.args.list.now.items
+front g c = c.take_ends.ensures.preserved.front ∙ c.splice-splice.ensures.front
+
+tail : (g : _) (c : After-take_ends g)
+    → splice_tail c.take_ends.new.splice ≡ drop c.args.end c.args.list.now.items
+tail g c = c.take_ends.ensures.preserved.tail ∙ c.splice-splice.ensures.tail
+
+moved : (g : _) (c : After-take_ends g) → 2 * length (splice_tail c.take_ends.new.splice)
+    ≡ 2 * (length c.args.list.now.items - c.args.end)
+moved g c = ap (λ n. 2 * n) (tail-count c.args.list.now.items _ c.args.end (tail g c))
+
+items : (g : _) (c : After-take_ends g)
+    → hinted_items (splice_iter c.take_ends.new.splice) ≡ c.args.items.items
+items g c = ap hinted_items (c.take_ends.ensures.preserved.iter ∙ c.splice-splice.ensures.value)
+    ∙ c.new.ensures.items
+
+claim : (g : _) (c : After-take_ends g)
+    → hinted_claim (splice_iter c.take_ends.new.splice) ≡ c.args.lower
+claim g c = ap hinted_claim (c.take_ends.ensures.preserved.iter ∙ c.splice-splice.ensures.value)
+    ∙ c.new.ensures.lower
+
+count : (g : _) (c : After-take_ends g) → hinted_count (splice_iter c.take_ends.new.splice)
+    ≡ at_most (c.args.lower + length c.args.items.items)
+count g c = λ i. at_most (claim g c i + length (items g c i))
 
 pub returns-in-Ok-finish : goal.returns-in-Ok-finish
 returns-in-Ok-finish g c =
-    let k = c.take_ends.ensures.preserved in
-    let s = c.splice-splice.ensures in
-    let old = c.args.list.now in
-    let start = c.args.start in
-    let end = c.args.end in
-    let iter = k.iter ∙ s.value in
-    let items = ap hinted_items iter ∙ c.new.ensures.items in
-    let claim = ap hinted_claim iter ∙ c.new.ensures.lower in
-    let drawn = splice_iter c.take_ends.new.splice in
-    let block = splice_block c.take_ends.new.splice in
-    let alloc = splice_alloc c.take_ends.new.splice in
-    let is : IsOpened old start end block alloc = record {
-      front = k.front ∙ s.front;
-      tail = k.tail ∙ s.tail;
-      capacity = k.capacity ∙ s.capacity;
-      same = k.alloc ∙ s.alloc;
-      cost = k.cost ∙ s.cost;
-    } in
-    let may = c.args.lower + length c.args.items.items in
-    let count : hinted_count drawn ≡ at_most may =
-    λ i. at_most (claim i + length (items i)) in
-    let now = c.finish.new.self.0 in
-    let left : now ≡ c.list-1.given.0 = search rules in
+    let at = (goal.at.returns-in-Ok-finish g c).After-take_ends in
+    let written : c.finish.new.self.0 ≡ c.list-1.given.0 =
+    sym (c.list-1.given.1 (sym (c.take_ends.ensures.preserved.lender
+    ∙ c.splice-splice.ensures.same_reference))) in
     let e = c.in-Ok-finish.ensures in
-    let all = drains-items drawn e.items.0 e.items.1 ∙ items in
+    let all = drains-items (splice_iter c.take_ends.new.splice) e.items.0 e.items.1
+    ∙ items g at in
     record {
       allowed = (
         (c.requires.start_le_end, c.requires.in_bounds),
         (
           search rules,
-          replaces-of left (replaces (e.items.2 ∙ (λ i. (is.front i ++ all i) ++ is.tail i))
-              e.capacity e.cost.0 e.preserved (left-is old start end block alloc is) count
-              (ap (λ n. 2 * n) (tail-count old start end block alloc is))),
+          replaces-of written
+              (replaces (e.items.2 ∙ (λ i. (front g at i ++ all i) ++ tail g at i))
+              e.capacity e.cost e.preserved (left g at) (count g at) (moved g at)),
         ),
       );
     }
 
 pub returns-in-Err-finish : goal.returns-in-Err-finish
 returns-in-Err-finish g c =
+    let at = (goal.at.returns-in-Err-finish g c).After-take_ends in
     let k = c.take_ends.ensures.preserved in
     let s = c.splice-splice.ensures in
-    let old = c.args.list.now in
+    let xs = c.args.list.now.items in
     let start = c.args.start in
     let end = c.args.end in
-    let iter = k.iter ∙ s.value in
-    let items = ap hinted_items iter ∙ c.new.ensures.items in
-    let claim = ap hinted_claim iter ∙ c.new.ensures.lower in
-    let drawn = splice_iter c.take_ends.new.splice in
-    let block = splice_block c.take_ends.new.splice in
-    let alloc = splice_alloc c.take_ends.new.splice in
-    let is : IsOpened old start end block alloc = record {
-      front = k.front ∙ s.front;
-      tail = k.tail ∙ s.tail;
-      capacity = k.capacity ∙ s.capacity;
-      same = k.alloc ∙ s.alloc;
-      cost = k.cost ∙ s.cost;
-    } in
-    let width = k.range ∙ s.range in
-    let may = c.args.lower + length c.args.items.items in
-    let most : size (hinted_count drawn) ≡ may = omega (arith, claim, ap length items) in
-    let count : hinted_count drawn ≡ at_most may =
-    λ i. at_most (claim i + length (items i)) in
-    let now = c.finish.new.self.0 in
-    let left : now ≡ c.list-1.given.0 =
+    let written : c.finish.new.self.0 ≡ c.list-1.given.0 =
     sym (c.list-1.given.1 (sym (k.lender ∙ s.same_reference))) in
+    let drawn = splice_iter c.take_ends.new.splice in
+    let before = splice_front c.take_ends.new.splice in
+    let after = splice_tail c.take_ends.new.splice in
+    let may = c.args.lower + length c.args.items.items in
+    let most : size (hinted_count drawn) ≡ may =
+    omega (arith, claim g at, ap length (items g at)) in
+    let width = k.range ∙ s.range in
     let e = c.in-Err-finish.ensures in
     let refused = c.in-Err-finish.refused in
     let placed = e.placed.0 in
-    let held = refused.held.items in
     record {
       allowed = (
         (c.requires.start_le_end, c.requires.in_bounds),
         (
           search rules,
-          stops-of left (record {
+          stops-of written (record {
             placed = placed;
-            all = sym items
-                ∙ stopped-items drawn placed refused e.placed.2;
-            claim = stopped-claim drawn placed refused e.placed.2 ∙ claim;
-            filled = replaces (e.placed.1 ∙ (λ i. (is.front i ++ placed) ++ is.tail i))
-                e.capacity e.cost.0 e.preserved (left-is old start end block alloc is) count
-                (ap (λ n. 2 * n) (tail-count old start end block alloc is));
+            all = sym (items g at) ∙ stopped-items drawn placed refused e.placed.2;
+            claim = stopped-claim drawn placed refused e.placed.2 ∙ claim g at;
+            filled = replaces (e.placed.1 ∙ (λ i. (front g at i ++ placed) ++ tail g at i))
+                e.capacity e.cost e.preserved (left g at) (count g at) (moved g at);
             no_room = λ places. false≢true (⊎_elim
                 (λ (few : may ≤ end - start). e.succeeds (inl (omega (arith, few, most, width))))
-                (λ (room : (end ≡ length old.items) × HasRoomFor (without_range old start end) may).
+                (λ (room : (end ≡ length xs)
+                × HasRoomFor (without_range c.args.list.now start end) may).
                 e.succeeds (inr (
-                  no-tail old start end block alloc is room.0,
-                  room-left old start end block alloc is _ _ most room.1,
+                  no-tail xs after end (tail g at) room.0,
+                  omega (
+                    arith,
+                    room.1,
+                    most,
+                    ap (λ v. length v.items) (left g at),
+                    ap (λ v. v.capacity) (left g at),
+                  ),
                 ))) places);
             by_hint = e.cause.by_hint;
-            by_held = e.cause.by_held;
+            by_held = λ some none. (e.cause.by_held some none).1;
             by_in_hand = λ more some.
-                e.cause.by_in_hand (some-tail old start end block alloc is more) some;
+                (e.cause.by_in_hand (some-tail xs after end (tail g at) more) some).0;
             by_push = λ full some.
-                e.cause.by_push (no-tail old start end block alloc is full) some;
+                (e.cause.by_push (no-tail xs after end (tail g at) full) some).1;
             ended = stopped-ended drawn placed refused e.placed.2;
             range = λ more. omega (
               arith,
               width,
-              e.err_full (some-tail old start end block alloc is more),
+              e.err_full (some-tail xs after end (tail g at) more),
               ap length e.placed.1,
-              length-append (block.front ++ placed) block.tail,
-              length-append block.front placed,
-              length-append block.front block.tail,
+              length-append (before ++ placed) after,
+              length-append before placed,
+              ap length (front g at),
+              ap length (tail g at),
+              ap (λ v. length v.items) (left g at),
+              length-append (take start xs) (drop end xs),
             );
             at_end = λ full.
-                let fails = e.in_hand (no-tail old start end block alloc is full) in
-                (fails.held, at-some-in-hand _ _ refused.in_hand fails.in_hand);
+                let none = no-tail xs after end (tail g at) full in
+                (e.held none, at-some-in-hand _ _ refused.in_hand (e.in_hand none));
             unchanged = λ full none.
-                let fails = e.in_hand (no-tail old start end block alloc is full) in
-                (at-no-in-hand _ _ refused.in_hand fails.in_hand none).0
-                ∙ left-is old start end block alloc is;
+                (at-no-in-hand _ _ refused.in_hand
+                (e.in_hand (no-tail xs after end (tail g at) full)) none).0
+                ∙ left g at;
           }),
         ),
       );

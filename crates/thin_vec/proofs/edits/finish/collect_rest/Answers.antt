@@ -1,5 +1,5 @@
--- Each iteration of the outer loop pushes the item `next` to the vector `held`, which may allocate
--- memory. Then the inner loop fills the spare capacity of `held` with items of the iterator. If the
+-- Each iteration of the outer loop reserves room for the item `next` in the vector `held`, which may
+-- allocate memory, and pushes the item. Then the inner loop fills the spare capacity of `held` with items of the iterator. If the
 -- iterator has not ended then, it yields the item `next` of the following iteration.
 use Rattle.std.proofs.Common.{[], ◌++◌, ◌∷◌, ◌∙◌, ap, arith, length, refl}
 use Rattle.std.proofs.lemmas.List.{length_push}
@@ -20,12 +20,18 @@ loop-rest-init g c =
     record {
       can = c.loop-refused.invariant.can;
       finite = c.loop-refused.invariant.finite;
-      gave = (before.0, c.in-Ok.ensures.items ∙ before.1, before.2);
+      gave = (
+        before.0,
+        c.push_reserved.ensures.items
+            ∙ (ap (λ l. l ++ c.loop-refused.next ∷ []) c.in-Ok.ensures.items ∙ before.1),
+        before.2,
+      );
       fewer = omega (
         arith,
         c.loop-refused.invariant.fewer,
+        ap length c.push_reserved.ensures.items,
         ap length c.in-Ok.ensures.items,
-        length_push c.loop-refused.held.items c.loop-refused.next,
+        length_push c.reserve.new.self.items c.loop-refused.next,
       );
       nearer = omega arith;
     }
@@ -41,7 +47,7 @@ loop-rest-preserved g c =
       finite = goes.1;
       gave = (
         before.0 ++ one,
-        c.push_reserved.ensures.items ∙ ap (λ l. l ++ one) before.1,
+        c.push_reserved-in-loop-rest.ensures.items ∙ ap (λ l. l ++ one) before.1,
         yields-more g.I.Iterator.next_gives c.args.iter l.rest c.next.new.self before.0
             c.in-Some.item before.2 c.in-Some.ensures.steps,
       );
@@ -49,7 +55,7 @@ loop-rest-preserved g c =
         arith,
         l.invariant.fewer,
         goes.2,
-        ap length c.push_reserved.ensures.items,
+        ap length c.push_reserved-in-loop-rest.ensures.items,
         length_push l.held.items c.in-Some.item,
       );
       nearer = omega (arith, l.invariant.nearer, goes.2);
@@ -77,6 +83,12 @@ pub returns-in-Err-clause-runs : goal.returns-in-Err-clause-runs
 returns-in-Err-clause-runs g c =
     let before = c.loop-refused.invariant.gave in (
       before.0,
-      (λ i. c.in-Err.ensures.items i ++ c.in-Err.ensures.value_returned i ∷ []) ∙ before.1,
+      ap (λ l. l ++ c.loop-refused.next ∷ []) c.in-Err.ensures.items ∙ before.1,
       before.2,
     )
+
+pub returns-in-Err-clause-full : goal.returns-in-Err-clause-full
+returns-in-Err-clause-full g c = λ _.
+    let e = c.in-Err.ensures in
+    let held = c.reserve.new.self in
+    omega (arith, e.full, e.err, e.len, held.ok.0, held.ok.1)

@@ -1,6 +1,29 @@
--- Calls to `next` neither lose an item nor change the items outside the range.
-use Rattle.thin_vec.proofs.edits.ExtractIfLemmas.{extract_keeps_along}
+-- Before the first call to `next`, the `ExtractIf` would leave the list as it was. Calls to `next`
+-- neither lose an item nor change the items outside the range.
+use Rattle.std.proofs.Common.{◌≡◌, ◌+◌, ◌++◌, ◌∙◌, ap, length}
+use Rattle.std.specs.Prelude.{◌==◌, if◌then◌else◌}
+use Rattle.thin_block.specs.Cost.{add_moves}
+use Rattle.thin_vec.proofs.edits.ExtractIfLemmas.{extract_keeps_along, in-parts}
 use Rattle.thin_vec.proofs.list.ThinVec.extract_if.Goals as goal
+
+pub returns-clause-left : goal.returns-clause-left
+returns-clause-left g c =
+    let e = c.open-block.ensures in
+    let b = c.open-block.result in
+    let v = c.args.self.now in
+    let items : b.front ++ (b.rest ++ b.tail) ≡ v.items =
+    (λ i. e.front i ++ (e.rest i ++ e.tail i))
+    ∙ in-parts v.items c.args.start c.args.end c.requires.start_le_end in
+    let cost : (if b.gap == 0 then b.cost else add_moves (length b.rest + length b.tail) b.cost)
+    ≡ v.cost =
+    ap (λ n. if n == 0 then b.cost else add_moves (length b.rest + length b.tail) b.cost) e.gap
+    ∙ e.cost in
+    λ i. record {
+      items = items i;
+      capacity = e.capacity i;
+      alloc = (e.changes i).alloc;
+      cost = cost i;
+    }
 
 pub returns-clause-stays : goal.returns-clause-stays
 returns-clause-stays g c = extract_keeps_along _ _

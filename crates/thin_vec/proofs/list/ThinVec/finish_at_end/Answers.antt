@@ -1,13 +1,12 @@
 -- `close` leaves only the items before the range, and `extend` appends the items of the iterator.
-use Rattle.std.proofs.Common.{◌≡◌, ◌*◌, ◌++◌, ◌∙◌, ap, arith, length, length-append, refl, subst, sym}
+use Rattle.std.proofs.Common.{◌≡◌, ◌-◌, ◌*◌, ◌++◌, ◌∙◌, ap, arith, length, length-append, refl, subst, sym}
 use Rattle.std.specs.Iterator.{size}
 use Rattle.std.specs.Prelude.{MatchOption}
 use denote.Param.{param}
-use Rattle.thin_vec.specs.List.Extend.{IsCapacityAfterExtend}
-use Rattle.thin_vec.specs.Edits.Splice.{without_middle}
-use Rattle.thin_vec.specs.Edits.Finish.{AddsFromIter}
+use Rattle.thin_vec.specs.List.Extend.{IsCapacityAfterExtend, RequestsAtMost}
+use Rattle.thin_vec.specs.Edits.Finish.{AddsFromIter, without_middle}
 use Rattle.thin_vec.specs.ThinVec.{HasRoomFor}
-use Rattle.thin_vec.proofs.edits.SpliceLemmas.{after-items, closed-left, stop-at-end, stopped-now}
+use Rattle.thin_vec.proofs.edits.SpliceLemmas.{after-items, closed-left, stop-at-end, stopped-now, when-some}
 use Rattle.thin_vec.proofs.list.ExtendLemmas.{adding-more}
 use Rattle.thin_vec.proofs.edits.FinishLemmas.{finished-ok}
 use Rattle.thin_vec.specs.declared.errors.SpliceRefused.{SpliceRefused}
@@ -47,6 +46,15 @@ ruled g c =
     (length w.items)
     (g.I.Iterator.remaining c.args.iter)) (left g c) c.extend.ensures.capacity.ruled
 
+requests : (g : _) (c : After-extend g)
+    → RequestsAtMost (c.extend.new.self.cost.blocks - c.args.block.cost.blocks)
+    (length c.extend.new.self.items - length (c.args.block.front ++ c.args.block.tail))
+    (g.I.Iterator.remaining c.args.iter)
+requests g c =
+    let w = c.extend.new.self in
+    subst (λ z. RequestsAtMost (w.cost.blocks - z.cost.blocks) (length w.items - length z.items)
+    (g.I.Iterator.remaining c.args.iter)) (left g c) c.extend.ensures.cost.requests
+
 pub returns-in-Ok : goal.returns-in-Ok
 returns-in-Ok g c =
     let v = c.args.block in let gave = c.in-Ok.ensures.items in
@@ -58,6 +66,7 @@ returns-in-Ok g c =
           ∙ after-items v gave.0 c.requires.no_tail),
     )
     (taken g at) (ruled g at) (λ some. absurd (omega (arith, some, ap length c.requires.no_tail)))
+    (λ _. requests g at)
 
 pub returns-in-Err : goal.returns-in-Err
 returns-in-Err g c =
@@ -87,6 +96,7 @@ returns-in-Err g c =
       taken = taken g at;
       ruled = ruled g at;
       blocks = λ some. absurd (omega (arith, some, ap length c.requires.no_tail));
+      requests = λ _. requests g at;
       placed = (
         gave.0,
         gave.1 ∙ (ap (λ z. z.items ++ gave.0) is
@@ -95,14 +105,14 @@ returns-in-Err g c =
             c.args.iter gave.0 error none gave.2,
       );
       range = λ some. absurd (omega (arith, some, ap length c.requires.no_tail));
-      at_end = λ _. record {
-        held = none;
-        in_hand = subst (λ z. MatchOption refused.in_hand
-            ((c.extend.new.self ≡ z) × (refused.rest ≡ c.args.iter))
-            (λ _. length c.extend.new.self.items ≡ c.extend.new.self.capacity)) is
-            c.in-Err.ensures.in_hand;
-      };
+      held = λ _. none;
+      in_hand = λ _. subst (λ z. MatchOption refused.in_hand
+          ((c.extend.new.self ≡ z) × (refused.rest ≡ c.args.iter))
+          (λ _. length c.extend.new.self.items ≡ c.extend.new.self.capacity)) is
+          c.in-Err.ensures.in_hand;
       cause = stop-at-end g.G.Growth.rule (param 0 g.row.T) c.extend.new.self v.tail
           (g.I.Iterator.remaining refused.rest) error refused c.requires.no_tail none refl refl
+          (λ some room. let full = when-some _ _ refused.in_hand c.in-Err.ensures.in_hand some in
+          omega (arith, room, full))
           c.in-Err.ensures.cause;
     }

@@ -3,9 +3,8 @@
 -- of the size hint. Finally, `insert_held` inserts the remaining items.
 use Rattle.std.proofs.Common.{[], Err, None, Ok, Some, inl, inr, ◌-◌, ◌*◌, ◌∙◌, ap, arith, length, refl, subst, sym}
 use denote.Param.{param}
-use Rattle.thin_vec.specs.Edits.Finish.{AddsFromIter}
+use Rattle.thin_vec.specs.Edits.Finish.{AddsFromIter, without_middle}
 use Rattle.thin_vec.specs.List.Extend.{FailsAtHint, YieldsAndCanContinue}
-use Rattle.thin_vec.specs.Edits.Splice.{without_middle}
 use Rattle.thin_vec.specs.Put.{YieldsThenMayEnd}
 use Rattle.thin_vec.proofs.list.ExtendLemmas.{ruled-after}
 use Rattle.thin_vec.proofs.edits.SpliceLemmas.{if-err, stop-at-hint, stopped-now}
@@ -30,6 +29,7 @@ returns-then-ended g c =
     (filled-taken p g.G.Growth.rule (param 0 g.row.T) (2 * length v.tail)
     (g.I.Iterator.remaining c.args.iter) (omega (arith, p.1.cost.2)))
     (inl (inl p.1.capacity)) (λ _. omega (arith, ap (λ z. z.blocks) p.1.cost.1))
+    (λ none. absurd (omega (arith, c.requires.nonempty, ap length none)))
 
 pub returns-in-Err : goal.returns-in-Err
 returns-in-Err g c =

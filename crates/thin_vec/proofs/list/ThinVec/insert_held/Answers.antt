@@ -99,7 +99,10 @@ pub returns-in-Some-in_hand-clause-cause : goal.returns-in-Some-in_hand-clause-c
 returns-in-Some-in_hand-clause-cause g c = λ tail some.
     stop-at-held g.G.Growth.rule (param 0 g.row.T) c.args.self.now tail
     (g.I.Iterator.remaining c.collect_rest-held.result.rest) _ some (λ none. cc) (λ none. cc)
-    (λ _. refl)
+    (λ _. (
+      refl,
+      c.collect_rest-held.ensures.full (subst IsSome (sym c.in-Some-in_hand.is) refl),
+    ))
 
 pub returns-in-Some-in_hand-clause-added : goal.returns-in-Some-in_hand-clause-added
 returns-in-Some-in_hand-clause-added g c =
@@ -139,8 +142,17 @@ returns-in-Err-clause-cause g c = λ tail some.
     (g.I.Iterator.remaining c.collect_rest-held.result.rest) _
     some (λ _. more g here)
     (λ _. (
-      λ over. sym same ∙ c.in-Err.ensures.capacity.overflow.0 (ap Err over),
-      λ none. err-same (c.in-Err.ensures.capacity.overflow.1 (same ∙ none)),
+      λ room. false≢true (c.in-Err.ensures.succeeds (omega (
+        arith,
+        room,
+        ap (λ z. length z.items) c.in-Err.ensures.err,
+        ap (λ z. z.capacity) c.in-Err.ensures.err,
+        count g here,
+      ))),
+      (
+        λ over. sym same ∙ c.in-Err.ensures.capacity.overflow.0 (ap Err over),
+        λ none. err-same (c.in-Err.ensures.capacity.overflow.1 (same ∙ none)),
+      ),
     ))
     (λ is. absurd (false≢true is))
 

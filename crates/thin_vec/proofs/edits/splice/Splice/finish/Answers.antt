@@ -1,9 +1,9 @@
 -- `finish` drops the rest of the range, and then calls `finish_before_tail` or `finish_at_end`.
-use Rattle.std.proofs.Common.{[], inl, inr, ◌≡◌, ◌+◌, ◌≤◌, ◌∙◌, ap, arith, length, length-append, subst}
+use Rattle.std.proofs.Common.{[], inl, inr, ◌≡◌, ◌+◌, ◌≤◌, ◌++◌, ◌∙◌, ap, arith, length, length-append, subst}
 use denote.Param.{param}
 use Rattle.thin_vec.specs.Edits.Finish.{FinishesSplice}
 use Rattle.thin_vec.specs.Open.{tail_end}
-use Rattle.thin_vec.specs.Edits.Splice.{splice_alloc, splice_block, splice_iter, splice_replaced}
+use Rattle.thin_vec.specs.Edits.Splice.{HasSlotsFor, left_by_splice, splice_front, splice_iter, splice_list, splice_tail}
 use Rattle.thin_vec.proofs.list.ExtendLemmas.{loose-le, run_of_ok}
 use Rattle.thin_block.proofs.CapacityLemmas.{fits-less}
 use Rattle.thin_vec.proofs.edits.SpliceLemmas.{if-err}
@@ -11,10 +11,12 @@ use Rattle.thin_vec.proofs.edits.splice.Splice.finish.Goals.{else-has_tail, then
 use Rattle.thin_vec.proofs.edits.splice.Splice.finish.Goals as goal
 
 pub returns : goal.returns
+unfolding left_by_splice
 returns g c =
     let rule = g.G.Growth.rule in let T = param 0 g.row.T in
     let steps = g.I.Iterator.next_gives in
-    let v = splice_block c.args.self in let a = splice_alloc c.args.self in
+    let v = g.H.IntoInner.inner c.args.self.holder in
+    let a = (splice_list c.args.self).alloc in
     let s = splice_iter c.args.self in
     let w = c.if-has_tail.list in let r = c.if-has_tail.answer in
     let said : FinishesSplice steps g.I.Iterator.can_next g.I.Iterator.remaining rule T
@@ -34,35 +36,48 @@ returns g c =
     c.drop_rest.new.self o s w r) (ap (λ v. v.alloc) c.clear.ensures.changes) said) in
     let le = loose-le rule T g.met.G.Growth.law v.capacity w.capacity f.taken.capacity in
     let within = c.len-len.ensures.bounds in
+    let left = left_by_splice c.args.self in
+    let room : length left.items + (v.gap + length v.rest + v.gap_after) ≤ left.capacity =
+    omega (
+      arith,
+      subst (λ b. tail_end b ≤ b.capacity) dropped c.has_tail.ensures.in_bounds,
+      length-append v.front v.tail,
+    ) in
     record {
       items = f.items;
-      runs = run_of_ok steps s (λ xs. w.items ≡ splice_replaced c.args.self xs) r f.items;
+      runs = run_of_ok steps s
+          (λ xs. w.items ≡ (splice_front c.args.self ++ xs) ++ splice_tail c.args.self) r f.items;
       succeeds = λ places. elim places [
         | inl few ↦ f.succeeds few
         | inr room ↦ f.succeeds_at_end room.0 room.1
       ];
+      had_slots = λ places.
+          let same = f.taken.had_room (elim places [
+            | inl few ↦ omega (arith, few, room)
+            | inr fit ↦ fit.1
+          ]) in
+          (same, (f.taken.cost.kept same).0);
       placed = f.placed;
       err_full = if-err r
           (λ error is now some. omega (arith, now some, length-append v.front v.tail)) f.range;
-      in_hand = f.at_end;
+      held = f.held;
+      in_hand = f.in_hand;
       cause = f.cause;
       capacity = record {
         had_room = f.taken.had_room;
         loose = f.taken.capacity;
         ruled = f.ruled;
       };
-      cost = (f.taken.cost, f.blocks);
+      cost = f.taken.cost;
+      blocks = f.blocks;
+      blocks_at_end = f.requests;
       preserved = record {
         alloc = f.taken.alloc;
         never_less = le;
         cheap = f.taken.cheap;
         within = (
           record {
-            room = omega (
-              arith,
-              subst (λ b. tail_end b ≤ b.capacity) dropped c.has_tail.ensures.in_bounds,
-              length-append v.front v.tail,
-            );
+            room = omega (arith, room);
             small = omega (arith, within.small, le);
             fits = fits-less T v.capacity w.capacity within.fits le;
           },
