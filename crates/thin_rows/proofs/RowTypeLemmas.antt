@@ -40,13 +40,13 @@ error_tells R S w cause (Err e) size align passed told = record {
   );
 }
 
-pub failure_tells : {X Y : Type 0} {a b : Option ℕ} {cause : ThinVecError} → a ≡ b
-    → IsErrOf {T = X} (Err cause) CapacityOverflow ↔ (b ≡ None)
+pub failure_tells : {Y : Type 0} {a b : Option ℕ} {cause : ThinVecError} → a ≡ b
+    → (cause ≡ CapacityOverflow) ↔ (b ≡ None)
     → OverflowsIff a (let r : Result Y ThinVecError = Err cause in r)
 failure_tells same told = record {
   overflow = (
-    λ over. same ∙ told.0 (ap Err (same_cause over)),
-    λ none. ap Err (same_cause (told.1 (sym same ∙ none))),
+    λ over. same ∙ told.0 (same_cause over),
+    λ none. ap Err (told.1 (sym same ∙ none)),
   );
 }
 

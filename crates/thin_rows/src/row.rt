@@ -174,7 +174,7 @@ fn free_if_empty<T, A: Allocator>(list: &mut ThinVec<T, A>)
     ensures items { list.new.items ≡ list.old.items }
     ensures capacity { (0 < list.new.capacity) ↔ (0 < length list.new.items) }
 {
-    if list.is_empty() {
+    if list.len() == 0 {
         match list.shrink_to_fit() {
             Ok(()) => (),
             Err(_cause) => unreachable!(),

@@ -2,7 +2,7 @@
 use Rattle.std.proofs.Common.{◌≡◌, ℕ, ◌<◌, ◌⊎◌, List, [], ◌∷◌, Some, refl, length, inl, inr, arith}
 use Rattle.std.specs.Borrow.{RattleType}
 use Rattle.std.specs.Prelude.{HoldsAt}
-use Rattle.thin_vec.specs.List.Clones.{CostsFailedClone}
+use Rattle.thin_vec.specs.List.Clones.{GrewForFailedClone}
 use Rattle.thin_vec.specs.Cost.{add_moves}
 use Rattle.thin_vec.specs.Growth.{GrowthRule}
 use Rattle.thin_vec.specs.ThinVec.{ListView, capacity_after_reserve, cost_after_resize}
@@ -27,19 +27,18 @@ module _ {T A : Type 0} where
     -- If a call that clones items fails, the list is unchanged, or it grew and some clones were
     -- made.
     pub refuses-clone : (R : RattleType) (k : ℕ) {infallible : T → Type 0} {sources : List T}
-        {v w : ListView T A} → w.items ≡ v.items → w.alloc ≡ v.alloc
-        → (w ≡ v) ⊎ (capacity_after_reserve rule R v k ≡ Some w.capacity)
-        → (w ≡ v) ⊎ CostsFailedClone infallible sources v w
+        {v w : ListView T A} → w.alloc ≡ v.alloc
+        → (w ≡ v)
+        ⊎ GrewForFailedClone (capacity_after_reserve rule R v k) infallible sources v w
         → (w ≡ v) ⊎ ((at : ℕ) × (at < length sources)
         × HoldsAt (λ x. ¬ (infallible x)) sources at
         × ((capacity_after_reserve rule R v k ≡ Some w.capacity)
         × (w ≡ set_items (set_capacity v w.capacity) v.items at)))
-    refuses-clone R k same alloc (inl e) _ = inl e
-    refuses-clone R k same alloc (inr _) (inl e) = inl e
-    refuses-clone R k {v = v} {w} same alloc (inr capacity) (inr r) =
+    refuses-clone R k alloc (inl e) = inl e
+    refuses-clone R k {v = v} {w} alloc (inr r) =
         inr (
           r.at,
           r.in_bounds,
           r.fallible,
-          (capacity, is-set v w v.items r.at same r.cost alloc),
+          (r.capacity, is-set v w v.items r.at r.items r.cost alloc),
         )

@@ -1,21 +1,24 @@
 -- These lemmas are for the proofs of other crates. They say which capacities are small enough, and
 -- which items a list contains after a write through a slice, an `insert` and a `remove`, or a
--- `collect`.
-use Rattle.std.proofs.Common.{if◌then◌else◌, Bool, true, false, ◌≡◌, ℕ, zero, suc, ◌+◌, ◌-◌, ◌*◌, ◌^◌, ◌<◌, ◌≤◌, ap, arith, length, IfErr, OnErr, ◌⊎◌, Option, Result, Ok, Err, Some, None, inl, inr, refl, sym, ◌∙◌, List, ◌++◌, drop, take, [], ◌∷◌, IfOk}
+-- `collect`, what a call that grows costs, and where the items of an iterator are.
+use Rattle.std.proofs.Common.{if◌then◌else◌, Bool, true, false, ◌≡◌, ℕ, zero, suc, ◌+◌, ◌-◌, ◌*◌, ◌^◌, ◌<◌, ◌≤◌, ap, arith, length, IfErr, OnErr, ◌⊎◌, Option, Result, Ok, Err, Some, None, inl, inr, refl, subst, sym, ◌∙◌, List, ◌++◌, append_assoc, drop, take, [], ◌∷◌, IfOk, OnOk}
 use Rattle.std.specs.Borrow.{RattleType}
 use Rattle.std.specs.Align.{type_align}
 use Rattle.std.specs.Mem.{type_size}
-use Rattle.std.specs.Prelude.{◌==◌, max, nat_lt, insert, remove, slice_get, ⊤}
+use Rattle.std.specs.Prelude.{◌==◌, IsPermutation, max, nat_lt, insert, remove, slice_get, ⊤}
 use Rattle.std.proofs.lemmas.Bool.{cases_lt}
 use Rattle.thin_block.specs.declared.errors.ThinVecError.{ThinVecError}
 use Rattle.thin_block.specs.declared.errors.ThinVecError.TheVariants.{CapacityOverflow, OutOfMemory}
 use Rattle.thin_block.specs.Capacity.{min_non_zero_cap, fits}
-use Rattle.thin_block.specs.Growth.{GrowthRule, doubling, exact_capacity, checked_capacity, grown_capacity}
-use Rattle.thin_block.proofs.CapacityLemmas.{exact-fits, exact-same, fits-less, ruled-overflow, ruled-rule, ruled-same, small_fits}
+use Rattle.thin_block.specs.Cost.{Cost}
+use Rattle.thin_block.specs.Growth.{GrowthRule, IsLawful, doubling, exact_capacity, checked_capacity, grown_capacity}
+use Rattle.thin_block.proofs.CapacityLemmas.{exact-fits, exact-same, ruled-overflow, ruled-rule, ruled-same, small_fits}
 use Rattle.thin_block.proofs.ResultLemmas.{some-same}
-use Rattle.thin_vec.specs.List.Capacity.{Grows, PreservesList, Reserves, OverflowsIffTooLarge, map_cause}
-use Rattle.thin_vec.specs.ThinVec.{IsBounded, IsCauseOf, ListView}
-use Rattle.thin_vec.specs.declared.errors.Rejected.{Rejected}
+use Rattle.thin_vec.specs.Cheap.{IsCheap, IsCheapAt}
+use Rattle.thin_vec.specs.List.Capacity.{CostsMoves, Grows, PreservesList, Reserves, OverflowsIffTooLarge}
+use Rattle.thin_vec.specs.List.Clones.{GrewForFailedClone}
+use Rattle.thin_vec.specs.ThinVec.{IsBounded, IsCauseOf, ListView, capacity_after_reserve}
+use Rattle.thin_vec.proofs.ThinVecLemmas.{allocatable-less, cheap-regrown, cost_after_resize-copied}
 use Rattle.std.proofs.Math.Seq.{take-append_seam}
 use Rattle.std.specs.List.{refill}
 use Rattle.thin_vec.specs.Lends.{with_items}
@@ -23,6 +26,14 @@ use Rattle.std.specs.Iterator.{DrainsIf}
 use Rattle.std.proofs.lemmas.Iterator.{YieldsList}
 use Rattle.std.proofs.lemmas.Iterator.Adapters.{fact_from_collect}
 use Rattle.thin_vec.specs.List.Extend.{IsCollectedFrom}
+use Rattle.std.proofs.lemmas.List.{append-nil}
+use Rattle.std.proofs.lemmas.List.Sorted.{length_permutation}
+use Rattle.std.specs.Iterator.{Count, Drains, Yields, YieldsFirst}
+use Rattle.std.specs.Option.{option_to_list}
+use Rattle.thin_vec.specs.Convert.IntoIter.{rest}
+use Rattle.thin_vec.specs.Edits.Splice.{SpliceErrorAccountsFor}
+use Rattle.thin_vec.specs.declared.errors.SpliceRefused.{SpliceRefused}
+pub use Rattle.thin_block.specs.GrowthLaws.{doubling_law}
 
 pub exact-few : (R : RattleType) (n : ℕ) → n < 2 ^ 31 → type_size R < 2 ^ 31
     → exact_capacity R 0 n ≡ Some n
@@ -79,41 +90,92 @@ few_more R k v w (Err cause) few small told =
     cause-named (grown_capacity doubling R v.capacity (length v.items + k)) named.0 cause named.1
     (λ over. told.overflow.0 (ap Err over))
 
-err-left : {X E : Type 0} (P Q : Type 0) (r : Result X E) → OnErr r P → OnErr r (P ⊎ Q)
-err-left P Q (Ok x) p = tt
-err-left P Q (Err e) p = inl p
-
-pub err-cause : {X T : Type 0} (P : Type 0) (r : Result X (Rejected T)) → OnErr r P → OnErr (map_cause r) P
-err-cause P (Ok x) p = tt
-err-cause P (Err e) p = p
-
-module _ {T A : Type 0} {rule : GrowthRule} {R : RattleType} {k : ℕ} {v w : ListView T A}
-    {X : Type 0} {r : Result X ThinVecError} where
+module _ {T A X E : Type 0} {rule : GrowthRule} {R : RattleType} {k : ℕ} {v w : ListView T A}
+    {r : Result X E} where
   pub grows-bounded : Grows rule R k v w r → IsBounded R w
-  grows-bounded g = record { room = g.room; small = g.small; fits = g.fits }
+  grows-bounded g = record { room = g.room; small = g.small; allocatable = g.allocatable }
 
   pub grows-was_bounded : Grows rule R k v w r → IsBounded R v
   grows-was_bounded g = record {
     room = g.was_room;
     small = omega (arith, g.never_less, g.small);
-    fits = fits-less R v.capacity w.capacity g.fits g.never_less;
+    allocatable = allocatable-less R v.capacity w.capacity g.allocatable g.never_less;
   }
 
-  pub grows-preserved : Grows rule R k v w r → PreservesList R v w
-  grows-preserved g = record {
+  pub grows-preserved : Grows rule R k v w r → (IsCheap v → IsCheap w) → PreservesList R v w
+  grows-preserved g cheap = record {
     alloc = g.alloc;
     never_less = g.never_less;
-    cheap = g.cheap;
+    cheap = cheap;
     within = (grows-was_bounded g, grows-bounded g);
   }
 
-  pub grows-reserves : Grows rule R k v w r → OnErr r (w ≡ v) → Reserves rule R k v w r
-  grows-reserves g unchanged = record {
-    had_room = g.had_room;
-    ok = g.ok;
-    err = err-left _ _ r unchanged;
-    overflow = g.overflow;
-  }
+module _ {T A : Type 0} (rule : GrowthRule) (R : RattleType) (law : IsLawful rule) (v w : ListView T A)
+    (k n : ℕ) (room : length v.items ≤ v.capacity)
+    (named : capacity_after_reserve rule R v k ≡ Some w.capacity) (cost : CostsMoves n v w) where
+  regrown-cheap : IsCheap v → IsCheap w
+  regrown-cheap cheap =
+      let same = cheap-regrown rule R law v k w.capacity cheap room named in
+      subst (IsCheapAt w.capacity) (sym cost)
+      (record { none = same.none; grown = same.grown; blocks = same.blocks })
+
+  regrown-copied : w.cost.grown + v.capacity ≤ v.cost.grown + w.capacity
+  regrown-copied =
+      omega (
+        arith,
+        cost_after_resize-copied rule R law v k w.capacity room named,
+        ap (λ (c : Cost). c.grown) cost,
+      )
+
+-- Every growth rule has the law `IsLawful`: in an answer, it is `g.met.G.Growth.law`. For lists with
+-- the rule `Doubling`, it is `doubling_law`.
+module _ {T A : Type 0} {rule : GrowthRule} (law : IsLawful rule) {R : RattleType} {k : ℕ}
+    {v w : ListView T A} where
+  module _ {X E : Type 0} (r : Result X E) (n : ℕ) where
+    -- A call such as `push`, which changes nothing if it fails, keeps a cheap list cheap.
+    pub grows-cheap : Grows rule R k v w r → OnOk r (CostsMoves n v w) → OnErr r (w ≡ v)
+        → IsCheap v → IsCheap w
+    grows-cheap g cost same cheap = go r g.ok cost same
+      where
+        go : (r : Result X E) → OnOk r (capacity_after_reserve rule R v k ≡ Some w.capacity)
+            → OnOk r (CostsMoves n v w) → OnErr r (w ≡ v) → IsCheap w
+        go (Ok x) named cost same = regrown-cheap rule R law v w k n g.was_room named cost cheap
+        go (Err e) named cost same = subst IsCheap (sym same) cheap
+
+    -- A call such as `push` copies at most as many items as the capacity grows by. So the same
+    -- holds of any number of calls, from any list: their inequalities add up.
+    pub grows-copied : Grows rule R k v w r → OnOk r (CostsMoves n v w) → OnErr r (w ≡ v)
+        → w.cost.grown + v.capacity ≤ v.cost.grown + w.capacity
+    grows-copied g cost same = go r g.ok cost same
+      where
+        go : (r : Result X E) → OnOk r (capacity_after_reserve rule R v k ≡ Some w.capacity)
+            → OnOk r (CostsMoves n v w) → OnErr r (w ≡ v)
+            → w.cost.grown + v.capacity ≤ v.cost.grown + w.capacity
+        go (Ok x) named cost same = regrown-copied rule R law v w k n g.was_room named cost
+        go (Err e) named cost same = omega (
+          arith,
+          ap (λ (z : ListView T A). z.cost.grown) same,
+          ap (λ (z : ListView T A). z.capacity) same,
+        )
+
+    -- A call such as `extend_from_slice`, which may have grown the list if it fails, keeps a cheap
+    -- list cheap.
+    pub cloned-cheap : (infallible : T → Type 0) (sources : List T) → Grows rule R k v w r
+        → OnOk r (CostsMoves n v w)
+        → OnErr r ((w ≡ v)
+        ⊎ GrewForFailedClone (capacity_after_reserve rule R v k) infallible sources v w)
+        → IsCheap v → IsCheap w
+    cloned-cheap infallible sources g cost err cheap = go r g.ok cost err
+      where
+        go : (r : Result X E) → OnOk r (capacity_after_reserve rule R v k ≡ Some w.capacity)
+            → OnOk r (CostsMoves n v w)
+            → OnErr r ((w ≡ v)
+            ⊎ GrewForFailedClone (capacity_after_reserve rule R v k) infallible sources v w)
+            → IsCheap w
+        go (Ok x) named cost err = regrown-cheap rule R law v w k n g.was_room named cost cheap
+        go (Err e) named cost (inl same) = subst IsCheap (sym same) cheap
+        go (Err e) named cost (inr grew) =
+            regrown-cheap rule R law v w k grew.at g.was_room grew.capacity grew.cost cheap
 
 named-by : (b : Bool) (m n : ℕ) → (if b then Some m else None) ≡ Some n → m ≡ n
 named-by true m n e = some-same e
@@ -151,6 +213,12 @@ pub refill_all : {T : Type 0} (xs ws : List T) → length ws ≡ length xs
 refill_all xs ws same =
     ap (λ n. take n (ws ++ drop (length ws) xs)) (sym same) ∙ take-append_seam ws _
 
+-- A permutation of the items, written through `as_mut_slice`, is one of the list.
+pub refilled : {T : Type 0} (xs ws : List T) → IsPermutation xs ws
+    → IsPermutation xs (refill (length xs) xs ws)
+refilled xs ws same =
+    subst (IsPermutation xs) (sym (refill_all xs ws (length_permutation xs ws same))) same
+
 pub with_items_is : {T A : Type 0} (v : ListView T A) (ws : List T) → length ws ≡ length v.items
     → (with_items v ws).items ≡ ws
 with_items_is v ws same = refill_all v.items ws same
@@ -185,3 +253,40 @@ module _ {T A E : Type 0} where
       → YieldsList steps (λ x. x) s all → IfOk r (λ v. v.items ≡ all)
   items_from_collect R r made yields =
       if_ok r (λ v all_made. all_made.0) (fact_from_collect (IsCollectedFrom R) r made yields)
+
+-- In this module, `items_of s` are the items that the iterator `s` still yields. A call of `next`
+-- that returns an item takes the first of them, and one that returns `None` takes none.
+module _ {S T : Type 0} (steps : S → Option T → S → Type 0) (items_of : S → List T)
+    (gives : (s t : S) (x : T) → steps s (Some x) t → items_of s ≡ x ∷ items_of t) where
+  pub taken_front : (s t : S) (xs : List T) → Yields steps s xs t → items_of s ≡ xs ++ items_of t
+  taken_front s t [] y = ap items_of y
+  taken_front s t (x ∷ xs) y =
+      gives s y.0 x y.1 ∙ ap (λ (ys : List T). x ∷ ys) (taken_front y.0 t xs y.2)
+
+  -- After a failed `finish` of a `Splice`, each item of its iterator `s` is in the list (`placed`),
+  -- in the error, or still to be yielded by `rest` of the error.
+  pub accounts : ((s t : S) → steps s None t → items_of s ≡ items_of t) → {A : Type 0}
+      {can : S → Type 0} {remaining : S → Count} (s : S) (placed : List T)
+      (error : SpliceRefused T S A) → SpliceErrorAccountsFor steps can remaining s placed error
+      → items_of s ≡ placed
+      ++ (error.held.items ++ (option_to_list error.in_hand ++ items_of error.rest))
+  accounts ends s placed error (inl gave) =
+      let held = error.held.items in
+      let one = option_to_list error.in_hand in
+      let left = items_of error.rest in
+      taken_front s error.rest ((placed ++ held) ++ one) gave.0.gave
+      ∙ (append_assoc (placed ++ held) one left ∙ append_assoc placed held (one ++ left))
+  accounts ends s placed error (inr ended) =
+      let held = error.held.items in
+      let left = items_of error.rest in
+      taken_front s ended.2.0 (placed ++ held) ended.2.1
+      ∙ (ap (λ (l : List T). (placed ++ held) ++ l) (ends ended.2.0 error.rest ended.2.2)
+      ∙ (append_assoc placed held left
+      ∙ ap (λ (o : Option T). placed ++ (held ++ (option_to_list o ++ left))) (sym ended.0)))
+
+module _ {T A : Type 0} where
+  -- If calls of `next` on the `IntoIter` `s` yielded the items `xs`, and then `None`, then these
+  -- were all its items.
+  pub all_taken : (s : ListView T A) (xs : List T) → Drains (YieldsFirst rest) s xs → xs ≡ s.items
+  all_taken s xs d = sym (taken_front (YieldsFirst rest) rest (λ s t x e. e) s d.1.0 xs d.1.1
+      ∙ (ap (λ (ys : List T). xs ++ ys) d.1.2.0 ∙ append-nil xs))

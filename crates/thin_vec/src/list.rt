@@ -4,13 +4,14 @@
 //! In contracts, `OnOk result P` states that `P` holds if `result` is `Ok`, and `IfOk result P`
 //! states that `P` holds for the value in `Ok`. `OnErr` and `IfErr` do the same for `Err`. `T.row`
 //! describes the type `T`; it determines the size and the alignment of an item.
-ghost use Rattle.std.specs.Prelude.{◌≡◌, ◌↔◌, ◌+◌, ◌-◌, ◌<◌, ◌==◌, [], ◌∷◌, ◌++◌, IfErr, IsOk, IsSome, IsTrue, None, OnErr, OnOk, Some, length, slice_index_or};
+ghost use Rattle.std.specs.Prelude.{◌≡◌, ◌↔◌, ◌+◌, ◌-◌, ◌<◌, ◌≤◌, ◌==◌, [], ◌∷◌, ◌++◌, IfErr, IsOk, IsSome, IsTrue, MatchOption, None, OnErr, OnOk, Some, length, slice_index_or};
+ghost use Rattle.std.specs.List.{SameBelow};
 ghost use Rattle.std.specs.Option.{option_to_list};
 ghost use Rattle.thin_block.specs.Block.{IsAllocatedBy};
 ghost use Rattle.thin_block.specs.Capacity.{Fits};
 ghost use Rattle.thin_block.specs.Cost.{add_moves};
 ghost use Rattle.thin_block.specs.Slots.{IsPacked};
-ghost use Rattle.thin_vec.specs.List.Capacity.{CostsMoves, Grows, PreservesList, map_cause};
+ghost use Rattle.thin_vec.specs.List.Capacity.{CostsMoves, Grows, LacksRoom, PreservesList};
 
 mod append_split;
 mod capacity;
@@ -118,9 +119,7 @@ impl<T, A: Allocator, G: Growth> ThinVec<T, A, G> {
 
     /// Returns whether the list has no items.
     pub fn is_empty(&self) -> bool
-        ensures value { IsTrue result ↔ (self.now.items ≡ []) }
-        ensures len { result ≡ (length self.now.items == 0) }
-        ensures bounds { IsBounded T.row self.now }
+        ensures { result ≡ (length self.now.items == 0) }
     {
         self.len() == 0
     }
@@ -160,12 +159,19 @@ impl<T, A: Allocator, G: Growth> ThinVec<T, A, G> {
         // When it must succeed.
         ensures succeeds { HasRoomFor self.old 1 → IsOk result }
 
-        // On failure, the list is unchanged.
+        // On failure, there was no room, and the list is unchanged.
         ensures err { OnErr result (self.new ≡ self.old) }
         ensures value_returned { IfErr result (λ error. error.value ≡ value) }
+        ensures cause { IfErr result (λ error. LacksRoom G.rule T.row self.old 1 error.cause) }
 
-        // In every case, the capacity changes as by `reserve(1)`. `overflow` states the cause.
-        ensures grows { Grows G.rule T.row 1 self.old self.new (map_cause result) }
+        // In every case, the capacity changes as by `reserve(1)`.
+        ensures grows { Grows G.rule T.row 1 self.old self.new result }
+
+        // These follow, for callers' proofs.
+        ensures full { OnErr result (self.old.capacity ≤ length self.old.items) }
+        ensures by_index { SameBelow self.old.items self.new.items (length self.old.items)
+            × ((d : T) → IsOk result
+            → slice_index_or self.new.items (length self.old.items) d ≡ value) }
     {
         if let Err(cause) = self.reserve(1) {
             return Err(Rejected { value, cause });
@@ -219,13 +225,14 @@ impl<T, A: Allocator, G: Growth> ThinVec<T, A, G> {
         ensures value { (d : T) → 0 < length self.old.items
             → result ≡ Some (slice_index_or self.old.items (length self.old.items - 1) d) }
         ensures items { self.old.items ≡ self.new.items ++ option_to_list result }
-        ensures len { length self.new.items + length (option_to_list result)
-            ≡ length self.old.items }
+        ensures cases { MatchOption result
+            ((length self.old.items ≡ 0) × (length self.new.items ≡ 0))
+            (λ _. length self.new.items + 1 ≡ length self.old.items) }
         ensures capacity { self.new.capacity ≡ self.old.capacity }
         ensures changes { self.new ≡ record self.old { items = self.new.items } }
         ensures bounds { IsBounded T.row self.old }
     {
-        if self.is_empty() {
+        if self.len() == 0 {
             return None;
         }
         Some(self.pop_last())

@@ -216,7 +216,7 @@ module _ {S T A : Type 0} (rule : GrowthRule) (R : RattleType) (v : ListView T A
     by_held = λ more _. absurd (omega (arith, more, ap length none));
     by_in_hand = λ some _. absurd (omega (arith, some, ap length no_tail));
     by_push = λ _ some. let push = by.by_push (subst IsSome hand some) in
-        (full some, (λ is. push.0 (sym same ∙ is), λ now. same ∙ push.1 now));
+        (full some, (λ is. push.1.0 (sym same ∙ is), λ now. same ∙ push.1.1 now));
   }
 
 module _ (rule : GrowthRule) (R : RattleType) where

@@ -1,8 +1,9 @@
 -- These lemmas are for calls that clone items and write the clones into empty slots. The last two
 -- lemmas are about the items in a range of a list.
-use Rattle.std.proofs.Common.{◌≡◌, ◌+◌, ◌-◌, ◌<◌, ◌≤◌, [], ◌∷◌, ◌++◌, ◌∙◌, List, Option, Some, ap, append_assoc, arith, drop, get_or, length, refl, suc, sym, take, zero, ℕ}
+use Rattle.std.proofs.Common.{◌≡◌, ◌+◌, ◌-◌, ◌<◌, ◌≤◌, [], ◌∷◌, ◌++◌, ◌∙◌, ◌⊎◌, Err, List, Ok, OnErr, Option, Result, Some, ap, append_assoc, arith, drop, get_or, inr, length, refl, suc, sym, take, zero, ℕ}
 use Rattle.std.proofs.lemmas.List.{get_or-drop, get_or-take, get_or_append_left, length-drop, length-take-le, map_push, replicate-append-replicate}
 use Rattle.std.proofs.lemmas.List.Elements.{All-from_recursion, all_zip_more, length_all_zip, recursion_from_All}
+use Rattle.std.proofs.Math.Seq.{take-append_seam}
 use Rattle.std.specs.List.{AllByRecursion, AllZip}
 use Rattle.std.specs.Borrow.{RattleType}
 use Rattle.std.specs.Prelude.{All, HoldsAt, replicate, slice_range}
@@ -10,8 +11,9 @@ use lib.ListN.{set}
 use Rattle.thin_block.specs.Growth.{GrowthRule, grown_capacity}
 use Rattle.thin_block.specs.Slots.{filled_slots, write_slots}
 use Rattle.thin_block.proofs.SlotsLemmas.{laid-one}
-use Rattle.thin_vec.specs.List.Clones.{AppendsRepeats, CloneEquals, WritesClones}
-use Rattle.thin_vec.specs.ThinVec.{IsNew, ListView, capacity_after_reserve}
+use Rattle.thin_block.specs.Cost.{Cost, add_moves}
+use Rattle.thin_vec.specs.List.Clones.{AppendsRepeats, CloneEquals, FailsAtClone, GrewForFailedClone, WritesClones}
+use Rattle.thin_vec.specs.ThinVec.{IsNew, ListView, capacity_after_reserve, cost_after_resize}
 use Rattle.thin_vec.proofs.ListLemmas.{length-full}
 
 module _ {T : Type 0} {clones : T → T → Type 0} {sources : List T} {n i : ℕ}
@@ -80,6 +82,37 @@ not-all P [] i low never all = absurd (omega arith)
 not-all P (x ∷ xs) i low never all = never x (all i x low)
 
 pub ruleset new_lists = (capacity-new)
+
+-- If a list is truncated to its old length, the items that were appended are gone.
+pub cut-back : {T : Type 0} (xs ys : List T) {zs ws : List T} {n : ℕ} → ws ≡ take n zs
+    → zs ≡ xs ++ ys → n ≡ length xs → ws ≡ xs
+cut-back xs ys {zs} {ws} {n} cut appended same =
+    cut ∙ (ap (take n) appended
+    ∙ (ap (λ k. take k (xs ++ ys)) same ∙ take-append_seam xs ys))
+
+-- In this module, a call reserves room, which changes the list `v` to `u`. Then a clone fails, and
+-- the clones that were made are dropped, which leaves the list `w`.
+module _ {T A : Type 0} (infallible : T → Type 0) (sources : List T) (v u w : ListView T A)
+    {named : Option ℕ} (is : named ≡ Some u.capacity) (items : u.items ≡ v.items)
+    (cost : u.cost ≡ cost_after_resize v u.capacity) (same : w.capacity ≡ u.capacity) where
+  pub grew : w.items ≡ u.items → FailsAtClone infallible sources u.cost w.cost
+      → GrewForFailedClone named infallible sources v w
+  grew kept fails = record {
+    items = kept ∙ items;
+    capacity = is ∙ ap Some (sym same);
+    at = fails.at;
+    in_bounds = fails.in_bounds;
+    fallible = fails.fallible;
+    cost = fails.cost
+        ∙ ap (λ (c : Cost). add_moves fails.at c)
+        (cost ∙ ap (λ n. cost_after_resize v n) (sym same));
+  }
+
+  pub grew-after : {X E : Type 0} (r : Result X E) → OnErr r (w.items ≡ u.items)
+      → OnErr r (FailsAtClone infallible sources u.cost w.cost)
+      → OnErr r ((w ≡ v) ⊎ GrewForFailedClone named infallible sources v w)
+  grew-after (Ok x) kept fails = tt
+  grew-after (Err e) kept fails = inr (grew kept fails)
 
 module _ {T : Type 0} (xs : List T) (a b : ℕ) (within : b ≤ length xs) where
   pub length-range : length (slice_range xs a b) ≡ b - a

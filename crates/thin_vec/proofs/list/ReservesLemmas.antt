@@ -1,8 +1,8 @@
 -- These lemmas prove that calls satisfy `PreservesList`, `Reserves` and `OverflowsIff`. These three
 -- definitions say how a call may change the capacity of a list, and which error the call returns.
-use Rattle.std.proofs.Common.{◌≡◌, ℕ, ◌+◌, Err, List, Ok, Option, Result, Some, ap, arith, inl, inr, length, sym, ◌∙◌}
+use Rattle.std.proofs.Common.{◌≡◌, ℕ, ◌+◌, Err, List, None, Ok, Option, Result, Some, ap, arith, inl, inr, length, sym, ◌∙◌}
 use Rattle.std.specs.Borrow.{RattleType}
-use Rattle.std.specs.Prelude.{IfErr}
+use Rattle.std.specs.Prelude.{◌↔◌, IfErr, IsErrOf}
 use Rattle.thin_block.specs.declared.errors.ThinVecError.{ThinVecError}
 use Rattle.thin_block.specs.declared.errors.ThinVecError.TheVariants.{CapacityOverflow, OutOfMemory}
 use Rattle.thin_block.specs.Capacity.{Fits}
@@ -12,7 +12,7 @@ use Rattle.thin_block.specs.declared.block.Block.{Block}
 use Rattle.thin_block.proofs.CapacityLemmas.{ruled-same}
 use Rattle.thin_block.proofs.ResultLemmas.{err-same, none-some, ok-err}
 use Rattle.thin_vec.specs.Cheap.{IsCheap}
-use Rattle.thin_vec.specs.List.Capacity.{PreservesList, Reserves, OverflowsIff, OverflowsIffTooLarge}
+use Rattle.thin_vec.specs.List.Capacity.{Grows, LacksRoom, PreservesList, Reserves, OverflowsIff, OverflowsIffTooLarge}
 use Rattle.thin_vec.specs.ThinVec.{HasRoomFor, IsListBlock, IsBounded, ListView, capacity_after_reserve, list_view}
 use Rattle.thin_vec.proofs.ListLemmas.{RestoresInvariant}
 use Rattle.thin_vec.proofs.ThinVecLemmas.{within-kept}
@@ -44,6 +44,30 @@ tells-same R S m n e told = record {
 memory-no-overflow : {P : Type 0} (cause : ThinVecError) → cause ≡ OutOfMemory
     → cause ≡ CapacityOverflow → P
 memory-no-overflow cause is over = cc
+
+pub tells-then : {X : Type 0} (named : Option ℕ) (n : ℕ) (r : Result X ThinVecError)
+    → named ≡ Some n → IfErr r (λ cause. cause ≡ OutOfMemory) → OverflowsIff named r
+tells-then named n (Ok x) is _ = tells-ok x named n is
+tells-then named n (Err cause) is memory = record {
+  overflow = (
+    λ e. memory-no-overflow cause memory (err-same e),
+    λ none. absurd (none-some none is),
+  );
+}
+
+pub grows-of : {T A X : Type 0} {rule : GrowthRule} {R : RattleType} {k : ℕ} {v w : ListView T A}
+    {r : Result X ThinVecError} → Reserves rule R k v w r → PreservesList R v w
+    → Grows rule R k v w r
+grows-of reserves keeps = record {
+  had_room = reserves.had_room;
+  ok = reserves.ok;
+  alloc = keeps.alloc;
+  never_less = keeps.never_less;
+  was_room = keeps.within.0.room;
+  room = keeps.within.1.room;
+  small = keeps.within.1.small;
+  allocatable = keeps.within.1.allocatable;
+}
 
 -- `PreservesList` is transitive.
 pub keeps-join : {T A : Type 0} {R : RattleType} {u v w : ListView T A} → PreservesList R u v
@@ -90,6 +114,28 @@ module _ {T A : Type 0} (R : RattleType) (v : ListView T A) where
       (within-kept R b a b' v xs thin is fits after)
 
   module _ (rule : GrowthRule) where
+    pub lacks-room : {X : Type 0} (k : ℕ) (cause : ThinVecError) → (HasRoomFor v k → ⊥)
+        → IsErrOf {T = X} (Err cause) CapacityOverflow ↔ (capacity_after_reserve rule R v k ≡ None)
+        → LacksRoom rule R v k cause
+    lacks-room k cause full overflow = (
+      full,
+      (λ over. overflow.0 (ap Err over), λ none. err-same (overflow.1 none)),
+    )
+
+    pub grows-room : {X E : Type 0} {x : X} (k : ℕ) (w : ListView T A) → HasRoomFor v k
+        → w.alloc ≡ v.alloc → w.capacity ≡ v.capacity → IsBounded R v × IsBounded R w
+        → Grows rule R k v w (let r : Result X E = Ok x in r)
+    grows-room k w room alloc capacity within = record {
+      had_room = λ _. capacity;
+      ok = ruled-same rule R v.capacity (length v.items + k) room ∙ ap Some (sym capacity);
+      alloc = alloc;
+      never_less = omega (arith, capacity);
+      was_room = within.0.room;
+      room = within.1.room;
+      small = within.1.small;
+      allocatable = within.1.allocatable;
+    }
+
     pub reserves-room : {X : Type 0} {x : X} (k : ℕ) (w : ListView T A) → HasRoomFor v k
         → w.capacity ≡ v.capacity → Reserves rule R k v w (Ok x)
     reserves-room {x = x} k w room capacity =

@@ -6,14 +6,15 @@
 use Rattle.std.specs.Prelude.{◌≡◌, ◌↔◌, ◌⊎◌, ℕ, ◌^◌, ◌<◌, ◌≤◌, IsErrOf, OnErr, OnOk, Option, Result, length}
 use Rattle.std.specs.declared.option.Option.TheVariants.{None, Some}
 use Rattle.std.specs.declared.result.Result.TheVariants.{Ok, Err}
+use Rattle.std.specs.Align.{type_align}
 use Rattle.std.specs.Borrow.{RattleType}
+use Rattle.std.specs.Mem.{type_size}
 use Rattle.thin_block.specs.declared.errors.ThinVecError.{ThinVecError}
 use Rattle.thin_block.specs.declared.errors.ThinVecError.TheVariants.{CapacityOverflow}
-use Rattle.thin_block.specs.Capacity.{Fits}
 use Rattle.thin_block.specs.Cost.{Cost, add_moves}
 use Rattle.thin_block.specs.Growth.{GrowthRule, exact_capacity}
 use Rattle.thin_vec.specs.Cheap.{IsCheap}
-use Rattle.thin_vec.specs.ThinVec.{ListView, HasRoomFor, IsBounded, capacity_after_reserve, cost_after_resize}
+use Rattle.thin_vec.specs.ThinVec.{ListView, HasRoomFor, IsAllocatable, IsBounded, capacity_after_reserve, cost_after_resize}
 use Rattle.thin_vec.specs.declared.errors.Rejected.{Rejected}
 
 -- `map_cause r` is `r`, with the error, if there is one, replaced by its cause. In Rust, this is
@@ -81,28 +82,24 @@ module _ {T A : Type 0} where
 
   -- `Grows rule R k v w r` describes a call that needs room for `k` more items of the type `R`,
   -- under the growth rule `rule`. The call changes the list from `v` to `w`, and its result is `r`.
-  -- If the call fails, the list is unchanged: this is a clause of its own (`err`) in each contract.
+  -- What a failed call leaves and why it failed are clauses of their own in each contract (`err`,
+  -- and `cause` or `overflow`).
   --
-  -- `Grows` and this clause together say the same as `Reserves` and `PreservesList`. There are no
-  -- records in `Grows`, because a proof by search reads every record of every call before it. The
-  -- lemmas `grows-reserves` and `grows-preserved` make the two records of it.
+  -- There are no records in `Grows`, because a proof by search reads every record of every call
+  -- before it. The lemma `grows-cheap` says that a cheap list stays cheap (`IsCheap`), and the
+  -- lemmas `grows-bounded` and `grows-was_bounded` make `IsBounded` of it.
   pub record Grows (rule : GrowthRule) (R : RattleType) (k : ℕ) (v w : ListView T A)
-      {X : Type 0} (r : Result X ThinVecError) : Type 0 where
-    -- This follows from `ok` and from the clause `err`. It is here for the proofs of callers.
+      {X E : Type 0} (r : Result X E) : Type 0 where
     pub had_room : HasRoomFor v k → w.capacity ≡ v.capacity
     pub ok : OnOk r (capacity_after_reserve rule R v k ≡ Some w.capacity)
-    -- The cause of a failure is `CapacityOverflow` if the new capacity would be too large.
-    -- Otherwise it is `OutOfMemory`.
-    pub overflow : IsErrOf r CapacityOverflow ↔ (capacity_after_reserve rule R v k ≡ None)
     pub alloc : w.alloc ≡ v.alloc
     pub never_less : v.capacity ≤ w.capacity
-    pub cheap : IsCheap v → IsCheap w
     -- A fact about the list before the call, which holds for every list. It requires nothing.
     pub was_room : length v.items ≤ v.capacity
     -- The last three fields are those of `IsBounded R w`.
     pub room : length w.items ≤ w.capacity
     pub small : w.capacity < 2 ^ 63
-    pub fits : Fits R w.capacity
+    pub allocatable : IsAllocatable (type_size R) (type_align R) w.capacity
 
   -- `IsFreshList R a w` holds if the new list `w` of items of the type `R` has the allocator `a`, a
   -- low recorded cost (`IsCheap`), and a capacity that can be allocated (`IsBounded`).

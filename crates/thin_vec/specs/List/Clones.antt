@@ -1,6 +1,6 @@
 -- These definitions describe calls that clone items. `clones x y` states that cloning `x` may
 -- result in `y`, and `infallible x` states that cloning `x` cannot fail.
-use Rattle.std.specs.Prelude.{◌≡◌, ℕ, ◌^◌, ◌<◌, ◌≤◌, List, [], ◌∷◌, ◌++◌, All, HoldsAt, Option, length, take}
+use Rattle.std.specs.Prelude.{◌≡◌, ℕ, ◌^◌, ◌<◌, ◌≤◌, List, [], ◌∷◌, ◌++◌, All, HoldsAt, Option, Some, length, take}
 use Rattle.std.specs.List.{AllZip}
 use Rattle.thin_block.specs.Cost.{Cost, add_moves}
 use Rattle.thin_block.specs.Slots.{filled_slots, write_slots}
@@ -26,12 +26,14 @@ module _ {T : Type 0} (clones : T → T → Type 0) where
 
   -- `IsClonedList v w` holds if the list `w` is a clone of the list `v`, with the same allocator.
   -- The capacity of `w` is its length, and its cost includes one move for each item.
-  abbrev pub IsClonedList : {A : Type 0} → ListView T A → ListView T A → Type 0
-  IsClonedList v w =
-      AllZip clones v.items w.items × (length w.items ≡ length v.items)
-      × (w.capacity ≡ length v.items) × (w.alloc ≡ v.alloc)
-      × (w.cost ≡ add_moves (length v.items) (cost_of_new (length v.items))) × IsCheap w
-      × (w.capacity < 2 ^ 63)
+  pub record IsClonedList {A : Type 0} (v w : ListView T A) : Type 0 where
+    pub items : AllZip clones v.items w.items
+    pub len : length w.items ≡ length v.items
+    pub capacity : w.capacity ≡ length v.items
+    pub alloc : w.alloc ≡ v.alloc
+    pub cost : w.cost ≡ add_moves (length v.items) (cost_of_new (length v.items))
+    pub cheap : IsCheap w
+    pub small : w.capacity < 2 ^ 63
 
 -- `AppendsRepeats clones x n xs ys` states that the list `ys` consists of the items of `xs`,
 -- followed by `n` clones of `x`. The parameter `clones` says which items are clones of `x`.
@@ -66,12 +68,19 @@ pub record FailsAtClone {T : Type 0} (infallible : T → Type 0) (sources : List
   -- Each clone that was made counts as one move, although it was dropped again.
   pub cost : after ≡ add_moves at before
 
--- `CostsFailedClone infallible sources v w` states the cost of a call that reserved room for clones
--- of `sources`, made clones until one failed, and changed the list from `v` to `w`. A change of the
--- capacity counts as usual. In addition, there is one move for each clone that was made before the
--- item that could not be cloned (`FailsAtClone`). `infallible x` states that cloning `x` cannot
--- fail.
-abbrev pub CostsFailedClone : {T A : Type 0} → (T → Type 0) → List T → ListView T A → ListView T A
-    → Type 0
-CostsFailedClone infallible sources v w =
-    FailsAtClone infallible sources (cost_after_resize v w.capacity) w.cost
+-- `GrewForFailedClone wanted infallible sources v w` describes a call that reserved room, cloned
+-- items of `sources` in order until a clone failed, and dropped the clones again. It changed the
+-- list from `v` to `w`. The option `wanted` is the capacity that reserving chooses, or `None` if it
+-- is too large. `infallible x` states that cloning `x` cannot fail.
+pub record GrewForFailedClone {T A : Type 0} (wanted : Option ℕ) (infallible : T → Type 0)
+    (sources : List T) (v w : ListView T A) : Type 0 where
+  pub items : w.items ≡ v.items
+  pub capacity : wanted ≡ Some w.capacity
+  -- The index of the item that could not be cloned. So this is also the number of clones that were
+  -- made before. No clause says which index it is.
+  pub at : ℕ
+  pub in_bounds : at < length sources
+  -- This states only that cloning the item at this index could fail.
+  pub fallible : HoldsAt (λ x. ¬ (infallible x)) sources at
+  -- The cost of reserving, and one move for each clone that was made.
+  pub cost : w.cost ≡ add_moves at (cost_after_resize v w.capacity)

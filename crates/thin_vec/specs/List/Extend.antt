@@ -12,7 +12,7 @@ use Rattle.thin_block.specs.declared.errors.ThinVecError.{ThinVecError}
 use Rattle.thin_block.specs.declared.errors.ThinVecError.TheVariants.{CapacityOverflow}
 use Rattle.thin_block.specs.Growth.{GrowthRule, exact_capacity, grown_capacity}
 use Rattle.thin_vec.specs.Cheap.{IsCheap}
-use Rattle.thin_vec.specs.List.Capacity.{IsFreshList}
+use Rattle.thin_vec.specs.List.Capacity.{IsFreshList, LacksRoom}
 use Rattle.thin_vec.specs.ThinVec.{HasRoomFor, IsBounded, ListView, capacity_after_reserve}
 use Rattle.thin_vec.specs.declared.errors.CollectRefused.{CollectRefused}
 use Rattle.thin_vec.specs.declared.errors.ExtendRefused.{ExtendRefused}
@@ -163,9 +163,7 @@ module _ {T A : Type 0} where
   -- size hint, so at most `left`. The growth rule is `rule`. The contract cannot say which `h` it
   -- was: std's contract of `size_hint` bounds the result, but gives it no name.
   abbrev pub FailsAtHint : GrowthRule → RattleType → ListView T A → Count → ThinVecError → Type 0
-  FailsAtHint rule R w left cause =
-      (h : ℕ) × IsWithinCount h left × ¬ (HasRoomFor w h)
-      × ((cause ≡ CapacityOverflow) ↔ (capacity_after_reserve rule R w h ≡ None))
+  FailsAtHint rule R w left cause = (h : ℕ) × IsWithinCount h left × LacksRoom rule R w h cause
 
   -- `IsExtendCause rule R w left error` states why a call to `extend` failed with `error`. The
   -- growth rule is `rule`, the item type is `R`, and the list after the call is `w`. The rest of
@@ -173,8 +171,7 @@ module _ {T A : Type 0} where
   pub record IsExtendCause {S : Type 0} (rule : GrowthRule) (R : RattleType) (w : ListView T A)
       (left : Count) (error : ExtendRefused T S) : Type 0 where
     -- The list had no room for the item in `in_hand`.
-    pub by_push : IsSome error.in_hand
-        → ((error.cause ≡ CapacityOverflow) ↔ (capacity_after_reserve rule R w 1 ≡ None))
+    pub by_push : IsSome error.in_hand → LacksRoom rule R w 1 error.cause
     -- The call could not reserve room for a possible lower bound in the size hint.
     pub by_hint : error.in_hand ≡ None → FailsAtHint rule R w left error.cause
 
@@ -184,8 +181,7 @@ module _ {T A : Type 0} where
   pub record IsCollectCause {S : Type 0} (rule : GrowthRule) (R : RattleType) (left : Count)
       (error : CollectRefused T S A) : Type 0 where
     -- The list had no room for the item in `in_hand`.
-    pub by_push : IsSome error.in_hand
-        → ((error.cause ≡ CapacityOverflow) ↔ (capacity_after_reserve rule R error.list 1 ≡ None))
+    pub by_push : IsSome error.in_hand → LacksRoom rule R error.list 1 error.cause
     -- The call could not allocate a block of capacity `h`, a possible lower bound in the size hint.
     pub by_hint : error.in_hand ≡ None
         → (h : ℕ) × IsWithinCount h left × (0 < h)

@@ -158,6 +158,7 @@ impl<T: Copy, A: Allocator> ThinVec<T, A> {
     pub fn from_copies(alloc: A, items: &[T]) -> Result<ThinVec<T, A>, ThinVecError>
         // On success.
         ensures items { IfOk result (λ list. list.items ≡ items.now) }
+        ensures len { IfOk result (λ list. length list.items ≡ length items.now) }
         ensures capacity { IfOk result (λ list. list.capacity ≡ length items.now) }
         ensures cost { IfOk result
             (λ list. list.cost ≡ add_moves (length items.now) (cost_of_new (length items.now))) }

@@ -243,7 +243,8 @@ impl<T, A: Allocator> ThinVec<T, A> {
         // On success.
         ensures items { IfOk result (λ list. list.items ≡ []) }
         ensures len { IfOk result (λ list. length list.items ≡ 0) }
-        ensures capacity { IfOk result (λ list. list.capacity ≡ capacity) }
+        ensures capacity { IfOk result (λ list. capacity ≤ list.capacity) }
+        ensures exact { IfOk result (λ list. list.capacity ≡ capacity) }
         ensures cost { IfOk result (λ list. list.cost ≡ cost_of_new capacity) }
         ensures new { IfOk result (IsFreshList T.row alloc) }
 

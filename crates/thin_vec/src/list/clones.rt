@@ -1,14 +1,14 @@
 //! The methods that clone items. Room for all clones is reserved before the first clone is made. So
 //! there is no need to test for room before each clone.
 //!
-//! The clause `items_if_clones_equal` follows from `items`, and `err` follows from `err_cost`. With
-//! them, a caller needs no lemma about clones.
+//! The clause `items_if_clones_equal` follows from `items`, and `err_items` and `err_if_infallible`
+//! follow from `err`. With them, a caller needs no lemma about clones.
 ghost use Rattle.std.specs.Prelude.{◌≡◌, ◌⊎◌, ◌+◌, ◌<◌, ◌≤◌, [], ◌++◌, ◌-◌, All, HoldsAt, IfErr, IfOk, IsOk, OnErr, OnOk, length, slice_range, take};
 ghost use Rattle.std.specs.List.{AllZip, AppendsClones};
 ghost use Rattle.thin_block.specs.Capacity.{Fits};
 ghost use Rattle.thin_block.specs.Cost.{add_moves};
-ghost use Rattle.thin_vec.specs.List.Clones.{ClonesEqual, IsClonedList, FailsAtClone, CostsFailedClone};
-ghost use Rattle.thin_vec.specs.List.Capacity.{CostsMoves, PreservesList, Reserves, IsFreshList};
+ghost use Rattle.thin_vec.specs.List.Clones.{ClonesEqual, FailsAtClone, GrewForFailedClone, IsClonedList};
+ghost use Rattle.thin_vec.specs.List.Capacity.{CostsMoves, Grows, IsFreshList, OverflowsIff, PreservesList};
 
 use crate::list::ThinVec;
 use crate::put::put_clones;
@@ -16,7 +16,7 @@ use std::alloc::{AllocError, Allocator};
 use thin_block::{Growth, ThinVecError};
 
 impl<T: Clone, A: Allocator, G: Growth> ThinVec<T, A, G> {
-    ghost use Rattle.thin_vec.specs.ThinVec.{HasRoomFor, IsBounded, cost_of_new};
+    ghost use Rattle.thin_vec.specs.ThinVec.{HasRoomFor, IsBounded, capacity_after_reserve, cost_of_new};
 
     /// Appends a clone of each item of `items`, in order. If there is not enough spare capacity,
     /// the list first grows to the capacity that the growth rule chooses. For items that are
@@ -33,25 +33,29 @@ impl<T: Clone, A: Allocator, G: Growth> ThinVec<T, A, G> {
         // On success.
         ensures items { OnOk result
             (AppendsClones T.is_clone self.old.items self.new.items items.now) }
-        ensures items_if_clones_equal { OnOk result (ClonesEqual T.is_clone
-            → self.new.items ≡ self.old.items ++ items.now) }
         ensures cost { OnOk result (CostsMoves (length items.now) self.old self.new) }
 
         // When it must succeed.
         ensures succeeds { HasRoomFor self.old (length items.now) → All T.is_infallible items.now
             → IsOk result }
 
-        // On failure, the items are unchanged. The capacity and the cost change only if an item
-        // could not be cloned (`err_cost`). So they are unchanged if no clone can fail (`err`).
-        ensures err_items { OnErr result (self.new.items ≡ self.old.items) }
-        ensures err { All T.is_infallible items.now → OnErr result (self.new ≡ self.old) }
-        ensures err_cost { OnErr result ((self.new ≡ self.old)
-            ⊎ CostsFailedClone T.is_infallible items.now self.old self.new) }
+        // On failure, the list is unchanged, or an item could not be cloned after room was
+        // reserved.
+        ensures err { OnErr result ((self.new ≡ self.old)
+            ⊎ GrewForFailedClone (capacity_after_reserve G.rule T.row self.old (length items.now))
+            T.is_infallible items.now self.old self.new) }
+        ensures overflow { OverflowsIff
+            (capacity_after_reserve G.rule T.row self.old (length items.now)) result }
 
-        // In every case, the capacity changes as `reserve(items.len())` would change it. On
-        // failure, the capacity may also be unchanged.
-        ensures capacity { Reserves G.rule T.row (length items.now) self.old self.new result }
-        ensures preserved { PreservesList T.row self.old self.new }
+        // In every case, the capacity changes as by `reserve(items.len())`, or not at all.
+        ensures grows { Grows G.rule T.row (length items.now) self.old self.new result }
+
+        // These follow, for callers' proofs.
+        ensures items_if_clones_equal { OnOk result (ClonesEqual T.is_clone
+            → self.new.items ≡ self.old.items ++ items.now) }
+        ensures err_items { OnErr result (self.new.items ≡ self.old.items) }
+        ensures err_if_infallible { All T.is_infallible items.now
+            → OnErr result (self.new ≡ self.old) }
     {
         self.reserve(items.len())?;
         self.extend_from_slice_reserved(items)
@@ -193,25 +197,29 @@ impl<T: Clone, A: Allocator, G: Growth> ThinVec<T, A, G> {
         ensures items { OnOk result
             (AppendsClones T.is_clone self.old.items self.new.items
             (slice_range self.old.items start end)) }
-        ensures items_if_clones_equal { OnOk result (ClonesEqual T.is_clone
-            → self.new.items ≡ self.old.items ++ slice_range self.old.items start end) }
         ensures cost { OnOk result (CostsMoves (end - start) self.old self.new) }
 
         // When it must succeed.
         ensures succeeds { HasRoomFor self.old (end - start)
             → All T.is_infallible (slice_range self.old.items start end) → IsOk result }
 
-        // On failure, the items are unchanged.
-        ensures err_items { OnErr result (self.new.items ≡ self.old.items) }
-        ensures err { All T.is_infallible (slice_range self.old.items start end)
-            → OnErr result (self.new ≡ self.old) }
-        ensures err_cost { OnErr result ((self.new ≡ self.old)
-            ⊎ CostsFailedClone T.is_infallible (slice_range self.old.items start end)
-            self.old self.new) }
+        // On failure, the list is unchanged, or an item could not be cloned after room was
+        // reserved.
+        ensures err { OnErr result ((self.new ≡ self.old)
+            ⊎ GrewForFailedClone (capacity_after_reserve G.rule T.row self.old (end - start))
+            T.is_infallible (slice_range self.old.items start end) self.old self.new) }
+        ensures overflow { OverflowsIff
+            (capacity_after_reserve G.rule T.row self.old (end - start)) result }
 
-        // In every case, the capacity changes as `reserve(end - start)` would change it.
-        ensures capacity { Reserves G.rule T.row (end - start) self.old self.new result }
-        ensures preserved { PreservesList T.row self.old self.new }
+        // In every case, the capacity changes as by `reserve(end - start)`, or not at all.
+        ensures grows { Grows G.rule T.row (end - start) self.old self.new result }
+
+        // These follow, for callers' proofs.
+        ensures items_if_clones_equal { OnOk result (ClonesEqual T.is_clone
+            → self.new.items ≡ self.old.items ++ slice_range self.old.items start end) }
+        ensures err_items { OnErr result (self.new.items ≡ self.old.items) }
+        ensures err_if_infallible { All T.is_infallible (slice_range self.old.items start end)
+            → OnErr result (self.new ≡ self.old) }
     {
         self.reserve(end - start)?;
         let len = self.len();

@@ -24,6 +24,8 @@ impl<T: Copy, A: Allocator, G: Growth> ThinVec<T, A, G> {
     pub fn extend_from_copies(&mut self, items: &[T]) -> Result<(), ThinVecError>
         // On success.
         ensures items { OnOk result (self.new.items ≡ self.old.items ++ items.now) }
+        ensures len { OnOk result
+            (length self.new.items ≡ length self.old.items + length items.now) }
         ensures cost { OnOk result (CostsMoves (length items.now) self.old self.new) }
 
         // When it must succeed.

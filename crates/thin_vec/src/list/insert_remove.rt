@@ -6,7 +6,7 @@ ghost use Rattle.std.specs.List.Retain.{PopsIf};
 ghost use types.Logic.{sem};
 ghost use Rattle.thin_block.specs.Cost.{add_moves};
 ghost use Rattle.thin_vec.specs.List.InsertRemove.{LendsAdded};
-ghost use Rattle.thin_vec.specs.List.Capacity.{CostsMoves, Grows, PreservesList, OverflowsIff, map_cause};
+ghost use Rattle.thin_vec.specs.List.Capacity.{CostsMoves, Grows, LacksRoom, PreservesList};
 
 use crate::errors::Rejected;
 use crate::list::ThinVec;
@@ -14,7 +14,7 @@ use std::alloc::Allocator;
 use thin_block::{Growth, ThinVecError};
 
 impl<T, A: Allocator, G: Growth> ThinVec<T, A, G> {
-    ghost use Rattle.thin_vec.specs.ThinVec.{HasRoomFor, IsBounded, capacity_after_reserve};
+    ghost use Rattle.thin_vec.specs.ThinVec.{HasRoomFor, IsBounded};
 
     /// Inserts `value` at `index`, which must be at most the length. The list then owns `value`.
     /// Each item from `index` onward is moved to the next higher index. If there is no spare
@@ -35,12 +35,13 @@ impl<T, A: Allocator, G: Growth> ThinVec<T, A, G> {
         // When it must succeed.
         ensures succeeds { HasRoomFor self.old 1 → IsOk result }
 
-        // On failure, the list is unchanged.
+        // On failure, there was no room, and the list is unchanged.
         ensures err { OnErr result (self.new ≡ self.old) }
         ensures value_returned { IfErr result (λ error. error.value ≡ value) }
+        ensures cause { IfErr result (λ error. LacksRoom G.rule T.row self.old 1 error.cause) }
 
-        // In every case, the capacity changes as by `reserve(1)`. `overflow` states the cause.
-        ensures grows { Grows G.rule T.row 1 self.old self.new (map_cause result) }
+        // In every case, the capacity changes as by `reserve(1)`.
+        ensures grows { Grows G.rule T.row 1 self.old self.new result }
     {
         if let Err(cause) = self.reserve(1) {
             return Err(Rejected { value, cause });
@@ -90,8 +91,7 @@ impl<T, A: Allocator, G: Growth> ThinVec<T, A, G> {
 
         // On failure.
         ensures value_returned { IfErr result (λ error. error.value ≡ value) }
-        ensures overflow { OverflowsIff (capacity_after_reserve G.rule T.row self.old 1)
-            (map_cause result) }
+        ensures cause { IfErr result (λ error. LacksRoom G.rule T.row self.old 1 error.cause) }
 
         // In every case.
         ensures bounds { IsBounded T.row self.old }
@@ -127,8 +127,7 @@ impl<T, A: Allocator, G: Growth> ThinVec<T, A, G> {
 
         // On failure.
         ensures value_returned { IfErr result (λ error. error.value ≡ value) }
-        ensures overflow { OverflowsIff (capacity_after_reserve G.rule T.row self.old 1)
-            (map_cause result) }
+        ensures cause { IfErr result (λ error. LacksRoom G.rule T.row self.old 1 error.cause) }
 
         // In every case.
         ensures bounds { IsBounded T.row self.old }

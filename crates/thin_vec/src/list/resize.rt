@@ -1,12 +1,12 @@
 //! The methods `resize` and `resize_with`, which change the length of a list.
 //!
-//! The clause `items_if_clones_equal` follows from `items`, and `err` follows from `err_cost`. With
-//! them, a caller needs no lemma about clones.
+//! The clause `items_if_clones_equal` follows from `items`, and `err_items` and `err_if_infallible`
+//! follow from `err`. With them, a caller needs no lemma about clones.
 ghost use Rattle.std.specs.Prelude.{◌≡◌, ◌⊎◌, ◌+◌, ◌-◌, ◌<◌, ◌≤◌, ◌++◌, IsOk, OnErr, OnOk, length, replicate, take};
 ghost use Rattle.std.specs.List.{AppendsResults};
 ghost use Rattle.thin_block.specs.Cost.{add_moves};
-ghost use Rattle.thin_vec.specs.List.Clones.{AppendsRepeats, CloneEquals, IsResized, CostsFailedClone};
-ghost use Rattle.thin_vec.specs.List.Capacity.{CostsMoves, PreservesList, Reserves};
+ghost use Rattle.thin_vec.specs.List.Clones.{AppendsRepeats, CloneEquals, GrewForFailedClone, IsResized};
+ghost use Rattle.thin_vec.specs.List.Capacity.{CostsMoves, Grows, OverflowsIff, PreservesList, Reserves};
 
 use crate::list::ThinVec;
 use crate::put::{put_repeated, put_results};
@@ -14,7 +14,7 @@ use std::alloc::Allocator;
 use thin_block::{Growth, ThinVecError};
 
 impl<T: Clone, A: Allocator, G: Growth> ThinVec<T, A, G> {
-    ghost use Rattle.thin_vec.specs.ThinVec.{HasRoomFor, IsBounded};
+    ghost use Rattle.thin_vec.specs.ThinVec.{HasRoomFor, IsBounded, capacity_after_reserve};
 
     /// Changes the length to `len`. If the list is longer, the items from index `len` onward are
     /// dropped. If the list is shorter, clones of `value` are appended, and then `value` itself as
@@ -28,9 +28,6 @@ impl<T: Clone, A: Allocator, G: Growth> ThinVec<T, A, G> {
     pub fn resize(&mut self, len: usize, value: T) -> Result<(), ThinVecError>
         // On success.
         ensures items { OnOk result (IsResized T.is_clone self.old.items len value self.new.items) }
-        ensures items_if_clones_equal { OnOk result (CloneEquals T.is_clone value
-            → self.new.items ≡ take len self.old.items ++ replicate
-            (len - length self.old.items) value) }
         ensures cost { OnOk result (CostsMoves (len - length self.old.items) self.old self.new) }
 
         // When it must succeed.
@@ -39,16 +36,26 @@ impl<T: Clone, A: Allocator, G: Growth> ThinVec<T, A, G> {
         ensures succeeds_by_one { len ≡ length self.old.items + 1 → HasRoomFor self.old 1
             → IsOk result }
 
-        // On failure, the items are unchanged.
-        ensures err_items { OnErr result (self.new.items ≡ self.old.items) }
-        ensures err { T.is_infallible value → OnErr result (self.new ≡ self.old) }
-        ensures err_cost { OnErr result ((self.new ≡ self.old) ⊎ CostsFailedClone T.is_infallible
-            (replicate (len - length self.old.items - 1) value) self.old self.new) }
+        // On failure, the list is unchanged, or `value` could not be cloned after room was
+        // reserved.
+        ensures err { OnErr result ((self.new ≡ self.old) ⊎ GrewForFailedClone
+            (capacity_after_reserve G.rule T.row self.old (len - length self.old.items))
+            T.is_infallible (replicate (len - length self.old.items - 1) value)
+            self.old self.new) }
+        ensures overflow { OverflowsIff
+            (capacity_after_reserve G.rule T.row self.old (len - length self.old.items)) result }
 
-        // In every case, the capacity changes as reserving room for the new items would change it.
-        ensures capacity { Reserves G.rule T.row (len - length self.old.items) self.old self.new
-            result }
-        ensures preserved { PreservesList T.row self.old self.new }
+        // In every case, the capacity changes as by reserving room for the new items, or not at
+        // all.
+        ensures grows { Grows G.rule T.row (len - length self.old.items) self.old self.new result }
+
+        // These follow, for callers' proofs.
+        ensures len { OnOk result (length self.new.items ≡ len) }
+        ensures items_if_clones_equal { OnOk result (CloneEquals T.is_clone value
+            → self.new.items ≡ take len self.old.items ++ replicate
+            (len - length self.old.items) value) }
+        ensures err_items { OnErr result (self.new.items ≡ self.old.items) }
+        ensures err_if_infallible { T.is_infallible value → OnErr result (self.new ≡ self.old) }
     {
         let old = self.len();
         if len <= old {

@@ -1,7 +1,9 @@
 -- If `undo` fails because the function `step` fails, then there was a change to undo. So the error
 -- is not `NothingToUndo`.
-use Rattle.std.proofs.Common.{ap, rules, ◌∙◌}
+use Rattle.std.proofs.Common.{◌≡◌, ap, length, List, rules, true, ◌∙◌}
+use Rattle.std.specs.Prelude.{◌==◌}
 use Rattle.text_editor.proofs.ChangesLemmas.{no_text}
+use Rattle.text_editor.specs.declared.change.Change.{Change}
 use Rattle.text_editor.specs.History.{History}
 use Rattle.text_editor.proofs.editor.Editor.undo.Goals as goal
 
@@ -10,6 +12,8 @@ returns-in_err-step-clause-nothing c =
     let inside = c.self.inside in
     let seen = ap (λ (h : History). h.past) c.self.view_is in (
       search rules,
-      λ none. cc (c.is_empty.ensures.value.1
-          (no_text inside.past.items inside.text.items (seen ∙ none))),
+      λ none.
+          let nothing = no_text inside.past.items inside.text.items (seen ∙ none) in
+          let empty : c.is_empty.result ≡ true =
+          c.is_empty.ensures ∙ ap (λ (changes : List Change). length changes == 0) nothing in cc,
     )

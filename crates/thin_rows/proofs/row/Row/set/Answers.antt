@@ -72,7 +72,7 @@ returns-in-Err-insert-clause-overflow g c =
     ] in
     failure_tells (ruled_of_same doubling _ _ (len c.args.self.now) row.capacity
     (len c.args.self.now + 1) (length row.items + 1) refl refl full (ap (λ k. k + 1) many))
-    c.in-Err-insert.ensures.grows.overflow
+    c.in-Err-insert.ensures.cause.1
 
 pub returns-in_default-clause-value : goal.returns-in_default-clause-value
 returns-in_default-clause-value g c =

@@ -8,10 +8,10 @@ use Rattle.std.specs.Prelude.{IfErr, OnOk}
 use denote.Param.{param}
 use Rattle.thin_vec.proofs.ThinVecLemmas.{cost_after_resize-blocks, cost_after_resize-copied}
 use Rattle.std.proofs.lemmas.Bool.{false≢true}
-use Rattle.thin_block.proofs.ResultLemmas.{err-same}
-use Rattle.thin_vec.specs.ThinVec.{HasRoomFor, capacity_after_reserve}
+use Rattle.thin_vec.specs.List.Capacity.{LacksRoom}
 use Rattle.std.proofs.Common.{inl, sym, Some, List, None, [], refl}
 use Rattle.thin_vec.proofs.list.ExtendLemmas.{full-in-hand, ruled-after, run_of_ok, adding-join, filled-reserved, loose-join, loose-le, loose-ruled, run_given, run_given_err}
+use Rattle.thin_vec.proofs.list.ReservesLemmas.{lacks-room}
 use Rattle.thin_vec.proofs.list.ThinVec.extend.Goals as goal
 
 pub returns-in-Ok-clause-capacity : goal.returns-in-Ok-clause-capacity
@@ -79,19 +79,16 @@ returns-in-Err-clause-capacity g c =
 pub returns-in-Err-clause-cause : goal.returns-in-Err-clause-cause
 returns-in-Err-clause-cause g c =
     let hint = c.size_hint.result.0 in let same = c.in-Err.ensures.err in
-    let overflow = c.in-Err.ensures.capacity.overflow in
-    let named = ap (λ v. capacity_after_reserve g.G.Growth.rule (param 0 g.row.T) v hint) same in
+    let rule = g.G.Growth.rule in let T = param 0 g.row.T in
     record {
       by_push = λ none. absurd (false≢true none);
       by_hint = λ _. (
         hint,
         c.size_hint.ensures.lower,
-        (λ room. false≢true
-            (c.in-Err.ensures.succeeds (subst (λ v. HasRoomFor v hint) same room))),
-        (
-          λ over. named ∙ overflow.0 (ap Err over),
-          λ none. err-same (overflow.1 (sym named ∙ none)),
-        ),
+        subst (λ v. LacksRoom rule T v hint c.in-Err.cause) (sym same)
+            (lacks-room T c.args.self.now rule hint c.in-Err.cause
+            (λ room. false≢true (c.in-Err.ensures.succeeds room))
+            c.in-Err.ensures.capacity.overflow),
       );
     }
 

@@ -1,10 +1,10 @@
 -- If all items of the range can be cloned, their clones are appended. If every clone equals its
 -- original, the appended items are the items of the range.
-use Rattle.std.proofs.Common.{◌++◌, ap, arith, length, subst, sym, take_all, ◌∙◌}
+use Rattle.std.proofs.Common.{◌++◌, ap, arith, inr, length, subst, sym, take_all, ◌∙◌}
 use Rattle.std.proofs.lemmas.List.Elements.{same_from_all_zip}
 use Rattle.std.specs.List.{AllZip}
-use Rattle.std.specs.Prelude.{All, slice_range}
-use Rattle.thin_vec.proofs.list.ClonesLemmas.{length-range, not-all}
+use Rattle.std.specs.Prelude.{All, HoldsAt, slice_range}
+use Rattle.thin_vec.proofs.list.ClonesLemmas.{cut-back, grew, length-range, not-all}
 use Rattle.thin_vec.proofs.list.ThinVec.extend_from_within.Goals.{After-truncate}
 use Rattle.thin_vec.proofs.list.ThinVec.extend_from_within.Goals as goal
 
@@ -32,7 +32,32 @@ returns-then-push_clones_within-end-clause-succeeds g c = λ _ all. absurd (fail
 
 pub returns-then-push_clones_within-end-clause-err :
     goal.returns-then-push_clones_within-end-clause-err
-returns-then-push_clones_within-end-clause-err g c = λ all. absurd (fails g c all)
+returns-then-push_clones_within-end-clause-err g c =
+    let v = c.args.self.now in
+    let range = slice_range v.items c.args.start c.args.end in
+    let placed = c.push_clones_within in
+    let less = c.if-push_clones_within-end.true in
+    inr (grew g.T.Clone.is_infallible range v c.reserve.new.self c.truncate.new.self
+    c.in_ok-reserve.ensures.capacity.ok c.reserve.ensures.items c.in_ok-reserve.ensures.cost
+    (ap (λ z. z.capacity) c.truncate.ensures.changes ∙ ap (λ z. z.capacity) placed.ensures.changes)
+    (cut-back c.reserve.new.self.items placed.ensures.items.0 c.truncate.ensures.items
+    placed.ensures.items.1 c.len-len.ensures.value) (record {
+      at = placed.result;
+      in_bounds = omega (
+        arith,
+        less,
+        length-range v.items c.args.start c.args.end c.requires.in_bounds,
+      );
+      fallible = subst (λ l. HoldsAt (λ x. ¬ (g.T.Clone.is_infallible x))
+          (slice_range l c.args.start c.args.end) placed.result) c.reserve.ensures.items
+          (placed.ensures.stopped_at less);
+      cost = ap (λ z. z.cost) c.truncate.ensures.changes
+          ∙ ap (λ z. z.cost) placed.ensures.changes;
+    }))
+
+pub returns-then-push_clones_within-end-clause-err_if_infallible :
+    goal.returns-then-push_clones_within-end-clause-err_if_infallible
+returns-then-push_clones_within-end-clause-err_if_infallible g c = λ all. absurd (fails g c all)
 
 pub returns-clause-items : goal.returns-clause-items
 returns-clause-items g c =

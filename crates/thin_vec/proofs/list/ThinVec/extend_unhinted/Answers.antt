@@ -1,19 +1,19 @@
 -- In each iteration of the loop, `fill_spare` moves items of the iterator into the empty slots of
 -- the list. If the iterator has not ended, one more item is pushed.
-use Rattle.std.proofs.Common.{◌≡◌, Err, ◌++◌, ◌∷◌, [], ◌+◌, ◌-◌, ◌≤◌, ◌∙◌, ap, arith, append_assoc, length, length-append, refl, subst, sym, inr}
+use Rattle.std.proofs.Common.{◌≡◌, ◌++◌, ◌∷◌, [], ◌+◌, ◌-◌, ◌≤◌, ◌∙◌, ap, arith, append_assoc, length, length-append, refl, subst, sym, inr}
 use Rattle.std.proofs.lemmas.List.{length_push}
 use Rattle.std.specs.Iterator.{Yields}
 use denote.Param.{param}
 use Rattle.thin_block.specs.Cost.{add_moves}
-use Rattle.thin_vec.specs.List.Capacity.{PreservesList}
+use Rattle.thin_vec.specs.Cheap.{IsCheap}
+use Rattle.thin_vec.specs.List.Capacity.{LacksRoom, PreservesList}
 use Rattle.thin_vec.specs.List.Extend.{CostsInserting, IsKeptOrChosen, IsKeptOrGrown}
 use Rattle.thin_vec.specs.Put.{YieldsThenMayEnd}
-use Rattle.thin_vec.specs.ThinVec.{capacity_after_reserve}
 use Rattle.thin_vec.proofs.list.ExtendLemmas.{ruled-more, filled-at, adding-join, filled-spare, loose-join, loose-le, loose-ruled, spare-kept, yields-join, yields-more}
-use Rattle.thin_vec.proofs.CallerLemmas.{grows-preserved}
+use Rattle.thin_vec.proofs.CallerLemmas.{grows-cheap, grows-preserved}
 use Rattle.thin_vec.proofs.list.ReservesLemmas.{keeps-join}
 use Rattle.thin_vec.proofs.ThinVecLemmas.{cost_after_resize-blocks, cost_after_resize-copied}
-use Rattle.thin_block.proofs.ResultLemmas.{err-same, none-some}
+use Rattle.thin_block.proofs.ResultLemmas.{none-some}
 use Rattle.thin_vec.proofs.list.ThinVec.extend_unhinted.Goals.{After-fill_spare-left, Else-ended}
 use Rattle.thin_vec.proofs.list.ThinVec.extend_unhinted.Goals as goal
 
@@ -205,7 +205,7 @@ loop-rest-preserved g c =
         pushed.grows.ok,
       );
       alloc = pushed.grows.alloc ∙ (ap (λ y. y.alloc) (changed g filled) ∙ held.alloc);
-      cheap = λ first. pushed.grows.cheap
+      cheap = λ first. grows-cheap law _ 1 pushed.grows pushed.cost pushed.err
           (c.fill_spare-left.ensures.cheap (held.cheap first));
     }
 
@@ -281,14 +281,10 @@ returns-in-Err-clause-at_least g c =
 
 pub returns-in-Err-clause-cause : goal.returns-in-Err-clause-cause
 returns-in-Err-clause-cause g c =
-    let same = ap (λ v. capacity_after_reserve g.G.Growth.rule (param 0 g.row.T) v 1)
-    c.in-Err.ensures.err in
-    let overflow = c.in-Err.ensures.grows.overflow in
     record {
-      by_push = λ _. (
-        λ over. same ∙ overflow.0 (ap Err over),
-        λ none. err-same (overflow.1 (sym same ∙ none)),
-      );
+      by_push = λ _. subst
+          (λ v. LacksRoom g.G.Growth.rule (param 0 g.row.T) v 1 c.in-Err.refused.cause)
+          (sym c.in-Err.ensures.err) c.in-Err.ensures.cause;
       by_hint = λ none. absurd (none-some none refl);
     }
 
@@ -313,7 +309,8 @@ returns-in_default-clause-preserved g c =
 pub returns-in-Err-clause-preserved : goal.returns-in-Err-clause-preserved
 returns-in-Err-clause-preserved g c =
     keeps-join (kept g (goal.at.returns-in-Err-clause-preserved g c).After-fill_spare-left)
-    (grows-preserved c.in-Err.ensures.grows)
+    (grows-preserved c.in-Err.ensures.grows
+    (λ cheap. subst IsCheap (sym c.in-Err.ensures.err) cheap))
 
 pub returns-in-Err-clause-err_full : goal.returns-in-Err-clause-err_full
 returns-in-Err-clause-err_full g c =

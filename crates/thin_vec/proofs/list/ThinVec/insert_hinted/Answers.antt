@@ -1,13 +1,13 @@
 -- `open_with_gap` makes a gap of empty slots at index `at`. The number of these slots is the lower
 -- bound of the iterator's size hint. Then `fill` fills the gap with items of the iterator.
-use Rattle.std.proofs.Common.{Err, Some, ◌≡◌, ◌+◌, ◌-◌, ◌*◌, ◌≤◌, ◌++◌, ◌∙◌, ap, arith, drop, length, refl, subst, sym, take}
+use Rattle.std.proofs.Common.{Some, ◌≡◌, ◌+◌, ◌-◌, ◌*◌, ◌≤◌, ◌++◌, ◌∙◌, ap, arith, drop, length, refl, subst, sym, take}
 use Rattle.std.proofs.lemmas.Bool.{false≢true}
 use Rattle.std.proofs.lemmas.List.{length-drop, length-take-le}
 use denote.Param.{param}
-use Rattle.thin_block.proofs.ResultLemmas.{err-same}
 use Rattle.thin_vec.specs.Edits.Finish.{AddsFromIter}
-use Rattle.thin_vec.specs.ThinVec.{HasRoomFor, capacity_after_reserve}
+use Rattle.thin_vec.specs.List.Capacity.{LacksRoom}
 use Rattle.thin_vec.proofs.edits.SpliceLemmas.{blocks-if, run-moves, taken-join, taken-none, taken-reserved}
+use Rattle.thin_vec.proofs.list.ReservesLemmas.{lacks-room}
 use Rattle.thin_vec.proofs.edits.FinishLemmas.{FillsGap, IsWide, gap-filled, wide-taken}
 use Rattle.thin_vec.proofs.list.ThinVec.insert_hinted.Goals.{After-close}
 use Rattle.thin_vec.proofs.list.ThinVec.insert_hinted.Goals as goal
@@ -135,16 +135,13 @@ returns-in-Err-clause-succeeds g c = λ none.
 pub returns-in-Err-clause-cause : goal.returns-in-Err-clause-cause
 returns-in-Err-clause-cause g c =
     let hint = c.size_hint-hint.result.0 in let same = c.in-Err.ensures.err in
-    let overflow = c.in-Err.ensures.capacity.overflow in
-    let named = ap (λ z. capacity_after_reserve g.G.Growth.rule (param 0 g.row.T) z hint) same in (
+    let rule = g.G.Growth.rule in let T = param 0 g.row.T in (
       hint,
       c.size_hint-hint.ensures.lower,
-      (λ room. false≢true
-          (c.in-Err.ensures.succeeds (subst (λ z. HasRoomFor z hint) same room))),
-      (
-        λ over. named ∙ overflow.0 (ap Err over),
-        λ none. err-same (overflow.1 (sym named ∙ none)),
-      ),
+      subst (λ z. LacksRoom rule T z hint c.in-Err.cause) (sym same)
+          (lacks-room T c.args.self.now rule hint c.in-Err.cause
+          (λ room. false≢true (c.in-Err.ensures.succeeds room))
+          c.in-Err.ensures.capacity.overflow),
     )
 
 pub returns-in-Err-clause-err : goal.returns-in-Err-clause-err

@@ -2,9 +2,8 @@
 use Rattle.std.proofs.Common.{◌≡◌, ap, arith, drop, get_or, length, refl, take, ◌∙◌}
 use Rattle.std.proofs.lemmas.List.{get_or_at, length-take-le, set_at}
 use lib.ListN.{length-set, set}
-use Rattle.thin_vec.proofs.CallerLemmas.{grows-bounded, grows-was_bounded}
+use Rattle.thin_vec.proofs.CallerLemmas.{grows-bounded, grows-cheap, grows-was_bounded}
 use Rattle.thin_vec.proofs.ThinVecLemmas.{within-like}
-use Rattle.thin_vec.proofs.list.ReservesLemmas.{tells-ok}
 use Rattle.thin_vec.proofs.list.ThinVec.insert_mut.Goals as goal
 
 pub returns : goal.returns
@@ -24,7 +23,8 @@ returns g c =
           capacity = c.in_ok-insert.ensures.grows.ok;
           alloc = c.insert.ensures.grows.alloc;
           cost = c.in_ok-insert.ensures.cost;
-          cheap = c.insert.ensures.grows.cheap;
+          cheap = grows-cheap g.met.G.Growth.law _ _ c.insert.ensures.grows c.insert.ensures.cost
+              c.insert.ensures.err;
           within = within-like _ _ new within refl
               (omega (arith, length-set new.items i w, within.room));
         },
@@ -35,7 +35,7 @@ returns g c =
         value = c.index_mut.ensures.value
             ∙ (ap (λ l. get_or l i y) put ∙ get_or_at (take i xs) v (drop i xs) y i at);
         succeeds = λ _. refl;
-        overflow = tells-ok _ _ _ c.in_ok-insert.ensures.grows.ok;
+        cause = tt;
         value_returned = tt;
         bounds = grows-was_bounded c.insert.ensures.grows;
       },

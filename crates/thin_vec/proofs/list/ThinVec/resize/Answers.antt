@@ -1,15 +1,24 @@
 -- If `len` is at most the old length, `truncate` keeps the first `len` items. Otherwise `reserve`
 -- makes room, and clones of `value` and finally `value` itself are appended.
 use Rattle.std.proofs.lemmas.Grind.{common_steps}
-use Rattle.std.proofs.Common.{◌≡◌, ◌-◌, [], ◌∷◌, ◌++◌, Err, Ok, ap, append_assoc, arith, length, length-append, refl, replicate, subst, sym, take, take_all, ◌∙◌}
-use Rattle.std.proofs.lemmas.List.{length_push}
+use Rattle.std.proofs.Common.{◌≡◌, ◌-◌, [], ◌∷◌, ◌++◌, Err, Ok, Some, ap, append_assoc, arith, inr, length, length-append, refl, replicate, subst, sym, take, take_all, ◌∙◌, ℕ}
+use Rattle.std.proofs.lemmas.List.{get_or-replicate, length-replicate, length_push}
 use denote.Param.{param}
 use Rattle.thin_block.specs.declared.errors.ThinVecError.TheVariants.{OutOfMemory}
-use Rattle.thin_vec.specs.ThinVec.{capacity_after_reserve}
+use Rattle.std.specs.Borrow.{RattleType}
+use Rattle.thin_block.specs.Growth.{GrowthRule}
+use Rattle.thin_vec.specs.ThinVec.{ListView, capacity_after_reserve}
 use Rattle.thin_vec.specs.List.Capacity.{Reserves}
-use Rattle.thin_vec.proofs.list.ClonesLemmas.{equal-repeated}
-use Rattle.thin_vec.proofs.list.ReservesLemmas.{keeps-join, keeps-kept, reserves-room, reserves-then}
+use Rattle.thin_vec.proofs.list.ClonesLemmas.{cut-back, equal-repeated, grew}
+use Rattle.thin_vec.proofs.list.ReservesLemmas.{grows-room, tells-ok, tells-then}
 use Rattle.thin_vec.proofs.list.ThinVec.resize.Goals as goal
+
+-- `reserve` gave the list the capacity `c`, which the growth rule chose.
+reserved : {T A : Type 0} (rule : GrowthRule) (R : RattleType) (v : ListView T A) (len : ℕ) {old c : ℕ}
+    → old ≡ length v.items → capacity_after_reserve rule R v (len - old) ≡ Some c
+    → capacity_after_reserve rule R v (len - length v.items) ≡ Some c
+reserved rule R v len same named =
+    ap (λ n. capacity_after_reserve rule R v (len - n)) (sym same) ∙ named
 
 pub returns-clause-items : goal.returns-clause-items
 returns-clause-items g c =
@@ -80,45 +89,59 @@ returns-in_err-reserve-clause-items_if_clones_equal g c = search (arith, ◌∙�
 pub returns-then-len-old-clause-items : goal.returns-then-len-old-clause-items
 returns-then-len-old-clause-items g c = grind (arith, common_steps)
 
-pub returns-then-len-old-clause-capacity : goal.returns-then-len-old-clause-capacity
-returns-then-len-old-clause-capacity g c =
-    reserves-room _ c.args.self.now g.G.Growth.rule _ _
+pub returns-then-len-old-clause-grows : goal.returns-then-len-old-clause-grows
+returns-then-len-old-clause-grows g c =
+    grows-room _ c.args.self.now g.G.Growth.rule _ _
     (omega (arith, c.len-old.ensures.value, c.if-len-old.true, c.len-old.ensures.bounds.room))
-    (ap (λ v. v.capacity) c.truncate.ensures.changes)
+    (ap (λ v. v.alloc) c.truncate.ensures.changes)
+    (ap (λ v. v.capacity) c.truncate.ensures.changes) c.truncate.ensures.bounds
 
-pub returns-in_err-reserve-clause-capacity : goal.returns-in_err-reserve-clause-capacity
-returns-in_err-reserve-clause-capacity g c =
-    subst (λ n. Reserves g.G.Growth.rule (param 0 g.row.T) (c.args.len - n) c.args.self.now
-    c.reserve.new.self c.from_residual.result) c.len-old.ensures.value (search (arith, ◌∙◌))
+pub returns-then-len-old-clause-overflow : goal.returns-then-len-old-clause-overflow
+returns-then-len-old-clause-overflow g c =
+    tells-ok _ _ _ (returns-then-len-old-clause-grows g c).ok
 
-pub returns-then-push_repeated_reserved-count-clause-capacity : goal.returns-then-push_repeated_reserved-count-clause-capacity
-returns-then-push_repeated_reserved-count-clause-capacity g c =
-    let rule = g.G.Growth.rule in let T = param 0 g.row.T in let v = c.args.self.now in
-    let len = sym c.len-old.ensures.value in
-    reserves-then _ v rule T (c.args.len - c.len-old.result) _ c.reserve.new.self _ (Err OutOfMemory)
-    (ap (λ n. c.args.len - n) len)
-    (ap (λ n. capacity_after_reserve rule T v (c.args.len - n)) len)
-    (ap (λ z. z.capacity) c.truncate-then-push_repeated_reserved-count.ensures.changes
-    ∙ ap (λ z. z.capacity) c.push_repeated_reserved.ensures.changes)
-    c.in_ok-reserve.ensures.capacity refl
+pub returns-in_err-reserve-clause-overflow : goal.returns-in_err-reserve-clause-overflow
+returns-in_err-reserve-clause-overflow g c =
+    let refused = subst (λ n. Reserves g.G.Growth.rule (param 0 g.row.T) (c.args.len - n)
+    c.args.self.now c.reserve.new.self c.from_residual.result) c.len-old.ensures.value
+    (search (arith, ◌∙◌)) in
+    record { overflow = refused.overflow }
 
-pub returns-clause-capacity : goal.returns-clause-capacity
-returns-clause-capacity g c =
-    let rule = g.G.Growth.rule in let T = param 0 g.row.T in let v = c.args.self.now in
-    let len = sym c.len-old.ensures.value in
-    reserves-then _ v rule T (c.args.len - c.len-old.result) _ c.reserve.new.self _ (Ok tt)
-    (ap (λ n. c.args.len - n) len)
-    (ap (λ n. capacity_after_reserve rule T v (c.args.len - n)) len)
-    (c.push_reserved.ensures.capacity ∙ ap (λ z. z.capacity) c.push_repeated_reserved.ensures.changes)
-    c.in_ok-reserve.ensures.capacity tt
+pub returns-then-push_repeated_reserved-count-clause-err :
+    goal.returns-then-push_repeated_reserved-count-clause-err
+returns-then-push_repeated_reserved-count-clause-err g c =
+    let v = c.args.self.now in
+    let named = reserved g.G.Growth.rule (param 0 g.row.T) v c.args.len c.len-old.ensures.value
+    c.in_ok-reserve.ensures.capacity.ok in
+    let w = c.truncate-then-push_repeated_reserved-count in
+    let placed = c.push_repeated_reserved in
+    inr (grew g.T.Clone.is_infallible (replicate (c.args.len - length v.items - 1) c.args.value)
+    v c.reserve.new.self w.new.self named c.reserve.ensures.items c.in_ok-reserve.ensures.cost
+    (ap (λ z. z.capacity) w.ensures.changes ∙ ap (λ z. z.capacity) placed.ensures.changes)
+    (cut-back c.reserve.new.self.items placed.ensures.items.copies w.ensures.items
+    placed.ensures.items.items
+    (c.len-old.ensures.value ∙ ap length (sym c.reserve.ensures.items))) (record {
+      at = placed.result;
+      in_bounds = omega (
+        arith,
+        c.if-push_repeated_reserved-count.true,
+        c.len-old.ensures.value,
+        length-replicate (c.args.len - length v.items - 1) c.args.value,
+      );
+      fallible = λ d. subst (λ x. ¬ (g.T.Clone.is_infallible x))
+          (sym (get_or-replicate (c.args.len - length v.items - 1) placed.result c.args.value d
+          (omega (arith, c.if-push_repeated_reserved-count.true, c.len-old.ensures.value))))
+          (placed.ensures.stopped_at c.if-push_repeated_reserved-count.true);
+      cost = ap (λ z. z.cost) w.ensures.changes ∙ ap (λ z. z.cost) placed.ensures.changes;
+    }))
 
-pub returns-clause-preserved : goal.returns-clause-preserved
-returns-clause-preserved g c =
-    let changes = c.push_repeated_reserved.ensures.changes in
-    keeps-join c.reserve.ensures.preserved
-    (keeps-join
-    (keeps-kept (param 0 g.row.T) c.reserve.new.self c.push_repeated_reserved.new.self
-    (ap (λ z. z.alloc) changes) (ap (λ z. z.capacity) changes)
-    (ap (λ z. z.cost.blocks) changes, ap (λ z. z.cost.grown) changes)
-    c.push_repeated_reserved.ensures.bounds)
-    c.push_reserved.ensures.preserved)
+pub returns-then-push_repeated_reserved-count-clause-overflow :
+    goal.returns-then-push_repeated_reserved-count-clause-overflow
+returns-then-push_repeated_reserved-count-clause-overflow g c =
+    tells-then _ _ (Err OutOfMemory) (reserved g.G.Growth.rule (param 0 g.row.T) c.args.self.now
+    c.args.len c.len-old.ensures.value c.in_ok-reserve.ensures.capacity.ok) refl
+
+pub returns-clause-overflow : goal.returns-clause-overflow
+returns-clause-overflow g c =
+    tells-then _ _ (Ok tt) (reserved g.G.Growth.rule (param 0 g.row.T) c.args.self.now
+    c.args.len c.len-old.ensures.value c.in_ok-reserve.ensures.capacity.ok) tt

@@ -10,7 +10,9 @@ use Rattle.thin_block.specs.Slots.{items_in}
 use Rattle.thin_vec.proofs.list.AppendSplitLemmas.{restores-more}
 use Rattle.thin_vec.proofs.ListLemmas.{RestoresInvariant}
 use Rattle.thin_vec.proofs.list.ReservesLemmas.{keeps-join, keeps-settled, reserves-room, reserves-then}
+use Rattle.thin_vec.specs.ThinVec.{fits_allocatable}
 use Rattle.thin_vec.proofs.list.ThinVec.resize_with.Goals.{After-set_len}
+use Rattle.thin_vec.specs.ThinVec.{fits_allocatable}
 use Rattle.thin_vec.proofs.list.ThinVec.resize_with.Goals as goal
 
 pub returns-then-len-old-clause-capacity : goal.returns-then-len-old-clause-capacity
@@ -101,7 +103,8 @@ returns-clause-preserved g c =
     let kept = c.reserve.ensures.preserved in
     keeps-join kept
     (keeps-settled T c.reserve.new.self c.self.invariant c.self.view_is
-    (subst (λ n. Fits T n) (sym (ap (λ z. z.capacity) c.self.view_is)) kept.within.1.fits)
+    (subst (λ n. Fits T n) (sym (ap (λ z. z.capacity) c.self.view_is))
+    (fits_allocatable T c.reserve.new.self.capacity kept.within.1.allocatable))
     (facts g c)
     (ap (λ z. z.cost) c.set_len.ensures.changes ∙ ap (λ z. z.cost) c.put_results.ensures.changes)
     (refl, refl))

@@ -4,8 +4,9 @@ use denote.Param.{param}
 use Rattle.thin_block.proofs.CapacityLemmas.{fits-less}
 use Rattle.thin_block.specs.Slots.{items_in}
 use Rattle.thin_vec.proofs.ListLemmas.{RestoresInvariant}
-use Rattle.thin_vec.proofs.ThinVecLemmas.{within-settled}
+use Rattle.thin_vec.proofs.ThinVecLemmas.{within-none, within-settled}
 use Rattle.thin_vec.proofs.list.CapacityLemmas.{restores-shrink}
+use Rattle.thin_vec.specs.ThinVec.{fits_allocatable}
 use Rattle.thin_vec.proofs.list.ThinVec.shrink_to.Goals as goal
 
 facts : (g : _) (c : goal.In_ok-shrink g) → RestoresInvariant c.shrink.new.self c.self.inside.alloc
@@ -32,11 +33,15 @@ invariant_of-self-2 g c = (facts g c).thin
 pub returns-clause-items : goal.returns-clause-items
 returns-clause-items g c = (facts g c).items ∙ ap (λ v. v.items) c.self.view_is
 
+pub returns-then-wanted-eq0-clause-bounds : goal.returns-then-wanted-eq0-clause-bounds
+returns-then-wanted-eq0-clause-bounds g c =
+    (c.len.ensures.bounds, within-none _ _ (search (arith, ◌∙◌)) (search (arith, ◌∙◌)))
+
 pub returns-clause-bounds : goal.returns-clause-bounds
 returns-clause-bounds g c =
     let before = c.len.ensures.bounds in (
       before,
       within-settled _ _ _ _ _
-          (fits-less (param 0 g.row.T) _ _ before.fits
+          (fits-less (param 0 g.row.T) _ _ (fits_allocatable (param 0 g.row.T) c.args.self.now.capacity before.allocatable)
           (omega (arith, c.if-wanted-capacity.false, c.capacity.ensures.value))) (facts g c),
     )

@@ -80,6 +80,11 @@ invariant_of-self g c = (facts g c).thin
 pub returns-clause-items : goal.returns-clause-items
 returns-clause-items g c = (facts g c).items
 
+pub returns-then-len-old-clause-bounds : goal.returns-then-len-old-clause-bounds
+returns-then-len-old-clause-bounds g c =
+    let same = within-of _ _ _ _ c.self.invariant c.self.view_is c.len-old.ensures.bounds in
+    (same, same)
+
 pub returns-clause-bounds : goal.returns-clause-bounds
 returns-clause-bounds g c =
     let before = within-of _ _ _ _ c.self.invariant c.self.view_is c.len-old.ensures.bounds in (

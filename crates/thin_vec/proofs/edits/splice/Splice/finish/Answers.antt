@@ -4,8 +4,8 @@ use denote.Param.{param}
 use Rattle.thin_vec.specs.Edits.Finish.{FinishesSplice}
 use Rattle.thin_vec.specs.Open.{tail_end}
 use Rattle.thin_vec.specs.Edits.Splice.{HasSlotsFor, left_by_splice, splice_front, splice_iter, splice_list, splice_tail}
+use Rattle.thin_vec.proofs.ThinVecLemmas.{allocatable-less}
 use Rattle.thin_vec.proofs.list.ExtendLemmas.{loose-le, run_of_ok}
-use Rattle.thin_block.proofs.CapacityLemmas.{fits-less}
 use Rattle.thin_vec.proofs.edits.SpliceLemmas.{if-err}
 use Rattle.thin_vec.proofs.edits.splice.Splice.finish.Goals.{else-has_tail, then-has_tail}
 use Rattle.thin_vec.proofs.edits.splice.Splice.finish.Goals as goal
@@ -79,7 +79,7 @@ returns g c =
           record {
             room = omega (arith, room);
             small = omega (arith, within.small, le);
-            fits = fits-less T v.capacity w.capacity within.fits le;
+            allocatable = allocatable-less T v.capacity w.capacity within.allocatable le;
           },
           within,
         );

@@ -7,13 +7,14 @@ pub returns-in-Ok : goal.returns-in-Ok
 returns-in-Ok g c =
     let e = c.in-Ok.ensures in
     record {
-      cases = (
-        e.items,
-        sym (length_all_zip g.T.Clone.is_clone c.args.self.now.items c.in-Ok.other.items e.items),
-        e.capacity,
-        e.new.alloc ∙ c.allocator.ensures.value,
-        e.cost,
-        e.new.cheap,
-        e.new.within.small,
-      );
+      cases = record {
+        items = e.items;
+        len = sym (length_all_zip g.T.Clone.is_clone c.args.self.now.items c.in-Ok.other.items
+            e.items);
+        capacity = e.capacity;
+        alloc = e.new.alloc ∙ c.allocator.ensures.value;
+        cost = e.cost;
+        cheap = e.new.cheap;
+        small = e.new.within.small;
+      };
     }
