@@ -111,7 +111,7 @@ impl<T, F: FnMut(&mut T, &mut T) -> bool> PairTest<T> for SameBy<F> {
     ghost ready = { λ s. F.IsAlwaysCallable s.same };
 
     fn test(&mut self, later: &mut T, kept: &mut T) -> bool {
-        (self.same)(later, kept)
+        !(self.same)(later, kept)
     }
 }
 
@@ -124,7 +124,7 @@ impl<T, K: PartialEq + Drop, F: FnMut(&mut T) -> K> PairTest<T> for SameKey<F> {
 
     fn test(&mut self, later: &mut T, kept: &mut T) -> bool {
         let key = (self.key)(later);
-        key == (self.key)(kept)
+        !(key == (self.key)(kept))
     }
 }
 
@@ -137,6 +137,6 @@ impl<T: PartialEq> PairTest<T> for SameItem {
     ghost ready = { λ s. ⊤ };
 
     fn test(&mut self, later: &mut T, kept: &mut T) -> bool {
-        *later == *kept
+        !(*later == *kept)
     }
 }

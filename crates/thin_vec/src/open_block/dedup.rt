@@ -1,6 +1,6 @@
 //! Functions that keep the first item of a range, and test each other item against the last item
 //! that was kept before it.
-ghost use Rattle.std.specs.Prelude.{◌≡◌, ◌+◌, ◌-◌, ◌<◌, ◌∷◌, ◌++◌, [], Bool, length};
+ghost use Rattle.std.specs.Prelude.{◌≡◌, ◌+◌, ◌-◌, ◌<◌, ◌∷◌, ◌++◌, [], Bool, length, not};
 ghost use Rattle.thin_block.specs.Cost.{add_moves};
 
 use crate::open_block::OpenBlock;
@@ -12,19 +12,20 @@ use thin_block::item_size;
 const LARGE: usize = 128;
 
 /// A test of an item against the last kept item before it. It decides whether the item is to be
-/// removed, and may write to both items.
+/// kept, and may write to both items.
 pub(crate) trait PairTest<T> {
-    /// `tests s x k b t y l` holds if one test of the item `x` against the kept item `k` may return
-    /// `b`, and change the state of the test from `s` to `t`, `x` to `y`, and `k` to `l`.
+    /// `tests s x k b t y l` holds if one test of the item `x` against the kept item `k` may change
+    /// the state of the test from `s` to `t`, `x` to `y`, and `k` to `l`. `b` is true if the test
+    /// found a duplicate, and so is not to be kept.
     ghost tests: { Self → T → T → Bool → Self → T → T → Type 0 };
 
     /// `ready s` holds if the test can be called in the state `s` with any two items.
     ghost ready: { Self → Type 0 };
 
-    /// Returns whether the item `later` is to be removed.
+    /// Returns whether the item `later` is to be kept.
     fn test(&mut self, later: &mut T, kept: &mut T) -> bool
         requires callable { ready self.old }
-        ensures tested { tests self.old later.old kept.old result self.new later.new kept.new }
+        ensures tested { tests self.old later.old kept.old (not result) self.new later.new kept.new }
         ensures callable { ready self.new };
 }
 
@@ -36,7 +37,7 @@ impl<T, A: Allocator> OpenBlock<T, A> {
         requires nonzero { 0 < k }
         requires in_bounds { k < length self.old.rest }
         requires callable { J.ready test.old }
-        ensures tested { TestsPairAt J.tests k test.old self.old.rest result test.new
+        ensures tested { TestsPairAt J.tests k test.old self.old.rest (not result) test.new
             self.new.rest }
         ensures callable { J.ready test.new }
         ensures changes { self.new ≡ record self.old { rest = self.new.rest } }
@@ -50,7 +51,7 @@ impl<T, A: Allocator> OpenBlock<T, A> {
     pub(crate) fn test_last<J: PairTest<T>>(&mut self, later: &mut T, test: &mut J) -> bool
         requires nonempty { 0 < length self.old.front }
         requires callable { J.ready test.old }
-        ensures tested { TestsLast J.tests test.old later.old self.old.front result test.new
+        ensures tested { TestsLast J.tests test.old later.old self.old.front (not result) test.new
             later.new self.new.front }
         ensures callable { J.ready test.new }
         ensures changes { self.new ≡ record self.old { front = self.new.front } }
@@ -62,7 +63,7 @@ impl<T, A: Allocator> OpenBlock<T, A> {
     pub(crate) fn test_next<J: PairTest<T>>(&mut self, kept: &mut T, test: &mut J) -> bool
         requires nonempty { 0 < length self.old.rest }
         requires callable { J.ready test.old }
-        ensures tested { TestsNext J.tests test.old kept.old self.old.rest result test.new
+        ensures tested { TestsNext J.tests test.old kept.old self.old.rest (not result) test.new
             kept.new self.new.rest }
         ensures callable { J.ready test.new }
         ensures changes { self.new ≡ record self.old { rest = self.new.rest } }
@@ -87,7 +88,7 @@ impl<T, A: Allocator> OpenBlock<T, A> {
     {
         let mut kept = 1;
         while kept < self.rest_len() {
-            if self.test_pair(kept, test) {
+            if !self.test_pair(kept, test) {
                 return kept;
             }
             kept += 1;
@@ -138,7 +139,7 @@ impl<T: Drop, A: Allocator> OpenBlock<T, A> {
         ensures callable { J.ready test.new }
     {
         let mut later = self.take_first();
-        if self.test_last(&mut later, test) {
+        if !self.test_last(&mut later, test) {
             drop(later);
             return;
         }
@@ -146,9 +147,9 @@ impl<T: Drop, A: Allocator> OpenBlock<T, A> {
             self.append_to_front(later);
             return;
         }
-        let goes = self.test_next(&mut later, test);
+        let stays = self.test_next(&mut later, test);
         self.append_to_front(later);
-        if goes {
+        if !stays {
             drop(self.take_first());
             return;
         }

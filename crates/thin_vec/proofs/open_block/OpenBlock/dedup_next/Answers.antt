@@ -1,7 +1,8 @@
 -- The clause `deduped` holds in each of five cases: the first item is removed, it is kept alone
 -- (since the items are small, or no item follows it), or it is kept and the items are large. Then
 -- the second item is removed, a later item is removed, or no item is removed.
-use Rattle.std.proofs.Common.{◌≡◌, ◌∷◌, [], ap, false, refl, sym, ◌∙◌, arith, rules}
+use Rattle.std.specs.Prelude.{not}
+use Rattle.std.proofs.Common.{◌≡◌, ◌∷◌, [], ap, false, refl, sym, true, ◌∙◌, arith, rules}
 use Rattle.std.proofs.lemmas.List.{append-nil, nil_from_length}
 use Rattle.thin_vec.proofs.edits.DedupLemmas.{dedups-goes, dedups-run, dedups-stays, dedups-two}
 use Rattle.thin_vec.proofs.open_block.PairTestLemmas.{run-count, run-ends, run-goes}
@@ -9,8 +10,9 @@ use Rattle.std.proofs.lemmas.Grind.{common_steps}
 use Rattle.thin_vec.proofs.open_block.OpenBlock.dedup_next.Goals as goal
 
 -- The first item is removed.
-pub returns-then-test_last-clause-deduped : goal.returns-then-test_last-clause-deduped
-returns-then-test_last-clause-deduped g c =
+pub returns-then-not-test_last-clause-deduped : goal.returns-then-not-test_last-clause-deduped
+returns-then-not-test_last-clause-deduped g c =
+    let goes : not c.test_last.result ≡ true = ap not c.if-not-test_last.true in
     dedups-goes g.J.PairTest.tests c.args.self.now c.test_last.new.self
     c.take_first-later.result c.test_last.new.later c.test_last.new.self.front
     (search rules) (search rules) (search rules) (search rules)
@@ -19,37 +21,40 @@ returns-then-test_last-clause-deduped g c =
 pub returns-then-item_size-lt-LARGE-clause-deduped :
     goal.returns-then-item_size-lt-LARGE-clause-deduped
 returns-then-item_size-lt-LARGE-clause-deduped g c =
+    let stays : not c.test_last.result ≡ false = ap not c.if-not-test_last.false in
     dedups-stays g.J.PairTest.tests c.args.self.now c.append_to_front.new.self
     c.take_first-later.result c.test_last.new.later c.test_last.new.self.front
     (search rules) (search rules) (search rules) (search rules)
 
 -- The first item is kept, and the second item is removed.
-pub returns-then-goes-clause-deduped : goal.returns-then-goes-clause-deduped
-returns-then-goes-clause-deduped g c =
+pub returns-then-not-stays-clause-deduped : goal.returns-then-not-stays-clause-deduped
+returns-then-not-stays-clause-deduped g c =
+    let stays : not c.test_last.result ≡ false = ap not c.if-not-test_last.false in
     dedups-two g.J.PairTest.tests c.args.self.now c.take_first.new.self c.args.test.now
-    c.test_last.new.test c.test_next-goes.new.test c.take_first-later.result
-    c.test_last.new.later c.test_next-goes.new.kept
-    c.test_last.new.self.front c.test_last.new.self.rest c.test_next-goes.new.self.rest
+    c.test_last.new.test c.test_next-stays.new.test c.take_first-later.result
+    c.test_last.new.later c.test_next-stays.new.kept
+    c.test_last.new.self.front c.test_last.new.self.rest c.test_next-stays.new.self.rest
     (search rules)
-    c.test_next-goes.result c.test_next-goes.ensures.tested (search rules)
-    c.if-goes.true c.take_first.result (search rules) (search rules) (search rules)
+    (not c.test_next-stays.result) c.test_next-stays.ensures.tested (search rules)
+    (ap not c.if-not-stays.true) c.take_first.result (search rules) (search rules) (search rules)
 
 -- The first two items are kept, and a later item is removed.
 pub returns-then-rest_len-gt0-clause-deduped : goal.returns-then-rest_len-gt0-clause-deduped
 returns-then-rest_len-gt0-clause-deduped g c =
     let R = g.J.PairTest.tests in
+    let stays : not c.test_last.result ≡ false = ap not c.if-not-test_last.false in
     let r = c.test_pairs-kept.ensures.tested in
     let w = c.take_first-then-rest_len-gt0.new.self in
-    let goes = run-goes R c.test_pairs-kept.result c.test_next-goes.new.test
+    let goes = run-goes R c.test_pairs-kept.result c.test_next-stays.new.test
     c.append_to_front-2.new.self.rest c.test_pairs-kept.new.test c.test_pairs-kept.new.self.rest r
     c.take_first-then-rest_len-gt0.result w.rest
     (sym (ap (λ v. v.rest) c.move_down.ensures) ∙ c.take_first-then-rest_len-gt0.ensures.rest) in
-    dedups-run R c.args.self.now w c.args.test.now c.test_last.new.test c.test_next-goes.new.test
-    c.take_first-later.result c.test_last.new.later c.test_next-goes.new.kept
+    dedups-run R c.args.self.now w c.args.test.now c.test_last.new.test c.test_next-stays.new.test
+    c.take_first-later.result c.test_last.new.later c.test_next-stays.new.kept
     c.test_last.new.self.front c.test_last.new.self.rest c.append_to_front-2.new.self.rest
     (search rules)
-    c.test_next-goes.result (search rules) (search rules)
-    c.if-goes.false c.test_pairs-kept.result c.test_pairs-kept.new.test
+    (not c.test_next-stays.result) (search rules) (search rules)
+    (ap not c.if-not-stays.false) c.test_pairs-kept.result c.test_pairs-kept.new.test
     c.test_pairs-kept.new.self.rest r goes.0 (run-count R _ _ _ _ _ r (false ∷ []) refl goes.1)
     (search rules) (search rules)
 
@@ -57,28 +62,29 @@ returns-then-rest_len-gt0-clause-deduped g c =
 pub returns-else-rest_len-gt0-clause-deduped : goal.returns-else-rest_len-gt0-clause-deduped
 returns-else-rest_len-gt0-clause-deduped g c =
     let R = g.J.PairTest.tests in
+    let stays : not c.test_last.result ≡ false = ap not c.if-not-test_last.false in
     let r = c.test_pairs-kept.ensures.tested in
     let w = c.move_down.new.self in
     let none : w.rest ≡ [] =
     nil_from_length w.rest (omega (arith, c.rest_len-2.ensures.value, c.if-rest_len-gt0.false)) in
-    let ends = run-ends R c.test_pairs-kept.result c.test_next-goes.new.test
+    let ends = run-ends R c.test_pairs-kept.result c.test_next-stays.new.test
     c.append_to_front-2.new.self.rest c.test_pairs-kept.new.test c.test_pairs-kept.new.self.rest r
     (sym (ap (λ v. v.rest) c.move_down.ensures) ∙ none) in
-    dedups-run R c.args.self.now w c.args.test.now c.test_last.new.test c.test_next-goes.new.test
-    c.take_first-later.result c.test_last.new.later c.test_next-goes.new.kept
+    dedups-run R c.args.self.now w c.args.test.now c.test_last.new.test c.test_next-stays.new.test
+    c.take_first-later.result c.test_last.new.later c.test_next-stays.new.kept
     c.test_last.new.self.front c.test_last.new.self.rest c.append_to_front-2.new.self.rest
     (search rules)
-    c.test_next-goes.result (search rules) (search rules)
-    c.if-goes.false c.test_pairs-kept.result c.test_pairs-kept.new.test
+    (not c.test_next-stays.result) (search rules) (search rules)
+    (ap not c.if-not-stays.false) c.test_pairs-kept.result c.test_pairs-kept.new.test
     c.test_pairs-kept.new.self.rest r (ends.0 ∙ sym none)
     (run-count R _ _ _ _ _ r [] refl (ends.1 ∙ sym (append-nil _)))
     (search rules) (search rules)
 
-pub returns-then-test_last-clause-has_front : goal.returns-then-test_last-clause-has_front
-returns-then-test_last-clause-has_front g c = grind (arith, common_steps)
+pub returns-then-not-test_last-clause-has_front : goal.returns-then-not-test_last-clause-has_front
+returns-then-not-test_last-clause-has_front g c = grind (arith, common_steps)
 
-pub returns-then-goes-clause-has_front : goal.returns-then-goes-clause-has_front
-returns-then-goes-clause-has_front g c = grind (arith, common_steps)
+pub returns-then-not-stays-clause-has_front : goal.returns-then-not-stays-clause-has_front
+returns-then-not-stays-clause-has_front g c = grind (arith, common_steps)
 
 pub move_down-requires-clause-in_bounds : goal.move_down-requires-clause-in_bounds
 move_down-requires-clause-in_bounds g c = grind (arith, common_steps)
@@ -92,5 +98,5 @@ returns-then-rest_len-gt0-clause-decreases g c = grind (arith, common_steps)
 pub returns-else-rest_len-gt0-clause-has_front : goal.returns-else-rest_len-gt0-clause-has_front
 returns-else-rest_len-gt0-clause-has_front g c = grind (arith, common_steps)
 
-pub returns-then-goes-clause-decreases : goal.returns-then-goes-clause-decreases
-returns-then-goes-clause-decreases g c = search (arith, ◌∙◌)
+pub returns-then-not-stays-clause-decreases : goal.returns-then-not-stays-clause-decreases
+returns-then-not-stays-clause-decreases g c = search (arith, ◌∙◌)

@@ -1,6 +1,7 @@
 -- To compare an item with the last kept item, `dedup_by_key` calls its closure first for the item
 -- itself, and then for the last kept item.
 use Rattle.std.proofs.Common.{rules}
+use Rattle.std.proofs.Math.Bool.{not-not}
 use Rattle.thin_vec.proofs.edits.dedup.SameKeyPairTest.test.Goals as goal
 
 pub returns-clause-tested : goal.returns-clause-tested
@@ -10,5 +11,5 @@ returns-clause-tested g c = record {
   other = c.key.result;
   first = search rules;
   second = search rules;
-  compared = search rules;
+  compared = simp not-not (search rules);
 }
