@@ -43,11 +43,8 @@ module _ {T : Type 0} where
       (omega (arith, length-empty T k))
       ∙ get_or-replicate k (j - length pre) None None n)
 
-  pub empty-more : (g : ℕ) (z : List (Option T))
-      → empty_slots g ++ (None ∷ z) ≡ empty_slots (g + 1) ++ z
-  empty-more g z = sym (append_assoc (empty_slots g) (None ∷ []) z)
-      ∙ ap (λ (e : List (Option T)). e ++ z)
-      (replicate-append-replicate g 1 None)
+  pub empty-more : (n m : ℕ) → empty_slots {T = T} (n + m) ≡ empty_slots n ++ empty_slots m
+  empty-more n m = sym (replicate-append-replicate n m None)
 
 module _ {T A : Type 0} where
   -- `Found h v` holds if `h` is a valid open block, and `v` is how contracts see `h`.
@@ -79,43 +76,17 @@ module _ {T A : Type 0} where
 
   module _ (h : Inside T A) (v : OpenView T A) (s : IsOpenViewOf h v) where
     pub by_rest : h.block.slots ≡ to_rest v ++ (filled_slots v.rest ++ past_rest v)
-    by_rest = s.row ∙ sym
-        (append_assoc (filled_slots v.front) (empty_slots v.gap)
-        (filled_slots v.rest ++ past_rest v))
-
-    by_after : h.block.slots ≡ to_after v ++ past_rest v
-    by_after = by_rest ∙ sym (append_assoc (to_rest v) (filled_slots v.rest) (past_rest v))
+    by_rest = s.row ∙ simp append_assoc
 
     pub by_tail : h.block.slots ≡ to_tail v ++ past_after v
-    by_tail = by_after ∙ sym (append_assoc (to_after v) (empty_slots v.gap_after) (past_after v))
+    by_tail = s.row ∙ simp append_assoc
 
     pub at_rest : length (to_rest v) ≡ h.rest_start
-    at_rest = omega (
-      arith,
-      length-append (filled_slots v.front) (empty_slots v.gap),
-      length-full v.front,
-      length-empty T v.gap,
-      s.front,
-      s.gap,
-    )
-
-    at_after : length (to_after v) ≡ h.rest_end
-    at_after = omega (
-      arith,
-      length-append (to_rest v) (filled_slots v.rest),
-      at_rest,
-      length-full v.rest,
-      s.rest,
-    )
+    at_rest = simp (length-append, length-full, length-empty T) (omega (arith, s.front, s.gap))
 
     pub at_tail : length (to_tail v) ≡ h.tail_start
-    at_tail = omega (
-      arith,
-      length-append (to_after v) (empty_slots v.gap_after),
-      at_after,
-      length-empty T v.gap_after,
-      s.gap_after,
-    )
+    at_tail = simp (length-append, length-full, length-empty T)
+        (omega (arith, s.front, s.gap, s.rest, s.gap_after))
 
     pub reached : tail_end v ≡ h.len
     reached = omega (arith, s.front, s.gap, s.rest, s.gap_after, s.tail)
@@ -124,14 +95,8 @@ module _ {T A : Type 0} where
     shown-cap =
         omega (
           arith,
-          ap length by_tail,
-          length-append (to_tail v) (past_after v),
-          at_tail,
-          length-append (filled_slots v.tail) (past_tail v),
-          length-full v.tail,
-          length-empty T (v.capacity - tail_end v),
+          simp (length-append, length-full, length-empty T) at (ap length s.row),
           reached,
-          s.tail,
           s.room,
         )
 
@@ -242,15 +207,7 @@ module _ {T A : Type 0} where
         ∙ (ap (λ (r : List (Option T)). set r h.rest_start None) row
         ∙ (set_at (to_rest v) (Some y) (filled_slots ys ++ past_rest v) None h.rest_start
         (at_rest h v o)
-        ∙ (append_assoc (filled_slots v.front) (empty_slots v.gap)
-        (None ∷ (filled_slots ys ++ past_rest v))
-        ∙ (ap (λ (r : List (Option T)). filled_slots v.front ++ r)
-        (empty-more v.gap (filled_slots ys ++ past_rest v))
-        ∙ ap (λ (k : ℕ). filled_slots v.front
-        ++ (empty_slots (v.gap + 1)
-        ++ (filled_slots ys
-        ++ (empty_slots v.gap_after ++ (filled_slots v.tail ++ empty_slots k)))))
-        reached')))) in
+        ∙ rw reached' (simp (append_assoc, empty-more)))) in
         let shows : IsOpenViewOf first-left (first-view ys) =
         record {
           row = after;
@@ -296,30 +253,18 @@ module _ {T A : Type 0} where
         ) in
         let row : h.block.slots ≡ pre ++ (Some y ∷ past_rest v) =
         by_rest h v o ∙ (ap (λ (r : List T). to_rest v ++ (filled_slots r ++ past_rest v)) parts.2
-        ∙ (ap (λ (r : List (Option T)). to_rest v ++ (r ++ past_rest v)) (map_push Some ys y)
-        ∙ (ap (λ (r : List (Option T)). to_rest v ++ r)
-        (append_assoc (filled_slots ys) (Some y ∷ []) (past_rest v))
-        ∙ sym (append_assoc (to_rest v) (filled_slots ys) (Some y ∷ past_rest v))))) in
+        ∙ simp (append_assoc, map_push)) in
         let same : y ≡ x =
         some-same (sym (get_or_at pre (Some y) (past_rest v) None (h.rest_end - 1) before)
         ∙ (ap (λ (r : List (Option T)). slot r (h.rest_end - 1)) (sym row) ∙ is)) in
         let reached' : v.capacity - tail_end v ≡ v.capacity - tail_end (last-view ys) =
         omega (arith, longer) in
-        let more : suc v.gap_after ≡ v.gap_after + 1 = omega arith in
+        let more : v.gap_after + 1 ≡ suc v.gap_after = omega arith in
         let after : b.slots ≡ slots_of (last-view ys) =
         ap (λ (z : BlockView T A). z.slots) now
         ∙ (ap (λ (r : List (Option T)). set r (h.rest_end - 1) None) row
         ∙ (set_at pre (Some y) (past_rest v) None (h.rest_end - 1) before
-        ∙ (append_assoc (to_rest v) (filled_slots ys) (None ∷ past_rest v)
-        ∙ (append_assoc (filled_slots v.front) (empty_slots v.gap)
-        (filled_slots ys ++ (None ∷ past_rest v))
-        ∙ (ap (λ (k : ℕ). filled_slots v.front
-        ++ (empty_slots v.gap ++ (filled_slots ys ++ (empty_slots k ++ past_after v)))) more
-        ∙ ap (λ (k : ℕ). filled_slots v.front
-        ++ (empty_slots v.gap
-        ++ (filled_slots ys
-        ++ (empty_slots (v.gap_after + 1) ++ (filled_slots v.tail ++ empty_slots k)))))
-        reached'))))) in
+        ∙ rw (reached', more) (simp append_assoc))) in
         let shows : IsOpenViewOf last-left (last-view ys) =
         record {
           row = after;

@@ -29,11 +29,7 @@ module _ {T : Type 0} where
   pub row-at : (a : List (Option T)) (pre : List T) (x : T) (post : List T) (z : List (Option T))
       → a ++ (filled_slots (pre ++ x ∷ post) ++ z)
       ≡ (a ++ filled_slots pre) ++ (Some x ∷ (filled_slots post ++ z))
-  row-at a pre x post z =
-      ap (λ (r : List (Option T)). a ++ (r ++ z)) (full-append pre (x ∷ post))
-      ∙ (ap (λ (r : List (Option T)). a ++ r)
-      (append_assoc (filled_slots pre) (filled_slots (x ∷ post)) z)
-      ∙ sym (append_assoc a (filled_slots pre) (Some x ∷ (filled_slots post ++ z))))
+  row-at a pre x post z = simp (append_assoc, full-append)
 
 module _ {T A : Type 0} where
   pub same-past : (v w : OpenView T A) → w.gap_after ≡ v.gap_after → w.tail ≡ v.tail
@@ -102,13 +98,7 @@ module _ {T A : Type 0} where
         ∙ (ap (λ (r : List (Option T)). set r (h.rest_start + k) (Some y)) row
         ∙ (set_at (to_rest v ++ filled_slots pre) (Some p.1) (filled_slots post ++ past_rest v)
         (Some y) (h.rest_start + k) here
-        ∙ (sym (row-at (to_rest v) pre y post (past_rest v))
-        ∙ (append_assoc (filled_slots v.front) (empty_slots v.gap)
-        (filled_slots (pre ++ y ∷ post) ++ past_rest v)
-        ∙ ap (λ (r : List (Option T)). filled_slots v.front
-        ++ (empty_slots v.gap ++ (filled_slots (pre ++ y ∷ post) ++ r)))
-        (same-past v w refl refl left)))))
-        in
+        ∙ rw left (simp (append_assoc, full-append)))) in
         let shows : IsOpenViewOf written w =
         record {
           row = after;
@@ -157,14 +147,7 @@ module _ {T A : Type 0} where
         omega (arith, length-append u.front (take k u.rest), few) in
         let left : u.capacity - tail_end u ≡ w.capacity - tail_end w = omega (arith, more, rest) in
         let after : b.slots ≡ slots_of w =
-        now ∙ (sym (append_assoc (filled_slots u.front) (filled_slots (take k u.rest))
-        (empty_slots u.gap ++ (filled_slots (drop k u.rest) ++ past_rest u)))
-        ∙ (ap (λ (r : List (Option T)). r
-        ++ (empty_slots u.gap ++ (filled_slots (drop k u.rest) ++ past_rest u)))
-        (sym (full-append u.front (take k u.rest)))
-        ∙ ap (λ (r : List (Option T)). filled_slots w.front
-        ++ (empty_slots u.gap ++ (filled_slots w.rest ++ r)))
-        (same-past u w refl refl left))) in
+        now ∙ rw left (simp (append_assoc, full-append)) in
         found (moved_run b) w
         (record {
           row = after;
@@ -181,9 +164,7 @@ module _ {T A : Type 0} where
         (take k u.rest) ++ (filled_slots (drop k u.rest) ++ past_rest u)
     cut =
         ap (λ (l : List T). filled_slots l ++ past_rest u) (sym (take-append-drop k u.rest))
-        ∙ (ap (λ (r : List (Option T)). r ++ past_rest u)
-        (full-append (take k u.rest) (drop k u.rest)) ∙ append_assoc (filled_slots (take k u.rest))
-        (filled_slots (drop k u.rest)) (past_rest u))
+        ∙ simp (append_assoc, full-append)
 
     parted : h.block.slots ≡ filled_slots u.front
         ++ (empty_slots u.gap
@@ -193,15 +174,7 @@ module _ {T A : Type 0} where
 
     pub pass-step : u.gap ≡ 0 → Found (moved_run h.block) (moved_run-view h.block)
     pass-step none =
-        moved_run-shows h.block
-        (parted ∙ (ap (λ (n : ℕ). filled_slots u.front
-        ++ (empty_slots n
-        ++ (filled_slots (take k u.rest) ++ (filled_slots (drop k u.rest) ++ past_rest u))))
-        none
-        ∙ ap (λ (n : ℕ). filled_slots u.front
-        ++ (filled_slots (take k u.rest)
-        ++ (empty_slots n ++ (filled_slots (drop k u.rest) ++ past_rest u))))
-        (sym none))) refl
+        moved_run-shows h.block (parted ∙ rw none refl) refl
 
     pub move_down-step : (b : Block T A) {c : Cost}
         → block_view b ≡ record (block_view h.block)

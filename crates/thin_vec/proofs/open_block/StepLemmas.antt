@@ -16,7 +16,7 @@ use Rattle.thin_vec.specs.ThinVec.{IsListBlock}
 use Rattle.thin_vec.specs.declared.open_block.OpenBlock.TheInside.{Inside}
 use Rattle.thin_vec.proofs.list.InsertRemoveLemmas.{full-append}
 use Rattle.thin_vec.proofs.ListLemmas.{length-empty, length-full, thin-room}
-use Rattle.thin_vec.proofs.OpenBlockLemmas.{Found, at_rest, at_tail, by_tail, found, past_after, past_rest, past_tail, reached, slot-in-empty, slot-in-full, to_after, to_rest, to_tail}
+use Rattle.thin_vec.proofs.OpenBlockLemmas.{Found, at_rest, at_tail, by_tail, empty-more, found, past_after, past_rest, past_tail, reached, slot-in-empty, slot-in-full, to_after, to_rest, to_tail}
 
 pub set-laid : {T : Type 0} (s : List (Option T)) (i : ℕ) (y : Option T) → i < length s
     → set s i y ≡ write_slots i (y ∷ []) s
@@ -45,16 +45,7 @@ module _ {T A : Type 0} where
         let past : w.capacity - tail_end w ≡ w.capacity - tail_end joined-view =
         omega (arith, ap length none) in
         let after : h.block.slots ≡ slots_of joined-view =
-        o.row ∙ (ap (λ (r : List T). filled_slots w.front
-        ++ (empty_slots w.gap ++ (filled_slots r ++ past_rest w)))
-        none
-        ∙ (ap (λ (r : List (Option T)). filled_slots w.front ++ r)
-        (sym (append_assoc (empty_slots w.gap) (empty_slots w.gap_after) (past_after w))
-        ∙ ap (λ (r : List (Option T)). r ++ past_after w)
-        (replicate-append-replicate w.gap w.gap_after None))
-        ∙ ap (λ (k : ℕ). filled_slots w.front
-        ++ (empty_slots (w.gap + w.gap_after) ++ (filled_slots w.tail ++ empty_slots k)))
-        past)) in
+        o.row ∙ rw (past, none) (simp (append_assoc, empty-more)) in
         let shows : IsOpenViewOf joined joined-view =
         record {
           row = after;
@@ -72,13 +63,7 @@ module _ {T A : Type 0} where
 
     side-by-side : (open_view h).gap_after ≡ 0 → h.block.slots ≡ filled_slots (open_view h).front
         ++ (empty_slots (open_view h).gap ++ (filled_slots all-after ++ past_tail (open_view h)))
-    side-by-side none =
-        let w : OpenView T A = open_view h in
-        o.row ∙ (ap (λ (k : ℕ). filled_slots w.front
-        ++ (empty_slots w.gap ++ (filled_slots w.rest ++ (empty_slots k ++ past_after w)))) none
-        ∙ ap (λ (r : List (Option T)). filled_slots w.front ++ (empty_slots w.gap ++ r))
-        (sym (append_assoc (filled_slots w.rest) (filled_slots w.tail) (past_tail w))
-        ∙ ap (λ (r : List (Option T)). r ++ past_tail w) (sym (full-append w.rest w.tail))))
+    side-by-side none = o.row ∙ rw none (simp (append_assoc, full-append))
 
     count-after : (open_view h).gap_after ≡ 0 → length all-after ≡ h.len - h.rest_start
     count-after none =
@@ -128,13 +113,7 @@ module _ {T A : Type 0} where
         (filled_slots all-after)
         (past_tail w) (sym (length-full w.front ∙ o.front)) (sym o.gap)
         (omega (arith, length-full all-after, count-after none))
-        ∙ (sym (append_assoc (filled_slots w.front) (filled_slots all-after)
-        (empty_slots w.gap ++ past_tail w))
-        ∙ (ap (λ (r : List (Option T)). r ++ (empty_slots w.gap ++ past_tail w))
-        (sym (full-append w.front all-after))
-        ∙ ap (λ (r : List (Option T)). filled_slots (items_of w) ++ r)
-        (replicate-append-replicate w.gap (w.capacity - tail_end w) None
-        ∙ ap (λ (k : ℕ). empty_slots k) left))))
+        ∙ rw (sym left) (simp (append_assoc, full-append, empty-more)))
 
     pub closed-row : (open_view h).gap_after ≡ 0 → h.front_end ≡ h.rest_start
         → h.block.slots ≡ packed_slots (items_of (open_view h)) (length h.block.slots)
@@ -153,12 +132,7 @@ module _ {T A : Type 0} where
           o.tail,
           o.room,
         ) in
-        side-by-side none ∙ (ap
-        (λ (k : ℕ). filled_slots w.front
-        ++ (empty_slots k ++ (filled_slots all-after ++ past_tail w))) no
-        ∙ (sym (append_assoc (filled_slots w.front) (filled_slots all-after) (past_tail w))
-        ∙ (ap (λ (r : List (Option T)). r ++ past_tail w) (sym (full-append w.front all-after))
-        ∙ ap (λ (k : ℕ). filled_slots (items_of w) ++ empty_slots k) left)))
+        side-by-side none ∙ rw (left, no) (simp (append_assoc, full-append))
 
   -- In this module, the block `b` becomes an open block with the middle items `start..end`.
   module _ (b : Block T A) (a : A) (start end : ℕ) (t : IsListBlock b a) (order : start ≤ end)
@@ -204,14 +178,7 @@ module _ {T A : Type 0} where
         let after : b.slots ≡ slots_of opened-view =
         t.packed.row ∙ (ap
         (λ (l : List T). filled_slots l ++ empty_slots (length b.slots - length xs)) cut
-        ∙ (ap (λ (l : List (Option T)). l ++ empty_slots (length b.slots - length xs))
-        (full-append f (r ++ z)
-        ∙ ap (λ (l : List (Option T)). filled_slots f ++ l) (full-append r z))
-        ∙ (append_assoc (filled_slots f) (filled_slots r ++ filled_slots z)
-        (empty_slots (length b.slots - length xs))
-        ∙ ap (λ (l : List (Option T)). filled_slots f ++ l)
-        (append_assoc (filled_slots r) (filled_slots z) (empty_slots (length b.slots - length xs))
-        ∙ ap (λ (k : ℕ). filled_slots r ++ (filled_slots z ++ empty_slots k)) past)))) in
+        ∙ rw past (simp (append_assoc, full-append))) in
         found (opened len) opened-view
         (record {
           row = after;
@@ -251,24 +218,14 @@ module _ {T A : Type 0} where
         let left : List (Option T) = filled_slots v.rest ++ past_rest v in
         let split : empty_slots v.gap ++ left ≡ empty_slots (length xs)
         ++ (empty_slots (h.rest_start - end) ++ left) =
-        ap (λ (k : ℕ). empty_slots k ++ left) (sym parts)
-        ∙ (ap (λ (r : List (Option T)). r ++ left)
-        (sym (replicate-append-replicate (length xs) (h.rest_start - end) None))
-        ∙ append_assoc (empty_slots (length xs)) (empty_slots (h.rest_start - end)) left) in
+        ap (λ (k : ℕ). empty_slots k ++ left) (sym parts) ∙ simp (append_assoc, empty-more) in
         let after : b.slots ≡ slots_of w =
         now ∙ (ap (write_slots h.front_end (filled_slots xs))
         (o.row ∙ ap (λ (r : List (Option T)). filled_slots v.front ++ r) split)
         ∙ (laid-at h.front_end (filled_slots v.front) (filled_slots xs) (empty_slots (length xs))
         (empty_slots (h.rest_start - end) ++ left)
         (sym (length-full v.front ∙ o.front)) long
-        ∙ (sym (append_assoc (filled_slots v.front) (filled_slots xs)
-        (empty_slots (h.rest_start - end) ++ left))
-        ∙ (ap (λ (r : List (Option T)). r ++ (empty_slots (h.rest_start - end) ++ left))
-        (sym (full-append v.front xs))
-        ∙ ap (λ (k : ℕ). filled_slots (v.front ++ xs)
-        ++ (empty_slots (h.rest_start - end)
-        ++ (filled_slots v.rest
-        ++ (empty_slots v.gap_after ++ (filled_slots v.tail ++ empty_slots k))))) past)))) in
+        ∙ rw past (simp (append_assoc, full-append)))) in
         let shows : IsOpenViewOf filled w =
         record {
           row = after;
@@ -368,17 +325,7 @@ module _ {T A : Type 0} where
         ++ (empty_slots v.gap
         ++ (filled_slots v.rest
         ++ (empty_slots (v.gap_after + count) ++ (filled_slots v.tail ++ end)))) =
-        let tail : List (Option T) = empty_slots count ++ (filled_slots v.tail ++ end) in
-        append_assoc (to_after v) (empty_slots v.gap_after) tail
-        ∙ (append_assoc (to_rest v) (filled_slots v.rest) (empty_slots v.gap_after ++ tail)
-        ∙ (append_assoc (filled_slots v.front) (empty_slots v.gap)
-        (filled_slots v.rest ++ (empty_slots v.gap_after ++ tail))
-        ∙ ap (λ (r : List (Option T)). filled_slots v.front
-        ++ (empty_slots v.gap ++ (filled_slots v.rest ++ r)))
-        (sym (append_assoc (empty_slots v.gap_after) (empty_slots count)
-        (filled_slots v.tail ++ end))
-        ∙ ap (λ (r : List (Option T)). r ++ (filled_slots v.tail ++ end))
-        (replicate-append-replicate v.gap_after count None)))) in
+        simp (append_assoc, empty-more) in
         let after : b.slots ≡ slots_of widened-view =
         now ∙ (ap (move_slots h.tail_start (h.tail_start + count) (h.len - h.tail_start)) spare
         ∙ (moved_right h.tail_start (h.tail_start + count) (h.len - h.tail_start) count
