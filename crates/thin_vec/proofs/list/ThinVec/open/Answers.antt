@@ -5,6 +5,7 @@ use Rattle.thin_block.specs.Slots.{items_in}
 use Rattle.thin_vec.specs.ThinVec.{IsListBlock}
 use Rattle.thin_vec.proofs.ListLemmas.{list_view-becomes}
 use Rattle.thin_vec.proofs.OpenBlockLemmas.{Found}
+use Rattle.thin_vec.proofs.ThinVecLemmas.{within-of}
 use Rattle.thin_vec.proofs.open_block.StepLemmas.{open-step, opened, opened-view}
 use Rattle.thin_vec.proofs.list.ThinVec.open.Goals as goal
 
@@ -55,3 +56,7 @@ returns-clause-changes g c =
     ∙ ap (λ v. v.slots) c.none.ensures.new in
     list_view-becomes c.self.view_is c.replace-block.new.dest (ap length none) (ap items_in none)
     (search rules)
+
+pub returns-clause-bounds : goal.returns-clause-bounds
+returns-clause-bounds g c =
+    within-of _ _ _ _ c.self.invariant c.self.view_is c.len-len.ensures.bounds
