@@ -8,7 +8,7 @@ use Rattle.thin_block.specs.Growth.{GrowthRule, IsLawful}
 use Rattle.thin_block.specs.declared.errors.ThinVecError.{ThinVecError}
 use Rattle.thin_block.specs.declared.errors.ThinVecError.TheVariants.{CapacityOverflow}
 use Rattle.thin_block.proofs.CapacityLemmas.{fits-less, ruled-grows}
-use Rattle.thin_vec.specs.ThinVec.{IsBounded, IsCauseOf, ListView, capacity_after_reserve}
+use Rattle.thin_vec.specs.ThinVec.{IsBounded, IsCauseOf, ListView, capacity_after_reserve, fits_allocatable}
 
 never-some : (o : Option ℕ) → ((c : ℕ) → o ≡ Some c → ⊥) → o ≡ None
 never-some None never = refl
@@ -23,7 +23,7 @@ too-many rule R v k n law bounded never some =
       | inl more ↦ never-some (capacity_after_reserve rule R v k)
           (λ c is. let grown = ruled-grows rule R v.capacity (length v.items + k) c law more is in
           never (fits-less R n c grown.fits (omega (arith, grown.enough, some))))
-      | inr spare ↦ absurd (never (fits-less R n v.capacity bounded.fits
+      | inr spare ↦ absurd (never (fits-less R n v.capacity (fits_allocatable R v.capacity bounded.allocatable)
           (omega (arith, spare, some))))
     ]
 

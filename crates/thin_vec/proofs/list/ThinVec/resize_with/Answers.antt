@@ -12,7 +12,6 @@ use Rattle.thin_vec.proofs.ListLemmas.{RestoresInvariant}
 use Rattle.thin_vec.proofs.list.ReservesLemmas.{keeps-join, keeps-settled, reserves-room, reserves-then}
 use Rattle.thin_vec.specs.ThinVec.{fits_allocatable}
 use Rattle.thin_vec.proofs.list.ThinVec.resize_with.Goals.{After-set_len}
-use Rattle.thin_vec.specs.ThinVec.{fits_allocatable}
 use Rattle.thin_vec.proofs.list.ThinVec.resize_with.Goals as goal
 
 pub returns-then-len-old-clause-capacity : goal.returns-then-len-old-clause-capacity
