@@ -18,37 +18,36 @@ use crate::words::{Word, make_words};
 use std::alloc::{AllocError, Allocator};
 use std::marker::PhantomData;
 use std::mem::replace;
-use std::ptr::copy_nonoverlapping;
 
 // The least total size of the items, in words of 8 bytes, for which the allocator resizes the
 // block, possibly in place. For fewer words, it is cheaper to allocate a new block.
 pub(crate) const LONG: usize = 32;
 
 // Resizes an allocation from `held` to `wanted` values of the type `T`. It begins with a gap, which
-// is unused memory for `gap` values, and `len` values follow the gap. If the allocator fails, the
+// is unused memory for `K` values, and `len` values follow the gap. If the allocator fails, the
 // call fails, and the allocation is unchanged.
 //
 // While the allocator runs, the last values are stored in the gap. So the allocation begins with an
 // array of `len` values.
 #[inline(always)]
-pub(crate) unsafe fn resize_array<T, A: Allocator>(
+pub(crate) unsafe fn resize_array<T, A: Allocator, const K: usize>(
     alloc: &A,
     start: *mut T,
-    gap: usize,
     len: usize,
     held: usize,
     wanted: usize,
 ) -> Result<*mut T, AllocError>
     ghost items: { List T }
-    requires fits { FitsGap T.row gap len held wanted items }
-    requires* memory { sem 𝓛 (gapped_items (A.dealloc_token alloc.now) T.row start gap len held
+    requires fits { FitsGap T.row K len held wanted items }
+    requires* memory { sem 𝓛 (gapped_items (A.dealloc_token alloc.now) T.row start K len held
         items) }
-    ensures* memory { sem 𝓛 (gapped_if_ok (A.dealloc_token alloc.now) T.row start gap len held
-        wanted items result) }
+    ensures* memory { sem 𝓛 (gapped_if_ok (A.dealloc_token alloc.now) T.row start K len held wanted
+        items result) }
 {
     unsafe {
-        let last = start.add(len);
-        copy_nonoverlapping(last as *const T, start, gap);
+        let first = start as *mut [T; K];
+        let last = start.add(len) as *mut [T; K];
+        first.write(last.read());
         let resized = if held < wanted {
             alloc.grow(start, len, held, wanted)
         } else {
@@ -56,11 +55,12 @@ pub(crate) unsafe fn resize_array<T, A: Allocator>(
         };
         match resized {
             Ok(start) => {
-                copy_nonoverlapping(start as *const T, start.add(len), gap);
+                let last = start.add(len) as *mut [T; K];
+                last.write((start as *mut [T; K]).read());
                 Ok(start)
             }
             Err(refused) => {
-                copy_nonoverlapping(start as *const T, last, gap);
+                last.write(first.read());
                 Err(refused)
             }
         }
@@ -160,7 +160,13 @@ impl<T, A: Allocator> Block<T, A> {
         } = self;
         unsafe {
             make_words(at.add(HEADER_WORDS) as *mut [T; M], count);
-            match resize_array(alloc, at as *mut Word<T, M>, K, count, held, wanted) {
+            match resize_array::<Word<T, M>, A, K>(
+                alloc,
+                at as *mut Word<T, M>,
+                count,
+                held,
+                wanted,
+            ) {
                 Ok(start) => {
                     let at = start as *mut usize;
                     *at = cap;

@@ -176,7 +176,7 @@ impl<T, A: Allocator> Block<T, A> {
         unsafe {
             let end = (at.add(HEADER_WORDS) as *mut T).add(old) as *mut *mut T;
             let start = *end;
-            match resize_array(alloc, start, 1, len, held, wanted) {
+            match resize_array::<T, A, 1>(alloc, start, len, held, wanted) {
                 Ok(start) => {
                     let at = (start as *mut u8).add(front) as *mut usize;
                     *at = cap;

@@ -1,7 +1,7 @@
 -- These lemmas verify a call of the function `resize_array`. They state what the caller owns before
 -- and after the call.
 use Rattle.std.proofs.Common.{ℕ, List, [], ◌∷◌, refl, w64, ◌^◌, ◌<◌}
-use Rattle.thin_block.proofs.WalkPrelude.{Ura, Val, vint, vptr, SProp, ent, sep, ex, emp, never, id⊢, Lft, Share, Fml, ftrue, fsep, flft, ◌⊑◌, Fun, fact, fact_i, Memory, Routine, Logic, sem, ‵, raw, ◌⊛◌, exists, later, pick, updating, await, ◌$◌, ◌∵◌, !, qed, move, keep, drop, use0, use1, use2, split, split3, join, fjoin, feq_i, flt_i, done, block_ptr, nothing, triple_of, Al, token, El, R, el_x}
+use Rattle.thin_block.proofs.WalkPrelude.{Ura, Val, vint, vptr, SProp, ent, sep, ex, emp, never, id⊢, Lft, Share, Fml, ftrue, fsep, flft, ◌⊑◌, Fun, fact, fact_i, Memory, Routine, Logic, sem, ‵, raw, ◌⊛◌, exists, later, pick, updating, await, ◌$◌, ◌∵◌, !, qed, move, keep, drop, use0, use1, use2, split, split3, join, fjoin, feq_i, flt_i, done, block_ptr, nothing, triple_of, number, Al, token, El, R, el_x}
 use types.Kit.{now as at_once}
 use denote.Triple.Statement.{Contract}
 use Rattle.core.proofs.alloc.Calls.{seen, Answer}
@@ -9,31 +9,29 @@ use Rattle.core.proofs.alloc.Resizes.{Flagged, by_flag}
 use Rattle.thin_block.specs.InPlace.{FitsGap, gapped_items, gapped_if_ok}
 use Rattle.thin_block.specs.contracts.in_place.resize_array as F
 
-module _ (E : El) (Y : Al) {M : Type 1} {𝓤 : Ura M} (𝓛 : Logic 𝓤) (at_mem : Memory → SProp 𝓤)
-    (run : Routine → Fun 𝓤) where
+module _ (E : El) (Y : Al) (k : ℕ) {M : Type 1} {𝓤 : Ura M} (𝓛 : Logic 𝓤)
+    (at_mem : Memory → SProp 𝓤) (run : Routine → Fun 𝓤) where
   open 𝓛 use {H, A}
 
   abbrev pub Resizing : Contract 𝓤
-  Resizing = triple_of 𝓛 (F.signature E.row Y.row) (F.spec E.row Y.row Y.g Y.d Y.drops 𝓛 at_mem run)
+  Resizing = triple_of 𝓛 (F.signature E.row Y.row (number k))
+      (F.spec E.row Y.row (number k) Y.g Y.d Y.drops 𝓛 at_mem run)
 
-  module _ (κ κT κA : Lft) (q qT qA : Share) (out : κ ⊑ κA) (p : ℕ × ℕ) (a : Y.row.Denot)
-      (b o gap len held wanted : ℕ) (xs : List (el_x E)) where
+  module _ (κ κT κA κK : Lft) (q qT qA qK : Share) (out : κ ⊑ κA) (p : ℕ × ℕ) (a : Y.row.Denot)
+      (b o len held wanted : ℕ) (xs : List (el_x E)) where
     -- `at_resizing` contains the ghost arguments of a call of `resize_array`.
     abbrev pub at_resizing : Resizing.Ghost
     at_resizing = (
       (
-        (κ, (κT, (κA, tt))),
-        (q, (qT, (qA, tt))),
+        (κ, (κT, (κA, (κK, tt)))),
+        (q, (qT, (qA, (qK, tt)))),
         (out, tt),
-        (record { ref_ptr = p; now = a }, (block_ptr b o, (gap, (len, (held, (wanted, tt)))))),
+        (record { ref_ptr = p; now = a }, (block_ptr b o, (len, (held, (wanted, tt))))),
         (
           vptr p.0 p.1 ∷ [],
           (
             vptr b o ∷ [],
-            (
-              vint w64 gap ∷ [],
-              (vint w64 len ∷ [], (vint w64 held ∷ [], (vint w64 wanted ∷ [], tt))),
-            ),
+            (vint w64 len ∷ [], (vint w64 held ∷ [], (vint w64 wanted ∷ [], tt))),
           ),
         ),
       ),
@@ -41,21 +39,23 @@ module _ (E : El) (Y : Al) {M : Type 1} {𝓤 : Ura M} (𝓛 : Logic 𝓤) (at_m
     )
 
     abbrev Block : Fml
-    Block = gapped_items (token Y a) (R E) (block_ptr b o) gap len held xs
+    Block = gapped_items (token Y a) (R E) (block_ptr b o) k len held xs
 
     -- `leaves r` states what the caller owns after the call to `resize_array` has returned `r`.
     abbrev pub leaves : Answer.Denot → Fml
-    leaves = gapped_if_ok (token Y a) (R E) (block_ptr b o) gap len held wanted xs
+    leaves = gapped_if_ok (token Y a) (R E) (block_ptr b o) k len held wanted xs
 
-    pub Resizing-goes : κT ⊑ E.row.lives → κA ⊑ Y.row.lives
-        → FitsGap (R E) gap len held wanted xs → gap < 2 ^ 64 → len < 2 ^ 64 → held < 2 ^ 64
-        → wanted < 2 ^ 64
+    pub Resizing-goes : κT ⊑ E.row.lives → κA ⊑ Y.row.lives → κK ⊑ []
+        → FitsGap (R E) k len held wanted xs → len < 2 ^ 64 → held < 2 ^ 64 → wanted < 2 ^ 64
         → ent 𝓤 (sep 𝓤 (sem 𝓛 Block) (sep 𝓤 (sem 𝓛 (seen Y κ p a))
-        (sep 𝓤 (A.lft κ q) (sep 𝓤 (A.lft κT qT) (A.lft κA qA))))) (Resizing.pre at_resizing)
-    Resizing-goes leT leA fits fg fl fh fw =
-        qed 𝓛 (‵ Block ∷ ‵ (seen Y κ p a) ∷ ‵ (flft κ q) ∷ ‵ (flft κT qT) ∷ ‵ (flft κA qA) ∷ []) ∵
-        use0 𝓛 (raw (fact 𝓤 (FitsGap (R E) gap len held wanted xs)))
-        (fact_i 𝓤 (FitsGap (R E) gap len held wanted xs) (emp 𝓤) fits) $ join ! $
+        (sep 𝓤 (A.lft κ q) (sep 𝓤 (A.lft κT qT) (sep 𝓤 (A.lft κA qA) (A.lft κK qK))))))
+        (Resizing.pre at_resizing)
+    Resizing-goes leT leA leK fits fl fh fw =
+        qed 𝓛 (‵ Block ∷ ‵ (seen Y κ p a) ∷ ‵ (flft κ q) ∷ ‵ (flft κT qT) ∷ ‵ (flft κA qA) ∷ ‵
+        (flft κK qK) ∷ []) ∵
+        use0 𝓛 (raw (fact 𝓤 (FitsGap (R E) k len held wanted xs)))
+        (fact_i 𝓤 (FitsGap (R E) k len held wanted xs) (emp 𝓤) fits) $ join ! $
+        use0 𝓛 (raw (fact 𝓤 (κK ⊑ []))) (fact_i 𝓤 (κK ⊑ []) (emp 𝓤) leK) $ join ! $
         use0 𝓛 (raw (fact 𝓤 (κA ⊑ Y.row.lives))) (fact_i 𝓤 (κA ⊑ Y.row.lives) (emp 𝓤) leA) $
         join ! $
         use0 𝓛 (raw (fact 𝓤 (κT ⊑ E.row.lives))) (fact_i 𝓤 (κT ⊑ E.row.lives) (emp 𝓤) leT) $
@@ -66,26 +66,24 @@ module _ (E : El) (Y : Al) {M : Type 1} {𝓤 : Ura M} (𝓛 : Logic 𝓤) (at_m
         feq_i ! (List Val) (vint w64 held ∷ []) (vint w64 held ∷ []) refl $ fjoin ! $ fjoin ! $
         flt_i ! len (2 ^ 64) fl $
         feq_i ! (List Val) (vint w64 len ∷ []) (vint w64 len ∷ []) refl $ fjoin ! $ fjoin ! $
-        flt_i ! gap (2 ^ 64) fg $
-        feq_i ! (List Val) (vint w64 gap ∷ []) (vint w64 gap ∷ []) refl $ fjoin ! $ fjoin ! $
         feq_i ! (List Val) (vptr b o ∷ []) (vptr b o ∷ []) refl $ fjoin ! $ move ! (2 ∷ []) $
         feq_i ! (List Val) (vptr p.0 p.1 ∷ []) (vptr p.0 p.1 ∷ []) refl $ fjoin ! $ fjoin ! $
         -- The context is now: the arguments; one entry for the required facts and the memory of the
-        -- block; three lifetime tokens.
-        nothing ! $ move ! (5 ∷ 0 ∷ []) $ join ! $ move ! (4 ∷ 0 ∷ []) $ join ! $
-        move ! (3 ∷ 0 ∷ []) $ join ! $ join ! $ join ! $ done !
+        -- block; four lifetime tokens.
+        nothing ! $ move ! (6 ∷ 0 ∷ []) $ join ! $ move ! (5 ∷ 0 ∷ []) $ join ! $
+        move ! (4 ∷ 0 ∷ []) $ join ! $ move ! (3 ∷ 0 ∷ []) $ join ! $ join ! $ join ! $ done !
 
     pub Resizing-gives : (v : Val) → ent 𝓤 (Resizing.post at_resizing v)
-        (H.⇛ (sep 𝓤 (ex 𝓤 (Flagged 𝓛 leaves v))
-        (sep 𝓤 (A.lft κ q) (sep 𝓤 (A.lft κT qT) (A.lft κA qA)))))
+        (H.⇛ (sep 𝓤 (ex 𝓤 (Flagged 𝓛 leaves v)) (sep 𝓤 (A.lft κ q)
+        (sep 𝓤 (A.lft κT qT) (sep 𝓤 (A.lft κA qA) (A.lft κK qK))))))
     Resizing-gives v =
         qed 𝓛 (raw (Resizing.post at_resizing v) ∷ []) ∵ updating ! $
         use1 𝓛 (later (exists (λ (r : Answer.Denot).
-        ((‵ (flft κ q) ⊛ ‵ (flft κT qT) ⊛ ‵ (flft κA qA) ⊛ ‵ ftrue) ⊛ ‵ (Answer.own_val r (v ∷ [])))
-        ⊛ exists (λ (ws : Unit {0} × (Unit {0} × (Unit {0} × (Unit {0} × (Unit {0} × (Unit {0}
-        × Unit {0})))))). ‵ (fsep ftrue (fsep ftrue (fsep ftrue (fsep ftrue (fsep ftrue
-        (fsep ftrue ftrue)))))) ⊛ ‵ (leaves r)))))
+        ((‵ (flft κ q) ⊛ ‵ (flft κT qT) ⊛ ‵ (flft κA qA) ⊛ ‵ (flft κK qK) ⊛ ‵ ftrue) ⊛ ‵
+        (Answer.own_val r (v ∷ [])))
+        ⊛ exists (λ (ws : Unit {0} × (Unit {0} × (Unit {0} × (Unit {0} × (Unit {0} × Unit {0}))))).
+        ‵ (fsep ftrue (fsep ftrue (fsep ftrue (fsep ftrue (fsep ftrue ftrue))))) ⊛ ‵ (leaves r)))))
         (id⊢ 𝓤 _) $ await ! tt $ pick ! (λ r. split ! $ move ! (1 ∷ []) $ pick ! (λ ws. split ! $
         drop ! $ move ! (1 ∷ []) $ split ! $ split3 ! $ move ! (3 ∷ 4 ∷ []) $
         use2 𝓛 (raw (ex 𝓤 (Flagged 𝓛 leaves v))) (by_flag 𝓛 leaves (id⊢ 𝓤 (never 𝓤)) v r) $
-        move ! (3 ∷ []) $ split ! $ keep ! (2 ∷ 3 ∷ 4 ∷ 0 ∷ []) $ at_once ! $ done !))
+        move ! (3 ∷ []) $ split3 ! $ keep ! (3 ∷ 4 ∷ 5 ∷ 0 ∷ 1 ∷ []) $ at_once ! $ done !))

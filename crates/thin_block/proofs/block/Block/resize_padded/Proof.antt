@@ -1,10 +1,11 @@
 -- This file proves the contract of `resize_padded`, which uses a padded block as an array of items,
 -- resizes the array, and uses it as a padded block again.
 use Rattle.std.proofs.Common.{◌≡◌, ℕ, ◌+◌, ◌-◌, ◌*◌, ◌^◌, ◌<◌, ◌≤◌, List, [], ◌∷◌, ◌++◌, length, true, refl, sym, ap, subst, ◌∙◌, arith, lit<, w64, Some, None, Option}
-use Rattle.thin_block.proofs.WalkPrelude.{length-append, Fn, Body, ty_int, Val, WT, vint, vptr, vcons, vnil, inst_fn, SProp, ex, Fml, Lft, Share, ftrue, froom, flft, Env, WpFn, tables, After, ‵, raw, ◌⊛◌, exists, given, pick, learn, later, prop, at_ret, ◌$◌, ◌∵◌, !, qed, move, keep, drop, group, use1, use3, split, split3, join, regoal, rewrite, fsplit, fjoin, await, suffices, done, whole, sub, agg, stop, fld, lit, bin, init, look, load, of_opd, no_more, and_then, assigns, first, blocks, exec, returns, enter, alloc_all, pass_all, free_all, look_at, get, get_in, through, sets, sets_last, lands_as, env, RattleType, owns, Ptr, block_ptr, types_at, calls_at, walk_of, ends_at, token, fm, proved_at, type_align, R, slot_at, then_runs, out_of_block, after, head, inside, arm_body, says_all}
+use Rattle.thin_block.proofs.WalkPrelude.{length-append, Fn, Body, ty_int, Val, WT, vint, vptr, vcons, vnil, inst_fn, SProp, ex, Fml, Lft, Share, ftrue, froom, flft, Env, WpFn, tables, After, ‵, raw, ◌⊛◌, exists, given, pick, learn, later, prop, at_ret, ◌$◌, ◌∵◌, !, qed, move, keep, drop, group, use1, use2, use3, split, split3, join, regoal, rewrite, fsplit, fjoin, await, suffices, done, whole, sub, agg, stop, fld, lit, bin, init, look, load, of_opd, no_more, and_then, assigns, first, blocks, exec, returns, enter, alloc_all, pass_all, free_all, look_at, get, get_in, through, sets, sets_last, lands_as, env, RattleType, owns, Ptr, block_ptr, types_at, calls_at, walk_of, ends_at, token, fm, proved_at, type_align, R, slot_at, then_runs, out_of_block, after, head, inside, arm_body, says_all}
 use Rattle.std.proofs.lemmas.List.{length-map, length-replicate}
 use mir.Syntax.{Ty, ty_ptr}
-use contract.BorrowLft.{◌⊑◌}
+use contract.BorrowLft.{◌⊑◌, ⊑_static}
+use base.Share as Shares
 use types.Match.{live, vrt, in_variant}
 use types.Run.{switches_on}
 use types.ByLocal.{get_tag}
@@ -73,7 +74,7 @@ resize_padded_spec 𝓤 𝓛 𝓜 𝓡 wired T A LT LA g d dd met md =
     let wanted : ℕ = a.1.1.1.1.1.1.0 in
     let front : ℕ = a.1.1.1.1.1.1.1.0 in
     let Out : RattleType = type_at En₀.signature.result z.0.0 in
-    let V = Resizing E Y 𝓛 𝓜.mem 𝓡.returns in
+    let V = Resizing E Y 1 𝓛 𝓜.mem 𝓡.returns in
     qed 𝓛 (((‵ (flft κ q) ⊛ ‵ (flft κT qT) ⊛ ‵ (flft κA qA) ⊛ ‵ ftrue)
     ⊛ ‵ (owns (types_at ps z.0.0) a vss))
     ∷ raw ((c z.0.0 z.0.3).requires z.1) ∷ []) ∵ move ! (1 ∷ []) $
@@ -154,10 +155,12 @@ resize_padded_spec 𝓤 𝓛 𝓜 𝓡 wired T A LT LA g d dd met md =
     move ! (1 ∷ 0 ∷ 2 ∷ 3 ∷ []) $ group ! 4 $
     use1 𝓛 (‵ (gapped_items tok Rt (block_ptr b start) 1 len held items))
     (array_in 𝓛 E b old pad tok start o place len j held items slots_are (sym all) held_is) $
-    let y = at_resizing E Y 𝓛 𝓜.mem 𝓡.returns κ κT κA q qT qA z.0.2.0 handle_at h b start
-    1 len held wanted items in
-    let left = leaves E Y 𝓛 𝓜.mem 𝓡.returns κ κT κA q qT qA z.0.2.0 handle_at h b start 1 len
-    held wanted items in
+    let qL : Share = Shares.left qT in
+    let qR : Share = Shares.right qT in
+    let y = at_resizing E Y 1 𝓛 𝓜.mem 𝓡.returns κ κT κA κT q qL qA qR z.0.2.0 handle_at h b start
+    len held wanted items in
+    let left = leaves E Y 1 𝓛 𝓜.mem 𝓡.returns κ κT κA κT q qL qA qR z.0.2.0 handle_at h b start
+    len held wanted items in
     let sizes : FitsGap Rt 1 len held wanted items =
     record {
       count = sym all;
@@ -167,22 +170,27 @@ resize_padded_spec 𝓤 𝓛 𝓜 𝓡 wired T A LT LA g d dd met md =
       fits = subst (λ (n : ℕ). n * s < 2 ^ 63) (sym held_is) wide.short;
       new_fits = subst (λ (n : ℕ). n * s < 2 ^ 63) (sym wanted_is) wide'.short;
     } in
-    group ! 5 $
+    -- The token of `T` is also that of the const argument.
+    move ! (3 ∷ []) $ use1 𝓛 (‵ (flft κT qL) ⊛ ‵ (flft κT qR)) (𝓛.lfts.lft_split κT qT) $ split ! $
+    move ! (2 ∷ 3 ∷ 4 ∷ 0 ∷ 5 ∷ 1 ∷ []) $ group ! 6 $
     use1 𝓛 (raw (V.pre y))
-    (Resizing-goes E Y 𝓛 𝓜.mem 𝓡.returns κ κT κA q qT qA z.0.2.0 handle_at h b start 1 len held
-    wanted items leT leA sizes (lit< tt) are.1.1.0.1 are.1.1.1.1.1.0.1 are.1.1.1.1.1.1.0.1) $
+    (Resizing-goes E Y 1 𝓛 𝓜.mem 𝓡.returns κ κT κA κT q qL qA qR z.0.2.0 handle_at h b start len
+    held wanted items leT leA (⊑_static κT) sizes are.1.1.0.1 are.1.1.1.1.1.0.1
+    are.1.1.1.1.1.1.0.1) $
     calls_at ! (fm 𝓛 𝓜 𝓡) V
     (resize_array_met.met 𝓤 𝓛 𝓜 𝓡
-    (compiled.calls-thin_block::in_place::resize_array 𝓡.env wired) T A LT LA g d dd met md) y
-    (and_then ! (get ! refl) (and_then ! (get ! refl) (and_then ! (lit ! tt)
-    (and_then ! (get ! refl) (and_then ! (get ! refl) (and_then ! (get ! refl) (no_more !)))))))
-    (λ u.
-    use1 𝓛 (later (raw (ex 𝓤 (Flagged 𝓛 left u)) ⊛ ‵ (flft κ q) ⊛ ‵ (flft κT qT) ⊛ ‵ (flft κA qA)))
-    (Resizing-gives E Y 𝓛 𝓜.mem 𝓡.returns κ κT κA q qT qA z.0.2.0 handle_at h b start 1 len held
-    wanted items u) $ await ! tt $ split ! $ move ! (1 ∷ []) $ split3 ! $
-    -- The context is now: the lifetime tokens of the allocator reference, of `T` and of `A`; the
+    (compiled.calls-thin_block::in_place::resize_array 𝓡.env wired) T A 1 LT LA
+    (record { fits = lit< tt }) g d dd met md) y
+    (and_then ! (get ! refl) (and_then ! (get ! refl) (and_then ! (get ! refl)
+    (and_then ! (get ! refl) (and_then ! (get ! refl) (no_more !)))))) (λ u.
+    use1 𝓛 (later (raw (ex 𝓤 (Flagged 𝓛 left u)) ⊛ ‵ (flft κ q) ⊛ ‵ (flft κT qL) ⊛ ‵ (flft κA qA)
+    ⊛ ‵ (flft κT qR)))
+    (Resizing-gives E Y 1 𝓛 𝓜.mem 𝓡.returns κ κT κA κT q qL qA qR z.0.2.0 handle_at h b start len
+    held wanted items u) $ await ! tt $ split ! $ move ! (1 ∷ []) $ split3 ! $ move ! (2 ∷ []) $
+    split ! $ move ! (3 ∷ 1 ∷ []) $ use2 𝓛 (‵ (flft κT qT)) (𝓛.lfts.lft_join κT qT) $
+    -- The context is now: the lifetime tokens of `T`, of `A` and of the allocator reference; the
     -- result of `resize_array`; an empty entry.
-    move ! (2 ∷ 4 ∷ []) $ join ! $ move ! (2 ∷ 0 ∷ []) $ join ! $ move ! (1 ∷ 0 ∷ []) $ join ! $
+    move ! (1 ∷ 4 ∷ []) $ join ! $ move ! (1 ∷ 0 ∷ []) $ join ! $ move ! (1 ∷ 0 ∷ []) $ join ! $
     move ! (1 ∷ []) $
     -- The context is now: the resources that `resize_array` has returned; the lifetime tokens.
     let inner : Body = inside (head (after 1 fn.body)) in

@@ -6,7 +6,7 @@ use Rattle.std.proofs.lemmas.List.{length-map, length-replicate}
 use native.Mathlib.Nat.{mul_assoc}
 use contract.BorrowLft.{⊑_meet, ⊑_static}
 use types.Match.{live, vrt, in_variant}
-use types.Run.{switches_on, num_lit}
+use types.Run.{switches_on}
 use types.ByLocal.{get_tag}
 use denote.Param.{arg}
 use denote.Param.Laws.{arg_laws}
@@ -86,8 +86,11 @@ resize_words_spec 𝓤 𝓛 𝓜 𝓡 wired T A m k LT LA fits_m fits_k g d dd m
     let κT : Lft = z.0.0.1.0 in
     let qT : Share = z.0.1.1.0 in
     let κA : Lft = z.0.0.1.1.0 in
+    let qA : Share = z.0.1.1.1.0 in
     let κM : Lft = z.0.0.1.1.1.0 in
     let qM : Share = z.0.1.1.1.1.0 in
+    let κK : Lft = z.0.0.1.1.1.1.0 in
+    let qK : Share = z.0.1.1.1.1.1.0 in
     let x = a.0 in
     let h = a.1.0.now in
     let handle_at = a.1.0.ref_ptr in
@@ -98,9 +101,9 @@ resize_words_spec 𝓤 𝓛 𝓜 𝓡 wired T A m k LT LA fits_m fits_k g d dd m
     let held : ℕ = a.1.1.1.1.1.1.0 in
     let wanted : ℕ = a.1.1.1.1.1.1.1.0 in
     let Out : RattleType = type_at En₀.signature.result z.0.0 in
-    let V = Resizing EX Y 𝓛 𝓜.mem 𝓡.returns in
-    qed 𝓛 (((‵ (flft κ q) ⊛ ‵ (flft κT qT) ⊛ ‵ (flft κA z.0.1.1.1.0) ⊛ ‵ (flft κM qM) ⊛ ‵
-    (flft z.0.0.1.1.1.1.0 z.0.1.1.1.1.1.0) ⊛ ‵ ftrue) ⊛ ‵ (owns (types_at ps z.0.0) a vss))
+    let V = Resizing EX Y k 𝓛 𝓜.mem 𝓡.returns in
+    qed 𝓛 (((‵ (flft κ q) ⊛ ‵ (flft κT qT) ⊛ ‵ (flft κA qA) ⊛ ‵ (flft κM qM) ⊛ ‵
+    (flft κK qK) ⊛ ‵ ftrue) ⊛ ‵ (owns (types_at ps z.0.0) a vss))
     ∷ raw ((c z.0.0 z.0.3).requires z.1) ∷ []) ∵ move ! (1 ∷ []) $
     heard_all ! (_ ∷ _ ∷ _ ∷ _ ∷ _ ∷ _ ∷ _ ∷ _ ∷ _ ∷ _ ∷ _ ∷ _ ∷ _ ∷ _ ∷ _ ∷ []) (λ said.
     let leT : κT ⊑ T.lives = said.0 in let leA = said.1.0 in let leM = said.1.1.0 in
@@ -242,18 +245,18 @@ resize_words_spec 𝓤 𝓛 𝓜 𝓡 wired T A m k LT LA fits_m fits_k g d dd m
     (hd.counts.covers old)) $
     rewrite ! 0 (λ (n : ℕ). ‵ (slots_own Rw (filled_slots ws ++ empty_slots v) b (o + n)))
     (sym sixteen) refl $
-    move ! (1 ∷ []) $ split3 ! $ move ! (2 ∷ []) $ drop ! $ move ! (1 ∷ 8 ∷ []) $ join ! $
-    move ! (7 ∷ 0 ∷ []) $ join ! $ move ! (3 ∷ 2 ∷ 4 ∷ 5 ∷ 6 ∷ 1 ∷ 0 ∷ []) $ fjoin3 ! $
+    move ! (1 ∷ []) $ split3 ! $ move ! (2 ∷ []) $ drop ! $ move ! (8 ∷ []) $ split ! $
+    move ! (5 ∷ 4 ∷ 6 ∷ 7 ∷ 8 ∷ 2 ∷ 9 ∷ 0 ∷ 3 ∷ 1 ∷ []) $ fjoin3 ! $
     -- The context is now: the words behind the memory for the header; the shared reference to the
-    -- allocator; the lifetime tokens of this reference and of `T`; the lifetime tokens of `A`, `M`
-    -- and `K`.
+    -- allocator; the lifetime tokens of this reference and of `T`, `A`, `K` and `M`; an empty
+    -- entry.
     let fits_room : (c n : ℕ) → n ≡ k + div_ceil c m → block_bytes (type_size Rt) (type_align Rt) c
     < 2 ^ 63 → n * s < 2 ^ 63 = λ c n is small. subst (λ (i : ℕ). i < 2 ^ 63)
     (sym (ap (λ (i : ℕ). i * s) is ∙ (ap (λ (i : ℕ). (k + div_ceil c m) * i) hd.size
     ∙ hd.bytes_are c))) small in
-    let y = at_resizing EX Y 𝓛 𝓜.mem 𝓡.returns κ κT κA q qT z.0.1.1.1.0 z.0.2.0 handle_at h b o
-    k count held wanted ws in
-    let left = leaves EX Y 𝓛 𝓜.mem 𝓡.returns κ κT κA q qT z.0.1.1.1.0 z.0.2.0 handle_at h b o k
+    let y = at_resizing EX Y k 𝓛 𝓜.mem 𝓡.returns κ κT κA κK q qT qA qK z.0.2.0 handle_at h b o
+    count held wanted ws in
+    let left = leaves EX Y k 𝓛 𝓜.mem 𝓡.returns κ κT κA κK q qT qA qK z.0.2.0 handle_at h b o
     count held wanted ws in
     let sizes : FitsGap (R EX) k count held wanted ws =
     record {
@@ -264,27 +267,26 @@ resize_words_spec 𝓤 𝓛 𝓜 𝓡 wired T A m k LT LA fits_m fits_k g d dd m
       fits = fits_room old held held_is told_old.short;
       new_fits = fits_room cap wanted wanted_is told_cap.short;
     } in
-    sets ! (of_opd ! (get ! refl)) refl (tt, tt) $
-    move ! (4 ∷ []) $ split ! $ move ! (2 ∷ 3 ∷ 4 ∷ 5 ∷ 0 ∷ []) $ group ! 5 $
+    sets ! (of_opd ! (get ! refl)) refl (tt, tt) $ group ! 6 $
     use1 𝓛 (raw (V.pre y))
-    (Resizing-goes EX Y 𝓛 𝓜.mem 𝓡.returns κ κT κA q qT z.0.1.1.1.0 z.0.2.0 handle_at h b o k
-    count held wanted ws leW leA sizes fits_k.fits are.1.1.1.1.1.0.1
-    are.1.1.1.1.1.1.0.1 are.1.1.1.1.1.1.1.0.1) $
+    (Resizing-goes EX Y k 𝓛 𝓜.mem 𝓡.returns κ κT κA κK q qT qA qK z.0.2.0 handle_at h b o count
+    held wanted ws leW leA said.1.1.1.0 sizes are.1.1.1.1.1.0.1 are.1.1.1.1.1.1.0.1
+    are.1.1.1.1.1.1.1.0.1) $
     calls_at ! (fm 𝓛 𝓜 𝓡) V
     (resize_array_met.met 𝓤 𝓛 𝓜 𝓡
-    (compiled.calls-thin_block::in_place::resize_array 𝓡.env wired) X A EX.laws
-    LA g d dd met md) y
-    (and_then ! (get ! refl) (and_then ! (get ! refl)
-    (and_then ! (num_lit ! fits_k) (and_then ! (get ! refl)
-    (and_then ! (get ! refl) (and_then ! (get ! refl) (no_more !))))))) (λ u.
-    use1 𝓛 (later (raw (ex 𝓤 (Flagged 𝓛 left u)) ⊛ ‵ (flft κ q) ⊛ ‵ (flft κT qT) ⊛ ‵
-    (flft κA z.0.1.1.1.0)))
-    (Resizing-gives EX Y 𝓛 𝓜.mem 𝓡.returns κ κT κA q qT z.0.1.1.1.0 z.0.2.0 handle_at h b o k
-    count held wanted ws u) $ await ! tt $ split ! $ move ! (1 ∷ []) $ split3 ! $
-    -- The context is now: the lifetime tokens of the allocator reference, of `T` and of `A`; the
-    -- result of `resize_array`; the lifetime tokens of `M` and `K`.
-    move ! (2 ∷ 4 ∷ []) $ join ! $ move ! (2 ∷ 0 ∷ []) $ join ! $ move ! (1 ∷ 0 ∷ []) $ join ! $
-    move ! (1 ∷ []) $
+    (compiled.calls-thin_block::in_place::resize_array 𝓡.env wired) X A k EX.laws
+    LA fits_k g d dd met md) y
+    (and_then ! (get ! refl) (and_then ! (get ! refl) (and_then ! (get ! refl)
+    (and_then ! (get ! refl) (and_then ! (get ! refl) (no_more !)))))) (λ u.
+    use1 𝓛 (later (raw (ex 𝓤 (Flagged 𝓛 left u)) ⊛ ‵ (flft κ q) ⊛ ‵ (flft κT qT) ⊛ ‵ (flft κA qA)
+    ⊛ ‵ (flft κK qK)))
+    (Resizing-gives EX Y k 𝓛 𝓜.mem 𝓡.returns κ κT κA κK q qT qA qK z.0.2.0 handle_at h b o count
+    held wanted ws u) $ await ! tt $ split ! $ move ! (1 ∷ []) $ split3 ! $ move ! (2 ∷ []) $
+    split ! $
+    -- The context is now: the lifetime tokens of `A`, `K`, the allocator reference and `T`; the
+    -- result of `resize_array`; the lifetime token of `M`; an empty entry.
+    move ! (1 ∷ 6 ∷ []) $ join ! $ move ! (5 ∷ 0 ∷ []) $ join ! $ move ! (1 ∷ 0 ∷ []) $ join ! $
+    move ! (2 ∷ 0 ∷ []) $ join ! $ move ! (1 ∷ 0 ∷ []) $ join ! $ move ! (1 ∷ []) $
     -- The context is now: the resources that `resize_array` has returned; the lifetime tokens.
     let inner : Body = inside (head (after 1 fn.body)) in
     let both : Body = head (after 5 inner) in
