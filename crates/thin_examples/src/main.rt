@@ -227,7 +227,10 @@ fn show_splice(rt: &impl Print, alloc: Global) -> io::Result<()> {
     show(rt, "splice_numbers", list)?;
     let mut list = ThinVec::from_array(alloc, [1, 2, 3])?;
     replace::splice_by(&mut list, (1, 1), 7..9, alloc)?;
-    show(rt, "splice_by", list)
+    show(rt, "splice_by", list)?;
+    let mut list = ThinVec::from_array(alloc, [1, 2, 3, 4])?;
+    replace::splice_one(&mut list, 1, 3, 9, alloc);
+    show(rt, "splice_one", list)
 }
 
 fn show_transfer(rt: &impl Print, alloc: Global) -> io::Result<()> {

@@ -2,11 +2,12 @@
 ghost use Rattle.std.specs.Iterator.Runs.{WholeRun};
 ghost use Rattle.std.specs.Iterator.{IsFinite};
 ghost use Rattle.std.specs.List.{replace_range};
-ghost use Rattle.std.specs.Prelude.{◌≡◌, ◌+◌, ◌-◌, ◌≤◌, ◌++◌, [], ◌∷◌, IsOk, OnErr, OnOk, drop, length, take};
+ghost use Rattle.std.specs.Prelude.{◌≡◌, ◌+◌, ◌-◌, ◌<◌, ◌≤◌, ◌++◌, [], ◌∷◌, IsOk, OnErr, OnOk, drop, length, take};
 ghost use Rattle.thin_vec.specs.Edits.ReplaceRange.{ReplacesByClones};
 ghost use Rattle.thin_vec.specs.ThinVec.{HasRoomFor};
 
 use std::alloc::{AllocError, Allocator};
+use std::iter::once;
 use thin_vec::{Growth, SpliceRefused, ThinVec, ThinVecError, thin_vec};
 
 /// Replaces the bytes at the indices `start..end` with `word`.
@@ -139,4 +140,26 @@ pub fn splice_by<T: Drop, A: Allocator, G: Growth, I: Iterator<Item = T>>(
         ++ drop range.1 list.old.items)) }
 {
     list.splice(range.0, range.1, iter).finish(alloc)
+}
+
+/// Replaces the numbers at the indices `start..end`, of which there is at least one, with `number`.
+/// The range has a slot for it, so the call cannot fail, and the list requests no memory.
+pub fn splice_one<A: Allocator, G: Growth>(
+    list: &mut ThinVec<u32, A, G>,
+    start: usize,
+    end: usize,
+    number: u32,
+    alloc: A,
+)
+    requires nonempty { start < end }
+    requires in_bounds { end ≤ length list.old.items }
+    ensures items { list.new.items
+        ≡ (take start list.old.items ++ number ∷ []) ++ drop end list.old.items }
+    ensures capacity { list.new.capacity ≡ list.old.capacity }
+    ensures no_request { list.new.cost.blocks ≡ list.old.cost.blocks }
+{
+    match list.splice(start, end, once(number)).finish(alloc) {
+        Ok(()) => (),
+        Err(_refused) => unreachable!(),
+    }
 }

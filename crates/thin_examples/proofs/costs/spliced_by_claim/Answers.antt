@@ -1,17 +1,19 @@
 -- The iterator of `spliced_by_claim` yields three items, whatever it claims. They take three moves,
 -- and the item after the range takes at most two.
-use Rattle.std.proofs.Common.{rules, ◌≡◌, ◌∙◌, ◌++◌, ap, arith, length, length-append}
+use Rattle.std.proofs.Common.{rules, ◌≡◌, ◌∙◌, ◌++◌, ap, arith, drop, length, length-append, take}
 use Rattle.std.proofs.lemmas.List.{length-drop}
 use Rattle.thin_runner.proofs.HintedLemmas.{drains-items}
 use Rattle.thin_runner.specs.Hinted.{hinted_items}
-use Rattle.thin_vec.specs.Edits.Splice.{splice_block, splice_iter}
+use Rattle.thin_vec.specs.Edits.Splice.{splice_front, splice_iter, splice_tail}
 use Rattle.thin_examples.proofs.costs.spliced_by_claim.Goals as goal
 
 pub returns : goal.returns
 returns g c =
     let s = c.splice.ensures in
     let e = c.in_ok-finish.ensures in
-    let block = splice_block c.splice.result in
+    let front = splice_front c.splice.result in
+    let tail = splice_tail c.splice.result in
+    let xs = c.args.list.now.items in
     let new = e.items.0 in
     let yielded = drains-items (splice_iter c.splice.result) new e.items.1
     ∙ (ap hinted_items s.value ∙ c.new.ensures.items) in
@@ -22,14 +24,17 @@ returns g c =
         arith,
         c.requires.five,
         three,
-        e.cost.0.moves,
+        e.cost.moves,
         ap length yielded,
         ap length e.items.2,
         ap (λ list. list.cost.moves) left,
-        ap (λ cost. cost.moves) s.cost,
-        ap length s.tail ∙ length-drop 4 c.args.list.now.items,
-        length-append (block.front ++ new) block.tail,
-        length-append block.front new,
-        length-append block.front block.tail,
+        ap (λ list. list.cost.moves) s.left,
+        ap (λ list. length list.items) s.left,
+        length-append (take 2 xs) (drop 4 xs),
+        ap length s.front,
+        ap length s.tail,
+        length-drop 4 xs,
+        length-append (front ++ new) tail,
+        length-append front new,
       );
     }

@@ -1,22 +1,16 @@
 -- Proves that `hand_over_odd` moves all odd numbers from `list` to `other`, and leaves the even
 -- numbers in `list`.
-use Rattle.std.proofs.Common.{◌≡◌, ℕ, ◌-◌, ◌%◌, ◌==◌, ◌++◌, Bool, List, ap, arith, length, rules, take, ◌∙◌}
-use Rattle.std.proofs.Math.Seq.{take-length}
-use Rattle.std.proofs.lemmas.List.{append-nil, drop_all}
+use Rattle.std.proofs.Common.{ℕ, ◌≡◌, ◌%◌, ◌==◌, ◌++◌, Bool, ap, arith, length, rules, ◌∙◌}
+use Rattle.std.proofs.lemmas.List.{drop_all}
 use Rattle.std.specs.Option.{option_to_list}
-use Rattle.std.specs.Prelude.{filter, slice_range}
-use Rattle.thin_vec.proofs.EditLemmas.{extract_end, extract_start, extract_step, others}
+use Rattle.std.specs.Prelude.{filter}
+use Rattle.thin_vec.proofs.EditLemmas.{extract_end_all, extract_start, extract_step, length-extract_rest, others}
 use Rattle.thin_examples.proofs.transfer.hand_over_odd.Goals as goal
 
 -- `odd number` is true if `number` is odd. The closure in `hand_over_odd` computes the same
 -- condition.
 abbrev odd : ℕ → Bool
 odd number = number % 2 == 1
-
--- If `n` is the length of `xs`, then `slice_range xs 0 n` is `xs`.
-whole : (xs : List ℕ) (n : ℕ) → n ≡ length xs → slice_range xs 0 n ≡ xs
-whole xs n e = let same : n - 0 ≡ length xs = omega (arith, e) in
-    ap (λ m. take m xs) same ∙ take-length xs
 
 pub loop-number-init : goal.loop-number-init
 loop-number-init g c = (
@@ -25,8 +19,8 @@ loop-number-init g c = (
     arith,
     c.in_ok-reserve.ensures.ok,
     c.len-len.ensures.value,
-    ap length (c.extract_if-odd.ensures.rest
-        ∙ whole c.args.list.now.items _ c.len-len.ensures.value),
+    length-extract_rest odd c.extract_if-odd.result,
+    ap (λ v. length v.items) c.extract_if-odd.ensures.left,
   ),
 )
 
@@ -48,21 +42,25 @@ loop-number-preserved g c = (
 
 pub returns-clause-items : goal.returns-clause-items
 returns-clause-items g c =
-    let xs = c.args.list.now.items in
     let made = c.extract_if-odd.ensures in
-    let done = extract_end odd _ (λ s x b t y k. search rules) c.loop-number.invariant.0
-    c.next.ensures.steps c.in_default.is in
-    let rest = made.rest ∙ whole xs _ c.len-len.ensures.value in
-    let tail = made.tail ∙ drop_all _ xs (omega (arith, c.len-len.ensures.value)) in
-    let left : c.drop-odd.new.self.0.items ≡ others odd xs =
-    c.drop-odd.ensures.items
-    ∙ (done.1 ∙ ((λ i. made.front i ++ (others odd (rest i) ++ tail i))
-    ∙ append-nil (others odd xs))) in
+    let last = made.tail ∙ drop_all _ c.args.list.now.items (omega (
+      arith,
+      c.len-len.ensures.value,
+    )) in
+    let done = extract_end_all odd _ (λ s x b t y k. search rules) made.front last
+    c.loop-number.invariant.0 c.next.ensures.steps c.in_default.is in
+    let left : c.drop-odd.new.self.0.items ≡ others odd c.args.list.now.items =
+    ap (λ v. v.items) c.drop-odd.ensures.left
+    ∙ (done.1 ∙ ap (λ v. others odd v.items) made.left) in
     search (rules, left)
 
 pub returns-clause-other_items : goal.returns-clause-other_items
 returns-clause-other_items g c =
-    let done = extract_end odd _ (λ s x b t y k. search rules) c.loop-number.invariant.0
-    c.next.ensures.steps c.in_default.is in
-    done.0 ∙ (λ i. c.in_ok-reserve.ensures.items i ++ filter odd ((c.extract_if-odd.ensures.rest
-    ∙ whole c.args.list.now.items _ c.len-len.ensures.value) i))
+    let made = c.extract_if-odd.ensures in
+    let last = made.tail ∙ drop_all _ c.args.list.now.items (omega (
+      arith,
+      c.len-len.ensures.value,
+    )) in
+    let done = extract_end_all odd _ (λ s x b t y k. search rules) made.front last
+    c.loop-number.invariant.0 c.next.ensures.steps c.in_default.is in
+    done.0 ∙ (λ i. c.in_ok-reserve.ensures.items i ++ filter odd (made.left i).items)
