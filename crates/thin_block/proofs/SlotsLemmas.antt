@@ -314,14 +314,14 @@ module _ {T : Type 0} (s : List (Option T)) (n : ℕ) (packed : IsPacked s n) wh
   full-long : length (filled_slots xs) ≡ n
   full-long = length-map xs Some ∙ sym packed.len
 
-  parted : s ≡ filled_slots xs ++ empty_slots (length s - n)
-  parted = packed.row
+  pub packed-parted : s ≡ filled_slots xs ++ empty_slots (length s - n)
+  packed-parted = packed.row
       ∙ ap (λ (k : ℕ). filled_slots xs ++ empty_slots (length s - k)) (sym packed.len)
 
   pub packed-le : n ≤ length s
   packed-le =
       let whole : length s ≡ length (filled_slots xs ++ empty_slots {T = T} (length s - n)) =
-      ap length parted in
+      ap length packed-parted in
       let long = full-long in
       omega (arith, length-append (filled_slots xs) (empty_slots {T = T} (length s - n)))
 
@@ -332,11 +332,11 @@ module _ {T : Type 0} (s : List (Option T)) (n : ℕ) (packed : IsPacked s n) wh
       (full-filled xs (empty_slots (length s - length xs)) i (omega arith))
 
   pub packed-run : slot_range 0 n s ≡ filled_slots xs
-  packed-run = ap (λ (l : Row). take n l) parted
+  packed-run = ap (λ (l : Row). take n l) packed-parted
       ∙ take_at (filled_slots xs) (empty_slots (length s - n)) n full-long
 
   packed-rest : drop n s ≡ empty_slots (length s - n)
-  packed-rest = ap (λ (l : Row). drop n l) parted
+  packed-rest = ap (λ (l : Row). drop n l) packed-parted
       ∙ drop_at (filled_slots xs) (empty_slots (length s - n)) n full-long
 
   pub packed-emptied : clear_slots 0 n s ≡ empty_slots (length s)
@@ -358,25 +358,28 @@ module _ {T : Type 0} (s : List (Option T)) (n : ℕ) (packed : IsPacked s n) wh
       ∙ ap (λ (l : Row). filled_slots xs ++ l)
       (drop-replicate n c None))
 
+  pub packed-long : (c : ℕ) → n ≤ c → length (filled_slots xs ++ empty_slots {T = T} (c - n)) ≡ c
+  packed-long c enough = omega (
+    arith,
+    full-long,
+    length-append (filled_slots xs) (empty_slots {T = T} (c - n)),
+    length-replicate (c - n) (let o : Option T = None in o),
+  )
+
   pub packed-grown : (c : ℕ) → length s ≤ c
       → write_slots 0 (slot_range 0 n s) (empty_slots c) ≡ s ++ empty_slots (c - length s)
   packed-grown c more =
       let le = packed-le in
       packed-carried c ∙ (tail-split xs (length s - n) (c - length s) (c - n) (omega arith)
-      ∙ ap (λ (l : Row). l ++ empty_slots (c - length s)) (sym parted))
+      ∙ ap (λ (l : Row). l ++ empty_slots (c - length s)) (sym packed-parted))
 
   pub packed-shrunk : (c : ℕ) → n ≤ c → c ≤ length s
       → write_slots 0 (slot_range 0 n s) (empty_slots c) ≡ take c s
   packed-shrunk c enough less =
       let kept : Row = filled_slots xs ++ empty_slots (c - n) in
       let split : s ≡ kept ++ empty_slots (length s - c) =
-      parted ∙ tail-split xs (c - n) (length s - c)
+      packed-parted ∙ tail-split xs (c - n) (length s - c)
       (length s - n) (omega arith) in
-      let long : length kept ≡ c = omega (
-        arith,
-        full-long,
-        length-append (filled_slots xs) (empty_slots (c - n)),
-        length-replicate (c - n) (let o : Option T = None in o),
-      ) in
+      let long : length kept ≡ c = packed-long c enough in
       packed-carried c ∙ sym (ap (λ (l : Row). take c l) split
       ∙ take_at kept (empty_slots (length s - c)) c long)

@@ -23,12 +23,10 @@ use std::mem::replace;
 // block, possibly in place. For fewer words, it is cheaper to allocate a new block.
 pub(crate) const LONG: usize = 32;
 
-// Resizes an allocation from `held` to `wanted` values of the type `T`. It begins with a gap, which
-// is unused memory for `K` values, and `len` values follow the gap. If the allocator fails, the
-// call fails, and the allocation is unchanged.
-//
-// While the allocator runs, the last values are stored in the gap. So the allocation begins with an
-// array of `len` values.
+// Resizes an allocation from `held` to `wanted` values of the type `T`. A gap, which is unused
+// memory for `K` values, precedes its `len` values. While the allocator runs, the last values are
+// stored in the gap, so that the allocation begins with an array. If the allocator fails, the call
+// fails, and the allocation is unchanged.
 #[inline(always)]
 pub(crate) unsafe fn resize_array<T, A: Allocator, const K: usize>(
     alloc: &A,
@@ -55,8 +53,7 @@ pub(crate) unsafe fn resize_array<T, A: Allocator, const K: usize>(
         };
         match resized {
             Ok(start) => {
-                let last = start.add(len) as *mut [T; K];
-                last.write((start as *mut [T; K]).read());
+                (start.add(len) as *mut [T; K]).write((start as *mut [T; K]).read());
                 Ok(start)
             }
             Err(refused) => {
@@ -115,12 +112,8 @@ impl<T, A: Allocator> Block<T, A> {
 
     // Returns this block with `cap` slots and the same items, or the unchanged block if the
     // allocator fails. `M` items form a word, and the header is as large as `K` words. The items
-    // form `count` words, and `count` is at least `K`.
-    //
-    // The function converts the items into words. While the allocator runs, the last `K` words are
-    // stored in the memory of the header, directly before the other words. So the memory of the
-    // block begins with an array of `count` words. The allocator resizes this memory from `held` to
-    // `wanted` words.
+    // form `count` words, and `count` is at least `K`. The function converts the items into words,
+    // and resizes the memory of the block from `held` to `wanted` words. The header is the gap.
     fn resize_words<const M: usize, const K: usize>(
         self,
         alloc: &A,
@@ -160,13 +153,8 @@ impl<T, A: Allocator> Block<T, A> {
         } = self;
         unsafe {
             make_words(at.add(HEADER_WORDS) as *mut [T; M], count);
-            match resize_array::<Word<T, M>, A, K>(
-                alloc,
-                at as *mut Word<T, M>,
-                count,
-                held,
-                wanted,
-            ) {
+            let words = at as *mut Word<T, M>;
+            match resize_array::<Word<T, M>, A, K>(alloc, words, count, held, wanted) {
                 Ok(start) => {
                     let at = start as *mut usize;
                     *at = cap;

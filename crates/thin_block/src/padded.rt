@@ -130,11 +130,8 @@ impl<T, A: Allocator> Block<T, A> {
 
     // Returns this block with `cap` slots and the same items, or the unchanged block if the
     // allocator fails. The block is padded, and is so with `cap` slots. `front` is the number of
-    // bytes before the header.
-    //
-    // While the allocator runs, the last item is stored in the padding and the header, directly
-    // before the other items. So the memory of the block begins with an array of `len` items. The
-    // allocator resizes this memory from `held` to `wanted` items.
+    // bytes before the header. The function resizes the memory of the block as an array from `held`
+    // to `wanted` items. The padding and the header are the gap.
     fn resize_padded(
         self,
         alloc: &A,

@@ -55,12 +55,10 @@ module _ {M : Type 1} {𝓤 : Ura M} (𝓛 : Logic 𝓤) (E : El) (t : Ty → Pt
   long : length ys ≡ k
   long = omega (arith, length-drop (n - k) items)
 
-  joined : items ≡ xs ++ ys
-  joined = sym (take-append-drop (n - k) items)
-
   parted : filled_slots items ++ empty_slots m
       ≡ filled_slots xs ++ (filled_slots ys ++ empty_slots m)
-  parted = ap (λ (l : List (el_x E)). filled_slots l ++ empty_slots m) joined
+  parted = ap (λ (l : List (el_x E)). filled_slots l ++ empty_slots m)
+      (sym (take-append-drop (n - k) items))
       ∙ (ap (λ (l : List (Option (el_x E))). l ++ empty_slots m) (map-append Some xs ys)
       ∙ append_assoc (filled_slots xs) (filled_slots ys) (empty_slots m))
 

@@ -1,7 +1,7 @@
 -- These lemmas convert the memory of an item into memory for the padding and the header of a block,
 -- or for the address of an allocation, and back.
-use Rattle.std.proofs.Common.{◌≡◌, true, ℕ, suc, Some, None, ◌+◌, ◌-◌, ◌*◌, List, [], ◌∷◌, ◌++◌, length, refl, sym, ap, subst, ◌∙◌, arith, w64, append_assoc, Bool, Option}
-use Rattle.thin_block.proofs.WalkPrelude.{length-append, Ura, ent, sep, apply∗, Fml, fsep, froom, feq, Ty, ty_int, ty_array, size, align, size-raw, Logic, sem, ‵, ◌⊛◌, ◌$◌, ◌∵◌, !, qed, by, move, keep, use1, use2, split, split3, fsplit, fsplit3, fjoin, fjoin3, rewrite, keeps, assume, done, nothing, feq_i, feq_l, lone, Ptr, block_ptr, RattleType, El, R, el_x, elτ, array_of, type_size, type_align}
+use Rattle.std.proofs.Common.{◌≡◌, true, ℕ, suc, Some, None, ◌+◌, ◌-◌, ◌*◌, List, [], ◌∷◌, ◌++◌, length, refl, sym, ap, subst, ◌∙◌, arith, append_assoc, Bool, Option}
+use Rattle.thin_block.proofs.WalkPrelude.{length-append, Ura, ent, sep, apply∗, Fml, fsep, froom, feq, Ty, ty_array, size, align, size-raw, Logic, sem, ‵, ◌⊛◌, ◌$◌, ◌∵◌, !, qed, by, move, keep, use1, use2, split, split3, fsplit, fsplit3, fjoin, fjoin3, rewrite, keeps, assume, done, nothing, feq_i, feq_l, lone, Ptr, block_ptr, RattleType, El, R, el_x, elτ, array_of, type_size, type_align}
 use Rattle.std.proofs.lemmas.List.{length-map, length-replicate, replicate-append-replicate}
 use mir.Syntax.{ty_ptr}
 use prog.RawLaws.{align-raw}
@@ -14,12 +14,8 @@ use Rattle.thin_block.specs.InPlace.{gapped_items}
 use Rattle.thin_block.specs.Slots.{filled_slots, empty_slots}
 use Rattle.thin_block.proofs.HeaderMemory.{header_unwritten}
 use Rattle.thin_block.proofs.SlotMemory.{Slot, cut, glue, to_raw, of_raw}
-use Rattle.thin_block.proofs.words.WordRooms.{front_out}
+use Rattle.thin_block.proofs.words.WordRooms.{half, front_out}
 use Rattle.thin_block.proofs.padded.PaddedLemmas.{InEights, in_eights, pieces}
-
--- `half` is the type of one half of the header. Both the capacity and the length have this type.
-abbrev half : Ty
-half = ty_int w64
 
 module _ {M : Type 1} {𝓤 : Ura M} (𝓛 : Logic 𝓤) (τ : Ty) (b n : ℕ)
     (hd : InEights (size τ) (align τ) n) where

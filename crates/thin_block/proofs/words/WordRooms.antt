@@ -18,7 +18,7 @@ pub past_is : (τ : Ty) (n o : ℕ) → past τ n o ≡ o + n * size τ
 past_is τ n o = past-place τ n o ∙ (place_is (size τ) o n ∙ add_comm (n * size τ) o)
 
 -- `half` is the type of one half of the header. Both the capacity and the length have this type.
-abbrev half : Ty
+abbrev pub half : Ty
 half = ty_int w64
 
 -- In this module, memory of the type `τ` can be used as `n + 2` pieces of 8 bytes.

@@ -98,9 +98,9 @@ resize_array_spec 𝓤 𝓛 𝓜 𝓡 wired T A k LT LA fits_k g d dd met md =
     -- Moves the values back, after the call to `grow` or `shrink` has returned `u`.
     let settled : (u : Val) → Sq 𝓛 (raw (ex 𝓤 (Flagged 𝓛 F u)) ∷ ‵ (flft κ q) ∷ ‵ (flft κT qT)
     ∷ Tokens ∷ holding 𝓛 En ((3, vint w64 len) ∷ (6, vptr b o) ∷ (7, vptr b there) ∷ []))
-    (settles En (place 17 []) u Resized) = λ u. flagged ! u F
+    (settles En (place 16 []) u Resized) = λ u. flagged ! u F
     (λ b' o' e. let there' : ℕ = len * s + o' in
-    regoal ! (λ (v : Val). settles En (place 17 []) v Resized) e refl $
+    regoal ! (λ (v : Val). settles En (place 16 []) v Resized) e refl $
     lands_last ! refl (Answer-typed true b' o') $ exec ! C Λ En (after 8 inner) Ends $
     sets ! (of_opd ! (get ! refl)) refl (Answer-typed true b' o') $
     first ! $ switches_on ! (get_tag ! (vrt ! refl (fld ! refl (stop !))) (whole !)) $
@@ -129,7 +129,7 @@ resize_array_spec 𝓤 𝓛 𝓜 𝓡 wired T A k LT LA fits_k g d dd met md =
     exec ! C Λ En (after 1 fn.body) (at_ret En Post) $
     sets ! (of_opd ! (get ! refl)) refl (Answer-typed true b' o') $
     returns ! (look_at ! 0 refl) $ free_all ! refl $ out true b' o')))
-    (λ e. regoal ! (λ (v : Val). settles En (place 17 []) v Resized) e refl $
+    (λ e. regoal ! (λ (v : Val). settles En (place 16 []) v Resized) e refl $
     lands_last ! refl (Answer-typed false 0 0) $ exec ! C Λ En (after 8 inner) Ends $
     sets ! (of_opd ! (get ! refl)) refl (Answer-typed false 0 0) $
     first ! $ switches_on ! (get_tag ! (vrt ! refl (fld ! refl (stop !))) (whole !)) $

@@ -1,8 +1,7 @@
 -- This file proves the contract of `resize_padded`, which uses a padded block as an array of items,
 -- resizes the array, and uses it as a padded block again.
-use Rattle.std.proofs.Common.{◌≡◌, ℕ, ◌+◌, ◌-◌, ◌*◌, ◌^◌, ◌<◌, ◌≤◌, List, [], ◌∷◌, ◌++◌, length, true, refl, sym, ap, subst, ◌∙◌, arith, lit<, w64, Some, None, Option}
-use Rattle.thin_block.proofs.WalkPrelude.{length-append, Fn, Body, ty_int, Val, WT, vint, vptr, vcons, vnil, inst_fn, SProp, ex, Fml, Lft, Share, ftrue, froom, flft, Env, WpFn, tables, After, ‵, raw, ◌⊛◌, exists, given, pick, learn, later, prop, at_ret, ◌$◌, ◌∵◌, !, qed, move, keep, drop, group, use1, use2, use3, split, split3, join, regoal, rewrite, fsplit, fjoin, await, suffices, done, whole, sub, agg, stop, fld, lit, bin, init, look, load, of_opd, no_more, and_then, assigns, first, blocks, exec, returns, enter, alloc_all, pass_all, free_all, look_at, get, get_in, through, sets, sets_last, lands_as, env, RattleType, owns, Ptr, block_ptr, types_at, calls_at, walk_of, ends_at, token, fm, proved_at, type_align, R, slot_at, then_runs, out_of_block, after, head, inside, arm_body, says_all}
-use Rattle.std.proofs.lemmas.List.{length-map, length-replicate}
+use Rattle.std.proofs.Common.{◌≡◌, ℕ, ◌+◌, ◌-◌, ◌*◌, ◌^◌, ◌<◌, ◌≤◌, List, [], ◌∷◌, ◌++◌, length, true, refl, sym, ap, subst, ◌∙◌, arith, lit<, w64, Some, Option}
+use Rattle.thin_block.proofs.WalkPrelude.{Fn, Body, ty_int, Val, WT, vint, vptr, vcons, vnil, inst_fn, SProp, ex, Fml, Lft, Share, ftrue, froom, flft, Env, WpFn, tables, After, ‵, raw, ◌⊛◌, exists, given, pick, learn, later, prop, at_ret, ◌$◌, ◌∵◌, !, qed, move, keep, drop, group, use1, use2, use3, split, split3, join, regoal, rewrite, fsplit, fjoin, await, suffices, done, whole, sub, agg, stop, fld, lit, bin, init, look, load, of_opd, no_more, and_then, assigns, first, blocks, exec, returns, enter, alloc_all, pass_all, free_all, look_at, get, get_in, through, sets, sets_last, lands_as, env, RattleType, owns, Ptr, block_ptr, types_at, calls_at, walk_of, ends_at, token, fm, proved_at, type_align, R, slot_at, then_runs, out_of_block, after, head, inside, arm_body, says_all}
 use mir.Syntax.{Ty, ty_ptr}
 use contract.BorrowLft.{◌⊑◌, ⊑_static}
 use base.Share as Shares
@@ -21,7 +20,7 @@ use Rattle.thin_block.proofs.sizes.SizesLemmas.{fits_tells, opened}
 use Rattle.thin_block.proofs.HeaderMemory.{args, Br, header, t, any_some, block_val, block_had, block_made, header_written}
 use Rattle.thin_block.proofs.SlotMemory.{sz, reach}
 use Rattle.thin_block.proofs.Addresses.{slot_found}
-use Rattle.thin_block.proofs.SlotsLemmas.{packed-carried}
+use Rattle.thin_block.proofs.SlotsLemmas.{packed-carried, packed-le, packed-long, packed-parted}
 use Rattle.thin_block.proofs.padded.PaddedLemmas.{Padded, padded_tells}
 use Rattle.thin_block.proofs.padded.PaddedMemory.{Kept, Opened, padded_apart, padded_right_in, array_in, array_out}
 use Rattle.thin_block.proofs.in_place.ResizedCall.{Resizing, at_resizing, leaves, Resizing-goes, Resizing-gives}
@@ -92,19 +91,13 @@ resize_padded_spec 𝓤 𝓛 𝓜 𝓡 wired T A LT LA g d dd met md =
     let front_is : front + 16 ≡ s = said.1.1.1.1.1.1.1.1.1.1.1.1.1 in
     let items : List T.Denot = items_in x.slots in
     let all : len ≡ length items = len_is ∙ packed.len in
-    let counted : length x.slots ≡ length items + (length x.slots - length items) =
-    ap length packed.row
-    ∙ (length-append (filled_slots items) (empty_slots (length x.slots - length items))
-    ∙ (λ i. length-map items Some i
-    + length-replicate {A = Option T.Denot} (length x.slots - length items) None i)) in
+    let le : x.len ≤ length x.slots = packed-le x.slots x.len packed in
     let within : len ≤ old = omega arith in
-    let j : ℕ = old - len in
+    let j : ℕ = length x.slots - x.len in
     let j' : ℕ = cap - x.len in
     let slots_are : old ≡ length items + j = omega arith in
     let slots_are' : cap ≡ length items + j' = omega arith in
-    let row : x.slots ≡ filled_slots items ++ empty_slots j = packed.row
-    ∙ (λ i. filled_slots items ++ empty_slots
-    (let e : length x.slots - length items ≡ j = omega arith in e i)) in
+    let row : x.slots ≡ filled_slots items ++ empty_slots j = packed-parted x.slots x.len packed in
     split ! $ split3 ! $ move ! (2 ∷ []) $ split ! $ move ! (4 ∷ []) $ fsplit ! $
     block_had E Y ! x vss.0 (λ b o at told fits.
     -- The context is now: the header; the slots; what the other arguments own; the lifetime tokens
@@ -205,11 +198,7 @@ resize_padded_spec 𝓤 𝓛 𝓜 𝓡 wired T A LT LA g d dd met md =
     let p : Ptr = block_ptr b' header' in
     let end' : ℕ = end_of s cap header' in
     let news : List (Option T.Denot) = filled_slots items ++ empty_slots j' in
-    let some_more : length news ≡ cap =
-    let first_part = length-append (filled_slots items) (empty_slots {T = T.Denot} j') in
-    let first_ones = length-map items Some in
-    let bare_ones = length-replicate {A = Option T.Denot} j' None in
-    omega arith in
+    let some_more : length news ≡ cap = packed-long x.slots x.len packed cap (omega arith) in
     let few = (fits_tells Rt cap fits_cap).few in
     let y' : B.Denot =
     record {

@@ -1,8 +1,7 @@
 -- This file proves the contract of `resize_words`, which converts a block into an array of words,
 -- resizes the array, and converts it back into a block.
-use Rattle.std.proofs.Common.{◌≡◌, ℕ, ◌+◌, ◌-◌, ◌*◌, ◌^◌, ◌<◌, ◌≤◌, List, [], ◌∷◌, ◌++◌, length, true, refl, sym, ap, subst, ◌∙◌, arith, lit<, w64, Some, None, Option}
-use Rattle.thin_block.proofs.WalkPrelude.{div_ceil, length-append, Ty, Fn, Body, Args, ty_int, a_type, a_number, dcons, dnil, bare, Val, WT, vint, vptr, vcons, vnil, inst_fn, SProp, ex, emp, id⊢, Fml, Lft, Share, ftrue, fsep, froom, flft, Env, WpFn, ◌⊑◌, fact, fact_i, tables, After, ‵, raw, ◌⊛◌, exists, pick, later, prop, at_ret, ◌$◌, ◌∵◌, !, qed, move, keep, drop, group, use0, use1, use2, use3, split, split3, join, regoal, rewrite, fsplit, await, fjoin3, feq_l, suffices, done, whole, sub, agg, stop, fld, lit, bin, init, of_opd, no_more, and_then, assigns, first, blocks, exec, returns, enter, alloc_all, pass_all, free_all, look_at, get, get_in, through, is, sets, sets_last, lands_as, env, usize, unit, RattleType, owns, yes, layout, param, number, bounded, Ptr, RawPtr, block_ptr, types_at, nothing, only, calls_at, triple_of, walk_of, ends_at, array_of, Al, token, fm, proved_at, type_size, type_align, El, R, slot_at, then_runs, out_of_block, after, head, inside, arm_body, says_all}
-use Rattle.std.proofs.lemmas.List.{length-map, length-replicate}
+use Rattle.std.proofs.Common.{◌≡◌, ℕ, ◌+◌, ◌-◌, ◌*◌, ◌^◌, ◌<◌, ◌≤◌, List, [], ◌∷◌, ◌++◌, length, true, refl, sym, ap, subst, ◌∙◌, arith, lit<, w64, Some, Option}
+use Rattle.thin_block.proofs.WalkPrelude.{div_ceil, Ty, Fn, Body, Args, ty_int, a_type, a_number, dcons, dnil, bare, Val, WT, vint, vptr, vcons, vnil, inst_fn, SProp, ex, emp, id⊢, Fml, Lft, Share, ftrue, fsep, froom, flft, Env, WpFn, ◌⊑◌, fact, fact_i, tables, After, ‵, raw, ◌⊛◌, exists, pick, later, prop, at_ret, ◌$◌, ◌∵◌, !, qed, move, keep, drop, group, use0, use1, use2, use3, split, split3, join, regoal, rewrite, fsplit, await, fjoin3, feq_l, suffices, done, whole, sub, agg, stop, fld, lit, bin, init, of_opd, no_more, and_then, assigns, first, blocks, exec, returns, enter, alloc_all, pass_all, free_all, look_at, get, get_in, through, is, sets, sets_last, lands_as, env, usize, unit, RattleType, owns, yes, layout, param, number, bounded, Ptr, RawPtr, block_ptr, types_at, nothing, only, calls_at, triple_of, walk_of, ends_at, array_of, Al, token, fm, proved_at, type_size, type_align, El, R, slot_at, then_runs, out_of_block, after, head, inside, arm_body, says_all}
 use native.Mathlib.Nat.{mul_assoc}
 use contract.BorrowLft.{⊑_meet, ⊑_static}
 use types.Match.{live, vrt, in_variant}
@@ -25,7 +24,7 @@ use Rattle.thin_block.specs.Words.{runs_at}
 use Rattle.thin_block.proofs.sizes.SizesLemmas.{fits_tells, opened}
 use Rattle.thin_block.proofs.HeaderMemory.{Br, header, t, any_some, block_val, block_had, block_made, header_written}
 use Rattle.thin_block.proofs.SlotMemory.{sz, reach}
-use Rattle.thin_block.proofs.SlotsLemmas.{packed-carried}
+use Rattle.thin_block.proofs.SlotsLemmas.{packed-carried, packed-le, packed-long, packed-parted}
 use Rattle.thin_block.proofs.WordConversionLemmas.{Kept, header_apart, right_in, words_apart}
 use Rattle.thin_block.proofs.words.WordsLemmas.{InWords, words_told}
 use Rattle.thin_block.proofs.words.WordsMemory.{word_el, words_made, words_long, chunks_long, words_in, words_joined}
@@ -78,7 +77,6 @@ resize_words_spec 𝓤 𝓛 𝓜 𝓡 wired T A m k LT LA fits_m fits_k g d dd m
     let vss = z.0.4 in
     let Rt : RattleType = R E in
     let Rw : RattleType = R W in
-    let ω : Ty = layout W.row in
     let τ' : Ty = bare (layout T) in
     let s : ℕ = sz W in
     let κ : Lft = z.0.0.0 in
@@ -124,14 +122,10 @@ resize_words_spec 𝓤 𝓛 𝓜 𝓡 wired T A m k LT LA fits_m fits_k g d dd m
     let items : List T.Denot = items_in x.slots in
     let all : len ≡ length items = len_is ∙ packed.len in
     let whole_words : length items ≡ count * m = sym (count_is ∙ all) in
-    let counted : length x.slots ≡ length items + (length x.slots - length items) =
-    ap length packed.row
-    ∙ (length-append (filled_slots items) (empty_slots (length x.slots - length items))
-    ∙ (λ i. length-map items Some i
-    + length-replicate {A = Option T.Denot} (length x.slots - length items) None i)) in
+    let le : x.len ≤ length x.slots = packed-le x.slots x.len packed in
     let within : len ≤ old = omega arith in
     let any : 0 < len = (let least = hd.counts.least count in let some = hd.any in omega arith) in
-    let j : ℕ = old - len in
+    let j : ℕ = length x.slots - x.len in
     let j' : ℕ = cap - x.len in
     let w : ℕ = div_ceil old m in
     let w' : ℕ = div_ceil cap m in
@@ -143,9 +137,7 @@ resize_words_spec 𝓤 𝓛 𝓜 𝓡 wired T A m k LT LA fits_m fits_k g d dd m
     let new_room : k + count ≤ wanted = omega arith in
     let slots_are : old ≡ length items + j = omega arith in
     let slots_are' : cap ≡ length items + j' = omega arith in
-    let row : x.slots ≡ filled_slots items ++ empty_slots j = packed.row
-    ∙ (λ i. filled_slots items ++ empty_slots
-    (let e : length x.slots - length items ≡ j = omega arith in e i)) in
+    let row : x.slots ≡ filled_slots items ++ empty_slots j = packed-parted x.slots x.len packed in
     -- The items form `count` words, `ws`, and `xss` lists the items of each.
     let xss : List (List T.Denot) = first_chunks m count items in
     let ws : List W.row.Denot = words_made T m count items in
@@ -160,12 +152,11 @@ resize_words_spec 𝓤 𝓛 𝓜 𝓡 wired T A m k LT LA fits_m fits_k g d dd m
     let short : count * s < 2 ^ 64 = omega arith in
     let fits_cap : fits_block Rt cap ≡ true = opened Rt cap small in
     let told_cap = fits_tells Rt cap fits_cap in
-    let told_old = fits_tells Rt old
-    (subst (λ (n : ℕ). fits_block Rt n ≡ true) (sym old_is) fits) in
     let tok : Ty → Ptr → Fml = token Y h in
     let words : WT (block_val here) = (tt, (tt, (tt, tt))) in
     let fits_old : fits_block Rt old ≡ true =
     subst (λ (n : ℕ). fits_block Rt n ≡ true) (sym old_is) fits in
+    let told_old = fits_tells Rt old fits_old in
     rewrite ! 0 (λ (u : Option A.Denot). ‵ (header (t E Y) Rt x.len (length x.slots) u b o)) from
     refl $
     rewrite ! 0 (λ (n : ℕ). ‵ (header_owns tok Rt x.len n b o)) (sym old_is) refl $
@@ -297,11 +288,7 @@ resize_words_spec 𝓤 𝓛 𝓜 𝓡 wired T A m k LT LA fits_m fits_k g d dd m
     (λ b' o' e.
     let p : Ptr = block_ptr b' o' in
     let news : List (Option T.Denot) = filled_slots items ++ empty_slots j' in
-    let some_more : length news ≡ cap =
-    let front = length-append (filled_slots items) (empty_slots {T = T.Denot} j') in
-    let first_ones = length-map items Some in
-    let bare_ones = length-replicate {A = Option T.Denot} j' None in
-    omega arith in
+    let some_more : length news ≡ cap = packed-long x.slots x.len packed cap (omega arith) in
     let y' : B.Denot =
     record {
       at = p;
