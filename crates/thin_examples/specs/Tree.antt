@@ -1,9 +1,9 @@
--- The kind, the children and the node count of a node of a tree. The node count is the number of
--- nodes of the tree whose root is the node.
+-- The kind, the children and the node count of a node of a tree, and the tree with a new kind in each
+-- node. The node count is the number of nodes of the tree whose root is the node.
 use Rattle.std.specs.Prelude.{ℕ, ◌+◌, sum}
 use Rattle.std.specs.declared.alloc.Global.{Global}
 use Rattle.thin_vec.specs.ThinVec.{ListView}
-use Rattle.thin_examples.specs.declared.tree.Node.{Node, out-Node}
+use Rattle.thin_examples.specs.declared.tree.Node.{Node, out-Node, roll-Node}
 use Rattle.thin_examples.specs.declared.tree.Node.TheFolds.{fold-Node}
 use Rattle.thin_examples.specs.declared.tree.Node.TheOpen.{Node-F}
 
@@ -23,3 +23,11 @@ count_step node = 1 + sum node.children.items
 -- `node_count node` is the number of nodes in the tree whose root is `node`, including the root.
 abbrev pub node_count : Node → ℕ
 node_count = fold-Node ℕ count_step
+
+-- `paint_step k node` is the node `node` with the kind `k`.
+abbrev pub paint_step : ℕ → Node-F Node → Node
+paint_step k node = roll-Node (record node { kind = k })
+
+-- `painted k node` is the tree `node` with the kind `k` in each node.
+abbrev pub painted : ℕ → Node → Node
+painted k = fold-Node Node (paint_step k)

@@ -1,5 +1,6 @@
 //! Examples whose contracts say how often a list grows, and how many items are moved.
 ghost use Rattle.std.specs.Prelude.{◌≡◌, ◌+◌, ◌*◌, ◌≤◌, ◌++◌, [], ◌∷◌, IfOk, OnOk, insert, length, remove};
+ghost use Rattle.thin_vec.specs.Cheap.{IsCheap};
 
 use std::alloc::{AllocError, Allocator};
 use std::iter::once;
@@ -218,4 +219,26 @@ fn even_out<A: Allocator>(list: &mut ThinVec<u32, A>)
     let mut extract = list.extract_if(0, 5, |number: &mut u32| *number % 2 == 0);
     let _four = extract.next();
     let _six = extract.next();
+}
+
+/// Pushes the numbers of a slice one by one onto any list. Growth copies at most as many items as
+/// the capacity increases, and a cheap list stays cheap.
+///
+/// # Errors
+///
+/// Fails if there is not enough memory. On failure, the first `k` numbers have been pushed, for
+/// some `k`.
+pub fn push_each<A: Allocator, G: Growth>(
+    list: &mut ThinVec<u32, A, G>,
+    numbers: &[u32],
+) -> Result<(), ThinVecError>
+    ensures items { OnOk result (list.new.items ≡ list.old.items ++ numbers.now) }
+    ensures copied { list.new.cost.grown + list.old.capacity
+        ≤ list.old.cost.grown + list.new.capacity }
+    ensures cheap { IsCheap list.old → IsCheap list.new }
+{
+    for number in numbers {
+        list.push(*number)?;
+    }
+    Ok(())
 }

@@ -14,7 +14,17 @@ pub enum OrderError {
     #[error("an order for no piece")]
     NoPiece,
     #[error("no room for the order: {0}")]
-    NoRoom(#[from] ThinVecError),
+    NoRoom(ThinVecError),
+}
+
+impl From<ThinVecError> for OrderError {
+    ghost use Rattle.thin_examples.specs.declared.errors.OrderError.{OrderError};
+
+    ghost from_gives = { λ cause error. error ≡ OrderError.NoRoom cause };
+
+    fn from(cause: ThinVecError) -> OrderError {
+        OrderError::NoRoom(cause)
+    }
 }
 
 impl<S: Drop> From<Rejected<S>> for OrderError {
@@ -59,6 +69,7 @@ pub fn take_orders<A: Allocator, G: Growth>(
 ) -> Result<(), OrderError>
     ensures succeeds { HasRoomFor orders.old (length other.old.items) → IsOk result }
     ensures items { OnOk result (orders.new.items ≡ orders.old.items ++ other.old.items) }
+    ensures some_piece { ¬ (IsErrOf result OrderError.NoPiece) }
     ensures err { OnErr result (orders.new ≡ orders.old) }
     ensures other_err { OnErr result (other.new ≡ other.old) }
 {

@@ -293,7 +293,9 @@ fn show_tree(rt: &impl Print, alloc: Global) -> io::Result<()> {
     root.add_child(Node::leaf(alloc, 2))?;
     root.add_child(Node::leaf(alloc, 3))?;
     println!(rt; "Node::add_child: {} children", root.children.len())?;
-    println!(rt; "Node::count: {}", root.count())
+    println!(rt; "Node::count: {}", root.count())?;
+    root.paint(4);
+    println!(rt; "Node::paint: kind {}", root.kind)
 }
 
 fn show_tables(rt: &impl Print, alloc: Global) -> io::Result<()> {
@@ -333,7 +335,10 @@ fn show_costs(rt: &impl Print, alloc: Global) -> io::Result<()> {
     println!(rt; "spliced_by_claim: {list:?}, capacity {}", list.capacity())?;
     show_moves_in_six(rt, alloc)?;
     let edited = costs::edited(alloc)?;
-    println!(rt; "edited: {edited:?}")
+    println!(rt; "edited: {edited:?}")?;
+    let mut list = ThinVec::new(alloc);
+    costs::push_each(&mut list, &[1, 2, 3])?;
+    println!(rt; "push_each: {list:?}")
 }
 
 fn show_moves_in_six(rt: &impl Print, alloc: Global) -> io::Result<()> {

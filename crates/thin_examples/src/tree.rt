@@ -1,7 +1,7 @@
 //! An example of a type that holds a list of its own values: a node of a tree.
 ghost use Rattle.std.specs.Prelude.{◌≡◌, ◌+◌, ◌-◌, ◌^◌, [], ◌∷◌, ◌++◌, IfErr, IsOk, OnErr, OnOk, min};
 ghost use Rattle.thin_vec.specs.ThinVec.{HasRoomFor, IsNew};
-ghost use Rattle.thin_examples.specs.Tree.{children_of, kind_of, node_count};
+ghost use Rattle.thin_examples.specs.Tree.{children_of, kind_of, node_count, painted};
 
 use std::alloc::Global;
 use thin_vec::{Rejected, ThinVec};
@@ -55,5 +55,16 @@ impl Node {
             count = count.saturating_add(child.count());
         }
         count
+    }
+
+    /// Sets the kind of each node of the tree to `kind`.
+    pub fn paint(&mut self, kind: u32)
+        ensures tree { self.new ≡ painted kind self.old }
+    {
+        self.kind = kind;
+        let children = self.children.as_mut_slice();
+        for i in 0..children.len() {
+            children[i].paint(kind);
+        }
     }
 }
