@@ -95,7 +95,9 @@ impl Judge<u64> for Evens {
 
 // Returns `Ok(())` if no reply reports a failed call. Otherwise, returns the cause of the first
 // failed call as an error.
-fn all_granted<T, A: Allocator, G: Growth>(replies: &[Reply<T, A, G>]) -> Result<(), ThinVecError>
+pub(crate) fn all_granted<T, A: Allocator, G: Growth>(
+    replies: &[Reply<T, A, G>],
+) -> Result<(), ThinVecError>
     ensures granted { OnOk result (All IsGranted replies.now) }
 {
     for reply in replies {
@@ -107,7 +109,7 @@ fn all_granted<T, A: Allocator, G: Growth>(replies: &[Reply<T, A, G>]) -> Result
 }
 
 // Appends `item` to `items`. Fails if there is not enough memory for `item`.
-fn add<T: Drop, A: Allocator>(items: &mut Vec<T, A>, item: T) -> Result<(), ThinVecError>
+pub(crate) fn add<T: Drop, A: Allocator>(items: &mut Vec<T, A>, item: T) -> Result<(), ThinVecError>
     ensures items { OnOk result (items.new.items ≡ items.old.items ++ item ∷ []) }
 {
     match items.push(item) {

@@ -2,9 +2,12 @@
 ghost use Rattle.std.specs.Prelude.{◌≡◌, ◌+◌, ◌*◌, ◌≤◌, ◌++◌, [], ◌∷◌, IfOk, OnOk, insert, length, remove};
 ghost use Rattle.thin_vec.specs.Cheap.{IsCheap};
 
+use crate::commands::{Evens, add, all_granted};
 use std::alloc::{AllocError, Allocator};
 use std::iter::once;
+use thin_runner::command::{Command, Step};
 use thin_runner::hinted::Hinted;
+use thin_runner::runner::run;
 use thin_vec::{Growth, ThinVec, ThinVecError, thin_vec};
 
 /// Makes a list, and pushes 17 numbers onto it. The list requests memory four times. The last three
@@ -198,6 +201,36 @@ pub fn edited<A: Allocator + Copy>(alloc: A) -> Result<ThinVec<u32, A>, AllocErr
     let _nothing = list.split_off(alloc, 3)?;
     let _five = list.pop();
     Ok(list)
+}
+
+/// Makes the same edits as `edited` by one `run` of six commands, of which one has a range that ends
+/// before it begins. The moves of all six together are at most 14.
+///
+/// # Errors
+///
+/// Fails if there is not enough memory.
+pub fn edited_by_run<A: Allocator + Copy>(
+    alloc: A,
+    list: &mut ThinVec<u64, A>,
+) -> Result<(), AllocError>
+    requires empty { list.old.items ≡ [] }
+    ensures fourteen_moves { OnOk result (list.new.cost.moves ≤ list.old.cost.moves + 14) }
+{
+    let six = Vec::from_array(alloc, [1, 2, 3, 4, 5, 6])?;
+    let front = Vec::from_array(alloc, [Step::Front])?;
+    let nine = Vec::from_array(alloc, [9])?;
+    let (no_steps, none) = (Vec::new(alloc), Vec::new(alloc));
+    let mut commands = Vec::new(alloc);
+    add(&mut commands, Command::Extend(six, 6))?;
+    add(&mut commands, Command::Splice(1, 3, front, nine, 1))?;
+    add(&mut commands, Command::ExtractIf(0, 5, 2))?;
+    add(&mut commands, Command::SplitOff(3))?;
+    add(&mut commands, Command::Splice(2, 1, no_steps, none, 0))?;
+    add(&mut commands, Command::Pop)?;
+    let mut replies = Vec::new(alloc);
+    run(alloc, list, commands, &mut replies, &Evens)?;
+    all_granted(replies.as_slice())?;
+    Ok(())
 }
 
 // Replaces 2 and 3 with 9.

@@ -338,7 +338,10 @@ fn show_costs(rt: &impl Print, alloc: Global) -> io::Result<()> {
     println!(rt; "edited: {edited:?}")?;
     let mut list = ThinVec::new(alloc);
     costs::push_each(&mut list, &[1, 2, 3])?;
-    println!(rt; "push_each: {list:?}")
+    println!(rt; "push_each: {list:?}")?;
+    let mut list = ThinVec::new(alloc);
+    costs::edited_by_run(alloc, &mut list)?;
+    println!(rt; "edited_by_run: {list:?}")
 }
 
 fn show_moves_in_six(rt: &impl Print, alloc: Global) -> io::Result<()> {

@@ -30,6 +30,9 @@ pub struct Ledger {
     pub hints: Cell<u64>,
     /// The number of calls to closures that call `Ledger::called`.
     pub calls: Cell<u64>,
+    /// The last digits of the numbers of the counted items that were dropped, in this order, as
+    /// the digits of a decimal number.
+    pub dropped: Cell<u64>,
 }
 
 impl Ledger {
@@ -44,6 +47,7 @@ impl Ledger {
             nexts: Cell::new(0),
             hints: Cell::new(0),
             calls: Cell::new(0),
+            dropped: Cell::new(0),
         }
     }
 
@@ -62,6 +66,7 @@ impl Ledger {
             &self.nexts,
             &self.hints,
             &self.calls,
+            &self.dropped,
         ] {
             cell.set(0);
         }
@@ -86,6 +91,7 @@ impl Drop for Ledger {
             nexts: _,
             hints: _,
             calls: _,
+            dropped: _,
         } = self;
     }
 }
@@ -135,10 +141,12 @@ impl<P: Drop> Drop for Counted<'_, P> {
     fn drop(self) {
         let Counted {
             ledger,
-            number: _,
+            number,
             payload: _,
         } = self;
         ledger.live.set(ledger.live.get().saturating_sub(1));
+        let dropped = ledger.dropped.get().wrapping_mul(10);
+        ledger.dropped.set(dropped.wrapping_add(number % 10));
     }
 }
 

@@ -2,18 +2,23 @@
 //! which the test chooses. A `Ledger` has such an allocator, and counts items, clones and calls.
 //! Items of the types `Numbered` are made from numbers, and those of the type `Counted` are counted.
 //! `Claims` is an iterator whose size hint may be wrong. `Fourfold` and `Threefold` are growth rules
-//! that only tests use. The trait `Ruled` computes the capacities that tests expect.
+//! that only tests use. The trait `Ruled` computes the capacities that tests expect. A `Case` is a
+//! call of a sweep on a list.
 #![tactic(auto)]
 
+mod case;
 mod claims;
 mod ledger;
+mod lists;
 mod multiples;
 mod numbered;
 mod refusing;
 mod ruled;
 
+pub use case::{Answer, At, Case, Due, Lender, List, Pattern, Wrong, filled_list, numbered_items};
 pub use claims::Claims;
 pub use ledger::{Counted, CountedWord, Ledger};
+pub use lists::{counted_list, list_of, splice};
 pub use multiples::{Fourfold, Threefold};
 pub use numbered::Numbered;
 pub use refusing::Refusing;

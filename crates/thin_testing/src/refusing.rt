@@ -1,6 +1,6 @@
 //! Defines `Refusing`, an allocator for tests that wraps another allocator, `inner`. It refuses one
-//! request, which the test chooses, and passes all other requests on to `inner`. A request is a
-//! call to `allocate`. The methods `grow` and `shrink` are those of the trait: each makes one
+//! request, which the test chooses, or all, and passes the other requests on to `inner`. A request
+//! is a call to `allocate`. The methods `grow` and `shrink` are those of the trait: each makes one
 //! request, for a new block, and then frees the old one. So no block grows in place.
 //!
 //! Pass the allocator by reference, as `&Refusing<Global>`. Such a reference is itself an
@@ -11,16 +11,16 @@
 //!
 //! It is proved that every block comes from `inner`, and that a freed block is returned to `inner`.
 //! The counters are only tested, because contracts cannot mention the contents of a `Cell`.
-use std::alloc::{AllocError, Allocator};
+use std::alloc::{AllocError, Allocator, Global};
 use std::cell::Cell;
 use std::rc::Rc;
 
 // The counters of an allocator `Refusing`, and the number of the request that it refuses.
 // `requests` is the number of requests since the allocator was created or since the last call to
 // `refuse`. `blocks` is the number of blocks that are allocated and have not been freed yet, and
-// `bytes` is the sum of their sizes. `refused` is the number of the refused request, or 0 if no
-// request is refused. `owned` is what the allocator owns, so that a test can see whether the
-// allocator was dropped.
+// `bytes` is the sum of their sizes. `refused` is the number of the refused request, 0 if no
+// request is refused, or `ALL` if all are. `owned` is what the allocator owns, so that a test can
+// see whether the allocator was dropped.
 #[derive(Drop)]
 struct Counts {
     requests: Cell<u64>,
@@ -30,11 +30,15 @@ struct Counts {
     owned: Option<Rc<u64>>,
 }
 
+// The number in `refused` by which all requests are refused.
+const ALL: u64 = u64::MAX;
+
 // Counts a request, and returns whether this request is refused.
 fn refuses(counts: &Counts) -> bool {
     let request = counts.requests.get().saturating_add(1);
     counts.requests.set(request);
-    request == counts.refused.get()
+    let refused = counts.refused.get();
+    request == refused || refused == ALL
 }
 
 // Counts a block of `size` bytes if `answer` is `Ok`.
@@ -53,7 +57,7 @@ fn returned(counts: &Counts, size: usize) {
     counts.bytes.set(bytes.saturating_sub(size as u64));
 }
 
-/// An allocator that refuses one request and passes all other requests on to `inner`.
+/// An allocator that refuses one request, or all, and passes the other requests on to `inner`.
 pub struct Refusing<B: Allocator> {
     inner: B,
     counts: Counts,
@@ -89,6 +93,12 @@ impl<B: Allocator> Refusing<B> {
         self.counts.refused.set(refused);
     }
 
+    /// Sets the number of requests to 0. The allocator will refuse all requests until the next call
+    /// to `refuse`.
+    pub fn refuse_all(&self) {
+        self.refuse(ALL);
+    }
+
     /// Counts a request that asks for no memory, and returns an error if this request is refused. A
     /// clone that owns no block uses it, so that a test can choose to refuse the clone.
     pub fn request(&self) -> Result<(), AllocError> {
@@ -114,6 +124,13 @@ impl<B: Allocator> Refusing<B> {
     /// is the sum of the sizes of the requests, less those with which blocks were freed.
     pub fn bytes(&self) -> u64 {
         self.counts.bytes.get()
+    }
+}
+
+impl Refusing<Global> {
+    /// Returns an allocator as `new` does. It is never freed, so that its reference is `'static`.
+    pub fn leaked(inner: Global, refused: u64) -> Result<&'static Refusing<Global>, AllocError> {
+        Ok(Box::leak(Box::new(inner, Refusing::new(inner, refused))?))
     }
 }
 

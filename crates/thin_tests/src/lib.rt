@@ -1,10 +1,11 @@
-//! Tests of what contracts do not state, and the tests of the Rust crate thin-vec. The sweeps in the
-//! crate `thin_vec_sweep` look for leaks, for requests that are not needed, and for needless
-//! failures. The crate `run_tests` gives edits up after each number of steps, and refuses each
-//! request of each command. The tests here look for the rest.
+//! Tests of what contracts do not state: names and traits, printed texts, closures, macros, tables
+//! and programs. The other crates of tests are: `memory_tests`, `figure_tests`, `ported_tests` (the
+//! tests of the Rust crate thin-vec), `run_tests` (lists of commands), and the sweeps, of which
+//! `thin_vec_sweep` is the first.
 //!
 //! A crate with tests is proved twice, with and without them. So the tests are in crates of their
-//! own, and the tested crates are proved only once.
+//! own, and the tested crates are proved only once. There are several, since crates are proved side
+//! by side.
 #![tactic(auto)]
 
 #[cfg(test)]

@@ -2,10 +2,10 @@
 ghost use Rattle.std.specs.Mem.{type_size};
 ghost use Rattle.std.specs.Prelude.{◌*◌, ◌<◌, ◌^◌};
 
-use crate::case::{Answer, At, Case, Due};
+use crate::asserts::assert_right;
 use std::alloc::Allocator;
 use std::process::Abort;
-use thin_testing::{Ledger, Numbered};
+use thin_testing::{Answer, At, Case, Due, Ledger, Numbered};
 use thin_vec::{Doubling, ThinVec, ThinVecError};
 
 /// Converts lists of several lengths to arrays of 0, 1, 2, 3, 6, 7, 20 and 100 items, and back.
@@ -47,15 +47,15 @@ fn arrays_of<T: Numbered, const N: usize, R: Abort>(rt: &R, ledger: &'static Led
 fn array<T: Numbered, const N: usize, R: Abort>(rt: &R, ledger: &'static Ledger, at: At)
     requires small { N * type_size T.row < 2 ^ 63 }
 {
-    let mut case: Case<T, Doubling> = Case::new(rt, ledger, at);
+    let mut case: Case<T, Doubling> = Case::new(ledger, at).expect(rt, "memory");
     let list = case.take();
     case.begin("into_array, from_array");
     let answer: Answer = match there_and_back::<T, _, N>(list, &ledger.alloc) {
         Ok(capacity) => Ok(Due::block_of(capacity)),
         Err(cause) => Err(cause),
     };
-    case.check(rt, answer);
-    case.end(rt);
+    assert_right(rt, case.check(answer));
+    assert_right(rt, case.end());
 }
 
 // Converts the list to an array, the array to a list, and drops this list. Returns the number of

@@ -1,11 +1,9 @@
 //! Tests of the sweeps themselves: they make the calls that they should make, and see what is wrong.
-use crate::case::{Answer, At, Case, Due, leaked_ledger};
-use crate::runs::is_right;
+use crate::asserts::assert_right;
 use crate::sweep::{Calls, sweep};
 use std::alloc::Global;
 use std::process::Abort;
-use thin_runner::command::Command;
-use thin_testing::{Counted, Numbered};
+use thin_testing::{Answer, At, Case, Counted, Due, Ledger};
 use thin_vec::{Doubling, Growth, ThinVecError};
 
 // Two calls, which make as many requests as their numbers say.
@@ -33,7 +31,7 @@ impl<G: Growth> Calls<Item16, G> for Requests {
 // list of 3 items has two arguments, and the list of 8 items has one. Each has two spare capacities.
 #[test]
 fn sweep_makes_each_call_and_refuses_each_request(rt: HostRuntime) {
-    let ledger = leaked_ledger(&rt, rt.alloc());
+    let ledger = Ledger::leaked(rt.alloc()).expect(&rt, "memory");
     let swept = sweep::<Requests, Item16, Doubling, _>(&rt, ledger, &[3, 8], &[0, 1], 5);
     assert_eq!(rt; swept, (36, 18));
 }
@@ -42,7 +40,7 @@ type Item16 = Counted<'static>;
 
 // Returns a case of a list of two items and capacity 3.
 fn two_items<R: Abort>(rt: &R, alloc: Global, refused: u64) -> Case<Item16, Doubling> {
-    let ledger = leaked_ledger(rt, alloc);
+    let ledger = Ledger::leaked(alloc).expect(rt, "memory");
     let at = At {
         call: "",
         length: 2,
@@ -50,7 +48,7 @@ fn two_items<R: Abort>(rt: &R, alloc: Global, refused: u64) -> Case<Item16, Doub
         argument: 0,
         refused,
     };
-    let mut case = Case::new(rt, ledger, at);
+    let mut case = Case::new(ledger, at).expect(rt, "memory");
     case.begin("none");
     case
 }
@@ -58,8 +56,8 @@ fn two_items<R: Abort>(rt: &R, alloc: Global, refused: u64) -> Case<Item16, Doub
 #[test]
 fn case_without_a_call_passes(rt: HostRuntime) {
     let case = two_items(&rt, rt.alloc(), 0);
-    case.check(&rt, Ok(Due::NOTHING));
-    case.end(&rt);
+    assert_right(&rt, case.check(Ok(Due::NOTHING)));
+    assert_right(&rt, case.end());
 }
 
 #[test]
@@ -67,14 +65,14 @@ fn case_without_a_call_passes(rt: HostRuntime) {
 fn detects_a_request_without_growth(rt: HostRuntime) {
     let case = two_items(&rt, rt.alloc(), 0);
     let _request = case.ledger.alloc.request();
-    case.check(&rt, Ok(Due::NOTHING));
+    assert_right(&rt, case.check(Ok(Due::NOTHING)));
 }
 
 #[test]
 #[should_panic(expected = "failed: requests, At")]
 fn detects_a_missing_request(rt: HostRuntime) {
     let case = two_items(&rt, rt.alloc(), 0);
-    case.check(&rt, Ok(Due::requests(1)));
+    assert_right(&rt, case.check(Ok(Due::requests(1))));
 }
 
 #[test]
@@ -82,14 +80,14 @@ fn detects_a_missing_request(rt: HostRuntime) {
 fn detects_a_success_after_a_refusal(rt: HostRuntime) {
     let case = two_items(&rt, rt.alloc(), 1);
     let _request = case.ledger.alloc.request();
-    case.check(&rt, Ok(Due::requests(1)));
+    assert_right(&rt, case.check(Ok(Due::requests(1))));
 }
 
 #[test]
 #[should_panic(expected = "failed: failed with no request, At")]
 fn detects_a_needless_failure(rt: HostRuntime) {
     let case = two_items(&rt, rt.alloc(), 0);
-    case.check(&rt, Err(ThinVecError::OutOfMemory));
+    assert_right(&rt, case.check(Err(ThinVecError::OutOfMemory)));
 }
 
 #[test]
@@ -98,7 +96,7 @@ fn detects_a_request_after_a_refusal(rt: HostRuntime) {
     let case = two_items(&rt, rt.alloc(), 1);
     let _refused = case.ledger.alloc.request();
     let _retried = case.ledger.alloc.request();
-    case.check(&rt, Err(ThinVecError::OutOfMemory));
+    assert_right(&rt, case.check(Err(ThinVecError::OutOfMemory)));
 }
 
 #[test]
@@ -106,7 +104,7 @@ fn detects_a_request_after_a_refusal(rt: HostRuntime) {
 fn detects_a_request_before_an_overflow(rt: HostRuntime) {
     let case = two_items(&rt, rt.alloc(), 0);
     let _request = case.ledger.alloc.request();
-    case.check(&rt, Err(ThinVecError::CapacityOverflow));
+    assert_right(&rt, case.check(Err(ThinVecError::CapacityOverflow)));
 }
 
 #[test]
@@ -114,21 +112,21 @@ fn detects_a_request_before_an_overflow(rt: HostRuntime) {
 fn detects_a_missing_clone(rt: HostRuntime) {
     let case = two_items(&rt, rt.alloc(), 0);
     let _request = case.ledger.alloc.request();
-    case.check(&rt, Ok(Due::NOTHING.clones(1)));
+    assert_right(&rt, case.check(Ok(Due::NOTHING.clones(1))));
 }
 
 #[test]
 #[should_panic(expected = "failed: calls, At")]
 fn detects_a_missing_call(rt: HostRuntime) {
     let case = two_items(&rt, rt.alloc(), 0);
-    case.check(&rt, Ok(Due::calls(1)));
+    assert_right(&rt, case.check(Ok(Due::calls(1))));
 }
 
 #[test]
 #[should_panic(expected = "failed: comparisons, At")]
 fn detects_a_missing_comparison(rt: HostRuntime) {
     let case = two_items(&rt, rt.alloc(), 0);
-    case.check(&rt, Ok(Due::comparisons(1)));
+    assert_right(&rt, case.check(Ok(Due::comparisons(1))));
 }
 
 #[test]
@@ -136,7 +134,7 @@ fn detects_a_missing_comparison(rt: HostRuntime) {
 fn detects_an_item_that_is_not_dropped(rt: HostRuntime) {
     let case = two_items(&rt, rt.alloc(), 0);
     let item = case.item();
-    case.check(&rt, Ok(Due::NOTHING));
+    assert_right(&rt, case.check(Ok(Due::NOTHING)));
     drop(item);
 }
 
@@ -144,9 +142,9 @@ fn detects_an_item_that_is_not_dropped(rt: HostRuntime) {
 #[should_panic(expected = "failed: blocks, At")]
 fn detects_a_block_that_is_not_freed(rt: HostRuntime) {
     let mut case = two_items(&rt, rt.alloc(), 0);
-    let other = case.other(&rt, 0, 1);
+    let other = case.other(0, 1).expect(&rt, "memory");
     case.begin("none");
-    case.check(&rt, Ok(Due::NOTHING));
+    assert_right(&rt, case.check(Ok(Due::NOTHING)));
     drop(other);
 }
 
@@ -155,21 +153,6 @@ fn detects_a_block_that_is_not_freed(rt: HostRuntime) {
 fn detects_an_item_that_is_left_at_the_end(rt: HostRuntime) {
     let case = two_items(&rt, rt.alloc(), 0);
     let item = case.item();
-    case.end(&rt);
-    drop(item);
-}
-
-// Executes `pop`, and returns whether all about it is right.
-fn pops_rightly<T: Numbered, G: Growth>(case: &mut Case<T, G>) -> Option<bool> {
-    is_right(case.ledger, &mut case.list, Command::Pop, 0, 0).ok()
-}
-
-// Executes a command while an item exists that the list does not have.
-#[test]
-fn a_run_sees_an_item_that_is_not_dropped(rt: HostRuntime) {
-    let mut case = two_items(&rt, rt.alloc(), 0);
-    assert!(rt; pops_rightly(&mut case) == Some(true));
-    let item = case.item();
-    assert!(rt; pops_rightly(&mut case) == Some(false));
+    assert_right(&rt, case.end());
     drop(item);
 }

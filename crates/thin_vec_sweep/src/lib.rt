@@ -12,10 +12,8 @@
 //! - As many items exist as the list has, and one block if the list has a capacity.
 //! - Nothing is left once the list is dropped.
 //!
-//! Items, capacities and returned values are proved, so a sweep does not compare them. Only the
-//! capacities after `extend`, `from_iter`, `collect` and `finish` have exact values that no contract
-//! states: `fill.rt` computes them. And `twins.rt` makes each call on lists of `u64` and on the kit's
-//! `Vec`, and compares the items, so that a wrongly compiled loop is seen.
+//! Items, capacities and returned values are proved, so a sweep does not compare them. The crate
+//! `fill_sweep` has the calls that take an iterator, and `run_sweep` has lists of commands.
 //!
 //! To add a call, add an arm to the `match` of a file in `calls/`, and count it in `CALLS`. An arm
 //! makes the arguments, calls `begin` with the name of the call, makes the call, and returns a `Due`.
@@ -25,24 +23,14 @@
 #[cfg(test)]
 mod arrays;
 #[cfg(test)]
-mod calls;
+mod asserts;
 #[cfg(test)]
-mod case;
+mod calls;
 #[cfg(test)]
 mod checks;
 #[cfg(test)]
-mod fill;
-#[cfg(test)]
-mod limits;
-#[cfg(test)]
 mod no_size;
-#[cfg(test)]
-mod runs;
-#[cfg(test)]
-mod splices;
 #[cfg(test)]
 mod sweep;
 #[cfg(test)]
 mod tests;
-#[cfg(test)]
-mod twins;

@@ -1,8 +1,8 @@
 //! A sweep makes each call of a group on many lists, with several arguments, and with each of its
 //! requests refused in turn.
-use crate::case::{Answer, At, Case};
+use crate::asserts::assert_right;
 use std::process::Abort;
-use thin_testing::{Ledger, Numbered};
+use thin_testing::{Answer, At, Case, Ledger, Numbered};
 use thin_vec::Growth;
 
 /// A group of calls on a list of `T` with the growth rule `G`.
@@ -51,17 +51,12 @@ pub fn sweep<C: Calls<T, G>, T: Numbered, G: Growth, R: Abort>(
     (cases, refusals)
 }
 
-/// Returns the number of random cases of a call on lists of `T`.
-pub fn rounds<T: Numbered>() -> usize {
-    if T::SIZE > 100 { 12 } else { 60 }
-}
-
 /// Makes each call of the group on random lists with random arguments.
 pub fn sweep_at_random<C: Calls<T, G>, T: Numbered, G: Growth, R: Abort>(
     rt: &R,
     ledger: &'static Ledger,
 ) {
-    for round in 0..rounds::<T>() {
+    for round in 0..At::rounds::<T>() {
         for call in 0..C::CALLS {
             each_refusal::<C, T, G, R>(rt, ledger, At::random::<T>(round, call), call);
         }
@@ -109,12 +104,12 @@ fn case<C: Calls<T, G>, T: Numbered, G: Growth, R: Abort>(
     at: At,
     call: usize,
 ) -> u64 {
-    let mut case = Case::new(rt, ledger, at);
+    let mut case = Case::new(ledger, at).expect(rt, "memory");
     let answer = C::call(rt, &mut case, call);
     let requests = ledger.alloc.requests();
     if let Some(answer) = answer {
-        case.check(rt, answer);
-        case.end(rt);
+        assert_right(rt, case.check(answer));
+        assert_right(rt, case.end());
         return requests;
     }
     0

@@ -11,13 +11,7 @@ use crate::calls::making::Making;
 use crate::calls::reading::{Comparing, Reading};
 use crate::calls::removing::Removing;
 use crate::calls::replacing::Replacing;
-use crate::case::leaked_ledger;
-use crate::fill::{Collect, Extend, ExtendOfTrait, FromIter, fill_lists};
-use crate::limits::{limits, powers};
-use crate::runs::{assert_long_commands_right, assert_long_run_right, assert_runs_right};
-use crate::splices::splices;
 use crate::sweep::{sweep, sweep_at_random};
-use crate::twins::assert_twins_agree;
 use std::alloc::Global;
 use std::process::Abort;
 use thin_testing::{Counted, CountedWord, Fourfold, Ledger, Numbered, Ruled, Threefold};
@@ -66,7 +60,7 @@ fn sweeps<T: Numbered, G: Ruled, R: Abort>(
 
 // Sweeps all calls of short lists of `T`, and of lists of the given lengths.
 fn sweep_all<T: Numbered, G: Ruled, R: Abort>(rt: &R, alloc: Global, long: &[usize]) {
-    let ledger = leaked_ledger(rt, alloc);
+    let ledger = Ledger::leaked(alloc).expect(rt, "memory");
     sweeps::<T, G, R>(rt, ledger, &SHORT, &[0, 1, 4], ALL);
     sweeps::<T, G, R>(rt, ledger, long, &[0, 4, 30], 10);
     sweep::<Adding, T, G, R>(rt, ledger, &[1, 33], &[300], ALL);
@@ -74,18 +68,13 @@ fn sweep_all<T: Numbered, G: Ruled, R: Abort>(rt: &R, alloc: Global, long: &[usi
 
 // Makes all calls of `T` on random lists.
 fn sweep_random<T: Numbered, G: Ruled, R: Abort>(rt: &R, alloc: Global) {
-    let ledger = leaked_ledger(rt, alloc);
+    let ledger = Ledger::leaked(alloc).expect(rt, "memory");
     sweep_at_random::<Adding, T, G, R>(rt, ledger);
     sweep_at_random::<Removing, T, G, R>(rt, ledger);
     sweep_at_random::<Filtering, T, G, R>(rt, ledger);
     sweep_at_random::<Reading, T, G, R>(rt, ledger);
     sweep_at_random::<Replacing, T, G, R>(rt, ledger);
     sweep_at_random::<Making, T, Doubling, R>(rt, ledger);
-    fill_lists::<Extend, T, G, R>(rt, ledger, &[], &[]);
-    fill_lists::<ExtendOfTrait, T, G, R>(rt, ledger, &[], &[]);
-    fill_lists::<FromIter, T, Doubling, R>(rt, ledger, &[], &[]);
-    fill_lists::<Collect, T, Doubling, R>(rt, ledger, &[], &[]);
-    splices::<T, G, R>(rt, ledger, &[], &[]);
 }
 
 #[test]
@@ -197,7 +186,7 @@ fn growths<G: Ruled, R: Abort>(rt: &R, ledger: &'static Ledger) {
 
 #[test]
 fn sweeps_counted_items_under_other_rules(rt: HostRuntime) {
-    let ledger = leaked_ledger(&rt, rt.alloc());
+    let ledger = Ledger::leaked(rt.alloc()).expect(&rt, "memory");
     growths::<PowerBytes, _>(&rt, ledger);
     growths::<Threefold, _>(&rt, ledger);
     growths::<Fourfold, _>(&rt, ledger);
@@ -205,21 +194,21 @@ fn sweeps_counted_items_under_other_rules(rt: HostRuntime) {
 
 #[test]
 fn orders_lists_with_one_comparison_of_each_item(rt: HostRuntime) {
-    let ledger = leaked_ledger(&rt, rt.alloc());
+    let ledger = Ledger::leaked(rt.alloc()).expect(&rt, "memory");
     sweep::<Comparing, Small, Doubling, _>(&rt, ledger, &SHORT, &[0, 1, 9], ALL);
     sweep::<Comparing, Small, Doubling, _>(&rt, ledger, &[50, 150], &[0, 1], ALL);
 }
 
 #[test]
 fn sweeps_counted_items_of_long_lists(rt: HostRuntime) {
-    let ledger = leaked_ledger(&rt, rt.alloc());
+    let ledger = Ledger::leaked(rt.alloc()).expect(&rt, "memory");
     sweeps::<Small, Doubling, _>(&rt, ledger, &[4000], &[0, 1], 5);
     sweeps::<Small, Doubling, _>(&rt, ledger, &[41_000], &[0, 1], 2);
 }
 
 // Sweeps the calls that copy items.
 fn copies<T: Numbered + Copy, R: Abort>(rt: &R, alloc: Global) {
-    let ledger = leaked_ledger(rt, alloc);
+    let ledger = Ledger::leaked(alloc).expect(rt, "memory");
     sweep::<Copying, T, Doubling, R>(rt, ledger, &SHORT, &[0, 1, 4], ALL);
     sweep::<Copying, T, PowerBytes, R>(rt, ledger, &LONG, &[0, 1], ALL);
     sweep_at_random::<Copying, T, Doubling, R>(rt, ledger);
@@ -243,7 +232,7 @@ fn copies_items_of_all_sizes(rt: HostRuntime) {
 
 #[test]
 fn writes_and_copies_bytes(rt: HostRuntime) {
-    let ledger = leaked_ledger(&rt, rt.alloc());
+    let ledger = Ledger::leaked(rt.alloc()).expect(&rt, "memory");
     sweep::<Bytes, u8, Doubling, _>(&rt, ledger, &SHORT, &[0, 1, 60], ALL);
     sweep::<Bytes, u8, PowerBytes, _>(&rt, ledger, &LONG, &[0, 1, 60], ALL);
     sweep::<Bytes, u8, Doubling, _>(&rt, ledger, &[41_000], &[0], ALL);
@@ -253,112 +242,11 @@ fn writes_and_copies_bytes(rt: HostRuntime) {
 
 #[test]
 fn converts_arrays(rt: HostRuntime) {
-    let ledger = leaked_ledger(&rt, rt.alloc());
+    let ledger = Ledger::leaked(rt.alloc()).expect(&rt, "memory");
     arrays::<(), _>(&rt, ledger);
     arrays::<u8, _>(&rt, ledger);
     arrays::<[u8; 3], _>(&rt, ledger);
     arrays::<Small, _>(&rt, ledger);
     arrays::<ThreeWords, _>(&rt, ledger);
     arrays::<Large, _>(&rt, ledger);
-}
-
-// Tries the calls that fill a list of `T` from an iterator.
-fn fill_all<T: Numbered, G: Ruled, R: Abort>(rt: &R, alloc: Global) {
-    let ledger = leaked_ledger(rt, alloc);
-    fill_lists::<Extend, T, G, R>(rt, ledger, &SHORT, &[0, 4]);
-    fill_lists::<Extend, T, G, R>(rt, ledger, &[600], &[0]);
-    fill_lists::<ExtendOfTrait, T, G, R>(rt, ledger, &[0, 1, 33, 300], &[0, 1]);
-    fill_lists::<FromIter, T, Doubling, R>(rt, ledger, &[0], &[0]);
-    fill_lists::<Collect, T, Doubling, R>(rt, ledger, &[0], &[0]);
-}
-
-#[test]
-fn fills_lists_of_units_and_bytes(rt: HostRuntime) {
-    fill_all::<(), Doubling, _>(&rt, rt.alloc());
-    fill_all::<u8, PowerBytes, _>(&rt, rt.alloc());
-}
-
-#[test]
-fn fills_lists_of_numbers_and_of_320_bytes(rt: HostRuntime) {
-    fill_all::<i32, Doubling, _>(&rt, rt.alloc());
-    fill_all::<u128, Doubling, _>(&rt, rt.alloc());
-    fill_all::<[u64; 40], Doubling, _>(&rt, rt.alloc());
-}
-
-#[test]
-fn fills_lists_of_counted_items(rt: HostRuntime) {
-    fill_all::<Small, Doubling, _>(&rt, rt.alloc());
-    fill_all::<ThreeWords, Threefold, _>(&rt, rt.alloc());
-    fill_all::<Large, Doubling, _>(&rt, rt.alloc());
-}
-
-#[test]
-fn splices_units_and_bytes(rt: HostRuntime) {
-    let ledger = leaked_ledger(&rt, rt.alloc());
-    splices::<(), Doubling, _>(&rt, ledger, &[0, 1, 2, 3, 4], &[0, 3]);
-    splices::<u8, PowerBytes, _>(&rt, ledger, &[0, 1, 2, 3, 4], &[0, 3]);
-}
-
-#[test]
-fn splices_numbers_and_items_of_320_bytes(rt: HostRuntime) {
-    let ledger = leaked_ledger(&rt, rt.alloc());
-    splices::<i32, Doubling, _>(&rt, ledger, &[0, 1, 2, 3, 4], &[0, 3]);
-    splices::<u128, Doubling, _>(&rt, ledger, &[0, 1, 2, 3, 4], &[0, 3]);
-    splices::<[u64; 40], Doubling, _>(&rt, ledger, &[0, 1, 2, 3, 4], &[0, 3]);
-}
-
-#[test]
-fn splices_counted_items(rt: HostRuntime) {
-    let ledger = leaked_ledger(&rt, rt.alloc());
-    splices::<Small, Doubling, _>(&rt, ledger, &SHORT, &[0, 3]);
-    splices::<ThreeWords, Fourfold, _>(&rt, ledger, &[2, 4], &[0]);
-    splices::<Large, Doubling, _>(&rt, ledger, &[3], &[0, 1]);
-}
-
-#[test]
-fn splices_long_lists(rt: HostRuntime) {
-    let ledger = leaked_ledger(&rt, rt.alloc());
-    splices::<Small, Doubling, _>(&rt, ledger, &[100, 300], &[0]);
-}
-
-#[test]
-fn capacities_overflow_without_a_request(rt: HostRuntime) {
-    let ledger = leaked_ledger(&rt, rt.alloc());
-    limits::<(), Doubling, _>(&rt, ledger);
-    limits::<u8, Doubling, _>(&rt, ledger);
-    limits::<[u8; 3], Doubling, _>(&rt, ledger);
-    limits::<u16, Doubling, _>(&rt, ledger);
-    limits::<i32, Doubling, _>(&rt, ledger);
-    limits::<[u32; 3], Doubling, _>(&rt, ledger);
-    limits::<u64, Doubling, _>(&rt, ledger);
-    limits::<u128, Doubling, _>(&rt, ledger);
-    limits::<ThreeWords, Doubling, _>(&rt, ledger);
-    limits::<Large, Doubling, _>(&rt, ledger);
-}
-
-#[test]
-fn blocks_of_up_to_128_megabytes_take_one_request(rt: HostRuntime) {
-    powers(&rt, leaked_ledger(&rt, rt.alloc()));
-}
-
-#[test]
-fn lists_of_u64_agree_with_vectors(rt: HostRuntime) {
-    assert_twins_agree(&rt, rt.alloc());
-}
-
-#[test]
-fn random_runs_are_right(rt: HostRuntime) {
-    let ledger = leaked_ledger(&rt, rt.alloc());
-    assert_runs_right::<(), Doubling, _>(&rt, ledger);
-    assert_runs_right::<u16, PowerBytes, _>(&rt, ledger);
-    assert_runs_right::<[u8; 3], Threefold, _>(&rt, ledger);
-    assert_runs_right::<Small, Doubling, _>(&rt, ledger);
-    assert_runs_right::<ThreeWords, Fourfold, _>(&rt, ledger);
-}
-
-#[test]
-fn runs_of_long_lists_are_right(rt: HostRuntime) {
-    let ledger = leaked_ledger(&rt, rt.alloc());
-    assert_long_commands_right::<Small, Doubling, _>(&rt, ledger);
-    assert_long_run_right::<Small, Doubling, _>(&rt, ledger);
 }

@@ -1,11 +1,11 @@
 //! Tests that calls drop their closures, and with them what the closures own. Also tests what a
 //! closure leaves in a variable that it borrows.
-use crate::tests::support::{assert_items, assert_len, assert_same, leaked_ledger, list_of};
+use crate::tests::support::{assert_items, assert_len, assert_same};
 use std::alloc::Global;
 use std::cell::Cell;
 use std::rc::Rc;
 use std::test::Fail;
-use thin_testing::{Counted, Refusing};
+use thin_testing::{Counted, Ledger, Refusing, list_of};
 use thin_vec::ThinVec;
 
 // Tests an item in a closure that owns a `Counted`.
@@ -15,7 +15,7 @@ fn is_two(_owned: &Counted<'_>, item: i32) -> bool {
 
 #[test]
 fn filters_drop_their_closures(rt: HostRuntime) -> Result<(), Fail> {
-    let ledger = leaked_ledger(&rt, rt.alloc());
+    let ledger = Ledger::leaked(rt.alloc())?;
     let mut list = list_of(rt.alloc(), &[1, 2, 3, 4, 5, 6])?;
     let owned = Counted::new(ledger, 7, ());
     list.retain(move |item| !is_two(&owned, *item));
@@ -35,7 +35,7 @@ fn filters_drop_their_closures(rt: HostRuntime) -> Result<(), Fail> {
 
 #[test]
 fn pop_if_and_resize_with_drop_their_closures(rt: HostRuntime) -> Result<(), Fail> {
-    let ledger = leaked_ledger(&rt, rt.alloc());
+    let ledger = Ledger::leaked(rt.alloc())?;
     let mut list = list_of(rt.alloc(), &[1, 2])?;
     let owned = Counted::new(ledger, 7, ());
     assert_same(&rt, list.pop_if(move |item| is_two(&owned, *item)), Some(2));

@@ -1,8 +1,9 @@
 //! Tests of what no contract states of a list that another call edits: one that `collect` or
-//! `extend` drains, one whose `Drain` is forgotten, and one over which a loop iterates.
-use crate::tests::support::{assert_items, assert_len, assert_same, list_of};
+//! `extend` drains, one whose `Drain` or `ExtractIf` is forgotten, and one over which a loop iterates.
+use crate::tests::support::{assert_items, assert_len, assert_same};
 use std::mem;
 use std::test::Fail;
+use thin_testing::list_of;
 use thin_vec::ThinVec;
 
 #[test]
@@ -37,6 +38,17 @@ fn list_is_usable_if_its_drain_is_forgotten(rt: HostRuntime) -> Result<(), Fail>
     mem::forget(list.drain(1, 2));
     list.push(9)?;
     assert_same(&rt, list.last(), Some(&9));
+    Ok(())
+}
+
+#[test]
+fn list_is_empty_if_its_extract_if_is_forgotten(rt: HostRuntime) -> Result<(), Fail> {
+    let mut list = list_of(rt.alloc(), &[1_i32, 2, 3])?;
+    assert_len(&rt, &list, 3);
+    mem::forget(list.extract_if(0, 2, |x: &mut i32| *x == 1));
+    assert_len(&rt, &list, 0);
+    list.push(9)?;
+    assert_items(&rt, &list, &[9]);
     Ok(())
 }
 

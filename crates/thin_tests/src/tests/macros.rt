@@ -1,6 +1,6 @@
 //! Tests of `thin_vec!`: in which order it evaluates its arguments, and that it evaluates no item
 //! if the memory is refused. Also tests `from_array` with thousands of items.
-use crate::tests::support::{assert_counts, assert_list, assert_same, leak_refusing};
+use crate::tests::support::{assert_counts, assert_list, assert_same};
 use std::cell::Cell;
 use std::test::Fail;
 use thin_testing::Refusing;
@@ -30,7 +30,7 @@ fn evaluates_each_argument_once_and_in_order(rt: HostRuntime) -> Result<(), Fail
 fn lists_of_one_and_twelve_items_need_one_request(rt: HostRuntime) -> Result<(), Fail> {
     assert_list(&rt, &thin_vec![rt.alloc() => 7]?, &[7], 1);
     let items = [1, 2, 3, 4, 5, 6, 7, 8, 9, 10, 11, 12];
-    let refusing = leak_refusing(&rt, rt.alloc(), 2);
+    let refusing = Refusing::leaked(rt.alloc(), 2)?;
     let list = thin_vec![refusing => 1, 2, 3, 4, 5, 6, 7, 8, 9, 10, 11, 12]?;
     assert_list(&rt, &list, &items, 12);
     Ok(())

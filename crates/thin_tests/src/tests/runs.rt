@@ -1,8 +1,9 @@
 //! A test of `run`: without commands, it makes no request.
 ghost use Rattle.std.specs.Prelude.{false};
 
-use crate::tests::support::{assert_same, leak_refusing};
+use crate::tests::support::assert_same;
 use std::alloc::Global;
+use std::test::Fail;
 use thin_runner::judge::Judge;
 use thin_runner::runner::run;
 use thin_testing::Refusing;
@@ -43,8 +44,8 @@ impl<T> Judge<T> for Unasked {
 }
 
 #[test]
-fn run_makes_no_request_without_commands(rt: HostRuntime) {
-    let refusing = leak_refusing(&rt, rt.alloc(), 1);
+fn run_makes_no_request_without_commands(rt: HostRuntime) -> Result<(), Fail> {
+    let refusing = Refusing::leaked(rt.alloc(), 1)?;
     let mut list = ThinVec::<i32, &'static Refusing<Global>>::new(refusing);
     let mut replies = Vec::new(refusing);
     let commands = Vec::new(refusing);
@@ -54,4 +55,5 @@ fn run_makes_no_request_without_commands(rt: HostRuntime) {
         Ok(()),
     );
     assert_same(&rt, refusing.requests(), 0);
+    Ok(())
 }

@@ -1,14 +1,14 @@
-//! Assertions and values that the tests share. An assertion inside a test makes
-//! the proof of the test a second or two longer, and a call of one of these functions does not.
-ghost use Rattle.std.specs.Prelude.{◌≡◌, ◌≤◌, IfOk, length};
-ghost use Rattle.std.specs.Iterator.{IsFinite};
+//! Assertions that the tests share. An assertion inside a test makes the proof of the test a second
+//! or two longer, and a call of one of these functions does not. Only tests may stop a program, so
+//! a library cannot have them.
+ghost use Rattle.std.specs.Prelude.{◌≡◌, length};
 
 use std::alloc::{Allocator, Global};
 use std::fmt::Debug;
 use std::process::Abort;
 use std::test::Fail;
-use thin_testing::{Counted, Ledger, Refusing};
-use thin_vec::{Growth, SpliceRefused, ThinVec, ThinVecError};
+use thin_testing::Refusing;
+use thin_vec::{Growth, ThinVec};
 
 /// Asserts that the two values are equal.
 pub fn assert_same<T: PartialEq + Debug + Drop>(rt: &impl Abort, value: T, wanted: T) {
@@ -75,58 +75,4 @@ pub fn assert_texts<D: Debug>(
     let wide = format!(in alloc; "{value:04?}")?;
     assert_same(rt, wide.as_str(), texts[2]);
     Ok(())
-}
-
-/// Returns a ledger that is never freed. The test ends if there is no memory for it.
-pub fn leaked_ledger<R: Abort>(rt: &R, alloc: Global) -> &'static Ledger {
-    Ledger::leaked(alloc).ok().expect(rt, "memory")
-}
-
-/// Returns an allocator that refuses request number `number`, counted from 1, or no request if
-/// `number` is 0. It is leaked, so that its reference is `'static`.
-pub fn leak_refusing(rt: &impl Abort, alloc: Global, number: u64) -> &'static Refusing<Global> {
-    Box::leak(
-        Box::new(alloc, Refusing::new(alloc, number))
-            .ok()
-            .expect(rt, "memory"),
-    )
-}
-
-/// Returns a list of `items` without spare capacity.
-pub fn list_of<T: Copy + Drop, A: Allocator>(
-    alloc: A,
-    items: &[T],
-) -> Result<ThinVec<T, A>, ThinVecError>
-    ensures len { IfOk result (λ list. length list.items ≡ length items.now) }
-{
-    ThinVec::from_copies(alloc, items)
-}
-
-/// Returns a list of `len` items that the ledger counts.
-pub fn counted_list<'a>(
-    ledger: &'a Ledger,
-    alloc: Global,
-    len: u64,
-) -> Result<ThinVec<Counted<'a>>, ThinVecError> {
-    let mut list = ThinVec::new(alloc);
-    for number in 0..len {
-        list.push(Counted::new(ledger, number, ()))?;
-    }
-    Ok(list)
-}
-
-/// Replaces the items `range.0..range.1` of the list by those of `iter`. The borrow checker accepts
-/// a splice over a borrowed value only in a function whose iterator type is generic.
-pub fn splice<T: Drop, A: Allocator, G: Growth, I: Iterator<Item = T>>(
-    list: &mut ThinVec<T, A, G>,
-    range: (usize, usize),
-    iter: I,
-    alloc: A,
-) -> Result<(), SpliceRefused<T, I, A>>
-    requires start_le_end { range.0 ≤ range.1 }
-    requires in_bounds { range.1 ≤ length list.old.items }
-    requires can_next { I.can_next iter }
-    requires finite { IsFinite (I.remaining iter) }
-{
-    list.splice(range.0, range.1, iter).finish(alloc)
 }

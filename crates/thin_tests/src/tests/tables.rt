@@ -2,9 +2,7 @@
 //! is printed.
 ghost use Rattle.std.specs.Prelude.{◌<◌, length};
 
-use crate::tests::support::{
-    assert_counts, assert_same, assert_text, assert_texts, leak_refusing, leaked_ledger,
-};
+use crate::tests::support::{assert_counts, assert_same, assert_text, assert_texts};
 use std::alloc::{Allocator, Global};
 use std::process::Abort;
 use std::test::Fail;
@@ -43,8 +41,8 @@ fn assert_removed<A: Allocator>(
 }
 
 #[test]
-fn with_rows_returns_the_cause(rt: HostRuntime) {
-    let refusing = leak_refusing(&rt, rt.alloc(), 1);
+fn with_rows_returns_the_cause(rt: HostRuntime) -> Result<(), Fail> {
+    let refusing = Refusing::leaked(rt.alloc(), 1)?;
     let refused = Rows::<u32, &Refusing<Global>>::with_rows(refusing, 3).err();
     assert_same(&rt, refused, Some(ThinVecError::OutOfMemory));
     assert_counts(&rt, refusing, 1, 0);
@@ -52,6 +50,7 @@ fn with_rows_returns_the_cause(rt: HostRuntime) {
         let refused = Rows::<u32, Global>::with_rows(rt.alloc(), rows).err();
         assert_same(&rt, refused, Some(ThinVecError::CapacityOverflow));
     }
+    Ok(())
 }
 
 // Sets 50 counted values in row 0.
@@ -69,7 +68,7 @@ fn set_counted<'a>(
 
 #[test]
 fn drops_each_value_once(rt: HostRuntime) -> Result<(), Fail> {
-    let ledger = leaked_ledger(&rt, rt.alloc());
+    let ledger = Ledger::leaked(rt.alloc())?;
     let mut table = Rows::with_rows(rt.alloc(), 2)?;
     set_counted(&rt, &mut table, ledger)?;
     set_counted(&rt, &mut table, ledger)?;
@@ -124,7 +123,7 @@ fn prints_a_row_of_many_entries(rt: HostRuntime) -> Result<(), Fail> {
 // table itself makes one request.
 #[test]
 fn set_adds_thousands_of_columns_to_a_row(rt: HostRuntime) -> Result<(), Fail> {
-    let refusing = leak_refusing(&rt, rt.alloc(), 0);
+    let refusing = Refusing::leaked(rt.alloc(), 0)?;
     let mut table = Rows::with_rows(refusing, 5000)?;
     for column in 0..4000 {
         assert_set(
@@ -143,7 +142,7 @@ fn set_adds_thousands_of_columns_to_a_row(rt: HostRuntime) -> Result<(), Fail> {
 
 #[test]
 fn a_table_without_rows_makes_no_request(rt: HostRuntime) -> Result<(), Fail> {
-    let refusing = leak_refusing(&rt, rt.alloc(), 1);
+    let refusing = Refusing::leaked(rt.alloc(), 1)?;
     let table = Rows::<u32, &Refusing<Global>>::with_rows(refusing, 0)?;
     assert_same(&rt, (table.rows(), refusing.requests()), (0, 0));
     Ok(())
@@ -205,7 +204,7 @@ fn assert_row_requests(
 
 #[test]
 fn only_a_new_entry_in_a_full_row_makes_a_request(rt: HostRuntime) -> Result<(), Fail> {
-    let refusing = leak_refusing(&rt, rt.alloc(), 0);
+    let refusing = Refusing::leaked(rt.alloc(), 0)?;
     for count in 0..140 {
         assert_row_requests(&rt, refusing, count, 1)?;
         assert_row_requests(&rt, refusing, count, usize::MAX / 211)?;

@@ -1,10 +1,11 @@
 //! Tests how lists, iterators and errors are printed: on one line, on several lines, and with a
 //! width for the items.
-use crate::tests::support::{assert_len, assert_same, assert_text, assert_texts, list_of};
+use crate::tests::support::{assert_len, assert_same, assert_text, assert_texts};
 use std::alloc::{AllocError, Global};
 use std::fmt::{Debug, Display};
 use std::process::Abort;
 use std::test::Fail;
+use thin_testing::list_of;
 use thin_vec::{CollectRefused, ExtendRefused, Rejected, SpliceRefused, ThinVec, ThinVecError};
 
 #[test]
@@ -48,6 +49,36 @@ fn prints_a_drain_in_each_form(rt: HostRuntime) -> Result<(), Fail> {
     assert_same(&rt, (drain.next(), drain.next()), (Some(2), Some(3)));
     let texts = ["Drain([])", "Drain(\n    [],\n)", "Drain([])"];
     assert_texts(&rt, rt.alloc(), &drain, texts)
+}
+
+#[test]
+fn prints_lists_in_a_list_and_in_an_into_iter(rt: HostRuntime) -> Result<(), Fail> {
+    let mut lists = ThinVec::new(rt.alloc());
+    lists.push(list_of(rt.alloc(), &[1, 2])?)?;
+    lists.push(ThinVec::new(rt.alloc()))?;
+    let lines = "[\n    [\n        1,\n        2,\n    ],\n    [],\n]";
+    let texts = ["[[1, 2], []]", lines, "[[0001, 0002], []]"];
+    assert_texts(&rt, rt.alloc(), &lists, texts)?;
+    let lines =
+        "IntoIter(\n    [\n        [\n            1,\n            2,\n        ],\n        [],\n    ],\n)";
+    let texts = [
+        "IntoIter([[1, 2], []])",
+        lines,
+        "IntoIter([[0001, 0002], []])",
+    ];
+    assert_texts(&rt, rt.alloc(), &lists.into_iter(), texts)
+}
+
+#[test]
+fn prints_each_item_with_a_width_and_a_precision(rt: HostRuntime) -> Result<(), Fail> {
+    let list = list_of(rt.alloc(), &[1.5, 20.75])?;
+    let printed = format!(in rt.alloc(); "{list:.3?}")?;
+    assert_same(&rt, printed.as_str(), "[1.500, 20.750]");
+    let printed = format!(in rt.alloc(); "{list:8.2?}")?;
+    assert_same(&rt, printed.as_str(), "[    1.50,    20.75]");
+    let printed = format!(in rt.alloc(); "{:.3?}", list.into_iter())?;
+    assert_same(&rt, printed.as_str(), "IntoIter([1.500, 20.750])");
+    Ok(())
 }
 
 #[test]

@@ -1,18 +1,17 @@
 //! Tests of a list through the traits of std: `clone_from` and `or_default` with the capacities of
 //! their lists, and which calls make no request.
-use crate::tests::support::{
-    assert_counts, assert_items, assert_list, assert_same, leak_refusing, list_of,
-};
+use crate::tests::support::{assert_counts, assert_items, assert_list, assert_same};
 use std::alloc::Allocator;
 use std::collections::HashMap;
 use std::convert::AsSlice;
 use std::test::Fail;
+use thin_testing::{Refusing, list_of};
 use thin_vec::ThinVec;
 
 #[test]
 fn clone_from_replaces_the_block(rt: HostRuntime) -> Result<(), Fail> {
-    let own = leak_refusing(&rt, rt.alloc(), 0);
-    let other = leak_refusing(&rt, rt.alloc(), 0);
+    let own = Refusing::leaked(rt.alloc(), 0)?;
+    let other = Refusing::leaked(rt.alloc(), 0)?;
     let mut list = ThinVec::with_capacity(own, 9)?;
     list.push(7)?;
     let mut source = list_of(other, &[1, 2, 3])?;
@@ -43,7 +42,7 @@ fn or_default_makes_a_list_without_a_block(rt: HostRuntime) -> Result<(), Fail> 
 
 #[test]
 fn iteration_by_value_makes_no_request(rt: HostRuntime) -> Result<(), Fail> {
-    let refusing = leak_refusing(&rt, rt.alloc(), 0);
+    let refusing = Refusing::leaked(rt.alloc(), 0)?;
     let list = list_of(refusing, &[0, 1, 2])?;
     refusing.refuse(1);
     assert_same(&rt, sum(list), 3);
@@ -65,7 +64,7 @@ fn len_as_slice<S: AsSlice<i32>>(items: &S) -> usize {
 
 #[test]
 fn slice_methods_make_no_request(rt: HostRuntime) -> Result<(), Fail> {
-    let refusing = leak_refusing(&rt, rt.alloc(), 0);
+    let refusing = Refusing::leaked(rt.alloc(), 0)?;
     let mut list = list_of(refusing, &[0, 1, 2])?;
     refusing.refuse(1);
     assert_same(&rt, (list.first(), len_as_slice(&list)), (Some(&0), 3));

@@ -1,9 +1,9 @@
 //! Calls that add items, or that change only the capacity.
-use crate::case::{Answer, Case, Due};
+use crate::asserts::assert_same;
 use crate::sweep::Calls;
 use std::mem;
 use std::process::Abort;
-use thin_testing::Numbered;
+use thin_testing::{Answer, Case, Due, Numbered};
 use thin_vec::Growth;
 
 /// Calls that add items, or that change only the capacity.
@@ -33,7 +33,7 @@ impl<T: Numbered, G: Growth> Calls<T, G> for Adding {
             5 => reserve_exact(case),
             6 => resize(case),
             7 => resize_with(rt, case),
-            8 => extend_from_slice(rt, case),
+            8 => extend_from_slice(case),
             9 => extend_from_within(rt, case),
             10 => append(rt, case),
             11 => shrink_to(case),
@@ -99,7 +99,7 @@ fn resize<T: Numbered, G: Growth>(case: &mut Case<T, G>) -> Answer {
 
 fn resize_with<T: Numbered, G: Growth, R: Abort>(rt: &R, case: &mut Case<T, G>) -> Answer {
     let (len, more) = case.new_length(true);
-    let mut made = case.items(rt, more);
+    let mut made = case.items(more)?;
     let (ledger, token) = (case.ledger, case.token());
     case.begin("resize_with");
     case.list.resize_with(len, move || {
@@ -110,8 +110,8 @@ fn resize_with<T: Numbered, G: Growth, R: Abort>(rt: &R, case: &mut Case<T, G>) 
     Ok(Due::calls(more))
 }
 
-fn extend_from_slice<T: Numbered, G: Growth, R: Abort>(rt: &R, case: &mut Case<T, G>) -> Answer {
-    let items = case.items(rt, case.count());
+fn extend_from_slice<T: Numbered, G: Growth>(case: &mut Case<T, G>) -> Answer {
+    let items = case.items(case.count())?;
     case.begin("extend_from_slice");
     let answer = case.list.extend_from_slice(items.as_slice());
     let count = items.len();
@@ -130,10 +130,10 @@ fn extend_from_within<T: Numbered, G: Growth, R: Abort>(rt: &R, case: &mut Case<
 
 // The other list keeps its block.
 fn append<T: Numbered, G: Growth, R: Abort>(rt: &R, case: &mut Case<T, G>) -> Answer {
-    let mut other = case.other(rt, case.count(), case.other_spare());
+    let mut other = case.other(case.count(), case.other_spare())?;
     case.begin("append");
     case.list.append(&mut other)?;
-    case.assert_same(rt, "length of the other list", other.len(), 0);
+    assert_same(rt, case.at, "length of the other list", other.len(), 0);
     Ok(Due::NOTHING)
 }
 

@@ -1,8 +1,9 @@
 //! Calls of lists of bytes.
-use crate::case::{Answer, Case, Due};
+use crate::asserts::assert_same;
 use crate::sweep::Calls;
 use std::io::{Error, ErrorKind, Write};
 use std::process::Abort;
+use thin_testing::{Answer, Case, Due};
 use thin_vec::{Doubling, Growth, ThinVec, ThinVecError};
 
 /// Calls of lists of bytes.
@@ -25,11 +26,11 @@ impl<G: Growth> Calls<u8, G> for Bytes {
 }
 
 fn write<G: Growth, R: Abort>(rt: &R, case: &mut Case<u8, G>) -> Answer {
-    let bytes = case.items(rt, case.count());
+    let bytes = case.items(case.count())?;
     case.begin("write");
     match case.list.write(bytes.as_slice()) {
         Ok(written) => {
-            case.assert_same(rt, "written", written, bytes.len());
+            assert_same(rt, case.at, "written", written, bytes.len());
             Ok(Due::NOTHING)
         }
         Err(error) => Err(cause(rt, case, &error)),
@@ -37,12 +38,12 @@ fn write<G: Growth, R: Abort>(rt: &R, case: &mut Case<u8, G>) -> Answer {
 }
 
 fn write_all<G: Growth, R: Abort>(rt: &R, case: &mut Case<u8, G>) -> Answer {
-    let bytes = case.items(rt, case.count());
+    let bytes = case.items(case.count())?;
     case.begin("write_all, flush");
     match case.list.write_all(bytes.as_slice()) {
         Ok(()) => {
             let is_flushed = case.list.flush().is_ok();
-            case.assert_same(rt, "flush", is_flushed, true);
+            assert_same(rt, case.at, "flush", is_flushed, true);
             Ok(Due::NOTHING)
         }
         Err(error) => Err(cause(rt, case, &error)),
@@ -52,7 +53,13 @@ fn write_all<G: Growth, R: Abort>(rt: &R, case: &mut Case<u8, G>) -> Answer {
 // Asserts that the error of a failed write has the kind `OutOfMemory`.
 fn cause<G: Growth, R: Abort>(rt: &R, case: &Case<u8, G>, error: &Error) -> ThinVecError {
     let is_memory = error.kind() == ErrorKind::OutOfMemory;
-    case.assert_same(rt, "kind of the error is OutOfMemory", is_memory, true);
+    assert_same(
+        rt,
+        case.at,
+        "kind of the error is OutOfMemory",
+        is_memory,
+        true,
+    );
     ThinVecError::OutOfMemory
 }
 

@@ -1,8 +1,7 @@
 //! Calls that copy items, and do not clone them.
-use crate::case::{Answer, Case, Due};
 use crate::sweep::Calls;
 use std::process::Abort;
-use thin_testing::Numbered;
+use thin_testing::{Answer, Case, Due, Numbered};
 use thin_vec::{Growth, ThinVec};
 
 /// Calls that copy items, and do not clone them.
@@ -24,20 +23,17 @@ impl<T: Numbered + Copy, G: Growth> Calls<T, G> for Copying {
 
     fn call<R: Abort>(rt: &R, case: &mut Case<T, G>, call: usize) -> Option<Answer> {
         Some(match call {
-            0 => extend_from_copies(rt, case),
+            0 => extend_from_copies(case),
             1 => extend_from_copies_reserved(rt, case),
             2 => replace_range_from_copies(rt, case),
             3 => clone_copies(case),
-            _ => from_copies(rt, case),
+            _ => from_copies(case),
         })
     }
 }
 
-fn extend_from_copies<T: Numbered + Copy, G: Growth, R: Abort>(
-    rt: &R,
-    case: &mut Case<T, G>,
-) -> Answer {
-    let items = case.items(rt, case.count());
+fn extend_from_copies<T: Numbered + Copy, G: Growth>(case: &mut Case<T, G>) -> Answer {
+    let items = case.items(case.count())?;
     case.begin("extend_from_copies");
     case.list.extend_from_copies(items.as_slice())?;
     Ok(Due::NOTHING)
@@ -47,7 +43,7 @@ fn extend_from_copies_reserved<T: Numbered + Copy, G: Growth, R: Abort>(
     rt: &R,
     case: &mut Case<T, G>,
 ) -> Answer {
-    let items = case.items(rt, case.spare());
+    let items = case.items(case.spare())?;
     case.begin("extend_from_copies_reserved");
     assert!(rt; items.len() <= case.list.capacity() - case.list.len());
     case.list.extend_from_copies_reserved(items.as_slice());
@@ -59,7 +55,7 @@ fn replace_range_from_copies<T: Numbered + Copy, G: Growth, R: Abort>(
     case: &mut Case<T, G>,
 ) -> Answer {
     let (start, end) = case.range();
-    let items = case.items(rt, case.replacements());
+    let items = case.items(case.replacements())?;
     case.begin("replace_range_from_copies");
     assert!(rt; start <= end && end <= case.list.len());
     case.list
@@ -73,8 +69,8 @@ fn clone_copies<T: Numbered + Copy, G: Growth>(case: &mut Case<T, G>) -> Answer 
     Ok(Due::block_of(clone.len()))
 }
 
-fn from_copies<T: Numbered + Copy, G: Growth, R: Abort>(rt: &R, case: &mut Case<T, G>) -> Answer {
-    let items = case.items(rt, case.count());
+fn from_copies<T: Numbered + Copy, G: Growth>(case: &mut Case<T, G>) -> Answer {
+    let items = case.items(case.count())?;
     case.begin("from_copies");
     let list = ThinVec::from_copies(&case.ledger.alloc, items.as_slice())?;
     Ok(Due::block_of(list.len()))

@@ -3,14 +3,14 @@ ghost use Rattle.std.proofs.Common.{rules};
 ghost use Rattle.std.specs.Cmp.Rules.{comparing};
 ghost use Rattle.std.specs.Prelude.{◌==◌, ◌≤◌, length};
 
-use crate::case::{Answer, Case, Due, Pattern};
+use crate::asserts::assert_same;
 use crate::sweep::Calls;
 use std::alloc::Allocator;
 use std::cell::Cell;
 use std::mem;
 use std::process::Abort;
 use std::rc::Rc;
-use thin_testing::Numbered;
+use thin_testing::{Answer, Case, Due, Numbered, Pattern};
 use thin_vec::{Growth, ThinVec};
 
 /// Calls that remove the items that a closure, or a comparison, chooses.
@@ -105,8 +105,8 @@ fn dedup_by<T: Numbered, G: Growth>(case: &mut Case<T, G>) -> Answer {
     Ok(Due::calls(case.at.length.saturating_sub(1)))
 }
 
-// The key of an item. Two keys are equal if their numbers are. The key owns a counter, which shows
-// whether the key is dropped.
+// The key of an item. Two keys are equal if their numbers are. The key owns the counter of the calls
+// of the closure, which counts comparisons, too, and shows whether the key is dropped.
 #[derive(Drop)]
 struct Key {
     number: u64,
@@ -119,12 +119,15 @@ impl PartialEq for Key {
     ghost laws = { Prim.search (comparing, rules) };
 
     fn eq(&self, other: &Key) -> bool {
+        if let Some(counter) = &self.counter {
+            let _earlier = next_call(counter);
+        }
         self.number == other.number
     }
 }
 
-// Two calls make the keys of two neighbours, first that of the later item. The key of a kept item is
-// 0, and the later item is removed if its key is 0.
+// Two calls make the keys of two neighbours, first that of the later item, and then the keys are
+// compared once. The key of a kept item is 0, and the later item is removed if its key is 0.
 fn dedup_by_key<T: Numbered, G: Growth, R: Abort>(rt: &R, case: &mut Case<T, G>) -> Answer {
     let pattern = case.at.pattern();
     let calls = Rc::new(case.ledger.global, Cell::new(0))
@@ -135,13 +138,25 @@ fn dedup_by_key<T: Numbered, G: Growth, R: Abort>(rt: &R, case: &mut Case<T, G>)
     case.list.dedup_by_key(move |_item| {
         let call = next_call(&counter);
         Key {
-            number: u64::from(call % 2 == 0 && pattern.keeps(call / 2)),
+            number: u64::from(call % 3 == 0 && pattern.keeps(call / 3)),
             counter: counter.clone().ok(),
         }
     });
-    let due = (case.at.length as u64).saturating_sub(1).saturating_mul(2);
-    case.assert_same(rt, "calls", calls.as_ref().get(), due);
-    case.assert_same(rt, "owners of the counter", Rc::strong_count(&calls), 1);
+    let due = (case.at.length as u64).saturating_sub(1).saturating_mul(3);
+    assert_same(
+        rt,
+        case.at,
+        "calls and comparisons",
+        calls.as_ref().get(),
+        due,
+    );
+    assert_same(
+        rt,
+        case.at,
+        "owners of the counter",
+        Rc::strong_count(&calls),
+        1,
+    );
     Ok(Due::NOTHING)
 }
 
@@ -168,9 +183,15 @@ fn extract_if<T: Numbered, G: Growth, R: Abort>(rt: &R, case: &mut Case<T, G>) -
     case.begin("extract_if");
     assert!(rt; start <= end && end <= case.list.len());
     extract(&mut case.list, (start, end, wanted), pattern, counter);
-    case.assert_same(rt, "owners of the counter", Rc::strong_count(&calls), 1);
+    assert_same(
+        rt,
+        case.at,
+        "owners of the counter",
+        Rc::strong_count(&calls),
+        1,
+    );
     let asked = asked(pattern, width, wanted);
-    case.assert_same(rt, "calls", calls.as_ref().get(), asked);
+    assert_same(rt, case.at, "calls", calls.as_ref().get(), asked);
     Ok(Due::NOTHING)
 }
 

@@ -1,9 +1,9 @@
 //! Calls that make a list. All lists have the growth rule `Doubling`.
-use crate::case::{Answer, Case, Due, List};
+use crate::asserts::assert_same;
 use crate::sweep::Calls;
 use std::default::{Emptied, MadeWith};
 use std::process::Abort;
-use thin_testing::Numbered;
+use thin_testing::{Answer, Case, Due, List, Numbered};
 use thin_vec::{Doubling, ThinVec, thin_vec};
 
 /// Calls that make a list.
@@ -24,9 +24,9 @@ impl<T: Numbered> Calls<T, Doubling> for Making {
             3 => list_items(rt, case),
             4 => list_items_in(rt, case),
             5 => with_capacity(case),
-            6 => from_slice(rt, case),
+            6 => from_slice(case),
             7 => from_vec(rt, case),
-            _ => from_boxed_slice(rt, case),
+            _ => from_boxed_slice(case),
         })
     }
 }
@@ -42,7 +42,7 @@ fn make_empty<T: Numbered, R: Abort>(rt: &R, case: &mut Case<T, Doubling>) -> An
         4 => thin_vec![in alloc]?,
         _ => thin_vec![alloc =>]?,
     };
-    case.assert_same(rt, "capacity of an empty list", list.capacity(), 0);
+    assert_same(rt, case.at, "capacity of an empty list", list.capacity(), 0);
     Ok(Due::NOTHING)
 }
 
@@ -64,7 +64,7 @@ fn list_items<T: Numbered, R: Abort>(rt: &R, case: &mut Case<T, Doubling>) -> An
     let (x, y) = (case.item(), case.item());
     case.begin("thin_vec![a => x, y]");
     let list = thin_vec![&case.ledger.alloc => x, y]?;
-    case.assert_same(rt, "capacity", list.capacity(), 2);
+    assert_same(rt, case.at, "capacity", list.capacity(), 2);
     Ok(Due::block_of(list.len()))
 }
 
@@ -72,7 +72,7 @@ fn list_items_in<T: Numbered, R: Abort>(rt: &R, case: &mut Case<T, Doubling>) ->
     let (x, y) = (case.item(), case.item());
     case.begin("thin_vec![in a; x, y]");
     let list = thin_vec![in &case.ledger.alloc; x, y]?;
-    case.assert_same(rt, "capacity", list.capacity(), 2);
+    assert_same(rt, case.at, "capacity", list.capacity(), 2);
     Ok(Due::block_of(list.len()))
 }
 
@@ -83,15 +83,15 @@ fn with_capacity<T: Numbered>(case: &mut Case<T, Doubling>) -> Answer {
     Ok(Due::block_of(list.capacity()))
 }
 
-fn from_slice<T: Numbered, R: Abort>(rt: &R, case: &mut Case<T, Doubling>) -> Answer {
-    let items = case.items(rt, case.count());
+fn from_slice<T: Numbered>(case: &mut Case<T, Doubling>) -> Answer {
+    let items = case.items(case.count())?;
     case.begin("from_slice");
     let list = ThinVec::from_slice(&case.ledger.alloc, items.as_slice())?;
     Ok(Due::block_of(list.len()).clones(list.len()))
 }
 
 fn from_vec<T: Numbered, R: Abort>(rt: &R, case: &mut Case<T, Doubling>) -> Answer {
-    let mut items = case.lent_items(rt, case.count());
+    let mut items = case.lent_items(case.count())?;
     items
         .reserve(case.at.argument % 3)
         .ok()
@@ -101,8 +101,8 @@ fn from_vec<T: Numbered, R: Abort>(rt: &R, case: &mut Case<T, Doubling>) -> Answ
     Ok(Due::block_of(list.len()))
 }
 
-fn from_boxed_slice<T: Numbered, R: Abort>(rt: &R, case: &mut Case<T, Doubling>) -> Answer {
-    let items = case.lent_items(rt, case.count()).into_boxed_slice();
+fn from_boxed_slice<T: Numbered>(case: &mut Case<T, Doubling>) -> Answer {
+    let items = case.lent_items(case.count())?.into_boxed_slice();
     case.begin("from_boxed_slice");
     let list = ThinVec::from_boxed_slice(&case.ledger.alloc, items)?;
     Ok(Due::block_of(list.len()))

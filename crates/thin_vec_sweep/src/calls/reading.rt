@@ -1,10 +1,10 @@
 //! Calls that read or overwrite items, and calls that clone a list.
-use crate::case::{Answer, Case, Due, List};
+use crate::asserts::assert_same;
 use crate::sweep::Calls;
 use std::cmp::Ordering;
 use std::mem;
 use std::process::Abort;
-use thin_testing::Numbered;
+use thin_testing::{Answer, Case, Due, List, Numbered};
 use thin_vec::{Growth, ThinVec};
 
 /// Calls that read or overwrite items, and calls that clone a list.
@@ -34,17 +34,24 @@ impl<T: Numbered, G: Growth> Calls<T, G> for Reading {
 fn read<T: Numbered, G: Growth, R: Abort>(rt: &R, case: &mut Case<T, G>) -> Answer {
     case.begin("len, is_empty, capacity, has_capacity, allocator, as_slice, [index]");
     let list = &case.list;
-    case.assert_same(rt, "is_empty", list.is_empty(), list.len() == 0);
-    case.assert_same(
+    assert_same(rt, case.at, "is_empty", list.is_empty(), list.len() == 0);
+    assert_same(
         rt,
+        case.at,
         "has_capacity",
         list.has_capacity(),
         list.capacity() != 0,
     );
-    case.assert_same(rt, "allocator", list.allocator().requests(), 0);
+    assert_same(rt, case.at, "allocator", list.allocator().requests(), 0);
     let index = case.index();
     if index < list.len() {
-        case.assert_same(rt, "[index]", list[index] == list.as_slice()[index], true);
+        assert_same(
+            rt,
+            case.at,
+            "[index]",
+            list[index] == list.as_slice()[index],
+            true,
+        );
         return Ok(Due::comparisons(1));
     }
     Ok(Due::NOTHING)
@@ -66,7 +73,7 @@ fn compare<T: Numbered, G: Growth, R: Abort>(rt: &R, case: &mut Case<T, G>) -> A
     let argument = case.at.argument % 5;
     let is_longer = argument == 4;
     let length = case.at.length.saturating_add(usize::from(is_longer));
-    let mut other = case.other(rt, length, 1);
+    let mut other = case.other(length, 1)?;
     let mut has_other_item = false;
     let index = if argument == 1 {
         case.index()
@@ -82,7 +89,13 @@ fn compare<T: Numbered, G: Growth, R: Abort>(rt: &R, case: &mut Case<T, G>) -> A
     }
     case.begin("==");
     let is_equal = case.list == other;
-    case.assert_same(rt, "is equal", is_equal, !has_other_item && !is_longer);
+    assert_same(
+        rt,
+        case.at,
+        "is equal",
+        is_equal,
+        !has_other_item && !is_longer,
+    );
     if is_longer {
         return Ok(Due::NOTHING);
     }
@@ -157,7 +170,7 @@ impl<T: Numbered + Ord, G: Growth> Calls<T, G> for Comparing {
             4 => length.saturating_mul(2).saturating_add(3),
             _ => length,
         };
-        let mut other = case.other(rt, other_length, 0);
+        let mut other = case.other(other_length, 0).expect(rt, "memory");
         let index = match argument {
             1 => 0,
             2 => length.saturating_sub(1),
@@ -178,7 +191,7 @@ impl<T: Numbered + Ord, G: Growth> Calls<T, G> for Comparing {
             1 => case.list.partial_cmp(&other) == Some(wanted),
             _ => (case.list == other) == (wanted == Ordering::Equal),
         };
-        case.assert_same(rt, "order", is_right, true);
+        assert_same(rt, case.at, "order", is_right, true);
         drop(other);
         let compared = match argument {
             1 => length.min(1),

@@ -2,12 +2,12 @@
 //! one for the `Vec` that they return.
 ghost use Rattle.std.specs.Prelude.{◌≤◌, length};
 
-use crate::case::{Answer, Case, Due, List};
+use crate::asserts::assert_same;
 use crate::sweep::Calls;
 use std::alloc::Allocator;
 use std::mem;
 use std::process::Abort;
-use thin_testing::Numbered;
+use thin_testing::{Answer, Case, Due, List, Numbered};
 use thin_vec::{Growth, IntoIter, ThinVec};
 
 /// Calls that remove items, and calls that consume a list.
@@ -38,8 +38,8 @@ impl<T: Numbered, G: Growth> Calls<T, G> for Removing {
             5 => push_reserved(rt, case)?,
             6 => insert_reserved(rt, case)?,
             7 => drain(rt, case),
-            8 => into_iter(rt, case),
-            9 => into_iter_clone(rt, case),
+            8 => into_iter(case),
+            9 => into_iter_clone(case),
             10 => into_vec(case),
             11 => into_boxed_slice(case),
             12 => try_take(rt, case),
@@ -200,7 +200,7 @@ fn drain_all<T: Numbered, A: Allocator, G: Growth>(
     }
 }
 
-fn into_iter<T: Numbered, G: Growth, R: Abort>(_rt: &R, case: &mut Case<T, G>) -> Answer {
+fn into_iter<T: Numbered, G: Growth>(case: &mut Case<T, G>) -> Answer {
     let walk = Walk::new(case.choice(), case.at.argument, case.at.length);
     let list = case.take();
     case.begin("into_iter");
@@ -226,7 +226,7 @@ fn stepped<T: Numbered, A: Allocator, G: Growth>(
     rest
 }
 
-fn into_iter_clone<T: Numbered, G: Growth, R: Abort>(_rt: &R, case: &mut Case<T, G>) -> Answer {
+fn into_iter_clone<T: Numbered, G: Growth>(case: &mut Case<T, G>) -> Answer {
     let walk = Walk::new(case.choice(), case.at.argument, case.at.length);
     let rest = stepped(case.take(), walk);
     case.begin("clone of into_iter");
@@ -254,8 +254,9 @@ fn try_take<T: Numbered, G: Growth, R: Abort>(rt: &R, case: &mut Case<T, G>) -> 
     let taken = mem::try_take(&mut case.list);
     let taken: Option<List<T, G>> = taken.ok();
     let found = taken.map(|list| list.capacity());
-    case.assert_same(
+    assert_same(
         rt,
+        case.at,
         "capacity of the list that was taken",
         found,
         Some(capacity),

@@ -1,8 +1,7 @@
 //! Calls that replace a range, or that append to the spare capacity.
-use crate::case::{Answer, Case, Due};
 use crate::sweep::Calls;
 use std::process::Abort;
-use thin_testing::Numbered;
+use thin_testing::{Answer, Case, Due, Numbered};
 use thin_vec::Growth;
 
 /// Calls that replace a range, or that append to the spare capacity.
@@ -32,7 +31,7 @@ impl<T: Numbered, G: Growth> Calls<T, G> for Replacing {
 
 fn replace_range<T: Numbered, G: Growth, R: Abort>(rt: &R, case: &mut Case<T, G>) -> Answer {
     let (start, end) = case.range();
-    let items = case.items(rt, case.replacements());
+    let items = case.items(case.replacements())?;
     case.begin("replace_range");
     assert!(rt; start <= end && end <= case.list.len());
     let alloc = &case.ledger.alloc;
@@ -49,7 +48,7 @@ fn replace_range_from_list<T: Numbered, G: Growth, R: Abort>(
     case: &mut Case<T, G>,
 ) -> Answer {
     let (start, end) = case.range();
-    let mut other = case.other(rt, case.replacements(), case.other_spare());
+    let mut other = case.other(case.replacements(), case.other_spare())?;
     case.begin("replace_range_from_list");
     assert!(rt; start <= end && end <= case.list.len());
     case.list.replace_range_from_list(start, end, &mut other)?;
@@ -58,7 +57,7 @@ fn replace_range_from_list<T: Numbered, G: Growth, R: Abort>(
 
 fn append_reserved<T: Numbered, G: Growth, R: Abort>(rt: &R, case: &mut Case<T, G>) -> Answer {
     let count = case.spare();
-    let mut other = case.other(rt, count, case.other_spare());
+    let mut other = case.other(count, case.other_spare())?;
     case.begin("append_reserved");
     assert!(rt; other.len() <= case.list.capacity() - case.list.len());
     case.list.append_reserved(&mut other);
@@ -70,7 +69,7 @@ fn extend_from_slice_reserved<T: Numbered, G: Growth, R: Abort>(
     case: &mut Case<T, G>,
 ) -> Answer {
     let count = case.spare();
-    let items = case.items(rt, count);
+    let items = case.items(count)?;
     case.begin("extend_from_slice_reserved");
     assert!(rt; items.len() <= case.list.capacity() - case.list.len());
     let answer = case.list.extend_from_slice_reserved(items.as_slice());

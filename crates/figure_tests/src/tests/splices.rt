@@ -1,0 +1,202 @@
+//! Tests of `splice`: what the list has after `finish`, and what a refused `finish` returns.
+ghost use Rattle.std.specs.Prelude.{◌≤◌, length};
+
+use crate::tests::support::{assert_counts, assert_items, assert_len, assert_list, assert_same};
+use std::alloc::Global;
+use std::process::Abort;
+use std::test::Fail;
+use thin_runner::hinted::Hinted;
+use thin_testing::{Refusing, list_of, splice};
+use thin_vec::{SpliceRefused, ThinVec, ThinVecError};
+
+const NEW: [i32; 5] = [10, 11, 12, 13, 14];
+
+// Some of the items of `NEW`, the lower bound of the size hint, the items and the capacity after
+// `finish`, and the number of requests. The first request is for the list itself.
+const FINISHED: [(&'static [i32], usize, &'static [i32], usize, u64); 9] = [
+    (&[], 0, &[1, 2, 5], 5, 1),
+    (&[10], 1, &[1, 2, 10, 5], 5, 1),
+    (&[10], usize::MAX, &[1, 2, 10, 5], 5, 1),
+    (&[10, 11], 0, &[1, 2, 10, 11, 5], 5, 1),
+    (&[10, 11, 12], 0, &[1, 2, 10, 11, 12, 5], 10, 3),
+    (&[10, 11, 12], 1, &[1, 2, 10, 11, 12, 5], 10, 2),
+    (&[10, 11, 12], 1000, &[1, 2, 10, 11, 12, 5], 1005, 2),
+    (&NEW, 1, &[1, 2, 10, 11, 12, 13, 14, 5], 10, 3),
+    (&NEW, 3, &[1, 2, 10, 11, 12, 13, 14, 5], 10, 2),
+];
+
+#[test]
+fn finish_inserts_the_items(rt: HostRuntime) -> Result<(), Fail> {
+    for &(new, lower, items, capacity, requests) in &FINISHED {
+        let refusing = Refusing::leaked(rt.alloc(), 0)?;
+        let mut list = list_of(refusing, &[1, 2, 3, 4, 5])?;
+        assert_len(&rt, &list, 5);
+        let iter = Hinted::new(new.to_vec(rt.alloc())?, lower);
+        splice(&mut list, (2, 4), iter, refusing)?;
+        assert_list(&rt, &list, items, capacity);
+        assert_counts(&rt, refusing, requests, 1);
+    }
+    Ok(())
+}
+
+// What a refused `finish` leaves and returns.
+#[derive(Clone, Copy)]
+struct Left {
+    cause: ThinVecError,
+    items: &'static [i32],
+    capacity: usize,
+    held: &'static [i32],
+    in_hand: Option<i32>,
+    rest: &'static [i32],
+}
+
+type Lender = &'static Refusing<Global>;
+
+// Asserts what a refused `finish` left and returned.
+fn assert_left(
+    rt: &impl Abort,
+    list: &ThinVec<i32, Lender>,
+    refused: SpliceRefused<i32, Hinted<i32>, Lender>,
+    left: Left,
+) {
+    let SpliceRefused {
+        cause,
+        held,
+        in_hand,
+        mut rest,
+    } = refused;
+    assert_list(rt, list, left.items, left.capacity);
+    assert_same(rt, (cause, in_hand), (left.cause, left.in_hand));
+    assert_items(rt, held.as_slice(), left.held);
+    for item in left.rest {
+        assert_same(rt, rest.next(), Some(*item));
+    }
+    assert_same(rt, rest.next(), None);
+}
+
+// Replaces the items `range.0..range.1` of a list of `old` by those of `new`, and asserts what the
+// refused `finish` leaves and returns.
+fn assert_refused(
+    rt: &impl Abort,
+    lender: Lender,
+    old: &[i32],
+    range: (usize, usize),
+    iter: Hinted<i32>,
+    left: Left,
+) -> Result<(), Fail>
+    requires start_le_end { range.0 ≤ range.1 }
+    requires in_bounds { range.1 ≤ length old.now }
+{
+    let mut list = list_of(lender, old)?;
+    let refused = splice(&mut list, range, iter, lender).err();
+    assert_left(rt, &list, refused.ok_or("finished")?, left);
+    Ok(())
+}
+
+const OUT_OF_MEMORY: ThinVecError = ThinVecError::OutOfMemory;
+
+// The lower bound of the size hint, the number of the refused request, and what is left. The first
+// request is for the list itself.
+const REFUSED: [(usize, u64, Left); 4] = [
+    // The list grows for the lower bound.
+    (
+        1,
+        2,
+        Left {
+            cause: OUT_OF_MEMORY,
+            items: &[1, 2, 10, 11, 5],
+            capacity: 5,
+            held: &[],
+            in_hand: None,
+            rest: &[12, 13, 14],
+        },
+    ),
+    // The list has grown, and 13 is held back.
+    (
+        1,
+        3,
+        Left {
+            cause: OUT_OF_MEMORY,
+            items: &[1, 2, 10, 11, 12, 5],
+            capacity: 10,
+            held: &[],
+            in_hand: Some(13),
+            rest: &[14],
+        },
+    ),
+    // 12 is held back.
+    (
+        0,
+        2,
+        Left {
+            cause: OUT_OF_MEMORY,
+            items: &[1, 2, 10, 11, 5],
+            capacity: 5,
+            held: &[],
+            in_hand: Some(12),
+            rest: &[13, 14],
+        },
+    ),
+    // The list grows for the items held back.
+    (
+        0,
+        3,
+        Left {
+            cause: OUT_OF_MEMORY,
+            items: &[1, 2, 10, 11, 5],
+            capacity: 5,
+            held: &[12, 13, 14],
+            in_hand: None,
+            rest: &[],
+        },
+    ),
+];
+
+#[test]
+fn finish_returns_each_item_if_a_growth_is_refused(rt: HostRuntime) -> Result<(), Fail> {
+    for &(lower, request, left) in &REFUSED {
+        let lender = Refusing::leaked(rt.alloc(), request)?;
+        let iter = Hinted::new(NEW.to_vec(rt.alloc())?, lower);
+        assert_refused(&rt, lender, &[1, 2, 3, 4, 5], (2, 4), iter, left)?;
+        assert_counts(&rt, lender, request, 0);
+    }
+    Ok(())
+}
+
+#[test]
+fn finish_does_not_ask_for_the_hint_before_the_range_is_full(rt: HostRuntime) -> Result<(), Fail> {
+    let mut list = list_of(rt.alloc(), &[1, 2, 3])?;
+    assert_len(&rt, &list, 3);
+    let iter = Hinted::new([9].to_vec(rt.alloc())?, usize::MAX);
+    splice(&mut list, (0, 2), iter, rt.alloc())?;
+    assert_list(&rt, &list, &[9, 3], 3);
+    Ok(())
+}
+
+// What is left if the hint is too great for any capacity.
+fn overflow(items: &'static [i32], capacity: usize) -> Left {
+    Left {
+        cause: ThinVecError::CapacityOverflow,
+        items,
+        capacity,
+        held: &[],
+        in_hand: None,
+        rest: &[],
+    }
+}
+
+#[test]
+fn finish_overflows_by_the_hint_if_the_range_is_full(rt: HostRuntime) -> Result<(), Fail> {
+    let lender = Refusing::leaked(rt.alloc(), 0)?;
+    let nine = Hinted::new([9].to_vec(rt.alloc())?, usize::MAX);
+    assert_refused(
+        &rt,
+        lender,
+        &[1, 2, 3],
+        (0, 1),
+        nine,
+        overflow(&[9, 2, 3], 3),
+    )?;
+    let nothing = Hinted::new(Vec::new(rt.alloc()), usize::MAX);
+    assert_refused(&rt, lender, &[], (0, 0), nothing, overflow(&[], 0))
+}

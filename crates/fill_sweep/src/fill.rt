@@ -1,0 +1,431 @@
+//! Calls that fill a list from an iterator: `extend`, `from_iter` and `collect`. Contracts only bound
+//! the capacity afterwards, so the tests compute the exact one, and how often the iterator is asked.
+use crate::asserts::{assert_right, assert_same};
+use std::iter;
+use std::process::Abort;
+use thin_testing::{At, Case, Claims, Ledger, Numbered, Ruled, numbered_items};
+use thin_vec::{Doubling, Growth, ThinVec, ThinVecError};
+
+/// What a call that fills a list has to do: the capacity of the list, the number of requests, and how
+/// often the iterator's `next` and `size_hint` are called.
+#[derive(Clone, Copy)]
+pub struct Filling {
+    pub capacity: usize,
+    pub requests: u64,
+    pub nexts: u64,
+    pub hints: u64,
+    /// Why the call failed.
+    pub cause: Option<ThinVecError>,
+    /// The number of items that the error holds, besides those that are left in the iterator.
+    pub held: usize,
+    /// The number of the request that is refused, or 0.
+    refused: u64,
+}
+
+impl Filling {
+    /// Returns a filling that has not begun, of a list of the given capacity.
+    pub fn new(capacity: usize, refused: u64) -> Filling {
+        Filling {
+            capacity,
+            requests: 0,
+            nexts: 0,
+            hints: 0,
+            cause: None,
+            held: 0,
+            refused,
+        }
+    }
+
+    /// Counts a request, and returns whether it is granted.
+    pub fn is_granted(&mut self) -> bool {
+        self.requests = self.requests.saturating_add(1);
+        if self.requests == self.refused {
+            self.cause = Some(ThinVecError::OutOfMemory);
+        }
+        self.requests != self.refused
+    }
+
+    /// Grows the list to `capacity`, which is `None` if it overflows. Returns whether this succeeds.
+    pub fn grow(&mut self, capacity: Option<usize>) -> bool {
+        let Some(capacity) = capacity else {
+            self.cause = Some(ThinVecError::CapacityOverflow);
+            return false;
+        };
+        if capacity != self.capacity {
+            if !self.is_granted() {
+                return false;
+            }
+            self.capacity = capacity;
+        }
+        true
+    }
+
+    /// Returns the capacity that the growth rule chooses for `length + more` items.
+    pub fn ruled<T: Numbered, G: Ruled>(&self, length: usize, more: usize) -> Option<usize> {
+        let want = length.checked_add(more)?;
+        if want <= self.capacity {
+            return Some(self.capacity);
+        }
+        fitting::<T>(G::expected_capacity(T::SIZE, self.capacity, want))
+    }
+
+    /// Appends `count` items to a list of `length` items. First, the list grows to `hinted`. Then
+    /// it grows whenever it is full.
+    pub fn append<T: Numbered, G: Ruled>(
+        &mut self,
+        length: usize,
+        hinted: Option<usize>,
+        count: usize,
+    ) {
+        self.hints = 1;
+        if !self.grow(hinted) {
+            return;
+        }
+        for placed in 0..count {
+            self.nexts = self.nexts.saturating_add(1);
+            let length = length.saturating_add(placed);
+            if length == self.capacity {
+                let capacity = self.ruled::<T, G>(length, 1);
+                if !self.grow(capacity) {
+                    self.held = 1;
+                    return;
+                }
+            }
+        }
+        self.nexts = self.nexts.saturating_add(1);
+    }
+
+    /// Returns whether the list has room for more than 1,000,000 items, so that only a test with the
+    /// request refused can be made.
+    pub fn is_too_much<T: Numbered>(&self) -> bool {
+        self.capacity > 1_000_000 && T::SIZE > 0
+    }
+}
+
+/// Returns `capacity` if a list of `T` can have this capacity.
+pub fn fitting<T: Numbered>(capacity: usize) -> Option<usize> {
+    if capacity <= T::LIMIT {
+        Some(capacity)
+    } else {
+        None
+    }
+}
+
+/// An iterator that is passed to the call: the number of its items, and its size hint. If the hint is
+/// exact, `lower` is the number of the items.
+#[derive(Clone, Copy)]
+pub struct Source {
+    pub count: usize,
+    pub lower: usize,
+    pub is_bounded: bool,
+    pub is_exact: bool,
+}
+
+impl Source {
+    /// Returns the source after it has yielded `count` items.
+    pub fn after(self, count: usize) -> Source {
+        let left = self.count.saturating_sub(count);
+        Source {
+            lower: if self.is_exact { left } else { self.lower },
+            ..self
+        }
+    }
+
+    // Returns a random source, whose hint may be wrong. Its items may just fill the list.
+    fn random(at: At) -> Source {
+        let count = if at.drawn(9, 8) == 0 {
+            at.spare
+        } else {
+            at.drawn_size(5)
+        };
+        let lower = match at.drawn(6, 4) {
+            0 => 0,
+            1 => count,
+            2 => at.drawn(7, count.saturating_add(1)),
+            _ => at.drawn_size(7),
+        };
+        let is_exact = at.drawn(11, 4) == 0;
+        Source {
+            count,
+            lower: if is_exact { count } else { lower },
+            is_bounded: at.drawn(8, 2) == 1,
+            is_exact,
+        }
+    }
+
+    /// Makes the iterator.
+    pub fn claims<T: Numbered, R: Abort>(
+        self,
+        rt: &R,
+        ledger: &'static Ledger,
+    ) -> Claims<'static, T> {
+        let items = numbered_items(ledger, ledger.global, 0, self.count).expect(rt, "memory");
+        if self.is_exact {
+            return Claims::exact(ledger, items);
+        }
+        Claims::new(ledger, items, self.lower, self.is_bounded)
+    }
+}
+
+/// The numbers of items that are tried.
+pub const COUNTS: [usize; 11] = [0, 1, 2, 3, 4, 5, 9, 17, 50, 100, 300];
+
+/// The number of different hints.
+pub const HINTS: usize = 22;
+
+/// Returns an iterator over `count` items with one of the hints, or a random one in a random case.
+pub fn nth_source<T: Numbered>(at: At, number: usize, count: usize) -> Source {
+    if at.is_random() {
+        return Source::random(at);
+    }
+    let most = T::LIMIT.saturating_sub(at.length);
+    let lower = match number / 2 {
+        0 => 0,
+        1 => 1,
+        2 => count.saturating_sub(1),
+        3 => count,
+        4 => count.saturating_add(1),
+        5 => 1000,
+        6 => 5000,
+        7 => most,
+        8 => most.saturating_add(1),
+        9 => isize::MAX as usize,
+        _ => usize::MAX,
+    };
+    Source {
+        count,
+        lower,
+        is_bounded: number % 2 == 1,
+        is_exact: false,
+    }
+}
+
+/// A call that fills a list of `T` with the growth rule `G`.
+pub trait Fills<T: Numbered, G: Growth> {
+    /// Whether the call makes a list, and so leaves out the growth rule for the hint.
+    const IS_MAKING: bool = false;
+
+    /// Whether nothing is left if the call fails.
+    const IS_ALL_OR_NOTHING: bool = false;
+
+    /// The number of the call among random cases.
+    const NUMBER: usize;
+
+    /// Begins to count, and makes the call, after which the list of the case is the filled list.
+    /// Returns the cause of a failure, as far as the call tells it.
+    fn fill<R: Abort>(
+        rt: &R,
+        case: &mut Case<T, G>,
+        source: Source,
+        due: &Filling,
+    ) -> Option<ThinVecError>;
+}
+
+/// The method `extend` of the list.
+pub struct Extend {}
+
+impl<T: Numbered, G: Growth> Fills<T, G> for Extend {
+    const NUMBER: usize = 1;
+
+    fn fill<R: Abort>(
+        rt: &R,
+        case: &mut Case<T, G>,
+        source: Source,
+        due: &Filling,
+    ) -> Option<ThinVecError> {
+        let claims = source.claims(rt, case.ledger);
+        case.begin("extend");
+        let Err(refused) = case.list.extend(claims) else {
+            return None;
+        };
+        let held = usize::from(refused.in_hand.is_some());
+        assert_same(rt, case.at, "items in hand", held, due.held);
+        Some(refused.cause)
+    }
+}
+
+/// The method `extend` of the trait `Extend`.
+pub struct ExtendOfTrait {}
+
+impl<T: Numbered, G: Growth> Fills<T, G> for ExtendOfTrait {
+    const NUMBER: usize = 2;
+
+    fn fill<R: Abort>(
+        rt: &R,
+        case: &mut Case<T, G>,
+        source: Source,
+        due: &Filling,
+    ) -> Option<ThinVecError> {
+        let claims = source.claims(rt, case.ledger);
+        case.begin("extend of the trait Extend");
+        match iter::Extend::extend(&mut case.list, claims) {
+            Ok(()) => None,
+            Err(_refused) => due.cause.or(Some(ThinVecError::OutOfMemory)),
+        }
+    }
+}
+
+/// The function `ThinVec::from_iter`.
+pub struct FromIter {}
+
+impl<T: Numbered> Fills<T, Doubling> for FromIter {
+    const NUMBER: usize = 3;
+
+    const IS_MAKING: bool = true;
+
+    fn fill<R: Abort>(
+        rt: &R,
+        case: &mut Case<T, Doubling>,
+        source: Source,
+        due: &Filling,
+    ) -> Option<ThinVecError> {
+        let claims = source.claims(rt, case.ledger);
+        case.begin("from_iter");
+        match ThinVec::from_iter(&case.ledger.alloc, claims) {
+            Ok(list) => {
+                case.list = list;
+                None
+            }
+            Err(refused) => {
+                let held = usize::from(refused.in_hand.is_some());
+                assert_same(rt, case.at, "items in hand", held, due.held);
+                case.list = refused.list;
+                Some(refused.cause)
+            }
+        }
+    }
+}
+
+/// The method `collect` of `Iterator`. If it fails, nothing is left.
+pub struct Collect {}
+
+impl<T: Numbered> Fills<T, Doubling> for Collect {
+    const NUMBER: usize = 4;
+
+    const IS_MAKING: bool = true;
+
+    const IS_ALL_OR_NOTHING: bool = true;
+
+    fn fill<R: Abort>(
+        rt: &R,
+        case: &mut Case<T, Doubling>,
+        source: Source,
+        due: &Filling,
+    ) -> Option<ThinVecError> {
+        let claims = source.claims(rt, case.ledger);
+        case.begin("collect");
+        match claims.collect(&case.ledger.alloc) {
+            Ok(list) => {
+                case.list = list;
+                None
+            }
+            Err(_refused) => due.cause.or(Some(ThinVecError::OutOfMemory)),
+        }
+    }
+}
+
+/// Makes the call on lists of the given lengths from several iterators, and on random lists from
+/// random iterators, and with each of its requests refused in turn.
+pub fn fill_lists<F: Fills<T, G>, T: Numbered, G: Ruled, R: Abort>(
+    rt: &R,
+    ledger: &'static Ledger,
+    lengths: &[usize],
+    spares: &[usize],
+) {
+    for length in lengths {
+        for spare in spares {
+            for argument in 0..COUNTS.len().saturating_mul(HINTS) {
+                let at = At {
+                    call: "",
+                    length: *length,
+                    spare: *spare,
+                    argument,
+                    refused: 0,
+                };
+                each_refusal::<F, T, G, R>(rt, ledger, at);
+            }
+        }
+    }
+    for round in 0..At::rounds::<T>().saturating_mul(4) {
+        let mut at = At::random::<T>(round, F::NUMBER);
+        if F::IS_MAKING {
+            at.length = 0;
+            at.spare = 0;
+        }
+        each_refusal::<F, T, G, R>(rt, ledger, at);
+    }
+}
+
+// Makes the call with enough memory, and then with each of its requests refused.
+fn each_refusal<F: Fills<T, G>, T: Numbered, G: Ruled, R: Abort>(
+    rt: &R,
+    ledger: &'static Ledger,
+    at: At,
+) {
+    let requests = fill::<F, T, G, R>(rt, ledger, at);
+    for refused in 0..requests {
+        let refused = refused.saturating_add(1);
+        let _requests = fill::<F, T, G, R>(rt, ledger, At { refused, ..at });
+    }
+}
+
+// Makes the call once, and checks what it did. Returns the number of its requests. A call that needs
+// too much memory is not made, and 1 is returned, unless its first request is refused.
+#[inline(never)]
+fn fill<F: Fills<T, G>, T: Numbered, G: Ruled, R: Abort>(
+    rt: &R,
+    ledger: &'static Ledger,
+    at: At,
+) -> u64 {
+    let count = COUNTS[at.argument / HINTS % COUNTS.len()];
+    let source = nth_source::<T>(at, at.argument % HINTS, count);
+    let mut due = Filling::new(at.length.saturating_add(at.spare), at.refused);
+    let hinted = if F::IS_MAKING {
+        fitting::<T>(source.lower)
+    } else {
+        due.ruled::<T, G>(at.length, source.lower)
+    };
+    due.append::<T, G>(at.length, hinted, source.count);
+    if F::IS_ALL_OR_NOTHING && due.cause.is_some() {
+        due.capacity = 0;
+    }
+    if due.is_too_much::<T>() {
+        return 1;
+    }
+    let mut case: Case<T, G> = Case::new(ledger, at).expect(rt, "memory");
+    let cause = F::fill(rt, &mut case, source, &due);
+    check_filling(rt, &case, cause, &due);
+    assert_right(rt, case.end());
+    due.requests
+}
+
+/// Asserts that the call did what `due` says, and that nothing exists but the list and its items.
+pub fn check_filling<T: Numbered, G: Ruled, R: Abort>(
+    rt: &R,
+    case: &Case<T, G>,
+    cause: Option<ThinVecError>,
+    due: &Filling,
+) {
+    let ledger = case.ledger;
+    let done = (
+        (cause, case.list.capacity()),
+        (
+            ledger.alloc.requests(),
+            ledger.nexts.get(),
+            ledger.hints.get(),
+        ),
+    );
+    let wanted = (
+        (due.cause, due.capacity),
+        (due.requests, due.nexts, due.hints),
+    );
+    assert_same(
+        rt,
+        case.at,
+        "cause, capacity; requests, nexts, hints",
+        done,
+        wanted,
+    );
+    assert_same(rt, case.at, "clones", ledger.clones.get(), 0);
+    assert_right(rt, case.check_live(case.list.len(), case.list.capacity()));
+}

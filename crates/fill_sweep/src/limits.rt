@@ -1,0 +1,97 @@
+//! Requests for large blocks and for the greatest capacity, and calls whose capacity overflows.
+use crate::asserts::assert_right;
+use std::process::Abort;
+use thin_testing::{At, Case, Ledger, List, Numbered, Ruled};
+use thin_vec::{Doubling, ThinVec, ThinVecError};
+
+// The calls that are tried.
+const CALLS: usize = 5;
+
+/// Asserts that calls which need the capacity `T::LIMIT` make one request, and that calls which need
+/// a greater capacity fail without a request.
+pub fn limits<T: Numbered, G: Ruled, R: Abort>(rt: &R, ledger: &'static Ledger) {
+    for length in 0..3 {
+        for call in 0..CALLS {
+            if T::SIZE > 0 {
+                let answer = limit::<T, G, R>(rt, ledger, length, call, T::LIMIT, 1);
+                assert!(rt;
+                    answer == (Err(ThinVecError::OutOfMemory), 1),
+                    "call {call}"
+                );
+            }
+            for more in [
+                T::LIMIT.saturating_add(1),
+                isize::MAX as usize + 1,
+                usize::MAX,
+            ] {
+                let answer = limit::<T, G, R>(rt, ledger, length, call, more, 0);
+                assert!(rt;
+                    answer == (Err(ThinVecError::CapacityOverflow), 0),
+                    "call {call}"
+                );
+            }
+        }
+    }
+}
+
+// Makes a call that needs the given capacity. Returns its answer, and the number of its requests.
+fn limit<T: Numbered, G: Ruled, R: Abort>(
+    rt: &R,
+    ledger: &'static Ledger,
+    length: usize,
+    call: usize,
+    capacity: usize,
+    refused: u64,
+) -> (Result<(), ThinVecError>, u64) {
+    let at = At {
+        call: "",
+        length,
+        spare: 1,
+        argument: call,
+        refused,
+    };
+    let mut case: Case<T, G> = Case::new(ledger, at).expect(rt, "memory");
+    let additional = capacity.saturating_sub(length);
+    case.begin("with_capacity, reserve, reserve_exact, resize, resize_with");
+    let answer = match call {
+        0 => made::<T>(ledger, capacity),
+        1 => case.list.reserve(additional),
+        2 => case.list.reserve_exact(additional),
+        3 => case.list.resize(capacity, T::numbered(ledger, 7)),
+        _ => {
+            let token = case.token();
+            case.list.resize_with(capacity, move || {
+                let _token = &token;
+                T::numbered(ledger, 7)
+            })
+        }
+    };
+    let requests = ledger.alloc.requests();
+    assert_right(rt, case.end());
+    (answer, requests)
+}
+
+/// Asserts that a list of bytes gets room for each power of two up to 2^27 by one request.
+pub fn powers<R: Abort>(rt: &R, ledger: &'static Ledger) {
+    let mut capacity: usize = 1;
+    for power in 0..28 {
+        ledger.begin(0);
+        let answer = (made::<u8>(ledger, capacity), ledger.alloc.requests());
+        assert!(rt; answer == (Ok(()), 1), "with_capacity(2^{power})");
+        assert!(rt; ledger.alloc.blocks() == 0, "blocks of 2^{power}");
+        ledger.begin(0);
+        let answer = (reserved(ledger, capacity), ledger.alloc.requests());
+        assert!(rt; answer == (Ok(()), 1), "reserve(2^{power})");
+        capacity = capacity.saturating_mul(2);
+    }
+}
+
+fn reserved(ledger: &'static Ledger, additional: usize) -> Result<(), ThinVecError> {
+    let mut list: List<u8, Doubling> = ThinVec::new(&ledger.alloc);
+    list.reserve(additional)
+}
+
+fn made<T: Numbered>(ledger: &'static Ledger, capacity: usize) -> Result<(), ThinVecError> {
+    let _list: List<T, Doubling> = ThinVec::with_capacity(&ledger.alloc, capacity)?;
+    Ok(())
+}

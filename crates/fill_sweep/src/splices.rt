@@ -1,0 +1,211 @@
+//! Calls of `splice`. They take some items of the range, and call `finish`, which fills the gap.
+ghost use Rattle.std.specs.Iterator.{IsFinite};
+ghost use Rattle.std.specs.Prelude.{◌≤◌, length};
+ghost use Rattle.thin_vec.specs.Edits.Splice.{SpliceKeeps};
+
+use crate::asserts::{assert_right, assert_same};
+use crate::fill::{Filling, HINTS, Source, check_filling, nth_source};
+use std::alloc::Allocator;
+use std::iter::Iterator;
+use std::process::Abort;
+use thin_testing::{At, Case, Ledger, Numbered, Ruled};
+use thin_vec::{Growth, Splice, SpliceRefused, ThinVec, ThinVecError};
+
+// The number of choices for the number of new items.
+const NEW: usize = 12;
+
+// The number of sequences of calls to `next` and `next_back` before `finish`.
+const WALKS: usize = 4;
+
+// Returns the number of new items for a range of `width` items.
+fn count(number: usize, width: usize) -> usize {
+    match number {
+        0..=5 => number,
+        6 => width,
+        7 => width.saturating_add(1),
+        8 => width.saturating_add(9),
+        9 => width.saturating_add(25),
+        10 => width.saturating_add(60),
+        _ => width.saturating_sub(1),
+    }
+}
+
+// Returns what `finish` has to do. `tail` is the number of items after the range.
+fn due<T: Numbered, G: Ruled>(case: &Case<T, G>, range: (usize, usize), source: Source) -> Filling {
+    let (start, end) = range;
+    let mut due = Filling::new(case.list.capacity(), case.at.refused);
+    let length = case.list.len();
+    if end == length {
+        let hinted = due.ruled::<T, G>(start, source.lower);
+        due.append::<T, G>(start, hinted, source.count);
+        return due;
+    }
+    due_before_tail::<T, G>(&mut due, length, end.saturating_sub(start), source);
+    due
+}
+
+// Computes what `finish` has to do if there are items after the range. `width` items are replaced in
+// a list of `length` items.
+fn due_before_tail<T: Numbered, G: Ruled>(
+    due: &mut Filling,
+    length: usize,
+    width: usize,
+    source: Source,
+) {
+    if source.count < width {
+        due.nexts = (source.count as u64).saturating_add(1);
+        return;
+    }
+    let source = source.after(width);
+    due.nexts = width as u64;
+    due.hints = 1;
+    let hinted = due.ruled::<T, G>(length, source.lower);
+    if !due.grow(hinted) {
+        return;
+    }
+    let room = width.saturating_add(source.lower);
+    due.nexts = (source.count.min(room) as u64).saturating_add(1);
+    if source.count <= room {
+        return;
+    }
+    let beyond = source.count.saturating_sub(room);
+    if !is_held::<T>(due, beyond) {
+        return;
+    }
+    due.nexts = (source.count as u64).saturating_add(1);
+    let whole = due.ruled::<T, G>(length.saturating_add(source.lower), beyond);
+    if !due.grow(whole) {
+        due.held = beyond;
+    }
+}
+
+// Computes the requests of a `Vec` that begins empty and takes `count` items. Returns whether it
+// gets the memory for all of them.
+fn is_held<T: Numbered>(due: &mut Filling, count: usize) -> bool {
+    let first = match T::SIZE {
+        0..=1 => 8,
+        2..=1024 => 4,
+        _ => 1,
+    };
+    let mut room: usize = 0;
+    for held in 0..count {
+        if held == room {
+            if !due.is_granted() {
+                due.held = held.saturating_add(1);
+                return false;
+            }
+            room = room.saturating_mul(2).max(first);
+        }
+        due.nexts = due.nexts.saturating_add(1);
+    }
+    true
+}
+
+/// Makes splices on lists of the given lengths, and on random lists, and refuses each of their
+/// requests in turn.
+pub fn splices<T: Numbered, G: Ruled, R: Abort>(
+    rt: &R,
+    ledger: &'static Ledger,
+    lengths: &[usize],
+    spares: &[usize],
+) {
+    for length in lengths {
+        let ranges = if *length <= 4 { 25 } else { 5 };
+        for spare in spares {
+            for argument in 0..NEW.saturating_mul(HINTS).saturating_mul(ranges) {
+                let at = At {
+                    call: "splice",
+                    length: *length,
+                    spare: *spare,
+                    argument,
+                    refused: 0,
+                };
+                each_refusal::<T, G, R>(rt, ledger, at);
+            }
+        }
+    }
+    for round in 0..At::rounds::<T>().saturating_mul(4) {
+        each_refusal::<T, G, R>(rt, ledger, At::random::<T>(round, 5));
+    }
+}
+
+// Makes the splice with enough memory, and then with each of its requests refused.
+fn each_refusal<T: Numbered, G: Ruled, R: Abort>(rt: &R, ledger: &'static Ledger, at: At) {
+    let requests = splice_case::<T, G, R>(rt, ledger, at);
+    for refused in 0..requests {
+        let refused = refused.saturating_add(1);
+        let _requests = splice_case::<T, G, R>(rt, ledger, At { refused, ..at });
+    }
+}
+
+// Makes one splice, and checks what it did. Returns the number of its requests. A splice that needs
+// too much memory is not made, and 1 is returned, unless its first request is refused.
+#[inline(never)]
+fn splice_case<T: Numbered, G: Ruled, R: Abort>(rt: &R, ledger: &'static Ledger, at: At) -> u64 {
+    let mut case: Case<T, G> = Case::new(ledger, at).expect(rt, "memory");
+    let (start, end) = case.range();
+    let number = case.choice();
+    let count = count(number / HINTS % NEW, end.saturating_sub(start));
+    let source = nth_source::<T>(at, number % HINTS, count);
+    let due = due(&case, (start, end), source);
+    if due.is_too_much::<T>() {
+        assert_right(rt, case.end());
+        return 1;
+    }
+    let claims = source.claims(rt, ledger);
+    case.begin("splice");
+    assert!(rt; start <= end && end <= case.list.len());
+    let answer = splice(
+        &mut case.list,
+        (start, end),
+        at.argument % WALKS,
+        claims,
+        &ledger.alloc,
+    );
+    let mut held: usize = 0;
+    let cause = match answer {
+        Ok(()) => None,
+        Err(refused) => {
+            let in_hand = usize::from(refused.in_hand.is_some());
+            held = refused.held.len().saturating_add(in_hand);
+            Some(refused.cause)
+        }
+    };
+    assert_same(rt, case.at, "items held and in hand", held, due.held);
+    check_filling(rt, &case, cause, &due);
+    assert_right(rt, case.end());
+    due.requests
+}
+
+// Makes a `Splice`, takes some items of the range, and calls `finish`.
+fn splice<T: Numbered, A: Allocator, G: Growth, I: Iterator<Item = T>>(
+    list: &mut ThinVec<T, A, G>,
+    range: (usize, usize),
+    walk: usize,
+    iter: I,
+    alloc: A,
+) -> Result<(), SpliceRefused<T, I, A>>
+    requires start_le_end { range.0 ≤ range.1 }
+    requires in_bounds { range.1 ≤ length list.old.items }
+    requires can_next { I.can_next iter }
+    requires finite { IsFinite (I.remaining iter) }
+{
+    let mut splice = list.splice(range.0, range.1, iter);
+    take_some(&mut splice, walk);
+    splice.finish(alloc)
+}
+
+// Calls `next` and `next_back`, as `walk` chooses, and drops the items.
+fn take_some<T: Numbered, A: Allocator, G: Growth, I>(
+    splice: &mut Splice<'_, I, T, A, G>,
+    walk: usize,
+)
+    ensures keeps { SpliceKeeps splice.old splice.new }
+{
+    if walk % 2 == 1 {
+        drop(splice.next());
+    }
+    if walk / 2 == 1 {
+        drop(splice.next_back());
+    }
+}

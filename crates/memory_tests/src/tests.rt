@@ -1,0 +1,11 @@
+//! One file for each topic.
+mod allocators;
+mod errors;
+mod hints;
+mod in_place;
+mod no_memory;
+mod order;
+mod padded;
+mod refused;
+mod requests;
+mod support;

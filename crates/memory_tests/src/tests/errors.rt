@@ -1,0 +1,113 @@
+//! Tests of the errors: their trait, and that `?` drops what they hold.
+use crate::tests::support::assert_same;
+use std::alloc::{AllocError, Global};
+use std::error::Error;
+use std::io;
+use std::process::Abort;
+use std::test::Fail;
+use thin_testing::{Counted, Ledger, counted_list};
+use thin_vec::{CollectRefused, ExtendRefused, Rejected, SpliceRefused, ThinVec, ThinVecError};
+
+// Converts the error with `?`, and returns the new error.
+fn convert<R, E: From<R>>(refused: R) -> Result<(), E> {
+    Err(refused)?;
+    Ok(())
+}
+
+// Asserts that the error is an `Error` that holds `held` items, and that `?` drops them.
+fn assert_dropped<E: From<R> + Drop, R: Error>(
+    rt: &impl Abort,
+    ledger: &Ledger,
+    refused: R,
+    held: u64,
+) {
+    assert_same(rt, ledger.live.get(), held);
+    assert_same(rt, convert::<R, E>(refused).is_err(), true);
+    assert_same(rt, ledger.live.get(), 0);
+}
+
+// Converts an error of each of the four types, for each cause, with and without an item in hand, to
+// the type `E`.
+fn assert_all_dropped<'a, E>(rt: &impl Abort, alloc: Global, ledger: &'a Ledger) -> Result<(), Fail>
+where
+    E: From<Rejected<Counted<'a>>>
+        + From<ExtendRefused<Counted<'a>, Counted<'a>>>
+        + From<CollectRefused<Counted<'a>, Counted<'a>>>
+        + From<SpliceRefused<Counted<'a>, Counted<'a>>>
+        + Drop,
+{
+    for cause in [ThinVecError::OutOfMemory, ThinVecError::CapacityOverflow] {
+        for count in 0..2 {
+            assert_each_dropped::<E>(rt, alloc, ledger, cause, count)?;
+        }
+    }
+    Ok(())
+}
+
+// Converts an error of each of the four types to the type `E`. `count` is the number of items in hand,
+// which is 0 or 1, and the number of items in the lists.
+fn assert_each_dropped<'a, E>(
+    rt: &impl Abort,
+    alloc: Global,
+    ledger: &'a Ledger,
+    cause: ThinVecError,
+    count: u64,
+) -> Result<(), Fail>
+where
+    E: From<Rejected<Counted<'a>>>
+        + From<ExtendRefused<Counted<'a>, Counted<'a>>>
+        + From<CollectRefused<Counted<'a>, Counted<'a>>>
+        + From<SpliceRefused<Counted<'a>, Counted<'a>>>
+        + Drop,
+{
+    let rejected = Rejected {
+        value: Counted::new(ledger, 1, ()),
+        cause,
+    };
+    assert_dropped::<E, _>(rt, ledger, rejected, 1);
+    let extend = ExtendRefused {
+        cause,
+        in_hand: in_hand(ledger, count),
+        rest: Counted::new(ledger, 2, ()),
+    };
+    assert_dropped::<E, _>(rt, ledger, extend, 1_u64.wrapping_add(count));
+    let collect = CollectRefused {
+        list: counted_list(ledger, alloc, count)?,
+        cause,
+        in_hand: in_hand(ledger, count),
+        rest: Counted::new(ledger, 5, ()),
+    };
+    let held = count.wrapping_mul(2).wrapping_add(1);
+    assert_dropped::<E, _>(rt, ledger, collect, held);
+    let splice = SpliceRefused {
+        cause,
+        held: counted_list(ledger, alloc, 4)?.into_vec(alloc)?,
+        in_hand: in_hand(ledger, count),
+        rest: Counted::new(ledger, 6, ()),
+    };
+    assert_dropped::<E, _>(rt, ledger, splice, 5_u64.wrapping_add(count));
+    Ok(())
+}
+
+// Makes an item if `count` is not 0.
+fn in_hand<'a>(ledger: &'a Ledger, count: u64) -> Option<Counted<'a>> {
+    if count == 0 {
+        return None;
+    }
+    Some(Counted::new(ledger, 1, ()))
+}
+
+#[test]
+fn converting_to_thin_vec_error_drops_the_refusal(rt: HostRuntime) -> Result<(), Fail> {
+    assert_all_dropped::<ThinVecError>(&rt, rt.alloc(), Ledger::leaked(rt.alloc())?)
+}
+
+#[test]
+fn converting_to_alloc_error_drops_the_refusal(rt: HostRuntime) -> Result<(), Fail> {
+    assert_all_dropped::<AllocError>(&rt, rt.alloc(), Ledger::leaked(rt.alloc())?)
+}
+
+#[test]
+fn converting_to_io_error_drops_the_refusal(rt: HostRuntime) -> Result<(), Fail> {
+    assert_all_dropped::<io::Error>(&rt, rt.alloc(), Ledger::leaked(rt.alloc())?)
+}

@@ -1,0 +1,167 @@
+//! Tests of lists whose blocks grow and shrink. A block whose items take 256 bytes or more can do
+//! so in place if an item takes 1, 2, 4, 8 or 16 bytes, and a block of 32 slots or more if its items
+//! are larger and aligned to 8. Each request is refused once and then granted.
+use crate::tests::support::assert_same;
+use std::alloc::{Allocator, Global};
+use std::process::Abort;
+use std::test::Fail;
+use thin_testing::{Ledger, Numbered};
+use thin_vec::{Growth, ThinVec, ThinVecError};
+
+// Asserts the length and the capacity of the list, and that each item is made from its index.
+fn assert_numbered<T: Numbered, A: Allocator, G: Growth>(
+    rt: &impl Abort,
+    ledger: &'static Ledger,
+    list: &ThinVec<T, A, G>,
+    len: usize,
+    capacity: usize,
+) {
+    let mut right = 0_usize;
+    for item in list.as_slice() {
+        if *item == T::numbered(ledger, right as u64) {
+            right = right.saturating_add(1);
+        }
+    }
+    assert_same(
+        rt,
+        (right, list.len(), list.capacity()),
+        (len, len, capacity),
+    );
+}
+
+// Pushes items until the list is full.
+fn fill<T: Numbered, A: Allocator, G: Growth>(
+    ledger: &'static Ledger,
+    list: &mut ThinVec<T, A, G>,
+) -> Result<(), ThinVecError> {
+    for index in list.len()..list.capacity() {
+        list.push(T::numbered(ledger, index as u64))?;
+    }
+    Ok(())
+}
+
+/// Changes the capacity of the list with one request.
+pub fn make_capacity<T: Drop, A: Allocator, G: Growth>(
+    list: &mut ThinVec<T, A, G>,
+    capacity: usize,
+) -> Result<(), ThinVecError> {
+    if capacity > list.capacity() {
+        list.reserve_exact(capacity.saturating_sub(list.len()))
+    } else {
+        list.shrink_to(capacity)
+    }
+}
+
+// Makes a full list of `len` items. Changes its capacity to `len + more`, `len + 2 * more`,
+// `len + more` and `len`. If `is_refused` is true, refuses each request once before it is granted.
+fn assert_capacities<T: Numbered, A: Allocator>(
+    rt: &impl Abort,
+    ledger: &'static Ledger,
+    alloc: A,
+    len: usize,
+    more: usize,
+    is_refused: bool,
+) -> Result<(), ThinVecError> {
+    let mut list = ThinVec::<T, A>::new(alloc);
+    list.reserve_exact(len)?;
+    fill(ledger, &mut list)?;
+    let larger = len.saturating_add(more);
+    for capacity in [larger, larger.saturating_add(more), larger, len] {
+        if is_refused {
+            let before = list.capacity();
+            ledger.begin(1);
+            let refused = make_capacity(&mut list, capacity);
+            assert_same(rt, refused, Err(ThinVecError::OutOfMemory));
+            assert_numbered(rt, ledger, &list, len, before);
+        }
+        make_capacity(&mut list, capacity)?;
+        assert_numbered(rt, ledger, &list, len, capacity);
+    }
+    Ok(())
+}
+
+// Tries lists whose items take about 256 bytes, once with refused requests and once over the
+// allocator of the program, which can enlarge a block where it is.
+fn assert_type<T: Numbered>(rt: &impl Abort, ledger: &'static Ledger) -> Result<(), ThinVecError> {
+    let long = 256_usize.checked_div(T::SIZE).unwrap_or(0);
+    for len in long.saturating_sub(1)..long.saturating_add(9) {
+        for more in [1, 2, 3, 4, 5, 6, 7, 8, 9, 2000] {
+            ledger.begin(0);
+            assert_capacities::<T, _>(rt, ledger, &ledger.alloc, len, more, true)?;
+            assert_capacities::<T, _>(rt, ledger, ledger.global, len, more, false)?;
+        }
+    }
+    assert_same(rt, ledger.alloc.blocks(), 0);
+    Ok(())
+}
+
+#[test]
+fn a_list_of_each_width_grows_and_shrinks_in_place(rt: HostRuntime) -> Result<(), Fail> {
+    let ledger = Ledger::leaked(rt.alloc())?;
+    assert_type::<u8>(&rt, ledger)?;
+    assert_type::<u16>(&rt, ledger)?;
+    assert_type::<i32>(&rt, ledger)?;
+    assert_type::<u64>(&rt, ledger)?;
+    assert_type::<u128>(&rt, ledger)?;
+    Ok(())
+}
+
+#[test]
+fn a_list_of_items_of_odd_sizes_grows_and_shrinks(rt: HostRuntime) -> Result<(), Fail> {
+    let ledger = Ledger::leaked(rt.alloc())?;
+    assert_type::<[u8; 3]>(&rt, ledger)?;
+    assert_type::<[u8; 5]>(&rt, ledger)?;
+    assert_type::<[u8; 7]>(&rt, ledger)?;
+    assert_type::<[u32; 3]>(&rt, ledger)?;
+    assert_type::<[u32; 5]>(&rt, ledger)?;
+    assert_type::<[u32; 7]>(&rt, ledger)?;
+    assert_type::<[u64; 3]>(&rt, ledger)?;
+    Ok(())
+}
+
+#[test]
+fn a_list_of_triples_grows_and_shrinks_around_32_slots(rt: HostRuntime) -> Result<(), Fail> {
+    let ledger = Ledger::leaked(rt.alloc())?;
+    for len in 1..40 {
+        for more in [1, 2, 3, 16, 33, 2000] {
+            ledger.begin(0);
+            assert_capacities::<[u64; 3], _>(&rt, ledger, &ledger.alloc, len, more, true)?;
+            assert_capacities::<[u64; 3], _>(&rt, ledger, ledger.global, len, more, false)?;
+        }
+    }
+    assert_same(&rt, ledger.alloc.blocks(), 0);
+    Ok(())
+}
+
+// Pushes 3000 items onto a list. Each time that the list is full, another list is allocated
+// directly after it, so that it cannot grow in place.
+fn assert_moves<T: Numbered>(
+    rt: &impl Abort,
+    ledger: &'static Ledger,
+    alloc: Global,
+) -> Result<(), ThinVecError> {
+    let mut neighbours = ThinVec::<ThinVec<u8>>::new(alloc);
+    let mut list = ThinVec::<T>::new(alloc);
+    for index in 0..3000 {
+        if list.len() == list.capacity() {
+            neighbours.push(ThinVec::with_capacity(alloc, 40)?)?;
+        }
+        list.push(T::numbered(ledger, index))?;
+    }
+    assert_numbered(rt, ledger, &list, 3000, 4096);
+    Ok(())
+}
+
+#[test]
+fn a_list_moves_if_it_cannot_grow_in_place(rt: HostRuntime) -> Result<(), Fail> {
+    let (ledger, alloc) = (Ledger::leaked(rt.alloc())?, rt.alloc());
+    assert_moves::<u8>(&rt, ledger, alloc)?;
+    assert_moves::<u16>(&rt, ledger, alloc)?;
+    assert_moves::<i32>(&rt, ledger, alloc)?;
+    assert_moves::<u64>(&rt, ledger, alloc)?;
+    assert_moves::<u128>(&rt, ledger, alloc)?;
+    assert_moves::<[u64; 3]>(&rt, ledger, alloc)?;
+    assert_moves::<[u128; 3]>(&rt, ledger, alloc)?;
+    assert_moves::<[u64; 40]>(&rt, ledger, alloc)?;
+    Ok(())
+}

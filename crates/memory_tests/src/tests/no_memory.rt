@@ -1,0 +1,243 @@
+//! Tests of the calls that take no memory. They get lists that were made before, and an allocator
+//! that refuses all requests from then on. None of them fails, and none makes a request.
+ghost use Rattle.std.specs.Prelude.{◌≡◌, IfOk, length};
+
+use crate::tests::support::{assert_len, assert_list, assert_same};
+use std::alloc::{Allocator, Global};
+use std::cmp::Ordering;
+use std::hash::{DefaultHasher, Hash};
+use std::io::Write;
+use std::iter::empty;
+use std::ops::Bound;
+use std::process::Abort;
+use std::test::Fail;
+use thin_rows::Rows;
+use thin_testing::{Refusing, list_of, splice};
+use thin_vec::{PowerBytes, ThinVec, bounds, thin_vec};
+
+type Lender = &'static Refusing<Global>;
+
+type List = ThinVec<i32, Lender>;
+
+// Makes the list 1, 2, 3 with capacity 5. From then on, all requests are refused.
+fn roomy(lender: Lender) -> Result<List, Fail>
+    ensures len { IfOk result (λ list. length list.items ≡ 3) }
+{
+    lender.refuse(0);
+    let mut list = list_of(lender, &[1, 2, 3])?;
+    list.reserve_exact(2)?;
+    lender.refuse_all();
+    Ok(list)
+}
+
+#[test]
+fn lists_without_items_take_no_memory(rt: HostRuntime) -> Result<(), Fail> {
+    let lender = Refusing::leaked(rt.alloc(), 0)?;
+    lender.refuse_all();
+    let list: List = ThinVec::new(lender);
+    assert_list(&rt, &list.clone(lender)?, &[], 0);
+    assert_same(&rt, list.into_iter().clone(lender)?.len(), 0);
+    assert_list(&rt, &ThinVec::default_in(lender), &[], 0);
+    assert_list(
+        &rt,
+        &ThinVec::<i32, Lender, PowerBytes>::ruled(lender),
+        &[],
+        0,
+    );
+    assert_list(&rt, &ThinVec::with_capacity(lender, 0)?, &[], 0);
+    assert_list(&rt, &thin_vec![lender =>]?, &[], 0);
+    assert_list(&rt, &ThinVec::from_slice(lender, &[])?, &[], 0);
+    assert_list(&rt, &ThinVec::from_array(lender, [])?, &[], 0);
+    assert_list(&rt, &ThinVec::from_vec(lender, Vec::new(lender))?, &[], 0);
+    let boxed = List::new(lender).into_boxed_slice(lender)?;
+    assert_list(&rt, &ThinVec::from_boxed_slice(lender, boxed)?, &[], 0);
+    let vec = List::new(lender).into_vec(lender)?;
+    let bytes = ThinVec::from_str(lender, "")?;
+    assert_same(&rt, (vec.capacity(), bytes.capacity()), (0, 0));
+    assert_same(&rt, lender.requests(), 0);
+    Ok(())
+}
+
+#[test]
+fn calls_that_fit_the_capacity_take_no_memory(rt: HostRuntime) -> Result<(), Fail> {
+    let lender = Refusing::leaked(rt.alloc(), 0)?;
+    let mut other = roomy(lender)?;
+    other.truncate(2);
+    let mut list = roomy(lender)?;
+    list.reserve(2)?;
+    list.reserve_exact(2)?;
+    list.append(&mut other)?;
+    assert_list(&rt, &list, &[1, 2, 3, 1, 2], 5);
+    list.shrink_to_fit()?;
+    list.resize(5, 7)?;
+    list.resize(2, 7)?;
+    list.resize(3, 7)?;
+    list.extend_from_slice(&[])?;
+    list.push(8)?;
+    list.insert(0, 9)?;
+    assert_list(&rt, &list, &[9, 1, 2, 7, 8], 5);
+    assert_list(&rt, &list.split_off(lender, 5)?, &[], 0);
+    list.clear();
+    list.extend(1..6)?;
+    assert_list(&rt, &list, &[1, 2, 3, 4, 5], 5);
+    splice(&mut list, (1, 4), 7..9, lender)?;
+    assert_list(&rt, &list, &[1, 7, 8, 5], 5);
+    splice(&mut list, (3, 4), 3..5, lender)?;
+    assert_list(&rt, &list, &[1, 7, 8, 3, 4], 5);
+    list.clear();
+    list.shrink_to_fit()?;
+    assert_list(&rt, &list, &[], 0);
+    assert_same(&rt, lender.requests(), 0);
+    Ok(())
+}
+
+#[test]
+fn writes_that_fit_the_capacity_take_no_memory(rt: HostRuntime) -> Result<(), Fail> {
+    let lender = Refusing::leaked(rt.alloc(), 0)?;
+    let mut bytes: ThinVec<u8, Lender> = ThinVec::with_capacity(lender, 4)?;
+    lender.refuse_all();
+    assert_same(&rt, bytes.write(&[1, 2])?, 2);
+    bytes.write_all(&[3, 4])?;
+    bytes.flush()?;
+    assert_same(&rt, bytes.as_slice(), &[1, 2, 3, 4][..]);
+    assert_same(&rt, lender.requests(), 0);
+    Ok(())
+}
+
+// Removes items of the list 1, 2, 3 by one of several calls, and drops what is left.
+fn remove_by_way<A: Allocator>(rt: &impl Abort, way: u32, mut list: ThinVec<i32, A>, alloc: A) {
+    match way {
+        0 => assert_same(rt, list.pop(), Some(3)),
+        1 => assert_same(rt, list.pop_if(|item| *item == 3), Some(3)),
+        2 => list.truncate(1),
+        3 => list.clear(),
+        4 => list.retain(|item| *item == 2),
+        5 => list.retain_mut(|item| *item == 2),
+        6 => list.dedup(),
+        7 => list.dedup_by(|later, kept| *later > *kept),
+        8 => list.dedup_by_key(|item| *item / 2),
+        9 => assert_same(rt, list.into_array::<3>().ok(), Some([1, 2, 3])),
+        10 => assert_same(rt, list.into_array::<2>().is_ok(), false),
+        _ => remove_at_indices(rt, way, list, alloc),
+    }
+}
+
+// Removes items of the list 1, 2, 3 by a call that takes an index or a range, or by `into_iter`.
+fn remove_at_indices<A: Allocator>(rt: &impl Abort, way: u32, mut list: ThinVec<i32, A>, alloc: A) {
+    assert_len(rt, &list, 3);
+    match way {
+        11 => assert_same(rt, list.remove(0), 1),
+        12 => assert_same(rt, list.swap_remove(0), 1),
+        13 => {
+            let mut drain = list.drain(0, 3);
+            assert_same(rt, (drain.next(), drain.next_back()), (Some(1), Some(3)));
+            assert_same(rt, (drain.len(), drain.as_slice().len()), (1, 1));
+        }
+        14 => {
+            let mut odd = list.extract_if(0, 3, |item: &mut i32| *item % 2 == 1);
+            assert_same(rt, (odd.next(), odd.size_hint()), (Some(1), (0, Some(2))));
+        }
+        15 => {
+            let mut splice = list.splice(0, 2, empty());
+            assert_same(rt, (splice.next(), splice.next_back()), (Some(1), Some(2)));
+            assert_same(rt, splice.finish(alloc).is_ok(), true);
+        }
+        _ => {
+            let mut rest = list.into_iter();
+            assert_same(rt, (rest.next(), rest.next_back()), (Some(1), Some(3)));
+            assert_same(rt, (rest.len(), rest.as_slice().len()), (1, 1));
+        }
+    }
+}
+
+#[test]
+fn calls_that_remove_items_take_no_memory(rt: HostRuntime) -> Result<(), Fail> {
+    let lender = Refusing::leaked(rt.alloc(), 0)?;
+    for way in 0..17 {
+        remove_by_way(&rt, way, roomy(lender)?, lender);
+        assert_same(&rt, (way, lender.requests(), lender.blocks()), (way, 0, 0));
+    }
+    Ok(())
+}
+
+// Reads the list 1, 2, 3, and compares it with an equal list.
+fn read<A: Allocator>(rt: &impl Abort, list: &ThinVec<i32, A>, other: &ThinVec<i32, A>) {
+    assert_same(rt, (list.is_empty(), list.has_capacity()), (false, true));
+    assert_same(
+        rt,
+        (*list == *other, list.cmp(other)),
+        (true, Ordering::Equal),
+    );
+    assert_same(rt, list.partial_cmp(other), Some(Ordering::Equal));
+    list.hash(&mut DefaultHasher::new());
+    let mut sum: i32 = 0;
+    for item in list {
+        sum = sum.saturating_add(*item);
+    }
+    assert_same(rt, (sum, list.first()), (6, Some(&1)));
+    assert_same(
+        rt,
+        bounds(Bound::Excluded(0), Bound::Unbounded, 3),
+        Some((1, 3)),
+    );
+}
+
+// Writes to the list 1, 2, 3.
+fn write<A: Allocator>(rt: &impl Abort, list: &mut ThinVec<i32, A>) {
+    for item in &mut *list {
+        *item = item.saturating_add(1);
+    }
+    list.as_mut_slice().reverse();
+    assert_same(rt, list.get_mut(9).is_none(), true);
+    assert_len(rt, list, 3);
+    list[0] = 7;
+    assert_same(rt, (list[0], list[1]), (7, 3));
+}
+
+#[test]
+fn calls_that_read_and_write_items_take_no_memory(rt: HostRuntime) -> Result<(), Fail> {
+    let lender = Refusing::leaked(rt.alloc(), 0)?;
+    let other = roomy(lender)?;
+    let mut list = roomy(lender)?;
+    read(&rt, &list, &other);
+    write(&rt, &mut list);
+    assert_same(&rt, list.allocator().requests(), 0);
+    Ok(())
+}
+
+// Asserts how many rows the table has. The prover knows it afterwards.
+fn assert_rows<A: Allocator>(rt: &impl Abort, table: &Rows<u32, A>, rows: usize)
+    ensures rows { length table.now ≡ rows }
+{
+    assert_eq!(rt; table.rows(), rows);
+}
+
+#[test]
+fn calls_of_a_table_take_no_memory(rt: HostRuntime) -> Result<(), Fail> {
+    let lender = Refusing::leaked(rt.alloc(), 0)?;
+    let mut table: Rows<u32, Lender> = Rows::with_rows(lender, 2)?;
+    for column in 0..5 {
+        assert_rows(&rt, &table, 2);
+        assert_same(&rt, table.set(0, column, 7)?, None);
+    }
+    lender.refuse_all();
+    assert_rows(&rt, &table, 2);
+    assert_same(&rt, table.set(0, 3, 8)?, Some(7));
+    assert_same(&rt, (table.get(0, 3), table.get(1, 3)), (Some(&8), None));
+    assert_same(&rt, table.get_mut(0, 4).is_some(), true);
+    assert_same(
+        &rt,
+        (table.remove(0, 0), table.remove(0, 0)),
+        (Some(7), None),
+    );
+    assert_same(&rt, (table.len(), table.row(0).len()), (4, 4));
+    assert_same(
+        &rt,
+        (table.owns_block(0), table.owns_block(1)),
+        (true, false),
+    );
+    table.clear_row(0);
+    drop(table);
+    assert_same(&rt, (lender.requests(), lender.blocks()), (0, 0));
+    Ok(())
+}

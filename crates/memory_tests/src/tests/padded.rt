@@ -1,0 +1,246 @@
+//! Tests of lists whose blocks are padded, which they are from 32 slots on if an item takes more
+//! than 16 bytes and is aligned to 8. The tests compare the number of allocated bytes, so they see
+//! which blocks are padded, and that each block is freed with its size. Each request is refused
+//! once and then granted.
+use crate::tests::in_place::make_capacity;
+use crate::tests::support::assert_same;
+use std::alloc::{Allocator, Global};
+use std::process::Abort;
+use std::test::Fail;
+use thin_testing::{Counted, Ledger, Numbered, Refusing};
+use thin_vec::{ThinVec, ThinVecError};
+
+// The lists of these tests.
+type List<T> = ThinVec<T, &'static Refusing<Global>>;
+
+// The least capacity of a padded block, if items of a type have one.
+const PADDED: Option<usize> = Some(32);
+
+// Returns the size in bytes of a block for `capacity` items. The block is padded if `capacity` is
+// at least `least`. No block has 0 slots.
+fn bytes_of<T: Numbered>(capacity: usize, least: Option<usize>) -> usize {
+    match (capacity, least) {
+        (0, _) => 0,
+        (_, Some(least)) if capacity >= least => capacity.saturating_add(2).saturating_mul(T::SIZE),
+        _ => {
+            let bytes = capacity.saturating_mul(T::SIZE).saturating_add(16);
+            bytes.div_ceil(8).saturating_mul(8)
+        }
+    }
+}
+
+// Pushes items that are made from their indices, plus `first`, until the list has `len` items.
+fn fill<T: Numbered, A: Allocator>(
+    ledger: &'static Ledger,
+    list: &mut ThinVec<T, A>,
+    first: usize,
+    len: usize,
+) -> Result<(), ThinVecError> {
+    for index in list.len()..len {
+        list.push(T::numbered(ledger, index.saturating_add(first) as u64))?;
+    }
+    Ok(())
+}
+
+// Asserts the length and the capacity of the list, and that its items are as `fill` makes them.
+fn assert_filled<T: Numbered, A: Allocator>(
+    rt: &impl Abort,
+    ledger: &'static Ledger,
+    list: &ThinVec<T, A>,
+    first: usize,
+    wanted: (usize, usize),
+) {
+    let mut right = 0_usize;
+    for item in list.as_slice() {
+        if *item == T::numbered(ledger, right.saturating_add(first) as u64) {
+            right = right.saturating_add(1);
+        }
+    }
+    let found = (right, list.len(), list.capacity());
+    assert_same(rt, found, (wanted.0, wanted.0, wanted.1));
+}
+
+// Asserts how many bytes of memory are allocated.
+fn assert_bytes(rt: &impl Abort, ledger: &Ledger, bytes: usize) {
+    assert_same(rt, ledger.alloc.bytes(), bytes as u64);
+}
+
+// Asserts that there is no block, no allocated byte, and no item.
+fn assert_nothing(rt: &impl Abort, ledger: &Ledger) {
+    let left = (ledger.alloc.blocks(), ledger.alloc.bytes());
+    assert_same(rt, (left, ledger.live.get()), ((0, 0), 0));
+}
+
+// Changes the capacity of a list of `len` items from `from` to `to`, first with a refused request,
+// and then with a granted one.
+fn assert_resized<T: Numbered>(
+    rt: &impl Abort,
+    ledger: &'static Ledger,
+    least: Option<usize>,
+    len: usize,
+    from: usize,
+    to: usize,
+) -> Result<(), ThinVecError> {
+    ledger.begin(0);
+    let mut list = List::<T>::new(&ledger.alloc);
+    list.reserve_exact(from)?;
+    fill(ledger, &mut list, 0, len)?;
+    ledger.begin(1);
+    let refused = make_capacity(&mut list, to);
+    assert_same(rt, refused, Err(ThinVecError::OutOfMemory));
+    assert_filled(rt, ledger, &list, 0, (len, from));
+    assert_bytes(rt, ledger, bytes_of::<T>(from, least));
+    make_capacity(&mut list, to)?;
+    assert_filled(rt, ledger, &list, 0, (len, to));
+    assert_bytes(rt, ledger, bytes_of::<T>(to, least));
+    drop(list);
+    assert_nothing(rt, ledger);
+    Ok(())
+}
+
+// Changes the capacity of a list of `len` items from `from` to `to` over the allocator of the
+// program, which can resize a block where it is.
+fn assert_resized_in_place<T: Numbered>(
+    rt: &impl Abort,
+    ledger: &'static Ledger,
+    len: usize,
+    from: usize,
+    to: usize,
+) -> Result<(), ThinVecError> {
+    let mut list = ThinVec::<T>::new(ledger.global);
+    list.reserve_exact(from)?;
+    fill(ledger, &mut list, 0, len)?;
+    make_capacity(&mut list, to)?;
+    assert_filled(rt, ledger, &list, 0, (len, to));
+    Ok(())
+}
+
+// Resizes lists from and to capacities below 32, and from 32 on.
+fn assert_border<T: Numbered>(
+    rt: &impl Abort,
+    ledger: &'static Ledger,
+    least: Option<usize>,
+) -> Result<(), ThinVecError> {
+    for from in [1, 30, 31, 32, 33, 64, 500] {
+        for to in [1, 30, 31, 32, 33, 64, 500] {
+            for len in [0, 1, 31, 32] {
+                if len <= from && len <= to && from != to {
+                    assert_resized::<T>(rt, ledger, least, len, from, to)?;
+                    assert_resized_in_place::<T>(rt, ledger, len, from, to)?;
+                }
+            }
+        }
+    }
+    assert_nothing(rt, ledger);
+    Ok(())
+}
+
+#[test]
+fn a_block_of_large_items_is_padded_from_32_slots_on(rt: HostRuntime) -> Result<(), Fail> {
+    let ledger = Ledger::leaked(rt.alloc())?;
+    assert_border::<[u32; 5]>(&rt, ledger, None)?;
+    assert_border::<[u32; 7]>(&rt, ledger, None)?;
+    assert_border::<u128>(&rt, ledger, None)?;
+    assert_border::<Counted<'static>>(&rt, ledger, None)?;
+    assert_border::<[u64; 3]>(&rt, ledger, PADDED)?;
+    assert_border::<Counted<'static, u64>>(&rt, ledger, PADDED)?;
+    assert_border::<Counted<'static, u128>>(&rt, ledger, PADDED)?;
+    assert_border::<[u64; 6]>(&rt, ledger, PADDED)?;
+    assert_border::<[u128; 3]>(&rt, ledger, PADDED)?;
+    assert_border::<[u64; 40]>(&rt, ledger, PADDED)?;
+    Ok(())
+}
+
+// A call that makes, resizes or frees a block.
+#[derive(Clone, Copy)]
+enum Call {
+    Append,
+    SplitOff,
+    Clone,
+    ShrinkToFit,
+}
+
+// Makes the call with both lists.
+fn make_call<T: Numbered>(
+    call: Call,
+    ledger: &'static Ledger,
+    list: &mut List<T>,
+    other: &mut List<T>,
+) -> Result<(), ThinVecError> {
+    match call {
+        Call::Append => list.append(other)?,
+        Call::SplitOff => {
+            let at = list.len().min(2);
+            *other = list.split_off(&ledger.alloc, at)?;
+        }
+        Call::Clone => *other = list.clone(&ledger.alloc)?,
+        Call::ShrinkToFit => list.shrink_to_fit()?,
+    }
+    Ok(())
+}
+
+// Makes a list of `len` items with two spare slots, and a list of the next `len` items without
+// spare slots. Makes the call, and refuses request number `refused`, or none if `refused` is 0.
+// Asserts that a refused call changes neither list, and what another call makes of them.
+fn assert_call<T: Numbered>(
+    rt: &impl Abort,
+    ledger: &'static Ledger,
+    call: Call,
+    len: usize,
+    refused: u64,
+) -> Result<(), ThinVecError> {
+    ledger.begin(0);
+    let mut list = List::<T>::with_capacity(&ledger.alloc, len.saturating_add(2))?;
+    fill(ledger, &mut list, 0, len)?;
+    let mut other = List::<T>::with_capacity(&ledger.alloc, len)?;
+    fill(ledger, &mut other, len, len)?;
+    ledger.begin(refused);
+    let is_ok = make_call(call, ledger, &mut list, &mut other).is_ok();
+    assert_same(rt, is_ok, refused == 0 || ledger.alloc.requests() < refused);
+    let (double, roomy) = (len.saturating_mul(2), len.saturating_add(2));
+    let rest = len.saturating_sub(2);
+    let (wanted, first, wanted_other) = match call {
+        Call::Append if is_ok => ((double, roomy.saturating_mul(2)), len, (0, len)),
+        Call::SplitOff if is_ok => ((2, roomy), 2, (rest, rest)),
+        Call::Clone if is_ok => ((len, roomy), 0, (len, len)),
+        Call::ShrinkToFit if is_ok => ((len, len), len, (len, len)),
+        _ => ((len, roomy), len, (len, len)),
+    };
+    assert_filled(rt, ledger, &list, 0, wanted);
+    assert_filled(rt, ledger, &other, first, wanted_other);
+    let bytes = bytes_of::<T>(wanted.1, PADDED);
+    assert_bytes(
+        rt,
+        ledger,
+        bytes.saturating_add(bytes_of::<T>(wanted_other.1, PADDED)),
+    );
+    drop(list);
+    drop(other);
+    assert_nothing(rt, ledger);
+    Ok(())
+}
+
+// Tries each call on lists of fewer than 32 items, and of 32 and more.
+fn assert_calls<T: Numbered>(rt: &impl Abort, ledger: &'static Ledger) -> Result<(), ThinVecError> {
+    for len in [15, 16, 29, 30, 31, 32, 33, 34, 35] {
+        for refused in [0, 1, 2, 32] {
+            assert_call::<T>(rt, ledger, Call::Append, len, refused)?;
+            assert_call::<T>(rt, ledger, Call::SplitOff, len, refused)?;
+            assert_call::<T>(rt, ledger, Call::Clone, len, refused)?;
+            assert_call::<T>(rt, ledger, Call::ShrinkToFit, len, refused)?;
+        }
+    }
+    Ok(())
+}
+
+#[test]
+fn calls_make_and_free_padded_blocks(rt: HostRuntime) -> Result<(), Fail> {
+    let ledger = Ledger::leaked(rt.alloc())?;
+    assert_calls::<[u64; 3]>(&rt, ledger)?;
+    assert_calls::<Counted<'static, u64>>(&rt, ledger)?;
+    assert_calls::<Counted<'static, u128>>(&rt, ledger)?;
+    assert_calls::<[u64; 6]>(&rt, ledger)?;
+    assert_calls::<[u128; 3]>(&rt, ledger)?;
+    assert_calls::<[u64; 40]>(&rt, ledger)?;
+    Ok(())
+}

@@ -1,0 +1,126 @@
+//! Tests of what a call returns if a request for memory or a clone is refused, and of the list
+//! afterwards.
+use crate::tests::support::{assert_counts, assert_len, assert_list, assert_same};
+use std::test::Fail;
+use thin_runner::hinted::Hinted;
+use thin_testing::{Ledger, Refusing, counted_list, list_of, splice};
+use thin_vec::{ExtendRefused, SpliceRefused, ThinVec, ThinVecError};
+
+const OUT_OF_MEMORY: ThinVecError = ThinVecError::OutOfMemory;
+
+#[test]
+fn refused_push_returns_its_value(rt: HostRuntime) -> Result<(), Fail> {
+    let refusing = Refusing::leaked(rt.alloc(), 2)?;
+    let mut list = ThinVec::new(refusing);
+    for item in 1..5 {
+        list.push(item)?;
+    }
+    let refused = list.push(5).err().ok_or("pushed")?;
+    assert_same(&rt, (refused.value, refused.cause), (5, OUT_OF_MEMORY));
+    assert_list(&rt, &list, &[1, 2, 3, 4], 4);
+    assert_counts(&rt, refusing, 2, 1);
+    list.push(5)?;
+    assert_list(&rt, &list, &[1, 2, 3, 4, 5], 8);
+    assert_counts(&rt, refusing, 3, 1);
+    Ok(())
+}
+
+#[test]
+fn refused_append_changes_neither_list(rt: HostRuntime) -> Result<(), Fail> {
+    let refusing = Refusing::leaked(rt.alloc(), 3)?;
+    let mut list = list_of(refusing, &[1, 2])?;
+    let mut other = list_of(refusing, &[3])?;
+    assert_same(&rt, list.append(&mut other), Err(OUT_OF_MEMORY));
+    assert_list(&rt, &list, &[1, 2], 2);
+    assert_list(&rt, &other, &[3], 1);
+    assert_counts(&rt, refusing, 3, 2);
+    list.append(&mut other)?;
+    assert_list(&rt, &list, &[1, 2, 3], 4);
+    assert_counts(&rt, refusing, 4, 2);
+    Ok(())
+}
+
+#[test]
+fn extend_from_slice_drops_its_clones_if_one_is_refused(rt: HostRuntime) -> Result<(), Fail> {
+    let ledger = Ledger::leaked(rt.alloc())?;
+    let three = counted_list(ledger, rt.alloc(), 3)?;
+    let mut list = counted_list(ledger, rt.alloc(), 1)?;
+    ledger.begin(2);
+    assert_same(&rt, list.extend_from_slice(&three), Err(OUT_OF_MEMORY));
+    assert_same(&rt, (list.len(), list.capacity()), (1, 4));
+    assert_same(&rt, (ledger.clones.get(), ledger.live.get()), (1, 4));
+    list.extend_from_slice(&three)?;
+    assert_same(&rt, (list.len(), list.capacity()), (4, 4));
+    assert_same(&rt, (ledger.clones.get(), ledger.live.get()), (4, 7));
+    Ok(())
+}
+
+#[test]
+fn refused_extend_returns_the_item_in_hand(rt: HostRuntime) -> Result<(), Fail> {
+    let refusing = Refusing::leaked(rt.alloc(), 2)?;
+    let mut list = ThinVec::new(refusing);
+    let items = Hinted::new([1, 2, 3, 4, 5].to_vec(rt.alloc())?, 0);
+    let ExtendRefused {
+        cause,
+        in_hand,
+        mut rest,
+    } = list.extend(items).err().ok_or("extended")?;
+    assert_same(
+        &rt,
+        (cause, in_hand, rest.next()),
+        (OUT_OF_MEMORY, Some(5), None),
+    );
+    assert_list(&rt, &list, &[1, 2, 3, 4], 4);
+    assert_counts(&rt, refusing, 2, 1);
+    Ok(())
+}
+
+#[test]
+fn refused_finish_returns_the_item_in_hand(rt: HostRuntime) -> Result<(), Fail> {
+    let refusing = Refusing::leaked(rt.alloc(), 2)?;
+    let mut list = list_of(refusing, &[1, 2, 3, 4, 5])?;
+    assert_len(&rt, &list, 5);
+    let items = Hinted::new([10, 11, 12].to_vec(rt.alloc())?, 0);
+    let SpliceRefused {
+        cause,
+        held,
+        in_hand,
+        mut rest,
+    } = splice(&mut list, (2, 4), items, refusing)
+        .err()
+        .ok_or("finished")?;
+    assert_same(
+        &rt,
+        (cause, in_hand, rest.next()),
+        (OUT_OF_MEMORY, Some(12), None),
+    );
+    assert_same(&rt, held.len(), 0);
+    assert_list(&rt, &list, &[1, 2, 10, 11, 5], 5);
+    Ok(())
+}
+
+// The second request is for a vector of the items that do not fit into the range. The third
+// request, which would make the list grow, is refused.
+#[test]
+fn refused_finish_returns_the_held_items(rt: HostRuntime) -> Result<(), Fail> {
+    let refusing = Refusing::leaked(rt.alloc(), 3)?;
+    let mut list = list_of(refusing, &[1, 2, 3])?;
+    assert_len(&rt, &list, 3);
+    let items = Hinted::new([7, 8, 9].to_vec(rt.alloc())?, 0);
+    let SpliceRefused {
+        cause,
+        held,
+        in_hand,
+        mut rest,
+    } = splice(&mut list, (1, 2), items, refusing)
+        .err()
+        .ok_or("finished")?;
+    assert_same(
+        &rt,
+        (cause, in_hand, rest.next()),
+        (OUT_OF_MEMORY, None, None),
+    );
+    assert_same(&rt, held.as_slice(), &[8, 9][..]);
+    assert_list(&rt, &list, &[1, 7, 3], 3);
+    Ok(())
+}

@@ -1,0 +1,19 @@
+//! One file for each topic.
+mod capacity;
+mod drops;
+mod edits;
+mod into_iter;
+mod items;
+mod support;
+
+use std::alloc::{AllocError, Global};
+use thin_vec::ThinVec;
+
+// Returns a list of boxes, one for each number.
+fn boxes_of(alloc: Global, numbers: &[i32]) -> Result<ThinVec<Box<i32, Global>>, AllocError> {
+    let mut list = ThinVec::new(alloc);
+    for number in numbers {
+        list.push(Box::new(alloc, *number)?)?;
+    }
+    Ok(list)
+}

@@ -1,0 +1,140 @@
+//! The capacity after each call.
+use crate::tests::support::{assert_list, assert_same};
+use std::alloc::Global;
+use std::mem::size_of;
+use std::process::Abort;
+use std::test::Fail;
+use thin_testing::Refusing;
+use thin_vec::{ThinVec, ThinVecError};
+
+#[test]
+fn a_list_is_one_pointer_wide(rt: HostRuntime) {
+    let width = size_of::<ThinVec<u8, Global>>();
+    assert_same(&rt, width, size_of::<*const u8>());
+    assert_same(&rt, width < size_of::<Vec<u8, Global>>(), true);
+}
+
+#[test]
+fn clear_keeps_the_capacity(rt: HostRuntime) -> Result<(), Fail> {
+    let mut list = ThinVec::new(rt.alloc());
+    list.clear();
+    assert_list(&rt, &list, &[], 0);
+    for items in &[[1, 2], [3, 4]] {
+        list.push(items[0])?;
+        list.push(items[1])?;
+        assert_list(&rt, &list, items, 4);
+        list.clear();
+        assert_list(&rt, &list, &[], 4);
+    }
+    list.clear();
+    assert_list(&rt, &list, &[], 4);
+    Ok(())
+}
+
+// Makes a list of 16 and then of 17 items. Returns the capacity after each of the five steps.
+fn reserved(alloc: Global, is_exact: bool) -> Result<[usize; 5], ThinVecError> {
+    let mut list = ThinVec::new(alloc);
+    let first = reserve(&mut list, 2, is_exact)?;
+    for item in 0..16 {
+        list.push(item)?;
+    }
+    let second = list.capacity();
+    let third = reserve(&mut list, 16, is_exact)?;
+    list.push(16)?;
+    let fourth = list.capacity();
+    let fifth = reserve(&mut list, 16, is_exact)?;
+    Ok([first, second, third, fourth, fifth])
+}
+
+// Calls `reserve_exact` if `is_exact` is true, and `reserve` otherwise. Returns the new capacity.
+fn reserve(
+    list: &mut ThinVec<i32>,
+    additional: usize,
+    is_exact: bool,
+) -> Result<usize, ThinVecError> {
+    if is_exact {
+        list.reserve_exact(additional)?;
+    } else {
+        list.reserve(additional)?;
+    }
+    Ok(list.capacity())
+}
+
+#[test]
+fn reserve_doubles_and_reserve_exact_does_not(rt: HostRuntime) -> Result<(), Fail> {
+    assert_same(&rt, reserved(rt.alloc(), false)?, [4, 16, 32, 32, 64]);
+    assert_same(&rt, reserved(rt.alloc(), true)?, [2, 16, 32, 32, 33]);
+    Ok(())
+}
+
+// Asserts that `with_capacity(capacity)` fails because the capacity is too large.
+fn assert_overflows<T: Drop>(rt: &impl Abort, alloc: &'static Refusing<Global>, capacity: usize) {
+    let refused = ThinVec::<T, &'static Refusing<Global>>::with_capacity(alloc, capacity).err();
+    let overflow = Some(ThinVecError::CapacityOverflow);
+    assert_same(rt, (capacity, refused), (capacity, overflow));
+}
+
+#[test]
+fn with_capacity_detects_overflow_before_any_request(rt: HostRuntime) -> Result<(), Fail> {
+    let refusing = Refusing::leaked(rt.alloc(), 0)?;
+    let most = isize::MAX as usize;
+    for capacity in [most - 16, most - 2, most, most + 1] {
+        assert_overflows::<u8>(&rt, refusing, capacity);
+    }
+    for capacity in [most / 2 + 1, most + 1] {
+        assert_overflows::<u16>(&rt, refusing, capacity);
+    }
+    assert_same(&rt, refusing.requests(), 0);
+    Ok(())
+}
+
+#[test]
+fn has_capacity_tells_whether_a_list_has_a_block(rt: HostRuntime) -> Result<(), Fail> {
+    let mut list = ThinVec::new(rt.alloc());
+    assert_same(&rt, list.has_capacity(), false);
+    list.push(0)?;
+    assert_same(&rt, list.has_capacity(), true);
+    assert_same(&rt, (list.pop(), list.has_capacity()), (Some(0), true));
+    list.shrink_to_fit()?;
+    assert_same(&rt, list.has_capacity(), false);
+    list.reserve(64)?;
+    assert_same(&rt, list.has_capacity(), true);
+    for (capacity, has_block) in [(64, true), (0, false)] {
+        let list = ThinVec::<u32>::with_capacity(rt.alloc(), capacity)?;
+        assert_same(&rt, list.has_capacity(), has_block);
+    }
+    Ok(())
+}
+
+#[test]
+fn calls_on_a_new_list_make_no_block(rt: HostRuntime) -> Result<(), Fail> {
+    let alloc = rt.alloc();
+    let mut list: ThinVec<i32> = ThinVec::new(alloc);
+    assert_same(&rt, list.pop(), None);
+    list.truncate(1);
+    list.truncate(0);
+    list.append(&mut ThinVec::new(alloc))?;
+    list.reserve(0)?;
+    list.reserve_exact(0)?;
+    list.retain_mut(|_item| true);
+    list.dedup_by_key(|item| *item);
+    assert_list(&rt, &list, &[], 0);
+    assert_same(&rt, list.into_iter().next(), None);
+    assert_list(&rt, &ThinVec::with_capacity(alloc, 0)?, &[], 0);
+    assert_list(&rt, &ThinVec::default_in(alloc), &[], 0);
+    Ok(())
+}
+
+// `u128` has the largest alignment of all types of Rattle.
+#[test]
+fn reallocation_keeps_an_item_of_the_largest_alignment(rt: HostRuntime) -> Result<(), Fail> {
+    let mut list = ThinVec::new(rt.alloc());
+    list.push(273_u128)?;
+    for additional in 0..4096 {
+        list.reserve_exact(additional)?;
+        assert_same(&rt, list.as_slice(), &[273]);
+        list.shrink_to_fit()?;
+        assert_same(&rt, list.as_slice(), &[273]);
+    }
+    Ok(())
+}

@@ -1,0 +1,73 @@
+//! The iterator `IntoIter`.
+use crate::tests::support::{assert_items, assert_list, assert_same, assert_text};
+use std::alloc::Global;
+use std::process::Abort;
+use std::test::Fail;
+use thin_testing::list_of;
+use thin_vec::{IntoIter, ThinVec, ThinVecError};
+
+#[test]
+fn into_iter_as_slice_returns_the_remaining_items(rt: HostRuntime) -> Result<(), Fail> {
+    let mut items = list_of(rt.alloc(), &['a', 'b', 'c'])?.into_iter();
+    assert_items(&rt, items.as_slice(), &['a', 'b', 'c']);
+    assert_same(&rt, items.next(), Some('a'));
+    assert_items(&rt, items.as_slice(), &['b', 'c']);
+    assert_same(&rt, [items.next(), items.next()], [Some('b'), Some('c')]);
+    assert_items(&rt, items.as_slice(), &[]);
+    assert_same(&rt, (items.next(), items.next_back()), (None, None));
+    Ok(())
+}
+
+#[test]
+fn into_iter_yields_items_written_through_its_slice(rt: HostRuntime) -> Result<(), Fail> {
+    let mut items = list_of(rt.alloc(), &['a', 'b', 'c'])?.into_iter();
+    assert_text(&rt, rt.alloc(), &items, "IntoIter(['a', 'b', 'c'])")?;
+    assert_eq!(rt; items.len(), 3);
+    items.as_mut_slice()[0] = 'x';
+    items.as_mut_slice()[1] = 'y';
+    assert_same(&rt, items.next(), Some('x'));
+    assert_items(&rt, items.as_slice(), &['y', 'c']);
+    assert_same(&rt, list_of(rt.alloc(), &[1, 2, 3])?.into_iter().count(), 3);
+    Ok(())
+}
+
+// Asserts which items a clone of the iterator has.
+fn assert_cloned(
+    rt: &impl Abort,
+    items: &IntoIter<i32>,
+    alloc: Global,
+    wanted: &[i32],
+) -> Result<(), ThinVecError> {
+    assert_items(rt, items.clone(alloc)?.as_slice(), wanted);
+    Ok(())
+}
+
+#[test]
+fn into_iter_clone_has_the_remaining_items(rt: HostRuntime) -> Result<(), Fail> {
+    let mut items = list_of(rt.alloc(), &[1, 2, 3])?.into_iter();
+    assert_cloned(&rt, &items, rt.alloc(), &[1, 2, 3])?;
+    assert_same(&rt, items.next(), Some(1));
+    assert_cloned(&rt, &items, rt.alloc(), &[2, 3])?;
+    assert_same(&rt, items.next_back(), Some(3));
+    assert_cloned(&rt, &items, rt.alloc(), &[2])?;
+    assert_same(&rt, items.next(), Some(2));
+    assert_cloned(&rt, &items, rt.alloc(), &[])?;
+    Ok(())
+}
+
+// Moves the items into a new list twice: in order, and then from the back.
+fn moved_twice<T: Copy + Drop>(alloc: Global, items: &[T]) -> Result<ThinVec<T>, ThinVecError> {
+    let mut moved = ThinVec::new(alloc);
+    moved.extend(list_of(alloc, items)?.into_iter())?;
+    moved.extend(list_of(alloc, items)?.into_iter().rev())?;
+    Ok(moved)
+}
+
+#[test]
+fn extend_moves_the_items_of_an_into_iter(rt: HostRuntime) -> Result<(), Fail> {
+    let moved = moved_twice(rt.alloc(), &[1, 2, 3])?;
+    assert_list(&rt, &moved, &[1, 2, 3, 3, 2, 1], 8);
+    let units = moved_twice(rt.alloc(), &[(), (), ()])?;
+    assert_same(&rt, units.len(), 6);
+    Ok(())
+}

@@ -1,0 +1,112 @@
+//! The items after each call, and when they are dropped.
+use crate::tests::boxes_of;
+use crate::tests::support::{assert_items, assert_list, assert_same};
+use std::alloc::Global;
+use std::process::Abort;
+use std::test::Fail;
+use thin_testing::{Refusing, list_of};
+use thin_vec::{ThinVec, ThinVecError};
+
+#[test]
+fn index_reads_and_writes_an_item(rt: HostRuntime) -> Result<(), Fail> {
+    let mut list = list_of(rt.alloc(), &[1, 2, 3])?;
+    assert_same(&rt, list[1], 2);
+    list[1] = 22;
+    assert_items(&rt, &list, &[1, 22, 3]);
+    Ok(())
+}
+
+fn add(amount: i32, items: &mut [i32]) {
+    for item in items {
+        *item = item.saturating_add(amount);
+    }
+}
+
+#[test]
+fn writes_through_parts_of_the_slice(rt: HostRuntime) -> Result<(), Fail> {
+    let mut list = list_of(rt.alloc(), &[1, 2, 3, 4, 5])?;
+    add(2, &mut list.as_mut_slice()[2..]);
+    assert_items(&rt, &list, &[1, 2, 5, 6, 7]);
+    let mut list = list_of(rt.alloc(), &[1, 2, 3, 4, 5])?;
+    add(1, &mut list.as_mut_slice()[..2]);
+    assert_items(&rt, &list, &[2, 3, 3, 4, 5]);
+    let mut list = list_of(rt.alloc(), &[1, 2, 3, 4, 5])?;
+    let (left, right) = list.as_mut_slice().split_at_mut(2);
+    add(1, left);
+    add(2, right);
+    assert_items(&rt, &list, &[2, 3, 5, 6, 7]);
+    Ok(())
+}
+
+#[test]
+fn compares_lists_by_their_items(rt: HostRuntime) -> Result<(), Fail> {
+    let zero = list_of(rt.alloc(), &[0])?;
+    assert_same(&rt, zero == list_of(rt.alloc(), &[0])?, true);
+    assert_same(&rt, zero == list_of(rt.alloc(), &[1])?, false);
+    Ok(())
+}
+
+#[test]
+fn append_moves_all_items(rt: HostRuntime) -> Result<(), Fail> {
+    let mut list = list_of(rt.alloc(), &[1, 2, 3])?;
+    let mut other = list_of(rt.alloc(), &[4, 5, 6])?;
+    list.append(&mut other)?;
+    assert_list(&rt, &list, &[1, 2, 3, 4, 5, 6], 6);
+    assert_list(&rt, &other, &[], 3);
+    Ok(())
+}
+
+#[test]
+fn extend_appends_all_items(rt: HostRuntime) -> Result<(), Fail> {
+    let mut list = ThinVec::new(rt.alloc());
+    for numbers in [0..0, 0..3, 3..10] {
+        list.extend(numbers)?;
+    }
+    let clone = list.clone(rt.alloc())?;
+    list.extend(clone.as_slice().iter().copied())?;
+    let twice = [0, 1, 2, 3, 4, 5, 6, 7, 8, 9, 0, 1, 2, 3, 4, 5, 6, 7, 8, 9];
+    assert_list(&rt, &list, &twice, 20);
+    let mut units = ThinVec::new(rt.alloc());
+    units.extend((0..2).map(|_| ()))?;
+    assert_same(&rt, (units.len(), units.capacity()), (2, 4));
+    Ok(())
+}
+
+#[test]
+fn clones_equal_their_lists(rt: HostRuntime) -> Result<(), Fail> {
+    for items in [&[][..], &[1, 2, 3][..]] {
+        let list = list_of(rt.alloc(), items)?;
+        assert_list(&rt, &list.clone(rt.alloc())?, items, items.len());
+    }
+    Ok(())
+}
+
+#[test]
+fn clones_of_boxed_items_are_assigned(rt: HostRuntime) -> Result<(), Fail> {
+    let alloc = rt.alloc();
+    let three = boxes_of(alloc, &[1, 2, 3])?;
+    let two = boxes_of(alloc, &[4, 5])?;
+    let mut list = ThinVec::new(alloc);
+    for source in [&three, &three, &two, &three] {
+        list = source.clone(alloc)?;
+        assert_same(&rt, list.as_slice(), source.as_slice());
+    }
+    Ok(())
+}
+
+#[test]
+fn pushes_pops_and_clears_zero_sized_items(rt: HostRuntime) -> Result<(), Fail> {
+    let mut list = ThinVec::new(rt.alloc());
+    for _ in 0..2 {
+        list.push(())?;
+    }
+    let popped = [list.pop(), list.pop(), list.pop()];
+    assert_same(&rt, popped, [Some(()), Some(()), None]);
+    for _ in 0..4 {
+        list.push(())?;
+    }
+    assert_same(&rt, list.iter().count(), 4);
+    list.clear();
+    assert_same(&rt, list.iter().count(), 0);
+    Ok(())
+}

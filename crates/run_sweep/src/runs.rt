@@ -1,0 +1,390 @@
+//! Random commands, which `run` of `thin_runner` executes. As in a sweep, the list itself says what
+//! is right.
+ghost use Rattle.std.specs.Prelude.{◌≡◌, ◌==◌, ◌/◌, ◌%◌};
+
+use std::alloc::{AllocError, Allocator};
+use std::mem;
+use std::process::Abort;
+use thin_runner::command::{Command, Reply, Step};
+use thin_runner::judge::Judge;
+use thin_runner::runner::run;
+use thin_testing::{Ledger, Lender, List, Numbered, filled_list};
+use thin_vec::{Growth, ThinVec, ThinVecError};
+
+/// A judge that takes its answers from the binary digits of a number. A 1 means `true`.
+#[derive(Clone, Copy)]
+pub struct Digits {
+    pub digits: u64,
+}
+
+impl Digits {
+    fn next_digit(&mut self) -> u64
+        ensures value { result ≡ self.old.digits % 2 }
+        ensures digits { self.new.digits ≡ self.old.digits / 2 }
+    {
+        let digit = self.digits % 2;
+        self.digits /= 2;
+        digit
+    }
+}
+
+impl<T> Judge<T> for Digits {
+    ghost model = { record {
+      look = λ j x. (j.digits % 2 == 1, record { digits = j.digits / 2 });
+      keep = λ j x. (j.digits % 2 == 1, x, record { digits = j.digits / 2 });
+      same = λ j x y. (j.digits % 2 == 1, y, x, record { digits = j.digits / 2 });
+      key = λ j x. (j.digits % 2, x, record { digits = j.digits / 2 });
+      take = λ j x. (j.digits % 2 == 1, x, record { digits = j.digits / 2 });
+    } };
+
+    fn look(&mut self, _item: &T) -> bool {
+        self.next_digit() == 1
+    }
+
+    fn keep(&mut self, _item: &mut T) -> bool {
+        self.next_digit() == 1
+    }
+
+    fn same(&mut self, later: &mut T, kept: &mut T) -> bool {
+        mem::swap(later, kept);
+        self.next_digit() == 1
+    }
+
+    fn key(&mut self, _item: &mut T) -> u64 {
+        self.next_digit()
+    }
+
+    fn take(&mut self, _item: &mut T) -> bool {
+        self.next_digit() == 1
+    }
+}
+
+// A generator of pseudorandom numbers.
+#[derive(Drop)]
+struct Dice {
+    state: u64,
+}
+
+impl Dice {
+    // Returns a pseudorandom number below `limit`, or 0 if `limit` is 0.
+    fn below(&mut self, limit: usize) -> usize {
+        self.state = self
+            .state
+            .wrapping_mul(6364136223846793005)
+            .wrapping_add(1442695040888963407);
+        if limit == 0 {
+            return 0;
+        }
+        (self.state >> 33) as usize % limit
+    }
+
+    // Returns a number below 128, which is small in most cases.
+    fn size(&mut self) -> usize {
+        let limits: [usize; 8] = [2, 4, 8, 12, 12, 12, 32, 128];
+        let limit = limits[self.below(8) % 8];
+        self.below(limit)
+    }
+
+    // Returns a lower bound of a size hint, which is usually small.
+    fn lower(&mut self) -> usize {
+        if self.below(9) == 0 {
+            usize::MAX
+        } else {
+            self.size()
+        }
+    }
+
+    // Returns steps over a range.
+    fn steps(&mut self, alloc: Lender) -> Result<Vec<Step, Lender>, AllocError> {
+        let mut steps = Vec::new(alloc);
+        for _ in 0..self.size() {
+            let step = if self.below(2) == 0 {
+                Step::Front
+            } else {
+                Step::Back
+            };
+            put(&mut steps, step)?;
+        }
+        Ok(steps)
+    }
+
+    // Returns new items.
+    fn items<T: Numbered>(
+        &mut self,
+        ledger: &'static Ledger,
+    ) -> Result<Vec<T, Lender>, AllocError> {
+        let mut items = Vec::new(&ledger.alloc);
+        for number in 0..self.size() {
+            put(&mut items, T::numbered(ledger, number as u64 / 2))?;
+        }
+        Ok(items)
+    }
+
+    // Returns a random command for a list of `len` items. Some are out of bounds.
+    fn command<T: Numbered, G: Growth>(
+        &mut self,
+        ledger: &'static Ledger,
+        len: usize,
+    ) -> Result<Command<T, Lender, G>, AllocError> {
+        let alloc = &ledger.alloc;
+        let near = if self.below(3) == 0 { len } else { len.min(12) };
+        let near = near.saturating_add(2);
+        let (at, to) = (self.below(near), self.below(near));
+        let item = T::numbered(ledger, 7);
+        Ok(match self.below(25) {
+            0 => Command::Push(item),
+            1 => Command::Pop,
+            2 => Command::Insert(at, item),
+            3 => Command::Remove(at),
+            4 => Command::SwapRemove(at),
+            5 => Command::Set(at, item),
+            6 => Command::Truncate(at),
+            7 => Command::Clear,
+            8 => Command::Reserve(self.lower()),
+            9 => Command::ReserveExact(self.lower()),
+            10 => Command::ShrinkToFit,
+            11 => Command::Resize(self.lower(), item),
+            12 => Command::ExtendFromSlice(self.items(ledger)?),
+            13 => Command::Extend(self.items(ledger)?, self.lower()),
+            14 => Command::Append(filled_list(ledger, self.size(), self.below(2))?),
+            15 => Command::SplitOff(at),
+            16 => Command::Clone,
+            17 => Command::Retain,
+            18 => Command::RetainMut,
+            19 => Command::Dedup,
+            20 => Command::DedupBy,
+            21 => Command::DedupByKey,
+            22 => Command::Drain(at, to, self.steps(alloc)?),
+            23 => Command::ExtractIf(at, to, self.size()),
+            _ => Command::Splice(
+                at,
+                to,
+                self.steps(alloc)?,
+                self.items(ledger)?,
+                self.lower(),
+            ),
+        })
+    }
+}
+
+// Appends an item.
+fn put<T: Drop, A: Allocator>(items: &mut Vec<T, A>, item: T) -> Result<(), AllocError> {
+    match items.push(item) {
+        Ok(()) => Ok(()),
+        Err(_refused) => Err(AllocError),
+    }
+}
+
+// The number of requests that a reply shows: one for each block of a list or a `Vec` in it.
+fn blocks_in<T: Drop, G: Growth>(reply: &Reply<T, Lender, G>) -> u64 {
+    match reply {
+        Reply::List(list) => u64::from(list.has_capacity()),
+        Reply::Answers(answers) if answers.capacity() > answers.len().max(8) => 99,
+        Reply::Answers(answers) => u64::from(!answers.is_empty()),
+        _ => 0,
+    }
+}
+
+// Whether a command makes as many requests as its iterator's hint and items need, which contracts
+// and the crate `fill_sweep` say.
+fn is_filling<T: Drop, G: Growth>(command: &Command<T, Lender, G>) -> bool {
+    matches!(command, Command::Extend(..) | Command::Splice(..))
+}
+
+/// Executes one command by `run`, with request number `refused` refused. Returns whether the
+/// requests, the answer, the items and the blocks are right.
+pub fn is_right<T: Numbered, G: Growth>(
+    ledger: &'static Ledger,
+    list: &mut List<T, G>,
+    command: Command<T, Lender, G>,
+    digits: u64,
+    refused: u64,
+) -> Result<bool, AllocError> {
+    let (alloc, capacity) = (&ledger.alloc, list.capacity());
+    let is_filling = is_filling(&command);
+    let mut commands = Vec::new(alloc);
+    put(&mut commands, command)?;
+    let mut replies = Vec::new(alloc);
+    ledger.begin(refused);
+    let ran = run(alloc, list, commands, &mut replies, &Digits { digits });
+    let (cause, shown) = match replies.as_slice() {
+        [reply] => (reply.refusal(), blocks_in(reply)),
+        _ => (ran.err(), 0),
+    };
+    let grown = u64::from(list.capacity() != capacity && list.has_capacity());
+    let done = grown
+        .wrapping_add(shown)
+        .wrapping_add(ledger.clones.get())
+        .wrapping_add(1);
+    let due = if is_filling { None } else { Some(done) };
+    drop(replies);
+    Ok(
+        is_due(cause, alloc.requests(), refused, due)
+            && is_clean::<T>(ledger, list.len(), list.capacity()),
+    )
+}
+
+// Returns whether the number of requests fits the outcome of a command: it failed with `cause`, or
+// did not fail, and request number `refused` was to be refused. A command that does not fail makes
+// `due` requests, if this number is known.
+fn is_due(cause: Option<ThinVecError>, requests: u64, refused: u64, due: Option<u64>) -> bool {
+    let was_refused = 0 < refused && refused <= requests;
+    match cause {
+        None => !was_refused && requests == due.unwrap_or(requests),
+        Some(ThinVecError::CapacityOverflow) => !was_refused && (due.is_none() || requests == 1),
+        Some(ThinVecError::OutOfMemory) => was_refused && requests == refused,
+    }
+}
+
+// Returns whether exactly `items` items exist, and one block if `capacity` is not 0.
+fn is_clean<T: Numbered>(ledger: &'static Ledger, items: usize, capacity: usize) -> bool {
+    let items = if T::IS_COUNTED { items as u64 } else { 0 };
+    (ledger.live.get(), ledger.alloc.blocks()) == (items, u64::from(capacity > 0))
+}
+
+// The number of commands in a random run, and the number of those in which a request is refused if
+// they make enough of them.
+#[derive(Clone, Copy)]
+struct Tally {
+    commands: usize,
+    refusals: usize,
+}
+
+// Executes up to 30 random commands, and counts them. Returns `None` if one of them is not right.
+fn random_run<T: Numbered, G: Growth>(
+    ledger: &'static Ledger,
+    seed: u64,
+) -> Result<Option<Tally>, AllocError> {
+    let mut dice = Dice { state: seed };
+    let mut list: List<T, G> = ThinVec::ruled(&ledger.alloc);
+    let commands = dice.below(31);
+    let mut refusals: usize = 0;
+    for _ in 0..commands {
+        ledger.begin(0);
+        let command = dice.command(ledger, list.len())?;
+        let refused = [0, 0, 1, 2, 3, 4, 5, 9]
+            .get(dice.below(8))
+            .copied()
+            .unwrap_or(0);
+        let digits = dice.state >> 20;
+        refusals = refusals.saturating_add(refused.min(1) as usize);
+        if !is_right(ledger, &mut list, command, digits, refused)? {
+            return Ok(None);
+        }
+    }
+    drop(list);
+    let tally = Tally { commands, refusals };
+    Ok(is_clean::<T>(ledger, 0, 0).then_some(tally))
+}
+
+/// Executes random commands on lists of `T` with the growth rule `G`, and asserts that each of them
+/// is right. Also asserts that the runs differ, and that some requests are to be refused.
+pub fn assert_runs_right<T: Numbered, G: Growth, R: Abort>(rt: &R, ledger: &'static Ledger) {
+    let (mut shortest, mut longest, mut refusals) = (usize::MAX, 0_usize, 0_usize);
+    for seed in 0..1500 {
+        let run = random_run::<T, G>(ledger, seed).ok().flatten();
+        assert!(rt; run.is_some(), "seed {seed}");
+        if let Some(tally) = run {
+            shortest = shortest.min(tally.commands);
+            longest = longest.max(tally.commands);
+            refusals = refusals.saturating_add(tally.refusals);
+        }
+    }
+    assert_eq!(rt; (shortest, longest, refusals > 1000), (0, 30, true));
+}
+
+// Returns a command that needs memory for a list of 3,000 items without spare capacity.
+fn long_command<T: Numbered, G: Growth>(
+    ledger: &'static Ledger,
+    number: usize,
+) -> Result<Command<T, Lender, G>, AllocError> {
+    let item = T::numbered(ledger, 7);
+    let mut many = Vec::new(&ledger.alloc);
+    for _ in 0..3000 {
+        put(&mut many, T::numbered(ledger, 7))?;
+    }
+    let mut steps = Vec::new(&ledger.alloc);
+    for index in 0..1500 {
+        let step = if index % 4 == 0 {
+            Step::Back
+        } else {
+            Step::Front
+        };
+        put(&mut steps, step)?;
+    }
+    Ok(match number {
+        0 => Command::Push(item),
+        1 => Command::Insert(1500, item),
+        2 => Command::Reserve(9000),
+        3 => Command::ReserveExact(9000),
+        4 => Command::Resize(6000, item),
+        5 => Command::ExtendFromSlice(many),
+        6 => Command::Extend(many, 0),
+        7 => Command::Extend(many, 3000),
+        8 => Command::Append(filled_list(ledger, 3000, 0)?),
+        9 => Command::SplitOff(1500),
+        10 => Command::Clone,
+        11 => Command::Drain(0, 1500, steps),
+        12 => Command::ExtractIf(0, 3000, 1500),
+        _ => Command::Splice(1, 1500, steps, many, 0),
+    })
+}
+
+/// Executes commands that need memory on lists of 3,000 items, and asserts that each is right.
+pub fn assert_long_commands_right<T: Numbered, G: Growth, R: Abort>(
+    rt: &R,
+    ledger: &'static Ledger,
+) {
+    for number in 0..14 {
+        for refused in 0..4 {
+            ledger.begin(0);
+            let mut list: List<T, G> = filled_list(ledger, 3000, 0).expect(rt, "memory");
+            let command = long_command(ledger, number).ok().expect(rt, "memory");
+            let right = is_right(ledger, &mut list, command, 0, refused);
+            assert!(rt;
+                right.unwrap_or(false),
+                "command {number}, request {refused}"
+            );
+        }
+    }
+}
+
+// Returns commands that push items.
+fn pushes<T: Numbered, G: Growth>(
+    ledger: &'static Ledger,
+    count: usize,
+) -> Result<Vec<Command<T, Lender, G>, Lender>, AllocError> {
+    let mut commands = Vec::new(&ledger.alloc);
+    for _ in 0..count {
+        put(&mut commands, Command::Push(T::numbered(ledger, 7)))?;
+    }
+    Ok(commands)
+}
+
+/// Runs thousands of commands at once. Then refuses the room for the replies, and asserts that no
+/// command is executed, that all are dropped, and that the earlier replies stay.
+pub fn assert_long_run_right<T: Numbered, G: Growth, R: Abort>(rt: &R, ledger: &'static Ledger) {
+    let alloc = &ledger.alloc;
+    let mut list: List<T, G> = ThinVec::ruled(alloc);
+    let mut replies = Vec::new(alloc);
+    let judge = Digits { digits: 0 };
+    let commands = pushes(ledger, 5000).ok().expect(rt, "memory");
+    ledger.begin(0);
+    let ran = run(alloc, &mut list, commands, &mut replies, &judge);
+    assert_eq!(rt; (alloc.requests(), replies.capacity()), (13, 5000));
+    let done = replies
+        .as_slice()
+        .iter()
+        .filter(|reply| matches!(reply, Reply::Done));
+    assert_eq!(rt; (ran.is_ok(), list.len(), done.count()), (true, 5000, 5000));
+    let commands = pushes(ledger, 9000).ok().expect(rt, "memory");
+    ledger.begin(1);
+    let ran = run(alloc, &mut list, commands, &mut replies, &judge);
+    assert!(rt; ran == Err(ThinVecError::OutOfMemory));
+    assert_eq!(rt;
+        (alloc.requests(), list.len(), replies.len()),
+        (1, 5000, 5000)
+    );
+    drop(replies);
+    assert!(rt; is_clean::<T>(ledger, list.len(), list.capacity()));
+}
