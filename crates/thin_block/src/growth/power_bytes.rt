@@ -1,6 +1,6 @@
 //! Defines the growth rule `PowerBytes`. For items of at least one byte, this rule rounds the size
-//! of the header and the items up to a power of two, and chooses the largest capacity for which they
-//! fit into the rounded size.
+//! of the header and the items up to a power of two, and chooses the largest capacity for which
+//! they fit into the rounded size.
 ghost use Rattle.std.specs.Prelude.{◌≡◌, ◌<◌, IfSome};
 ghost use Rattle.std.specs.Mem.{type_size};
 ghost use Rattle.std.specs.Align.{type_align};
@@ -17,7 +17,8 @@ use crate::sizes::{HEADER, item_size};
 ///
 /// An allocator that rounds requests up to powers of two wastes less than the size of one item per
 /// block, unless the block has padding, as a large block of items above 16 bytes has. For items of
-/// size 0, the rule is the same as `Doubling`. The Rust crate thin-vec has a similar rule for Gecko.
+/// size 0, the rule is the same as `Doubling`. The Rust crate thin-vec has a similar rule for
+/// Gecko.
 pub struct PowerBytes {}
 
 impl Growth for PowerBytes {
