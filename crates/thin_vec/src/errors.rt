@@ -17,7 +17,7 @@ use thiserror::Error;
 pub struct Rejected<S> {
     /// The argument of the failed call, unchanged.
     pub value: S,
-    /// The reason why the call failed.
+    /// Why the call failed.
     pub cause: ThinVecError,
 }
 
@@ -25,7 +25,7 @@ pub struct Rejected<S> {
 #[derive(Drop, Error)]
 #[error("{cause}")]
 pub struct ExtendRefused<T, I> {
-    /// The reason why the call failed.
+    /// Why the call failed.
     pub cause: ThinVecError,
     /// The item that the list had no room for. It is `None` if the call took no item, because it
     /// could not reserve room for the lower bound of the size hint.
@@ -41,10 +41,9 @@ pub struct CollectRefused<T, I, A: Allocator = Global> {
     /// The list of the items that were appended before the failure. It owns the allocator that was
     /// passed to `from_iter`.
     pub list: ThinVec<T, A>,
-    /// The reason why the call failed.
+    /// Why the call failed.
     pub cause: ThinVecError,
-    /// The item that the list had no room for. It is `None` if the call took no item, because it
-    /// could not reserve room for the lower bound of the size hint.
+    /// The item that the list had no room for, as in `ExtendRefused`.
     pub in_hand: Option<T>,
     /// The iterator, which yields the items that were not taken.
     pub rest: I,
@@ -55,7 +54,7 @@ pub struct CollectRefused<T, I, A: Allocator = Global> {
 #[derive(Drop, Error)]
 #[error("{cause}")]
 pub struct SpliceRefused<T, I, A: Allocator = Global> {
-    /// The reason why the call failed.
+    /// Why the call failed.
     pub cause: ThinVecError,
     /// The items that were collected from the iterator, but not moved into the list. The vector
     /// uses the allocator that was passed to `finish`.

@@ -7,9 +7,9 @@ use Rattle.thin_vec.specs.Edits.Dedup.{TestsEachAgainstLast, TestsAllAgainstLast
 use Rattle.thin_vec.specs.Open.{OpenView}
 
 -- `R s x k b t y l` describes one call of a test that compares the item `x` with the last kept item
--- `k`. The result `b` is true if `x` is to be removed. The call changes the state of the test from
--- `s` to `t`, the item from `x` to `y`, and the kept item from `k` to `l`. In the
--- definitions below, the tests also change the list from `xs` to `ys`.
+-- `k`. `b` is true if `x` is to be removed. The call changes the state of the test from `s` to `t`,
+-- the item from `x` to `y`, and the kept item from `k` to `l`. In the definitions below, the tests
+-- also change the list from `xs` to `ys`.
 module _ {S T : Type 0} (R : S → T → T → Bool → S → T → T → Type 0) where
   -- `TestsPairAt k s xs b t ys` states that the item at index `k` of `xs` was tested against the
   -- item directly before it.

@@ -73,9 +73,8 @@ impl<T, A: Allocator, G: Growth> ThinVec<T, A, G> {
     /// If the list has exactly `N` items, moves them into an array, and frees the allocation of the
     /// list.
     ///
-    /// If `T` is a type parameter of the caller, the caller needs the precondition
-    /// `N * type_size T.row < 2 ^ 63`, as for every array. (`type_size` is defined in
-    /// `Rattle.std.specs.Mem`.) The methods `into_vec` and `into_iter` do not need it.
+    /// If `T` is a type parameter of the caller, the caller needs the precondition of `from_array`.
+    /// The methods `into_vec` and `into_iter` do not need it.
     ///
     /// # Errors
     ///

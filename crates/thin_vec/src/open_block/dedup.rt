@@ -15,8 +15,8 @@ const LARGE: usize = 128;
 /// kept, and may write to both items.
 pub(crate) trait PairTest<T> {
     /// `tests s x k b t y l` holds if one test of the item `x` against the kept item `k` may change
-    /// the state of the test from `s` to `t`, `x` to `y`, and `k` to `l`. `b` is true if the test
-    /// found a duplicate, and so is not to be kept.
+    /// the state of the test from `s` to `t`, `x` to `y`, and `k` to `l`. If `b` is true, `x` is a
+    /// duplicate of `k`, and is not kept.
     ghost tests: { Self → T → T → Bool → Self → T → T → Type 0 };
 
     /// `ready s` holds if the test can be called in the state `s` with any two items.
@@ -25,7 +25,8 @@ pub(crate) trait PairTest<T> {
     /// Returns whether the item `later` is to be kept.
     fn test(&mut self, later: &mut T, kept: &mut T) -> bool
         requires callable { ready self.old }
-        ensures tested { tests self.old later.old kept.old (not result) self.new later.new kept.new }
+        ensures tested { tests self.old later.old kept.old (not result) self.new later.new
+            kept.new }
         ensures callable { ready self.new };
 }
 
@@ -101,8 +102,7 @@ impl<T: Drop, A: Allocator> OpenBlock<T, A> {
     ghost use Rattle.thin_vec.specs.OpenBlock.Dedup.{DedupsRest, DedupsSome};
 
     // Keeps the first middle item, tests each other one against the last kept item before it, and
-    // drops those that are to be removed. Up to the first removal there is no gap, so the first
-    // loop moves nothing.
+    // drops those that are to be removed.
     pub(crate) fn dedup_rest<J: PairTest<T>>(&mut self, test: &mut J)
         requires nonempty { 0 < length self.old.rest }
         requires is_empty { self.old.front ≡ [] }
