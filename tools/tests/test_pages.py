@@ -73,6 +73,31 @@ class Pages(ToolTest):
                 (top / name).write_text(text, encoding="utf-8")
                 self.assertTrue(said.startswith(says) and said.endswith("\npages: 1 wrong\n"), said)
 
+    def test_members_and_labels(self):
+        top = self.repository()
+        (top / "docs").mkdir()
+        page = top / "docs" / "CONTRACTS.md"
+        source = top / "crates" / "thin_examples" / "src" / "main.rt"
+        source.write_text(
+            "//! One.\n    let a = 1;\nstruct One;\n    fn make() -> One\n"
+            "        ensures made { result }\n",
+            encoding="utf-8",
+        )
+        (top / "tools" / "reference").write_text('print("ensures made: make")\n', encoding="utf-8")
+        head = "# Words\n\n## Labels\n\n| Label | Says |\n|---|---|\n"
+        right = head + "| `made` | what `One::make` made |\n"
+        page.write_text(right, encoding="utf-8")
+        self.assertEqual(self.passes("pages", top=top), "pages: ok\n")
+        wrong = [
+            (right + "\nSee `One::lost`.\n", "docs/CONTRACTS.md:9: there is no One::lost"),
+            (right + "| `lost` | - |\n", "docs/CONTRACTS.md:8: no clause has the label lost"),
+            (head, "docs/CONTRACTS.md:3: the table lacks the label made"),
+        ]
+        for text, says in wrong:
+            with self.subTest(says):
+                page.write_text(text, encoding="utf-8")
+                self.assertEqual(self.finds("pages", top=top), says + "\npages: 1 wrong\n")
+
     def test_what_another_tool_finds_is_wrong(self):
         self.assertEqual(
             self.finds("pages", top=self.repository(1)), "told\n" * 3 + "pages: 3 wrong\n"
