@@ -176,16 +176,14 @@ impl<T: Drop, A: Allocator, G: Growth> ThinVec<T, A, G> {
 }
 
 impl<T, A: Allocator> OpenBlock<T, A> {
-    // Returns the number of items in the middle run, that is, the number of remaining items of the
-    // range.
+    // Returns the number of middle items.
     pub(crate) fn rest_len(&self) -> usize
         ensures value { result ≡ length self.now.rest }
     {
         self.rest_end - self.rest_start
     }
 
-    // Removes the first of the remaining items of the range, and returns this item. Its slot
-    // becomes a part of the gap before the remaining items.
+    // Removes the first middle item, and returns it. Its slot becomes a part of the gap.
     pub(crate) fn take_first(&mut self) -> T
         requires nonempty { 0 < length self.old.rest }
         ensures rest { self.old.rest ≡ result ∷ self.new.rest }
@@ -199,8 +197,7 @@ impl<T, A: Allocator> OpenBlock<T, A> {
         self.block.take(first)
     }
 
-    // Removes the last of the remaining items of the range, and returns this item. Its slot becomes
-    // a part of the gap after the remaining items.
+    // Removes the last middle item, and returns it. Its slot becomes a part of `gap_after`.
     pub(crate) fn take_last(&mut self) -> T
         requires nonempty { 0 < length self.old.rest }
         ensures rest { self.old.rest ≡ self.new.rest ++ result ∷ [] }
@@ -213,7 +210,7 @@ impl<T, A: Allocator> OpenBlock<T, A> {
         self.block.take(self.rest_end)
     }
 
-    // Moves the item `value` into the first empty slot after the kept items.
+    // Moves the item `value` into the first slot of the gap, which then belongs to the front.
     pub(crate) fn append_to_front(&mut self, value: T)
         requires has_gap { 0 < self.old.gap }
         ensures { self.new ≡ record self.old {
@@ -226,8 +223,7 @@ impl<T, A: Allocator> OpenBlock<T, A> {
         self.front_end += 1;
     }
 
-    // Adds the first `k` of the remaining items to the kept items. There must be no gap before the
-    // remaining items, so no item is moved.
+    // Lets the first `k` middle items belong to the front. There is no gap, so none of them moves.
     pub(crate) fn keep_in_place(&mut self, k: usize)
         requires no_gap { self.old.gap ≡ 0 }
         requires in_bounds { k ≤ length self.old.rest }
@@ -241,7 +237,7 @@ impl<T, A: Allocator> OpenBlock<T, A> {
         self.rest_start += k;
     }
 
-    // Moves the first of the remaining items down into the first empty slot after the kept items.
+    // Moves the first middle item down to the end of the front.
     pub(crate) fn move_one_down(&mut self)
         requires nonempty { 0 < length self.old.rest }
         requires has_gap { 0 < self.old.gap }
@@ -255,8 +251,8 @@ impl<T, A: Allocator> OpenBlock<T, A> {
         self.append_to_front(value);
     }
 
-    // Moves the first `k` remaining items down to the end of the kept items. Two or more items are
-    // moved together, by the method `close_gap` of the block.
+    // Moves the first `k` middle items down to the end of the front. Two or more items are moved
+    // together, by the method `close_gap` of the block.
     pub(crate) fn move_down(&mut self, k: usize)
         requires in_bounds { k ≤ length self.old.rest }
         requires has_gap { 0 < self.old.gap }
@@ -283,7 +279,7 @@ impl<T, A: Allocator> OpenBlock<T, A> {
         self.rest_start += k;
     }
 
-    // Returns the remaining items of the range, in order.
+    // Returns the middle items, in order.
     pub(crate) fn rest_slice(&self) -> &[T]
         ensures value { result.now ≡ self.now.rest }
     {
@@ -293,6 +289,9 @@ impl<T, A: Allocator> OpenBlock<T, A> {
     // Returns whether there is an item after the range, that is, in the tail.
     pub(crate) fn has_tail(&self) -> bool
         ensures value { IsTrue result ↔ (0 < length self.now.tail) }
+
+        // In every case. The proof of `Splice::finish` needs this fact, which holds of each open
+        // block.
         ensures in_bounds { tail_end self.now ≤ self.now.capacity }
     {
         self.tail_start < self.len
@@ -357,8 +356,7 @@ impl<T, A: Allocator> OpenBlock<T, A> {
         self.len += count;
     }
 
-    // Removes the first of the remaining items of the range, and returns this item. Returns `None`
-    // if no item remains.
+    // Removes the first middle item, and returns it. Returns `None` if there is none.
     pub(crate) fn next(&mut self) -> Option<T>
         ensures steps { YieldsFirst (λ (v : OpenView T A). v.rest) self.old result self.new }
         ensures range { range_len self.new ≡ range_len self.old }
@@ -373,8 +371,7 @@ impl<T, A: Allocator> OpenBlock<T, A> {
         Some(self.take_first())
     }
 
-    // Removes the last of the remaining items of the range, and returns this item. Returns `None`
-    // if no item remains.
+    // Removes the last middle item, and returns it. Returns `None` if there is none.
     pub(crate) fn next_back(&mut self) -> Option<T>
         ensures steps { YieldsLast (λ (v : OpenView T A). v.rest) self.old result self.new }
         ensures range { range_len self.new ≡ range_len self.old }
@@ -391,8 +388,7 @@ impl<T, A: Allocator> OpenBlock<T, A> {
 }
 
 impl<T: Drop, A: Allocator> OpenBlock<T, A> {
-    // Drops the remaining items of the range. Their slots and the gaps around them become one gap.
-    // No item is moved.
+    // Drops the middle items. Their slots and the gaps around them become one gap. No item moves.
     pub(crate) fn drop_rest(&mut self)
         ensures { self.new ≡ record self.old {
           gap = self.old.gap + length self.old.rest + self.old.gap_after;
