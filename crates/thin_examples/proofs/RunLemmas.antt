@@ -76,8 +76,8 @@ module _ {A G J : Type 0} (here : Env ℕ A J) where
 
   -- The range ends before it begins.
   tries : (v w : ListView ℕ A) (front : Vec Step A) (ys : Vec ℕ A) (reply : Reply ℕ A G)
-      → IsGranted reply → Steps here v (Splice 2 1 front ys 0) reply w
-      → may_move here v.items (Splice 2 1 front ys 0) reply ≤ 0
+      → IsGranted reply → Steps here v (Splice 2 1 front ys 1) reply w
+      → may_move here v.items (Splice 2 1 front ys 1) reply ≤ 0
   tries v w front ys (OutOfRange back) ok s = omega arith
   tries v w front ys reply ok s = omega (arith, s.0.0)
 
@@ -104,9 +104,9 @@ module _ {A G J : Type 0} (here : Env ℕ A J) where
   no-moves v w [] run ok = omega arith
   no-moves v w (r ∷ replies) run ok = absurd run
 
-  module _ (six nine none : Vec ℕ A) (front no_steps : Vec Step A) where
+  module _ (six nine seven : Vec ℕ A) (front no_steps : Vec Step A) where
     abbrev from_fourth : List (Command ℕ A G)
-    from_fourth = SplitOff 3 ∷ Splice 2 1 no_steps none 0 ∷ Pop ∷ []
+    from_fourth = SplitOff 3 ∷ Splice 2 1 no_steps seven 1 ∷ Pop ∷ []
 
     abbrev pub six_commands : List (Command ℕ A G)
     six_commands = Extend six 6 ∷ Splice 1 3 front nine 1 ∷ ExtractIf 0 5 2 ∷ from_fourth
@@ -115,12 +115,12 @@ module _ {A G J : Type 0} (here : Env ℕ A J) where
         (run : Runs here v from_fourth replies w) → All IsGranted replies
         → run_may_move here v w from_fourth replies run ≤ 0
     last-moves v w =
-        cons-moves v w (SplitOff 3) (Splice 2 1 no_steps none 0 ∷ Pop ∷ []) 0 0
+        cons-moves v w (SplitOff 3) (Splice 2 1 no_steps seven 1 ∷ Pop ∷ []) 0 0
         (λ x r ok s. (
           splits v x r ok s,
-          cons-moves x w (Splice 2 1 no_steps none 0) (Pop ∷ []) 0 0
+          cons-moves x w (Splice 2 1 no_steps seven 1) (Pop ∷ []) 0 0
               (λ y r1 ok1 s1. (
-                tries x y no_steps none r1 ok1 s1,
+                tries x y no_steps seven r1 ok1 s1,
                 cons-moves y w Pop [] 0 0 (λ z r2 ok2 s2. (pops y z r2 ok2 s2, no-moves z w)),
               )),
         ))

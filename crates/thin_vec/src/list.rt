@@ -151,7 +151,7 @@ impl<T, A: Allocator, G: Growth> ThinVec<T, A, G> {
     /// Fails if and only if `reserve(1)` would fail, for the same cause. On failure, the list is
     /// unchanged, and `value` is returned in the error.
     pub fn push(&mut self, value: T) -> Result<(), Rejected<T>>
-        // On success.
+        // On success. `len` follows from `items`, and is for callers' proofs.
         ensures items { OnOk result (self.new.items ≡ self.old.items ++ value ∷ []) }
         ensures len { OnOk result (length self.new.items ≡ length self.old.items + 1) }
         ensures cost { OnOk result (CostsMoves 1 self.old self.new) }
@@ -164,7 +164,7 @@ impl<T, A: Allocator, G: Growth> ThinVec<T, A, G> {
         ensures value_returned { IfErr result (λ error. error.value ≡ value) }
         ensures cause { IfErr result (λ error. LacksRoom G.rule T.row self.old 1 error.cause) }
 
-        // In every case, the capacity changes as by `reserve(1)`.
+        // In every case, the capacity changes as `reserve(1)` would change it.
         ensures grows { Grows G.rule T.row 1 self.old self.new result }
 
         // These follow, for callers' proofs.

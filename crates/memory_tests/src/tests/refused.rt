@@ -3,7 +3,7 @@
 use crate::tests::support::{assert_counts, assert_len, assert_list, assert_same};
 use std::test::Fail;
 use thin_runner::hinted::Hinted;
-use thin_testing::{Ledger, Refusing, counted_list, list_of, splice};
+use thin_testing::{Counted, Ledger, Refusing, counted_list, list_of, splice};
 use thin_vec::{ExtendRefused, SpliceRefused, ThinVec, ThinVecError};
 
 const OUT_OF_MEMORY: ThinVecError = ThinVecError::OutOfMemory;
@@ -44,7 +44,8 @@ fn refused_append_changes_neither_list(rt: HostRuntime) -> Result<(), Fail> {
 fn extend_from_slice_drops_its_clones_if_one_is_refused(rt: HostRuntime) -> Result<(), Fail> {
     let ledger = Ledger::leaked(rt.alloc())?;
     let three = counted_list(ledger, rt.alloc(), 3)?;
-    let mut list = counted_list(ledger, rt.alloc(), 1)?;
+    let mut list = ThinVec::with_capacity(rt.alloc(), 1)?;
+    list.push(Counted::new(ledger, 7, ()))?;
     ledger.begin(2);
     assert_same(&rt, list.extend_from_slice(&three), Err(OUT_OF_MEMORY));
     assert_same(&rt, (list.len(), list.capacity()), (1, 4));

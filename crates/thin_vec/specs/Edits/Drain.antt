@@ -26,8 +26,7 @@ module _ {T A G H : Type 0} {g : Ghosts G} {h : IntoInnerGhosts H (OpenView T A)
   abbrev pub drain_rest : Drain T A G H g h → List T
   drain_rest d = (h.inner d.holder).rest
 
-  -- `drain_list d` is the list that the `Drain` `d` borrows, as it is until `d` is dropped. It
-  -- stays as it is if `d` is leaked.
+  -- `drain_list d` is the list that the `Drain` `d` borrows, as it is now.
   abbrev pub drain_list : Drain T A G H g h → ListView T A
   drain_list d = d.list.now
 
@@ -43,14 +42,15 @@ module _ {T A G H : Type 0} {g : Ghosts G} {h : IntoInnerGhosts H (OpenView T A)
     pub left : left_by_drain new ≡ left_by_drain old
 
   -- `DrainSteps old item new` holds if a call to `next` returned `item` and changed the `Drain`
-  -- from `old` to `new`.
+  -- from `old` to `new`: `item` is the first of the remaining items, or `None` if there was none.
   pub record DrainSteps (old : Drain T A G H g h) (item : Option T) (new : Drain T A G H g h)
       : Type 0 where
     pub gave : YieldsFirst drain_rest old item new
     pub keeps : DrainKeeps old new
 
   -- `DrainStepsBack old item new` holds if a call to `next_back` returned `item` and changed the
-  -- `Drain` from `old` to `new`.
+  -- `Drain` from `old` to `new`: `item` is the last of the remaining items, or `None` if there was
+  -- none.
   pub record DrainStepsBack (old : Drain T A G H g h) (item : Option T) (new : Drain T A G H g h)
       : Type 0 where
     pub gave : YieldsLast drain_rest old item new

@@ -111,7 +111,7 @@ module _ {I T A G H : Type 0} {g : Ghosts G} {h : IntoInnerGhosts H (OpenView T 
       (n ≤ splice_range_len s) ⊎ ((splice_tail s ≡ []) × HasRoomFor (left_by_splice s) n)
 
   -- `SpliceKeeps old new` states that `old` and `new` borrow the same list, own the same iterator,
-  -- and differ only in which items of the range have already been yielded.
+  -- and would leave the same list.
   pub record SpliceKeeps (old new : Splice I T A G H g h) : Type 0 where
     pub lender : splice_lender new ≡ splice_lender old
     pub iter : splice_iter new ≡ splice_iter old
@@ -121,14 +121,15 @@ module _ {I T A G H : Type 0} {g : Ghosts G} {h : IntoInnerGhosts H (OpenView T 
     pub left : left_by_splice new ≡ left_by_splice old
 
   -- `SpliceSteps old item new` holds if a call to `next` returned `item` and changed the `Splice`
-  -- from `old` to `new`.
+  -- from `old` to `new`: `item` is the first of the remaining items, or `None` if there was none.
   pub record SpliceSteps (old : Splice I T A G H g h) (item : Option T)
       (new : Splice I T A G H g h) : Type 0 where
     pub gave : YieldsFirst splice_rest old item new
     pub keeps : SpliceKeeps old new
 
   -- `SpliceStepsBack old item new` holds if a call to `next_back` returned `item` and changed the
-  -- `Splice` from `old` to `new`.
+  -- `Splice` from `old` to `new`: `item` is the last of the remaining items, or `None` if there was
+  -- none.
   pub record SpliceStepsBack (old : Splice I T A G H g h) (item : Option T)
       (new : Splice I T A G H g h) : Type 0 where
     pub gave : YieldsLast splice_rest old item new

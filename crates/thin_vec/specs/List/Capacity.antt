@@ -46,12 +46,12 @@ pub record MovesAtMost (n : ℕ) (before after : Cost) : Type 0 where
 
 module _ {T A : Type 0} where
   -- `CostsMoves n v w` states that changing the list `v` to `w` took exactly `n` moves. If the
-  -- capacity changed, it also took one reallocation, which copied all items of `v`.
+  -- capacity changed, it also took one request for memory, which copied all items of `v`.
   abbrev pub CostsMoves : ℕ → ListView T A → ListView T A → Type 0
   CostsMoves n v w = w.cost ≡ add_moves n (cost_after_resize v w.capacity)
 
-  -- `LacksRoom rule R w k cause` states why a call failed with the error `cause`: the list `w` has no
-  -- room for `k` more items of the type `R`. The cause is `CapacityOverflow` if and only if the
+  -- `LacksRoom rule R w k cause` states why a call failed with the error `cause`: the list `w` has
+  -- no room for `k` more items of the type `R`. The cause is `CapacityOverflow` if and only if the
   -- growth rule `rule` chooses no capacity for these items.
   abbrev pub LacksRoom : GrowthRule → RattleType → ListView T A → ℕ → ThinVecError → Type 0
   LacksRoom rule R w k cause =
@@ -70,8 +70,8 @@ module _ {T A : Type 0} where
     pub err : OnErr r ((w ≡ v) ⊎ (capacity_after_reserve rule R v k ≡ Some w.capacity))
     pub overflow : IsErrOf r CapacityOverflow ↔ (capacity_after_reserve rule R v k ≡ None)
 
-  -- `PreservesList R v w` says what a call preserved that changed the list `v` of items of the type
-  -- `R` to `w`. The allocator did not change, the capacity did not shrink (which follows from
+  -- `PreservesList R v w` says what stays true in a call that changes the list `v` of items of the
+  -- type `R` to `w`. The allocator did not change, the capacity did not shrink (which follows from
   -- `Reserves`, where both hold), and the bound `IsCheap` on the cost was preserved. Before and
   -- after the call, the length and the capacity are within their bounds (`within`).
   pub record PreservesList (R : RattleType) (v w : ListView T A) : Type 0 where
@@ -85,16 +85,17 @@ module _ {T A : Type 0} where
   -- What a failed call leaves and why it failed are clauses of their own in each contract (`err`,
   -- and `cause` or `overflow`).
   --
-  -- There are no records in `Grows`, because a proof by search reads every record of every call
-  -- before it. The lemma `grows-cheap` says that a cheap list stays cheap (`IsCheap`), and the
-  -- lemmas `grows-bounded` and `grows-was_bounded` make `IsBounded` of it.
+  -- The fields of `Grows` are no records, because a proof by search reads each record that the
+  -- contract of an earlier call has. The lemma `grows-cheap` says that a cheap list stays cheap
+  -- (`IsCheap`). The lemmas `grows-bounded` and `grows-was_bounded` derive `IsBounded`.
   pub record Grows (rule : GrowthRule) (R : RattleType) (k : ℕ) (v w : ListView T A)
       {X E : Type 0} (r : Result X E) : Type 0 where
+    -- This follows from `ok`, and on failure from the clause `err` of the contract.
     pub had_room : HasRoomFor v k → w.capacity ≡ v.capacity
     pub ok : OnOk r (capacity_after_reserve rule R v k ≡ Some w.capacity)
     pub alloc : w.alloc ≡ v.alloc
     pub never_less : v.capacity ≤ w.capacity
-    -- A fact about the list before the call, which holds for every list. It requires nothing.
+    -- This holds for every list. It is a fact about the list before the call, not a precondition.
     pub was_room : length v.items ≤ v.capacity
     -- The last three fields are those of `IsBounded R w`.
     pub room : length w.items ≤ w.capacity

@@ -37,9 +37,9 @@ IsKeptOrGrown rule R c d =
     (d ≡ c) ⊎ ((want : ℕ) × (n : ℕ) × (c < want) × (grown_capacity rule R c want ≡ Some n)
     × (n ≤ d))
 
--- `IsChosenByRule rule R d n` is an upper bound of a new capacity `d`. It holds if the growth rule
--- `rule` chooses `d` when a block of some capacity `e` must hold `want` items, for some `want`
--- above `e` that is at most `n`. The item type is `R`.
+-- `IsChosenByRule rule R d n` says where a new capacity `d` comes from, and so bounds `d` from
+-- above. The growth rule `rule` chooses `d` when a block of some capacity `e` must hold `want`
+-- items, for some `want` above `e` that is at most `n`. The item type is `R`.
 --
 -- When a call grows a list several times, `e` is the capacity before the last growth. But the
 -- statement holds if there is any such `e`, so it does not say that the growth began at the old
@@ -79,9 +79,9 @@ RequestsAtMost requests n left = (h : ℕ) × IsWithinCount h left × (requests 
 
 module _ {T A : Type 0} where
   -- `ExtendsCapacity rule R v w left` restricts the capacity of the list `w`, which is the list `v`
-  -- after items of an iterator were added: `loose` is a lower bound, and `ruled` an upper bound.
-  -- The growth rule is `rule`, the item type is `R`, and the iterator could yield at most `left`
-  -- items.
+  -- after items of an iterator were added: `loose` is a lower bound, and `ruled` says how the
+  -- growth rule chose it. The growth rule is `rule`, the item type is `R`, and the iterator could
+  -- yield at most `left` items.
   pub record ExtendsCapacity (rule : GrowthRule) (R : RattleType) (v w : ListView T A)
       (left : Count) : Type 0 where
     -- If `v` has room for all items that the iterator could yield, the capacity is unchanged. In

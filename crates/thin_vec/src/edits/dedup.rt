@@ -21,8 +21,12 @@ impl<T: Drop, A: Allocator, G: Growth> ThinVec<T, A, G> {
     pub fn dedup_by<F: FnMut(&mut T, &mut T) -> bool>(&mut self, same: F)
         requires callable { F.IsAlwaysCallable same }
         ensures deduped { IsDedupedBy (CalledAtPairMut F.FnMut) same self.old self.new }
+
+        // These follow from `deduped`, and are for callers' proofs.
         ensures moves { MovesAtMost (length self.new.items) self.old.cost self.new.cost }
         ensures bound { length self.new.items ≤ length self.old.items }
+
+        // In every case.
         ensures capacity { self.new.capacity ≡ self.old.capacity }
         ensures preserved { PreservesList T.row self.old self.new }
     {
@@ -57,8 +61,12 @@ impl<T: Drop, A: Allocator, G: Growth> ThinVec<T, A, G> {
     pub fn dedup_by_key<K: PartialEq + Drop, F: FnMut(&mut T) -> K>(&mut self, key: F)
         requires callable { F.IsAlwaysCallable key }
         ensures deduped { IsDedupedBy (ComparesKeys F.FnMut K.eq) key self.old self.new }
+
+        // These follow from `deduped`, and are for callers' proofs.
         ensures moves { MovesAtMost (length self.new.items) self.old.cost self.new.cost }
         ensures bound { length self.new.items ≤ length self.old.items }
+
+        // In every case.
         ensures capacity { self.new.capacity ≡ self.old.capacity }
         ensures preserved { PreservesList T.row self.old self.new }
     {
@@ -81,6 +89,8 @@ impl<T: PartialEq + Drop, A: Allocator, G: Growth> ThinVec<T, A, G> {
             self.old.cost }
         ensures moves { MovesAtMost (length self.new.items) self.old.cost self.new.cost }
         ensures bound { length self.new.items ≤ length self.old.items }
+
+        // In every case.
         ensures capacity { self.new.capacity ≡ self.old.capacity }
         ensures preserved { PreservesList T.row self.old self.new }
     {

@@ -78,8 +78,9 @@ impl<T: Drop, A: Allocator, G: Growth> ThinVec<T, A, G> {
         ensures runs { DrainYieldsInOrder result }
         ensures runs_back { DrainYieldsInReverse result }
 
-        // Until the `Drain` is dropped, and for ever if it is leaked, the list is empty. The
-        // `Drain` borrows the list, so the list is a part of `result`, and not `self.new`.
+        // The `Drain` borrows the list, so the list is a part of `result`, and not `self.new`. It is
+        // empty when this call returns, and stays so until the `Drain` is dropped. No clause of
+        // `next` says the second.
         ensures meanwhile { drain_list result
             ≡ record self.old { items = []; capacity = 0; cost = no_cost } }
 

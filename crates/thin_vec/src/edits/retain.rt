@@ -16,12 +16,19 @@ impl<T: Drop, A: Allocator, G: Growth> ThinVec<T, A, G> {
 
     /// Keeps the items for which `keep` returns true, and drops the other items. Calls `keep` once
     /// for each item, in order.
+    ///
+    /// Each kept item that follows a removed item is moved once. No memory is requested, and the
+    /// capacity does not change.
     pub fn retain<F: FnMut(&T) -> bool>(&mut self, keep: F)
         requires callable { F.IsAlwaysCallable keep }
         ensures retained { IsRetained (ReadsOnly (CalledAt F.FnMut)) keep self.old self.new }
+
+        // These follow from `retained`, and are for callers' proofs.
         ensures filtered { IsFiltered (CalledAt F.FnMut) keep self.old.items self.new.items }
         ensures moves { MovesAtMost (length self.new.items) self.old.cost self.new.cost }
         ensures bound { length self.new.items ≤ length self.old.items }
+
+        // In every case.
         ensures capacity { self.new.capacity ≡ self.old.capacity }
         ensures preserved { PreservesList T.row self.old self.new }
     {
@@ -34,8 +41,12 @@ impl<T: Drop, A: Allocator, G: Growth> ThinVec<T, A, G> {
     pub fn retain_mut<F: FnMut(&mut T) -> bool>(&mut self, keep: F)
         requires callable { F.IsAlwaysCallable keep }
         ensures retained { IsRetained (CalledAtMut F.FnMut) keep self.old self.new }
+
+        // These follow from `retained`, and are for callers' proofs.
         ensures moves { MovesAtMost (length self.new.items) self.old.cost self.new.cost }
         ensures bound { length self.new.items ≤ length self.old.items }
+
+        // In every case.
         ensures capacity { self.new.capacity ≡ self.old.capacity }
         ensures preserved { PreservesList T.row self.old self.new }
     {

@@ -72,7 +72,8 @@ impl<T, A: Allocator, G: Growth> ThinVec<T, A, G> {
         ensures tail { splice_tail result ≡ drop end self.old.items }
         ensures bounds { IsBounded T.row self.old }
 
-        // Until `finish` is called, and for ever if the `Splice` is leaked, the list is empty.
+        // The list is empty when this call returns, and stays so until `finish` is called. No clause
+        // of `next` says the second.
         ensures meanwhile { splice_list result
             ≡ record self.old { items = []; capacity = 0; cost = no_cost } }
 
@@ -211,7 +212,8 @@ impl<
             (λ p. self.exit.0.now.items
             ≡ (splice_front self.entry ++ p.items) ++ splice_tail self.entry)) }
 
-        // When it must succeed, and when it makes no request for memory.
+        // When it must succeed, and when it makes no request for memory. If no item follows the
+        // range, `had_slots` follows from `capacity` and `cost`.
         ensures succeeds { HasSlotsFor self.entry (size (I.remaining (splice_iter self.entry)))
             → IsOk result }
         ensures had_slots { HasSlotsFor self.entry (size (I.remaining (splice_iter self.entry)))
@@ -242,16 +244,18 @@ impl<
             × (error.rest ≡ splice_iter self.entry))
             (λ _. length self.exit.0.now.items ≡ self.exit.0.now.capacity)) }
 
-        // In every case. The capacity stays the same, or the growth rule chose it for items that
-        // the list now contains, or for a size hint of the iterator (`capacity`). The size hint
-        // cannot be named, because the contract of `size_hint` only bounds it. The number of moves
-        // is only bounded, because it depends on the step in which the iterator ended (`cost`). If
-        // items follow the range, the list requests memory at most twice (`blocks`). If no item
-        // follows it, the list requests memory as often as `extend` does (`blocks_at_end`).
+        // In every case, the capacity stays the same, or the growth rule chose it: for at most as
+        // many items as the list now has, or for a number within the limit of the iterator, which
+        // stands for its size hint.
         ensures capacity { ExtendsCapacity G.rule T.row (left_by_splice self.entry) self.exit.0.now
             (I.remaining (splice_iter self.entry)) }
+
+        // Each inserted item costs one move, and each item after the range at most two.
         ensures cost { CostsInserting (left_by_splice self.entry) self.exit.0.now
             (2 * length (splice_tail self.entry)) }
+
+        // If items follow the range, the list requests memory at most twice. Otherwise, it does so
+        // at most as often as `extend` may.
         ensures blocks { 0 < length (splice_tail self.entry)
             → self.exit.0.now.cost.blocks ≤ (left_by_splice self.entry).cost.blocks + 2 }
         ensures blocks_at_end { splice_tail self.entry ≡ [] → RequestsAtMost

@@ -47,7 +47,8 @@ impl<T: Clone, A: Allocator, G: Growth> ThinVec<T, A, G> {
         ensures overflow { OverflowsIff
             (capacity_after_reserve G.rule T.row self.old (length items.now)) result }
 
-        // In every case, the capacity changes as by `reserve(items.len())`, or not at all.
+        // On success, the capacity changes as `reserve(items.len())` would change it. On failure,
+        // `err` says what it is.
         ensures grows { Grows G.rule T.row (length items.now) self.old self.new result }
 
         // These follow, for callers' proofs.
@@ -72,7 +73,7 @@ impl<T: Clone, A: Allocator, G: Growth> ThinVec<T, A, G> {
     /// cloned. On failure, no list is made. The clones that were already made are dropped, and
     /// `alloc` is dropped, too.
     pub fn clone(&self, alloc: A) -> Result<ThinVec<T, A, G>, ThinVecError>
-        // On success.
+        // On success. `items_if_clones_equal` follows from `items`, and is for callers' proofs.
         ensures items { IfOk result (λ list. AllZip T.is_clone self.now.items list.items) }
         ensures items_if_clones_equal { IfOk result (λ list. ClonesEqual T.is_clone
             → list.items ≡ self.now.items) }
@@ -99,7 +100,7 @@ impl<T: Clone, A: Allocator, G: Growth> ThinVec<T, A, G> {
     ) -> Result<ThinVec<T, A, G>, ThinVecError>
         requires fits { Fits T.row (length items.now) }
 
-        // On success.
+        // On success. `items_if_clones_equal` follows from `items`, and is for callers' proofs.
         ensures items { IfOk result (λ list. AllZip T.is_clone items.now list.items) }
         ensures items_if_clones_equal { IfOk result (λ list. ClonesEqual T.is_clone
             → list.items ≡ items.now) }
@@ -132,7 +133,7 @@ impl<T: Clone, A: Allocator, G: Growth> ThinVec<T, A, G> {
     pub fn extend_from_slice_reserved(&mut self, items: &[T]) -> Result<(), ThinVecError>
         requires room { HasRoomFor self.old (length items.now) }
 
-        // On success.
+        // On success. `items_if_clones_equal` follows from `items`, and is for callers' proofs.
         ensures items { OnOk result
             (AppendsClones T.is_clone self.old.items self.new.items items.now) }
         ensures items_if_clones_equal { OnOk result (ClonesEqual T.is_clone

@@ -40,7 +40,7 @@ impl<T, A: Allocator, G: Growth> ThinVec<T, A, G> {
         ensures value_returned { IfErr result (λ error. error.value ≡ value) }
         ensures cause { IfErr result (λ error. LacksRoom G.rule T.row self.old 1 error.cause) }
 
-        // In every case, the capacity changes as by `reserve(1)`.
+        // In every case, the capacity changes as `reserve(1)` would change it.
         ensures grows { Grows G.rule T.row 1 self.old self.new result }
     {
         if let Err(cause) = self.reserve(1) {

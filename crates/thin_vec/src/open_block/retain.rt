@@ -41,6 +41,28 @@ impl<T, A: Allocator> OpenBlock<T, A> {
         test.test(self.block.slot_mut(self.rest_start + k))
     }
 
+    // Tests the middle items up to the first that is to be removed. Returns the index of this item,
+    // or the number of middle items if all are to be kept.
+    pub(crate) fn test_run<J: Test<T>>(&mut self, test: &mut J) -> usize
+        requires callable { J.ready test.old }
+        ensures tested { TestsUpTo J.tests result test.old self.old.rest test.new self.new.rest }
+        ensures callable { J.ready test.new }
+        ensures changes { self.new ≡ record self.old { rest = self.new.rest } }
+    {
+        let mut at = 0;
+        while at < self.rest_len() {
+            if !self.test(at, test) {
+                return at;
+            }
+            at += 1;
+        }
+        at
+    }
+}
+
+impl<T, A: Allocator> OpenBlock<T, A> {
+    ghost use Rattle.thin_vec.specs.OpenBlock.Retain.{SeeksRejected};
+
     // Tests the middle items up to the first that is to be removed, and appends those before it to
     // the front. Returns whether there is an item to be removed. If so, it has been tested, and is
     // the first middle item: the caller takes it out before the next call.

@@ -25,17 +25,17 @@ moved here old new commands before after seen none same h few granted =
     omega (arith, h.moves, few h.replies h.allowed (subst (All IsGranted) all granted))
 
 -- The run of the six commands moved at most 14 items, if none of them failed.
-six-moved : {A G J : Type 0} (here : Env ℕ A J) (old new : ListView ℕ A) (six nine none : Vec ℕ A)
+six-moved : {A G J : Type 0} (here : Env ℕ A J) (old new : ListView ℕ A) (six nine seven : Vec ℕ A)
     (front no_steps : Vec Step A) (commands : List (Command ℕ A G))
     (before after seen : List (Reply ℕ A G)) → before ≡ [] → seen ≡ after
     → Headline here old commands before after new
-    → commands ≡ six_commands here six nine none front no_steps → old.items ≡ []
+    → commands ≡ six_commands here six nine seven front no_steps → old.items ≡ []
     → six.items ≡ first → nine.items ≡ 9 ∷ [] → here.model.take ≡ ask_even
     → All IsGranted seen → new.cost.moves ≤ old.cost.moves + 14
-six-moved here old new six nine none front no_steps commands before after seen empty same h is e
+six-moved here old new six nine seven front no_steps commands before after seen empty same h is e
     six_items nine_items even granted =
     moved here old new commands before after seen empty same h
-    (λ replies run ok. six-moves here six nine none front no_steps old new commands replies run
+    (λ replies run ok. six-moves here six nine seven front no_steps old new commands replies run
     is e six_items nine_items even ok)
     granted
 
@@ -47,7 +47,7 @@ pub returns : goal.returns
 returns g c =
     record {
       fourteen_moves = six-moved _ c.args.list.now c.run.new.list c.in_ok-six.six
-          c.in_ok-nine.nine c.new-none.result c.in_ok-front.front c.new-no_steps.result
+          c.in_ok-nine.nine c.in_ok-seven.seven c.in_ok-front.front c.new-no_steps.result
           c.add-6.new.items.items c.new-replies.result.items c.run.new.replies.items
           c.as_slice.result.now c.new-replies.ensures.items c.as_slice.ensures.value
           c.in_ok-run.ensures.ok
