@@ -352,6 +352,10 @@ def function(lines, at, owner, before):
         if found:
             text, at = braces(lines, at)
             clauses.append((found.group(1), found.group(2) or "", text))
+            if lines[at - 1].rstrip().endswith("};"):
+                # A method of a trait without a body ends with its last clause.
+                at -= 1
+                break
             continue
         if line.strip() in ("{", "{}") or line.rstrip().endswith((" {", ";", "}")):
             break

@@ -33,6 +33,7 @@ impl<T: Numbered, G: Growth> Calls<T, G> for Reading {
 
 fn read<T: Numbered, G: Growth, R: Abort>(rt: &R, case: &mut Case<T, G>) -> Answer {
     case.begin("len, is_empty, capacity, has_capacity, allocator, as_slice, [index]");
+    let index = case.index();
     let list = &case.list;
     assert_same(rt, case.at, "is_empty", list.is_empty(), list.len() == 0);
     assert_same(
@@ -43,7 +44,6 @@ fn read<T: Numbered, G: Growth, R: Abort>(rt: &R, case: &mut Case<T, G>) -> Answ
         list.capacity() != 0,
     );
     assert_same(rt, case.at, "allocator", list.allocator().requests(), 0);
-    let index = case.index();
     if index < list.len() {
         assert_same(
             rt,
