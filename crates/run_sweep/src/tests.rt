@@ -3,8 +3,8 @@
 use crate::runs::{assert_long_commands_right, assert_long_run_right, assert_runs_right, is_right};
 use crate::twins::assert_twins_agree;
 use thin_runner::command::Command;
-use thin_testing::{Counted, Fourfold, Ledger, List, Threefold, filled_list};
-use thin_vec::{Doubling, PowerBytes};
+use thin_testing::{At, Case, Counted, Fourfold, Ledger, Numbered, Threefold};
+use thin_vec::{Doubling, Growth, PowerBytes};
 
 // Counted items of 16 and 24 bytes.
 type Small = Counted<'static>;
@@ -34,17 +34,24 @@ fn runs_of_long_lists_are_right(rt: HostRuntime) {
 }
 
 // Executes `pop`, and returns whether all about it is right.
-fn pops_rightly(ledger: &'static Ledger, list: &mut List<Small, Doubling>) -> Option<bool> {
-    is_right(ledger, list, Command::Pop, 0, 0).ok()
+fn pops_rightly<T: Numbered, G: Growth>(case: &mut Case<T, G>) -> Option<bool> {
+    is_right(case.ledger, &mut case.list, Command::Pop, 0, 0).ok()
 }
 
 // Executes a command while an item exists that the list does not have.
 #[test]
 fn a_run_sees_an_item_that_is_not_dropped(rt: HostRuntime) {
     let ledger = Ledger::leaked(rt.alloc()).expect(&rt, "memory");
-    let mut list = filled_list(ledger, 2, 1).expect(&rt, "memory");
-    assert!(rt; pops_rightly(ledger, &mut list) == Some(true));
-    let item: Small = Counted::new(ledger, 7, ());
-    assert!(rt; pops_rightly(ledger, &mut list) == Some(false));
+    let at = At {
+        call: "",
+        length: 2,
+        spare: 1,
+        argument: 0,
+        refused: 0,
+    };
+    let mut case: Case<Small, Doubling> = Case::new(ledger, at).expect(&rt, "memory");
+    assert!(rt; pops_rightly(&mut case) == Some(true));
+    let item = case.item();
+    assert!(rt; pops_rightly(&mut case) == Some(false));
     drop(item);
 }
