@@ -1,5 +1,5 @@
-//! The sweeps of commands for several item types, and the comparison with the kit's `Vec`. Each test
-//! finishes within seconds.
+//! The sweeps of commands for several item types, and the comparison with the kit's `Vec`. Each
+//! test finishes within seconds.
 use crate::runs::{assert_long_commands_right, assert_long_run_right, assert_runs_right, is_right};
 use crate::twins::assert_twins_agree;
 use thin_runner::command::Command;

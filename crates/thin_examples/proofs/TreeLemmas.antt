@@ -1,5 +1,5 @@
--- These lemmas say what a function of a tree is at a node: the number of its nodes, and the tree with
--- a new kind in each node. The lemma `rolled` is about a node whose fields were written.
+-- These lemmas say what a function of a tree is at a node: the number of its nodes, and the tree
+-- with a new kind in each node. The lemma `rolled` is about a node whose fields were written.
 use Rattle.std.proofs.Common.{◌≡◌, ◌+◌, ◌∙◌, List, ap, length, map, sum, ℕ}
 use Rattle.thin_examples.specs.Tree.{children_of, count_step, node_count, paint_step, painted}
 use Rattle.thin_examples.specs.declared.tree.Node.{Node}

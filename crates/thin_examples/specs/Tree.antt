@@ -1,5 +1,5 @@
--- The kind, the children and the node count of a node of a tree, and the tree with a new kind in each
--- node. The node count is the number of nodes of the tree whose root is the node.
+-- The kind, the children and the node count of a node of a tree, and the tree with a new kind in
+-- each node. The node count is the number of nodes of the tree whose root is the node.
 use Rattle.std.specs.Prelude.{ℕ, ◌+◌, sum}
 use Rattle.std.specs.declared.alloc.Global.{Global}
 use Rattle.thin_vec.specs.ThinVec.{ListView}

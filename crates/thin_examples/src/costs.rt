@@ -203,8 +203,8 @@ pub fn edited<A: Allocator + Copy>(alloc: A) -> Result<ThinVec<u32, A>, AllocErr
     Ok(list)
 }
 
-/// Makes the same edits as `edited` by one `run` of six commands, of which one has a range that ends
-/// before it begins. The moves of all six together are at most 14.
+/// Makes the same edits as `edited` by one `run` of six commands, of which one has a range that
+/// ends before it begins. The moves of all six together are at most 14.
 ///
 /// # Errors
 ///

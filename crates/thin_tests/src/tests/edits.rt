@@ -1,5 +1,6 @@
 //! Tests of what no contract states of a list that another call edits: one that `collect` or
-//! `extend` drains, one whose `Drain` or `ExtractIf` is forgotten, and one over which a loop iterates.
+//! `extend` drains, one whose `Drain` or `ExtractIf` is forgotten, and one over which a loop
+//! iterates.
 use crate::tests::support::{assert_items, assert_len, assert_same};
 use std::mem;
 use std::test::Fail;
