@@ -30,7 +30,7 @@ use Rattle.std.proofs.lemmas.List.{append-nil}
 use Rattle.std.proofs.lemmas.List.Sorted.{length_permutation}
 use Rattle.std.specs.Iterator.{Count, Drains, Yields, YieldsFirst}
 use Rattle.std.specs.Option.{option_to_list}
-use Rattle.thin_vec.specs.Convert.IntoIter.{rest}
+use Rattle.thin_vec.specs.VecWords.{into_iter_items}
 use Rattle.thin_vec.specs.Edits.Splice.{SpliceErrorAccountsFor}
 use Rattle.thin_vec.specs.declared.errors.SpliceRefused.{SpliceRefused}
 pub use Rattle.thin_block.specs.GrowthLaws.{doubling_law}
@@ -287,6 +287,8 @@ module _ {S T : Type 0} (steps : S → Option T → S → Type 0) (items_of : S 
 module _ {T A : Type 0} where
   -- If calls of `next` on the `IntoIter` `s` yielded the items `xs`, and then `None`, then these
   -- were all its items.
-  pub all_taken : (s : ListView T A) (xs : List T) → Drains (YieldsFirst rest) s xs → xs ≡ s.items
-  all_taken s xs d = sym (taken_front (YieldsFirst rest) rest (λ s t x e. e) s d.1.0 xs d.1.1
+  pub all_taken : (s : ListView T A) (xs : List T) → Drains (YieldsFirst into_iter_items) s xs
+      → xs ≡ s.items
+  all_taken s xs d =
+      sym (taken_front (YieldsFirst into_iter_items) into_iter_items (λ s t x e. e) s d.1.0 xs d.1.1
       ∙ (ap (λ (ys : List T). xs ++ ys) d.1.2.0 ∙ append-nil xs))

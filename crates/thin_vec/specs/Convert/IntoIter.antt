@@ -1,12 +1,12 @@
 -- These definitions are for the contracts of the iterator that `into_iter` returns. In contracts,
 -- the items of this iterator are the items that it has not yielded yet. (std: `vec::IntoIter`)
-use Rattle.std.specs.Prelude.{◌≡◌, ◌++◌, ℕ, ◌+◌, ◌-◌, List, length}
+use Rattle.std.specs.Prelude.{◌≡◌, ◌++◌, ℕ, ◌+◌, ◌-◌, length}
 use Rattle.std.specs.Iterator.{YieldsFirst, YieldsLast}
 use Rattle.std.specs.Iterator.Runs.{YieldsInOrder, YieldsInReverse}
 use Rattle.thin_block.specs.Block.{IsAllocatedBy}
 use Rattle.thin_block.specs.Slots.{empty_slots, filled_slots, items_in}
 use Rattle.thin_block.specs.declared.block.Block.{Block}
-use Rattle.thin_vec.specs.ThinVec.{ListView}
+use Rattle.thin_vec.specs.VecWords.{into_iter_items}
 
 module _ {T A : Type 0} where
   -- `IsIntoIterBlock b a start end` describes the block `b` of an iterator: exactly the slots
@@ -18,17 +18,13 @@ module _ {T A : Type 0} where
     pub len : start + length (items_in b.slots) ≡ end
     pub from : IsAllocatedBy b.alloc a
 
-  -- `rest v` is the list of the items that the iterator `v` has not yielded yet.
-  abbrev pub rest : ListView T A → List T
-  rest v = v.items
-
 module _ (T A : Type 0) where
   -- `RestInOrder` states that, for every iterator, calls to `next` yield the remaining items in
   -- order.
   abbrev pub RestInOrder : Type 0
-  RestInOrder = YieldsInOrder (YieldsFirst (rest {T = T} {A = A})) rest
+  RestInOrder = YieldsInOrder (YieldsFirst (into_iter_items {T = T} {A = A})) into_iter_items
 
   -- `RestInReverse` states that, for every iterator, calls to `next_back` yield the remaining items
   -- in reverse order.
   abbrev pub RestInReverse : Type 0
-  RestInReverse = YieldsInReverse (YieldsLast (rest {T = T} {A = A})) rest
+  RestInReverse = YieldsInReverse (YieldsLast (into_iter_items {T = T} {A = A})) into_iter_items

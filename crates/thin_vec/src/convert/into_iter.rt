@@ -5,7 +5,8 @@ ghost use Rattle.std.specs.List.{AllZip};
 ghost use Rattle.std.specs.Option.{option_to_list};
 ghost use Rattle.thin_block.specs.Cost.{add_moves};
 ghost use Rattle.thin_vec.specs.List.Clones.{ClonesEqual};
-ghost use Rattle.thin_vec.specs.Convert.IntoIter.{RestInOrder, RestInReverse, rest};
+ghost use Rattle.thin_vec.specs.Convert.IntoIter.{RestInOrder, RestInReverse};
+ghost use Rattle.thin_vec.specs.VecWords.{into_iter_items};
 
 use crate::list::ThinVec;
 use std::alloc::{Allocator, Global};
@@ -109,7 +110,7 @@ impl<T, A: Allocator, G: Growth> IntoIter<T, A, G> {
 
     /// Yields the last item that has not been yielded yet, or returns `None` if there is none.
     pub fn next_back(&mut self) -> Option<T>
-        ensures steps { YieldsLast rest self.old result self.new }
+        ensures steps { YieldsLast into_iter_items self.old result self.new }
         ensures changes { self.new ≡ record self.old { items = self.new.items } }
     {
         if self.start == self.end {
@@ -208,9 +209,9 @@ impl<T: Clone, A: Allocator, G: Growth> IntoIter<T, A, G> {
 impl<T: Drop, A: Allocator, G: Growth> Iterator for IntoIter<T, A, G> {
     type Item = T;
 
-    ghost next_gives = { YieldsFirst rest };
+    ghost next_gives = { YieldsFirst into_iter_items };
 
-    ghost remaining = { item_count rest };
+    ghost remaining = { item_count into_iter_items };
 
     fn next(&mut self) -> Option<T> {
         IntoIter::next(self)
@@ -224,7 +225,7 @@ impl<T: Drop, A: Allocator, G: Growth> Iterator for IntoIter<T, A, G> {
 }
 
 impl<T: Drop, A: Allocator, G: Growth> DoubleEndedIterator for IntoIter<T, A, G> {
-    ghost next_back_gives = { YieldsLast rest };
+    ghost next_back_gives = { YieldsLast into_iter_items };
 
     fn next_back(&mut self) -> Option<T> {
         IntoIter::next_back(self)
