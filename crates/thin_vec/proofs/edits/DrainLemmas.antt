@@ -15,10 +15,14 @@ module _ {T A G H : Type 0} {g : Ghosts G} {h : IntoInnerGhosts H (OpenView T A)
   drain_keeps_more : (a b c : Drain T A G H g h) → DrainKeeps a b
       → DrainKeeps b c → DrainKeeps a c
   drain_keeps_more a b c p q =
-      record { lender = q.lender ∙ p.lender; left = q.left ∙ p.left }
+      record {
+        lender = q.lender ∙ p.lender;
+        meanwhile = q.meanwhile ∙ p.meanwhile;
+        left = q.left ∙ p.left;
+      }
 
   same : (d : Drain T A G H g h) → DrainKeeps d d
-  same d = record { lender = refl; left = refl }
+  same d = record { lender = refl; meanwhile = refl; left = refl }
 
   pub drain_keeps_along : (d : Drain T A G H g h) → DrainKeepsAlong d
   drain_keeps_along d [] later e = subst (λ t. DrainKeeps d t) e (same d)

@@ -153,6 +153,7 @@ module _ {T F A G H : Type 0} {g : Ghosts G} {h : IntoInnerGhosts H (ExtractStat
       → ExtractKeepsAlong R d
   extract_keeps_along d [] later e = subst (λ t. ExtractLeaves d [] t) e (record {
     lender = refl;
+    meanwhile = refl;
     kept = [];
     left = λ i. record (left_by_extract_if d) {
       items = sym (append-nil (extract_block d).front) i
@@ -174,6 +175,7 @@ module _ {T F A G H : Type 0} {g : Ghosts G} {h : IntoInnerGhosts H (ExtractStat
       ap (λ l. l ++ on.kept) s.front ∙ append_assoc (extract_block d).front s.kept on.kept in
       record {
         lender = on.lender ∙ one.lender;
+        meanwhile = on.meanwhile ∙ one.meanwhile;
         kept = s.kept ++ on.kept;
         left = on.left ∙ (λ i. record {
           items = front i ++ (extract_rest later ++ s.tail i);

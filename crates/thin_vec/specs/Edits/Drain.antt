@@ -26,7 +26,8 @@ module _ {T A G H : Type 0} {g : Ghosts G} {h : IntoInnerGhosts H (OpenView T A)
   abbrev pub drain_rest : Drain T A G H g h → List T
   drain_rest d = (h.inner d.holder).rest
 
-  -- `drain_list d` is the list that the `Drain` `d` borrows, as it is now.
+  -- `drain_list d` is the list that the `Drain` `d` borrows, as it is until `d` is dropped. It
+  -- stays as it is if `d` is leaked.
   abbrev pub drain_list : Drain T A G H g h → ListView T A
   drain_list d = d.list.now
 
@@ -35,10 +36,11 @@ module _ {T A G H : Type 0} {g : Ghosts G} {h : IntoInnerGhosts H (OpenView T A)
   abbrev pub drain_lender : Drain T A G H g h → GName
   drain_lender d = d.list.ghost_name
 
-  -- `DrainKeeps old new` states that `old` and `new` borrow the same list, and that dropping `old`
-  -- would result in the same list as dropping `new`.
+  -- `DrainKeeps old new` states that `old` and `new` borrow the same list, which is unchanged, and
+  -- that dropping `old` would result in the same list as dropping `new`.
   pub record DrainKeeps (old new : Drain T A G H g h) : Type 0 where
     pub lender : drain_lender new ≡ drain_lender old
+    pub meanwhile : drain_list new ≡ drain_list old
     pub left : left_by_drain new ≡ left_by_drain old
 
   -- `DrainSteps old item new` holds if a call to `next` returned `item` and changed the `Drain`

@@ -59,8 +59,8 @@ module _ {T F A G H : Type 0} {g : Ghosts G} {h : IntoInnerGhosts H (ExtractStat
   abbrev pub extract_callee : ExtractIf T F A G H g h → F
   extract_callee e = (h.inner e.holder).picks.pick
 
-  -- `extract_list e` is the list that the `ExtractIf` `e` borrows, as it is until `e` is dropped. It
-  -- stays as it is if `e` is leaked.
+  -- `extract_list e` is the list that the `ExtractIf` `e` borrows, as it is until `e` is dropped.
+  -- It stays as it is if `e` is leaked.
   abbrev pub extract_list : ExtractIf T F A G H g h → ListView T A
   extract_list e = e.list.now
 
@@ -75,6 +75,7 @@ module _ {T F A G H : Type 0} {g : Ghosts G} {h : IntoInnerGhosts H (ExtractStat
       (item : Option T) (new : ExtractIf T F A G H g h) : Type 0 where
     pub extracts : ExtractsOne R (h.inner old.holder) item (h.inner new.holder)
     pub lender : extract_lender new ≡ extract_lender old
+    pub meanwhile : extract_list new ≡ extract_list old
     -- If `new` is dropped, the list has the items `extracts.kept`, and the items that `new` has not
     -- tested, in place of those that `old` had not tested. Capacity and allocator stay.
     pub left : left_by_extract_if new ≡ record (left_by_extract_if old) {
@@ -89,6 +90,7 @@ module _ {T F A G H : Type 0} {g : Ghosts G} {h : IntoInnerGhosts H (ExtractStat
   pub record ExtractLeaves (first : ExtractIf T F A G H g h) (items : List T)
       (later : ExtractIf T F A G H g h) : Type 0 where
     pub lender : extract_lender later ≡ extract_lender first
+    pub meanwhile : extract_list later ≡ extract_list first
     pub kept : List T
     -- As in `ExtractSteps`.
     pub left : left_by_extract_if later ≡ record (left_by_extract_if first) {

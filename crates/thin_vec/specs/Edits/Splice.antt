@@ -91,8 +91,8 @@ module _ {I T A G H : Type 0} {g : Ghosts G} {h : IntoInnerGhosts H (OpenView T 
   abbrev pub splice_iter : Splice I T A G H g h → I
   splice_iter s = s.iter
 
-  -- `splice_list s` is the list that the `Splice` `s` borrows, as it is until `finish` is called. It
-  -- stays as it is if `s` is leaked.
+  -- `splice_list s` is the list that the `Splice` `s` borrows, as it is until `finish` is called.
+  -- It stays as it is if `s` is leaked.
   abbrev pub splice_list : Splice I T A G H g h → ListView T A
   splice_list s = s.list.now
 
@@ -116,6 +116,7 @@ module _ {I T A G H : Type 0} {g : Ghosts G} {h : IntoInnerGhosts H (OpenView T 
     pub lender : splice_lender new ≡ splice_lender old
     pub iter : splice_iter new ≡ splice_iter old
     pub front : splice_front new ≡ splice_front old
+    pub meanwhile : splice_list new ≡ splice_list old
     pub tail : splice_tail new ≡ splice_tail old
     pub range : splice_range_len new ≡ splice_range_len old
     pub left : left_by_splice new ≡ left_by_splice old

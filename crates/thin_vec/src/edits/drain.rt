@@ -78,9 +78,8 @@ impl<T: Drop, A: Allocator, G: Growth> ThinVec<T, A, G> {
         ensures runs { DrainYieldsInOrder result }
         ensures runs_back { DrainYieldsInReverse result }
 
-        // The `Drain` borrows the list, so the list is a part of `result`, and not `self.new`. It is
-        // empty when this call returns, and stays so until the `Drain` is dropped. No clause of
-        // `next` says the second.
+        // The `Drain` borrows the list, so the list is a part of `result`, and not `self.new`. It
+        // is empty until the `Drain` is dropped: calls to `next` do not change it (`DrainKeeps`).
         ensures meanwhile { drain_list result
             ≡ record self.old { items = []; capacity = 0; cost = no_cost } }
 

@@ -152,8 +152,8 @@ impl<T: Drop, A: Allocator, G: Growth> ThinVec<T, A, G> {
         ensures gap { (extract_block result).gap ≡ 0 }
         ensures value { extract_callee result ≡ pick }
 
-        // The list is empty when this call returns, and stays so until the `ExtractIf` is dropped.
-        // No clause of `next` says the second.
+        // The list is empty until the `ExtractIf` is dropped: calls to `next` do not change it
+        // (`ExtractSteps`).
         ensures meanwhile { extract_list result
             ≡ record self.old { items = []; capacity = 0; cost = no_cost } }
 

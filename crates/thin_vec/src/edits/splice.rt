@@ -72,8 +72,8 @@ impl<T, A: Allocator, G: Growth> ThinVec<T, A, G> {
         ensures tail { splice_tail result ≡ drop end self.old.items }
         ensures bounds { IsBounded T.row self.old }
 
-        // The list is empty when this call returns, and stays so until `finish` is called. No clause
-        // of `next` says the second.
+        // The list is empty until `finish` is called: calls to `next` do not change it
+        // (`SpliceKeeps`).
         ensures meanwhile { splice_list result
             ≡ record self.old { items = []; capacity = 0; cost = no_cost } }
 

@@ -10,6 +10,7 @@ returns-clause-steps g c =
     record {
       extracts = s;
       lender = refl;
+      meanwhile = refl;
       left = λ i. record {
         items = s.front i ++ (new.block.rest ++ s.tail i);
         capacity = s.capacity i;
