@@ -212,11 +212,11 @@ impl<
             (λ p. self.exit.0.now.items
             ≡ (splice_front self.entry ++ p.items) ++ splice_tail self.entry)) }
 
-        // When it must succeed, and when it makes no request for memory. If no item follows the
-        // range, `had_slots` follows from `capacity` and `cost`.
+        // When it must succeed, and when the list makes no request for memory. If no item follows
+        // the range, `had_room` follows from `capacity` and `cost`.
         ensures succeeds { HasSlotsFor self.entry (size (I.remaining (splice_iter self.entry)))
             → IsOk result }
-        ensures had_slots { HasSlotsFor self.entry (size (I.remaining (splice_iter self.entry)))
+        ensures had_room { HasSlotsFor self.entry (size (I.remaining (splice_iter self.entry)))
             → (self.exit.0.now.capacity ≡ (left_by_splice self.entry).capacity)
             × (self.exit.0.now.cost.blocks ≡ (left_by_splice self.entry).cost.blocks) }
 
@@ -256,12 +256,12 @@ impl<
 
         // If items follow the range, the list requests memory at most twice. Otherwise, it does so
         // at most as often as `extend` may.
-        ensures blocks { 0 < length (splice_tail self.entry)
-            → self.exit.0.now.cost.blocks ≤ (left_by_splice self.entry).cost.blocks + 2 }
-        ensures blocks_at_end { splice_tail self.entry ≡ [] → RequestsAtMost
+        ensures blocks { (0 < length (splice_tail self.entry)
+            → self.exit.0.now.cost.blocks ≤ (left_by_splice self.entry).cost.blocks + 2)
+            × (splice_tail self.entry ≡ [] → RequestsAtMost
             (self.exit.0.now.cost.blocks - (left_by_splice self.entry).cost.blocks)
             (length self.exit.0.now.items - length (left_by_splice self.entry).items)
-            (I.remaining (splice_iter self.entry)) }
+            (I.remaining (splice_iter self.entry))) }
         ensures preserved { PreservesList T.row (left_by_splice self.entry) self.exit.0.now }
     {
         let Splice { list, holder, iter } = self;

@@ -143,10 +143,11 @@ impl<T: Clone, A: Allocator, G: Growth> ThinVec<T, A, G> {
         // When it must succeed.
         ensures succeeds { All T.is_infallible items.now → IsOk result }
 
-        // On failure, the cause is `OutOfMemory`, and the items are unchanged.
+        // On failure, the cause is `OutOfMemory`, the items are unchanged, and the clones that were
+        // made count as moves.
         ensures cause { IfErr result (λ cause. cause ≡ ThinVecError.OutOfMemory) }
         ensures err_items { OnErr result (self.new.items ≡ self.old.items) }
-        ensures err_cost { OnErr result (FailsAtClone T.is_infallible items.now self.old.cost
+        ensures err { OnErr result (FailsAtClone T.is_infallible items.now self.old.cost
             self.new.cost) }
 
         // In every case.

@@ -135,7 +135,7 @@ impl<T: Drop, A: Allocator> OpenBlock<T, A> {
 
         // For the proof of the loop in `dedup_rest`.
         ensures has_front { 0 < length self.new.front }
-        ensures decreases { length self.new.rest < length self.old.rest }
+        ensures bound { length self.new.rest < length self.old.rest }
         ensures callable { J.ready test.new }
     {
         let mut later = self.take_first();

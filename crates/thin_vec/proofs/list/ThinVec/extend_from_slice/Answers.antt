@@ -9,7 +9,7 @@ returns-clause-err g c =
     grew-after g.T.Clone.is_infallible c.args.items.now c.args.self.now c.reserve.new.self
     c.extend_from_slice_reserved.new.self c.in_ok-reserve.ensures.capacity.ok
     c.reserve.ensures.items c.in_ok-reserve.ensures.cost made.capacity
-    c.extend_from_slice_reserved.result made.err_items made.err_cost
+    c.extend_from_slice_reserved.result made.err_items made.err
 
 pub returns-clause-overflow : goal.returns-clause-overflow
 returns-clause-overflow g c =

@@ -23,8 +23,8 @@ returns-clause-items_if_clones_equal g c = λ equal.
 pub returns-then-push_clones_reserved-items-clause-err_items : goal.returns-then-push_clones_reserved-items-clause-err_items
 returns-then-push_clones_reserved-items-clause-err_items g c = grind (arith, common_steps)
 
-pub returns-then-push_clones_reserved-items-clause-err_cost : goal.returns-then-push_clones_reserved-items-clause-err_cost
-returns-then-push_clones_reserved-items-clause-err_cost g c = search (arith, ◌∙◌)
+pub returns-then-push_clones_reserved-items-clause-err : goal.returns-then-push_clones_reserved-items-clause-err
+returns-then-push_clones_reserved-items-clause-err g c = search (arith, ◌∙◌)
 
 pub returns-clause-succeeds : goal.returns-clause-succeeds
 returns-clause-succeeds g c = search (arith, ◌∙◌)
@@ -32,5 +32,5 @@ returns-clause-succeeds g c = search (arith, ◌∙◌)
 pub returns-clause-err_items : goal.returns-clause-err_items
 returns-clause-err_items g c = search (arith, ◌∙◌)
 
-pub returns-clause-err_cost : goal.returns-clause-err_cost
-returns-clause-err_cost g c = search (arith, ◌∙◌)
+pub returns-clause-err : goal.returns-clause-err
+returns-clause-err g c = search (arith, ◌∙◌)

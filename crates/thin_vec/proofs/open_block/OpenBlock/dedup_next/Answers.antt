@@ -92,11 +92,11 @@ move_down-requires-clause-in_bounds g c = grind (arith, common_steps)
 pub returns-then-rest_len-gt0-clause-has_front : goal.returns-then-rest_len-gt0-clause-has_front
 returns-then-rest_len-gt0-clause-has_front g c = grind (arith, common_steps)
 
-pub returns-then-rest_len-gt0-clause-decreases : goal.returns-then-rest_len-gt0-clause-decreases
-returns-then-rest_len-gt0-clause-decreases g c = grind (arith, common_steps)
+pub returns-then-rest_len-gt0-clause-bound : goal.returns-then-rest_len-gt0-clause-bound
+returns-then-rest_len-gt0-clause-bound g c = grind (arith, common_steps)
 
 pub returns-else-rest_len-gt0-clause-has_front : goal.returns-else-rest_len-gt0-clause-has_front
 returns-else-rest_len-gt0-clause-has_front g c = grind (arith, common_steps)
 
-pub returns-then-not-stays-clause-decreases : goal.returns-then-not-stays-clause-decreases
-returns-then-not-stays-clause-decreases g c = search (arith, ◌∙◌)
+pub returns-then-not-stays-clause-bound : goal.returns-then-not-stays-clause-bound
+returns-then-not-stays-clause-bound g c = search (arith, ◌∙◌)

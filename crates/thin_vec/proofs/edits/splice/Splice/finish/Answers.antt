@@ -3,7 +3,7 @@ use Rattle.std.proofs.Common.{[], inl, inr, ◌≡◌, ◌+◌, ◌≤◌, ◌++
 use denote.Param.{param}
 use Rattle.thin_vec.specs.Edits.Finish.{FinishesSplice}
 use Rattle.thin_vec.specs.Open.{tail_end}
-use Rattle.thin_vec.specs.Edits.Splice.{HasSlotsFor, left_by_splice, splice_front, splice_iter, splice_list, splice_tail}
+use Rattle.thin_vec.specs.Edits.Splice.{left_by_splice, splice_front, splice_iter, splice_list, splice_tail}
 use Rattle.thin_vec.proofs.ThinVecLemmas.{allocatable-less}
 use Rattle.thin_vec.proofs.list.ExtendLemmas.{loose-le, run_of_ok}
 use Rattle.thin_vec.proofs.edits.SpliceLemmas.{if-err}
@@ -51,7 +51,7 @@ returns g c =
         | inl few ↦ f.succeeds few
         | inr room ↦ f.succeeds_at_end room.0 room.1
       ];
-      had_slots = λ places.
+      had_room = λ places.
           let same = f.taken.had_room (elim places [
             | inl few ↦ omega (arith, few, room)
             | inr fit ↦ fit.1
@@ -69,8 +69,7 @@ returns g c =
         ruled = f.ruled;
       };
       cost = f.taken.cost;
-      blocks = f.blocks;
-      blocks_at_end = f.requests;
+      blocks = (f.blocks, f.requests);
       preserved = record {
         alloc = f.taken.alloc;
         never_less = le;
