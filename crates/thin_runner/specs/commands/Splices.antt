@@ -3,11 +3,12 @@
 use Rattle.std.specs.Prelude.{◌≡◌, ◌↔◌, ◌⊎◌, ℕ, ◌+◌, ◌-◌, ◌*◌, ◌<◌, ◌≤◌, List, [], ◌++◌, IsSome, None, Option, drop, length, take}
 use Rattle.std.specs.Borrow.{RattleType}
 use Rattle.std.specs.Iterator.{at_most}
+use Rattle.std.specs.Iterator.SizeHint.{IsWithinCount}
 use Rattle.std.specs.List.{remove_range}
 use Rattle.std.specs.Option.{option_to_list}
 use Rattle.std.specs.Vec.Iter.{into_iter_items}
-use Rattle.thin_vec.specs.List.Extend.{CostsInserting, FailsAtHint, ExtendsCapacity}
-use Rattle.thin_vec.specs.List.Capacity.{PreservesList}
+use Rattle.thin_vec.specs.List.Extend.{CostsInserting, ExtendsCapacity}
+use Rattle.thin_vec.specs.List.Capacity.{LacksRoom, PreservesList}
 use Rattle.thin_vec.specs.Growth.{GrowthRule}
 use Rattle.thin_vec.specs.ThinVec.{HasRoomFor, ListView, capacity_after_reserve}
 use Rattle.thin_vec.specs.declared.ThinVecError.{ThinVecError}
@@ -48,7 +49,8 @@ module _ {T A : Type 0} (rule : GrowthRule) (R : RattleType) (old : ListView T A
     -- If `held` is empty and `in_hand` is `None`, then the call could not reserve room for `h` more
     -- items. The number `h` is a lower bound that the size hint of `rest` may have.
     pub by_hint : held ≡ [] → in_hand ≡ None
-        → FailsAtHint rule R new (at_most (rest.lower + length (into_iter_items rest.items))) cause
+        → (h : ℕ) × IsWithinCount h (at_most (rest.lower + length (into_iter_items rest.items)))
+        × LacksRoom rule R new h cause
     -- Suppose that `held` contains items, and that `in_hand` is `None`. Then the cause is
     -- `CapacityOverflow` if and only if the growth rule chooses no capacity that has room for both
     -- the items of the list `new` and the items in `held`.

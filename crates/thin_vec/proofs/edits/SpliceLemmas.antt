@@ -8,8 +8,9 @@ use Rattle.std.specs.Prelude.{IfErr, IsSome, MatchOption, vec_capacity}
 use Rattle.std.specs.declared.result.Result.{Result}
 use Rattle.std.specs.declared.result.Result.TheVariants.{Ok, Err}
 use Rattle.std.specs.Iterator.{Count, Drains, Yields, YieldsThen, size}
+use Rattle.std.specs.Iterator.SizeHint.{IsWithinCount}
 use Rattle.thin_vec.specs.Cheap.{IsCheap}
-use Rattle.thin_vec.specs.List.Extend.{IsExtendCause, CostsInserting, IsKeptOrChosen, FailsAtHint, YieldsAndCanContinue}
+use Rattle.thin_vec.specs.List.Extend.{IsExtendCause, CostsInserting, IsKeptOrChosen, YieldsAndCanContinue}
 use Rattle.std.proofs.lemmas.Bool.Decides.{nat_tests}
 use Rattle.thin_block.specs.declared.errors.ThinVecError.TheVariants.{OutOfMemory}
 use Rattle.thin_block.specs.Cost.{Cost, add_realloc, add_moves}
@@ -185,7 +186,8 @@ module _ {S T A : Type 0} (rule : GrowthRule) (R : RattleType) (v : ListView T A
   -- `finish` can fail at three steps: the reservation for the size hint, the collection and
   -- insertion of the held items, and, if no item follows the range, the call to `extend`.
   pub stop-at-hint : 0 < length tail → error.held.items ≡ [] → error.in_hand ≡ None
-      → FailsAtHint rule R v left error.cause → IsSpliceCause rule R v tail left error
+      → (h : ℕ) × IsWithinCount h left × LacksRoom rule R v h error.cause
+      → IsSpliceCause rule R v tail left error
   stop-at-hint some none empty fails = record {
     by_hint = λ _ _. fails;
     by_held = λ more _. absurd (omega (arith, more, ap length none));
@@ -211,7 +213,7 @@ module _ {S T A : Type 0} (rule : GrowthRule) (R : RattleType) (v : ListView T A
       → IsSpliceCause rule R v tail left error
   stop-at-end e no_tail none same hand full by = record {
     by_hint = λ _ empty.
-        subst (λ cause. FailsAtHint rule R v left cause) (sym same)
+        subst (λ cause. (h : ℕ) × IsWithinCount h left × LacksRoom rule R v h cause) (sym same)
         (by.by_hint (sym hand ∙ empty));
     by_held = λ more _. absurd (omega (arith, more, ap length none));
     by_in_hand = λ some _. absurd (omega (arith, some, ap length no_tail));

@@ -28,14 +28,14 @@ module _ {T A : Type 0} where
   abbrev pub with_replacement : OpenView T A → List T → List T
   with_replacement v xs = (v.front ++ xs) ++ v.tail
 
-  -- `AddsFromIter rule R v w n left` describes how adding items of an iterator turned the list `v`
+  -- `AddsFromIter rule R v w n limit` describes how adding items of an iterator turned the list `v`
   -- into `w`. `rule` is the growth rule of the list, and `R` is the type of the items. The iterator
-  -- could yield at most `left` items, and the old items of `v` were moved at most `n` times in
+  -- could yield at most `limit` items, and the old items of `v` were moved at most `n` times in
   -- total.
   pub record AddsFromIter (rule : GrowthRule) (R : RattleType) (v w : ListView T A) (n : ℕ)
-      (left : Count) : Type 0 where
+      (limit : Count) : Type 0 where
     pub capacity : IsKeptOrGrown rule R v.capacity w.capacity
-    pub had_room : HasRoomFor v (size left) → w.capacity ≡ v.capacity
+    pub had_room : HasRoomFor v (size limit) → w.capacity ≡ v.capacity
     pub cost : CostsInserting v w n
     pub alloc : w.alloc ≡ v.alloc
     pub cheap : IsCheap v → IsCheap w

@@ -2,6 +2,7 @@
 -- to `finish`. (std: `Vec::splice`)
 use Rattle.std.specs.Prelude.{◌≡◌, ◌⊎◌, ◌+◌, ◌<◌, ◌≤◌, [], ◌++◌, IsSome, List, Option, length, vec_capacity, ℕ}
 use Rattle.std.specs.Iterator.{Count, YieldsFirst, YieldsLast, YieldsThen}
+use Rattle.std.specs.Iterator.SizeHint.{IsWithinCount}
 use Rattle.std.specs.Option.{option_to_list}
 use Rattle.std.specs.declared.option.Option.TheVariants.{None}
 use Rattle.std.specs.Borrow.{GName, RattleType}
@@ -9,7 +10,7 @@ use Rattle.thin_block.specs.declared.errors.ThinVecError.TheVariants.{OutOfMemor
 use Rattle.thin_block.specs.Growth.{GrowthRule}
 use Rattle.thin_block.specs.declared.growth.Growth.{Ghosts}
 use Rattle.thin_vec.specs.List.Capacity.{LacksRoom}
-use Rattle.thin_vec.specs.List.Extend.{FailsAtHint, YieldsAndCanContinue}
+use Rattle.thin_vec.specs.List.Extend.{YieldsAndCanContinue}
 use Rattle.thin_vec.specs.Open.{OpenView}
 use Rattle.thin_vec.specs.ThinVec.{HasRoomFor, ListView}
 use Rattle.thin_vec.specs.declared.errors.SpliceRefused.{SpliceRefused}
@@ -35,16 +36,17 @@ module _ {S T A : Type 0} (steps : S → Option T → S → Type 0) where
       × YieldsThen steps s (placed ++ error.held.items) None error.rest)
 
 module _ {T A : Type 0} where
-  -- `IsSpliceCause rule R w tail left error` states why a call to `finish` failed with `error`. The
+  -- `IsSpliceCause rule R w tail limit error` states why a call to `finish` failed with `error`. The
   -- growth rule is `rule`, the item type is `R`, the list after the call is `w`, and the items
-  -- after the range are `tail`. The rest of the iterator may yield at most `left` items. Exactly
+  -- after the range are `tail`. The rest of the iterator may yield at most `limit` items. Exactly
   -- one field applies to an error.
   pub record IsSpliceCause {S : Type 0} (rule : GrowthRule) (R : RattleType) (w : ListView T A)
       (tail : List T)
-      (left : Count) (error : SpliceRefused T S A) : Type 0 where
-    -- If the error contains no item, the call could not reserve room for the size hint.
+      (limit : Count) (error : SpliceRefused T S A) : Type 0 where
+    -- If the error contains no item, there was no room for `h` more items in the list, where `h`
+    -- is a possible lower bound in the size hint (see `IsExtendCause`).
     pub by_hint : error.held.items ≡ [] → error.in_hand ≡ None
-        → FailsAtHint rule R w left error.cause
+        → (h : ℕ) × IsWithinCount h limit × LacksRoom rule R w h error.cause
     -- If the error contains only items in `held`, there was no room for these items in the list.
     pub by_held : 0 < length error.held.items → error.in_hand ≡ None
         → LacksRoom rule R w (length error.held.items) error.cause
@@ -110,13 +112,13 @@ module _ {I T A G H : Type 0} {g : Ghosts G} {h : IntoInnerGhosts H (OpenView T 
   HasSlotsFor s n =
       (n ≤ splice_range_len s) ⊎ ((splice_tail s ≡ []) × HasRoomFor (left_by_splice s) n)
 
-  -- `SpliceKeeps old new` states that `old` and `new` borrow the same list, own the same iterator,
-  -- and would leave the same list.
+  -- `SpliceKeeps old new` states that `old` and `new` borrow the same list, which is unchanged, own
+  -- the same iterator, and would leave the same list.
   pub record SpliceKeeps (old new : Splice I T A G H g h) : Type 0 where
     pub lender : splice_lender new ≡ splice_lender old
+    pub meanwhile : splice_list new ≡ splice_list old
     pub iter : splice_iter new ≡ splice_iter old
     pub front : splice_front new ≡ splice_front old
-    pub meanwhile : splice_list new ≡ splice_list old
     pub tail : splice_tail new ≡ splice_tail old
     pub range : splice_range_len new ≡ splice_range_len old
     pub left : left_by_splice new ≡ left_by_splice old

@@ -1,14 +1,13 @@
 -- The definitions in this file describe calls that add the items of an iterator to a list, such as
 -- std's `Vec::extend`. In this file, `v` is the list before the call, `w` is the list after the
--- call, and `R` is the type of the items. The number `left` is an upper bound on the number of
--- items that the iterator may still yield. `IsWithinCount h left` is std's: `h` is at most `left`,
--- if `left` is finite.
+-- call, and `R` is the type of the items. The number `limit` is an upper bound on the number of
+-- items that the iterator may still yield. `IsWithinCount h limit` is std's: `h` is at most
+-- `limit`, if `limit` is finite.
 use Rattle.std.specs.Prelude.{◌≡◌, ◌↔◌, ◌⊎◌, ℕ, ◌+◌, ◌-◌, ◌<◌, ◌≤◌, IsSome, List, ◌++◌, Option, length}
 use Rattle.std.specs.Iterator.{Count, IsFinite, Yields, size}
 use Rattle.std.specs.Iterator.SizeHint.{IsWithinCount}
 use Rattle.std.specs.declared.option.Option.TheVariants.{None, Some}
 use Rattle.std.specs.Borrow.{RattleType}
-use Rattle.thin_block.specs.declared.errors.ThinVecError.{ThinVecError}
 use Rattle.thin_block.specs.declared.errors.ThinVecError.TheVariants.{CapacityOverflow}
 use Rattle.thin_block.specs.Growth.{GrowthRule, exact_capacity, grown_capacity}
 use Rattle.thin_vec.specs.Cheap.{IsCheap}
@@ -54,51 +53,51 @@ IsChosenByRule rule R d n =
 abbrev pub IsKeptOrChosen : GrowthRule → RattleType → ℕ → ℕ → ℕ → Type 0
 IsKeptOrChosen rule R c d n = (d ≡ c) ⊎ IsChosenByRule rule R d n
 
--- `IsCapacityAfterExtend rule R v d n left` is the field `ruled` of `ExtendsCapacity`: the list `v`
--- may have capacity `d` and length `n` after items of an iterator were added to it. No public
+-- `IsCapacityAfterExtend rule R v d n limit` is the field `ruled` of `ExtendsCapacity`: the list
+-- `v` may have capacity `d` and length `n` after items of an iterator were added to it. No public
 -- contract uses this definition.
 abbrev pub IsCapacityAfterExtend : {T A : Type 0} → GrowthRule → RattleType → ListView T A → ℕ → ℕ
     → Count → Type 0
-IsCapacityAfterExtend rule R v d n left =
+IsCapacityAfterExtend rule R v d n limit =
     IsKeptOrChosen rule R v.capacity d n
-    ⊎ ((h : ℕ) × IsWithinCount h left × (capacity_after_reserve rule R v h ≡ Some d))
+    ⊎ ((h : ℕ) × IsWithinCount h limit × (capacity_after_reserve rule R v h ≡ Some d))
 
--- `IsCapacityAfterCollect rule R d n left` holds if `d` is a possible capacity of a new list that
+-- `IsCapacityAfterCollect rule R d n limit` holds if `d` is a possible capacity of a new list that
 -- has been filled from an iterator. Here, `n` is the length of the list, `rule` is its growth rule,
--- and `R` is its item type. At the start, the iterator could yield at most `left` items.
+-- and `R` is its item type. At the start, the iterator could yield at most `limit` items.
 abbrev pub IsCapacityAfterCollect : GrowthRule → RattleType → ℕ → ℕ → Count → Type 0
-IsCapacityAfterCollect rule R d n left =
-    IsChosenByRule rule R d n ⊎ ((h : ℕ) × IsWithinCount h left × (exact_capacity R 0 h ≡ Some d))
+IsCapacityAfterCollect rule R d n limit =
+    IsChosenByRule rule R d n ⊎ ((h : ℕ) × IsWithinCount h limit × (exact_capacity R 0 h ≡ Some d))
 
--- `RequestsAtMost requests n left` bounds the number of requests for memory of a call that appended
--- `n` items of an iterator: there was at most one request for the first `h` items, and at most one
--- for each item after them. Here, `h` is a possible lower bound in the size hint of the iterator,
--- which could yield at most `left` items.
+-- `RequestsAtMost requests n limit` bounds the number of requests for memory of a call that
+-- appended `n` items of an iterator: there was at most one request for the first `h` items, and at
+-- most one for each item after them. Here, `h` is a possible lower bound in the size hint of the
+-- iterator, which could yield at most `limit` items.
 abbrev pub RequestsAtMost : ℕ → ℕ → Count → Type 0
-RequestsAtMost requests n left = (h : ℕ) × IsWithinCount h left × (requests ≤ 1 + (n - h))
+RequestsAtMost requests n limit = (h : ℕ) × IsWithinCount h limit × (requests ≤ 1 + (n - h))
 
 module _ {T A : Type 0} where
-  -- `ExtendsCapacity rule R v w left` restricts the capacity of the list `w`, which is the list `v`
-  -- after items of an iterator were added: `loose` is a lower bound, and `ruled` says how the
+  -- `ExtendsCapacity rule R v w limit` restricts the capacity of the list `w`, which is the list
+  -- `v` after items of an iterator were added: `loose` is a lower bound, and `ruled` says how the
   -- growth rule chose it. The growth rule is `rule`, the item type is `R`, and the iterator could
-  -- yield at most `left` items.
+  -- yield at most `limit` items.
   pub record ExtendsCapacity (rule : GrowthRule) (R : RattleType) (v w : ListView T A)
-      (left : Count) : Type 0 where
+      (limit : Count) : Type 0 where
     -- If `v` has room for all items that the iterator could yield, the capacity is unchanged. In
     -- particular, it is unchanged if the iterator cannot yield any item.
-    pub had_room : HasRoomFor v (size left) → w.capacity ≡ v.capacity
+    pub had_room : HasRoomFor v (size limit) → w.capacity ≡ v.capacity
     -- If the capacity changed, it is at least one that the growth rule chooses for more items than
     -- the old capacity.
     pub loose : (w.capacity ≡ v.capacity)
         ⊎ ((want : ℕ) × (n : ℕ) × (v.capacity < want)
         × (grown_capacity rule R v.capacity want ≡ Some n) × (n ≤ w.capacity))
     -- The new capacity is the old one, one that the growth rule chooses for at most
-    -- `length w.items` items, or the one after `reserve(h)` on `v`, where `h` is at most `left`.
+    -- `length w.items` items, or the one after `reserve(h)` on `v`, where `h` is at most `limit`.
     -- For `extend`, `h` is a possible lower bound in the size hint. For `finish` of a `Splice` with
     -- items after the range, it is the number of slots of the range plus a possible lower bound for
     -- the items that did not fit there.
     pub ruled : ((w.capacity ≡ v.capacity) ⊎ IsChosenByRule rule R w.capacity (length w.items))
-        ⊎ ((h : ℕ) × IsWithinCount h left × (capacity_after_reserve rule R v h ≡ Some w.capacity))
+        ⊎ ((h : ℕ) × IsWithinCount h limit × (capacity_after_reserve rule R v h ≡ Some w.capacity))
 
   -- `CostsInserting v w n` bounds the recorded cost of a call that added items to a list, and
   -- changed the list from `v` to `w`. Each added item costs one move, and moving the items that
@@ -118,26 +117,26 @@ module _ {T A : Type 0} where
     -- The call copied at most as many items as the capacity has grown by.
     pub copied : w.cost.grown + v.capacity ≤ v.cost.grown + w.capacity
 
-  -- `CostsExtending v w left` bounds the recorded cost of a call that appended the items of an
-  -- iterator, and changed the list from `v` to `w`. The iterator could yield at most `left` items.
-  pub record CostsExtending (v w : ListView T A) (left : Count) : Type 0 where
+  -- `CostsExtending v w limit` bounds the recorded cost of a call that appended the items of an
+  -- iterator, and changed the list from `v` to `w`. The iterator could yield at most `limit` items.
+  pub record CostsExtending (v w : ListView T A) (limit : Count) : Type 0 where
     pub adding : CostsInserting v w 0
     pub requests : RequestsAtMost (w.cost.blocks - v.cost.blocks)
-        (length w.items - length v.items) left
+        (length w.items - length v.items) limit
 
-  -- `IsCollectedList rule R a w left` describes a new list `w` that was made from the items of an
+  -- `IsCollectedList rule R a w limit` describes a new list `w` that was made from the items of an
   -- iterator. The allocator is `a`, the growth rule is `rule`, and the item type is `R`. The
-  -- iterator could yield at most `left` items.
+  -- iterator could yield at most `limit` items.
   pub record IsCollectedList (rule : GrowthRule) (R : RattleType) (a : A) (w : ListView T A)
-      (left : Count)
+      (limit : Count)
       : Type 0 where
     -- In this case, nothing was allocated.
-    pub none : size left ≡ 0 → w.capacity ≡ 0
+    pub none : size limit ≡ 0 → w.capacity ≡ 0
     -- The capacity of `w` is either one that the growth rule may choose for at most
     -- `length w.items` items, or a possible lower bound in the size hint of the iterator.
-    pub ruled : IsCapacityAfterCollect rule R w.capacity (length w.items) left
+    pub ruled : IsCapacityAfterCollect rule R w.capacity (length w.items) limit
     pub moves : w.cost.moves ≡ length w.items
-    pub requests : RequestsAtMost w.cost.blocks (length w.items) left
+    pub requests : RequestsAtMost w.cost.blocks (length w.items) limit
     pub made : IsFreshList R a w
 
   -- `ExtendsList rule R v xs w` describes a call that appended the items `xs` to a list, and
@@ -157,32 +156,27 @@ module _ {T A : Type 0} where
       (v.items ≡ xs) × (length v.items ≡ length xs) × (v.cost.moves ≡ length xs) × IsCheap v
       × IsBounded R v
 
-  -- `FailsAtHint rule R w left cause` states that a call failed with `cause` because the list `w`
-  -- has no room for `h` more items of the type `R`. The list and the iterator are those after the
-  -- call: the iterator may yield at most `left` items, and `h` is a possible lower bound in its
-  -- size hint, so at most `left`. The growth rule is `rule`. The contract cannot say which `h` it
-  -- was: std's contract of `size_hint` bounds the result, but gives it no name.
-  abbrev pub FailsAtHint : GrowthRule → RattleType → ListView T A → Count → ThinVecError → Type 0
-  FailsAtHint rule R w left cause = (h : ℕ) × IsWithinCount h left × LacksRoom rule R w h cause
-
-  -- `IsExtendCause rule R w left error` states why a call to `extend` failed with `error`. The
+  -- `IsExtendCause rule R w limit error` states why a call to `extend` failed with `error`. The
   -- growth rule is `rule`, the item type is `R`, and the list after the call is `w`. The rest of
-  -- the iterator may yield at most `left` items.
+  -- the iterator may yield at most `limit` items.
   pub record IsExtendCause {S : Type 0} (rule : GrowthRule) (R : RattleType) (w : ListView T A)
-      (left : Count) (error : ExtendRefused T S) : Type 0 where
+      (limit : Count) (error : ExtendRefused T S) : Type 0 where
     -- The list had no room for the item in `in_hand`.
     pub by_push : IsSome error.in_hand → LacksRoom rule R w 1 error.cause
-    -- The call could not reserve room for a possible lower bound in the size hint.
-    pub by_hint : error.in_hand ≡ None → FailsAtHint rule R w left error.cause
+    -- The list had no room for `h` more items, where `h` is a possible lower bound in the size
+    -- hint, so at most `limit`. The contract cannot say which number `h` it was: std's contract of
+    -- `size_hint` bounds the result, but gives it no name.
+    pub by_hint : error.in_hand ≡ None
+        → (h : ℕ) × IsWithinCount h limit × LacksRoom rule R w h error.cause
 
-  -- `IsCollectCause rule R left error` states why a call to `from_iter` failed with `error`. The
+  -- `IsCollectCause rule R limit error` states why a call to `from_iter` failed with `error`. The
   -- growth rule is `rule`, and the item type is `R`. The rest of the iterator may yield at most
-  -- `left` items.
-  pub record IsCollectCause {S : Type 0} (rule : GrowthRule) (R : RattleType) (left : Count)
+  -- `limit` items.
+  pub record IsCollectCause {S : Type 0} (rule : GrowthRule) (R : RattleType) (limit : Count)
       (error : CollectRefused T S A) : Type 0 where
     -- The list had no room for the item in `in_hand`.
     pub by_push : IsSome error.in_hand → LacksRoom rule R error.list 1 error.cause
     -- The call could not allocate a block of capacity `h`, a possible lower bound in the size hint.
     pub by_hint : error.in_hand ≡ None
-        → (h : ℕ) × IsWithinCount h left × (0 < h)
+        → (h : ℕ) × IsWithinCount h limit × (0 < h)
         × ((error.cause ≡ CapacityOverflow) ↔ (exact_capacity R 0 h ≡ None))

@@ -8,7 +8,8 @@ ghost use Rattle.std.specs.Prelude.{◌≡◌, ◌+◌, ◌-◌, ◌*◌, ◌<�
 ghost use Rattle.std.specs.Iterator.{Drains, IsFinite, Yields, YieldsThen, size};
 ghost use Rattle.std.specs.Iterator.SizeHint.{IsWithinCount};
 ghost use Rattle.std.specs.Option.{option_len, option_to_list};
-ghost use Rattle.thin_vec.specs.List.Extend.{FailsAtHint, IsKeptOrChosen};
+ghost use Rattle.thin_vec.specs.List.Capacity.{LacksRoom};
+ghost use Rattle.thin_vec.specs.List.Extend.{IsKeptOrChosen};
 ghost use Rattle.thin_block.specs.Block.{IsAllocatedBy};
 ghost use Rattle.thin_vec.specs.Open.{tail_end};
 ghost use Rattle.thin_vec.specs.Edits.Splice.{IsSpliceCause, SpliceErrorAccountsFor};
@@ -53,7 +54,8 @@ impl<T: Drop, A: Allocator, G: Growth> ThinVec<T, A, G> {
         ensures err { IfErr result (λ rejected. (self.new ≡ self.old)
             × (rejected.value ≡ iter)) }
         ensures cause { IfErr result
-            (λ rejected. FailsAtHint G.rule T.row self.new (I.remaining iter) rejected.cause) }
+            (λ rejected. (h : ℕ) × IsWithinCount h (I.remaining iter)
+            × LacksRoom G.rule T.row self.new h rejected.cause) }
 
         // Each item from index `at` onward is moved at most twice. If the call succeeds and fills
         // the whole gap, each of these items is moved at most once.

@@ -1,10 +1,12 @@
 -- The items of the iterator are inserted in up to three steps. First, `fill` fills the empty
 -- slots of the replaced range. Then `insert_hinted` fills a new gap, whose size is the lower bound
 -- of the size hint. Finally, `insert_held` inserts the remaining items.
-use Rattle.std.proofs.Common.{[], Err, None, Ok, Some, inl, inr, ◌-◌, ◌*◌, ◌∙◌, ap, arith, length, refl, subst, sym}
+use Rattle.std.proofs.Common.{[], Err, None, Ok, Some, inl, inr, ℕ, ◌-◌, ◌*◌, ◌∙◌, ap, arith, length, refl, subst, sym}
 use denote.Param.{param}
 use Rattle.thin_vec.specs.Edits.Finish.{AddsFromIter, without_middle}
-use Rattle.thin_vec.specs.List.Extend.{FailsAtHint, YieldsAndCanContinue}
+use Rattle.std.specs.Iterator.SizeHint.{IsWithinCount}
+use Rattle.thin_vec.specs.List.Capacity.{LacksRoom}
+use Rattle.thin_vec.specs.List.Extend.{YieldsAndCanContinue}
 use Rattle.thin_vec.specs.Put.{YieldsThenMayEnd}
 use Rattle.thin_vec.proofs.list.ExtendLemmas.{ruled-after}
 use Rattle.thin_vec.proofs.edits.SpliceLemmas.{if-err, stop-at-hint, stopped-now}
@@ -61,7 +63,8 @@ returns-in-Err g c =
     })))
     (stop-at-hint rule T w v.tail
     (left rejected.value) error c.requires.nonempty c.new.ensures.items refl
-    (subst (λ r. FailsAtHint rule T w (left r) rejected.cause) (sym rest) c.in-Err.ensures.cause))
+    (subst (λ r. (h : ℕ) × IsWithinCount h (left r) × LacksRoom rule T w h rejected.cause)
+    (sym rest) c.in-Err.ensures.cause))
     refl
     (subst (λ z. AddsFromIter rule T (without_middle v a) z (2 * length v.tail) (left c.args.iter))
     (sym same)
