@@ -1,6 +1,6 @@
 //! The methods that insert or remove one item, and the methods `truncate` and `clear`, which can
 //! remove several items.
-ghost use Rattle.std.specs.Prelude.{◌≡◌, ◌+◌, ◌-◌, ◌<◌, ◌≤◌, ◌==◌, [], ◌∷◌, ◌++◌, IfErr, IfOk, IsOk, None, OnErr, OnOk, Some, if◌then◌else◌, insert, length, remove, slice_get, take};
+ghost use Rattle.std.specs.Prelude.{◌≡◌, ◌+◌, ◌-◌, ◌<◌, ◌≤◌, ◌==◌, [], ◌∷◌, ◌++◌, IfErr, IfOk, IsErr, IsOk, None, OnErr, OnOk, Some, if◌then◌else◌, insert, length, remove, slice_get, take};
 ghost use Rattle.std.specs.List.{swap_remove};
 ghost use Rattle.std.specs.List.Retain.{PopsIf};
 ghost use types.Logic.{sem};
@@ -14,7 +14,7 @@ use std::alloc::Allocator;
 use thin_block::{Growth, ThinVecError};
 
 impl<T, A: Allocator, G: Growth> ThinVec<T, A, G> {
-    ghost use Rattle.thin_vec.specs.ThinVec.{HasRoomFor, IsBounded};
+    ghost use Rattle.thin_vec.specs.ThinVec.{HasRoomFor, IsBounded, capacity_after_reserve};
 
     /// Inserts `value` at `index`, which must be at most the length. The list then owns `value`.
     /// Each item from `index` onward is moved to the next higher index. If there is no spare
@@ -86,8 +86,9 @@ impl<T, A: Allocator, G: Growth> ThinVec<T, A, G> {
             (λ x. self.old.items ++ x ∷ []) 1 result) }
         ensures value { IfOk result (λ item. item.now ≡ value) }
 
-        // When it must succeed.
+        // When it must succeed, and when it must fail: if no capacity can be chosen.
         ensures succeeds { HasRoomFor self.old 1 → IsOk result }
+        ensures overflow { capacity_after_reserve G.rule T.row self.old 1 ≡ None → IsErr result }
 
         // On failure.
         ensures value_returned { IfErr result (λ error. error.value ≡ value) }
@@ -122,8 +123,9 @@ impl<T, A: Allocator, G: Growth> ThinVec<T, A, G> {
             (insert self.old.items index) (length self.old.items - index + 1) result) }
         ensures value { IfOk result (λ item. item.now ≡ value) }
 
-        // When it must succeed.
+        // When it must succeed, and when it must fail: if no capacity can be chosen.
         ensures succeeds { HasRoomFor self.old 1 → IsOk result }
+        ensures overflow { capacity_after_reserve G.rule T.row self.old 1 ≡ None → IsErr result }
 
         // On failure.
         ensures value_returned { IfErr result (λ error. error.value ≡ value) }

@@ -1,6 +1,7 @@
 -- When the borrow ends, the item at `index` is the value that was written through the reference.
-use Rattle.std.proofs.Common.{◌≡◌, ap, arith, drop, get_or, length, refl, take, ◌∙◌}
+use Rattle.std.proofs.Common.{◌≡◌, ap, arith, drop, get_or, length, refl, sym, take, ◌∙◌}
 use Rattle.std.proofs.lemmas.List.{get_or_at, length-take-le, set_at}
+use Rattle.std.proofs.lemmas.Option.{none-some}
 use lib.ListN.{length-set, set}
 use Rattle.thin_vec.proofs.CallerLemmas.{grows-bounded, grows-cheap, grows-was_bounded}
 use Rattle.thin_vec.proofs.ThinVecLemmas.{within-like}
@@ -35,6 +36,7 @@ returns g c =
         value = c.index_mut.ensures.value
             ∙ (ap (λ l. get_or l i y) put ∙ get_or_at (take i xs) v (drop i xs) y i at);
         succeeds = λ _. refl;
+        overflow = λ none. absurd (none-some _ (sym none ∙ c.in_ok-insert.ensures.grows.ok));
         cause = tt;
         value_returned = tt;
         bounds = grows-was_bounded c.insert.ensures.grows;

@@ -1,6 +1,7 @@
 -- When the borrow ends, the last item of the list is the final value of the reference.
 use Rattle.std.proofs.Common.{[], ap, arith, get_or, refl, sym, ◌∙◌}
 use Rattle.std.proofs.lemmas.List.{get_or_at, set_at}
+use Rattle.std.proofs.lemmas.Option.{none-some}
 use lib.ListN.{length-set, set}
 use Rattle.thin_vec.proofs.CallerLemmas.{grows-bounded, grows-cheap, grows-was_bounded}
 use Rattle.thin_vec.proofs.ThinVecLemmas.{within-like}
@@ -35,6 +36,7 @@ returns g c =
         value = c.index_mut.ensures.value
             ∙ (ap (λ l. get_or l i y) put ∙ get_or_at xs v [] y i at);
         succeeds = λ _. refl;
+        overflow = λ none. absurd (none-some _ (sym none ∙ c.in_ok-push.ensures.grows.ok));
         cause = tt;
         value_returned = tt;
         bounds = grows-was_bounded c.push.ensures.grows;
