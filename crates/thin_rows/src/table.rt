@@ -132,8 +132,8 @@ impl<V, A: Allocator> Rows<V, A> {
         self.rows[row].set(column, value)
     }
 
-    /// Removes the entry at the given row and column, if there is one, and returns its value.
-    /// Requests no memory.
+    /// Removes the entry at the given row and column, if there is one, and returns its value. The
+    /// call requests no memory; this is tested, not proved.
     pub fn remove(&mut self, row: usize, column: usize) -> Option<V>
         requires in_bounds { row < length self.old }
         ensures value { result ≡ value_at self.old row column }
@@ -162,7 +162,8 @@ impl<V, A: Allocator> Rows<V, A> {
 }
 
 impl<V: Drop, A: Allocator> Rows<V, A> {
-    /// Removes all entries of a row, and drops their values. Requests no memory.
+    /// Removes all entries of a row, and drops their values. The call requests no memory; this is
+    /// tested, not proved.
     pub fn clear_row(&mut self, row: usize)
         requires in_bounds { row < length self.old }
         ensures table { self.new ≡ with_empty_row self.old row }

@@ -57,7 +57,8 @@ pub struct SpliceRefused<T, I, A: Allocator = Global> {
     /// Why the call failed.
     pub cause: ThinVecError,
     /// The items that were collected from the iterator, but not moved into the list. The vector
-    /// uses the allocator that was passed to `finish`.
+    /// uses the allocator that was passed to `finish`; this is tested, since no contract of `Vec`
+    /// names the allocator.
     pub held: Vec<T, A>,
     /// The last item taken from the iterator, for which there was no room. It follows the items in
     /// `held`. It is `None` if the call could not reserve room for several items at once.
