@@ -97,7 +97,10 @@ fn take_ends<T: Drop, A: Allocator, G: Growth>(
 }
 
 // Carries out one step on `drain`, and returns its result.
-fn take_end<T, A: Allocator, G: Growth>(drain: &mut Drain<'_, T, A, G>, step: Step) -> Option<T>
+fn take_end<T: Drop, A: Allocator, G: Growth>(
+    drain: &mut Drain<'_, T, A, G>,
+    step: Step,
+) -> Option<T>
     ensures value { (steps : List Step) → ends_taken (drain_rest drain.old) (step ∷ steps)
         ≡ result ∷ ends_taken (drain_rest drain.new) steps }
     ensures preserved { DrainKeeps drain.old drain.new }

@@ -1,12 +1,12 @@
 -- These lemmas state which items `next` and `next_back` yield on a `Drain`, and what these calls
 -- leave unchanged.
-use Rattle.std.proofs.Common.{[], List, inl, inr, ◌∷◌, ◌++◌, ap, append_assoc, arith, refl, subst, sym, ◌∙◌, length}
+use Rattle.std.proofs.Common.{◌≡◌, ◌⊎◌, ◌+◌, [], List, Option, inl, inr, ◌∷◌, ◌++◌, ap, append_assoc, arith, refl, subst, sym, ◌∙◌, length}
 use Rattle.std.proofs.lemmas.List.{append-nil, length_push}
 use Rattle.std.proofs.iter.runs.Sources.{as_is, as_is_back, from_back, from_front}
 use Rattle.std.specs.Iterator.Runs.{YieldsInOrder, YieldsInReverse}
 use Rattle.thin_block.specs.declared.growth.Growth.{Ghosts}
 use Rattle.std.specs.Iterator.{Yields}
-use Rattle.thin_vec.specs.Edits.Drain.{DrainKeeps, DrainKeepsAlong, DrainLeaves, DrainSteps, DrainStepsBack, DrainStepsEither, drain_rest}
+use Rattle.thin_vec.specs.Edits.Drain.{DrainKeeps, DrainKeepsAlong, DrainSteps, DrainStepsBack, drain_rest}
 use Rattle.thin_vec.specs.Open.{OpenView}
 use Rattle.thin_vec.specs.declared.edits.drain.Drain.{Drain}
 use Rattle.thin_vec.specs.declared.edits.holder.IntoInner.{Ghosts as IntoInnerGhosts}
@@ -28,6 +28,22 @@ module _ {T A G H : Type 0} {g : Ghosts G} {h : IntoInnerGhosts H (OpenView T A)
   drain_keeps_along d [] later e = subst (λ t. DrainKeeps d t) e (same d)
   drain_keeps_along d (x ∷ xs) later (m, one, e) =
       drain_keeps_more d m later one.keeps (drain_keeps_along m xs later e)
+
+  -- `DrainStepsEither old item new` holds if a call to `next` or to `next_back` returned `item` and
+  -- changed the `Drain` from `old` to `new`.
+  abbrev pub DrainStepsEither : Drain T A G H g h → Option T → Drain T A G H g h → Type 0
+  DrainStepsEither old item new = DrainSteps old item new ⊎ DrainStepsBack old item new
+
+  -- `DrainLeaves first items later` states what calls to `next` and `next_back` leave, after they
+  -- yielded `items` and changed the `Drain` from `first` to `later`. The items of `before` were
+  -- yielded from the front, and those of `after` from the back.
+  pub record DrainLeaves (first : Drain T A G H g h) (items : List T)
+      (later : Drain T A G H g h) : Type 0 where
+    pub keeps : DrainKeeps first later
+    pub before : List T
+    pub after : List T
+    pub rest : drain_rest first ≡ before ++ (drain_rest later ++ after)
+    pub count : length items ≡ length before + length after
 
   -- Calls to `next` and `next_back`, in any order, take items from the two ends of the range, and
   -- do not change the list that will remain after the `Drain` is dropped.

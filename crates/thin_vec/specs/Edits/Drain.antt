@@ -1,6 +1,6 @@
 -- These definitions are for the contracts of `Drain`. They name the parts of a `Drain`, and they
 -- say what its methods guarantee. (std: `vec::Drain`)
-use Rattle.std.specs.Prelude.{◌≡◌, ◌⊎◌, ◌+◌, List, ◌++◌, Option, length}
+use Rattle.std.specs.Prelude.{◌≡◌, List, ◌++◌, Option}
 use Rattle.std.specs.Borrow.{GName}
 use Rattle.std.specs.Iterator.{Yields, YieldsFirst, YieldsLast}
 use Rattle.std.specs.Iterator.Runs.{YieldsInOrder, YieldsInReverse}
@@ -57,22 +57,6 @@ module _ {T A G H : Type 0} {g : Ghosts G} {h : IntoInnerGhosts H (OpenView T A)
       : Type 0 where
     pub gave : YieldsLast drain_rest old item new
     pub keeps : DrainKeeps old new
-
-  -- `DrainStepsEither old item new` holds if a call to `next` or to `next_back` returned `item` and
-  -- changed the `Drain` from `old` to `new`.
-  abbrev pub DrainStepsEither : Drain T A G H g h → Option T → Drain T A G H g h → Type 0
-  DrainStepsEither old item new = DrainSteps old item new ⊎ DrainStepsBack old item new
-
-  -- `DrainLeaves first items later` states what calls to `next` and `next_back` leave, after they
-  -- yielded `items` and changed the `Drain` from `first` to `later`. The items of `before` were
-  -- yielded from the front, and those of `after` from the back.
-  pub record DrainLeaves (first : Drain T A G H g h) (items : List T)
-      (later : Drain T A G H g h) : Type 0 where
-    pub keeps : DrainKeeps first later
-    pub before : List T
-    pub after : List T
-    pub rest : drain_rest first ≡ before ++ (drain_rest later ++ after)
-    pub count : length items ≡ length before + length after
 
   -- `DrainKeepsAlong d` states that calls to `next` on the `Drain` `d`, however many there are, do
   -- not change the list that will remain after `d` is dropped. This follows from `DrainSteps`.

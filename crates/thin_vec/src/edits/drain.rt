@@ -106,42 +106,7 @@ impl<T: Drop, A: Allocator, G: Growth> ThinVec<T, A, G> {
 }
 
 impl<'a, T, A: Allocator, G: Growth> Drain<'a, T, A, G> {
-    ghost use Rattle.thin_vec.specs.Edits.Drain.{DrainSteps, DrainStepsBack, drain_rest};
-
-    /// Returns the number of items that have not been yielded yet.
-    pub fn len(&self) -> usize
-        ensures value { result ≡ length (drain_rest self.now) }
-    {
-        self.holder.value.rest_len()
-    }
-
-    /// Returns a size hint whose lower bound and upper bound are both the number of items that have
-    /// not been yielded yet.
-    pub fn size_hint(&self) -> (usize, Option<usize>)
-        ensures value { result
-            ≡ (length (drain_rest self.now), Some (length (drain_rest self.now))) }
-    {
-        let len = self.len();
-        (len, Some(len))
-    }
-
-    /// Yields the first item that has not been yielded yet, or returns `None` if all items have
-    /// been yielded.
-    #[tactic(auto, unfolding(crate::specs::Edits::Drain::left_by_drain))]
-    pub fn next(&mut self) -> Option<T>
-        ensures steps { DrainSteps self.old result self.new }
-    {
-        self.holder.value.next()
-    }
-
-    /// Yields the last item that has not been yielded yet, or returns `None` if all items have been
-    /// yielded.
-    #[tactic(auto, unfolding(crate::specs::Edits::Drain::left_by_drain))]
-    pub fn next_back(&mut self) -> Option<T>
-        ensures steps { DrainStepsBack self.old result self.new }
-    {
-        self.holder.value.next_back()
-    }
+    ghost use Rattle.thin_vec.specs.Edits.Drain.{drain_rest};
 
     /// Returns the items that have not been yielded yet, in order, as a slice.
     pub fn as_slice(&self) -> &[T]
@@ -160,8 +125,9 @@ impl<'a, T: Drop, A: Allocator, G: Growth> Iterator for Drain<'a, T, A, G> {
 
     ghost remaining = { item_count drain_rest };
 
+    #[tactic(auto, unfolding(crate::specs::Edits::Drain::left_by_drain))]
     fn next(&mut self) -> Option<T> {
-        Drain::next(self)
+        self.holder.value.next()
     }
 
     fn size_hint(&self) -> (usize, Option<usize>)
@@ -170,7 +136,8 @@ impl<'a, T: Drop, A: Allocator, G: Growth> Iterator for Drain<'a, T, A, G> {
         ensures value { result
             ≡ (length (drain_rest self.now), Some (length (drain_rest self.now))) }
     {
-        Drain::size_hint(self)
+        let len = self.holder.value.rest_len();
+        (len, Some(len))
     }
 }
 
@@ -179,14 +146,15 @@ impl<'a, T: Drop, A: Allocator, G: Growth> DoubleEndedIterator for Drain<'a, T, 
 
     ghost next_back_gives = { DrainStepsBack };
 
+    #[tactic(auto, unfolding(crate::specs::Edits::Drain::left_by_drain))]
     fn next_back(&mut self) -> Option<T> {
-        Drain::next_back(self)
+        self.holder.value.next_back()
     }
 }
 
 impl<'a, T: Drop, A: Allocator, G: Growth> ExactSizeIterator for Drain<'a, T, A, G> {
     fn len(&self) -> usize {
-        Drain::len(self)
+        self.holder.value.rest_len()
     }
 }
 

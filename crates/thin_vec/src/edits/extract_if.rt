@@ -178,33 +178,6 @@ impl<T: Drop, A: Allocator, G: Growth> ThinVec<T, A, G> {
     }
 }
 
-impl<'a, T, F, A: Allocator, G: Growth> ExtractIf<'a, T, F, A, G> {
-    ghost use Rattle.thin_vec.specs.Edits.ExtractIf.{extract_rest};
-
-    /// Returns bounds on the number of items that will still be yielded. The lower bound is 0, and
-    /// the upper bound is the number of items not tested yet.
-    pub fn size_hint(&self) -> (usize, Option<usize>)
-        ensures value { result ≡ (0, Some (length (extract_rest self.now))) }
-    {
-        (0, Some(self.holder.value.block.rest_len()))
-    }
-}
-
-impl<'a, T, F: FnMut(&mut T) -> bool, A: Allocator, G: Growth> ExtractIf<'a, T, F, A, G> {
-    ghost use Rattle.thin_vec.specs.Edits.ExtractIf.{ExtractSteps, extract_callee};
-
-    /// Tests the remaining items, in order, until the closure returns true for one of them. Then
-    /// removes that item and returns it. If the closure returns true for none of them, this call
-    /// and all later calls to `next` return `None`.
-    pub fn next(&mut self) -> Option<T>
-        requires callable { F.IsAlwaysCallable (extract_callee self.old) }
-        ensures steps { ExtractSteps (CalledAtMut F.FnMut) self.old result self.new }
-        ensures callable { F.IsAlwaysCallable (extract_callee self.new) }
-    {
-        self.holder.value.next_picked()
-    }
-}
-
 impl<'a, T: Drop, F: FnMut(&mut T) -> bool, A: Allocator, G: Growth> Iterator
     for ExtractIf<'a, T, F, A, G> {
     ghost use Rattle.thin_vec.specs.Edits.ExtractIf.{ExtractSteps, extract_callee, extract_rest};
@@ -219,7 +192,7 @@ impl<'a, T: Drop, F: FnMut(&mut T) -> bool, A: Allocator, G: Growth> Iterator
     ghost remaining = { λ extract. at_most (length (extract_rest extract)) };
 
     fn next(&mut self) -> Option<T> {
-        ExtractIf::next(self)
+        self.holder.value.next_picked()
     }
 
     fn size_hint(&self) -> (usize, Option<usize>)
@@ -227,6 +200,6 @@ impl<'a, T: Drop, F: FnMut(&mut T) -> bool, A: Allocator, G: Growth> Iterator
         ensures upper { IfSome result.1 (UpTo (at_most (length (extract_rest self.now)))) }
         ensures value { result ≡ (0, Some (length (extract_rest self.now))) }
     {
-        ExtractIf::size_hint(self)
+        (0, Some(self.holder.value.block.rest_len()))
     }
 }
