@@ -4,14 +4,11 @@
 //! In contracts, `OnOk result P` states that `P` holds if `result` is `Ok`, and `IfOk result P`
 //! states that `P` holds for the value in `Ok`. `OnErr` and `IfErr` do the same for `Err`. `T.row`
 //! describes the type `T`; it determines the size and the alignment of an item.
-ghost use Rattle.std.specs.Prelude.{◌≡◌, ◌↔◌, ◌+◌, ◌-◌, ◌<◌, ◌≤◌, ◌==◌, [], ◌∷◌, ◌++◌, IfErr, IsOk, IsSome, IsTrue, MatchOption, None, OnErr, OnOk, Some, length, slice_index_or};
-ghost use Rattle.std.specs.List.{SameBelow};
+ghost use Rattle.std.specs.Prelude.{◌≡◌, ◌↔◌, ◌+◌, ◌-◌, ◌<◌, ◌==◌, [], ◌∷◌, ◌++◌, IsSome, IsTrue, MatchOption, None, Some, length, slice_index_or};
 ghost use Rattle.std.specs.Option.{option_to_list};
 ghost use Rattle.thin_block.specs.Block.{IsAllocatedBy};
 ghost use Rattle.thin_block.specs.Capacity.{Fits};
-ghost use Rattle.thin_block.specs.Cost.{add_moves};
 ghost use Rattle.thin_block.specs.Slots.{IsPacked};
-ghost use Rattle.thin_vec.specs.List.Capacity.{CostsMoves, Grows, LacksRoom, PreservesList};
 
 mod append_split;
 mod capacity;
@@ -21,10 +18,10 @@ mod copies;
 mod extend;
 mod index;
 mod insert_remove;
+mod push;
 mod resize;
 mod shrink;
 
-use crate::errors::Rejected;
 use std::alloc::{Allocator, Global};
 use std::marker::{Model, PhantomData};
 use thin_block::{Block, Doubling, Growth, ThinVecError};
@@ -82,7 +79,7 @@ impl<T, A: Allocator, G: Growth> ThinVec<T, A, G> {
     ghost use types.Logic.{sem};
     ghost use Rattle.thin_block.specs.Slots.{packed_slots};
     ghost use Rattle.thin_vec.specs.Lends.{LendsItems};
-    ghost use Rattle.thin_vec.specs.ThinVec.{HasRoomFor, IsNew, IsBounded};
+    ghost use Rattle.thin_vec.specs.ThinVec.{IsNew, IsBounded};
 
     /// Returns an empty list of capacity 0 with the growth rule `G`. The list owns the allocator
     /// `alloc`. The call allocates nothing.
@@ -140,46 +137,6 @@ impl<T, A: Allocator, G: Growth> ThinVec<T, A, G> {
         self.capacity() != 0
     }
 
-    /// Appends `value`. If there is no spare capacity, the list first grows to the capacity that
-    /// the growth rule chooses.
-    ///
-    /// A push takes amortized constant time, because the growth rule at least doubles the capacity.
-    /// This is also true after calls to `reserve_exact`.
-    ///
-    /// # Errors
-    ///
-    /// Fails if and only if `reserve(1)` would fail, for the same cause. On failure, the list is
-    /// unchanged, and `value` is returned in the error.
-    pub fn push(&mut self, value: T) -> Result<(), Rejected<T>>
-        // On success. `len` follows from `items`, and is for callers' proofs.
-        ensures items { OnOk result (self.new.items ≡ self.old.items ++ value ∷ []) }
-        ensures len { OnOk result (length self.new.items ≡ length self.old.items + 1) }
-        ensures cost { OnOk result (CostsMoves 1 self.old self.new) }
-
-        // When it must succeed.
-        ensures succeeds { HasRoomFor self.old 1 → IsOk result }
-
-        // On failure, there was no room, and the list is unchanged.
-        ensures err { OnErr result (self.new ≡ self.old) }
-        ensures value_returned { IfErr result (λ error. error.value ≡ value) }
-        ensures cause { IfErr result (λ error. LacksRoom G.rule T.row self.old 1 error.cause) }
-
-        // In every case, the capacity changes as `reserve(1)` would change it.
-        ensures grows { Grows G.rule T.row 1 self.old self.new result }
-
-        // These follow, for callers' proofs.
-        ensures full { OnErr result (self.old.capacity ≤ length self.old.items) }
-        ensures by_index { SameBelow self.old.items self.new.items (length self.old.items)
-            × ((d : T) → IsOk result
-            → slice_index_or self.new.items (length self.old.items) d ≡ value) }
-    {
-        if let Err(cause) = self.reserve(1) {
-            return Err(Rejected { value, cause });
-        }
-        self.push_reserved(value);
-        Ok(())
-    }
-
     /// Returns the items, in order, as a slice.
     pub fn as_slice(&self) -> &[T]
         ensures value { result.now ≡ self.now.items }
@@ -200,22 +157,6 @@ impl<T, A: Allocator, G: Growth> ThinVec<T, A, G> {
     {
         let len = self.block.len();
         self.block.slice_mut(0, len)
-    }
-
-    /// Appends `value`, which the list then owns. The list must already have room for one more
-    /// item, for example after `reserve(1)`. The call cannot fail.
-    ///
-    /// The Rust crate thin-vec has no such method.
-    pub fn push_reserved(&mut self, value: T)
-        requires room { HasRoomFor self.old 1 }
-        ensures items { self.new.items ≡ self.old.items ++ value ∷ [] }
-        ensures len { length self.new.items ≡ length self.old.items + 1 }
-        ensures cost { self.new.cost ≡ add_moves 1 self.old.cost }
-        ensures capacity { self.new.capacity ≡ self.old.capacity }
-        ensures preserved { PreservesList T.row self.old self.new }
-    {
-        let len = self.block.len();
-        self.block.put_and_set_len(len, value, len + 1);
     }
 
     /// Removes the last item and returns it, or returns `None` if the list is empty. The capacity

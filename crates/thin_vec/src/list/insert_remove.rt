@@ -1,6 +1,6 @@
 //! The methods that insert or remove one item, and the methods `truncate` and `clear`, which can
 //! remove several items.
-ghost use Rattle.std.specs.Prelude.{◌≡◌, ◌+◌, ◌-◌, ◌<◌, ◌≤◌, ◌==◌, [], ◌∷◌, ◌++◌, IfErr, IfOk, IsErr, IsOk, None, OnErr, OnOk, Some, if◌then◌else◌, insert, length, remove, slice_get, take};
+ghost use Rattle.std.specs.Prelude.{◌≡◌, ◌+◌, ◌-◌, ◌<◌, ◌≤◌, ◌==◌, [], IfErr, IfOk, IsErr, IsOk, None, OnErr, OnOk, Some, if◌then◌else◌, insert, length, remove, slice_get, take};
 ghost use Rattle.std.specs.List.{swap_remove};
 ghost use Rattle.std.specs.List.Retain.{PopsIf};
 ghost use types.Logic.{sem};
@@ -66,40 +66,6 @@ impl<T, A: Allocator, G: Growth> ThinVec<T, A, G> {
         let len = self.block.len();
         self.block.move_run(index, index + 1, len - index);
         self.block.put_and_set_len(index, value, len + 1);
-    }
-
-    /// Appends `value`, which the list then owns. Returns a mutable reference to the new item.
-    /// Writing through the reference changes the item of the list. If there is no spare capacity,
-    /// the list first grows to the capacity that the growth rule chooses.
-    ///
-    /// Rust's `Vec` has a method of this name, but the Rust crate thin-vec does not.
-    ///
-    /// # Errors
-    ///
-    /// Fails if and only if `reserve(1)` would fail, for the same cause. On failure, the list is
-    /// unchanged, and the error holds `value`, which the caller owns again.
-    pub fn push_mut(&mut self, value: T) -> Result<&mut T, Rejected<T>>
-        // On success, the result borrows the appended item. When the borrow ends, the list contains
-        // the final value of this item. On failure, the list is unchanged.
-        ensures* writes_back { sem 𝓛
-            (LendsAdded T.row A.row G.row A.Allocator G.Growth self.entry
-            (λ x. self.old.items ++ x ∷ []) 1 result) }
-        ensures value { IfOk result (λ item. item.now ≡ value) }
-
-        // When it must succeed, and when it must fail: if no capacity can be chosen.
-        ensures succeeds { HasRoomFor self.old 1 → IsOk result }
-        ensures overflow { capacity_after_reserve G.rule T.row self.old 1 ≡ None → IsErr result }
-
-        // On failure.
-        ensures value_returned { IfErr result (λ error. error.value ≡ value) }
-        ensures cause { IfErr result (λ error. LacksRoom G.rule T.row self.old 1 error.cause) }
-
-        // In every case.
-        ensures bounds { IsBounded T.row self.old }
-    {
-        let len = self.len();
-        self.push(value)?;
-        Ok(&mut self[len])
     }
 
     /// Inserts `value` at `index`, which must be at most the length. The list then owns `value`.

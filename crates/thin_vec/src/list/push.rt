@@ -1,0 +1,106 @@
+//! The methods that append one item.
+ghost use Rattle.std.specs.Prelude.{◌≡◌, ◌+◌, ◌<◌, ◌≤◌, [], ◌∷◌, ◌++◌, IfErr, IfOk, IsErr, IsOk, None, OnErr, OnOk, length, slice_index_or};
+ghost use Rattle.std.specs.List.{SameBelow};
+ghost use Rattle.thin_block.specs.Cost.{add_moves};
+ghost use Rattle.thin_vec.specs.List.Capacity.{CostsMoves, Grows, LacksRoom, PreservesList};
+ghost use Rattle.thin_vec.specs.List.InsertRemove.{LendsAdded};
+ghost use types.Logic.{sem};
+
+use crate::errors::Rejected;
+use crate::list::ThinVec;
+use std::alloc::Allocator;
+use thin_block::{Growth, ThinVecError};
+
+impl<T, A: Allocator, G: Growth> ThinVec<T, A, G> {
+    ghost use Rattle.thin_vec.specs.ThinVec.{HasRoomFor, IsBounded, capacity_after_reserve};
+
+    /// Appends `value`. If there is no spare capacity, the list first grows to the capacity that
+    /// the growth rule chooses.
+    ///
+    /// A push takes amortized constant time, because the growth rule at least doubles the capacity.
+    /// This is also true after calls to `reserve_exact`.
+    ///
+    /// # Errors
+    ///
+    /// Fails if and only if `reserve(1)` would fail, for the same cause. On failure, the list is
+    /// unchanged, and `value` is returned in the error.
+    pub fn push(&mut self, value: T) -> Result<(), Rejected<T>>
+        // On success. `len` follows from `items`, and is for callers' proofs.
+        ensures items { OnOk result (self.new.items ≡ self.old.items ++ value ∷ []) }
+        ensures len { OnOk result (length self.new.items ≡ length self.old.items + 1) }
+        ensures cost { OnOk result (CostsMoves 1 self.old self.new) }
+
+        // When it must succeed.
+        ensures succeeds { HasRoomFor self.old 1 → IsOk result }
+
+        // On failure, there was no room, and the list is unchanged.
+        ensures err { OnErr result (self.new ≡ self.old) }
+        ensures value_returned { IfErr result (λ error. error.value ≡ value) }
+        ensures cause { IfErr result (λ error. LacksRoom G.rule T.row self.old 1 error.cause) }
+
+        // In every case, the capacity changes as `reserve(1)` would change it.
+        ensures grows { Grows G.rule T.row 1 self.old self.new result }
+
+        // These follow, for callers' proofs.
+        ensures full { OnErr result (self.old.capacity ≤ length self.old.items) }
+        ensures by_index { SameBelow self.old.items self.new.items (length self.old.items)
+            × ((d : T) → IsOk result
+            → slice_index_or self.new.items (length self.old.items) d ≡ value) }
+    {
+        if let Err(cause) = self.reserve(1) {
+            return Err(Rejected { value, cause });
+        }
+        self.push_reserved(value);
+        Ok(())
+    }
+
+    /// Appends `value`, which the list then owns. The list must already have room for one more
+    /// item, for example after `reserve(1)`. The call cannot fail.
+    ///
+    /// The Rust crate thin-vec has no such method.
+    pub fn push_reserved(&mut self, value: T)
+        requires room { HasRoomFor self.old 1 }
+        ensures items { self.new.items ≡ self.old.items ++ value ∷ [] }
+        ensures len { length self.new.items ≡ length self.old.items + 1 }
+        ensures cost { self.new.cost ≡ add_moves 1 self.old.cost }
+        ensures capacity { self.new.capacity ≡ self.old.capacity }
+        ensures preserved { PreservesList T.row self.old self.new }
+    {
+        let len = self.block.len();
+        self.block.put_and_set_len(len, value, len + 1);
+    }
+
+    /// Appends `value`, which the list then owns. Returns a mutable reference to the new item.
+    /// Writing through the reference changes the item of the list. If there is no spare capacity,
+    /// the list first grows to the capacity that the growth rule chooses.
+    ///
+    /// Rust's `Vec` has a method of this name, but the Rust crate thin-vec does not.
+    ///
+    /// # Errors
+    ///
+    /// Fails if and only if `reserve(1)` would fail, for the same cause. On failure, the list is
+    /// unchanged, and the error holds `value`, which the caller owns again.
+    pub fn push_mut(&mut self, value: T) -> Result<&mut T, Rejected<T>>
+        // On success, the result borrows the appended item. When the borrow ends, the list contains
+        // the final value of this item. On failure, the list is unchanged.
+        ensures* writes_back { sem 𝓛
+            (LendsAdded T.row A.row G.row A.Allocator G.Growth self.entry
+            (λ x. self.old.items ++ x ∷ []) 1 result) }
+        ensures value { IfOk result (λ item. item.now ≡ value) }
+
+        // When it must succeed, and when it must fail: if no capacity can be chosen.
+        ensures succeeds { HasRoomFor self.old 1 → IsOk result }
+        ensures overflow { capacity_after_reserve G.rule T.row self.old 1 ≡ None → IsErr result }
+
+        // On failure.
+        ensures value_returned { IfErr result (λ error. error.value ≡ value) }
+        ensures cause { IfErr result (λ error. LacksRoom G.rule T.row self.old 1 error.cause) }
+
+        // In every case.
+        ensures bounds { IsBounded T.row self.old }
+    {
+        let len = self.len();
+        self.push(value)?;
+        Ok(&mut self[len])
+    }
+}
