@@ -1,6 +1,6 @@
 -- These lemmas are about the functions that choose the new capacity of a block: `grown_capacity`,
 -- which uses a growth rule, and `exact_capacity`.
-use Rattle.std.proofs.Common.{if◌then◌else◌, Bool, true, false, IsTrue, ◌≡◌, ℕ, zero, suc, ◌*◌, ◌^◌, ◌<◌, ◌≤◌, ap, refl, subst, sym, ◌∙◌, arith}
+use Rattle.std.proofs.Common.{if◌then◌else◌, Bool, true, false, IsTrue, ◌≡◌, ℕ, zero, suc, ◌*◌, ◌^◌, ◌<◌, ◌≤◌, refl, sym, ◌∙◌, arith}
 use Rattle.std.specs.declared.option.Option.TheVariants.{Some, None}
 use borrow.Author.Tests.{lt-ltb, le-ltb, le-leb, lt-leb}
 use native.Mathlib.Nat.{mul-le-mul_left, mul-le-mul_right}
@@ -8,11 +8,9 @@ use native.Mathlib.Decide.{dec_lt}
 use denote.RattleType.{RattleType}
 use Rattle.std.specs.Mem.{type_size}
 use Rattle.std.specs.Align.{type_align}
-use Rattle.std.specs.Prelude.{◌==◌, max}
-use Rattle.std.proofs.lemmas.Bool.Decides.{nat_tests}
 use Rattle.core.proofs.ptr.Rows.{times_below}
-use Rattle.thin_block.specs.Capacity.{fits, min_non_zero_cap, Fits}
-use Rattle.thin_block.specs.Growth.{GrowsValidly, GrowthRule, IsLawful, doubling, exact_capacity, checked_capacity, grown_capacity}
+use Rattle.thin_block.specs.Capacity.{fits, Fits}
+use Rattle.thin_block.specs.Growth.{GrowsValidly, GrowthRule, IsLawful, exact_capacity, checked_capacity, grown_capacity}
 use Rattle.thin_block.proofs.sizes.SizesLemmas.{opened, closed, fits_none, fits_tells, fits_yes, rounded}
 
 pub ruled-same : (rule : GrowthRule) (R : RattleType) (c w : ℕ) → w ≤ c
@@ -75,29 +73,6 @@ small_fits R c few small =
     let bytes : c * type_size R < 2 ^ 62 = few_bytes c (type_size R) few small in
     let about = rounded R 0 in
     closed R c (fits_yes R c (omega arith) (omega (arith, about.most)))
-
-pub doubling_first : (R : RattleType) (c w : ℕ) → c ≡ 0 → 0 < w → w ≤ 4 → type_size R < 2 ^ 31
-    → grown_capacity doubling R c w ≡ Some 4
-unfolding doubling checked_capacity min_non_zero_cap
-doubling_first R c w none some few small =
-    let s : ℕ = type_size R in
-    let more : c < w = omega arith in
-    let four : max w (if c == 0 then min_non_zero_cap s else 2 * c) ≡ 4 =
-    grind (arith, nat_tests) in
-    let fit : fits s (type_align R) (max w (if c == 0 then min_non_zero_cap s else 2 * c)) ≡ true =
-    subst (Fits R) (sym four) (small_fits R 4 (omega arith) small) in
-    ruled-rule doubling R c w more (omega arith) ∙ (rw fit (ap Some four))
-
-pub doubling_next : (R : RattleType) (c w : ℕ) → 0 < c → c < w → w ≤ 2 * c → c < 2 ^ 30
-    → type_size R < 2 ^ 31 → grown_capacity doubling R c w ≡ Some (2 * c)
-unfolding doubling checked_capacity
-doubling_next R c w some more enough few small =
-    let s : ℕ = type_size R in
-    let twice : max w (if c == 0 then min_non_zero_cap s else 2 * c) ≡ 2 * c =
-    grind (arith, nat_tests) in
-    let fit : fits s (type_align R) (max w (if c == 0 then min_non_zero_cap s else 2 * c)) ≡ true =
-    subst (Fits R) (sym twice) (small_fits R (2 * c) (omega arith) small) in
-    ruled-rule doubling R c w more (omega arith) ∙ (rw fit (ap Some twice))
 
 pub exact-same : (R : RattleType) (c w : ℕ) → w ≤ c → exact_capacity R c w ≡ Some c
 unfolding exact_capacity

@@ -1,14 +1,11 @@
 -- These lemmas are about values of the types `Result` and `Option`. Both this crate and `thin_vec`
 -- use these lemmas.
-use Rattle.std.proofs.Common.{Err, None, Ok, Option, Result, Some, subst, ◌≡◌}
-use Rattle.std.specs.Prelude.{OnOk, OnSome}
+use Rattle.std.proofs.Common.{Err, None, Ok, Option, Result, Some, ◌≡◌}
+use Rattle.std.specs.Prelude.{OnOk}
 
 pub on-ok : {T E P Q : Type 0} (r : Result T E) → (P → Q) → OnOk r P → OnOk r Q
 on-ok (Ok x) h p = h p
 on-ok (Err e) h p = p
-
-pub at-some : {X P : Type 0} {o : Option X} {x : X} → o ≡ Some x → OnSome o P → P
-at-some {P = P} e p = subst (λ o. OnSome o P) e p
 
 pub ok-err : {X E P : Type 0} (x : X) (e : E) → Ok x ≡ Err e → P
 ok-err x e h = cc

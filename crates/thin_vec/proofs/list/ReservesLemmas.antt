@@ -55,20 +55,6 @@ tells-then named n (Err cause) is memory = record {
   );
 }
 
-pub grows-of : {T A X : Type 0} {rule : GrowthRule} {R : RattleType} {k : ℕ} {v w : ListView T A}
-    {r : Result X ThinVecError} → Reserves rule R k v w r → PreservesList R v w
-    → Grows rule R k v w r
-grows-of reserves keeps = record {
-  had_room = reserves.had_room;
-  ok = reserves.ok;
-  alloc = keeps.alloc;
-  never_less = keeps.never_less;
-  was_room = keeps.within.0.room;
-  room = keeps.within.1.room;
-  small = keeps.within.1.small;
-  allocatable = keeps.within.1.allocatable;
-}
-
 -- `PreservesList` is transitive.
 pub keeps-join : {T A : Type 0} {R : RattleType} {u v w : ListView T A} → PreservesList R u v
     → PreservesList R v w → PreservesList R u w

@@ -2,13 +2,13 @@
 -- and the items were kept or removed.
 use Rattle.std.proofs.Common.{◌≡◌, ℕ, ◌+◌, ◌<◌, ◌≤◌, Bool, true, false, List, [], ◌∷◌, ◌++◌, length, take, drop, refl, sym, ap, subst, ◌∙◌, arith, length-append, append_assoc}
 use Rattle.std.proofs.Math.Seq.{take-add}
-use Rattle.std.proofs.lemmas.List.{append-nil, drop-drop, drop_at, length-drop, length-take-le, nil_from_length, take-append-drop, take_at}
+use Rattle.std.proofs.lemmas.List.{append-nil, drop-drop, drop_at, length-take-le, nil_from_length, take-append-drop, take_at}
 use Rattle.thin_block.specs.Cost.{add_moves}
 use Rattle.thin_vec.specs.Edits.Retain.{TestResults, TestsInTurn, flags_of, items_where, moves_of_retain, all_kept, count_true}
 use Rattle.thin_vec.specs.Open.{OpenView}
 use Rattle.thin_vec.specs.OpenBlock.Retain.{SeeksRejected, TestsAt, RetainsRest, TestsUpTo, RetainsSome}
 use Rattle.thin_vec.proofs.RetainLemmas.{items_where-append, items_where-stay, moves_of_retain-stay, moving-after, moving-more, moving-none, count_true-append, count_true-stay}
-use Rattle.thin_vec.proofs.open_block.TestLemmas.{Part, Stays, asked-append, part-ends, part-goes, runs-count, stays-goes, stays-more, stays-start}
+use Rattle.thin_vec.proofs.open_block.TestLemmas.{Part, Stays, asked-append, part-ends, part-goes, stays-goes, stays-more, stays-start}
 
 module _ {S T : Type 0} (R : S → T → Bool → S → T → Type 0) where
   module _ {A : Type 0} (v w : OpenView T A) where
@@ -64,14 +64,6 @@ module _ {S T : Type 0} (R : S → T → Bool → S → T → Type 0) where
         (part-ends R h.count s v.rest t h.left h.run (sym (ap (λ u. u.rest) h.now) ∙ none)))
         (omega (arith, ap (λ u. u.gap) h.now, gap))
         (λ i. record (h.now i) { gap = w.gap; rest = w.rest; cost = moved i })
-
-    pub advanced-count : length w.rest ≤ length v.rest
-    advanced-count = omega (
-      arith,
-      ap (λ u. length u.rest) h.now,
-      length-drop h.count h.left,
-      runs-count R h.count s v.rest t h.left h.run,
-    )
 
   asked-later : (n : ℕ) (t : S) (ys : List T) (b : Bool) (u : S) (zs : List T) → n ≤ length ys
       → TestsAt R 0 t (drop n ys) b u zs → TestsAt R n t ys b u (take n ys ++ zs)

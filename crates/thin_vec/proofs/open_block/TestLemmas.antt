@@ -1,6 +1,6 @@
 -- These lemmas state which items of a list are kept when a closure tests them one after the other.
 -- `R` describes the calls to the closure, and `s`, `t` and `u` are its states.
-use Rattle.std.proofs.Common.{◌≡◌, ℕ, suc, ◌+◌, Bool, true, false, List, [], ◌∷◌, ◌++◌, length, take, drop, refl, sym, ap, subst, ◌∙◌, arith, length-append, append_assoc}
+use Rattle.std.proofs.Common.{◌≡◌, ℕ, ◌+◌, Bool, true, false, List, [], ◌∷◌, ◌++◌, length, take, drop, refl, sym, ap, subst, ◌∙◌, arith, length-append, append_assoc}
 use Rattle.std.proofs.lemmas.List.{append-nil, drop_at, map_push, take_at}
 use Rattle.thin_vec.specs.Edits.Retain.{TestResults, TestsInTurn, flags_of, items_where, all_kept, count_true}
 use Rattle.thin_vec.specs.OpenBlock.Retain.{TestsAt, TestsUpTo, IsRejectedFirst}
@@ -99,33 +99,6 @@ module _ {S T : Type 0} (R : S → T → Bool → S → T → Type 0) where
           stops = (a.left, a.asked, refl);
           now = next-now false u zs a;
         }
-
-  stay-count : (xs : List T) (s t : S) (ys : List T) → TestsInTurn R s xs (all_kept ys) t
-      → length xs ≡ length ys
-  stay-count [] s t [] h = refl
-  stay-count [] s t (y ∷ ys) h = absurd (cons-not-nil h.0)
-  stay-count (x ∷ xs) s t [] h = absurd (cons-not-nil (sym h.6))
-  stay-count (x ∷ xs) s t (y ∷ ys) h =
-      ap suc (stay-count xs h.2 t ys
-      (subst (λ (a : TestResults T). TestsInTurn R h.2 xs a t) (sym (cons-tail h.6)) h.5))
-
-  stop-count : (u : S) (b : List T) (t : S) (e : List T) → IsRejectedFirst R u b t e
-      → length e ≡ length b
-  stop-count u [] t e h = ap length h.0
-  stop-count u (x ∷ b) t e h = ap length h.2
-
-  pub runs-count : (m : ℕ) (s : S) (xs : List T) (t : S) (ys : List T) → TestsUpTo R m s xs t ys
-      → length ys ≡ length xs
-  runs-count m s xs t ys r =
-      omega (
-        arith,
-        ap length r.was,
-        ap length r.now,
-        length-append r.run r.after,
-        length-append r.left r.end,
-        stay-count r.run s r.between r.left r.asked,
-        stop-count r.between r.after t r.end r.stops,
-      )
 
   -- The following definition and lemmas are about tests that stop at the first item to be removed.
 
