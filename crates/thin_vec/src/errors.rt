@@ -21,14 +21,14 @@ pub struct Rejected<S> {
     pub cause: ThinVecError,
 }
 
-/// The error of `extend`. The items that were appended before the failure stay in the list.
+/// The error of `extend`.
 #[derive(Drop, Error)]
 #[error("{cause}")]
 pub struct ExtendRefused<T, I> {
     /// Why the call failed.
     pub cause: ThinVecError,
-    /// The item that the list had no room for. It is `None` if the call took no item, because it
-    /// could not reserve room for the lower bound of the size hint.
+    /// The item that the list had no room for. It is `None` if the call could not reserve room for
+    /// the lower bound of the size hint.
     pub in_hand: Option<T>,
     /// The iterator, which yields the items that were not taken.
     pub rest: I,
@@ -43,14 +43,13 @@ pub struct CollectRefused<T, I, A: Allocator = Global> {
     pub list: ThinVec<T, A>,
     /// Why the call failed.
     pub cause: ThinVecError,
-    /// The item that the list had no room for, as in `ExtendRefused`.
+    /// As in `ExtendRefused`.
     pub in_hand: Option<T>,
-    /// The iterator, which yields the items that were not taken.
+    /// As in `ExtendRefused`.
     pub rest: I,
 }
 
-/// The error of `Splice::finish`. The items that were moved into the list before the failure stay
-/// in the list.
+/// The error of `Splice::finish`.
 #[derive(Drop, Error)]
 #[error("{cause}")]
 pub struct SpliceRefused<T, I, A: Allocator = Global> {
@@ -60,16 +59,16 @@ pub struct SpliceRefused<T, I, A: Allocator = Global> {
     /// uses the allocator that was passed to `finish`; this is tested, since no contract of `Vec`
     /// names the allocator.
     pub held: Vec<T, A>,
-    /// The last item taken from the iterator, for which there was no room. It follows the items in
-    /// `held`. It is `None` if the call could not reserve room for several items at once.
+    /// The item after those in `held`, for which there was no room. It is `None` if the call could
+    /// not reserve room for several items at once.
     pub in_hand: Option<T>,
     /// The iterator, which yields the items that were not taken. If `held` contains items and
     /// `in_hand` is `None`, the iterator has ended, and `next` must not be called on it.
     pub rest: I,
 }
 
-// The conversions drop what the error holds. They are written out, because their contracts name the
-// cause, and because `rt ci` refuses an `impl` that a macro of this repository writes.
+// The conversions drop what the error holds. They are written out, because `rt ci` refuses an
+// `impl` that a macro of this repository writes.
 impl<S: Drop> From<Rejected<S>> for ThinVecError {
     ghost from_gives = { λ refused cause. cause ≡ refused.cause };
 

@@ -1,6 +1,6 @@
 //! A growable list that is one pointer wide: its length and its capacity are stored in its
-//! allocation, before the items. It is a port of the Rust crate thin-vec. If a method does not
-//! exist in thin-vec, its documentation says so.
+//! allocation, before the items. It is a port of the Rust crate thin-vec. `docs/FROM_RUST.md` lists
+//! the differences.
 #![tactic(auto)]
 
 mod convert;

@@ -1,9 +1,5 @@
-//! This file declares the type `ThinVec`, says how contracts describe a list, and contains the most
-//! common methods. The other public methods are in the folders `list`, `convert` and `edits`.
-//!
-//! In contracts, `OnOk result P` states that `P` holds if `result` is `Ok`, and `IfOk result P`
-//! states that `P` holds for the value in `Ok`. `OnErr` and `IfErr` do the same for `Err`. `T.row`
-//! describes the type `T`; it determines the size and the alignment of an item.
+//! The type `ThinVec` and its most common methods. The folders `list`, `convert` and `edits` have
+//! the others. `docs/CONTRACTS.md` explains the notation of the contracts.
 ghost use Rattle.std.specs.Prelude.{◌≡◌, ◌↔◌, ◌+◌, ◌-◌, ◌<◌, ◌==◌, [], ◌∷◌, ◌++◌, IsSome, IsTrue, MatchOption, None, Some, length, slice_index_or};
 ghost use Rattle.std.specs.Option.{option_to_list};
 ghost use Rattle.thin_block.specs.Block.{IsAllocatedBy};
@@ -33,8 +29,8 @@ use thin_block::{Block, Doubling, Growth, ThinVecError};
 /// The list owns its items, its block and its allocator. Dropping the list drops its items and
 /// frees its block.
 ///
-/// The growth rule `G` chooses the new capacity if the list has no room for new items. The default
-/// `Doubling` is the rule of the Rust crate thin-vec.
+/// The growth rule `G` chooses the new capacity when the list has to grow. The default, `Doubling`,
+/// is the rule of the Rust crate thin-vec.
 pub struct ThinVec<T, A: Allocator = Global, G: Growth = Doubling> {
     pub(crate) block: Block<T, A>,
     pub(crate) alloc: A,
@@ -56,8 +52,7 @@ impl<T, A: Allocator, G: Growth> Model for ThinVec<T, A, G> {
 impl<T, A: Allocator> ThinVec<T, A> {
     ghost use Rattle.thin_vec.specs.ThinVec.{IsNew, IsBounded};
 
-    /// Returns an empty list of capacity 0, which owns the allocator `alloc`. The call allocates
-    /// nothing. The growth rule of the list is `Doubling`.
+    /// Returns an empty list that owns the allocator `alloc`. The call allocates nothing.
     pub fn new(alloc: A) -> ThinVec<T, A>
         ensures new { IsNew result alloc }
         ensures bounds { IsBounded T.row result }
@@ -65,8 +60,8 @@ impl<T, A: Allocator> ThinVec<T, A> {
         ThinVec::ruled(alloc)
     }
 
-    /// Returns an empty list of capacity 0, like `new`. The list owns the allocator `alloc`. Use
-    /// this method in place of the trait `Default`, whose method takes no allocator.
+    /// Does the same as `new`. Use it in place of the trait `Default`, whose method takes no
+    /// allocator.
     pub fn default_in(alloc: A) -> ThinVec<T, A>
         ensures new { IsNew result alloc }
         ensures bounds { IsBounded T.row result }
@@ -81,10 +76,7 @@ impl<T, A: Allocator, G: Growth> ThinVec<T, A, G> {
     ghost use Rattle.thin_vec.specs.Lends.{LendsItems};
     ghost use Rattle.thin_vec.specs.ThinVec.{IsNew, IsBounded};
 
-    /// Returns an empty list of capacity 0 with the growth rule `G`. The list owns the allocator
-    /// `alloc`. The call allocates nothing.
-    ///
-    /// The Rust crate thin-vec has no such method, because it has a single growth rule.
+    /// Does the same as `new`, for a list with the growth rule `G`.
     pub fn ruled(alloc: A) -> ThinVec<T, A, G>
         ensures new { IsNew result alloc }
         ensures bounds { IsBounded T.row result }
@@ -106,8 +98,6 @@ impl<T, A: Allocator, G: Growth> ThinVec<T, A, G> {
     }
 
     /// Returns a reference to the allocator of the list.
-    ///
-    /// The Rust crate thin-vec has no such method, because its lists do not store an allocator.
     pub fn allocator(&self) -> &A
         ensures value { result.now ≡ self.now.alloc }
     {
@@ -146,8 +136,7 @@ impl<T, A: Allocator, G: Growth> ThinVec<T, A, G> {
         self.block.slice(0, self.block.len())
     }
 
-    /// Returns the items, in order, as a mutable slice. Writing to the slice changes the items of
-    /// the list.
+    /// Returns the items, in order, as a mutable slice.
     pub fn as_mut_slice(&mut self) -> &mut [T]
         ensures* writes_back { sem 𝓛
             (LendsItems T.row A.row G.row A.Allocator G.Growth self.entry result) }
@@ -159,8 +148,7 @@ impl<T, A: Allocator, G: Growth> ThinVec<T, A, G> {
         self.block.slice_mut(0, len)
     }
 
-    /// Removes the last item and returns it, or returns `None` if the list is empty. The capacity
-    /// does not change.
+    /// Removes the last item and returns it, or returns `None` if the list is empty.
     pub fn pop(&mut self) -> Option<T>
         ensures variant { IsSome result ↔ (0 < length self.old.items) }
         ensures value { (d : T) → 0 < length self.old.items
@@ -179,7 +167,7 @@ impl<T, A: Allocator, G: Growth> ThinVec<T, A, G> {
         Some(self.pop_last())
     }
 
-    // Removes the last item and returns it. The list must not be empty.
+    // Removes the last item and returns it.
     pub(crate) fn pop_last(&mut self) -> T
         requires nonempty { 0 < length self.old.items }
         ensures items { self.old.items ≡ self.new.items ++ result ∷ [] }
@@ -191,8 +179,7 @@ impl<T, A: Allocator, G: Growth> ThinVec<T, A, G> {
         value
     }
 
-    // Splits the list into its block and its allocator, and returns both. The caller then owns the
-    // block, the items in the block, and the allocator.
+    // Splits the list into its block, which owns the items, and its allocator.
     pub(crate) fn into_parts(self) -> (Block<T, A>, A)
         ensures slots { result.0.slots ≡ packed_slots self.items self.capacity }
         ensures len { result.0.len ≡ length self.items }
@@ -208,7 +195,7 @@ impl<T, A: Allocator, G: Growth> ThinVec<T, A, G> {
         (block, alloc)
     }
 
-    // Consumes an empty list, and frees its block.
+    // Frees the block of an empty list.
     pub(crate) fn release(self)
         requires is_empty { self.items ≡ [] }
     {
@@ -222,8 +209,6 @@ impl<T, A: Allocator, G: Growth> ThinVec<T, A, G> {
 }
 
 impl<T: Drop, A: Allocator, G: Growth> Drop for ThinVec<T, A, G> {
-    // If the list has a block, drops the items and frees the block. The stored length is not
-    // updated, because the block is freed anyway.
     #[inline(always)]
     fn drop(self) {
         let (block, alloc) = self.into_parts();
@@ -235,8 +220,8 @@ impl<T: Drop, A: Allocator, G: Growth> Drop for ThinVec<T, A, G> {
     }
 }
 
-// Drops the items in the block of a list, and then frees the block. The loop is not part of `drop`,
-// which is inlined, so that it is compiled only once for each type of list.
+// Drops the items, and then frees the block. `drop` is inlined, so this loop is a function of its
+// own, which is compiled only once for each type of list.
 #[inline(never)]
 fn drop_block<T: Drop, A: Allocator>(mut block: Block<T, A>, alloc: A)
     requires packed { IsPacked block.slots block.len }

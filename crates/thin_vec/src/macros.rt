@@ -1,5 +1,4 @@
-//! The macro `thin_vec!`, which makes a list of its arguments, and the function that its third form
-//! calls.
+//! The macro `thin_vec!`, which makes a list of its arguments.
 ghost use Rattle.std.specs.Prelude.{◌≡◌, [], IfOk, IsOk, Some, replicate};
 ghost use Rattle.thin_block.specs.Cost.{add_moves};
 ghost use Rattle.thin_block.specs.Growth.{doubling, grown_capacity};
@@ -73,10 +72,6 @@ macro_rules! count_items {
 }
 
 /// Makes the list for `thin_vec![alloc => value; count]`.
-///
-/// # Errors
-///
-/// Fails as the macro does.
 #[doc(hidden)]
 pub fn repeated<T: Clone, A: Allocator>(
     alloc: A,

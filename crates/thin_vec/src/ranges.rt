@@ -6,8 +6,8 @@ ghost use Rattle.thin_vec.specs.Ranges.{range_between};
 use std::ops::Bound;
 
 /// Returns the inclusive start and the exclusive end of the range with the bounds `start` and
-/// `end`, for a list of length `len`. Returns `None` where Rust's `slice::range` panics: if the
-/// start is greater than the end, or the end greater than `len`.
+/// `end`, for a list of length `len`. Returns `None` if the start is greater than the end, or the
+/// end greater than `len`.
 pub fn bounds(start: Bound<usize>, end: Bound<usize>, len: usize) -> Option<(usize, usize)>
     ensures value { result ≡ range_between start end len }
     ensures start_le_end { IfSome result (λ range. range.0 ≤ range.1) }

@@ -19,8 +19,7 @@ impl<A: Allocator, G: Growth> Write for ThinVec<u8, A, G> {
     ///
     /// # Errors
     ///
-    /// Fails as `reserve` does. The kind of the error is always `OutOfMemory`, because std has no
-    /// `ErrorKind` for a capacity overflow.
+    /// Fails as `reserve` does, always with the kind `OutOfMemory`.
     fn write(&mut self, buf: &[u8]) -> io::Result<usize>
         // On success.
         ensures value { IfOk result (λ count. count ≡ length buf.now) }
@@ -47,7 +46,6 @@ impl<A: Allocator, G: Growth> Write for ThinVec<u8, A, G> {
         Ok(buf.len())
     }
 
-    /// Does the same as `write`.
     fn write_all(&mut self, buf: &[u8]) -> io::Result<()>
         // On success.
         ensures items { OnOk result (self.new.items ≡ self.old.items ++ buf.now) }
@@ -77,7 +75,6 @@ impl<A: Allocator, G: Growth> Write for ThinVec<u8, A, G> {
         Ok(())
     }
 
-    /// Does nothing, because every byte that was written is already in the list.
     fn flush(&mut self) -> io::Result<()>
         ensures succeeds { IsOk result }
         ensures changes { self.new ≡ self.old }

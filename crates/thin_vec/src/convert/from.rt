@@ -23,8 +23,7 @@ impl<T, A: Allocator> ThinVec<T, A> {
     ///
     /// # Errors
     ///
-    /// Fails as `with_capacity` does. The error returns the array to the caller, and `alloc` is
-    /// dropped.
+    /// Fails as `with_capacity` does, and returns the array in the error.
     pub fn from_array<const N: usize>(
         alloc: A,
         items: [T; N],
@@ -60,8 +59,7 @@ impl<T, A: Allocator> ThinVec<T, A> {
     ///
     /// # Errors
     ///
-    /// Fails as `with_capacity` does. The error returns the vector to the caller, and `alloc` is
-    /// dropped.
+    /// Fails as `with_capacity` does, and returns the vector in the error.
     pub fn from_vec<B: Allocator>(
         alloc: A,
         items: Vec<T, B>,
@@ -98,8 +96,7 @@ impl<T, A: Allocator> ThinVec<T, A> {
     ///
     /// # Errors
     ///
-    /// Fails as `with_capacity` does. The error returns the boxed slice to the caller, and `alloc`
-    /// is dropped.
+    /// Fails as `with_capacity` does, and returns the boxed slice in the error.
     pub fn from_boxed_slice<B: Allocator>(
         alloc: A,
         items: BoxedSlice<T, B>,
@@ -154,7 +151,7 @@ impl<T: Copy, A: Allocator> ThinVec<T, A> {
     ///
     /// # Errors
     ///
-    /// Fails as `with_capacity` does. On failure, `alloc` is dropped.
+    /// Fails as `with_capacity` does.
     pub fn from_copies(alloc: A, items: &[T]) -> Result<ThinVec<T, A>, ThinVecError>
         // On success.
         ensures items { IfOk result (λ list. list.items ≡ items.now) }
@@ -187,7 +184,7 @@ impl<A: Allocator> ThinVec<u8, A> {
     ///
     /// # Errors
     ///
-    /// Fails as `with_capacity` does. On failure, `alloc` is dropped.
+    /// Fails as `with_capacity` does.
     pub fn from_str(alloc: A, text: &str) -> Result<ThinVec<u8, A>, ThinVecError>
         // On success.
         ensures items { IfOk result (λ list. list.items ≡ text.now) }

@@ -48,8 +48,7 @@ impl<T, A: Allocator, G: Growth> ThinVec<T, A, G> {
         Ok(vec)
     }
 
-    /// Moves the items of the list into a new boxed slice with the allocator `alloc`, and frees the
-    /// allocation of the list.
+    /// Moves the items of the list into a new boxed slice, like `into_vec`.
     ///
     /// # Errors
     ///
@@ -70,7 +69,7 @@ impl<T, A: Allocator, G: Growth> ThinVec<T, A, G> {
         Ok(self.into_vec(alloc)?.into_boxed_slice())
     }
 
-    /// If the list has exactly `N` items, moves them into an array, and frees the allocation of the
+    /// Moves the items into an array, if there are exactly `N`, and frees the allocation of the
     /// list.
     ///
     /// If `T` is a type parameter of the caller, the caller needs the precondition of `from_array`.
@@ -78,7 +77,7 @@ impl<T, A: Allocator, G: Growth> ThinVec<T, A, G> {
     ///
     /// # Errors
     ///
-    /// Fails if the number of items is not `N`. The error is the list, which the caller owns again.
+    /// Fails if the number of items is not `N`, and returns the list as the error.
     pub fn into_array<const N: usize>(self) -> Result<[T; N], ThinVec<T, A, G>>
         // On success.
         ensures items { IfOk result (λ items. items ≡ self.items) }

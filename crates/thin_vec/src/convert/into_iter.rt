@@ -15,12 +15,12 @@ use std::iter::FusedIterator;
 use std::marker::{Model, PhantomData};
 use thin_block::{Block, Doubling, Growth, ThinVecError};
 
-/// An iterator that yields the items of a list from either end. It owns the items that have not
-/// been yielded yet, the allocation and the allocator of the list. Dropping the iterator drops
-/// those items, and frees the allocation.
+/// An iterator that yields the items of a list from either end. It owns the remaining items, the
+/// allocation and the allocator of the list. Dropping the iterator drops the remaining items, and
+/// frees the allocation.
 ///
 /// Contracts describe an `IntoIter` by the same fields as a list. The field `items` contains the
-/// items that have not been yielded yet.
+/// remaining items.
 pub struct IntoIter<T, A: Allocator = Global, G: Growth = Doubling> {
     // The items are in the slots `start..end`. The length that the block stores is not used.
     block: Block<T, A>,
@@ -44,8 +44,8 @@ impl<T, A: Allocator, G: Growth> Model for IntoIter<T, A, G> {
 }
 
 impl<T, A: Allocator, G: Growth> ThinVec<T, A, G> {
-    /// Converts the list into an iterator that yields its items from either end, and owns them. The
-    /// call allocates nothing, and moves no item.
+    /// Converts the list into an iterator that yields its items from either end. The call allocates
+    /// nothing, and moves no item.
     pub fn into_iter(self) -> IntoIter<T, A, G>
         ensures value { result ≡ self }
         ensures bounds { length self.items < 2 ^ 64 }
@@ -81,14 +81,14 @@ impl<T, A: Allocator, G: Growth> IntoIter<T, A, G> {
     ghost use types.Logic.{sem};
     ghost use Rattle.thin_vec.specs.Lends.{LendsRest};
 
-    /// Returns the number of items that have not been yielded yet.
+    /// Returns the number of remaining items.
     pub fn len(&self) -> usize
         ensures value { result ≡ length self.now.items }
     {
         self.end - self.start
     }
 
-    /// Returns the number of items that have not been yielded yet, as both bounds.
+    /// Returns the number of remaining items, as both bounds.
     pub fn size_hint(&self) -> (usize, Option<usize>)
         ensures value { result ≡ (length self.now.items, Some (length self.now.items)) }
     {
@@ -96,7 +96,7 @@ impl<T, A: Allocator, G: Growth> IntoIter<T, A, G> {
         (len, Some(len))
     }
 
-    /// Yields the first item that has not been yielded yet, or returns `None` if there is none.
+    /// Yields the first remaining item, or returns `None` if there is none.
     pub fn next(&mut self) -> Option<T>
         ensures variant { IsSome result ↔ (0 < length self.old.items) }
         ensures items { self.old.items ≡ option_to_list result ++ self.new.items }
@@ -108,7 +108,7 @@ impl<T, A: Allocator, G: Growth> IntoIter<T, A, G> {
         Some(self.take_first())
     }
 
-    /// Yields the last item that has not been yielded yet, or returns `None` if there is none.
+    /// Yields the last remaining item, or returns `None` if there is none.
     pub fn next_back(&mut self) -> Option<T>
         ensures steps { YieldsLast into_iter_items self.old result self.new }
         ensures changes { self.new ≡ record self.old { items = self.new.items } }
@@ -140,15 +140,14 @@ impl<T, A: Allocator, G: Growth> IntoIter<T, A, G> {
         self.block.take(self.end)
     }
 
-    /// Returns the items that have not been yielded yet, in order, as a slice.
+    /// Returns the remaining items, in order, as a slice.
     pub fn as_slice(&self) -> &[T]
         ensures value { result.now ≡ self.now.items }
     {
         self.block.slice(self.start, self.end)
     }
 
-    /// Returns the items that have not been yielded yet, in order, as a mutable slice. If the
-    /// caller changes an item, the iterator yields the changed item.
+    /// Returns the remaining items, in order, as a mutable slice.
     pub fn as_mut_slice(&mut self) -> &mut [T]
         ensures* writes_back { sem 𝓛
             (LendsRest T.row A.row G.row A.Allocator G.Growth self.entry result) }
@@ -176,12 +175,12 @@ impl<T: Clone, A: Allocator, G: Growth> IntoIter<T, A, G> {
     ghost use Rattle.thin_vec.specs.Cheap.{IsCheap};
     ghost use Rattle.thin_vec.specs.ThinVec.{cost_of_new};
 
-    /// Makes an iterator that yields clones of the items that have not been yielded yet.
+    /// Makes an iterator that yields clones of the remaining items.
     ///
     /// # Errors
     ///
     /// Fails with `OutOfMemory` if `alloc` fails, or if an item cannot be cloned. On failure,
-    /// `alloc` and the clones are dropped.
+    /// `alloc` and all clones are dropped.
     pub fn clone(&self, alloc: A) -> Result<IntoIter<T, A, G>, ThinVecError>
         // On success.
         ensures items { IfOk result (λ it. AllZip T.is_clone self.now.items it.items) }

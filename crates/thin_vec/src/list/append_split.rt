@@ -12,13 +12,11 @@ impl<T, A: Allocator, G: Growth> ThinVec<T, A, G> {
     ghost use Rattle.thin_vec.specs.ThinVec.{HasRoomFor, IsBounded, cost_of_new};
 
     /// Moves all items of `other` to the end of this list, in order. After the call, `other` is
-    /// empty, and keeps its capacity. If there is not enough spare capacity, this list first grows
-    /// to the capacity that the growth rule chooses.
+    /// empty, and keeps its capacity.
     ///
     /// # Errors
     ///
-    /// Fails if and only if `reserve(other.len())` would fail, for the same cause. On failure, both
-    /// lists are unchanged.
+    /// Fails if and only if `reserve(other.len())` would fail, for the same cause.
     pub fn append(&mut self, other: &mut ThinVec<T, A, G>) -> Result<(), ThinVecError>
         // On success.
         ensures items { OnOk result (self.new.items ≡ self.old.items ++ other.old.items) }
@@ -32,7 +30,7 @@ impl<T, A: Allocator, G: Growth> ThinVec<T, A, G> {
         ensures err { OnErr result (self.new ≡ self.old) }
         ensures other_err { OnErr result (other.new ≡ other.old) }
 
-        // In every case, the capacity changes as `reserve(other.len())` would change it.
+        // In every case.
         ensures capacity { Reserves G.rule T.row (length other.old.items) self.old self.new result }
         ensures preserved { PreservesList T.row self.old self.new }
         ensures other_bounds { IsBounded T.row other.old × IsBounded T.row other.new }
@@ -45,15 +43,12 @@ impl<T, A: Allocator, G: Growth> ThinVec<T, A, G> {
         Ok(())
     }
 
-    /// Moves the items at the indices `at..self.len()` to a new list, in order, and returns the new
-    /// list. The new list uses the allocator `alloc`, and its capacity is exactly the number of
-    /// these items. This list keeps its first `at` items and its capacity. If `at` is the length,
-    /// the call allocates nothing.
+    /// Moves the items from index `at` onward to a new list, which owns `alloc` and has no spare
+    /// capacity. This list keeps its capacity.
     ///
     /// # Errors
     ///
-    /// Fails with `OutOfMemory` if `alloc` cannot allocate the memory. On failure, the list is
-    /// unchanged, and `alloc` is dropped.
+    /// Fails with `OutOfMemory` if `alloc` fails, and then drops `alloc`.
     pub fn split_off(&mut self, alloc: A, at: usize) -> Result<ThinVec<T, A, G>, ThinVecError>
         requires in_bounds { at ≤ length self.old.items }
 
@@ -68,7 +63,7 @@ impl<T, A: Allocator, G: Growth> ThinVec<T, A, G> {
         // When it must succeed.
         ensures succeeds { at ≡ length self.old.items → IsOk result }
 
-        // On failure, the cause is `OutOfMemory`, and the list is unchanged.
+        // On failure, the list is unchanged.
         ensures cause { IfErr result (λ cause. cause ≡ ThinVecError.OutOfMemory) }
         ensures err { OnErr result (self.new ≡ self.old) }
 
@@ -81,11 +76,8 @@ impl<T, A: Allocator, G: Growth> ThinVec<T, A, G> {
         Ok(tail)
     }
 
-    /// Moves all items of `other` to the end of this list, in order. This list must already have
-    /// room for them, for example after `reserve`. The call cannot fail. `other` becomes empty, and
-    /// keeps its capacity.
-    ///
-    /// Neither Rust's `Vec` nor the Rust crate thin-vec has such a method.
+    /// Moves all items of `other` to the end of this list, like `append`. This list must have room
+    /// for them, for example after `reserve`.
     pub fn append_reserved(&mut self, other: &mut ThinVec<T, A, G>)
         requires room { HasRoomFor self.old (length other.old.items) }
         ensures items { self.new.items ≡ self.old.items ++ other.old.items }
@@ -98,8 +90,7 @@ impl<T, A: Allocator, G: Growth> ThinVec<T, A, G> {
         self.append_from(other, 0);
     }
 
-    // Appends the items at index `start` and after it of `other` to this list, and removes them
-    // from `other`. This list must have room for these items.
+    // Moves the items of `other` from index `start` onward to the end of this list.
     fn append_from(&mut self, other: &mut ThinVec<T, A, G>, start: usize)
         requires in_bounds { start ≤ length other.old.items }
         requires room { HasRoomFor self.old (length other.old.items - start) }

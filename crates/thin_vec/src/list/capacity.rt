@@ -16,21 +16,15 @@ impl<T, A: Allocator, G: Growth> ThinVec<T, A, G> {
 
     /// Reserves room for at least `additional` more items. If there is not enough room, the list
     /// grows to the capacity that the growth rule chooses, which is at least twice the old
-    /// capacity. Otherwise, nothing changes.
-    ///
-    /// When a list grows, its block may be moved to another address. In this case, every item is
-    /// copied.
+    /// capacity. If the block moves to another address, every item is copied.
     ///
     /// # Errors
     ///
-    /// Fails only if there is not enough room. On failure, the list is unchanged.
+    /// Fails only if there is not enough room.
     ///
-    /// - `CapacityOverflow`: the growth rule chooses no capacity, because the new capacity would be
-    ///   too large.
+    /// - `CapacityOverflow`: the new capacity would exceed `isize::MAX`, or its block would take
+    ///   more than `isize::MAX` bytes.
     /// - `OutOfMemory`: the allocator failed.
-    ///
-    /// A capacity is too large if it exceeds `isize::MAX`, or if its block would take more than
-    /// `isize::MAX` bytes.
     pub fn reserve(&mut self, additional: usize) -> Result<(), ThinVecError>
         // On success.
         ensures ok { OnOk result (HasRoomFor self.new additional) }
@@ -54,18 +48,13 @@ impl<T, A: Allocator, G: Growth> ThinVec<T, A, G> {
         self.grow_for(additional)
     }
 
-    /// Reserves room for exactly `additional` more items. If there is not enough room, the list
-    /// grows, and the new capacity is the length plus `additional`. Otherwise, nothing changes.
-    ///
-    /// If a list grows only through this method, each call may copy all items of the list. The
-    /// method `reserve` avoids this: whenever it grows the list, it at least doubles the capacity.
+    /// Reserves room for `additional` more items. If there is not enough room, the new capacity is
+    /// exactly the length plus `additional`. Prefer `reserve` if the list will grow again, because
+    /// each growth may copy all items.
     ///
     /// # Errors
     ///
-    /// Fails only if there is not enough room. On failure, the list is unchanged.
-    ///
-    /// - `CapacityOverflow`: the length plus `additional` is too large for a capacity.
-    /// - `OutOfMemory`: the allocator failed.
+    /// Fails only if there is not enough room, for the causes of `reserve`.
     #[tactic(auto, using(thin_block::proofs::CapacityLemmas::exact))]
     pub fn reserve_exact(&mut self, additional: usize) -> Result<(), ThinVecError>
         // On success.
@@ -98,9 +87,8 @@ impl<T, A: Allocator, G: Growth> ThinVec<T, A, G> {
         }
     }
 
-    // Reserves room for at least `additional` more items, with the same contract as `reserve`. If
-    // `additional` is a constant, this test for room compiles to one instruction less than the test
-    // of `reserve`, because the sum is the new length. Otherwise, it compiles to more instructions.
+    // Does the same as `reserve`. If `additional` is a constant, this test for room compiles to one
+    // instruction less, because the sum is the new length. Otherwise, it compiles to more.
     #[tactic(auto, using(thin_block::proofs::CapacityLemmas::ruled))]
     pub(crate) fn reserve_run(&mut self, additional: usize) -> Result<(), ThinVecError>
         // On success.
@@ -126,19 +114,18 @@ impl<T, A: Allocator, G: Growth> ThinVec<T, A, G> {
         Ok(())
     }
 
-    // Grows the list to make room for `additional` more items. The list must have too little room
-    // for them. Most calls to `reserve` do not need this function.
+    // Grows the list to make room for `additional` more items. It is cold, because most calls of
+    // `reserve` find enough room.
     #[cold]
     #[tactic(auto, using(thin_block::proofs::CapacityLemmas::ruled))]
     fn grow_for(&mut self, additional: usize) -> Result<(), ThinVecError>
         requires no_room { self.old.capacity < length self.old.items + additional }
 
-        // The call fails with `CapacityOverflow` if and only if the growth rule chooses no
-        // capacity.
+        // The cause of a failure.
         ensures overflow { OverflowsIff
             (capacity_after_reserve G.rule T.row self.old additional) result }
 
-        // On success, only the fields `capacity` and `cost` change. On failure, nothing changes.
+        // The list after the call.
         ensures changes { self.new ≡ record self.old {
           capacity = self.new.capacity;
           cost = self.new.cost;
@@ -162,15 +149,15 @@ impl<T, A: Allocator, G: Growth> ThinVec<T, A, G> {
         }
     }
 
-    // Grows the list to the capacity `cap`. The function is inlined, so that a caller with a new
-    // list need not test whether the list has a block.
+    // Grows the list to the capacity `cap`. It is inlined, so that a caller with a new list need
+    // not test whether the list has a block.
     #[inline(always)]
     pub(crate) fn grow_to(&mut self, cap: usize) -> Result<(), ThinVecError>
         requires cap_grows { self.old.capacity < cap }
         requires fits { Fits T.row cap }
         requires bounds { IsBounded T.row self.old }
 
-        // Only the fields `capacity` and `cost` of the list may change.
+        // Only `capacity` and `cost` may change.
         ensures changes { self.new ≡ record self.old {
           capacity = self.new.capacity;
           cost = self.new.cost;
@@ -191,9 +178,7 @@ impl<T, A: Allocator, G: Growth> ThinVec<T, A, G> {
         self.block.grow(&self.alloc, cap)
     }
 
-    // Makes an empty list whose capacity is exactly `capacity`. A block of this capacity must not
-    // be too large, that is, `fits` must return true for `capacity`. If `capacity` is 0, nothing is
-    // allocated.
+    // Does the same as `with_capacity`, for any growth rule, and a capacity that is not too large.
     pub(crate) fn with_fitting_capacity(
         alloc: A,
         capacity: usize,
@@ -228,16 +213,13 @@ impl<T, A: Allocator, G: Growth> ThinVec<T, A, G> {
 impl<T, A: Allocator> ThinVec<T, A> {
     ghost use Rattle.thin_vec.specs.ThinVec.{cost_of_new};
 
-    /// Makes an empty list with room for exactly `capacity` items. If `capacity` is 0, the call
-    /// allocates nothing.
+    /// Makes an empty list that owns `alloc`, with room for exactly `capacity` items. If `capacity`
+    /// is 0, the call allocates nothing.
     ///
     /// # Errors
     ///
-    /// On failure, no list is made, and `alloc` is dropped.
-    ///
-    /// - `CapacityOverflow`: `capacity` exceeds `isize::MAX`, or a block of this capacity would
-    ///   take more than `isize::MAX` bytes.
-    /// - `OutOfMemory`: the allocator failed.
+    /// Fails with `CapacityOverflow` if `capacity` is too large, as for `reserve`, and with
+    /// `OutOfMemory` if the allocator failed. On failure, `alloc` is dropped.
     #[tactic(auto, using(thin_block::proofs::CapacityLemmas::exact))]
     pub fn with_capacity(alloc: A, capacity: usize) -> Result<ThinVec<T, A>, ThinVecError>
         // On success.

@@ -1,8 +1,4 @@
-//! The methods that clone items. Room for all clones is reserved before the first clone is made. So
-//! there is no need to test for room before each clone.
-//!
-//! The clause `items_if_clones_equal` follows from `items`, and `err_items` and `err_if_infallible`
-//! follow from `err`. With them, a caller needs no lemma about clones.
+//! The methods that clone items. Room for all clones is reserved before the first clone is made.
 ghost use Rattle.std.specs.Prelude.{◌≡◌, ◌⊎◌, ◌+◌, ◌<◌, ◌≤◌, [], ◌++◌, ◌-◌, All, HoldsAt, IfErr, IfOk, IsOk, OnErr, OnOk, length, slice_range, take};
 ghost use Rattle.std.specs.List.{AllZip, AppendsClones};
 ghost use Rattle.thin_block.specs.Capacity.{Fits};
@@ -18,17 +14,14 @@ use thin_block::{Growth, ThinVecError};
 impl<T: Clone, A: Allocator, G: Growth> ThinVec<T, A, G> {
     ghost use Rattle.thin_vec.specs.ThinVec.{HasRoomFor, IsBounded, capacity_after_reserve, cost_of_new};
 
-    /// Appends a clone of each item of `items`, in order. If there is not enough spare capacity,
-    /// the list first grows to the capacity that the growth rule chooses. For items that are
-    /// `Copy`, `extend_from_copies` is faster.
+    /// Appends a clone of each item of `items`, in order. For `Copy` items, `extend_from_copies` is
+    /// faster.
     ///
     /// # Errors
     ///
-    /// Fails if `reserve(items.len())` would fail, for the same cause. The list is then unchanged.
-    ///
-    /// Also fails with `OutOfMemory` if an item cannot be cloned. The clones that were already made
-    /// are dropped, so the list keeps only its old items. If the list has grown, it keeps the new
-    /// capacity.
+    /// Fails if `reserve(items.len())` would fail, for the same cause. Also fails with
+    /// `OutOfMemory` if an item cannot be cloned. In this case, all clones are dropped, and the
+    /// list keeps its old items and its new capacity.
     pub fn extend_from_slice(&mut self, items: &[T]) -> Result<(), ThinVecError>
         // On success.
         ensures items { OnOk result
@@ -47,11 +40,10 @@ impl<T: Clone, A: Allocator, G: Growth> ThinVec<T, A, G> {
         ensures overflow { OverflowsIff
             (capacity_after_reserve G.rule T.row self.old (length items.now)) result }
 
-        // On success, the capacity changes as `reserve(items.len())` would change it. On failure,
-        // `err` says what it is.
+        // In every case.
         ensures grows { Grows G.rule T.row (length items.now) self.old self.new result }
 
-        // These follow, for callers' proofs.
+        // These follow from `items` and `err`, and are for callers' proofs.
         ensures items_if_clones_equal { OnOk result (ClonesEqual T.is_clone
             → self.new.items ≡ self.old.items ++ items.now) }
         ensures err_items { OnErr result (self.new.items ≡ self.old.items) }
@@ -62,16 +54,13 @@ impl<T: Clone, A: Allocator, G: Growth> ThinVec<T, A, G> {
         self.extend_from_slice_reserved(items)
     }
 
-    /// Makes a list of clones of all items of this list, in order. The new list uses the allocator
-    /// `alloc` and the same growth rule as this list, and its capacity is exactly the number of
-    /// items. If there are no items, nothing is allocated. For items that are `Copy`,
+    /// Makes a list of clones of all items, in order. The new list owns `alloc`. For `Copy` items,
     /// `clone_copies` is faster.
     ///
     /// # Errors
     ///
-    /// Fails with `OutOfMemory` if `alloc` cannot allocate the memory, or if an item cannot be
-    /// cloned. On failure, no list is made. The clones that were already made are dropped, and
-    /// `alloc` is dropped, too.
+    /// Fails with `OutOfMemory` if `alloc` fails, or if an item cannot be cloned. On failure,
+    /// `alloc` and all clones are dropped.
     pub fn clone(&self, alloc: A) -> Result<ThinVec<T, A, G>, ThinVecError>
         // On success. `items_if_clones_equal` follows from `items`, and is for callers' proofs.
         ensures items { IfOk result (λ list. AllZip T.is_clone self.now.items list.items) }
@@ -91,9 +80,8 @@ impl<T: Clone, A: Allocator, G: Growth> ThinVec<T, A, G> {
         ThinVec::from_fitting_slice(alloc, self.as_slice())
     }
 
-    // Makes a list of clones of `items`, in order. The list uses the allocator `alloc`, and its
-    // capacity is exactly the number of items. A block of this capacity must not be too large: the
-    // function `fits` must return true for the number of items.
+    // Does the same as `from_slice`, for any growth rule, and a number of items that is not too
+    // large.
     pub(crate) fn from_fitting_slice(
         alloc: A,
         items: &[T],
@@ -120,16 +108,12 @@ impl<T: Clone, A: Allocator, G: Growth> ThinVec<T, A, G> {
         Ok(list)
     }
 
-    /// Appends a clone of each item of `items`, in order. The list must already have room for the
-    /// clones; `reserve` makes such room. So the list does not grow.
-    ///
-    /// This method exists neither in Rust's `Vec` nor in the Rust crate thin-vec.
+    /// Appends a clone of each item of `items` to a list that has room for them, for example after
+    /// `reserve`.
     ///
     /// # Errors
     ///
-    /// Fails with `OutOfMemory` if an item cannot be cloned. On failure, the clones that were
-    /// already made are dropped, so the list keeps only its old items. Its capacity does not
-    /// change.
+    /// Fails with `OutOfMemory` if an item cannot be cloned, and then drops all clones.
     pub fn extend_from_slice_reserved(&mut self, items: &[T]) -> Result<(), ThinVecError>
         requires room { HasRoomFor self.old (length items.now) }
 
@@ -143,8 +127,7 @@ impl<T: Clone, A: Allocator, G: Growth> ThinVec<T, A, G> {
         // When it must succeed.
         ensures succeeds { All T.is_infallible items.now → IsOk result }
 
-        // On failure, the cause is `OutOfMemory`, the items are unchanged, and the clones that were
-        // made count as moves.
+        // On failure, the items are unchanged, and the clones that were made count as moves.
         ensures cause { IfErr result (λ cause. cause ≡ ThinVecError.OutOfMemory) }
         ensures err_items { OnErr result (self.new.items ≡ self.old.items) }
         ensures err { OnErr result (FailsAtClone T.is_infallible items.now self.old.cost
@@ -162,8 +145,7 @@ impl<T: Clone, A: Allocator, G: Growth> ThinVec<T, A, G> {
         Ok(())
     }
 
-    // Appends clones of `items`, in order. Stops at the first item that cannot be cloned. Returns
-    // the number of clones that were made. The list must have room for `items.len()` more items.
+    // Appends clones of `items` until an item cannot be cloned, and returns their number.
     fn push_clones_reserved(&mut self, items: &[T]) -> usize
         requires room { HasRoomFor self.old (length items.now) }
         ensures in_bounds { result ≤ length items.now }
@@ -183,14 +165,11 @@ impl<T: Clone, A: Allocator, G: Growth> ThinVec<T, A, G> {
         placed
     }
 
-    /// Appends clones of the items `start..end` of the list, in order. If there is not enough spare
-    /// capacity, the list first grows to the capacity that the growth rule chooses.
-    ///
-    /// Rust's `Vec` has a method of this name, but the Rust crate thin-vec does not.
+    /// Appends clones of the items `start..end` of the list, in order.
     ///
     /// # Errors
     ///
-    /// Fails in the same cases as `extend_from_slice`, with the same effect on the list.
+    /// Fails as `extend_from_slice` does.
     pub fn extend_from_within(&mut self, start: usize, end: usize) -> Result<(), ThinVecError>
         requires start_le_end { start ≤ end }
         requires in_bounds { end ≤ length self.old.items }
@@ -205,18 +184,17 @@ impl<T: Clone, A: Allocator, G: Growth> ThinVec<T, A, G> {
         ensures succeeds { HasRoomFor self.old (end - start)
             → All T.is_infallible (slice_range self.old.items start end) → IsOk result }
 
-        // On failure, the list is unchanged, or an item could not be cloned after room was
-        // reserved.
+        // On failure.
         ensures err { OnErr result ((self.new ≡ self.old)
             ⊎ GrewForFailedClone (capacity_after_reserve G.rule T.row self.old (end - start))
             T.is_infallible (slice_range self.old.items start end) self.old self.new) }
         ensures overflow { OverflowsIff
             (capacity_after_reserve G.rule T.row self.old (end - start)) result }
 
-        // In every case, the capacity changes as by `reserve(end - start)`, or not at all.
+        // In every case.
         ensures grows { Grows G.rule T.row (end - start) self.old self.new result }
 
-        // These follow, for callers' proofs.
+        // These follow from `items` and `err`, and are for callers' proofs.
         ensures items_if_clones_equal { OnOk result (ClonesEqual T.is_clone
             → self.new.items ≡ self.old.items ++ slice_range self.old.items start end) }
         ensures err_items { OnErr result (self.new.items ≡ self.old.items) }
@@ -232,17 +210,16 @@ impl<T: Clone, A: Allocator, G: Growth> ThinVec<T, A, G> {
         Ok(())
     }
 
-    // Appends clones of the items `start..end`, in order, until an item cannot be cloned. Returns
-    // the number of clones. The list must have room for all of them. The loop is not `put_clones`,
-    // because a slice of the list cannot be borrowed while its block changes.
+    // Appends clones of the items `start..end` until an item cannot be cloned, and returns their
+    // number. It does not call `put_clones`, because a slice of the list cannot be borrowed while
+    // its block changes.
     fn push_clones_within(&mut self, start: usize, end: usize) -> usize
         requires start_le_end { start ≤ end }
         requires in_bounds { end ≤ length self.old.items }
         requires room { HasRoomFor self.old (end - start) }
         requires bounds { IsBounded T.row self.old }
 
-        // The call appends clones of the first `result` items of the range `start..end`. So
-        // `result` is at most the length of this range.
+        // The first `result` items of the range were cloned.
         ensures in_bounds { result ≤ end - start }
         ensures items { AppendsClones T.is_clone self.old.items self.new.items
             (take result (slice_range self.old.items start end)) }
@@ -252,8 +229,7 @@ impl<T: Clone, A: Allocator, G: Growth> ThinVec<T, A, G> {
           cost = add_moves result self.old.cost;
         } }
 
-        // If `result` is less than the length of the range, cloning the item at index `result` of
-        // the range failed. So `T.is_infallible` is false for this item.
+        // If these are not all, the next item could not be cloned.
         ensures stopped_at { result < end - start → HoldsAt (λ x. ¬ (T.is_infallible x))
             (slice_range self.old.items start end) result }
 
@@ -276,8 +252,6 @@ impl<T: Clone, A: Allocator + Copy, G: Growth> Clone for ThinVec<T, A, G> {
 
     ghost is_infallible = { λ list. list.items ≡ [] };
 
-    // Makes a list of clones of all items of this list, with a copy of its allocator. The error
-    // does not contain the cause of a failure.
     fn clone(&self) -> Result<Self, AllocError> {
         match ThinVec::clone(self, *self.allocator()) {
             Ok(other) => Ok(other),

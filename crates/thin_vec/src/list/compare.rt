@@ -1,5 +1,5 @@
-//! Implementations of traits that compare, hash and print lists, as the slices of their items. Those
-//! of `Emptied` and `MadeWith`, which make empty lists, are here, too.
+//! Implementations of traits that compare, hash and print lists, as the slices of their items, and
+//! of `Emptied` and `MadeWith`, which make empty lists.
 ghost use Rattle.std.specs.Cmp.{on_equiv, on_per, on_po, on_total};
 ghost use Rattle.std.specs.Cmp.Lexicographic.{lists_agrees, lists_equiv, lists_per, lists_po, lists_ties, lists_total, pointwise, slice_cmp, slice_partial_cmp};
 ghost use Rattle.std.specs.Hash as fed;
@@ -65,7 +65,6 @@ impl<T: Hash, A: Allocator, G: Growth> Hash for ThinVec<T, A, G> {
 }
 
 impl<T: fmt::Debug, A: Allocator, G: Growth> fmt::Debug for ThinVec<T, A, G> {
-    // Formats the list in the same way as the slice of its items.
     fn fmt<W: fmt::Write>(&self, f: &mut fmt::Formatter<W>) -> fmt::Result {
         self.as_slice().fmt(f)
     }
@@ -74,8 +73,7 @@ impl<T: fmt::Debug, A: Allocator, G: Growth> fmt::Debug for ThinVec<T, A, G> {
 impl<T, A: Allocator + Clone, G: Growth> Emptied for ThinVec<T, A, G> {
     ghost is_emptied = { λ list. list.items ≡ [] };
 
-    // Makes an empty list that owns a clone of the allocator of the list `like`. Fails if the
-    // allocator cannot be cloned.
+    // Makes an empty list for `mem::try_take`, with a clone of the allocator of `like`.
     fn emptied(like: &ThinVec<T, A, G>) -> Result<ThinVec<T, A, G>, AllocError> {
         Ok(ThinVec::ruled(like.allocator().clone()?))
     }
@@ -84,8 +82,7 @@ impl<T, A: Allocator + Clone, G: Growth> Emptied for ThinVec<T, A, G> {
 impl<T, A: Allocator, G: Growth> MadeWith<A> for ThinVec<T, A, G> {
     ghost is_made_with = { λ list. list.items ≡ [] };
 
-    // Makes an empty list that owns the allocator `alloc`. The method `or_default` of the maps in
-    // Rattle's std calls this function.
+    // Makes an empty list for `or_default` of the maps in Rattle's std.
     fn made_with(alloc: A) -> ThinVec<T, A, G> {
         ThinVec::ruled(alloc)
     }

@@ -11,16 +11,11 @@ use thin_block::{Growth, ThinVecError};
 impl<T: Copy, A: Allocator, G: Growth> ThinVec<T, A, G> {
     ghost use Rattle.thin_vec.specs.ThinVec.{HasRoomFor, cost_of_new};
 
-    /// Appends a copy of each item of `items`, in order. If there is not enough spare capacity, the
-    /// list first grows to the capacity that the growth rule chooses. The items are copied byte for
-    /// byte, so this method is faster than `extend_from_slice`.
-    ///
-    /// This method exists neither in Rust's `Vec` nor in the Rust crate thin-vec.
+    /// Appends a copy of each item of `items`, in order. This is faster than `extend_from_slice`.
     ///
     /// # Errors
     ///
-    /// Fails if and only if `reserve(items.len())` would fail, for the same cause. On failure, the
-    /// list is unchanged.
+    /// Fails if and only if `reserve(items.len())` would fail, for the same cause.
     pub fn extend_from_copies(&mut self, items: &[T]) -> Result<(), ThinVecError>
         // On success.
         ensures items { OnOk result (self.new.items ≡ self.old.items ++ items.now) }
@@ -34,10 +29,11 @@ impl<T: Copy, A: Allocator, G: Growth> ThinVec<T, A, G> {
         // On failure, the list is unchanged.
         ensures err { OnErr result (self.new ≡ self.old) }
 
-        // In every case, the capacity changes as `reserve(items.len())` would change it.
+        // In every case.
         ensures capacity { Reserves G.rule T.row (length items.now) self.old self.new result }
         ensures preserved { PreservesList T.row self.old self.new }
     {
+        // The proof of `capacity` names the cause, which `?` would hide behind `From`.
         match self.reserve_run(items.len()) {
             Ok(()) => (),
             Err(cause) => return Err(cause),
@@ -46,16 +42,12 @@ impl<T: Copy, A: Allocator, G: Growth> ThinVec<T, A, G> {
         Ok(())
     }
 
-    /// Makes a list of copies of all items, in order. The new list uses `alloc` and the same growth
-    /// rule, and its capacity is exactly the number of items. If there are no items, nothing is
-    /// allocated. This method is faster than `clone`, because it copies the items byte for byte.
-    ///
-    /// This method exists neither in Rust's `Vec` nor in the Rust crate thin-vec.
+    /// Makes a list of copies of all items, in order. The new list owns `alloc`. This is faster
+    /// than `clone`.
     ///
     /// # Errors
     ///
-    /// Fails with `OutOfMemory` if `alloc` cannot allocate the memory. On failure, `alloc` is
-    /// dropped.
+    /// Fails with `OutOfMemory` if `alloc` fails, and then drops `alloc`.
     pub fn clone_copies(&self, alloc: A) -> Result<ThinVec<T, A, G>, ThinVecError>
         // On success.
         ensures items { IfOk result (λ list. list.items ≡ self.now.items) }
@@ -75,10 +67,8 @@ impl<T: Copy, A: Allocator, G: Growth> ThinVec<T, A, G> {
         Ok(list)
     }
 
-    /// Appends a copy of each item of `items`, in order. The list must already have room for them
-    /// (see `reserve`), so the call cannot fail.
-    ///
-    /// This method exists neither in Rust's `Vec` nor in the Rust crate thin-vec.
+    /// Appends a copy of each item of `items` to a list that has room for them, for example after
+    /// `reserve`.
     pub fn extend_from_copies_reserved(&mut self, items: &[T])
         requires room { HasRoomFor self.old (length items.now) }
         ensures items { self.new.items ≡ self.old.items ++ items.now }

@@ -1,8 +1,7 @@
 //! The methods `extend` and `from_iter`, which move the items of an iterator into a list.
 //!
-//! `Drains I.next_gives iter xs` states that `iter` yields the items `xs` and then `None`. The clause
-//! `runs` follows from `items`, and `err_runs` from `placed`: they state the same about a *run* of the
-//! iterator, as std's lemmas about adaptors such as `map` expect it.
+//! The clause `runs` follows from `items`, and `err_runs` from `placed`. They are for std's lemmas
+//! about adaptors such as `map`, which speak of a *run* of the iterator.
 ghost use Rattle.std.specs.Prelude.{◌≡◌, ◌+◌, ◌-◌, ◌<◌, ◌≤◌, List, ◌++◌, IfErr, IfOk, IsOk, IsSome, MatchOption, None, OnErr, OnOk, length};
 ghost use Rattle.std.specs.Iterator.Runs.{SomeRun, WholeRun};
 ghost use Rattle.std.specs.Iterator.{Drains, IsFinite, size};
@@ -25,23 +24,14 @@ use thin_block::{Block, Growth, ThinVecError};
 
 impl<T, A: Allocator, G: Growth> ThinVec<T, A, G> {
     /// Appends the items that `iter` yields before its first `None`. After this `None`, `next` is
-    /// not called again.
-    ///
-    /// The call first reads the size hint of `iter`, once, and reserves room for `n` more items,
-    /// where `n` is the lower bound of the hint. Then it moves items into the spare capacity until
-    /// this is full, and pushes the remaining items one by one. So the call cannot fail if there is
-    /// room for all items that the iterator may yield.
+    /// not called again. The call asks for the size hint of `iter` once, and begins by reserving
+    /// room for its lower bound.
     ///
     /// # Errors
     ///
-    /// The field `cause` of the error is `CapacityOverflow` if the new capacity would be too large,
-    /// and `OutOfMemory` if the allocator failed. There are two cases:
-    ///
-    /// - Room for `n` more items could not be reserved. In this case, the list is unchanged,
-    ///   `in_hand` is `None`, and `rest` is the whole iterator.
-    /// - A later item could not be pushed. In this case, the list is full, and keeps the items that
-    ///   were appended before. `in_hand` contains the item that could not be pushed, and `rest`
-    ///   yields the items after it.
+    /// Fails, for the causes of `reserve`, if there is no room for the lower bound or for a later
+    /// item. The list keeps the items that were appended before, and the error returns the other
+    /// items to the caller.
     pub fn extend<I: Iterator<Item = T>>(&mut self, iter: I) -> Result<(), ExtendRefused<T, I>>
         requires can_next { I.can_next iter }
         requires finite { IsFinite (I.remaining iter) }
@@ -101,7 +91,7 @@ impl<T, A: Allocator, G: Growth> ThinVec<T, A, G> {
         // When it must succeed.
         ensures succeeds { HasRoomFor self.old (size (I.remaining iter)) → IsOk result }
 
-        // On failure, every item that `iter` yielded is in the list or in the error.
+        // On failure.
         ensures placed { IfErr result (λ error. (xs : List T)
             × (self.new.items ≡ self.old.items ++ xs)
             × YieldsAndCanContinue I.next_gives I.can_next I.remaining iter
@@ -150,8 +140,7 @@ impl<T, A: Allocator, G: Growth> ThinVec<T, A, G> {
         }
     }
 
-    // Moves items of `iter` into the spare capacity until the list is full or `iter` ends. The
-    // field `end` of the result is the new length.
+    // Moves items of `iter` into the spare capacity until the list is full or `iter` ends.
     fn fill_spare<I: Iterator<Item = T>>(&mut self, iter: I) -> Filled<I>
         requires can_next { I.can_next iter }
         requires finite { IsFinite (I.remaining iter) }
@@ -176,24 +165,13 @@ impl<T, A: Allocator, G: Growth> ThinVec<T, A, G> {
 }
 
 impl<T, A: Allocator> ThinVec<T, A> {
-    /// Makes a list of the items that `iter` yields before its first `None`. After this `None`,
-    /// `next` is not called again. The list uses the allocator `alloc`.
-    ///
-    /// First, the call gets the size hint of `iter` once, and makes a block whose capacity is
-    /// exactly the lower bound of the size hint. Then it moves items into the block until it is
-    /// full, and pushes each further item. So the call cannot fail if the iterator cannot yield any
-    /// item.
+    /// Makes a list of the items that `iter` yields, like `extend`. The list owns `alloc`. The call
+    /// begins with a capacity of exactly the lower bound of the size hint.
     ///
     /// # Errors
     ///
-    /// The cause is `CapacityOverflow` if the capacity would be too large, and `OutOfMemory` if the
-    /// allocator failed. There are two cases:
-    ///
-    /// - The call cannot make the first block. In this case, `list` is a new empty list, `in_hand`
-    ///   is `None`, and `rest` is the whole iterator.
-    /// - The call cannot push a further item. In this case, `list` holds the items that were
-    ///   appended before, and is full. `in_hand` is the item that could not be pushed, and `rest`
-    ///   yields the items after it.
+    /// Fails as `extend` does. The error returns all items to the caller. Those that were appended
+    /// are in a list, which owns `alloc`.
     pub fn from_iter<I: Iterator<Item = T>>(
         alloc: A,
         iter: I,
@@ -211,7 +189,7 @@ impl<T, A: Allocator> ThinVec<T, A> {
         // When it must succeed.
         ensures succeeds { size (I.remaining iter) ≡ 0 → IsOk result }
 
-        // On failure, every item that `iter` yielded is in the list or in the error.
+        // On failure.
         ensures placed { IfErr result
             (λ error. YieldsAndCanContinue I.next_gives I.can_next I.remaining iter
             (error.list.items ++ option_to_list error.in_hand) error.rest) }
@@ -260,12 +238,8 @@ impl<T, A: Allocator> ThinVec<T, A> {
 impl<T: Drop, A: Allocator, G: Growth> Extend<T> for ThinVec<T, A, G> {
     ghost extend_gives = { ExtendsList G.rule T.row };
 
-    // Appends the items of `iter`. On failure, the appended items stay in the list. The iterator is
-    // dropped, and so is an item that was taken from it but not appended.
-    //
-    // std's contract names the lists and the appended items, but not the bound of the iterator. So
-    // only the contract of the inherent method says that nothing is allocated for no item, how often
-    // the list grows, and which capacities are possible.
+    // Appends the items as the inherent method does. On failure, drops the items that were not
+    // appended.
     fn extend<U: IntoIterator<Item = T>>(&mut self, iter: U) -> Result<(), AllocError> {
         match ThinVec::extend(self, iter.into_iter()) {
             Ok(()) => Ok(()),
@@ -279,12 +253,7 @@ impl<T: Drop, A: Allocator> FromIterator<T> for ThinVec<T, A> {
 
     ghost from_iter_gives = { IsCollectedFrom T.row };
 
-    // Makes a list of the items of `iter`, like the method `ThinVec::from_iter`. On failure, drops
-    // the iterator and all items that were taken from it.
-    //
-    // std's contract names the items and the list, but neither the allocator nor the bound of the
-    // iterator. So only the contract of the inherent method says which allocator and which capacity
-    // the list has, and how often it grew.
+    // Makes a list as the inherent method does. On failure, drops all items.
     fn from_iter<U: IntoIterator<Item = T>>(
         alloc: A,
         iter: U,

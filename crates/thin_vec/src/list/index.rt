@@ -1,5 +1,5 @@
-//! Implementations of std's traits that let a program use a list as a slice, access its items by
-//! index, or iterate over a borrowed list.
+//! Implementations of std's traits for using a list as a slice, by index, or in a loop that borrows
+//! it.
 ghost use Rattle.std.specs.Prelude.{◌≡◌, ◌^◌, ◌<◌, ◌↔◌, IfSome, IsSome, Some, length, slice_get, slice_index_or};
 ghost use Rattle.std.specs.Iterator.Runs.{EveryRun, ItemsMapTo};
 ghost use Rattle.std.specs.Slice.Iter.{iter_mut_rest, iter_mut_steps, iter_rest, iter_steps};
@@ -64,8 +64,6 @@ impl<T, A: Allocator, G: Growth> Index<usize> for ThinVec<T, A, G> {
 }
 
 impl<T, A: Allocator, G: Growth> IndexMut<usize> for ThinVec<T, A, G> {
-    // Returns a mutable reference to the item at `index`. Writing through the reference changes the
-    // item of the list.
     fn index_mut(&mut self, index: usize) -> &mut T
         requires { index < length self.old.items }
         ensures* writes_back { sem 𝓛
@@ -74,8 +72,7 @@ impl<T, A: Allocator, G: Growth> IndexMut<usize> for ThinVec<T, A, G> {
         ensures found { slice_get self.old.items index ≡ Some result.now }
         ensures bounds { IsBounded T.row self.old }
     {
-        // This call is needed only for the proof: the clause `bounds` follows from the contract of
-        // `len`.
+        // For the proof alone: `bounds` follows from the contract of `len`.
         let _len = self.block.len();
         self.block.slot_mut(index)
     }
@@ -83,8 +80,6 @@ impl<T, A: Allocator, G: Growth> IndexMut<usize> for ThinVec<T, A, G> {
 
 impl<T, A: Allocator, G: Growth> ThinVec<T, A, G> {
     /// Returns a mutable reference to the item at `index`, or `None` if there is no such item.
-    ///
-    /// In the Rust crate thin-vec, a list has this method because it dereferences to a slice.
     pub fn get_mut(&mut self, index: usize) -> Option<&mut T>
         ensures* writes_back { sem 𝓛
             (LendsGet T.row A.row G.row A.Allocator G.Growth self.entry index result) }
@@ -123,8 +118,6 @@ impl<'a, T, A: Allocator, G: Growth> IntoIterator for &'a mut ThinVec<T, A, G> {
         × EveryRun (iter_mut_steps {A = T})
         (λ p. ItemsMapTo p (λ x. x.now) (iter_mut_rest p.from)) };
 
-    // Returns an iterator over mutable references to the items, in order. Writing through a
-    // reference changes the item of the list.
     fn into_iter(self) -> IterMut<'a, T>
         ensures* writes_back { sem 𝓛
             (LendsIter T.row A.row G.row A.Allocator G.Growth self.entry result) }

@@ -1,5 +1,4 @@
-//! The methods that insert or remove one item, and the methods `truncate` and `clear`, which can
-//! remove several items.
+//! The methods that insert or remove single items, and `truncate` and `clear`.
 ghost use Rattle.std.specs.Prelude.{◌≡◌, ◌+◌, ◌-◌, ◌<◌, ◌≤◌, ◌==◌, [], IfErr, IfOk, IsErr, IsOk, None, OnErr, OnOk, Some, if◌then◌else◌, insert, length, remove, slice_get, take};
 ghost use Rattle.std.specs.List.{swap_remove};
 ghost use Rattle.std.specs.List.Retain.{PopsIf};
@@ -16,14 +15,12 @@ use thin_block::{Growth, ThinVecError};
 impl<T, A: Allocator, G: Growth> ThinVec<T, A, G> {
     ghost use Rattle.thin_vec.specs.ThinVec.{HasRoomFor, IsBounded, capacity_after_reserve};
 
-    /// Inserts `value` at `index`, which must be at most the length. The list then owns `value`.
-    /// Each item from `index` onward is moved to the next higher index. If there is no spare
-    /// capacity, the list first grows to the capacity that the growth rule chooses.
+    /// Inserts `value` at `index`, and moves each item from `index` onward to the next higher
+    /// index.
     ///
     /// # Errors
     ///
-    /// Fails if and only if `reserve(1)` would fail, for the same cause. On failure, the list is
-    /// unchanged, and the error holds `value`, which the caller owns again.
+    /// Fails as `push` does.
     pub fn insert(&mut self, index: usize, value: T) -> Result<(), Rejected<T>>
         requires in_bounds { index ≤ length self.old.items }
 
@@ -35,12 +32,12 @@ impl<T, A: Allocator, G: Growth> ThinVec<T, A, G> {
         // When it must succeed.
         ensures succeeds { HasRoomFor self.old 1 → IsOk result }
 
-        // On failure, there was no room, and the list is unchanged.
+        // On failure, the list is unchanged.
         ensures err { OnErr result (self.new ≡ self.old) }
         ensures value_returned { IfErr result (λ error. error.value ≡ value) }
         ensures cause { IfErr result (λ error. LacksRoom G.rule T.row self.old 1 error.cause) }
 
-        // In every case, the capacity changes as `reserve(1)` would change it.
+        // In every case.
         ensures grows { Grows G.rule T.row 1 self.old self.new result }
     {
         if let Err(cause) = self.reserve(1) {
@@ -50,11 +47,8 @@ impl<T, A: Allocator, G: Growth> ThinVec<T, A, G> {
         Ok(())
     }
 
-    /// Inserts `value` at `index`, which must be at most the length. Items from `index` onward are
-    /// moved up by one. The list must already have room for one more item (see `reserve`), so the
-    /// call cannot fail.
-    ///
-    /// This method exists neither in Rust's `Vec` nor in the Rust crate thin-vec.
+    /// Inserts `value` at `index`, like `insert`, into a list that has room for it, for example
+    /// after `reserve(1)`.
     pub fn insert_reserved(&mut self, index: usize, value: T)
         requires in_bounds { index ≤ length self.old.items }
         requires room { HasRoomFor self.old 1 }
@@ -68,22 +62,15 @@ impl<T, A: Allocator, G: Growth> ThinVec<T, A, G> {
         self.block.put_and_set_len(index, value, len + 1);
     }
 
-    /// Inserts `value` at `index`, which must be at most the length. The list then owns `value`.
-    /// Returns a mutable reference to the new item. Writing through the reference changes the item
-    /// of the list. Each item from `index` onward is moved to the next higher index. If there is no
-    /// spare capacity, the list first grows to the capacity that the growth rule chooses.
-    ///
-    /// Rust's `Vec` has a method of this name, but the Rust crate thin-vec does not.
+    /// Inserts `value` at `index`, like `insert`, and returns a mutable reference to the new item.
     ///
     /// # Errors
     ///
-    /// Fails if and only if `reserve(1)` would fail, for the same cause. On failure, the list is
-    /// unchanged, and the error holds `value`, which the caller owns again.
+    /// Fails as `insert` does.
     pub fn insert_mut(&mut self, index: usize, value: T) -> Result<&mut T, Rejected<T>>
         requires in_bounds { index ≤ length self.old.items }
 
-        // On success, the result borrows the inserted item. When the borrow ends, the list contains
-        // the final value of this item. On failure, the list is unchanged.
+        // On success, the list when the borrow ends. On failure, the list is unchanged.
         ensures* writes_back { sem 𝓛
             (LendsAdded T.row A.row G.row A.Allocator G.Growth self.entry
             (insert self.old.items index) (length self.old.items - index + 1) result) }
@@ -105,7 +92,7 @@ impl<T, A: Allocator, G: Growth> ThinVec<T, A, G> {
     }
 
     /// Removes the item at `index` and returns it. Each item at a higher index is moved to the next
-    /// lower index. The capacity does not change.
+    /// lower index.
     pub fn remove(&mut self, index: usize) -> T
         requires in_bounds { index < length self.old.items }
         ensures value { slice_get self.old.items index ≡ Some result }
@@ -122,8 +109,8 @@ impl<T, A: Allocator, G: Growth> ThinVec<T, A, G> {
         value
     }
 
-    /// Removes the item at `index` and returns it. The last item takes its place. This takes
-    /// constant time, but changes the order of the items. The capacity does not change.
+    /// Removes the item at `index` and returns it. The last item takes its place. So the call takes
+    /// constant time, but changes the order of the items.
     pub fn swap_remove(&mut self, index: usize) -> T
         requires in_bounds { index < length self.old.items }
         ensures value { slice_get self.old.items index ≡ Some result }
@@ -140,12 +127,9 @@ impl<T, A: Allocator, G: Growth> ThinVec<T, A, G> {
         value
     }
 
-    /// Calls `predicate` with the last item. If `predicate` returns true, the item is removed and
-    /// returned. Otherwise, the item stays in the list, with any change that `predicate` made to
-    /// it, and the call returns `None`. If the list is empty, `predicate` is not called, and the
-    /// call returns `None`. The capacity does not change.
-    ///
-    /// Rust's `Vec` has a method of this name, but the Rust crate thin-vec does not.
+    /// Removes the last item and returns it if `predicate` returns true for it. Otherwise, the item
+    /// stays in the list, with any change that `predicate` made to it. If the list is empty,
+    /// `predicate` is not called.
     pub fn pop_if<P: FnOnce(&mut T) -> bool>(&mut self, predicate: P) -> Option<T>
         requires callable { P.IsAlwaysCallable predicate }
         ensures value { PopsIf P.FnOnce self.old.items self.new.items predicate result }
@@ -166,8 +150,7 @@ impl<T, A: Allocator, G: Growth> ThinVec<T, A, G> {
 impl<T: Drop, A: Allocator, G: Growth> ThinVec<T, A, G> {
     ghost use Rattle.thin_vec.specs.ThinVec.{IsBounded};
 
-    /// Drops the items from index `len` onward. If the list has at most `len` items, nothing
-    /// changes. The capacity does not change.
+    /// Drops the items from index `len` onward, if there are any. The capacity does not change.
     pub fn truncate(&mut self, len: usize)
         ensures items { self.new.items ≡ take len self.old.items }
         ensures changes { self.new ≡ record self.old { items = self.new.items } }

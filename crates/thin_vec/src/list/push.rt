@@ -14,16 +14,13 @@ use thin_block::{Growth, ThinVecError};
 impl<T, A: Allocator, G: Growth> ThinVec<T, A, G> {
     ghost use Rattle.thin_vec.specs.ThinVec.{HasRoomFor, IsBounded, capacity_after_reserve};
 
-    /// Appends `value`. If there is no spare capacity, the list first grows to the capacity that
-    /// the growth rule chooses.
-    ///
-    /// A push takes amortized constant time, because the growth rule at least doubles the capacity.
-    /// This is also true after calls to `reserve_exact`.
+    /// Appends `value`. This takes amortized constant time, because a list without spare capacity
+    /// at least doubles its capacity.
     ///
     /// # Errors
     ///
-    /// Fails if and only if `reserve(1)` would fail, for the same cause. On failure, the list is
-    /// unchanged, and `value` is returned in the error.
+    /// Fails if and only if `reserve(1)` would fail, for the same cause. The error returns `value`
+    /// to the caller.
     pub fn push(&mut self, value: T) -> Result<(), Rejected<T>>
         // On success. `len` follows from `items`, and is for callers' proofs.
         ensures items { OnOk result (self.new.items ≡ self.old.items ++ value ∷ []) }
@@ -33,12 +30,12 @@ impl<T, A: Allocator, G: Growth> ThinVec<T, A, G> {
         // When it must succeed.
         ensures succeeds { HasRoomFor self.old 1 → IsOk result }
 
-        // On failure, there was no room, and the list is unchanged.
+        // On failure, the list is unchanged.
         ensures err { OnErr result (self.new ≡ self.old) }
         ensures value_returned { IfErr result (λ error. error.value ≡ value) }
         ensures cause { IfErr result (λ error. LacksRoom G.rule T.row self.old 1 error.cause) }
 
-        // In every case, the capacity changes as `reserve(1)` would change it.
+        // In every case.
         ensures grows { Grows G.rule T.row 1 self.old self.new result }
 
         // These follow, for callers' proofs.
@@ -54,10 +51,7 @@ impl<T, A: Allocator, G: Growth> ThinVec<T, A, G> {
         Ok(())
     }
 
-    /// Appends `value`, which the list then owns. The list must already have room for one more
-    /// item, for example after `reserve(1)`. The call cannot fail.
-    ///
-    /// The Rust crate thin-vec has no such method.
+    /// Appends `value` to a list that has room for it, for example after `reserve(1)`.
     pub fn push_reserved(&mut self, value: T)
         requires room { HasRoomFor self.old 1 }
         ensures items { self.new.items ≡ self.old.items ++ value ∷ [] }
@@ -70,19 +64,13 @@ impl<T, A: Allocator, G: Growth> ThinVec<T, A, G> {
         self.block.put_and_set_len(len, value, len + 1);
     }
 
-    /// Appends `value`, which the list then owns. Returns a mutable reference to the new item.
-    /// Writing through the reference changes the item of the list. If there is no spare capacity,
-    /// the list first grows to the capacity that the growth rule chooses.
-    ///
-    /// Rust's `Vec` has a method of this name, but the Rust crate thin-vec does not.
+    /// Appends `value`, and returns a mutable reference to the new item.
     ///
     /// # Errors
     ///
-    /// Fails if and only if `reserve(1)` would fail, for the same cause. On failure, the list is
-    /// unchanged, and the error holds `value`, which the caller owns again.
+    /// Fails as `push` does.
     pub fn push_mut(&mut self, value: T) -> Result<&mut T, Rejected<T>>
-        // On success, the result borrows the appended item. When the borrow ends, the list contains
-        // the final value of this item. On failure, the list is unchanged.
+        // On success, the list when the borrow ends. On failure, the list is unchanged.
         ensures* writes_back { sem 𝓛
             (LendsAdded T.row A.row G.row A.Allocator G.Growth self.entry
             (λ x. self.old.items ++ x ∷ []) 1 result) }

@@ -1,7 +1,4 @@
 //! The methods `resize` and `resize_with`, which change the length of a list.
-//!
-//! The clause `items_if_clones_equal` follows from `items`, and `err_items` and `err_if_infallible`
-//! follow from `err`. With them, a caller needs no lemma about clones.
 ghost use Rattle.std.specs.Prelude.{◌≡◌, ◌⊎◌, ◌+◌, ◌-◌, ◌<◌, ◌≤◌, ◌++◌, IsOk, OnErr, OnOk, length, replicate, take};
 ghost use Rattle.std.specs.List.{AppendsResults};
 ghost use Rattle.thin_block.specs.Cost.{add_moves};
@@ -17,14 +14,13 @@ impl<T: Clone, A: Allocator, G: Growth> ThinVec<T, A, G> {
     ghost use Rattle.thin_vec.specs.ThinVec.{HasRoomFor, IsBounded, capacity_after_reserve};
 
     /// Changes the length to `len`. If the list is longer, the items from index `len` onward are
-    /// dropped. If the list is shorter, clones of `value` are appended, and then `value` itself as
-    /// the last item. If no item is appended, `value` is dropped. If there is not enough spare
-    /// capacity, the list first grows to the capacity that the growth rule chooses.
+    /// dropped. If it is shorter, clones of `value` are appended, and then `value` itself. If no
+    /// item is appended, `value` is dropped.
     ///
     /// # Errors
     ///
-    /// Fails only if the list has to become longer, and in the same cases as `extend_from_slice`,
-    /// with the same effect on the list. On failure, `value` is dropped.
+    /// Fails as `extend_from_slice` does, but only if the list has to become longer. On failure,
+    /// `value` is dropped.
     pub fn resize(&mut self, len: usize, value: T) -> Result<(), ThinVecError>
         // On success.
         ensures items { OnOk result (IsResized T.is_clone self.old.items len value self.new.items) }
@@ -36,8 +32,7 @@ impl<T: Clone, A: Allocator, G: Growth> ThinVec<T, A, G> {
         ensures succeeds_by_one { len ≡ length self.old.items + 1 → HasRoomFor self.old 1
             → IsOk result }
 
-        // On failure, the list is unchanged, or `value` could not be cloned after room was
-        // reserved.
+        // On failure.
         ensures err { OnErr result ((self.new ≡ self.old) ⊎ GrewForFailedClone
             (capacity_after_reserve G.rule T.row self.old (len - length self.old.items))
             T.is_infallible (replicate (len - length self.old.items - 1) value)
@@ -45,11 +40,10 @@ impl<T: Clone, A: Allocator, G: Growth> ThinVec<T, A, G> {
         ensures overflow { OverflowsIff
             (capacity_after_reserve G.rule T.row self.old (len - length self.old.items)) result }
 
-        // In every case, the capacity changes as by reserving room for the new items, or not at
-        // all.
+        // In every case.
         ensures grows { Grows G.rule T.row (len - length self.old.items) self.old self.new result }
 
-        // These follow, for callers' proofs.
+        // These follow from `items` and `err`, and are for callers' proofs.
         ensures len { OnOk result (length self.new.items ≡ len) }
         ensures items_if_clones_equal { OnOk result (CloneEquals T.is_clone value
             → self.new.items ≡ take len self.old.items ++ replicate
@@ -72,8 +66,8 @@ impl<T: Clone, A: Allocator, G: Growth> ThinVec<T, A, G> {
         Ok(())
     }
 
-    // Appends `count` clones of `value`, but stops if cloning `value` fails. Returns the number of
-    // clones that were made. The list must have room for `count` clones.
+    // Appends `count` clones of `value`, or fewer if `value` cannot be cloned, and returns their
+    // number.
     fn push_repeated_reserved(&mut self, value: &T, count: usize) -> usize
         requires room { HasRoomFor self.old count }
         ensures in_bounds { result ≤ count }
@@ -93,17 +87,13 @@ impl<T: Clone, A: Allocator, G: Growth> ThinVec<T, A, G> {
 }
 
 impl<T: Drop, A: Allocator, G: Growth> ThinVec<T, A, G> {
-    /// Changes the length to `len`. If the list is longer, the items from index `len` onward are
-    /// dropped. If the list is shorter, the results of `make` are appended: `make` is called once
-    /// for each new item, in order. If there is not enough spare capacity, the list first grows to
-    /// the capacity that the growth rule chooses.
-    ///
-    /// Rust's `Vec` has a method of this name, but the Rust crate thin-vec does not.
+    /// Changes the length to `len`, like `resize`, but appends results of `make`, which is called
+    /// once for each new item, in order.
     ///
     /// # Errors
     ///
     /// Fails if and only if reserving room for the new items would fail, for the same cause. On
-    /// failure, the list is unchanged, and `make` is dropped without being called.
+    /// failure, `make` is dropped without being called.
     pub fn resize_with<F: FnMut() -> T>(&mut self, len: usize, make: F) -> Result<(), ThinVecError>
         requires callable { F.IsAlwaysCallable make }
 
@@ -119,7 +109,7 @@ impl<T: Drop, A: Allocator, G: Growth> ThinVec<T, A, G> {
         // On failure, the list is unchanged.
         ensures err { OnErr result (self.new ≡ self.old) }
 
-        // In every case, the capacity changes as reserving room for the new items would change it.
+        // In every case.
         ensures capacity { Reserves G.rule T.row (len - length self.old.items) self.old self.new
             result }
         ensures preserved { PreservesList T.row self.old self.new }

@@ -10,18 +10,11 @@ impl<T, A: Allocator, G: Growth> ThinVec<T, A, G> {
     ghost use Rattle.thin_vec.specs.ThinVec.{IsBounded, cost_shrunk, cost_after_shrink};
 
     /// Shrinks the capacity to `min_capacity`, or to the length if the length is greater. If this
-    /// would not reduce the capacity, nothing changes.
-    ///
-    /// If the capacity is reduced to 0, the allocation is freed. In contracts, all counters in the
-    /// field `cost` of the list are then 0, too.
-    ///
-    /// Rust's `Vec` has a method of this name, but the Rust crate thin-vec does not.
+    /// would not reduce the capacity, nothing changes. At capacity 0, the block is freed.
     ///
     /// # Errors
     ///
-    /// Fails with `OutOfMemory` if the allocator fails. On failure, the list is unchanged. If an
-    /// empty list is shrunk to capacity 0, the call cannot fail, because it only frees the
-    /// allocation.
+    /// Fails with `OutOfMemory` if the allocator fails. Freeing the block cannot fail.
     pub fn shrink_to(&mut self, min_capacity: usize) -> Result<(), ThinVecError>
         // On success.
         ensures capacity { OnOk result (self.new.capacity
@@ -55,15 +48,12 @@ impl<T, A: Allocator, G: Growth> ThinVec<T, A, G> {
         Ok(())
     }
 
-    /// Shrinks the capacity to the length. If the list is full, nothing changes.
-    ///
-    /// If the list is empty but has an allocation, the allocation is freed. In contracts, all
-    /// counters in the field `cost` of the list are then 0, too.
+    /// Shrinks the capacity to the length. If the list is empty, this frees its block, and cannot
+    /// fail.
     ///
     /// # Errors
     ///
-    /// Fails with `OutOfMemory` if the allocator fails. On failure, the list is unchanged. If the
-    /// list is empty, the call cannot fail, because it only frees the allocation.
+    /// Fails as `shrink_to` does.
     pub fn shrink_to_fit(&mut self) -> Result<(), ThinVecError>
         // On success.
         ensures capacity { OnOk result (self.new.capacity ≡ length self.old.items) }
