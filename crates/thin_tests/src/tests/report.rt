@@ -9,7 +9,8 @@ use thin_testing::Refusing;
 use thin_vec::{ThinVec, ThinVecError};
 
 // A writer that appends the written bytes to `text`. The calls to `write` are numbered from 1, and
-// call number `failing` fails. If `failing` is 0, no call fails.
+// call number `failing` fails, with an error of a kind other than `Interrupted`, after which
+// `write_all` would try again. If `failing` is 0, no call fails.
 #[derive(Drop)]
 struct Failing<'a> {
     text: &'a mut String,
