@@ -3,15 +3,17 @@
 use crate::asserts::{assert_right, assert_same};
 use std::iter;
 use std::process::Abort;
-use thin_testing::{At, Case, Claims, Ledger, Numbered, Ruled, numbered_items};
+use thin_testing::{At, Case, Claims, Ledger, Numbered, Ruled, block_bytes, numbered_items};
 use thin_vec::{Doubling, Growth, ThinVec, ThinVecError};
 
-/// What a call that fills a list has to do: the capacity of the list, the number of requests, and how
-/// often the iterator's `next` and `size_hint` are called.
+/// What a call that fills a list has to do: the capacity of the list, the number of requests and of
+/// their bytes, and how often the iterator's `next` and `size_hint` are called.
 #[derive(Clone, Copy)]
 pub struct Filling {
     pub capacity: usize,
     pub requests: u64,
+    /// The number of bytes of the granted requests.
+    pub bytes: u64,
     pub nexts: u64,
     pub hints: u64,
     /// Why the call failed.
@@ -28,6 +30,7 @@ impl Filling {
         Filling {
             capacity,
             requests: 0,
+            bytes: 0,
             nexts: 0,
             hints: 0,
             cause: None,
@@ -36,23 +39,25 @@ impl Filling {
         }
     }
 
-    /// Counts a request, and returns whether it is granted.
-    pub fn is_granted(&mut self) -> bool {
+    /// Counts a request of `bytes` bytes, and returns whether it is granted.
+    pub fn is_granted(&mut self, bytes: u64) -> bool {
         self.requests = self.requests.saturating_add(1);
         if self.requests == self.refused {
             self.cause = Some(ThinVecError::OutOfMemory);
+            return false;
         }
-        self.requests != self.refused
+        self.bytes = self.bytes.saturating_add(bytes);
+        true
     }
 
     /// Grows the list to `capacity`, which is `None` if it overflows. Returns whether this succeeds.
-    pub fn grow(&mut self, capacity: Option<usize>) -> bool {
+    pub fn grow<T: Numbered>(&mut self, capacity: Option<usize>) -> bool {
         let Some(capacity) = capacity else {
             self.cause = Some(ThinVecError::CapacityOverflow);
             return false;
         };
         if capacity != self.capacity {
-            if !self.is_granted() {
+            if !self.is_granted(block_bytes::<T>(capacity)) {
                 return false;
             }
             self.capacity = capacity;
@@ -78,7 +83,7 @@ impl Filling {
         count: usize,
     ) {
         self.hints = 1;
-        if !self.grow(hinted) {
+        if !self.grow::<T>(hinted) {
             return;
         }
         for placed in 0..count {
@@ -86,7 +91,7 @@ impl Filling {
             let length = length.saturating_add(placed);
             if length == self.capacity {
                 let capacity = self.ruled::<T, G>(length, 1);
-                if !self.grow(capacity) {
+                if !self.grow::<T>(capacity) {
                     self.held = 1;
                     return;
                 }
@@ -167,8 +172,11 @@ impl Source {
     }
 }
 
-/// The numbers of items that are tried.
-pub const COUNTS: [usize; 11] = [0, 1, 2, 3, 4, 5, 9, 17, 50, 100, 300];
+/// The numbers of items that are tried. The last one is tried with few hints.
+const COUNTS: [usize; 12] = [0, 1, 2, 3, 4, 5, 9, 17, 50, 100, 300, 5000];
+
+// The number of the last one of `COUNTS`.
+const MANY: usize = 11;
 
 /// The number of different hints.
 pub const HINTS: usize = 22;
@@ -324,8 +332,9 @@ impl<T: Numbered> Fills<T, Doubling> for Collect {
     }
 }
 
-/// Makes the call on lists of the given lengths from several iterators, and on random lists from
-/// random iterators, and with each of its requests refused in turn.
+/// Makes the call on lists of the given lengths from several iterators, on random lists from random
+/// iterators, and on a list without items from iterators over thousands of items whose hints are 0
+/// and exact. Refuses each of the requests in turn.
 pub fn fill_lists<F: Fills<T, G>, T: Numbered, G: Ruled, R: Abort>(
     rt: &R,
     ledger: &'static Ledger,
@@ -334,7 +343,7 @@ pub fn fill_lists<F: Fills<T, G>, T: Numbered, G: Ruled, R: Abort>(
 ) {
     for length in lengths {
         for spare in spares {
-            for argument in 0..COUNTS.len().saturating_mul(HINTS) {
+            for argument in 0..MANY.saturating_mul(HINTS) {
                 let at = At {
                     call: "",
                     length: *length,
@@ -345,6 +354,16 @@ pub fn fill_lists<F: Fills<T, G>, T: Numbered, G: Ruled, R: Abort>(
                 each_refusal::<F, T, G, R>(rt, ledger, at);
             }
         }
+    }
+    for number in [0, 6] {
+        let at = At {
+            call: "",
+            length: 0,
+            spare: 0,
+            argument: MANY.saturating_mul(HINTS).saturating_add(number),
+            refused: 0,
+        };
+        each_refusal::<F, T, G, R>(rt, ledger, at);
     }
     for round in 0..At::rounds::<T>().saturating_mul(4) {
         let mut at = At::random::<T>(round, F::NUMBER);
@@ -426,6 +445,8 @@ pub fn check_filling<T: Numbered, G: Ruled, R: Abort>(
         done,
         wanted,
     );
+    let lent = ledger.alloc.lent();
+    assert_same(rt, case.at, "bytes requested", lent, due.bytes);
     assert_same(rt, case.at, "clones", ledger.clones.get(), 0);
     assert_right(rt, case.check_live(case.list.len(), case.list.capacity()));
 }

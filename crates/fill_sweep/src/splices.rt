@@ -17,9 +17,11 @@ const NEW: usize = 12;
 // The number of sequences of calls to `next` and `next_back` before `finish`.
 const WALKS: usize = 4;
 
-// Returns the number of new items for a range of `width` items.
-fn count(number: usize, width: usize) -> usize {
+// Returns the number of new items for a range of `width` items. On a long list, it is once in the
+// thousands.
+fn count(number: usize, width: usize, is_long: bool) -> usize {
     match number {
+        5 if is_long => width.saturating_add(3000),
         0..=5 => number,
         6 => width,
         7 => width.saturating_add(1),
@@ -60,7 +62,7 @@ fn due_before_tail<T: Numbered, G: Ruled>(
     due.nexts = width as u64;
     due.hints = 1;
     let hinted = due.ruled::<T, G>(length, source.lower);
-    if !due.grow(hinted) {
+    if !due.grow::<T>(hinted) {
         return;
     }
     let room = width.saturating_add(source.lower);
@@ -74,7 +76,7 @@ fn due_before_tail<T: Numbered, G: Ruled>(
     }
     due.nexts = (source.count as u64).saturating_add(1);
     let whole = due.ruled::<T, G>(length.saturating_add(source.lower), beyond);
-    if !due.grow(whole) {
+    if !due.grow::<T>(whole) {
         due.held = beyond;
     }
 }
@@ -90,11 +92,11 @@ fn is_held<T: Numbered>(due: &mut Filling, count: usize) -> bool {
     let mut room: usize = 0;
     for held in 0..count {
         if held == room {
-            if !due.is_granted() {
+            room = room.saturating_mul(2).max(first);
+            if !due.is_granted(room.saturating_mul(T::SIZE) as u64) {
                 due.held = held.saturating_add(1);
                 return false;
             }
-            room = room.saturating_mul(2).max(first);
         }
         due.nexts = due.nexts.saturating_add(1);
     }
@@ -145,7 +147,8 @@ fn splice_case<T: Numbered, G: Ruled, R: Abort>(rt: &R, ledger: &'static Ledger,
     let mut case: Case<T, G> = Case::new(ledger, at).expect(rt, "memory");
     let (start, end) = case.range();
     let number = case.choice();
-    let count = count(number / HINTS % NEW, end.saturating_sub(start));
+    let width = end.saturating_sub(start);
+    let count = count(number / HINTS % NEW, width, at.length > 50);
     let source = nth_source::<T>(at, number % HINTS, count);
     let due = due(&case, (start, end), source);
     if due.is_too_much::<T>() {

@@ -1,7 +1,7 @@
 //! A case of a sweep: a call on a list, and what it must have requested, called and dropped. Only a
 //! test may stop a program, so a check returns what is wrong, and the test asserts that nothing is.
 use crate::ledger::{Counted, Ledger};
-use crate::numbered::Numbered;
+use crate::numbered::{Numbered, block_bytes};
 use crate::refusing::Refusing;
 use std::alloc::{AllocError, Allocator, Global};
 use std::mem;
@@ -138,6 +138,8 @@ pub struct Wrong {
 pub struct Due {
     /// The number of requests for blocks other than that of the list.
     pub requests: usize,
+    /// The greatest number of items for which these blocks have room.
+    pub room: usize,
     /// The number of clones of items.
     pub clones: usize,
     /// The number of calls to closures.
@@ -153,6 +155,7 @@ impl Due {
     /// The call makes at most one request, for a new capacity, and calls nothing.
     pub const NOTHING: Due = Due {
         requests: 0,
+        room: 0,
         clones: 0,
         calls: 0,
         comparisons: 0,
@@ -166,9 +169,13 @@ impl Due {
         }
     }
 
-    /// The call makes one request for a block other than that of the list, unless `capacity` is 0.
+    /// The call makes one request for a block of `capacity` items, other than that of the list, unless
+    /// `capacity` is 0.
     pub fn block_of(capacity: usize) -> Due {
-        Due::requests(capacity.min(1))
+        Due {
+            room: capacity,
+            ..Due::requests(capacity.min(1))
+        }
     }
 
     /// The call clones `clones` items.
@@ -406,18 +413,30 @@ impl<T: Numbered, G: Growth> Case<T, G> {
         let clones = due.clones.saturating_mul(counted);
         let granted = grown.saturating_add(due.requests).saturating_add(clones);
         self.same("requests", requests, granted as u64)?;
+        self.check_lent(grown > 0, due.room)?;
         self.same("clones", ledger.clones.get(), clones as u64)?;
         self.same("calls", ledger.calls.get(), due.calls as u64)?;
         let comparisons = due.comparisons.saturating_mul(counted);
         self.same("comparisons", ledger.comparisons.get(), comparisons as u64)
     }
 
-    /// Checks that `items` items exist, and one block if `capacity` is not 0.
+    // Checks that the requests were for no more bytes than the block of the list takes, if it is new,
+    // and another block for `room` items.
+    fn check_lent(&self, is_new: bool, room: usize) -> Result<(), Wrong> {
+        let new = if is_new { self.list.capacity() } else { 0 };
+        let most = block_bytes::<T>(new).saturating_add(block_bytes::<T>(room));
+        let lent = self.ledger.alloc.lent();
+        self.same("bytes requested", lent.max(most), most)
+    }
+
+    /// Checks that `items` items exist, and one block of the right size if `capacity` is not 0.
     pub fn check_live(&self, items: usize, capacity: usize) -> Result<(), Wrong> {
         let items = if T::IS_COUNTED { items } else { 0 };
         self.same("items", self.ledger.live.get(), items as u64)?;
         let blocks = u64::from(capacity != 0);
-        self.same("blocks", self.ledger.alloc.blocks(), blocks)
+        self.same("blocks", self.ledger.alloc.blocks(), blocks)?;
+        let bytes = block_bytes::<T>(capacity);
+        self.same("bytes", self.ledger.alloc.bytes(), bytes)
     }
 
     /// Drops the list. Checks that nothing is left, and that dropping made no request.

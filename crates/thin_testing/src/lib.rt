@@ -20,6 +20,6 @@ pub use claims::Claims;
 pub use ledger::{Counted, CountedWord, Ledger};
 pub use lists::{counted_list, list_of, splice};
 pub use multiples::{Fourfold, Threefold};
-pub use numbered::Numbered;
+pub use numbered::{Numbered, block_bytes};
 pub use refusing::Refusing;
 pub use ruled::Ruled;

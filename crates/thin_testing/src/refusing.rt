@@ -7,7 +7,8 @@
 //! allocator, and it is `Copy`.
 //!
 //! The method `blocks` returns the number of allocated blocks, and `bytes` the sum of their sizes.
-//! So a test can detect a leak, and a block that is freed with a wrong size.
+//! So a test can detect a leak, and a block that is freed with a wrong size. The method `lent`
+//! returns for how many bytes the requests were, so that a test can detect one that is too large.
 //!
 //! It is proved that every block comes from `inner`, and that a freed block is returned to `inner`.
 //! The counters are only tested, because contracts cannot mention the contents of a `Cell`.
@@ -18,15 +19,17 @@ use std::rc::Rc;
 // The counters of an allocator `Refusing`, and the number of the request that it refuses.
 // `requests` is the number of requests since the allocator was created or since the last call to
 // `refuse`. `blocks` is the number of blocks that are allocated and have not been freed yet, and
-// `bytes` is the sum of their sizes. `refused` is the number of the refused request, 0 if no
-// request is refused, or `ALL` if all are. `owned` is what the allocator owns, so that a test can
-// see whether the allocator was dropped.
+// `bytes` is the sum of their sizes. `lent` is the sum of the sizes of the granted requests among
+// the counted ones. `refused` is the number of the refused request, 0 if no request is refused, or
+// `ALL` if all are. `owned` is what the allocator owns, so that a test can see whether the
+// allocator was dropped.
 #[derive(Drop)]
 struct Counts {
     requests: Cell<u64>,
     refused: Cell<u64>,
     blocks: Cell<u64>,
     bytes: Cell<u64>,
+    lent: Cell<u64>,
     owned: Option<Rc<u64>>,
 }
 
@@ -47,6 +50,8 @@ fn granted(counts: &Counts, size: usize, answer: Result<*mut u8, AllocError>) {
         counts.blocks.set(counts.blocks.get().saturating_add(1));
         let bytes = counts.bytes.get();
         counts.bytes.set(bytes.saturating_add(size as u64));
+        let lent = counts.lent.get();
+        counts.lent.set(lent.saturating_add(size as u64));
     }
 }
 
@@ -74,6 +79,7 @@ impl<B: Allocator> Refusing<B> {
                 refused: Cell::new(refused),
                 blocks: Cell::new(0),
                 bytes: Cell::new(0),
+                lent: Cell::new(0),
                 owned: None,
             },
         }
@@ -86,10 +92,12 @@ impl<B: Allocator> Refusing<B> {
         made
     }
 
-    /// Sets the number of requests to 0, so that the next request has the number 1. The allocator
-    /// will refuse request number `refused`. If `refused` is 0, it will refuse none.
+    /// Sets the number of requests to 0, so that the next request has the number 1, and what `lent`
+    /// returns to 0. The allocator will refuse request number `refused`. If `refused` is 0, it will
+    /// refuse none.
     pub fn refuse(&self, refused: u64) {
         self.counts.requests.set(0);
+        self.counts.lent.set(0);
         self.counts.refused.set(refused);
     }
 
@@ -124,6 +132,12 @@ impl<B: Allocator> Refusing<B> {
     /// is the sum of the sizes of the requests, less those with which blocks were freed.
     pub fn bytes(&self) -> u64 {
         self.counts.bytes.get()
+    }
+
+    /// Returns the number of bytes of all requests that were granted since the last call to
+    /// `refuse`, whether or not their blocks have been freed.
+    pub fn lent(&self) -> u64 {
+        self.counts.lent.get()
     }
 }
 

@@ -76,6 +76,14 @@ fn detects_a_missing_request(rt: HostRuntime) {
 }
 
 #[test]
+#[should_panic(expected = "failed: bytes requested, At")]
+fn detects_a_request_that_is_too_large(rt: HostRuntime) {
+    let case = two_items(&rt, rt.alloc(), 0);
+    drop(case.other(0, 9).expect(&rt, "memory"));
+    assert_right(&rt, case.check(Ok(Due::block_of(8))));
+}
+
+#[test]
 #[should_panic(expected = "failed: succeeded, At")]
 fn detects_a_success_after_a_refusal(rt: HostRuntime) {
     let case = two_items(&rt, rt.alloc(), 1);

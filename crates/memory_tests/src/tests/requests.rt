@@ -10,12 +10,15 @@ fn counts_live_blocks(rt: HostRuntime) -> Result<(), Fail> {
     assert_counts(&rt, &refusing, 0, 0);
     one.push(1_u8)?;
     assert_counts(&rt, &refusing, 1, 1);
+    assert_same(&rt, refusing.lent(), refusing.bytes());
     one.reserve(1000)?;
     assert_counts(&rt, &refusing, 2, 1);
+    assert_same(&rt, refusing.lent() > refusing.bytes(), true);
     refusing.refuse(1);
     let mut other = Vec::new(&refusing);
     assert_same(&rt, other.push(2_u8).is_ok(), false);
     assert_counts(&rt, &refusing, 1, 1);
+    assert_same(&rt, refusing.lent(), 0);
     other.push(2)?;
     assert_counts(&rt, &refusing, 2, 2);
     drop(one);

@@ -50,14 +50,14 @@ fn repeat<T: Numbered>(case: &mut Case<T, Doubling>) -> Answer {
     let (item, count) = (case.item(), case.count());
     case.begin("thin_vec![a => x; k]");
     let list = thin_vec![&case.ledger.alloc => item; count]?;
-    Ok(Due::block_of(list.len()).clones(count.saturating_sub(1)))
+    Ok(Due::block_of(list.capacity()).clones(count.saturating_sub(1)))
 }
 
 fn repeat_in<T: Numbered>(case: &mut Case<T, Doubling>) -> Answer {
     let (item, count) = (case.item(), case.count());
     case.begin("thin_vec![in a; x; k]");
     let list = thin_vec![in &case.ledger.alloc; item; count]?;
-    Ok(Due::block_of(list.len()).clones(count.saturating_sub(1)))
+    Ok(Due::block_of(list.capacity()).clones(count.saturating_sub(1)))
 }
 
 fn list_items<T: Numbered, R: Abort>(rt: &R, case: &mut Case<T, Doubling>) -> Answer {
