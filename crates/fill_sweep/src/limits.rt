@@ -7,17 +7,20 @@ use thin_vec::{Doubling, ThinVec, ThinVecError};
 // The calls that are tried.
 const CALLS: usize = 5;
 
-/// Asserts that calls which need the capacity `T::LIMIT` make one request, and that calls which need
-/// a greater capacity fail without a request.
+/// Asserts that calls which need a power of two, or the capacity `T::LIMIT`, make one request, and that
+/// calls which need a greater capacity fail without a request.
 pub fn limits<T: Numbered, G: Ruled, R: Abort>(rt: &R, ledger: &'static Ledger) {
     for length in 0..3 {
         for call in 0..CALLS {
-            if T::SIZE > 0 {
-                let answer = limit::<T, G, R>(rt, ledger, length, call, T::LIMIT, 1);
+            let mut capacity: usize = 8;
+            for _ in 3..64 {
+                let needed = capacity.min(T::LIMIT);
+                let answer = limit::<T, G, R>(rt, ledger, length, call, needed, 1);
                 assert!(rt;
                     answer == (Err(ThinVecError::OutOfMemory), 1),
-                    "call {call}"
+                    "call {call}, capacity {needed}"
                 );
+                capacity = capacity.saturating_mul(2);
             }
             for more in [
                 T::LIMIT.saturating_add(1),

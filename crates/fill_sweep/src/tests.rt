@@ -127,6 +127,8 @@ fn splices_counted_items(rt: HostRuntime) {
 fn splices_long_lists(rt: HostRuntime) {
     let ledger = Ledger::leaked(rt.alloc()).expect(&rt, "memory");
     splices::<Small, Doubling, _>(&rt, ledger, &[100, 300], &[0]);
+    splices::<ThreeWords, PowerBytes, _>(&rt, ledger, &[100], &[0]);
+    splices::<u8, Doubling, _>(&rt, ledger, &[300], &[0]);
 }
 
 #[test]

@@ -206,9 +206,13 @@ fn a_refused_collection_drops_the_allocator(rt: HostRuntime) -> Result<(), Fail>
 #[test]
 fn an_emptied_list_clones_the_allocator_once(rt: HostRuntime) -> Result<(), Fail> {
     let alloc = Refusing::leaked(rt.alloc(), 0)?;
-    let list: ThinVec<u8, Owned> = ThinVec::new(Refusing::new(alloc, 0));
-    let empty: ThinVec<u8, Owned> = Emptied::emptied(&list)?;
-    assert_same(&rt, list.allocator().requests(), 1);
-    assert_same(&rt, empty.has_capacity(), false);
+    for len in [0, 1, 40] {
+        let mut list: ThinVec<u8, Owned> = ThinVec::new(Refusing::new(alloc, 0));
+        list.resize(len, 7)?;
+        list.allocator().refuse(0);
+        let empty: ThinVec<u8, Owned> = Emptied::emptied(&list)?;
+        let requests = list.allocator().requests();
+        assert_same(&rt, (len, requests, empty.has_capacity()), (len, 1, false));
+    }
     Ok(())
 }

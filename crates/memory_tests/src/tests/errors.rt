@@ -26,8 +26,8 @@ fn assert_dropped<E: From<R> + Drop, R: Error>(
     assert_same(rt, ledger.live.get(), 0);
 }
 
-// Converts an error of each of the four types, for each cause, with and without an item in hand, to
-// the type `E`.
+// Converts an error of each of the four types, for each cause, with and without an item in hand, and
+// with lists of several lengths, to the type `E`.
 fn assert_all_dropped<'a, E>(rt: &impl Abort, alloc: Global, ledger: &'a Ledger) -> Result<(), Fail>
 where
     E: From<Rejected<Counted<'a>>>
@@ -38,20 +38,23 @@ where
 {
     for cause in [ThinVecError::OutOfMemory, ThinVecError::CapacityOverflow] {
         for count in 0..2 {
-            assert_each_dropped::<E>(rt, alloc, ledger, cause, count)?;
+            for len in [0, 1, 4, 40] {
+                assert_each_dropped::<E>(rt, alloc, ledger, cause, count, len)?;
+            }
         }
     }
     Ok(())
 }
 
-// Converts an error of each of the four types to the type `E`. `count` is the number of items in hand,
-// which is 0 or 1, and the number of items in the lists.
+// Converts an error of each of the four types to the type `E`. `count` is the number of items in
+// hand, which is 0 or 1, and `len` the number of items in a list.
 fn assert_each_dropped<'a, E>(
     rt: &impl Abort,
     alloc: Global,
     ledger: &'a Ledger,
     cause: ThinVecError,
     count: u64,
+    len: u64,
 ) -> Result<(), Fail>
 where
     E: From<Rejected<Counted<'a>>>
@@ -72,20 +75,20 @@ where
     };
     assert_dropped::<E, _>(rt, ledger, extend, 1_u64.wrapping_add(count));
     let collect = CollectRefused {
-        list: counted_list(ledger, alloc, count)?,
+        list: counted_list(ledger, alloc, len)?,
         cause,
         in_hand: in_hand(ledger, count),
         rest: Counted::new(ledger, 5, ()),
     };
-    let held = count.wrapping_mul(2).wrapping_add(1);
+    let held = len.wrapping_add(count).wrapping_add(1);
     assert_dropped::<E, _>(rt, ledger, collect, held);
     let splice = SpliceRefused {
         cause,
-        held: counted_list(ledger, alloc, 4)?.into_vec(alloc)?,
+        held: counted_list(ledger, alloc, len)?.into_vec(alloc)?,
         in_hand: in_hand(ledger, count),
         rest: Counted::new(ledger, 6, ()),
     };
-    assert_dropped::<E, _>(rt, ledger, splice, 5_u64.wrapping_add(count));
+    assert_dropped::<E, _>(rt, ledger, splice, held);
     Ok(())
 }
 

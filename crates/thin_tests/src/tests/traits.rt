@@ -37,6 +37,10 @@ fn or_default_makes_a_list_without_a_block(rt: HostRuntime) -> Result<(), Fail> 
     list.push(10)?;
     let list = lists.entry(1)?.or_default();
     assert_list(&rt, list, &[10], 4);
+    let mut wide: HashMap<u32, ThinVec<[u64; 40]>> = HashMap::new(rt.alloc());
+    assert_same(&rt, wide.entry(1)?.or_default().capacity(), 0);
+    let mut units: HashMap<u32, ThinVec<()>> = HashMap::new(rt.alloc());
+    assert_same(&rt, units.entry(1)?.or_default().capacity(), 0);
     Ok(())
 }
 
