@@ -5,6 +5,7 @@ mod hints;
 mod in_place;
 mod no_memory;
 mod order;
+mod over_global;
 mod padded;
 mod refused;
 mod requests;

@@ -161,6 +161,12 @@ fn sweeps_items_of_32_to_128_bytes(rt: HostRuntime) {
 }
 
 #[test]
+fn sweeps_items_of_24_and_48_bytes_that_are_not_counted(rt: HostRuntime) {
+    sweep_all::<[u64; 3], PowerBytes, _>(&rt, rt.alloc(), &[50]);
+    sweep_all::<[u128; 3], Doubling, _>(&rt, rt.alloc(), &[50]);
+}
+
+#[test]
 fn sweeps_items_of_512_bytes(rt: HostRuntime) {
     sweep_all::<Large, Doubling, _>(&rt, rt.alloc(), &LONGER);
 }
@@ -196,7 +202,8 @@ fn sweeps_counted_items_under_other_rules(rt: HostRuntime) {
 fn orders_lists_with_one_comparison_of_each_item(rt: HostRuntime) {
     let ledger = Ledger::leaked(rt.alloc()).expect(&rt, "memory");
     sweep::<Comparing, Small, Doubling, _>(&rt, ledger, &SHORT, &[0, 1, 9], ALL);
-    sweep::<Comparing, Small, Doubling, _>(&rt, ledger, &[50, 150], &[0, 1], ALL);
+    sweep::<Comparing, Small, Doubling, _>(&rt, ledger, &[50, 150, 3000], &[0, 1], ALL);
+    sweep::<Comparing, Large, Doubling, _>(&rt, ledger, &[1, 40], &[0], ALL);
 }
 
 #[test]
@@ -204,6 +211,31 @@ fn sweeps_counted_items_of_long_lists(rt: HostRuntime) {
     let ledger = Ledger::leaked(rt.alloc()).expect(&rt, "memory");
     sweeps::<Small, Doubling, _>(&rt, ledger, &[4000], &[0, 1], 5);
     sweeps::<Small, Doubling, _>(&rt, ledger, &[41_000], &[0, 1], 2);
+}
+
+#[test]
+fn sweeps_long_lists_of_counted_items_of_8_to_512_bytes(rt: HostRuntime) {
+    let ledger = Ledger::leaked(rt.alloc()).expect(&rt, "memory");
+    sweeps::<CountedWord<'static>, Doubling, _>(&rt, ledger, &[4000], &[0], 2);
+    sweeps::<ThreeWords, PowerBytes, _>(&rt, ledger, &[4000], &[0], 2);
+    sweeps::<Aligned, Doubling, _>(&rt, ledger, &[2000], &[0], 2);
+    sweeps::<Large, Fourfold, _>(&rt, ledger, &[1200], &[0], 2);
+}
+
+#[test]
+fn sweeps_long_lists_of_items_that_are_not_counted(rt: HostRuntime) {
+    let ledger = Ledger::leaked(rt.alloc()).expect(&rt, "memory");
+    sweeps::<(), Doubling, _>(&rt, ledger, &[20_000], &[0], 2);
+    sweeps::<u8, PowerBytes, _>(&rt, ledger, &[4000, 41_000], &[0], 2);
+    sweeps::<u16, Threefold, _>(&rt, ledger, &[6000], &[0], 2);
+    sweeps::<i32, PowerBytes, _>(&rt, ledger, &[6000], &[0], 2);
+    sweeps::<u64, PowerBytes, _>(&rt, ledger, &[6000], &[0], 2);
+    sweeps::<u128, PowerBytes, _>(&rt, ledger, &[6000], &[0], 2);
+    sweeps::<[u8; 3], Fourfold, _>(&rt, ledger, &[6000], &[0], 2);
+    sweeps::<[u32; 5], Doubling, _>(&rt, ledger, &[6000], &[0], 2);
+    sweeps::<[u64; 3], Threefold, _>(&rt, ledger, &[6000], &[0], 2);
+    sweeps::<[u128; 3], Doubling, _>(&rt, ledger, &[3000], &[0], 2);
+    sweeps::<[u64; 40], PowerBytes, _>(&rt, ledger, &[40, 1500], &[0], 2);
 }
 
 // Sweeps the calls that copy items.
@@ -227,6 +259,8 @@ fn copies_items_of_all_sizes(rt: HostRuntime) {
     copies::<u64, _>(&rt, rt.alloc());
     copies::<[u64; 3], _>(&rt, rt.alloc());
     copies::<[u64; 6], _>(&rt, rt.alloc());
+    copies::<[u64; 40], _>(&rt, rt.alloc());
+    copies::<[u128; 3], _>(&rt, rt.alloc());
     copies::<u128, _>(&rt, rt.alloc());
 }
 

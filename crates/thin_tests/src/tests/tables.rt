@@ -90,13 +90,14 @@ fn prints_each_row_as_a_map(rt: HostRuntime) -> Result<(), Fail> {
     let mut table = Rows::with_rows(rt.alloc(), 2)?;
     assert_set(&rt, &mut table, (1, 7), 10, None)?;
     assert_set(&rt, &mut table, (1, 2), 20, None)?;
-    let lines = "[\n    {},\n    {\n        2: 20,\n        7: 10,\n    },\n]";
-    let wide = "[{}, {0002: 0020, 0007: 0010}]";
+    assert_set(&rt, &mut table, (1, 9), 30, None)?;
+    let lines = "[\n    {},\n    {\n        2: 20,\n        7: 10,\n        9: 30,\n    },\n]";
+    let wide = "[{}, {0002: 0020, 0007: 0010, 0009: 0030}]";
     assert_texts(
         &rt,
         rt.alloc(),
         &table,
-        ["[{}, {2: 20, 7: 10}]", lines, wide],
+        ["[{}, {2: 20, 7: 10, 9: 30}]", lines, wide],
     )
 }
 
@@ -110,7 +111,7 @@ fn prints_a_row_of_many_entries(rt: HostRuntime) -> Result<(), Fail> {
     }
     text.push_str("{0: 1")?;
     assert_set(&rt, &mut table, (11, 0), 1, None)?;
-    for column in 1..150 {
+    for column in 1..400 {
         assert_set(&rt, &mut table, (11, column), 1, None)?;
         text.push_str(format!(in rt.alloc(); ", {column}: 1")?.as_str())?;
     }

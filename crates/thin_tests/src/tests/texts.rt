@@ -81,41 +81,65 @@ fn prints_each_item_with_a_width_and_a_precision(rt: HostRuntime) -> Result<(), 
     Ok(())
 }
 
+// Returns what `{:?}` and `{:#?}` print for a list of the numbers `from..to`, of which the lines are
+// indented by `indent` more.
+fn texts_of(alloc: Global, from: i32, to: i32, indent: &str) -> Result<(String, String), Fail> {
+    let (mut line, mut lines) = (String::new(alloc), String::new(alloc));
+    line.push_str("[")?;
+    lines.push_str("[\n")?;
+    for number in from..to {
+        let comma = if number > from { ", " } else { "" };
+        line.push_str(format!(in alloc; "{comma}{number}")?.as_str())?;
+        lines.push_str(format!(in alloc; "{indent}    {number},\n")?.as_str())?;
+    }
+    line.push_str("]")?;
+    lines.push_str(format!(in alloc; "{indent}]")?.as_str())?;
+    Ok((line, lines))
+}
+
+// Asserts that the value is printed as the list of the numbers `from..to` in parentheses after the
+// name.
+fn assert_wrapped<D: Debug>(
+    rt: &impl Abort,
+    alloc: Global,
+    value: &D,
+    name: &str,
+    numbers: (i32, i32),
+) -> Result<(), Fail> {
+    let (line, lines) = texts_of(alloc, numbers.0, numbers.1, "    ")?;
+    let wrapped = format!(in alloc; "{name}({line})")?;
+    assert_text(rt, alloc, value, wrapped.as_str())?;
+    let printed = format!(in alloc; "{value:#?}")?;
+    let wrapped = format!(in alloc; "{name}(\n    {lines},\n)")?;
+    assert_same(rt, printed.as_str(), wrapped.as_str());
+    Ok(())
+}
+
 #[test]
 fn prints_a_list_and_an_into_iter_of_many_items(rt: HostRuntime) -> Result<(), Fail> {
-    let mut list = list_of(rt.alloc(), &[0])?;
-    let mut text = String::new(rt.alloc());
-    text.push_str("[0")?;
-    for number in 1..150 {
-        list.push(number)?;
-        text.push_str(format!(in rt.alloc(); ", {number}")?.as_str())?;
-    }
-    text.push_str("]")?;
-    assert_text(&rt, rt.alloc(), &list, text.as_str())?;
+    let alloc = rt.alloc();
+    let list: ThinVec<i32> = (0..700).collect(alloc)?;
+    let (line, lines) = texts_of(alloc, 0, 700, "")?;
+    assert_text(&rt, alloc, &list, line.as_str())?;
+    let printed = format!(in alloc; "{list:#?}")?;
+    assert_same(&rt, printed.as_str(), lines.as_str());
     let mut items = list.into_iter();
-    let wrapped = format!(in rt.alloc(); "IntoIter({text})")?;
-    assert_text(&rt, rt.alloc(), &items, wrapped.as_str())?;
-    for _ in 0..140 {
+    assert_wrapped(&rt, alloc, &items, "IntoIter", (0, 700))?;
+    for _ in 0..690 {
         assert_same(&rt, items.next().is_some(), true);
     }
-    assert_same(&rt, items.next_back(), Some(149));
-    let left = "IntoIter([140, 141, 142, 143, 144, 145, 146, 147, 148])";
-    assert_text(&rt, rt.alloc(), &items, left)
+    assert_same(&rt, items.next_back(), Some(699));
+    assert_wrapped(&rt, alloc, &items, "IntoIter", (690, 699))
 }
 
 #[test]
 fn prints_a_drain_of_many_items(rt: HostRuntime) -> Result<(), Fail> {
-    let mut list = list_of(rt.alloc(), &[1, 2, 3, 4, 5, 6, 7, 8, 9])?;
-    assert_len(&rt, &list, 9);
-    let mut drain = list.drain(0, 9);
-    assert_text(
-        &rt,
-        rt.alloc(),
-        &drain,
-        "Drain([1, 2, 3, 4, 5, 6, 7, 8, 9])",
-    )?;
-    assert_same(&rt, (drain.next(), drain.next_back()), (Some(1), Some(9)));
-    assert_text(&rt, rt.alloc(), &drain, "Drain([2, 3, 4, 5, 6, 7, 8])")
+    let mut list: ThinVec<i32> = (0..300).collect(rt.alloc())?;
+    assert_len(&rt, &list, 300);
+    let mut drain = list.drain(1, 299);
+    assert_wrapped(&rt, rt.alloc(), &drain, "Drain", (1, 299))?;
+    assert_same(&rt, (drain.next(), drain.next_back()), (Some(1), Some(298)));
+    assert_wrapped(&rt, rt.alloc(), &drain, "Drain", (2, 298))
 }
 
 #[test]

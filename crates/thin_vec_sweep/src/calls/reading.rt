@@ -179,7 +179,9 @@ impl<T: Numbered + Ord, G: Growth> Calls<T, G> for Comparing {
         if let Some(place) = other.get_mut(index) {
             *place = case.item();
         }
+        // The other item has the number 200, and those of the list count from 0.
         let wanted = match argument {
+            2 if length > 201 => Ordering::Greater,
             1 | 2 if length > 0 => Ordering::Less,
             3 if length > 0 => Ordering::Greater,
             4 => Ordering::Less,
