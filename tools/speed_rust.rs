@@ -34,7 +34,6 @@ fn named(workload: &str) -> Option<fn(usize, usize) -> u64> {
         "push_strings" => |size, times| push(size, times, Vec::new, word),
         "push_reserved" => |size, times| push(size, times, || Vec::with_capacity(size), in_turn),
         "push_reserved_24" => |size, times| push(size, times, || Vec::with_capacity(size), wide::<2>),
-        "push_reserved_48" => |size, times| push(size, times, || Vec::with_capacity(size), wide::<5>),
         "push_pop" => push_pop,
         "extend_hinted" => extend_hinted,
         "extend_unhinted" => extend_unhinted,
@@ -63,18 +62,12 @@ fn named(workload: &str) -> Option<fn(usize, usize) -> u64> {
         "shrink_push" => shrink_push,
         "retain_half" => |size, times| retain(size, times, in_turn, is_even),
         "retain_random" => |size, times| retain(size, times, in_turn, is_random),
-        "retain_but_one" => |size, times| retain(size, times, in_turn, is_not_one),
         "retain_all" => |size, times| retain(size, times, in_turn, is_small),
         "retain_none" => |size, times| retain(size, times, in_turn, |number| number > 1_000_000),
-        "retain_half_u128" => |size, times| retain(size, times, sixteen, is_even),
-        "retain_all_u128" => |size, times| retain(size, times, sixteen, is_small),
         "wide_half" => |size, times| retain(size, times, wide::<39>, is_even),
         "wide_runs" => |size, times| retain(size, times, wide::<39>, is_in_a_run),
-        "wide_all" => |size, times| retain(size, times, wide::<39>, is_small),
         "dedup" => dedup,
-        "dedup_by_key" => dedup_by_key,
         "extract_if" => |size, times| extract(size, times, in_turn, is_even),
-        "extract_random" => |size, times| extract(size, times, in_turn, is_random),
         "extract_most" => |size, times| extract(size, times, in_turn, is_not_one),
         "extract_u128" => |size, times| extract(size, times, sixteen, is_even),
         "extract_most_u128" => |size, times| extract(size, times, sixteen, is_not_one),
@@ -547,11 +540,6 @@ fn retain<T: Item>(size: usize, times: usize, item: impl Fn(usize) -> T, keep: i
 #[inline(never)]
 fn dedup(size: usize, times: usize) -> u64 {
     sum_of_refilled(size, times, half, |list| list.dedup())
-}
-
-#[inline(never)]
-fn dedup_by_key(size: usize, times: usize) -> u64 {
-    sum_of_refilled(size, times, in_turn, |list| list.dedup_by_key(|number| *number >> 1))
 }
 
 #[inline(always)]

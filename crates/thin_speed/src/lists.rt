@@ -29,8 +29,6 @@ pub trait Family {
 
     type Triples: List<Wide<2>>;
 
-    type Sixes: List<Wide<5>>;
-
     type Wides: List<Wide<39>>;
 
     type Strings: List<String>;
@@ -131,9 +129,6 @@ pub trait Numbers: Filtered<u64> {
     fn replace(&mut self, start: usize, end: usize, items: &[u64]) -> Result<(), AllocError>;
 
     fn dedup(&mut self);
-
-    /// Calls `dedup_by_key`. The key of a number is half of the number, rounded down.
-    fn dedup_halves(&mut self);
 
     /// Consumes the list from the front, using `into_iter`. Mixes each item into `sum` with the
     /// function `mixed`, and returns the new sum.

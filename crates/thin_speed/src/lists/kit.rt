@@ -20,8 +20,6 @@ impl Family for Kit {
 
     type Triples = Vec<Wide<2>>;
 
-    type Sixes = Vec<Wide<5>>;
-
     type Wides = Vec<Wide<39>>;
 
     type Strings = Vec<String>;
@@ -184,11 +182,6 @@ impl Numbers for Vec<u64> {
     #[inline(always)]
     fn dedup(&mut self) {
         Vec::dedup(self);
-    }
-
-    #[inline(always)]
-    fn dedup_halves(&mut self) {
-        self.dedup_by_key(|number| *number >> 1);
     }
 
     #[inline(always)]

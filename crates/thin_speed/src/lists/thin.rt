@@ -21,8 +21,6 @@ impl Family for Thin {
 
     type Triples = ThinVec<Wide<2>>;
 
-    type Sixes = ThinVec<Wide<5>>;
-
     type Wides = ThinVec<Wide<39>>;
 
     type Strings = ThinVec<String>;
@@ -186,11 +184,6 @@ impl Numbers for ThinVec<u64> {
     #[inline(always)]
     fn dedup(&mut self) {
         ThinVec::dedup(self);
-    }
-
-    #[inline(always)]
-    fn dedup_halves(&mut self) {
-        self.dedup_by_key(|number| *number >> 1);
     }
 
     #[inline(always)]

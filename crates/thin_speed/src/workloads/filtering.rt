@@ -1,4 +1,4 @@
-//! Workloads that remove items, using `retain`, `dedup`, `dedup_by_key` or `extract_if`.
+//! Workloads that remove items, using `retain`, `dedup` or `extract_if`.
 use crate::lists::{Family, Filtered, List, Numbers};
 use crate::numbers::{
     All, Even, InARun, InTurn, Item, NotOne, Nothing, Outcome, Pairs, Pick, Random,
@@ -17,18 +17,12 @@ pub fn run<F: Family>(alloc: Global, workload: &str, size: usize, times: usize) 
     Some(match workload {
         "retain_half" => refilled::<F::Numbers, _, InTurn, Retain<Even>>(alloc, size, times),
         "retain_random" => refilled::<F::Numbers, _, InTurn, Retain<Random>>(alloc, size, times),
-        "retain_but_one" => refilled::<F::Numbers, _, InTurn, Retain<NotOne>>(alloc, size, times),
         "retain_all" => refilled::<F::Numbers, _, InTurn, Retain<All>>(alloc, size, times),
         "retain_none" => refilled::<F::Numbers, _, InTurn, Retain<Nothing>>(alloc, size, times),
-        "retain_half_u128" => refilled::<F::Sixteens, _, InTurn, Retain<Even>>(alloc, size, times),
-        "retain_all_u128" => refilled::<F::Sixteens, _, InTurn, Retain<All>>(alloc, size, times),
         "wide_half" => refilled::<F::Wides, _, InTurn, Retain<Even>>(alloc, size, times),
         "wide_runs" => refilled::<F::Wides, _, InTurn, Retain<InARun>>(alloc, size, times),
-        "wide_all" => refilled::<F::Wides, _, InTurn, Retain<All>>(alloc, size, times),
         "dedup" => refilled::<F::Numbers, _, Pairs, Dedup>(alloc, size, times),
-        "dedup_by_key" => refilled::<F::Numbers, _, InTurn, DedupByKey>(alloc, size, times),
         "extract_if" => refilled::<F::Numbers, _, InTurn, Extract<Even>>(alloc, size, times),
-        "extract_random" => refilled::<F::Numbers, _, InTurn, Extract<Random>>(alloc, size, times),
         "extract_most" => refilled::<F::Numbers, _, InTurn, Extract<NotOne>>(alloc, size, times),
         "extract_u128" => refilled::<F::Sixteens, _, InTurn, Extract<Even>>(alloc, size, times),
         "extract_most_u128" => {
@@ -58,18 +52,6 @@ impl<L: Numbers> Work<L, u64> for Dedup {
     #[inline(always)]
     fn work(list: &mut L, _alloc: Global, _number: usize, sum: u64) -> Outcome {
         list.dedup();
-        Ok(sum)
-    }
-}
-
-// A workload that removes every second item, using `dedup_by_key`. The key of an item is half of
-// the item, rounded down.
-struct DedupByKey;
-
-impl<L: Numbers> Work<L, u64> for DedupByKey {
-    #[inline(always)]
-    fn work(list: &mut L, _alloc: Global, _number: usize, sum: u64) -> Outcome {
-        list.dedup_halves();
         Ok(sum)
     }
 }

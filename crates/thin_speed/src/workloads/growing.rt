@@ -51,7 +51,6 @@ fn run_push<F: Family>(
         "push_strings" => push::<F::Strings, _, InTurn, false>(alloc, size, times),
         "push_reserved" => push::<F::Numbers, _, InTurn, true>(alloc, size, times),
         "push_reserved_24" => push::<F::Triples, _, InTurn, true>(alloc, size, times),
-        "push_reserved_48" => push::<F::Sixes, _, InTurn, true>(alloc, size, times),
         "push_pop" => push_pop::<F::Numbers>(alloc, size, times),
         _ => return None,
     })
