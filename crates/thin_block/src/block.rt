@@ -1,5 +1,4 @@
-//! Defines the type `Block`, a pointer to an allocation that holds a capacity, a length and slots
-//! for items.
+//! Defines the type `Block`, with the methods that read and write its header.
 ghost use Rattle.std.specs.Prelude.{◌≡◌, ℕ, ◌^◌, ◌<◌, ◌≤◌, List, [], length, Option};
 ghost use Rattle.std.specs.declared.option.Option.TheVariants.{None};
 ghost use Rattle.std.specs.Coded.{coded_list, coded_option};
@@ -18,8 +17,8 @@ static EMPTY_HEADER: Header = Header {
     aligned: [],
 };
 
-// A header holds a capacity and a length. The empty array `aligned` takes no memory. It raises the
-// alignment of the header to that of `u128`.
+// The empty array `aligned` takes no memory. It raises the alignment of the header to that of
+// `u128`.
 struct Header {
     cap: usize,
     len: usize,
@@ -33,8 +32,7 @@ struct Header {
 /// A block cannot be dropped: the caller must empty every slot and then call `release`, which frees
 /// the memory.
 ///
-/// Contracts also mention three counters, and the allocator that the memory came from. The block
-/// stores neither the counters nor the allocator.
+/// Contracts also mention three counters, and the allocator of the memory, which are not stored.
 pub struct Block<T, A: Allocator> {
     // A pointer to the capacity. In memory, the capacity is followed by the length, and then by the
     // slots. In a padded block, unused memory precedes the capacity, and the address of all this
@@ -68,8 +66,7 @@ unsafe impl<T: Sync, A: Allocator + Sync> Sync for Block<T, A> {}
 impl<T, A: Allocator> Block<T, A> {
     ghost use Rattle.thin_block.specs.Block.{block_view};
 
-    /// Returns a block without an allocation. The block has no slots, its length is 0, and there is
-    /// no memory to free.
+    /// Returns a block without an allocation.
     pub fn none() -> Block<T, A>
         ensures new { block_view result ≡ record {
           slots = [];
@@ -85,7 +82,7 @@ impl<T, A: Allocator> Block<T, A> {
         }
     }
 
-    /// Returns the stored length, counted in items.
+    /// Returns the stored length, in items.
     pub fn len(&self) -> usize
         ensures value { result ≡ self.now.len }
         ensures in_bounds { result ≤ length self.now.slots }
@@ -107,7 +104,7 @@ impl<T, A: Allocator> Block<T, A> {
         unsafe { *at }
     }
 
-    /// Sets the stored length to `len` items. The slots do not change.
+    /// Sets the stored length. The slots do not change.
     pub fn set_len(&mut self, len: usize)
         requires in_bounds { len ≤ length self.old.slots }
         ensures changes { block_view self.new ≡ record (block_view self.old) { len = len } }
@@ -117,8 +114,8 @@ impl<T, A: Allocator> Block<T, A> {
         }
     }
 
-    /// Sets the stored length to `len`. Unlike `set_len`, this function does not test whether the
-    /// block has an allocation. The block must have one.
+    /// Sets the stored length of a block that has an allocation. Unlike `set_len`, this function
+    /// does not test whether there is one.
     pub fn store_len(&mut self, len: usize)
         requires nonempty { 0 < length self.old.slots }
         requires in_bounds { len ≤ length self.old.slots }

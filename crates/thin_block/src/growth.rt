@@ -1,5 +1,4 @@
-//! Defines the trait `Growth` of growth rules. A growth rule chooses the new capacity when a list
-//! has to grow.
+//! Defines the trait `Growth` of growth rules.
 ghost use Rattle.std.specs.Prelude.{◌≡◌, ◌<◌, ℕ, Option};
 ghost use Rattle.std.specs.Mem.{type_size};
 ghost use Rattle.std.specs.Align.{type_align};
@@ -28,8 +27,7 @@ pub trait Growth {
     ghost law: { IsLawful rule };
 }
 
-// Returns `Some(next)` if a block of capacity `next` is small enough to be allocated, and `None`
-// otherwise. The growth rules limit their capacities with this function.
+// Returns `next` if a block of this capacity is small enough to be allocated.
 #[tactic(auto, unfolding(crate::specs::Growth::checked_capacity))]
 fn checked_capacity<T>(next: usize) -> Option<usize>
     ensures value { result ≡ checked_capacity (type_size T.row) (type_align T.row) next }

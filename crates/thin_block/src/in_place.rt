@@ -20,13 +20,13 @@ use std::marker::PhantomData;
 use std::mem::replace;
 
 // The least total size of the items, in words of 8 bytes, for which the allocator resizes the
-// block, possibly in place. For fewer words, it is cheaper to allocate a new block.
+// block. For fewer words, it is cheaper to allocate a new block.
 pub(crate) const LONG: usize = 32;
 
 // Resizes an allocation from `held` to `wanted` values of the type `T`. A gap, which is unused
 // memory for `K` values, precedes its `len` values. While the allocator runs, the last values are
-// stored in the gap, so that the allocation begins with an array. If the allocator fails, the call
-// fails, and the allocation is unchanged.
+// stored in the gap, so that the allocation begins with an array. If the allocator fails, the
+// allocation is unchanged.
 #[inline(always)]
 pub(crate) unsafe fn resize_array<T, A: Allocator, const K: usize>(
     alloc: &A,
@@ -68,8 +68,9 @@ impl<T, A: Allocator> Block<T, A> {
     ghost use Rattle.thin_block.specs.Block.{IsAllocatedBy, Reallocates, block_view};
 
     // Resizes the block of length `len` to `cap` slots, and may leave it at its address. `M` items
-    // form a word, and the header is as large as `K` words. `len` must be a multiple of `M` and at
-    // least `K * M`. If the allocator fails, the call fails, and the block is unchanged.
+    // form a word, and the header is as large as `K` words.
+    //
+    // `resize` is inlined into the callers of `grow`. This function is cold, so that it is not.
     #[cold]
     pub(crate) fn resize_in_place<const M: usize, const K: usize>(
         &mut self,
@@ -111,9 +112,10 @@ impl<T, A: Allocator> Block<T, A> {
     }
 
     // Returns this block with `cap` slots and the same items, or the unchanged block if the
-    // allocator fails. `M` items form a word, and the header is as large as `K` words. The items
-    // form `count` words, and `count` is at least `K`. The function converts the items into words,
-    // and resizes the memory of the block from `held` to `wanted` words. The header is the gap.
+    // allocator fails. The function converts the items into `count` words, and resizes the memory
+    // of the block from `held` to `wanted` words. The header is the gap.
+    //
+    // These numbers are arguments so that the body, whose proof is written by hand, stays short.
     fn resize_words<const M: usize, const K: usize>(
         self,
         alloc: &A,

@@ -1,4 +1,4 @@
-//! Methods that return a reference to one item of a block, or to a slice of adjacent items.
+//! Methods that return a reference to one item of a block, or to adjacent items.
 ghost use Rattle.std.specs.Prelude.{◌≡◌, ℕ, ◌<◌, ◌≤◌, IsSome, length, slice_range};
 ghost use Rattle.std.specs.declared.option.Option.TheVariants.{Some};
 ghost use types.Logic.{sem};
@@ -36,8 +36,8 @@ impl<T, A: Allocator> Block<T, A> {
         unsafe { &mut *(at.add(HEADER_WORDS) as *mut T).add(i) }
     }
 
-    /// Returns the items in the slots `start..end` as a mutable slice. The range may be empty, even
-    /// if the block has no allocation.
+    /// Returns the items in the slots `start..end` as a mutable slice. As for `slice`, the range
+    /// may be empty.
     pub fn slice_mut(&mut self, start: usize, end: usize) -> &mut [T]
         requires start_le_end { start ≤ end }
         requires in_bounds { end ≤ length self.old.slots }

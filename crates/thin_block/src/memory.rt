@@ -21,8 +21,7 @@ use std::mem::{ManuallyDrop, replace};
 impl<T, A: Allocator> Block<T, A> {
     ghost use Rattle.thin_block.specs.Block.{IsAllocatedBy, Reallocates, block_view};
 
-    /// Allocates a block of `cap` empty slots with one request for memory. The stored length of the
-    /// block is 0.
+    /// Allocates a block of `cap` empty slots with one request for memory.
     ///
     /// # Errors
     ///
@@ -49,8 +48,7 @@ impl<T, A: Allocator> Block<T, A> {
     }
 
     // Allocates a block of `cap` empty slots with one request for memory. The new block is meant to
-    // replace this block, so it has the cost of this block, plus the request. This block does not
-    // change.
+    // replace this block, so it continues the counters of this block, which does not change.
     #[tactic(auto, unfolding(crate::specs::Capacity::has_padding))]
     fn replacement(&self, alloc: &A, cap: usize) -> Result<Block<T, A>, ThinVecError>
         requires nonzero { 0 < cap }
@@ -82,7 +80,7 @@ impl<T, A: Allocator> Block<T, A> {
     ///
     /// # Errors
     ///
-    /// Fails with `OutOfMemory` if the allocator fails. In this case, the block is unchanged.
+    /// Fails with `OutOfMemory` if the allocator fails.
     #[inline(always)]
     pub fn grow(&mut self, alloc: &A, cap: usize) -> Result<(), ThinVecError>
         requires same_allocator { IsAllocatedBy self.old.alloc alloc.now }
@@ -114,7 +112,7 @@ impl<T, A: Allocator> Block<T, A> {
     ///
     /// # Errors
     ///
-    /// Fails with `OutOfMemory` if the allocator fails. In this case, the block is unchanged.
+    /// Fails with `OutOfMemory` if the allocator fails.
     pub fn shrink(&mut self, alloc: &A, cap: usize) -> Result<(), ThinVecError>
         requires same_allocator { IsAllocatedBy self.old.alloc alloc.now }
         requires nonzero { 0 < cap }
@@ -140,8 +138,7 @@ impl<T, A: Allocator> Block<T, A> {
     // Changes the number of slots of the block of length `len` to `cap`. If the items form whole
     // words and take at least `LONG * 8` bytes, or if the block is padded and remains so, the
     // allocator resizes the block, possibly in place. Otherwise, the items are moved to a new
-    // block, and the old block is freed. If the allocator fails, the call fails, and the block is
-    // unchanged. The block must have an allocation.
+    // block, and the old block is freed.
     #[inline(always)]
     fn resize(&mut self, alloc: &A, len: usize, cap: usize) -> Result<(), ThinVecError>
         requires same_allocator { IsAllocatedBy self.old.alloc alloc.now }
@@ -205,8 +202,8 @@ impl<T, A: Allocator> Block<T, A> {
         }
     }
 
-    // Frees the allocation of the block as `free` does. This function is not inlined, so that a
-    // caller of `free` has no code for padded blocks.
+    // Frees the allocation as `free` does. This function is not inlined, so that a caller of `free`
+    // has no code for padded blocks.
     #[cold]
     #[inline(never)]
     fn free_large(self, alloc: &A, cap: usize)
@@ -232,8 +229,7 @@ impl<T, A: Allocator> Block<T, A> {
     }
 
     // Allocates a block that is not padded and is to replace the block `old`, as `replacement`
-    // does. `bytes` is the size of the new block in bytes, and `align` is its alignment. The call
-    // fails only if the allocator fails. At run time, `old` is not used.
+    // does. At run time, `old` is not used: it names the counters that the new block continues.
     fn allocate_block(
         alloc: &A,
         cap: usize,
@@ -270,8 +266,7 @@ impl<T, A: Allocator> Block<T, A> {
         }
     }
 
-    // Frees the allocation of the block as `release` does. The block must have an allocation, and
-    // must not be padded. `bytes` is the size of the block in bytes, and `align` is its alignment.
+    // Frees the allocation of the block, which is not padded, as `release` does.
     fn free_block(self, alloc: &A, bytes: usize, align: usize)
         requires same_allocator { self.alloc ≡ Some alloc.now }
         requires empty { self.slots ≡ empty_slots (length self.slots) }

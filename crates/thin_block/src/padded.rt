@@ -22,10 +22,8 @@ use std::mem::replace;
 impl<T, A: Allocator> Block<T, A> {
     ghost use Rattle.thin_block.specs.Block.{IsAllocatedBy, Reallocates, block_view};
 
-    // Allocates a padded block that is to replace the block `old`, as `replacement` does. `bytes`
-    // is the size of the new block in bytes, `align` is its alignment, and `front` is the number of
-    // bytes before its header. The call fails only if the allocator fails. At run time, `old` is
-    // not used.
+    // Allocates a padded block that is to replace the block `old`, as `allocate_block` does.
+    // `front` is the number of bytes before its header.
     pub(crate) fn allocate_padded(
         alloc: &A,
         cap: usize,
@@ -64,8 +62,7 @@ impl<T, A: Allocator> Block<T, A> {
         }
     }
 
-    // Frees the allocation of the padded block as `release` does. The block has `cap` slots, and
-    // takes `bytes` bytes with the alignment `align`.
+    // Frees the allocation of the padded block as `release` does.
     pub(crate) fn free_padded(self, alloc: &A, cap: usize, bytes: usize, align: usize)
         requires same_allocator { self.alloc ≡ Some alloc.now }
         requires capacity { cap ≡ length self.slots }
@@ -85,9 +82,8 @@ impl<T, A: Allocator> Block<T, A> {
         }
     }
 
-    // Resizes the padded block of length `len` to `cap` slots, and may leave it at its address. A
-    // block of `cap` slots has to be padded too. If the allocator fails, the call fails, and the
-    // block is unchanged.
+    // Resizes the padded block of length `len` to `cap` slots, and may leave it at its address.
+    // This function is cold for the same reason as `resize_in_place`.
     #[cold]
     #[tactic(auto, unfolding(crate::specs::Capacity::has_padding))]
     pub(crate) fn resize_padded_in_place(
@@ -129,9 +125,9 @@ impl<T, A: Allocator> Block<T, A> {
     }
 
     // Returns this block with `cap` slots and the same items, or the unchanged block if the
-    // allocator fails. The block is padded, and is so with `cap` slots. `front` is the number of
-    // bytes before the header. The function resizes the memory of the block as an array from `held`
-    // to `wanted` items. The padding and the header are the gap.
+    // allocator fails. The function resizes the memory of the block as an array from `held` to
+    // `wanted` items. The padding and the header are the gap. `front` is the number of bytes before
+    // the header.
     fn resize_padded(
         self,
         alloc: &A,

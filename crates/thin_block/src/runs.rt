@@ -1,6 +1,5 @@
 //! Methods that move runs of items within a block or to another block. A run consists of the items
-//! in adjacent slots. A clause `capacity`, about the number of slots, follows from the clause
-//! `changes` before it.
+//! in adjacent slots. A clause `capacity` follows from the clause `changes` before it.
 ghost use Rattle.std.specs.Prelude.{◌≡◌, ◌⊎◌, ℕ, ◌+◌, ◌-◌, ◌<◌, ◌≤◌, false, if◌then◌else◌, length, true};
 ghost use Rattle.std.specs.declared.option.Option.TheVariants.{None};
 ghost use Rattle.thin_block.specs.Cost.{add_moves, add_copies};
@@ -15,7 +14,7 @@ impl<T, A: Allocator> Block<T, A> {
     ghost use Rattle.thin_block.specs.Block.{block_view};
 
     /// Moves the `k` items in the slots `from..from + k` to the slots `to..to + k`. These two
-    /// ranges may overlap. All new slots outside `from..from + k` must be empty.
+    /// ranges may overlap.
     pub fn move_run(&mut self, from: usize, to: usize, k: usize)
         requires in_bounds { from + k ≤ length self.old.slots }
         requires target { to + k ≤ length self.old.slots }
@@ -35,9 +34,8 @@ impl<T, A: Allocator> Block<T, A> {
         }
     }
 
-    /// Moves the `k` items that start at slot `to + gap` down by `gap` slots. The `gap` slots
-    /// directly below the items must be empty. If `gap` is a constant, LLVM turns this call into a
-    /// `memmove`.
+    /// Moves the `k` items that start at slot `to + gap` down by `gap` slots. If `gap` is a
+    /// constant, LLVM turns this call into a `memmove`.
     #[inline(always)]
     pub fn move_down(&mut self, to: usize, gap: usize, k: usize)
         requires in_bounds { to + gap + k ≤ length self.old.slots }
@@ -52,8 +50,8 @@ impl<T, A: Allocator> Block<T, A> {
         self.move_within(to, gap, 0, k, false);
     }
 
-    /// Moves the items in the slots `from..from + k` up by `gap` slots. The `gap` slots above the
-    /// items must be empty. For a constant `gap`, LLVM turns this call into a `memmove`.
+    /// Moves the items in the slots `from..from + k` up by `gap` slots. If `gap` is a constant,
+    /// LLVM turns this call into a `memmove`.
     #[inline(always)]
     pub fn move_up(&mut self, from: usize, gap: usize, k: usize)
         requires in_bounds { from + gap + k ≤ length self.old.slots }
@@ -68,8 +66,8 @@ impl<T, A: Allocator> Block<T, A> {
         self.move_within(from, 0, gap, k, true);
     }
 
-    /// Moves items down as `move_down` does, and returns the block. The block is passed by value to
-    /// keep its pointer in a register.
+    /// Moves items down as `move_down` does. The block is passed by value to keep its pointer in a
+    /// register.
     #[inline(never)]
     pub fn close_gap(self, to: usize, gap: usize, k: usize) -> Block<T, A>
         requires in_bounds { to + gap + k ≤ length self.slots }
@@ -82,8 +80,7 @@ impl<T, A: Allocator> Block<T, A> {
         ensures capacity { length result.slots ≡ length self.slots }
     {
         let mut block = self;
-        // In each arm whose pattern is a number, LLVM knows the value of `gap`, and turns the call
-        // in this arm into a `memmove`.
+        // In each arm whose pattern is a number, LLVM knows the value of `gap`.
         match gap {
             1 => block.move_down(to, gap, k),
             2 => block.move_down(to, gap, k),
@@ -105,8 +102,7 @@ impl<T, A: Allocator> Block<T, A> {
         block
     }
 
-    /// Moves items down as `close_gap` does. If `gap` is 1 or 2, the items are moved inline,
-    /// without a call to `close_gap`.
+    /// Moves items down as `close_gap` does, without a call to it if `gap` is 1 or 2.
     #[inline(always)]
     pub fn close_small_gap(self, to: usize, gap: usize, k: usize) -> Block<T, A>
         requires in_bounds { to + gap + k ≤ length self.slots }
@@ -127,8 +123,8 @@ impl<T, A: Allocator> Block<T, A> {
         block
     }
 
-    /// Moves items up as `move_up` does, and returns the block. The block is passed by value to
-    /// keep its pointer in a register.
+    /// Moves items up as `move_up` does. The block is passed by value to keep its pointer in a
+    /// register.
     #[inline(never)]
     pub fn open_gap(self, from: usize, gap: usize, k: usize) -> Block<T, A>
         requires in_bounds { from + gap + k ≤ length self.slots }
@@ -141,8 +137,6 @@ impl<T, A: Allocator> Block<T, A> {
         ensures capacity { length result.slots ≡ length self.slots }
     {
         let mut block = self;
-        // In each arm whose pattern is a number, LLVM knows the value of `gap`, and turns the call
-        // in this arm into a `memmove`.
         match gap {
             1 => block.move_up(from, gap, k),
             2 => block.move_up(from, gap, k),
@@ -165,10 +159,8 @@ impl<T, A: Allocator> Block<T, A> {
     }
 
     // Moves the `k` items from slot `low + from` onward to the slots from `low + to` onward. `up`
-    // says whether the items move up. All slots that the items pass or reach must be empty, except
-    // for their old slots.
-    //
-    // If `from` and `to` are constants, LLVM sees that the distance of the move is constant.
+    // says whether the items move up. If `from` and `to` are constants, LLVM sees that the distance
+    // of the move is constant.
     #[inline(always)]
     fn move_within(&mut self, low: usize, from: usize, to: usize, k: usize, up: bool)
         requires in_bounds { low + from + k ≤ length self.old.slots }
@@ -191,8 +183,7 @@ impl<T, A: Allocator> Block<T, A> {
         }
     }
 
-    // Moves items as `move_run` does. The old slots and the new slots of the items must not
-    // overlap.
+    // Moves items as `move_run` does, to slots that do not overlap the old ones.
     fn move_disjoint(&mut self, from: usize, to: usize, k: usize)
         requires in_bounds { from + k ≤ length self.old.slots }
         requires target { to + k ≤ length self.old.slots }
@@ -213,7 +204,7 @@ impl<T, A: Allocator> Block<T, A> {
     }
 
     /// Moves the `k` items that start at slot `from` of this block to the slots `to..to + k` of the
-    /// block `other`. These slots of `other` must be empty.
+    /// block `other`.
     pub fn move_run_to(&mut self, from: usize, other: &mut Block<T, A>, to: usize, k: usize)
         requires in_bounds { from + k ≤ length self.old.slots }
         requires target { to + k ≤ length other.old.slots }
@@ -230,10 +221,8 @@ impl<T, A: Allocator> Block<T, A> {
         self.move_items_to(from, other, to, k, false);
     }
 
-    // Moves the `k` items in the slots `from..from + k` of this block to the slots `to..to + k` of
-    // `other`. These slots of `other` must be empty. `relocates` says how the cost of `other`
-    // counts the items: as copies of a reallocation if `relocates` is true, and as moves otherwise.
-    // At run time, `relocates` is not used.
+    // Moves items as `move_run_to` does. At run time, `relocates` is not used: it says whether the
+    // cost of `other` counts the items as copies of a reallocation, or as moves.
     pub(crate) fn move_items_to(
         &mut self,
         from: usize,

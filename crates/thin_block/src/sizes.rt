@@ -12,7 +12,7 @@ use std::mem::{align_of, size_of};
 // the offset of the first item in a block.
 pub(crate) const HEADER: usize = 16;
 
-// The size of the header in words of 8 bytes. The two words contain the capacity and the length.
+// The size of the header in words of 8 bytes.
 pub(crate) const HEADER_WORDS: usize = 2;
 
 /// Returns the size of an item in bytes, or `usize::MAX` if the size exceeds `usize::MAX`.
@@ -56,8 +56,7 @@ pub(crate) fn may_be_padded<T>(cap: usize) -> bool
     item_size::<T>() > HEADER && item_align::<T>() >= 8 && cap >= PADDED
 }
 
-// Returns whether a block for `cap` items is padded, so that the allocator can resize it as an
-// array of items.
+// Returns whether a block for `cap` items is padded.
 #[tactic(auto, unfolding(crate::specs::Capacity::has_padding))]
 pub(crate) fn is_padded<T>(cap: usize) -> bool
     requires { Fits T.row cap }

@@ -1,4 +1,4 @@
-//! Methods that move items into slots and out of slots, one at a time or as an array.
+//! Methods that move items into slots and out of slots.
 ghost use Rattle.std.specs.Prelude.{◌≡◌, ◌+◌, ◌<◌, ◌≤◌, ◌==◌, if◌then◌else◌, IsSome, length, slice_set};
 ghost use Rattle.core.specs.Mem.Slots.{IsFull, SamePlaces, slots_items, slots_len};
 ghost use Rattle.std.specs.declared.option.Option.TheVariants.{None, Some};
@@ -16,7 +16,7 @@ const MAX_COPIED_ONE_BY_ONE: usize = 16;
 impl<T, A: Allocator> Block<T, A> {
     ghost use Rattle.thin_block.specs.Block.{block_view};
 
-    /// Moves `value` into slot `i`, which must be empty.
+    /// Moves `value` into slot `i`.
     pub fn put(&mut self, i: usize, value: T)
         requires in_bounds { i < length self.old.slots }
         requires empty { slot self.old.slots i ≡ None }
@@ -25,13 +25,13 @@ impl<T, A: Allocator> Block<T, A> {
           cost = add_moves 1 self.old.cost;
         } }
     {
-        // The clause `fits` of `cap` shows that `[value]` takes fewer than `2 ^ 63` bytes, which a
-        // call to `put_array` requires.
+        // The clause `fits` of `cap` shows that `[value]` takes fewer than `2 ^ 63` bytes, as
+        // `put_array` requires.
         let _cap = self.cap();
         self.put_array(i, [value]);
     }
 
-    /// Moves `value` into the empty slot `i`, and sets the stored length to `len`.
+    /// Moves `value` into slot `i`, and sets the stored length to `len`.
     pub fn put_and_set_len(&mut self, i: usize, value: T, len: usize)
         requires in_bounds { i < length self.old.slots }
         requires empty { slot self.old.slots i ≡ None }
@@ -62,9 +62,8 @@ impl<T, A: Allocator> Block<T, A> {
         unsafe { (at.add(HEADER_WORDS) as *mut T).add(i).read() }
     }
 
-    /// Exchanges the items in the slots `i` and `j`. The indices `i` and `j` may be equal. A caller
-    /// that only needs the item of slot `j` in slot `i` calls `swap_take`, which moves one item
-    /// and not two.
+    /// Exchanges the items in the slots `i` and `j`, which may be equal. A caller that only needs
+    /// the item of slot `j` in slot `i` calls `swap_take`, which moves one item and not two.
     pub fn swap(&mut self, i: usize, j: usize)
         requires filled { IsSome (slot self.old.slots i) }
         requires other_filled { IsSome (slot self.old.slots j) }
@@ -80,7 +79,7 @@ impl<T, A: Allocator> Block<T, A> {
     }
 
     /// Removes the item from slot `i` and returns it. If `j != i`, then moves the item of slot `j`
-    /// into slot `i`. Afterwards, slot `j` is empty.
+    /// into slot `i`.
     pub fn swap_take(&mut self, i: usize, j: usize) -> T
         requires filled { IsSome (slot self.old.slots i) }
         requires other_filled { IsSome (slot self.old.slots j) }
@@ -100,7 +99,7 @@ impl<T, A: Allocator> Block<T, A> {
         }
     }
 
-    /// Moves the items of `values` into the slots `i..i + N`, which must be empty.
+    /// Moves the items of `values` into the slots `i..i + N`.
     pub fn put_array<const N: usize>(&mut self, i: usize, values: [T; N])
         requires in_bounds { i + N ≤ length self.old.slots }
         requires empty { AreEmpty self.old.slots i N }
@@ -113,8 +112,7 @@ impl<T, A: Allocator> Block<T, A> {
         unsafe { ((at.add(HEADER_WORDS) as *mut T).add(i) as *mut [T; N]).write(values) }
     }
 
-    /// Moves the `N` items in the slots `i..i + N` to the caller. Afterwards, these slots are
-    /// empty.
+    /// Moves the `N` items in the slots `i..i + N` to the caller.
     pub fn take_array<const N: usize>(&mut self, i: usize) -> [T; N]
         requires in_bounds { i + N ≤ length self.old.slots }
         requires filled { AreFilled self.old.slots i N }
@@ -131,7 +129,7 @@ impl<T, A: Allocator> Block<T, A> {
 impl<T: Copy, A: Allocator> Block<T, A> {
     ghost use Rattle.thin_block.specs.Block.{block_view};
 
-    /// Copies `items` into adjacent slots, starting at slot `i`. These slots must be empty.
+    /// Copies `items` into adjacent slots, starting at slot `i`.
     pub fn copy_in(&mut self, i: usize, items: &[T])
         requires in_bounds { i + length items.now ≤ length self.old.slots }
         requires empty { AreEmpty self.old.slots i (length items.now) }
@@ -148,8 +146,8 @@ impl<T: Copy, A: Allocator> Block<T, A> {
     }
 }
 
-// Fills `row` with copies of `items`, and returns `row`. At most `MAX_COPIED_ONE_BY_ONE` items are
-// copied one by one, which is faster than a call to `Slots::copy_in`.
+// Fills `row` with copies of `items`. Few items are copied one by one, which is faster than a call
+// to `Slots::copy_in`.
 fn fill_from<T: Copy>(mut row: Slots<T>, items: &[T]) -> Slots<T>
     requires room { slots_len row ≡ length items.now }
     ensures capacity { SamePlaces row result }

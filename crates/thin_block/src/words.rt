@@ -7,7 +7,7 @@ ghost use types.Logic.{sem};
 ghost use Rattle.thin_block.specs.Words.{runs_from, words_from};
 ghost use Rattle.thin_block.specs.contracts.words.Word.{the_row};
 
-// A word, which consists of `M` items and has the alignment of a block.
+// `M` items, with the alignment of a block.
 pub(crate) struct Word<T, const M: usize> {
     pub(crate) items: [T; M],
     pub(crate) aligned: [u64; 0],

@@ -1,5 +1,5 @@
-//! Defines the type `Row`. A row of a table stores its entries in a list, in increasing order of
-//! their columns.
+//! Defines the type `Row`, which stores its entries in a list, in increasing order of their
+//! columns.
 ghost use Rattle.std.specs.Prelude.{◌≡◌, ◌↔◌, ◌+◌, ◌<◌, IfErr, IfOk, IsOk, IsSome, IsTrue, OnErr, OnOk, Some, length};
 ghost use Rattle.std.specs.FinMap as map;
 ghost use Rattle.std.specs.Option.{option_copied};
@@ -10,7 +10,7 @@ use std::marker::Model;
 use std::{fmt, mem};
 use thin_vec::{Rejected, ThinVec};
 
-// A row, which is a finite map from columns to values. A row without entries owns no block.
+// A finite map from columns to values. A row without entries owns no block.
 #[derive(Drop)]
 pub(crate) struct Row<V, A: Allocator> {
     entries: ThinVec<(usize, V), A>,
@@ -40,7 +40,6 @@ impl<V, A: Allocator> Row<V, A> {
     ghost use Rattle.thin_rows.specs.EntryType.{entry_type};
     ghost use Rattle.thin_rows.specs.Lends.{LendsColumn, LendsColumnIfSome};
 
-    // Returns a row without entries.
     pub(crate) fn new(alloc: A) -> Row<V, A>
         ensures value { result ≡ map.empty }
     {
@@ -57,21 +56,19 @@ impl<V, A: Allocator> Row<V, A> {
         self.entries.as_slice()
     }
 
-    // Returns the number of entries.
     pub(crate) fn len(&self) -> usize
         ensures value { result ≡ map.len self.now }
     {
         self.entries.len()
     }
 
-    // Returns whether the row owns a block.
     pub(crate) fn owns_block(&self) -> bool
         ensures value { IsTrue result ↔ (0 < map.len self.now) }
     {
         self.entries.has_capacity()
     }
 
-    // Returns the value at `column`, or `None` if the column has no entry.
+    // Returns the value at `column`, if there is one.
     pub(crate) fn get(&self, column: usize) -> Option<&V>
         ensures value { option_copied result ≡ map.get self.now column }
     {
@@ -82,7 +79,7 @@ impl<V, A: Allocator> Row<V, A> {
         }
     }
 
-    // Returns a mutable reference to the value at `column`, or `None` if the column has no entry.
+    // Returns a mutable reference to the value at `column`, if there is one.
     pub(crate) fn get_mut(&mut self, column: usize) -> Option<&mut V>
         ensures* writes_back { sem 𝓛
             (LendsColumnIfSome V.row A.row A.Allocator self.entry column result) }
@@ -105,8 +102,7 @@ impl<V, A: Allocator> Row<V, A> {
         &mut self.entries[at].1
     }
 
-    // Writes `value` at `column`, and returns the old value, if any. Fails only if a new entry is
-    // needed, and there is no room for it.
+    // Writes `value` at `column`, and returns the old value, if there was one.
     pub(crate) fn set(&mut self, column: usize, value: V) -> Result<Option<V>, Rejected<V>>
         ensures succeeds { IsSome (map.get self.old column) → IsOk result }
         ensures value { IfOk result (λ old. old ≡ map.get self.old column) }
@@ -169,7 +165,7 @@ impl<V: fmt::Debug, A: Allocator> fmt::Debug for Row<V, A> {
     }
 }
 
-// Frees the block of `list` if `list` is empty.
+// Frees the block of `list` if `list` is empty. This cannot fail.
 fn free_if_empty<T, A: Allocator>(list: &mut ThinVec<T, A>)
     ensures items { list.new.items ≡ list.old.items }
     ensures capacity { (0 < list.new.capacity) ↔ (0 < length list.new.items) }

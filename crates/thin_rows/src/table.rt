@@ -1,5 +1,4 @@
-//! Defines the type `Rows`, which is a sparse table, and its methods. In contracts, a table is the
-//! list of its rows.
+//! Defines the type `Rows`, which is a sparse table. In contracts, a table is the list of its rows.
 ghost use Rattle.std.specs.Prelude.{◌≡◌, ◌↔◌, ◌+◌, ◌-◌, ◌^◌, ◌<◌, IfErr, IfOk, IsOk, IsSome, IsTrue, OnErr, OnOk, length, map, min, replicate, sum};
 ghost use Rattle.std.specs.FinMap as columns;
 ghost use Rattle.std.specs.List.Sorted.{IsStrictlyIncreasing};
@@ -86,7 +85,7 @@ impl<V, A: Allocator> Rows<V, A> {
         count
     }
 
-    /// Returns the value at the given row and column, or `None` if there is no entry.
+    /// Returns the value at the given row and column, if there is one.
     pub fn get(&self, row: usize, column: usize) -> Option<&V>
         requires in_bounds { row < length self.now }
         ensures value { option_copied result ≡ value_at self.now row column }
@@ -94,8 +93,7 @@ impl<V, A: Allocator> Rows<V, A> {
         self.rows[row].get(column)
     }
 
-    /// Returns a mutable reference to the value at the given row and column, or `None` if there is
-    /// no entry.
+    /// Returns a mutable reference to the value at the given row and column, if there is one.
     pub fn get_mut(&mut self, row: usize, column: usize) -> Option<&mut V>
         requires in_bounds { row < length self.old }
         ensures* writes_back { sem 𝓛
@@ -152,7 +150,7 @@ impl<V, A: Allocator> Rows<V, A> {
         self.rows[row].entries()
     }
 
-    /// Returns whether a row owns a block, that is, whether it has an entry.
+    /// Returns whether a row owns a block.
     pub fn owns_block(&self, row: usize) -> bool
         requires in_bounds { row < length self.now }
         ensures value { IsTrue result ↔ (0 < columns.len (row_at self.now row)) }

@@ -1,5 +1,4 @@
-//! Defines the iterator `Hinted`. The lower bound of its size hint need not be correct: it may be
-//! greater or less than the number of items that the iterator yields.
+//! Defines the iterator `Hinted`, whose size hint need not be correct.
 ghost use Rattle.std.specs.Prelude.{◌≡◌, IfSome, None};
 ghost use Rattle.std.specs.Iterator.{UpTo};
 ghost use Rattle.std.specs.Iterator.Runs.{YieldsInOrder};
@@ -19,8 +18,7 @@ pub struct Hinted<T, A: Allocator = Global> {
 impl<T, A: Allocator> Hinted<T, A> {
     ghost use Rattle.thin_runner.specs.Hinted.{HintedSteps, hinted_claim, hinted_items};
 
-    /// Makes an iterator that owns `items` and yields them in order. The lower bound of its size
-    /// hint is always `lower`.
+    /// Makes an iterator that owns `items`. The lower bound of its size hint is always `lower`.
     pub fn new(items: Vec<T, A>, lower: usize) -> Hinted<T, A>
         ensures items { hinted_items result ≡ items.items }
         ensures lower { hinted_claim result ≡ lower }

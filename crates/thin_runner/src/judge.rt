@@ -1,5 +1,4 @@
-//! Defines the trait `Judge`. A judge is a value that makes decisions about items. Commands such as
-//! `Retain` call the methods of a judge instead of a closure.
+//! Defines the trait `Judge`.
 ghost use Rattle.std.specs.Prelude.{◌≡◌};
 
 /// A value that makes decisions about items, such as which items `retain` keeps. Commands use a
@@ -16,22 +15,21 @@ pub trait Judge<T>: Copy {
     fn look(&mut self, item: &T) -> bool
         ensures value { (result, self.new) ≡ model.look self.old item.now };
 
-    /// Returns whether `retain_mut` keeps `item`. May write to `item`.
+    /// Returns whether `retain_mut` keeps `item`.
     fn keep(&mut self, item: &mut T) -> bool
         ensures value { (result, item.new, self.new) ≡ model.keep self.old item.old };
 
-    /// Returns whether `dedup_by` removes `later`. The item `kept` is the nearest item before
-    /// `later` that was kept. May write to both items.
+    /// Returns whether `dedup_by` removes `later`. The item `kept` is the last item kept before
+    /// `later`.
     fn same(&mut self, later: &mut T, kept: &mut T) -> bool
         ensures value { (result, later.new, kept.new, self.new)
             ≡ model.same self.old later.old kept.old };
 
-    /// Returns the key that `dedup_by_key` uses to compare `item` with other items. May write to
-    /// `item`.
+    /// Returns the key that `dedup_by_key` uses to compare `item` with other items.
     fn key(&mut self, item: &mut T) -> u64
         ensures value { (result, item.new, self.new) ≡ model.key self.old item.old };
 
-    /// Returns whether `extract_if` removes `item` and yields it. May write to `item`.
+    /// Returns whether `extract_if` removes `item` and yields it.
     fn take(&mut self, item: &mut T) -> bool
         ensures value { (result, item.new, self.new) ≡ model.take self.old item.old };
 }

@@ -32,12 +32,8 @@ fn is_in_range<T, A: Allocator, G: Growth>(
     }
 }
 
-/// Carries out one command, and returns the reply. The reply owns the values that the call
-/// returned.
-///
-/// If the index or the range of the command is out of bounds, the list does not change, and the
-/// reply is `OutOfRange`, which contains the command. The lists and vectors that the command makes
-/// use the allocator `alloc`. A command that asks the judge gets its own copy of `judge`.
+/// Carries out one command, and returns the reply. The lists and vectors that the command makes use
+/// the allocator `alloc`. A command that asks the judge gets its own copy of `judge`.
 pub fn step<T: Clone + Eq, A: Allocator + Copy, G: Growth, J: Judge<T>>(
     alloc: A,
     list: &mut ThinVec<T, A, G>,
@@ -110,10 +106,7 @@ pub fn step<T: Clone + Eq, A: Allocator + Copy, G: Growth, J: Judge<T>>(
     }
 }
 
-/// Carries out the commands in order, and appends their replies to `replies`.
-///
-/// The lists and vectors that the commands make use the allocator `alloc`. Each command that asks
-/// the judge gets its own copy of `judge`.
+/// Carries out the commands in order, each as `step` does, and appends their replies to `replies`.
 ///
 /// # Errors
 ///

@@ -8,7 +8,7 @@ mod splices;
 
 use std::marker::PhantomData;
 
-/// What a command may need beside its list: the allocator for new lists and vectors, and the judge.
+/// What a command may need in addition to its list.
 #[derive(Drop)]
 pub(crate) struct Context<T, A, G, J> {
     pub(crate) alloc: A,

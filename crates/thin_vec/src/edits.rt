@@ -1,9 +1,6 @@
 //! The methods that edit a range of a list. During an edit, there may be gaps of empty slots
-//! between the items.
-//!
-//! - A method such as `retain` closes the gaps before it returns.
-//! - The iterators `Drain` and `ExtractIf` close the gaps when they are dropped.
-//! - The iterator `Splice` closes the gaps when its method `finish` is called.
+//! between the items. They are closed before a method such as `retain` returns, when a `Drain` or
+//! an `ExtractIf` is dropped, or by `Splice::finish`.
 
 mod dedup;
 mod drain;

@@ -1,5 +1,4 @@
-//! Defines the type `OpenBlock`. An `OpenBlock` owns the block of a list while a method such as
-//! `retain` edits a range of the list.
+//! Defines the type `OpenBlock`, which owns the block of a list while a range of it is edited.
 ghost use Rattle.std.specs.Prelude.{◌≡◌, ◌↔◌, ◌+◌, ◌-◌, ◌==◌, ◌<◌, ◌≤◌, ◌∷◌, ◌++◌, [], IsTrue, drop, if◌then◌else◌, length, slice_range, take};
 ghost use Rattle.std.specs.Iterator.{YieldsFirst, YieldsLast};
 ghost use Rattle.thin_block.specs.Cost.{add_moves, no_cost};
@@ -18,12 +17,10 @@ use std::marker::Model;
 use std::mem;
 use thin_block::{Block, Growth};
 
-/// Contains the block of a list (the pointer to its allocation) while a method such as `retain`
-/// removes, replaces or tests the items of a range. During this time, there may be empty slots
-/// between the items of the block.
+/// The block of a list while a method such as `retain` removes, replaces or tests the items of a
+/// range. During this time, there may be empty slots between the items.
 ///
-/// The slots are divided into six parts, any of which may consist of no slots. The fields of this
-/// struct say in which slot each part begins. `capacity` is the number of slots.
+/// The fields say in which slot each of six parts begins. Any part may consist of no slots.
 ///
 /// ```text
 ///   0       front_end    rest_start     rest_end    tail_start      len        capacity
@@ -34,37 +31,24 @@ use thin_block::{Block, Growth};
 ///       front        gap       middle run   gap_after       tail      spare slots
 /// ```
 ///
-/// - The *front* contains the items before the range, and the items that have been kept or inserted
-///   so far. They do not move again while the block is open.
-/// - The *gap* consists of the empty slots between the front and the middle run.
-/// - The *middle run* contains the remaining items of the range: those that have not been yielded,
-///   kept or removed so far. In names of fields and in contracts, the middle run is called `rest`.
-/// - `gap_after` consists of the empty slots between the middle run and the tail. There are such
-///   slots only after items were removed from the end of the middle run, or after the tail was
-///   moved up.
+/// - The *front* contains the items before the range, and those kept or inserted so far. They do
+///   not move again while the block is open.
+/// - The *middle run* contains the items of the range that have not been yielded, kept or removed
+///   so far. In names of fields and in contracts, the middle run is called `rest`.
+/// - `gap_after` has slots only after items were removed from the end of the middle run, or after
+///   the tail was moved up.
 /// - The *tail* contains the items after the range.
-/// - The *spare slots* are the empty slots after the tail.
-///
-/// The items of the front are called front items. In the same way, the items of the middle run are
-/// called middle items, and the items of the tail are called tail items.
-///
-/// A *test* decides whether an item is kept or removed, and may write to the item. The *result* on
-/// an item is this decision, together with the item as the test left it.
 ///
 /// An `OpenBlock` owns the block and all items in it. It does not implement `Drop`: `close` puts
-/// the block back into the list. Contracts describe an `OpenBlock` as a value of the type
-/// `OpenView`, which is defined in `specs/Open.antt`. Only the proofs of its methods deal with
-/// slots. So each step of an edit is a method, even a step that only one function takes.
+/// the block back into the list. Contracts describe it as an `OpenView`, which is defined in
+/// `specs/Open.antt`. Only the proofs of its methods deal with slots. So each step of an edit is a
+/// method, even a step that only one function takes.
 pub struct OpenBlock<T, A: Allocator> {
-    // The block that was taken out of the list. The length that it stores is not used while the
-    // block is open.
+    // The length that the block stores is not used while it is open.
     pub(crate) block: Block<T, A>,
-    // The front (the items before the gap) is in the slots `0..front_end`.
     pub(crate) front_end: usize,
-    // The middle run (the remaining items of the range) is in the slots `rest_start..rest_end`.
     pub(crate) rest_start: usize,
     pub(crate) rest_end: usize,
-    // The tail (the items after the range) is in the slots `tail_start..len`.
     pub(crate) tail_start: usize,
     pub(crate) len: usize,
 }
@@ -84,9 +68,8 @@ impl<T, A: Allocator> Model for OpenBlock<T, A> {
 }
 
 impl<T, A: Allocator, G: Growth> ThinVec<T, A, G> {
-    // Takes the block out of the list, and returns it as an open block. The items at the indices
-    // `start..end` become the middle run of the open block, and can then be removed or replaced.
-    // After the call, the list has no items, and its capacity is 0.
+    // Takes the block out of the list, which is then empty, with the items `start..end` as the
+    // middle run.
     pub(crate) fn open(&mut self, start: usize, end: usize) -> OpenBlock<T, A>
         requires start_le_end { start ≤ end }
         requires in_bounds { end ≤ length self.old.items }
@@ -117,8 +100,8 @@ impl<T, A: Allocator, G: Growth> ThinVec<T, A, G> {
         }
     }
 
-    // Closes the gap of `block`, that is, moves the items after the gap down. Then puts the block
-    // back into the list, which must be empty. Any block that the list had is freed.
+    // Closes the gap of `block`, and puts the block back into the list, which must be empty. Any
+    // block that the list had is freed.
     #[inline(always)]
     pub(crate) fn close(&mut self, block: OpenBlock<T, A>)
         requires is_empty { self.old.items ≡ [] }
@@ -137,10 +120,8 @@ impl<T, A: Allocator, G: Growth> ThinVec<T, A, G> {
 }
 
 impl<T: Drop, A: Allocator, G: Growth> ThinVec<T, A, G> {
-    // Takes the block out of the list, drops the items `start..end`, and moves the items after them
-    // up by `count` slots. Returns the block with a gap of `end - start + count` empty slots at
-    // index `start`. The list must have room for `count` more items. After the call, the list has
-    // no items, and its capacity is 0.
+    // Takes the block out of the list as `open` does, drops the items `start..end`, and makes a gap
+    // in their place that has `count` more slots than they took.
     pub(crate) fn open_with_gap(
         &mut self,
         start: usize,
@@ -176,14 +157,13 @@ impl<T: Drop, A: Allocator, G: Growth> ThinVec<T, A, G> {
 }
 
 impl<T, A: Allocator> OpenBlock<T, A> {
-    // Returns the number of middle items.
     pub(crate) fn rest_len(&self) -> usize
         ensures value { result ≡ length self.now.rest }
     {
         self.rest_end - self.rest_start
     }
 
-    // Removes the first middle item, and returns it. Its slot becomes a part of the gap.
+    // Removes and returns the first middle item. Its slot becomes a part of the gap.
     pub(crate) fn take_first(&mut self) -> T
         requires nonempty { 0 < length self.old.rest }
         ensures rest { self.old.rest ≡ result ∷ self.new.rest }
@@ -197,7 +177,6 @@ impl<T, A: Allocator> OpenBlock<T, A> {
         self.block.take(first)
     }
 
-    // Removes the last middle item, and returns it. Its slot becomes a part of `gap_after`.
     pub(crate) fn take_last(&mut self) -> T
         requires nonempty { 0 < length self.old.rest }
         ensures rest { self.old.rest ≡ self.new.rest ++ result ∷ [] }
@@ -210,7 +189,7 @@ impl<T, A: Allocator> OpenBlock<T, A> {
         self.block.take(self.rest_end)
     }
 
-    // Moves the item `value` into the first slot of the gap, which then belongs to the front.
+    // Moves `value` into the first slot of the gap.
     pub(crate) fn append_to_front(&mut self, value: T)
         requires has_gap { 0 < self.old.gap }
         ensures { self.new ≡ record self.old {
@@ -237,7 +216,7 @@ impl<T, A: Allocator> OpenBlock<T, A> {
         self.rest_start += k;
     }
 
-    // Moves the first middle item down to the end of the front.
+    // Moves the first middle item to the end of the front.
     pub(crate) fn move_one_down(&mut self)
         requires nonempty { 0 < length self.old.rest }
         requires has_gap { 0 < self.old.gap }
@@ -251,8 +230,7 @@ impl<T, A: Allocator> OpenBlock<T, A> {
         self.append_to_front(value);
     }
 
-    // Moves the first `k` middle items down to the end of the front. Two or more items are moved
-    // together, by the method `close_gap` of the block.
+    // Moves the first `k` middle items to the end of the front, two or more of them together.
     pub(crate) fn move_down(&mut self, k: usize)
         requires in_bounds { k ≤ length self.old.rest }
         requires has_gap { 0 < self.old.gap }
@@ -272,33 +250,28 @@ impl<T, A: Allocator> OpenBlock<T, A> {
         let block = mem::replace(&mut self.block, Block::none());
         let closed = block.close_gap(self.front_end, self.rest_start - self.front_end, k);
         let none = mem::replace(&mut self.block, closed);
-        // `none` is the empty block that was in the field `block` during the call to `close_gap`.
-        // It has no allocation, so there is nothing to free.
+        // `none` was in the place of the block during the call.
         none.forget_unallocated();
         self.front_end += k;
         self.rest_start += k;
     }
 
-    // Returns the middle items, in order.
     pub(crate) fn rest_slice(&self) -> &[T]
         ensures value { result.now ≡ self.now.rest }
     {
         self.block.slice(self.rest_start, self.rest_end)
     }
 
-    // Returns whether there is an item after the range, that is, in the tail.
     pub(crate) fn has_tail(&self) -> bool
         ensures value { IsTrue result ↔ (0 < length self.now.tail) }
 
-        // In every case. The proof of `Splice::finish` needs this fact, which holds of each open
-        // block.
+        // In every case. This holds of each open block, and the proof of `Splice::finish` needs it.
         ensures in_bounds { tail_end self.now ≤ self.now.capacity }
     {
         self.tail_start < self.len
     }
 
-    // Joins the gaps before and after the middle run into one gap. The middle run must be empty: no
-    // item of the range remains.
+    // Joins the gaps before and after the empty middle run.
     pub(crate) fn merge_gaps(&mut self)
         requires no_rest { self.old.rest ≡ [] }
         ensures { self.new
@@ -308,8 +281,7 @@ impl<T, A: Allocator> OpenBlock<T, A> {
         self.rest_end = self.tail_start;
     }
 
-    // Moves the items after the gap down to the start of the gap. Then stores the number of items
-    // as the length of the block, and returns the block.
+    // Moves the items after the gap down, stores their number in the block, and returns it.
     #[inline(always)]
     fn close_gap(self) -> Block<T, A>
         requires gap_after { self.gap_after ≡ 0 }
@@ -337,8 +309,7 @@ impl<T, A: Allocator> OpenBlock<T, A> {
         closed
     }
 
-    // Moves the items after the range (the tail) up by `count` slots. There must be at least
-    // `count` empty slots after the tail.
+    // Moves the tail up by `count` slots.
     pub(crate) fn shift_tail_up(&mut self, count: usize)
         requires nonzero { 0 < count }
         requires room { tail_end self.old + count ≤ self.old.capacity }
@@ -356,7 +327,6 @@ impl<T, A: Allocator> OpenBlock<T, A> {
         self.len += count;
     }
 
-    // Removes the first middle item, and returns it. Returns `None` if there is none.
     pub(crate) fn next(&mut self) -> Option<T>
         ensures steps { YieldsFirst (λ (v : OpenView T A). v.rest) self.old result self.new }
         ensures range { range_len self.new ≡ range_len self.old }
@@ -371,7 +341,6 @@ impl<T, A: Allocator> OpenBlock<T, A> {
         Some(self.take_first())
     }
 
-    // Removes the last middle item, and returns it. Returns `None` if there is none.
     pub(crate) fn next_back(&mut self) -> Option<T>
         ensures steps { YieldsLast (λ (v : OpenView T A). v.rest) self.old result self.new }
         ensures range { range_len self.new ≡ range_len self.old }
@@ -388,7 +357,7 @@ impl<T, A: Allocator> OpenBlock<T, A> {
 }
 
 impl<T: Drop, A: Allocator> OpenBlock<T, A> {
-    // Drops the middle items. Their slots and the gaps around them become one gap. No item moves.
+    // Drops the middle items. Their slots and the gaps around them become one gap.
     pub(crate) fn drop_rest(&mut self)
         ensures { self.new ≡ record self.old {
           gap = self.old.gap + length self.old.rest + self.old.gap_after;

@@ -1,6 +1,4 @@
-//! Defines the growth rule `PowerBytes`. For items of at least one byte, this rule rounds the size
-//! of the header and the items up to a power of two, and chooses the largest capacity for which
-//! they fit into the rounded size.
+//! Defines the growth rule `PowerBytes`, which fills allocations whose size is a power of two.
 ghost use Rattle.std.specs.Prelude.{◌≡◌, ◌<◌, IfSome};
 ghost use Rattle.std.specs.Mem.{type_size};
 ghost use Rattle.std.specs.Align.{type_align};
@@ -27,10 +25,9 @@ impl Growth for PowerBytes {
 
     ghost rule = { power_bytes };
 
-    // Returns the capacity that the rule chooses, or `None` if this capacity is too large. Suppose
-    // that items take at least one byte, and that the chosen capacity is `n`. Then there is a power
-    // of two `p` such that the header and `n` items fit into `p` bytes, but the header and `n + 1`
-    // items do not.
+    // Returns the capacity that the rule chooses. If items take at least one byte and this capacity
+    // is `n`, there is a power of two `p` such that the header and `n` items fit into `p` bytes,
+    // but the header and `n + 1` items do not.
     fn next_capacity<T>(cap: usize, want: usize) -> Option<usize>
         requires { cap < want }
         ensures value { result ≡ power_bytes (type_size T.row) (type_align T.row) cap want }

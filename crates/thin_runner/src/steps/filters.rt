@@ -1,5 +1,4 @@
-//! Implements the commands `Retain`, `RetainMut`, `Dedup`, `DedupBy` and `DedupByKey`, which test
-//! the items and remove some of them.
+//! Implements the commands that test all items and remove some of them.
 ghost use Rattle.std.specs.Prelude.{◌≡◌};
 ghost use Rattle.thin_runner.specs.Steps.{Allows};
 ghost use Rattle.thin_runner.specs.declared.command.Command.TheVariants.{Retain, RetainMut, Dedup, DedupBy, DedupByKey};

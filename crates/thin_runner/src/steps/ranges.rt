@@ -1,4 +1,4 @@
-//! Implements the commands `Drain` and `ExtractIf`, which remove items from a range of the list.
+//! Implements the commands `Drain` and `ExtractIf`.
 ghost use Rattle.std.specs.Prelude.{◌≡◌, ◌+◌, ◌≤◌, List, ◌∷◌, ◌++◌, length, vec_capacity, vec_len};
 ghost use Rattle.thin_runner.specs.Steps.{Allows};
 ghost use Rattle.thin_runner.specs.commands.Ranges.{ends_taken};
@@ -12,8 +12,8 @@ use std::alloc::Allocator;
 use thin_vec::{Drain, Growth, ThinVec, ThinVecError};
 
 impl<T: Clone + Eq, A: Allocator + Copy, G: Growth, J: Judge<T>> Context<T, A, G, J> {
-    // Carries out the command `Drain`. First reserves room for the results of the steps, and then
-    // drains the range `start..end`.
+    // Carries out the command `Drain`. First reserves room for the results of the steps, so that
+    // the list is unchanged if this fails.
     pub(crate) fn drain(
         self,
         list: &mut ThinVec<T, A, G>,
@@ -37,8 +37,7 @@ impl<T: Clone + Eq, A: Allocator + Copy, G: Growth, J: Judge<T>> Context<T, A, G
         Reply::Answers(answers)
     }
 
-    // Carries out the command `ExtractIf`. First reserves room for `count` results, and then calls
-    // `next` `count` times on an `ExtractIf` for the range `start..end`.
+    // Carries out the command `ExtractIf`. First reserves room for `count` results.
     pub(crate) fn extract_if(
         self,
         list: &mut ThinVec<T, A, G>,

@@ -1,5 +1,4 @@
-//! Implements the command `Splice`, which replaces the items of a range with the items of an
-//! iterator.
+//! Implements the command `Splice`.
 ghost use Rattle.std.specs.Prelude.{◌≡◌, ◌+◌, ◌≤◌, List, ◌∷◌, ◌++◌, length, vec_capacity, vec_len};
 ghost use Rattle.thin_runner.specs.Steps.{Allows};
 ghost use Rattle.thin_runner.specs.commands.Ranges.{ends_taken};
@@ -14,8 +13,7 @@ use std::alloc::Allocator;
 use thin_vec::{Growth, Splice, SpliceRefused, ThinVec, ThinVecError};
 
 impl<T: Clone + Eq, A: Allocator + Copy, G: Growth, J: Judge<T>> Context<T, A, G, J> {
-    // Carries out the command `Splice`. First reserves room for the results of the steps, and then
-    // replaces the items `start..end` with `items`.
+    // Carries out the command `Splice`. First reserves room for the results of the steps.
     pub(crate) fn splice(
         self,
         list: &mut ThinVec<T, A, G>,
@@ -58,7 +56,6 @@ impl<T: Clone + Eq, A: Allocator + Copy, G: Growth, J: Judge<T>> Context<T, A, G
     }
 }
 
-// Carries out the steps on `splice` in order, and appends their results to `answers`.
 fn take_ends<T: Drop, A: Allocator, G: Growth>(
     splice: &mut Splice<'_, Hinted<T, A>, T, A, G>,
     steps: Vec<Step, A>,
@@ -77,7 +74,6 @@ fn take_ends<T: Drop, A: Allocator, G: Growth>(
     }
 }
 
-// Carries out one step on `splice`, and returns its result.
 fn take_end<T, A: Allocator, G: Growth>(
     splice: &mut Splice<'_, Hinted<T, A>, T, A, G>,
     step: Step,

@@ -1,5 +1,4 @@
-//! The methods `dedup`, `dedup_by` and `dedup_by_key`. They remove each item that is a duplicate of
-//! the last item kept before it.
+//! The methods `dedup`, `dedup_by` and `dedup_by_key`, which remove duplicates.
 ghost use Rattle.std.specs.Prelude.{◌≡◌, ◌+◌, ◌<◌, ◌≤◌, length};
 ghost use Rattle.std.specs.Fn.{CalledAtPairMut, ComparesKeys};
 ghost use Rattle.std.specs.List.{dedup};
@@ -15,9 +14,9 @@ impl<T: Drop, A: Allocator, G: Growth> ThinVec<T, A, G> {
     ghost use Rattle.thin_vec.specs.Edits.Dedup.{IsDedupedBy, IsDedupedTo};
     ghost use Rattle.thin_vec.specs.ThinVec.{IsBounded};
 
-    /// Calls `same` once for each item except the first, in order. If `same` returns true, the item
-    /// is removed and dropped. The first argument of `same` is the item, and the second argument is
-    /// the last item kept before it. The closure may change both.
+    /// Removes and drops each item for which `same` returns true. Calls `same` once for each item
+    /// except the first, in order: the first argument is the item, and the second is the last item
+    /// kept before it.
     pub fn dedup_by<F: FnMut(&mut T, &mut T) -> bool>(&mut self, same: F)
         requires callable { F.IsAlwaysCallable same }
         ensures deduped { IsDedupedBy (CalledAtPairMut F.FnMut) same self.old self.new }
@@ -35,8 +34,7 @@ impl<T: Drop, A: Allocator, G: Growth> ThinVec<T, A, G> {
         let SameBy { same: _ } = test;
     }
 
-    // Tests each item except the first against the last item kept before it, and drops those that
-    // the test finds to be duplicates.
+    // Removes and drops the items that fail the test.
     fn dedup_with<J: PairTest<T>>(&mut self, test: &mut J)
         requires callable { J.ready test.old }
         ensures deduped { IsDedupedTo J.tests test.old self.old self.new test.new }
@@ -56,8 +54,8 @@ impl<T: Drop, A: Allocator, G: Growth> ThinVec<T, A, G> {
     }
 
     /// Removes and drops each item whose key is equal to the key of the last item kept before it.
-    /// For each item except the first, `key` is called with this item, and then with the last item
-    /// kept before it. The closure may change both.
+    /// Calls `key` twice for each item except the first: with this item, and then with the last
+    /// item kept.
     pub fn dedup_by_key<K: PartialEq + Drop, F: FnMut(&mut T) -> K>(&mut self, key: F)
         requires callable { F.IsAlwaysCallable key }
         ensures deduped { IsDedupedBy (ComparesKeys F.FnMut K.eq) key self.old self.new }
@@ -100,17 +98,14 @@ impl<T: PartialEq + Drop, A: Allocator, G: Growth> ThinVec<T, A, G> {
     }
 }
 
-// The test that `dedup_by` uses.
 struct SameBy<F> {
     same: F,
 }
 
-// The test that `dedup_by_key` uses.
 struct SameKey<F> {
     key: F,
 }
 
-// The test that `dedup` uses.
 struct SameItem {}
 
 impl<T, F: FnMut(&mut T, &mut T) -> bool> PairTest<T> for SameBy<F> {

@@ -1,5 +1,4 @@
-//! The method `drain`, which removes the items of a range from a list, and yields them one by one
-//! from either end.
+//! The method `drain`, which removes the items of a range, and yields them from either end.
 ghost use Rattle.std.specs.Prelude.{◌≡◌, ◌-◌, ◌≤◌, ◌==◌, [], IfSome, Some, if◌then◌else◌, length, slice_range};
 ghost use Rattle.std.specs.List.{remove_range};
 ghost use Rattle.std.specs.Iterator.{UpTo, item_count};
@@ -15,12 +14,8 @@ use std::fmt;
 use std::iter::FusedIterator;
 use thin_block::{Doubling, Growth};
 
-/// An iterator that removes the items of a range from a list, and yields them from either end.
-///
-/// Until the `Drain` is dropped, it owns the allocation of the list, and the list is empty and has
-/// capacity 0. Dropping the `Drain` drops the items that were not yielded, and returns the items
-/// outside the range to the list, in the same allocation. If a `Drain` is leaked, the list stays
-/// empty, and its old items are leaked.
+/// An iterator that removes the items of a range from a list. It is made by `ThinVec::drain`, and
+/// owns the allocation of the list until it is dropped.
 pub struct Drain<
     'a,
     T,
@@ -37,8 +32,6 @@ impl<'a, T: Drop, A: Allocator, G: Growth, H: IntoInner<Inner = OpenBlock<T, A>>
     for Drain<'a, T, A, G, H> {
     ghost use Rattle.thin_vec.specs.Edits.Drain.{left_by_drain};
 
-    // Drops the items that were not yielded. Moves the items after the drained range down to the
-    // start of this range, and puts the block back into the list.
     #[inline(always)]
     #[tactic(auto, unfolding(crate::specs::Edits::Drain::left_by_drain))]
     fn drop(self)
@@ -47,8 +40,7 @@ impl<'a, T: Drop, A: Allocator, G: Growth, H: IntoInner<Inner = OpenBlock<T, A>>
         let Drain { list, holder } = self;
         let mut block = holder.into_inner();
         block.drop_rest();
-        // The list is already empty. This call is needed only for the proof: the contract of
-        // `close` requires an empty list.
+        // Only the proof needs this call: `close` requires an empty list.
         list.clear();
         list.close(block);
     }
@@ -58,22 +50,19 @@ impl<T: Drop, A: Allocator, G: Growth> ThinVec<T, A, G> {
     ghost use Rattle.thin_vec.specs.Edits.Drain.{DrainKeepsAlong, DrainYieldsInOrder, DrainYieldsInReverse, drain_lender, drain_list, drain_rest, left_by_drain};
 
     /// Removes the items `start..end` from the list, and returns an iterator that yields them from
-    /// either end. The range must be in bounds. Callers can check a range with the function
-    /// `bounds` of this crate.
+    /// either end. To check a range, call the function `bounds` of this crate.
     ///
-    /// The list is empty and has capacity 0 until the iterator is dropped. Then the items that were
-    /// not yielded are dropped, and the list contains the items outside the range. If the iterator
-    /// is leaked, the list stays empty.
-    ///
-    /// Neither this call nor dropping the iterator allocates memory or can fail. This call moves no
-    /// item. Dropping the iterator moves each item after the range once, unless the range is empty.
+    /// Until the iterator is dropped, the list is empty and has capacity 0. Dropping the iterator
+    /// drops the items that were not yielded, and returns the items outside the range to the list,
+    /// in the same allocation. If the iterator is leaked, the list stays empty, and its old items
+    /// are leaked. Neither this call nor the drop requests memory or can fail.
     #[tactic(auto, unfolding(crate::specs::Edits::Drain::left_by_drain))]
     pub fn drain(&mut self, start: usize, end: usize) -> Drain<'_, T, A, G>
         requires start_le_end { start ≤ end }
         requires in_bounds { end ≤ length self.old.items }
 
-        // `next` yields the items of the range in order, and `next_back` in reverse order. `runs`
-        // and `runs_back` follow from their contracts, and are for callers' proofs about loops.
+        // `runs` and `runs_back` follow from the contracts of `next` and `next_back`, and are for
+        // callers' proofs about loops.
         ensures rest { drain_rest result ≡ slice_range self.old.items start end }
         ensures runs { DrainYieldsInOrder result }
         ensures runs_back { DrainYieldsInReverse result }
@@ -83,17 +72,15 @@ impl<T: Drop, A: Allocator, G: Growth> ThinVec<T, A, G> {
         ensures meanwhile { drain_list result
             ≡ record self.old { items = []; capacity = 0; cost = no_cost } }
 
-        // What the list is after the `Drain` is dropped, by the contract of its `drop`.
+        // What the list is after the `Drain` is dropped.
         ensures left { left_by_drain result ≡ record self.old {
           items = remove_range self.old.items start end;
           cost = if start == end then self.old.cost else add_moves
               (length self.old.items - end) self.old.cost;
         } }
 
-        // The `Drain` borrows this list: its reference to the list has the same ghost name as
-        // `self`. Calls to `next` do not change the value that the list will have after the `Drain`
-        // is dropped. `stays` follows from the contract of `next`, and is for proofs about loops.
-        // For both ends, see the lemma `drain_leaves` in `thin_vec.proofs.edits.DrainLemmas`.
+        // `stays` follows from the contract of `next`. For both ends, see `drain_leaves` in
+        // `thin_vec.proofs.edits.DrainLemmas`.
         ensures same_reference { drain_lender result ≡ self.entry.ghost_name }
         ensures stays { DrainKeepsAlong result }
     {
@@ -108,7 +95,7 @@ impl<T: Drop, A: Allocator, G: Growth> ThinVec<T, A, G> {
 impl<'a, T, A: Allocator, G: Growth> Drain<'a, T, A, G> {
     ghost use Rattle.thin_vec.specs.Edits.Drain.{drain_rest};
 
-    /// Returns the items that have not been yielded yet, in order, as a slice.
+    /// Returns the remaining items, in order, as a slice.
     pub fn as_slice(&self) -> &[T]
         ensures value { result.now ≡ drain_rest self.now }
     {

@@ -1,9 +1,5 @@
 //! The functions that `Splice::finish` calls to put the items of an iterator in place of a removed
-//! range. If items follow the range, there are up to three steps:
-//!
-//! - `fill` fills the empty slots of the range.
-//! - `insert_hinted` reserves room for the lower bound of the size hint, and fills this room.
-//! - `insert_held` collects the remaining items in a vector, and moves them into the list.
+//! range. If items follow the range, the steps are `fill`, `insert_hinted` and `insert_held`.
 ghost use Rattle.std.specs.Prelude.{◌≡◌, ◌+◌, ◌-◌, ◌*◌, ◌<◌, ◌≤◌, [], ◌++◌, ◌∷◌, IfErr, IfOk, IsOk, IsSome, List, MatchOption, None, OnErr, OnOk, Some, drop, false, length, take, vec_capacity, ℕ};
 ghost use Rattle.std.specs.Iterator.{Drains, IsFinite, Yields, YieldsThen, size};
 ghost use Rattle.std.specs.Iterator.SizeHint.{IsWithinCount};
@@ -26,9 +22,8 @@ use std::iter::Iterator;
 use thin_block::{Growth, ThinVecError};
 
 impl<T: Drop, A: Allocator, G: Growth> ThinVec<T, A, G> {
-    // Makes a gap of empty slots before the item at index `at`, and moves items of `iter` into the
-    // gap. The gap has `n` slots, where `n` is the lower bound of the size hint of `iter`. If the
-    // call cannot reserve room for this gap, the list is unchanged, and the error holds `iter`.
+    // Makes a gap before the item at index `at`, with as many slots as the lower bound of the size
+    // hint of `iter`, and moves items of `iter` into the gap.
     #[inline(always)]
     fn insert_hinted<I: Iterator<Item = T>>(
         &mut self,
@@ -57,8 +52,8 @@ impl<T: Drop, A: Allocator, G: Growth> ThinVec<T, A, G> {
             (λ rejected. (h : ℕ) × IsWithinCount h (I.remaining iter)
             × LacksRoom G.rule T.row self.new h rejected.cause) }
 
-        // Each item from index `at` onward is moved at most twice. If the call succeeds and fills
-        // the whole gap, each of these items is moved at most once.
+        // Each item from index `at` onward is moved up, and moved down again if the gap was not
+        // filled.
         ensures added { AddsFromIter G.rule T.row self.old self.new
             (2 * (length self.old.items - at)) (I.remaining iter) }
         ensures added_full { IfOk result (λ filled. filled.ended ≡ false
@@ -76,8 +71,8 @@ impl<T: Drop, A: Allocator, G: Growth> ThinVec<T, A, G> {
         Ok(filled)
     }
 
-    // Collects the items of `iter` in a vector that uses `alloc`, and then inserts the items into
-    // the list, before the item at index `at`. If `iter` yields no item, nothing is allocated.
+    // Collects the items of `iter` in a vector, and then inserts them before the item at index
+    // `at`. If `iter` yields no item, nothing is allocated.
     #[inline(always)]
     fn insert_held<I: Iterator<Item = T>>(
         &mut self,
@@ -96,7 +91,7 @@ impl<T: Drop, A: Allocator, G: Growth> ThinVec<T, A, G> {
         // When it must succeed.
         ensures succeeds { size (I.remaining iter) ≡ 0 → IsOk result }
 
-        // On failure, the list is unchanged, and the error holds every item that `iter` yielded.
+        // On failure, no item is lost.
         ensures err { OnErr result (self.new ≡ self.old) }
         ensures placed { IfErr result
             (λ error. SpliceErrorAccountsFor I.next_gives I.can_next I.remaining iter [] error) }
@@ -142,8 +137,9 @@ impl<T: Drop, A: Allocator, G: Growth> ThinVec<T, A, G> {
         Ok(())
     }
 
-    // Puts the items of `iter` in place of the removed range. Items that do not fit into the empty
-    // slots of the range are inserted after it, by `insert_hinted` and `insert_held`.
+    // Puts the items of `iter` in place of the removed range. `Splice::finish`, this function and
+    // its steps are always inlined: otherwise, a short splice would pass the open block and the
+    // iterator through memory.
     #[inline(always)]
     pub(crate) fn finish_before_tail<I: Iterator<Item = T>>(
         &mut self,
@@ -151,9 +147,6 @@ impl<T: Drop, A: Allocator, G: Growth> ThinVec<T, A, G> {
         iter: I,
         alloc: A,
     ) -> Result<(), SpliceRefused<T, I, A>>
-        // `block` must have been taken out of this list. It must contain at least one item that
-        // follows the removed range (the field `tail`), and no item of the range itself (the field
-        // `rest`).
         requires nonempty { 0 < length block.tail }
         requires is_empty { self.old.items ≡ [] }
         requires no_rest { block.rest ≡ [] }
@@ -162,9 +155,7 @@ impl<T: Drop, A: Allocator, G: Growth> ThinVec<T, A, G> {
         requires can_next { I.can_next iter }
         requires finite { IsFinite (I.remaining iter) }
 
-        // `FinishesSplice` states under which conditions the call succeeds, how the call changes
-        // the list, and what it returns on failure. All `ensures` clauses of `Splice::finish`
-        // follow from this clause.
+        // All `ensures` clauses of `Splice::finish` follow from this clause.
         ensures { FinishesSplice I.next_gives I.can_next I.remaining G.rule T.row block
             self.old.alloc
             iter self.new result }
@@ -194,16 +185,13 @@ impl<T: Drop, A: Allocator, G: Growth> ThinVec<T, A, G> {
         }
     }
 
-    // Puts `block` back into the list, and then appends the items of `iter`, as `extend` does. The
-    // block must not contain any item after the removed range.
+    // Puts `block` back into the list, and then appends the items of `iter`, as `extend` does.
     pub(crate) fn finish_at_end<I: Iterator<Item = T>>(
         &mut self,
         block: OpenBlock<T, A>,
         iter: I,
         alloc: A,
     ) -> Result<(), SpliceRefused<T, I, A>>
-        // `block` was taken out of this list. Its `tail` (the items after the removed range) and
-        // its `rest` (the items of the range itself) must be empty.
         requires no_tail { block.tail ≡ [] }
         requires bounds { tail_end block ≤ block.capacity }
         requires is_empty { self.old.items ≡ [] }
@@ -237,19 +225,19 @@ impl<T: Drop, A: Allocator, G: Growth> ThinVec<T, A, G> {
     }
 }
 
-/// The result of moving items of an iterator into a vector.
+/// What was taken from an iterator, and the iterator itself.
 struct Collected<T, I, A: Allocator> {
     /// The items, in order.
     held: Vec<T, A>,
-    /// The item that the iterator yielded directly after the items in `held`. The vector has no
-    /// room for this item. If the iterator has ended, `in_hand` is `None`.
+    /// The item after those in `held`, for which the vector has no room. `None` if the iterator has
+    /// ended.
     in_hand: Option<T>,
-    /// The rest of the iterator, which yields the items that have not been taken yet.
+    /// The rest of the iterator.
     rest: I,
 }
 
-// Collects the item `first`, and then the items of `iter`, in a vector that uses `alloc`. Stops
-// when `iter` returns `None`, or when the vector cannot allocate memory for an item.
+// Collects `first`, and then the items of `iter`, in a vector. Stops when `iter` returns `None`, or
+// when the vector cannot grow.
 fn collect_rest<T, A: Allocator, I: Iterator<Item = T>>(
     first: T,
     iter: I,
@@ -283,7 +271,7 @@ fn collect_rest<T, A: Allocator, I: Iterator<Item = T>>(
             }
         }
         held.push_reserved(next);
-        // The vector has room for these items, so this loop makes no request for memory.
+        // The vector has room, so this loop requests no memory.
         while held.len() < held.capacity() {
             let Some(item) = rest.next() else {
                 return Collected {

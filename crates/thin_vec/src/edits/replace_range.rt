@@ -1,5 +1,4 @@
-//! The method `replace_range`, which replaces the items of a range with clones of given items. If
-//! the call fails, the list is unchanged.
+//! The method `replace_range`, which replaces the items of a range with clones.
 ghost use Rattle.std.specs.Prelude.{◌≡◌, ◌-◌, ◌≤◌, ◌++◌, IfErr, IsErr, IsOk, None, OnErr, OnOk, Some, drop, length, take};
 ghost use Rattle.thin_vec.specs.List.Clones.{ClonesEqual};
 ghost use Rattle.thin_vec.specs.Edits.ReplaceRange.{ReplacesByClones, moves_replacing};
@@ -11,17 +10,13 @@ use std::alloc::Allocator;
 use thin_block::{Growth, ThinVecError, fits};
 
 impl<T: Clone, A: Allocator, G: Growth> ThinVec<T, A, G> {
-    /// Replaces the items `start..end` with clones of `items`, in order. The old items of the range
-    /// are dropped, after all clones are made.
-    ///
-    /// The clones are made in a block of their own, which `alloc` allocates, and which is freed
-    /// again. For items that are `Copy`, `replace_range_from_copies` is faster.
+    /// Replaces the items `start..end` with clones of `items`, in order. First makes the clones, in
+    /// a block of their own, which `alloc` allocates. For items that are `Copy`,
+    /// `replace_range_from_copies` is faster.
     ///
     /// # Errors
     ///
-    /// On failure, the clones that were made are dropped.
-    ///
-    /// - `CapacityOverflow`: the list needs room, and the new capacity would be too large.
+    /// - `CapacityOverflow`: the new capacity would be too large.
     /// - `OutOfMemory`: an allocator failed, or an item could not be cloned.
     pub fn replace_range(
         &mut self,
@@ -47,7 +42,7 @@ impl<T: Clone, A: Allocator, G: Growth> ThinVec<T, A, G> {
         // When it must succeed.
         ensures succeeds_empty { length items.now ≡ 0 → IsOk result }
 
-        // The call fails if the new capacity would be too large. On failure, the list is unchanged.
+        // On failure, the list is unchanged.
         ensures overflow { capacity_after_reserve G.rule T.row self.old
             (length items.now - (end - start)) ≡ None → IsErr result }
         ensures cause { IfErr result (IsCauseOf (capacity_after_reserve G.rule T.row self.old
@@ -57,6 +52,7 @@ impl<T: Clone, A: Allocator, G: Growth> ThinVec<T, A, G> {
         // In every case.
         ensures preserved { PreservesList T.row self.old self.new }
     {
+        // Only the proof needs this call: its contract says that the list `IsBounded`.
         let _bounded = self.len();
         if !fits::<T>(items.len()) {
             return Err(ThinVecError::CapacityOverflow);

@@ -1,6 +1,4 @@
-//! The methods `replace_range_from_copies` and `replace_range_from_list`. They replace the items of
-//! a range with copies of given items, or with the items of another list. If a call fails, no list
-//! is changed.
+//! The methods `replace_range_from_copies` and `replace_range_from_list`.
 ghost use Rattle.std.specs.Prelude.{◌≡◌, ◌+◌, ◌-◌, ◌<◌, ◌≤◌, ◌++◌, [], IsOk, OnErr, OnOk, drop, length, take};
 ghost use Rattle.thin_vec.specs.Edits.ReplaceRange.{moves_replacing};
 ghost use Rattle.thin_vec.specs.ThinVec.{HasRoomFor, IsBounded};
@@ -11,8 +9,7 @@ use std::alloc::Allocator;
 use thin_block::{Growth, ThinVecError};
 
 impl<T: Copy, A: Allocator, G: Growth> ThinVec<T, A, G> {
-    /// Replaces the items `start..end` with copies of `items`, in order. The old items of the range
-    /// are dropped.
+    /// Replaces the items `start..end` with copies of `items`, in order.
     ///
     /// # Errors
     ///
@@ -61,13 +58,12 @@ impl<T: Copy, A: Allocator, G: Growth> ThinVec<T, A, G> {
 }
 
 impl<T: Drop, A: Allocator, G: Growth> ThinVec<T, A, G> {
-    /// Replaces the items `start..end` with the items of `other`, in order. The old items of the
-    /// range are dropped. After the call, `other` is empty, and keeps its capacity.
+    /// Replaces the items `start..end` with the items of `other`, in order, and drops the old items
+    /// of the range. After the call, `other` is empty, and keeps its capacity.
     ///
     /// # Errors
     ///
-    /// Fails only if `other` is longer than the range, and the list has no room for the surplus.
-    /// The causes are those of `replace_range_from_copies`.
+    /// Fails in the same cases as `replace_range_from_copies`, and changes neither list.
     pub fn replace_range_from_list(
         &mut self,
         start: usize,
@@ -99,6 +95,7 @@ impl<T: Drop, A: Allocator, G: Growth> ThinVec<T, A, G> {
         ensures preserved { PreservesList T.row self.old self.new }
         ensures other_bounds { IsBounded T.row other.old × IsBounded T.row other.new }
     {
+        // `reserve` is called without `?`, for the same reason as in `replace_range_from_copies`.
         let more = other.len().saturating_sub(end - start);
         match self.reserve(more) {
             Ok(()) => (),

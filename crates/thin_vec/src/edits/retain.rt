@@ -1,5 +1,4 @@
-//! The methods `retain` and `retain_mut`, which keep the items for which a closure returns true,
-//! and drop the other items.
+//! The methods `retain` and `retain_mut`, which keep the items for which a closure returns true.
 ghost use Rattle.std.specs.Prelude.{◌≡◌, ◌<◌, ◌≤◌, length};
 ghost use Rattle.std.specs.List.Retain.{IsFiltered};
 ghost use Rattle.std.specs.Fn.{CalledAt, CalledAtMut};
@@ -15,10 +14,7 @@ impl<T: Drop, A: Allocator, G: Growth> ThinVec<T, A, G> {
     ghost use Rattle.thin_vec.specs.ThinVec.{IsBounded};
 
     /// Keeps the items for which `keep` returns true, and drops the other items. Calls `keep` once
-    /// for each item, in order.
-    ///
-    /// Each kept item that follows a removed item is moved once. No memory is requested, and the
-    /// capacity does not change.
+    /// for each item, in order. Each kept item that follows a removed item is moved once.
     pub fn retain<F: FnMut(&T) -> bool>(&mut self, keep: F)
         requires callable { F.IsAlwaysCallable keep }
         ensures retained { IsRetained (ReadsOnly (CalledAt F.FnMut)) keep self.old self.new }
@@ -55,7 +51,7 @@ impl<T: Drop, A: Allocator, G: Growth> ThinVec<T, A, G> {
         let KeepByMut { keep: _ } = test;
     }
 
-    // Tests each item once, in order, and drops the items that fail the test.
+    // Removes and drops the items that fail the test.
     fn retain_with<J: Test<T>>(&mut self, test: &mut J)
         requires callable { J.ready test.old }
         ensures retained { IsRetainedTo J.tests test.old self.old self.new test.new }
@@ -72,12 +68,10 @@ impl<T: Drop, A: Allocator, G: Growth> ThinVec<T, A, G> {
     }
 }
 
-// The test that `retain` uses.
 struct KeepByRef<F> {
     keep: F,
 }
 
-// The test that `retain_mut` uses.
 struct KeepByMut<F> {
     keep: F,
 }

@@ -1,5 +1,4 @@
-//! Functions that keep the first item of a range, and test each other item against the last item
-//! that was kept before it.
+//! Functions that test each item of a range against the last item kept before it.
 ghost use Rattle.std.specs.Prelude.{◌≡◌, ◌+◌, ◌-◌, ◌<◌, ◌∷◌, ◌++◌, [], Bool, length, not};
 ghost use Rattle.thin_block.specs.Cost.{add_moves};
 
@@ -11,12 +10,11 @@ use thin_block::item_size;
 // Moving smaller items one by one was measured to be faster.
 const LARGE: usize = 128;
 
-/// A test of an item against the last kept item before it. It decides whether the item is to be
-/// kept, and may write to both items.
+/// A test of an item against the last kept item before it.
 pub(crate) trait PairTest<T> {
     /// `tests s x k b t y l` holds if one test of the item `x` against the kept item `k` may change
-    /// the state of the test from `s` to `t`, `x` to `y`, and `k` to `l`. If `b` is true, `x` is a
-    /// duplicate of `k`, and is not kept.
+    /// the state of the test from `s` to `t`, `x` to `y`, and `k` to `l`. If `b` is true, `x` is
+    /// not kept.
     ghost tests: { Self → T → T → Bool → Self → T → T → Type 0 };
 
     /// `ready s` holds if the test can be called in the state `s` with any two items.
@@ -76,9 +74,8 @@ impl<T, A: Allocator> OpenBlock<T, A> {
 impl<T, A: Allocator> OpenBlock<T, A> {
     ghost use Rattle.thin_vec.specs.OpenBlock.Dedup.{TestsPairsUpTo};
 
-    // Tests each middle item except the first against the item before it, up to the first that is
-    // to be removed. Returns the index of this item, or the number of middle items if all are to be
-    // kept.
+    // Tests neighboring middle items up to the first one that is not to be kept. Returns the number
+    // of items before that one.
     fn test_pairs<J: PairTest<T>>(&mut self, test: &mut J) -> usize
         requires nonempty { 0 < length self.old.rest }
         requires callable { J.ready test.old }
@@ -101,8 +98,8 @@ impl<T, A: Allocator> OpenBlock<T, A> {
 impl<T: Drop, A: Allocator> OpenBlock<T, A> {
     ghost use Rattle.thin_vec.specs.OpenBlock.Dedup.{DedupsRest, DedupsSome};
 
-    // Keeps the first middle item, tests each other one against the last kept item before it, and
-    // drops those that are to be removed.
+    // Tests the middle items, and drops those that are not to be kept. Up to the first removal
+    // there is no gap, so no item moves.
     pub(crate) fn dedup_rest<J: PairTest<T>>(&mut self, test: &mut J)
         requires nonempty { 0 < length self.old.rest }
         requires is_empty { self.old.front ≡ [] }
@@ -120,12 +117,12 @@ impl<T: Drop, A: Allocator> OpenBlock<T, A> {
         }
     }
 
-    // Tests the first middle item against the last kept item, and appends it to the front or drops
-    // it. If it is kept and the items are large, goes on up to the next item that is to be removed,
-    // which is dropped, and moves the items before that one together.
+    // Tests the first middle item, and appends it to the front or drops it. If it is kept and the
+    // items are large, goes on up to the next item that is not to be kept, and moves those before
+    // it together.
     //
-    // The first middle item is taken out of the block before its test, because the block provides
-    // two mutable references only for adjacent items.
+    // The item is taken out of the block before its test, because the block provides two mutable
+    // references only for adjacent items.
     fn dedup_next<J: PairTest<T>>(&mut self, test: &mut J)
         requires has_front { 0 < length self.old.front }
         requires nonempty { 0 < length self.old.rest }

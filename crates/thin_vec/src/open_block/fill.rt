@@ -49,7 +49,7 @@ impl<T, A: Allocator> OpenBlock<T, A> {
         self.front_end += count;
     }
 
-    // Moves the items of the list `other` into the gap.
+    // Moves the items of `other` into the gap.
     pub(crate) fn fill_from_list<G: Growth>(&mut self, other: &mut ThinVec<T, A, G>)
         requires room { length other.old.items ≤ self.old.gap }
         ensures changes { self.new ≡ record self.old {
@@ -69,7 +69,7 @@ impl<T, A: Allocator> OpenBlock<T, A> {
 }
 
 impl<T: Copy, A: Allocator> OpenBlock<T, A> {
-    // Copies the items of `items` into the gap.
+    // Copies `items` into the gap.
     pub(crate) fn fill_from_copies(&mut self, items: &[T])
         requires room { length items.now ≤ self.old.gap }
         ensures { self.new ≡ record self.old {
