@@ -9,7 +9,7 @@ use Rattle.thin_block.specs.Lends.{length-over, with_slots, set_slot, set_slots}
 use Rattle.thin_block.specs.Ownership.{slot_owns, slots_own}
 use Rattle.std.specs.Prelude.{IsSome}
 use Rattle.thin_block.specs.Slots.{filled_slots, write_slots, slot}
-use Rattle.thin_block.proofs.SlotsLemmas.{over-laid}
+use Rattle.thin_block.proofs.SlotsLemmas.{over-written}
 use Rattle.thin_block.proofs.HeaderMemory.{Br, Header, header, t, block_val, block_made}
 use Rattle.thin_block.proofs.SlotMemory.{Slot, sz, besides, slot_in, around, run_in, of_cells}
 
@@ -66,5 +66,5 @@ module _ (E : El) (Y : Al) {M : Type 1} {𝓤 : Ura M} (𝓛 : Logic 𝓤) (x : 
       use2 𝓛 (‵ (slots_own (R E) (write_slots i (filled_slots ws) x.slots) b (o + 16)))
       (run_in E 𝓛 b (o + 16) x.slots i k le (filled_slots ws) (length-map ws Some ∙ long)) $
       rewrite ! 0 (λ (s : List (Slot E)). ‵ (slots_own (R E) s b (o + 16)))
-      (sym (over-laid x.slots i ws (omega arith) (λ n low high. held n low (omega arith))))
+      (sym (over-written x.slots i ws (omega arith) (λ n low high. held n low (omega arith))))
       refl $ by ! (slots_back y.slots (length-over x.slots i ws))

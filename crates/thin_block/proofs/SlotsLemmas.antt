@@ -59,9 +59,9 @@ module _ {T : Type 0} where
       → length (slot_range i k s) ≡ k
   length-run s i k le = omega (arith, length-take k (drop i s), length-drop i s)
 
-  pub length-laid : (i : ℕ) (ys s : List (Option T)) → i + length ys ≤ length s
+  pub length-written : (i : ℕ) (ys s : List (Option T)) → i + length ys ≤ length s
       → length (write_slots i ys s) ≡ length s
-  length-laid i ys s le =
+  length-written i ys s le =
       omega (
         arith,
         length-append (take i s) (ys ++ drop (i + length ys) s),
@@ -70,38 +70,38 @@ module _ {T : Type 0} where
         length-drop (i + length ys) s,
       )
 
-  pub over-laid : (s : List (Option T)) (i : ℕ) (ws : List T) → i + length ws ≤ length s
+  pub over-written : (s : List (Option T)) (i : ℕ) (ws : List T) → i + length ws ≤ length s
       → ((j : ℕ) → i ≤ j → j < i + length ws → IsSome (slot s j))
       → overwrite_items s i ws ≡ write_slots i (filled_slots ws) s
-  over-laid [] zero [] le held = refl
-  over-laid [] (suc i) ws le held = absurd (omega arith)
-  over-laid [] zero (w ∷ ws) le held = absurd (omega arith)
-  over-laid (x ∷ s) (suc i) ws le held =
+  over-written [] zero [] le held = refl
+  over-written [] (suc i) ws le held = absurd (omega arith)
+  over-written [] zero (w ∷ ws) le held = absurd (omega arith)
+  over-written (x ∷ s) (suc i) ws le held =
       let more : suc (i + length (filled_slots ws)) ≡ suc i + length (filled_slots ws) =
       omega arith in
       ap (λ (l : List (Option T)). x ∷ l)
-      (over-laid s i ws (let le' : suc i + length ws ≤ suc (length s) = le in omega arith)
+      (over-written s i ws (let le' : suc i + length ws ≤ suc (length s) = le in omega arith)
       (λ j low high. held (suc j) (omega arith) (omega arith)))
       ∙ ap (λ (k : ℕ). x ∷ (take i s ++ (filled_slots ws ++ drop k (x ∷ s)))) more
-  over-laid (None ∷ s) zero [] le held = refl
-  over-laid (None ∷ s) zero (w ∷ ws) le held = let wrong : IsSome (let none : Option T = None in
+  over-written (None ∷ s) zero [] le held = refl
+  over-written (None ∷ s) zero (w ∷ ws) le held = let wrong : IsSome (let none : Option T = None in
       none) = held zero (omega arith) (omega arith) in absurd (clash wrong)
-  over-laid (Some x ∷ s) zero [] le held = refl
-  over-laid (Some x ∷ s) zero (w ∷ ws) le held =
+  over-written (Some x ∷ s) zero [] le held = refl
+  over-written (Some x ∷ s) zero (w ∷ ws) le held =
       let more : suc (0 + length (filled_slots ws)) ≡ 0 + suc (length (filled_slots ws)) =
       omega arith in
       ap (λ (l : List (Option T)). Some w ∷ l)
-      (over-laid s zero ws (let le' : 0 + suc (length ws) ≤ suc (length s) = le in omega arith)
+      (over-written s zero ws (let le' : 0 + suc (length ws) ≤ suc (length s) = le in omega arith)
       (λ j low high. held (suc j) (omega arith) (omega arith)))
       ∙ ap (λ (k : ℕ). Some w ∷ (filled_slots ws ++ drop k (Some x ∷ s))) more
 
-  pub laid-none : (i : ℕ) (s : List (Option T)) → write_slots i [] s ≡ s
-  laid-none i s = ap (λ (k : ℕ). take i s ++ drop k s) (let e : i + 0 ≡ i = omega arith in
+  pub written-none : (i : ℕ) (s : List (Option T)) → write_slots i [] s ≡ s
+  written-none i s = ap (λ (k : ℕ). take i s ++ drop k s) (let e : i + 0 ≡ i = omega arith in
       e) ∙ take-append-drop i s
 
-  pub laid-one : (i : ℕ) (ys s : List (Option T)) (k : ℕ) (y : Option T) → k ≡ i + length ys
+  pub written-one : (i : ℕ) (ys s : List (Option T)) (k : ℕ) (y : Option T) → k ≡ i + length ys
       → k < length s → set (write_slots i ys s) k y ≡ write_slots i (ys ++ y ∷ []) s
-  laid-one i ys s k y e within =
+  written-one i ys s k y e within =
       let at : length (take i s ++ ys) ≡ k =
       omega (arith, length-append (take i s) ys, length-take i s) in
       let rest : drop (i + length ys) s ≡ get_or s k None ∷ drop (suc k) s =
@@ -116,9 +116,9 @@ module _ {T : Type 0} where
       (sym (append_assoc ys (y ∷ []) (drop (suc k) s)))
       ∙ ap (λ (n : ℕ). take i s ++ ((ys ++ y ∷ []) ++ drop n s)) long))))
 
-  pub slot-laid : (i : ℕ) (ys s : List (Option T)) (k : ℕ) → i ≤ length s → i + length ys ≤ k
+  pub slot-written : (i : ℕ) (ys s : List (Option T)) (k : ℕ) → i ≤ length s → i + length ys ≤ k
       → slot (write_slots i ys s) k ≡ slot s k
-  slot-laid i ys s k low past =
+  slot-written i ys s k low past =
       let front : length (take i s) ≡ i = omega (arith, length-take i s) in
       get_or-append_right (take i s) (ys ++ drop (i + length ys) s) i k None front (omega arith)
       ∙ (get_or-append_right ys (drop (i + length ys) s) (length ys) (k - i) None refl (omega arith)
@@ -138,15 +138,15 @@ module _ {T : Type 0} where
   run-split s i a k = take-add a k (drop i s)
       ∙ ap (λ (l : List (Option T)). slot_range i a s ++ take k l) (drop-drop a i s)
 
-  pub laid_single : (s : List (Option T)) (i : ℕ) (x : T) → i < length s
+  pub written-single : (s : List (Option T)) (i : ℕ) (x : T) → i < length s
       → write_slots i (filled_slots (x ∷ [])) s ≡ set s i (Some x)
-  laid_single s i x within =
+  written-single s i x within =
       ap (λ (k : ℕ). take i s ++ (Some x ∷ drop k s)) (let e : i + 1 ≡ suc i = omega arith in e)
       ∙ sym (set_split s i (Some x) within)
 
-  pub laid-at : (i : ℕ) (pre ys old post : List (Option T)) → i ≡ length pre
+  pub written-at : (i : ℕ) (pre ys old post : List (Option T)) → i ≡ length pre
       → length ys ≡ length old → write_slots i ys (pre ++ (old ++ post)) ≡ pre ++ (ys ++ post)
-  laid-at i pre ys old post e n =
+  written-at i pre ys old post e n =
       let Row : Type 0 = List (Option T) in
       let rest : drop (i + length ys) (pre ++ (old ++ post)) ≡ post =
       ap (λ (l : Row). drop (i + length ys) l) (sym (append_assoc pre old post))
@@ -172,8 +172,8 @@ module _ {T : Type 0} where
       let count : length (empty_slots {T = T} k) ≡ k =
       length-replicate k (let o : Option T = None in o) in
       let left : length (clear_slots from k s) ≡ length s =
-      length-laid from (empty_slots k) s (omega arith) in
-      length-laid to (slot_range from k s) (clear_slots from k s)
+      length-written from (empty_slots k) s (omega arith) in
+      length-written to (slot_range from k s) (clear_slots from k s)
       (omega (arith, left, length-run s from k source)) ∙ left
 
   empty-turn : (a k : ℕ) (post : List (Option T))
@@ -206,10 +206,10 @@ module _ {T : Type 0} where
         moved-by from to k s ys (pre ++ (empty_slots k ++ (empty_slots d ++ post))) _
         (ap (λ (r : Row). slot_range from k r) e ∙ run-at from k (pre ++ empty_slots d) ys post l n)
         (ap (λ (r : Row). clear_slots from k r) e
-        ∙ (laid-at from (pre ++ empty_slots d) (empty_slots k) ys post l m
+        ∙ (written-at from (pre ++ empty_slots d) (empty_slots k) ys post l m
         ∙ (append_assoc pre (empty_slots d) (empty_slots k ++ post) ∙ ap (λ (r : Row). pre ++ r)
         (empty-turn d k post))))
-        (laid-at to pre ys (empty_slots k) (empty_slots d ++ post) t (sym m))
+        (written-at to pre ys (empty_slots k) (empty_slots d ++ post) t (sym m))
 
   module _ (from to k d : ℕ) where
     pub moved_right : (pre ys post : List (Option T)) → from ≡ length pre → to ≡ from + d
@@ -229,10 +229,10 @@ module _ {T : Type 0} where
         length-replicate k (let o : Option T = None in o) ∙ n in
         moved-by from to k s ys ((pre ++ empty_slots d) ++ (empty_slots k ++ post)) _
         (run-at from k pre ys (empty_slots d ++ post) f n)
-        (laid-at from pre (empty_slots k) ys (empty_slots d ++ post) f m
+        (written-at from pre (empty_slots k) ys (empty_slots d ++ post) f m
         ∙ (ap (λ (r : Row). pre ++ r) (empty-turn k d post)
         ∙ sym (append_assoc pre (empty_slots d) (empty_slots k ++ post))))
-        (laid-at to (pre ++ empty_slots d) ys (empty_slots k) post l (sym m)
+        (written-at to (pre ++ empty_slots d) ys (empty_slots k) post l (sym m)
         ∙ append_assoc pre (empty_slots d) (ys ++ post))
 
   module _ (from to k : ℕ) where
@@ -257,9 +257,9 @@ module _ {T : Type 0} where
         ) in
         moved-by from to k _ ys (front ++ (empty_slots k ++ post)) _
         (run-at from k pre ys (mid ++ (empty_slots k ++ post)) f n)
-        (laid-at from pre (empty_slots k) ys (mid ++ (empty_slots k ++ post)) f m
+        (written-at from pre (empty_slots k) ys (mid ++ (empty_slots k ++ post)) f m
         ∙ sym (joined (empty_slots k ++ post)))
-        (laid-at to front ys (empty_slots k) post l (sym m) ∙ joined (ys ++ post))
+        (written-at to front ys (empty_slots k) post l (sym m) ∙ joined (ys ++ post))
 
   module _ (from to k : ℕ) where
     pub moved_back : (pre ys mid post : List (Option T)) → to ≡ length pre
@@ -286,8 +286,8 @@ module _ {T : Type 0} where
         (ap (λ (r : Row). slot_range from k r) (sym (joined (ys ++ post)))
         ∙ run-at from k front ys post l n)
         (ap (λ (r : Row). clear_slots from k r) (sym (joined (ys ++ post)))
-        ∙ (laid-at from front (empty_slots k) ys post l m ∙ joined (empty_slots k ++ post)))
-        (laid-at to pre ys (empty_slots k) (mid ++ (empty_slots k ++ post)) t (sym m))
+        ∙ (written-at from front (empty_slots k) ys post l m ∙ joined (empty_slots k ++ post)))
+        (written-at to pre ys (empty_slots k) (mid ++ (empty_slots k ++ post)) t (sym m))
 
   full-filled : (xs : List T) (rest : List (Option T)) (i : ℕ) → i < length xs
       → IsSome (slot (filled_slots xs ++ rest) i)

@@ -63,12 +63,13 @@ module _ {T : Type 0} (test : T → Bool) where
   abbrev pub others : List T → List T
   others xs = filter (λ x. not (test x)) xs
 
-  -- `Parts xs item kept rest` describes a call to `next` on an `ExtractIf` with the untested items
-  -- `xs`. The call kept the items `kept`, returned `item`, and left the items `rest` untested.
-  pub record Parts (xs : List T) (item : Option T) (kept rest : List T) : Type 0 where
-    pub gone : filter test xs ≡ option_to_list item ++ filter test rest
-    pub stay : others xs ≡ kept ++ others rest
-    pub ended : item ≡ None → rest ≡ []
+  -- `Parts xs item kept untested` describes a call to `next` on an `ExtractIf` with the untested
+  -- items `xs`. The call kept the items `kept`, returned `item`, and left the items `untested`
+  -- untested.
+  pub record Parts (xs : List T) (item : Option T) (kept untested : List T) : Type 0 where
+    pub gone : filter test xs ≡ option_to_list item ++ filter test untested
+    pub stay : others xs ≡ kept ++ others untested
+    pub ended : item ≡ None → untested ≡ []
 
   none-some : {x : T} → None ≡ Some x → ⊥
   none-some e = cc
@@ -77,13 +78,13 @@ module _ {T : Type 0} (test : T → Bool) where
       (says : (s : S) (x : T) (b : Bool) (t : S) (y : T) → R s x b t y
       → (b ≡ test x) × (y ≡ x)) where
     -- This is the induction step of `parts`. The test of `x` returned `b` and left `x` as `y`.
-    part : (x : T) (xs : List T) (item : Option T) (t u : S) (y : T) (kept rest : List T)
+    part : (x : T) (xs : List T) (item : Option T) (t u : S) (y : T) (kept untested : List T)
         (b : Bool) → b ≡ test x → y ≡ x
-        → ((ks : List T) → ExtractsNext R u xs item t ks rest → Parts xs item ks rest)
-        → MatchBool b ((item ≡ Some y) × (t ≡ u) × (kept ≡ []) × (rest ≡ xs))
-        ((ks : List T) × ExtractsNext R u xs item t ks rest × (kept ≡ y ∷ ks))
-        → Parts (x ∷ xs) item kept rest
-    part x xs item t u y kept rest true p q more m = record {
+        → ((ks : List T) → ExtractsNext R u xs item t ks untested → Parts xs item ks untested)
+        → MatchBool b ((item ≡ Some y) × (t ≡ u) × (kept ≡ []) × (untested ≡ xs))
+        ((ks : List T) × ExtractsNext R u xs item t ks untested × (kept ≡ y ∷ ks))
+        → Parts (x ∷ xs) item kept untested
+    part x xs item t u y kept untested true p q more m = record {
       gone = ap (λ b. cond b (x ∷ filter test xs) (filter test xs)) (sym p)
           ∙ (ap (λ z. z ∷ filter test xs) (sym q)
           ∙ sym (λ i. option_to_list (m.0 i) ++ filter test (m.3 i)));
@@ -91,28 +92,28 @@ module _ {T : Type 0} (test : T → Bool) where
           ∙ sym (λ i. m.2 i ++ others (m.3 i));
       ended = λ n. absurd (none-some (sym n ∙ m.0));
     }
-    part x xs item t u y kept rest false p q more m =
+    part x xs item t u y kept untested false p q more m =
         let then = more m.0 m.1 in
         record {
           gone = ap (λ b. cond b (x ∷ filter test xs) (filter test xs)) (sym p) ∙ then.gone;
           stay = ap (λ b. cond (not b) (x ∷ others xs) (others xs)) (sym p)
               ∙ (ap (λ l. x ∷ l) then.stay
-              ∙ (ap (λ z. z ∷ (m.0 ++ others rest)) (sym q)
-              ∙ sym (ap (λ l. l ++ others rest) m.2)));
+              ∙ (ap (λ z. z ∷ (m.0 ++ others untested)) (sym q)
+              ∙ sym (ap (λ l. l ++ others untested) m.2)));
           ended = then.ended;
         }
 
-    pub parts : (s : S) (xs : List T) (item : Option T) (t : S) (kept rest : List T)
-        → ExtractsNext R s xs item t kept rest → Parts xs item kept rest
-    parts s [] item t kept rest e = record {
+    pub parts : (s : S) (xs : List T) (item : Option T) (t : S) (kept untested : List T)
+        → ExtractsNext R s xs item t kept untested → Parts xs item kept untested
+    parts s [] item t kept untested e = record {
       gone = sym (λ i. option_to_list (e.0 i) ++ filter test (e.3 i));
       stay = sym (λ i. e.2 i ++ others (e.3 i));
       ended = λ _. e.3;
     }
-    parts s (x ∷ xs) item t kept rest e =
+    parts s (x ∷ xs) item t kept untested e =
         let answer = says s x e.0 e.1 e.2 e.3 in
-        part x xs item t e.1 e.2 kept rest e.0 answer.0 answer.1
-        (λ ks n. parts e.1 xs item t ks rest n) e.4
+        part x xs item t e.1 e.2 kept untested e.0 answer.0 answer.1
+        (λ ks n. parts e.1 xs item t ks untested n) e.4
 
 -- This module is about loops over an `ExtractIf` that extracts the items that pass `test`.
 module _ {T F A G H : Type 0} {g : Ghosts G} {h : IntoInnerGhosts H (ExtractState T F A)}
@@ -139,7 +140,7 @@ module _ {T F A G H : Type 0} {g : Ghosts G} {h : IntoInnerGhosts H (ExtractStat
       → length (extract_rest e) ≤ length (left_by_extract_if e).items
   length-extract_rest e =
       let b = extract_block e in
-      omega (arith, length-append b.front (b.rest ++ b.tail), length-append b.rest b.tail)
+      omega (arith, length-append b.front (b.middle ++ b.tail), length-append b.middle b.tail)
 
   module _ (R : F → T → Bool → F → T → Type 0)
       (says : (s : F) (x : T) (b : Bool) (t : F) (y : T) → R s x b t y

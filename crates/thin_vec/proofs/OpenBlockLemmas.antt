@@ -10,7 +10,7 @@ use Rattle.thin_block.specs.Slots.{empty_slots, filled_slots, items_in, slot}
 use Rattle.thin_block.specs.declared.block.Block.{Block}
 use Rattle.thin_block.proofs.ResultLemmas.{some-same}
 use Rattle.thin_vec.specs.OpenBlock.{IsOpen, IsOpenViewOf, open_view}
-use Rattle.thin_vec.specs.Open.{OpenView, tail_end, slots_of}
+use Rattle.thin_vec.specs.OpenView.{OpenView, tail_end, slots_of}
 use Rattle.thin_vec.specs.declared.open_block.OpenBlock.TheInside.{Inside}
 use Rattle.thin_vec.proofs.ListLemmas.{get-some, items-front, items-full-alone, length-empty, length-full, slot-get}
 
@@ -52,44 +52,44 @@ module _ {T A : Type 0} where
     pub lies : IsOpen h
     pub view : open_view h ≡ v
 
-  -- The slots of an open block before the middle items (`to_rest`), up to the end of the middle
+  -- The slots of an open block before the middle items (`to_middle`), up to the end of the middle
   -- items (`to_after`), and before the tail items (`to_tail`).
-  abbrev pub to_rest : OpenView T A → List (Option T)
-  to_rest v = filled_slots v.front ++ empty_slots v.gap
+  abbrev pub to_middle : OpenView T A → List (Option T)
+  to_middle v = filled_slots v.front ++ empty_slots v.gap_before
 
   abbrev pub to_after : OpenView T A → List (Option T)
-  to_after v = to_rest v ++ filled_slots v.rest
+  to_after v = to_middle v ++ filled_slots v.middle
 
   abbrev pub to_tail : OpenView T A → List (Option T)
   to_tail v = to_after v ++ empty_slots v.gap_after
 
   -- The slots after the tail items (`past_tail`), from the first tail item onward (`past_after`),
-  -- and after the middle items (`past_rest`).
+  -- and after the middle items (`past_middle`).
   abbrev pub past_tail : OpenView T A → List (Option T)
   past_tail v = empty_slots (v.capacity - tail_end v)
 
   abbrev pub past_after : OpenView T A → List (Option T)
   past_after v = filled_slots v.tail ++ past_tail v
 
-  abbrev pub past_rest : OpenView T A → List (Option T)
-  past_rest v = empty_slots v.gap_after ++ past_after v
+  abbrev pub past_middle : OpenView T A → List (Option T)
+  past_middle v = empty_slots v.gap_after ++ past_after v
 
   module _ (h : Inside T A) (v : OpenView T A) (s : IsOpenViewOf h v) where
-    pub by_rest : h.block.slots ≡ to_rest v ++ (filled_slots v.rest ++ past_rest v)
-    by_rest = s.row ∙ simp append_assoc
+    pub by_middle : h.block.slots ≡ to_middle v ++ (filled_slots v.middle ++ past_middle v)
+    by_middle = s.row ∙ simp append_assoc
 
     pub by_tail : h.block.slots ≡ to_tail v ++ past_after v
     by_tail = s.row ∙ simp append_assoc
 
-    pub at_rest : length (to_rest v) ≡ h.rest_start
-    at_rest = simp (length-append, length-full, length-empty T) (omega (arith, s.front, s.gap))
+    pub at_middle : length (to_middle v) ≡ h.middle_start
+    at_middle = simp (length-append, length-full, length-empty T) (omega (arith, s.front, s.gap_before))
 
     pub at_tail : length (to_tail v) ≡ h.tail_start
     at_tail = simp (length-append, length-full, length-empty T)
-        (omega (arith, s.front, s.gap, s.rest, s.gap_after))
+        (omega (arith, s.front, s.gap_before, s.middle, s.gap_after))
 
     pub reached : tail_end v ≡ h.len
-    reached = omega (arith, s.front, s.gap, s.rest, s.gap_after, s.tail)
+    reached = omega (arith, s.front, s.gap_before, s.middle, s.gap_after, s.tail)
 
     shown-cap : length h.block.slots ≡ v.capacity
     shown-cap =
@@ -104,20 +104,20 @@ module _ {T A : Type 0} where
     shown-front =
         ap items_in (ap (take h.front_end) s.row
         ∙ take_at (filled_slots v.front)
-        (empty_slots v.gap ++ (filled_slots v.rest ++ past_rest v)) h.front_end
+        (empty_slots v.gap_before ++ (filled_slots v.middle ++ past_middle v)) h.front_end
         (length-full v.front ∙ s.front))
         ∙ items-full-alone v.front
 
-    shown-rest : items_in (slice_range h.block.slots h.rest_start h.rest_end) ≡ v.rest
-    shown-rest =
-        let count : length (filled_slots v.rest) ≡ h.rest_end - h.rest_start =
-        omega (arith, length-full v.rest, s.rest) in
-        ap items_in (ap (λ (r : List (Option T)). take (h.rest_end - h.rest_start)
-        (drop h.rest_start r)) by_rest
-        ∙ (ap (take (h.rest_end - h.rest_start))
-        (drop_at (to_rest v) (filled_slots v.rest ++ past_rest v) h.rest_start at_rest)
-        ∙ take_at (filled_slots v.rest) (past_rest v) (h.rest_end - h.rest_start) count))
-        ∙ items-full-alone v.rest
+    shown-middle : items_in (slice_range h.block.slots h.middle_start h.middle_end) ≡ v.middle
+    shown-middle =
+        let count : length (filled_slots v.middle) ≡ h.middle_end - h.middle_start =
+        omega (arith, length-full v.middle, s.middle) in
+        ap items_in (ap (λ (r : List (Option T)). take (h.middle_end - h.middle_start)
+        (drop h.middle_start r)) by_middle
+        ∙ (ap (take (h.middle_end - h.middle_start))
+        (drop_at (to_middle v) (filled_slots v.middle ++ past_middle v) h.middle_start at_middle)
+        ∙ take_at (filled_slots v.middle) (past_middle v) (h.middle_end - h.middle_start) count))
+        ∙ items-full-alone v.middle
 
     shown-tail : items_in (drop h.tail_start h.block.slots) ≡ v.tail
     shown-tail =
@@ -131,13 +131,13 @@ module _ {T A : Type 0} where
 
     pub found : h.block.alloc ≡ v.alloc → h.block.cost ≡ v.cost → Found h v
     found alloc cost =
-        let gap : h.rest_start - h.front_end ≡ v.gap = omega (arith, s.gap) in
-        let gap_after : h.tail_start - h.rest_end ≡ v.gap_after = omega (arith, s.gap_after) in
+        let gap_before : h.middle_start - h.front_end ≡ v.gap_before = omega (arith, s.gap_before) in
+        let gap_after : h.tail_start - h.middle_end ≡ v.gap_after = omega (arith, s.gap_after) in
         let view : open_view h ≡ v =
         λ i. record {
           front = shown-front i;
-          gap = gap i;
-          rest = shown-rest i;
+          gap_before = gap_before i;
+          middle = shown-middle i;
           gap_after = gap_after i;
           tail = shown-tail i;
           capacity = shown-cap i;
@@ -147,11 +147,11 @@ module _ {T A : Type 0} where
         } in
         record { lies = subst (IsOpenViewOf h) (sym view) s; view = view }
 
-    pub rest-filled : (j : ℕ) → h.rest_start ≤ j → j < h.rest_end → IsSome (slot h.block.slots j)
-    rest-filled j low high =
-        rw (ap (λ (r : List (Option T)). slot r j) by_rest)
-        (slot-in-full (to_rest v) v.rest (past_rest v) j (omega (arith, at_rest))
-        (omega (arith, at_rest, s.rest)))
+    pub middle-filled : (j : ℕ) → h.middle_start ≤ j → j < h.middle_end → IsSome (slot h.block.slots j)
+    middle-filled j low high =
+        rw (ap (λ (r : List (Option T)). slot r j) by_middle)
+        (slot-in-full (to_middle v) v.middle (past_middle v) j (omega (arith, at_middle))
+        (omega (arith, at_middle, s.middle)))
 
     pub tail-filled : (j : ℕ) → h.tail_start ≤ j → j < h.len → IsSome (slot h.block.slots j)
     tail-filled j low high =
@@ -159,61 +159,61 @@ module _ {T A : Type 0} where
         (slot-in-full (to_tail v) v.tail (past_tail v) j (omega (arith, at_tail))
         (omega (arith, at_tail, s.tail)))
 
-    pub before-empty : (j : ℕ) → h.front_end ≤ j → j < h.rest_start → slot h.block.slots j ≡ None
+    pub before-empty : (j : ℕ) → h.front_end ≤ j → j < h.middle_start → slot h.block.slots j ≡ None
     before-empty j low high =
         ap (λ (r : List (Option T)). slot r j) s.row
-        ∙ slot-in-empty (filled_slots v.front) v.gap (filled_slots v.rest ++ past_rest v) j
+        ∙ slot-in-empty (filled_slots v.front) v.gap_before (filled_slots v.middle ++ past_middle v) j
         (omega (arith, length-full v.front, s.front))
-        (omega (arith, length-full v.front, s.front, s.gap))
+        (omega (arith, length-full v.front, s.front, s.gap_before))
 
-  pub rest-run : (h : Inside T A) (xs : List T) → filled_slots xs
-      ≡ slice_range h.block.slots h.rest_start h.rest_end
-      → xs ≡ (open_view h).rest
-  rest-run h xs e = sym (items-full-alone xs) ∙ ap items_in e
+  pub middle-run : (h : Inside T A) (xs : List T) → filled_slots xs
+      ≡ slice_range h.block.slots h.middle_start h.middle_end
+      → xs ≡ (open_view h).middle
+  middle-run h xs e = sym (items-full-alone xs) ∙ ap items_in e
 
   -- Most steps of an edit, such as the removal of one item, have two definitions: the open block
   -- after the step, and how contracts see it. A lemma states that they agree.
 
   module _ (h : Inside T A) (o : IsOpen h) (b : Block T A)
-      (some : 0 < length (open_view h).rest) where
+      (some : 0 < length (open_view h).middle) where
     abbrev v : OpenView T A
     v = open_view h
 
     -- `first-left` is `h` without its first middle item. `first-view ys` is how contracts see it if
     -- `ys` are the other middle items.
     abbrev pub first-left : Inside T A
-    first-left = record h { block = b; rest_start = h.rest_start + 1 }
+    first-left = record h { block = b; middle_start = h.middle_start + 1 }
 
     abbrev pub first-view : List T → OpenView T A
-    first-view ys = record v { gap = v.gap + 1; rest = ys }
+    first-view ys = record v { gap_before = v.gap_before + 1; middle = ys }
 
-    pub first-step : (x : T) → slot h.block.slots h.rest_start ≡ Some x
-        → block_view b ≡ record (block_view h.block) { slots = set h.block.slots h.rest_start None }
-        → (ys : List T) × (v.rest ≡ x ∷ ys) × Found first-left (first-view ys)
+    pub first-step : (x : T) → slot h.block.slots h.middle_start ≡ Some x
+        → block_view b ≡ record (block_view h.block) { slots = set h.block.slots h.middle_start None }
+        → (ys : List T) × (v.middle ≡ x ∷ ys) × Found first-left (first-view ys)
     first-step x is now =
-        let parts = first-of v.rest some in
+        let parts = first-of v.middle some in
         let y : T = parts.0 in
         let ys : List T = parts.1 in
-        let row : h.block.slots ≡ to_rest v ++ (Some y ∷ (filled_slots ys ++ past_rest v)) =
-        by_rest h v o ∙ ap (λ (r : List T). to_rest v ++ (filled_slots r ++ past_rest v)) parts.2 in
+        let row : h.block.slots ≡ to_middle v ++ (Some y ∷ (filled_slots ys ++ past_middle v)) =
+        by_middle h v o ∙ ap (λ (r : List T). to_middle v ++ (filled_slots r ++ past_middle v)) parts.2 in
         let same : y ≡ x =
-        some-same (sym (get_or_at (to_rest v) (Some y)
-        (filled_slots ys ++ past_rest v) None h.rest_start
-        (at_rest h v o)) ∙ (ap (λ (r : List (Option T)). slot r h.rest_start) (sym row) ∙ is)) in
+        some-same (sym (get_or_at (to_middle v) (Some y)
+        (filled_slots ys ++ past_middle v) None h.middle_start
+        (at_middle h v o)) ∙ (ap (λ (r : List (Option T)). slot r h.middle_start) (sym row) ∙ is)) in
         let reached' : v.capacity - tail_end v ≡ v.capacity - tail_end (first-view ys) =
         omega (arith, ap length parts.2) in
         let after : b.slots ≡ slots_of (first-view ys) =
         ap (λ (z : BlockView T A). z.slots) now
-        ∙ (ap (λ (r : List (Option T)). set r h.rest_start None) row
-        ∙ (set_at (to_rest v) (Some y) (filled_slots ys ++ past_rest v) None h.rest_start
-        (at_rest h v o)
+        ∙ (ap (λ (r : List (Option T)). set r h.middle_start None) row
+        ∙ (set_at (to_middle v) (Some y) (filled_slots ys ++ past_middle v) None h.middle_start
+        (at_middle h v o)
         ∙ rw reached' (simp (append_assoc, empty-more)))) in
         let shows : IsOpenViewOf first-left (first-view ys) =
         record {
           row = after;
           front = o.front;
-          gap = omega (arith, o.gap);
-          rest = omega (arith, o.rest, ap length parts.2);
+          gap_before = omega (arith, o.gap_before);
+          middle = omega (arith, o.middle, ap length parts.2);
           gap_after = o.gap_after;
           tail =
               o.tail;
@@ -227,51 +227,51 @@ module _ {T A : Type 0} where
 
     -- `last-left` and `last-view` are the same for the last middle item.
     abbrev pub last-left : Inside T A
-    last-left = record h { block = b; rest_end = h.rest_end - 1 }
+    last-left = record h { block = b; middle_end = h.middle_end - 1 }
 
     abbrev pub last-view : List T → OpenView T A
-    last-view ys = record v { rest = ys; gap_after = v.gap_after + 1 }
+    last-view ys = record v { middle = ys; gap_after = v.gap_after + 1 }
 
-    pub last-step : (x : T) → slot h.block.slots (h.rest_end - 1) ≡ Some x
+    pub last-step : (x : T) → slot h.block.slots (h.middle_end - 1) ≡ Some x
         → block_view b ≡ record
-        (block_view h.block) { slots = set h.block.slots (h.rest_end - 1) None }
-        → (ys : List T) × (v.rest ≡ ys ++ x ∷ []) × Found last-left (last-view ys)
+        (block_view h.block) { slots = set h.block.slots (h.middle_end - 1) None }
+        → (ys : List T) × (v.middle ≡ ys ++ x ∷ []) × Found last-left (last-view ys)
     last-step x is now =
-        let parts = last-of v.rest some in
+        let parts = last-of v.middle some in
         let ys : List T = parts.0 in
         let y : T = parts.1 in
-        let longer : length v.rest ≡ length ys + 1 = ap length parts.2 ∙ length_push ys y in
-        let pre : List (Option T) = to_rest v ++ filled_slots ys in
-        let before : length pre ≡ h.rest_end - 1 =
+        let longer : length v.middle ≡ length ys + 1 = ap length parts.2 ∙ length_push ys y in
+        let pre : List (Option T) = to_middle v ++ filled_slots ys in
+        let before : length pre ≡ h.middle_end - 1 =
         omega (
           arith,
-          length-append (to_rest v) (filled_slots ys),
-          at_rest h v o,
+          length-append (to_middle v) (filled_slots ys),
+          at_middle h v o,
           length-full ys,
-          o.rest,
+          o.middle,
           longer,
         ) in
-        let row : h.block.slots ≡ pre ++ (Some y ∷ past_rest v) =
-        by_rest h v o ∙ (ap (λ (r : List T). to_rest v ++ (filled_slots r ++ past_rest v)) parts.2
+        let row : h.block.slots ≡ pre ++ (Some y ∷ past_middle v) =
+        by_middle h v o ∙ (ap (λ (r : List T). to_middle v ++ (filled_slots r ++ past_middle v)) parts.2
         ∙ simp (append_assoc, map_push)) in
         let same : y ≡ x =
-        some-same (sym (get_or_at pre (Some y) (past_rest v) None (h.rest_end - 1) before)
-        ∙ (ap (λ (r : List (Option T)). slot r (h.rest_end - 1)) (sym row) ∙ is)) in
+        some-same (sym (get_or_at pre (Some y) (past_middle v) None (h.middle_end - 1) before)
+        ∙ (ap (λ (r : List (Option T)). slot r (h.middle_end - 1)) (sym row) ∙ is)) in
         let reached' : v.capacity - tail_end v ≡ v.capacity - tail_end (last-view ys) =
         omega (arith, longer) in
         let more : v.gap_after + 1 ≡ suc v.gap_after = omega arith in
         let after : b.slots ≡ slots_of (last-view ys) =
         ap (λ (z : BlockView T A). z.slots) now
-        ∙ (ap (λ (r : List (Option T)). set r (h.rest_end - 1) None) row
-        ∙ (set_at pre (Some y) (past_rest v) None (h.rest_end - 1) before
+        ∙ (ap (λ (r : List (Option T)). set r (h.middle_end - 1) None) row
+        ∙ (set_at pre (Some y) (past_middle v) None (h.middle_end - 1) before
         ∙ rw (reached', more) (simp append_assoc))) in
         let shows : IsOpenViewOf last-left (last-view ys) =
         record {
           row = after;
           front = o.front;
-          gap = o.gap;
-          rest = omega (arith, o.rest, longer);
-          gap_after = omega (arith, o.gap_after, o.rest, longer);
+          gap_before = o.gap_before;
+          middle = omega (arith, o.middle, longer);
+          gap_after = omega (arith, o.gap_after, o.middle, longer);
           tail = o.tail;
           room = o.room;
         } in (

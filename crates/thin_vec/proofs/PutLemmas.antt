@@ -4,7 +4,7 @@ use Rattle.std.proofs.Common.{◌≡◌, ℕ, ◌+◌, ◌<◌, ◌≤◌, List,
 use Rattle.std.proofs.lemmas.List.{append-nil, length-take-le, length_push, set_at, take_more}
 use lib.ListN.{set}
 use Rattle.thin_block.specs.Slots.{filled_slots, write_slots}
-use Rattle.thin_block.proofs.SlotsLemmas.{laid-none}
+use Rattle.thin_block.proofs.SlotsLemmas.{written-none}
 use Rattle.std.proofs.Common.{Bool, true, false, refl}
 use Rattle.std.specs.Iterator.{Count}
 use Rattle.thin_vec.specs.Put.{IsFilledBy}
@@ -33,9 +33,9 @@ module _ {S X : Type 0} {steps : S → Option X → S → Type 0} {can : S → T
   }
 
 module _ {T : Type 0} where
-  laid-before : (i k : ℕ) (y : Option T) (ys s : List (Option T)) → k ≡ i + 1 → i < length s
+  written-before : (i k : ℕ) (y : Option T) (ys s : List (Option T)) → k ≡ i + 1 → i < length s
       → set (write_slots k ys s) i y ≡ write_slots i (y ∷ ys) s
-  laid-before i k y ys s next low =
+  written-before i k y ys s next low =
       let rest : List (Option T) = drop (k + length ys) s in
       let more : take k s ≡ take i s ++ get_or s i None ∷ [] =
       ap (λ (n : ℕ). take n s) next ∙ take_more s i None low in
@@ -59,7 +59,7 @@ module _ {T : Type 0} where
       record {
         rest = [];
         parts = sym (append-nil xs);
-        row = sym (laid-none (start + length xs) s);
+        row = sym (written-none (start + length xs) s);
       }
 
   pub moving-next : {xs : List T} (left : List T) {start : ℕ} (i : ℕ) (v : T)
@@ -74,7 +74,7 @@ module _ {T : Type 0} where
         parts = m.parts ∙ append_assoc left (v ∷ []) m.rest;
         row =
             ap (λ (l : List (Option T)). set l i (Some v)) m.row
-            ∙ (laid-before i (start + length (left ++ v ∷ [])) (Some v) (filled_slots m.rest) r
+            ∙ (written-before i (start + length (left ++ v ∷ [])) (Some v) (filled_slots m.rest) r
             (omega (arith, next, one)) (omega (arith, next, one, all, room))
             ∙ ap (λ (n : ℕ). write_slots n (filled_slots (v ∷ m.rest)) r) next);
       }

@@ -125,13 +125,13 @@ module _ {S T : Type 0} (R : S → T → Bool → S → Type 0) where
   told (x ∷ xs) s t [] h = absurd (cons-not-nil (sym h.6))
   told (x ∷ xs) s t ((b, y) ∷ a) h =
       let same : (b, y) ≡ (h.0, h.1) = cons-head h.6 in
-      let rest = told xs h.2 t a
+      let more = told xs h.2 t a
       (subst (λ (c : TestResults T). TestsInTurn (ReadsOnly R) h.2 xs c t)
       (sym (cons-tail h.6)) h.5) in
       let answer : R s x b h.2 = subst (λ (c : Bool). R s x c h.2)
       (sym (ap (λ (p : Bool × T). p.0) same)) h.4.0 in
       let left : y ≡ x = ap (λ (p : Bool × T). p.1) same ∙ h.4.1 in
-      (ap suc rest.0, (h.2, answer, rest.1), first b y x a xs left rest.2)
+      (ap suc more.0, (h.2, answer, more.1), first b y x a xs left more.2)
     where
       -- In this induction step of `told`, `b` is the flag for `x`, and `y` is `x` after the test.
       first : (b : Bool) (y x : T) (a : TestResults T) (xs : List T) → y ≡ x
@@ -159,9 +159,9 @@ module _ {S T : Type 0} (R : S → T → Bool → S → T → Type 0) where
   few-left [] s t a h =
       subst (λ (b : TestResults T). length (items_where true b) ≤ 0) (sym h.0) (omega arith)
   few-left (x ∷ xs) s t a h =
-      let rest = few-left xs h.2 t h.3 h.5 in
+      let more = few-left xs h.2 t h.3 h.5 in
       subst (λ (b : TestResults T). length (items_where true b) ≤ suc (length xs)) (sym h.6)
-      (one h.0 h.1 h.3 xs rest)
+      (one h.0 h.1 h.3 xs more)
     where
       one : (b : Bool) (y : T) (a : TestResults T) (xs : List T)
           → length (items_where true a) ≤ length xs

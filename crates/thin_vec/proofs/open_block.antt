@@ -1,8 +1,8 @@
 -- This file lists the modules of lemmas about `src/open_block/`. Rattle includes this file
 -- automatically, so `Lib.antt` does not mention it.
 pub mod PairTestLemmas
-pub mod RetainRestLemmas
-pub mod SiftedLemmas
+pub mod MiddleLemmas
+pub mod RetainMiddleLemmas
 pub mod StepLemmas
 pub mod TestLemmas
 pub mod WriteLemmas

@@ -4,7 +4,7 @@ pub mod Cheap
 pub mod List
 pub mod Edits
 pub mod OpenBlock
-pub mod Open
+pub mod OpenView
 pub mod Put
 pub mod Lends
 pub mod Ranges

@@ -3,7 +3,7 @@ pub mod Dedup
 pub mod Retain
 use Rattle.std.specs.Prelude.{◌≡◌, ◌+◌, ◌-◌, ◌≤◌, drop, length, slice_range, take}
 use Rattle.thin_block.specs.Slots.{items_in}
-use Rattle.thin_vec.specs.Open.{OpenView, slots_of}
+use Rattle.thin_vec.specs.OpenView.{OpenView, slots_of}
 use Rattle.thin_vec.specs.declared.open_block.OpenBlock.TheInside.{Inside}
 
 module _ {T A : Type 0} where
@@ -12,9 +12,9 @@ module _ {T A : Type 0} where
   open_view h =
       record {
         front = items_in (take h.front_end h.block.slots);
-        gap = h.rest_start - h.front_end;
-        rest = items_in (slice_range h.block.slots h.rest_start h.rest_end);
-        gap_after = h.tail_start - h.rest_end;
+        gap_before = h.middle_start - h.front_end;
+        middle = items_in (slice_range h.block.slots h.middle_start h.middle_end);
+        gap_after = h.tail_start - h.middle_end;
         tail = items_in (drop h.tail_start h.block.slots);
         capacity = length h.block.slots;
         alloc = h.block.alloc;
@@ -26,9 +26,9 @@ module _ {T A : Type 0} where
   pub record IsOpenViewOf (h : Inside T A) (v : OpenView T A) : Type 0 where
     pub row : h.block.slots ≡ slots_of v
     pub front : length v.front ≡ h.front_end
-    pub gap : h.front_end + v.gap ≡ h.rest_start
-    pub rest : h.rest_start + length v.rest ≡ h.rest_end
-    pub gap_after : h.rest_end + v.gap_after ≡ h.tail_start
+    pub gap_before : h.front_end + v.gap_before ≡ h.middle_start
+    pub middle : h.middle_start + length v.middle ≡ h.middle_end
+    pub gap_after : h.middle_end + v.gap_after ≡ h.tail_start
     pub tail : h.tail_start + length v.tail ≡ h.len
     pub room : h.len ≤ v.capacity
 

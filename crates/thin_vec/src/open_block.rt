@@ -4,7 +4,7 @@ ghost use Rattle.std.specs.Iterator.{YieldsFirst, YieldsLast};
 ghost use Rattle.thin_block.specs.Cost.{add_moves, no_cost};
 ghost use Rattle.thin_block.specs.Slots.{packed_slots};
 ghost use Rattle.thin_block.specs.Block.{IsAllocatedBy};
-ghost use Rattle.thin_vec.specs.Open.{OpenView, cost_closed, items_of, range_len, tail_end};
+ghost use Rattle.thin_vec.specs.OpenView.{OpenView, cost_closed, items_of, range_len, tail_end};
 ghost use Rattle.thin_vec.specs.ThinVec.{HasRoomFor, IsBounded};
 
 pub(crate) mod dedup;
@@ -23,38 +23,38 @@ use thin_block::{Block, Growth};
 /// The fields say in which slot each of six parts begins. Any part may consist of no slots.
 ///
 /// ```text
-///   0       front_end    rest_start     rest_end    tail_start      len        capacity
+///   0       front_end    middle_start     middle_end    tail_start      len        capacity
 ///   |           |            |            |            |            |             |
 ///   +-----------+------------+------------+------------+------------+-------------+
 ///   |   items   |   empty    |   items    |   empty    |   items    |    empty    |
 ///   +-----------+------------+------------+------------+------------+-------------+
-///       front        gap       middle run   gap_after       tail      spare slots
+///       front     gap_before     middle     gap_after       tail      spare slots
 /// ```
 ///
 /// - The *front* contains the items before the range, and those kept or inserted so far. They do
 ///   not move again while the block is open.
 /// - The *middle run* contains the items of the range that have not been yielded, kept or removed
-///   so far. In names of fields and in contracts, the middle run is called `rest`.
+///   so far. In names, the middle run is called `middle`.
 /// - `gap_after` has slots only after items were removed from the end of the middle run, or after
 ///   the tail was moved up.
 /// - The *tail* contains the items after the range.
 ///
 /// An `OpenBlock` owns the block and all items in it. It does not implement `Drop`: `close` puts
 /// the block back into the list. Contracts describe it as an `OpenView`, which is defined in
-/// `specs/Open.antt`. Only the proofs of its methods deal with slots. So each step of an edit is a
-/// method, even a step that only one function takes.
+/// `specs/OpenView.antt`. Only the proofs of its methods deal with slots. So each step of an edit
+/// is a method, even a step that only one function takes.
 pub struct OpenBlock<T, A: Allocator> {
     // The length that the block stores is not used while it is open.
     pub(crate) block: Block<T, A>,
     pub(crate) front_end: usize,
-    pub(crate) rest_start: usize,
-    pub(crate) rest_end: usize,
+    pub(crate) middle_start: usize,
+    pub(crate) middle_end: usize,
     pub(crate) tail_start: usize,
     pub(crate) len: usize,
 }
 
 impl<T, A: Allocator> Model for OpenBlock<T, A> {
-    ghost use Rattle.thin_vec.specs.Open.{OpenView, open_view_code};
+    ghost use Rattle.thin_vec.specs.OpenView.{OpenView, open_view_code};
 
     ghost Value = { OpenView T A };
 
@@ -76,9 +76,9 @@ impl<T, A: Allocator, G: Growth> ThinVec<T, A, G> {
 
         // The open block.
         ensures front { result.front ≡ take start self.old.items }
-        ensures rest { result.rest ≡ slice_range self.old.items start end }
+        ensures middle { result.middle ≡ slice_range self.old.items start end }
         ensures tail { result.tail ≡ drop end self.old.items }
-        ensures gap { result.gap ≡ 0 }
+        ensures gap_before { result.gap_before ≡ 0 }
         ensures gap_after { result.gap_after ≡ 0 }
         ensures capacity { result.capacity ≡ self.old.capacity }
         ensures same_allocator { IsAllocatedBy result.alloc self.old.alloc }
@@ -93,8 +93,8 @@ impl<T, A: Allocator, G: Growth> ThinVec<T, A, G> {
         OpenBlock {
             block,
             front_end: start,
-            rest_start: start,
-            rest_end: end,
+            middle_start: start,
+            middle_end: end,
             tail_start: end,
             len,
         }
@@ -134,8 +134,8 @@ impl<T: Drop, A: Allocator, G: Growth> ThinVec<T, A, G> {
 
         // The open block.
         ensures front { result.front ≡ take start self.old.items }
-        ensures gap { result.gap ≡ end - start + count }
-        ensures rest { result.rest ≡ [] }
+        ensures gap_before { result.gap_before ≡ end - start + count }
+        ensures middle { result.middle ≡ [] }
         ensures gap_after { result.gap_after ≡ 0 }
         ensures tail { result.tail ≡ drop end self.old.items }
         ensures capacity { result.capacity ≡ self.old.capacity }
@@ -147,7 +147,7 @@ impl<T: Drop, A: Allocator, G: Growth> ThinVec<T, A, G> {
         ensures changes { self.new ≡ record self.old { items = []; capacity = 0; cost = no_cost } }
     {
         let mut block = self.open(start, end);
-        block.drop_rest();
+        block.drop_middle();
         if count > 0 {
             block.shift_tail_up(count);
             block.merge_gaps();
@@ -157,44 +157,44 @@ impl<T: Drop, A: Allocator, G: Growth> ThinVec<T, A, G> {
 }
 
 impl<T, A: Allocator> OpenBlock<T, A> {
-    pub(crate) fn rest_len(&self) -> usize
-        ensures value { result ≡ length self.now.rest }
+    pub(crate) fn middle_len(&self) -> usize
+        ensures value { result ≡ length self.now.middle }
     {
-        self.rest_end - self.rest_start
+        self.middle_end - self.middle_start
     }
 
     // Removes and returns the first middle item. Its slot becomes a part of the gap.
     pub(crate) fn take_first(&mut self) -> T
-        requires nonempty { 0 < length self.old.rest }
-        ensures rest { self.old.rest ≡ result ∷ self.new.rest }
+        requires nonempty { 0 < length self.old.middle }
+        ensures middle { self.old.middle ≡ result ∷ self.new.middle }
         ensures changes { self.new ≡ record self.old {
-          rest = self.new.rest;
-          gap = self.old.gap + 1;
+          middle = self.new.middle;
+          gap_before = self.old.gap_before + 1;
         } }
     {
-        let first = self.rest_start;
-        self.rest_start += 1;
+        let first = self.middle_start;
+        self.middle_start += 1;
         self.block.take(first)
     }
 
     pub(crate) fn take_last(&mut self) -> T
-        requires nonempty { 0 < length self.old.rest }
-        ensures rest { self.old.rest ≡ self.new.rest ++ result ∷ [] }
+        requires nonempty { 0 < length self.old.middle }
+        ensures middle { self.old.middle ≡ self.new.middle ++ result ∷ [] }
         ensures changes { self.new ≡ record self.old {
-          rest = self.new.rest;
+          middle = self.new.middle;
           gap_after = self.old.gap_after + 1;
         } }
     {
-        self.rest_end -= 1;
-        self.block.take(self.rest_end)
+        self.middle_end -= 1;
+        self.block.take(self.middle_end)
     }
 
     // Moves `value` into the first slot of the gap.
     pub(crate) fn append_to_front(&mut self, value: T)
-        requires has_gap { 0 < self.old.gap }
+        requires has_gap { 0 < self.old.gap_before }
         ensures { self.new ≡ record self.old {
           front = self.old.front ++ value ∷ [];
-          gap = self.old.gap - 1;
+          gap_before = self.old.gap_before - 1;
           cost = add_moves 1 self.old.cost;
         } }
     {
@@ -204,25 +204,25 @@ impl<T, A: Allocator> OpenBlock<T, A> {
 
     // Lets the first `k` middle items belong to the front. There is no gap, so none of them moves.
     pub(crate) fn keep_in_place(&mut self, k: usize)
-        requires no_gap { self.old.gap ≡ 0 }
-        requires in_bounds { k ≤ length self.old.rest }
+        requires no_gap { self.old.gap_before ≡ 0 }
+        requires in_bounds { k ≤ length self.old.middle }
         ensures { self.new
             ≡ record self.old {
-              front = self.old.front ++ take k self.old.rest;
-              rest = drop k self.old.rest;
+              front = self.old.front ++ take k self.old.middle;
+              middle = drop k self.old.middle;
             } }
     {
         self.front_end += k;
-        self.rest_start += k;
+        self.middle_start += k;
     }
 
     // Moves the first middle item to the end of the front.
     pub(crate) fn move_one_down(&mut self)
-        requires nonempty { 0 < length self.old.rest }
-        requires has_gap { 0 < self.old.gap }
+        requires nonempty { 0 < length self.old.middle }
+        requires has_gap { 0 < self.old.gap_before }
         ensures { self.new ≡ record self.old {
-          front = self.old.front ++ take 1 self.old.rest;
-          rest = drop 1 self.old.rest;
+          front = self.old.front ++ take 1 self.old.middle;
+          middle = drop 1 self.old.middle;
           cost = add_moves 1 self.old.cost;
         } }
     {
@@ -232,11 +232,11 @@ impl<T, A: Allocator> OpenBlock<T, A> {
 
     // Moves the first `k` middle items to the end of the front, two or more of them together.
     pub(crate) fn move_down(&mut self, k: usize)
-        requires in_bounds { k ≤ length self.old.rest }
-        requires has_gap { 0 < self.old.gap }
+        requires in_bounds { k ≤ length self.old.middle }
+        requires has_gap { 0 < self.old.gap_before }
         ensures { self.new ≡ record self.old {
-          front = self.old.front ++ take k self.old.rest;
-          rest = drop k self.old.rest;
+          front = self.old.front ++ take k self.old.middle;
+          middle = drop k self.old.middle;
           cost = add_moves k self.old.cost;
         } }
     {
@@ -248,18 +248,18 @@ impl<T, A: Allocator> OpenBlock<T, A> {
             return;
         }
         let block = mem::replace(&mut self.block, Block::none());
-        let closed = block.close_gap(self.front_end, self.rest_start - self.front_end, k);
+        let closed = block.close_gap(self.front_end, self.middle_start - self.front_end, k);
         let none = mem::replace(&mut self.block, closed);
         // `none` was in the place of the block during the call.
         none.forget_unallocated();
         self.front_end += k;
-        self.rest_start += k;
+        self.middle_start += k;
     }
 
-    pub(crate) fn rest_slice(&self) -> &[T]
-        ensures value { result.now ≡ self.now.rest }
+    pub(crate) fn middle_slice(&self) -> &[T]
+        ensures value { result.now ≡ self.now.middle }
     {
-        self.block.slice(self.rest_start, self.rest_end)
+        self.block.slice(self.middle_start, self.middle_end)
     }
 
     pub(crate) fn has_tail(&self) -> bool
@@ -273,12 +273,12 @@ impl<T, A: Allocator> OpenBlock<T, A> {
 
     // Joins the gaps before and after the empty middle run.
     pub(crate) fn merge_gaps(&mut self)
-        requires no_rest { self.old.rest ≡ [] }
+        requires no_middle { self.old.middle ≡ [] }
         ensures { self.new
-            ≡ record self.old { gap = self.old.gap + self.old.gap_after; gap_after = 0 } }
+            ≡ record self.old { gap_before = self.old.gap_before + self.old.gap_after; gap_after = 0 } }
     {
-        self.rest_start = self.tail_start;
-        self.rest_end = self.tail_start;
+        self.middle_start = self.tail_start;
+        self.middle_end = self.tail_start;
     }
 
     // Moves the items after the gap down, stores their number in the block, and returns it.
@@ -294,18 +294,18 @@ impl<T, A: Allocator> OpenBlock<T, A> {
         let OpenBlock {
             block: mut opened,
             front_end,
-            rest_start,
-            rest_end: _,
+            middle_start,
+            middle_end: _,
             tail_start: _,
             len,
         } = self;
-        if front_end == rest_start {
+        if front_end == middle_start {
             opened.set_len(len);
             return opened;
         }
-        let gap = rest_start - front_end;
-        let mut closed = opened.close_small_gap(front_end, gap, len - rest_start);
-        closed.store_len(len - gap);
+        let gap_before = middle_start - front_end;
+        let mut closed = opened.close_small_gap(front_end, gap_before, len - middle_start);
+        closed.store_len(len - gap_before);
         closed
     }
 
@@ -328,28 +328,28 @@ impl<T, A: Allocator> OpenBlock<T, A> {
     }
 
     pub(crate) fn next(&mut self) -> Option<T>
-        ensures steps { YieldsFirst (λ (v : OpenView T A). v.rest) self.old result self.new }
+        ensures steps { YieldsFirst (λ (v : OpenView T A). v.middle) self.old result self.new }
         ensures range { range_len self.new ≡ range_len self.old }
         ensures changes { self.new ≡ record self.old {
-          gap = self.new.gap;
-          rest = self.new.rest;
+          gap_before = self.new.gap_before;
+          middle = self.new.middle;
         } }
     {
-        if self.rest_len() == 0 {
+        if self.middle_len() == 0 {
             return None;
         }
         Some(self.take_first())
     }
 
     pub(crate) fn next_back(&mut self) -> Option<T>
-        ensures steps { YieldsLast (λ (v : OpenView T A). v.rest) self.old result self.new }
+        ensures steps { YieldsLast (λ (v : OpenView T A). v.middle) self.old result self.new }
         ensures range { range_len self.new ≡ range_len self.old }
         ensures changes { self.new ≡ record self.old {
-          rest = self.new.rest;
+          middle = self.new.middle;
           gap_after = self.new.gap_after;
         } }
     {
-        if self.rest_len() == 0 {
+        if self.middle_len() == 0 {
             return None;
         }
         Some(self.take_last())
@@ -358,14 +358,14 @@ impl<T, A: Allocator> OpenBlock<T, A> {
 
 impl<T: Drop, A: Allocator> OpenBlock<T, A> {
     // Drops the middle items. Their slots and the gaps around them become one gap.
-    pub(crate) fn drop_rest(&mut self)
+    pub(crate) fn drop_middle(&mut self)
         ensures { self.new ≡ record self.old {
-          gap = self.old.gap + length self.old.rest + self.old.gap_after;
-          rest = [];
+          gap_before = self.old.gap_before + length self.old.middle + self.old.gap_after;
+          middle = [];
           gap_after = 0;
         } }
     {
-        while self.rest_len() > 0 {
+        while self.middle_len() > 0 {
             drop(self.take_first());
         }
         self.merge_gaps();

@@ -16,9 +16,9 @@ pub further : (a d c s o : ℕ) → c ≡ d + a → c * s + o ≡ d * s + (a * s
 further a d c s o e = let sum = add_times d a s in
     let same : c * s ≡ (d + a) * s = ap (λ (k : ℕ). k * s) e in omega arith
 
-laid-over : {T : Type 0} (s new : List (Option T)) (i n : ℕ) → length new ≡ n
+written-over : {T : Type 0} (s new : List (Option T)) (i n : ℕ) → length new ≡ n
     → write_slots i new s ≡ take i s ++ (new ++ drop (i + n) s)
-laid-over s new i n long = ap (λ (k : ℕ). take i s ++ (new ++ drop (i + k) s)) long
+written-over s new i n long = ap (λ (k : ℕ). take i s ++ (new ++ drop (i + k) s)) long
 
 module _ (E : El) {M : Type 1} {𝓤 : Ura M} (𝓛 : Logic 𝓤) (b o : ℕ) (slots : List (Slot E))
     (from to k : ℕ) (xs : List (el_x E)) (items : slot_range from k slots ≡ filled_slots xs)
@@ -70,7 +70,7 @@ module _ (E : El) {M : Type 1} {𝓤 : Ura M} (𝓛 : Logic 𝓤) (b o : ℕ) (s
       let whole : slots ≡ take i slots ++ (old ++ drop (i + n) slots) = parted-run slots i n
       ∙ ap (λ (l : S). take i slots ++ (l ++ drop (i + n) slots)) is in
       let result : write_slots i new slots ≡ move_slots from to k slots =
-      laid-over slots new i n count
+      written-over slots new i n count
       ∙ (sym goes ∙ ap (λ (l : S). move_slots from to k l) (sym whole)) in
       record {
         Rest = fsep Kept Others;

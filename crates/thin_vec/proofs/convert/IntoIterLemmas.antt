@@ -12,7 +12,7 @@ use Rattle.thin_block.specs.Block.{IsAllocatedBy, block_view}
 use Rattle.thin_block.specs.Lends.{overwrite_items, set_slots as block_with_items}
 use Rattle.thin_block.specs.Slots.{empty_slots, filled_slots, items_in, slot}
 use Rattle.thin_block.specs.declared.block.Block.{Block}
-use Rattle.thin_vec.specs.Convert.IntoIter.{IsIntoIterBlock, RestInOrder, RestInReverse}
+use Rattle.thin_vec.specs.Convert.IntoIter.{IsIntoIterBlock, IntoIterYieldsInOrder, IntoIterYieldsInReverse}
 use Rattle.thin_vec.specs.VecWords.{into_iter_items}
 use Rattle.std.specs.List.{length_refill, refill}
 use Rattle.thin_vec.specs.Lends.{with_items}
@@ -282,14 +282,14 @@ module _ {T A : Type 0} where
       ∙ ap (λ (n : ℕ). empty_slots n) all))
 
 module _ (T A : Type 0) where
-  pub rest_in_order : RestInOrder T A
-  rest_in_order p s =
+  pub into_iter_in_order : IntoIterYieldsInOrder T A
+  into_iter_in_order p s =
       as_is p (into_iter_items p.from)
       (from_front (YieldsFirst into_iter_items) (λ x. x) into_iter_items (λ s t h. ap length h.0)
       (λ s x t h. h) p s)
 
-  pub rest_in_reverse : RestInReverse T A
-  rest_in_reverse p s =
+  pub into_iter_in_reverse : IntoIterYieldsInReverse T A
+  into_iter_in_reverse p s =
       as_is_back p (into_iter_items p.from)
       (from_back (YieldsLast into_iter_items) (λ x. x) into_iter_items (λ s t h. ap length h.0)
       (λ s x t h. h) p s)

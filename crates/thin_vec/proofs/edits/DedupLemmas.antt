@@ -8,8 +8,8 @@ use Rattle.thin_block.specs.Cost.{Cost, add_moves}
 use Rattle.thin_vec.specs.Edits.Retain.{moves_of_retain, count_true}
 use Rattle.thin_vec.specs.Edits.Dedup.{TestsEachAgainstLast, TestsAllAgainstLast, Compares, IsDedupedBy, IsDedupedTo, dedup_flags, dedup_flags_from}
 use Rattle.thin_vec.specs.List.Capacity.{MovesAtMost}
-use Rattle.thin_vec.specs.Open.{OpenView}
-use Rattle.thin_vec.specs.OpenBlock.Dedup.{TestsLast, TestsNext, DedupsRest, TestsPairsUpTo, DedupsSome}
+use Rattle.thin_vec.specs.OpenView.{OpenView}
+use Rattle.thin_vec.specs.OpenBlock.Dedup.{TestsLast, TestsNext, DedupsMiddle, TestsPairsUpTo, DedupsSome}
 use Rattle.thin_vec.specs.ThinVec.{ListView}
 use Rattle.thin_vec.proofs.RetainLemmas.{cons-head, cons-tail, moves_of_retain-few, moving-more, moving-none}
 use Rattle.thin_vec.proofs.OpenBlockLemmas.{last-of}
@@ -23,19 +23,19 @@ module _ {S T : Type 0} (R : OnPairs S T) where
     -- cost `cost`. Its first gap and its middle items may also differ from those of `v`.
     abbrev Moved : List T → Cost → Type 0
     Moved front cost = w ≡ record v
-        { front = front; gap = w.gap; rest = w.rest; cost = cost }
+        { front = front; gap_before = w.gap_before; middle = w.middle; cost = cost }
 
     moved : {f f' : List T} {k k' : Cost} → f ≡ f' → k ≡ k'
-        → record v { front = f; gap = w.gap; rest = w.rest; cost = k }
-        ≡ record v { front = f'; gap = w.gap; rest = w.rest; cost = k' }
-    moved e n = λ i. record v { front = e i; gap = w.gap; rest = w.rest; cost = n i }
+        → record v { front = f; gap_before = w.gap_before; middle = w.middle; cost = k }
+        ≡ record v { front = f'; gap_before = w.gap_before; middle = w.middle; cost = k' }
+    moved e n = λ i. record v { front = e i; gap_before = w.gap_before; middle = w.middle; cost = n i }
 
     module _ (s t : S) where
       dedups-of : (before : List T) (first : T) (done : List T) (stays : List Bool) (kept : List T)
-          → v.front ≡ before ++ first ∷ [] → v.rest ≡ done ++ w.rest
-          → TestsEachAgainstLast R s first done stays kept t → 0 < w.gap
+          → v.front ≡ before ++ first ∷ [] → v.middle ≡ done ++ w.middle
+          → TestsEachAgainstLast R s first done stays kept t → 0 < w.gap_before
           → Moved (before ++ kept) (add_moves (count_true stays) v.cost) → DedupsSome R s v t w
-      dedups-of before first done stays kept was rest asked gap now =
+      dedups-of before first done stays kept was middle asked gap_before now =
           record {
             before = before;
             first = first;
@@ -43,55 +43,55 @@ module _ {S T : Type 0} (R : OnPairs S T) where
             stays = stays;
             kept = kept;
             was = was;
-            rest = rest;
+            middle = middle;
             asked = asked;
-            gap = gap;
+            gap_before = gap_before;
             now = now;
           }
 
     -- The lemmas `dedups-goes`, `-stays`, `-two` and `-run` are the cases of `dedup_next`.
     pub dedups-goes : {s t : S} (x y : T) (front : List T)
-        → TestsLast R s x v.front true t y front → v.rest ≡ x ∷ w.rest → 0 < w.gap
+        → TestsLast R s x v.front true t y front → v.middle ≡ x ∷ w.middle → 0 < w.gap_before
         → Moved front v.cost → DedupsSome R s v t w
-    dedups-goes {s} {t} x y front a rest gap now =
-        dedups-of s t a.before a.kept (x ∷ []) (false ∷ []) (a.kept_left ∷ []) a.was rest
-        (last-goes R s t a.kept x y a.kept_left a.asked) gap
+    dedups-goes {s} {t} x y front a middle gap_before now =
+        dedups-of s t a.before a.kept (x ∷ []) (false ∷ []) (a.kept_left ∷ []) a.was middle
+        (last-goes R s t a.kept x y a.kept_left a.asked) gap_before
         (now ∙ moved (λ i. a.now i) (sym (moving-none v.cost)))
 
     pub dedups-stays : {s t : S} (x y : T) (front : List T)
-        → TestsLast R s x v.front false t y front → v.rest ≡ x ∷ w.rest
-        → 0 < w.gap → Moved (front ++ y ∷ []) (add_moves 1 v.cost) → DedupsSome R s v t w
-    dedups-stays {s} {t} x y front a rest gap now =
-        dedups-of s t a.before a.kept (x ∷ []) (true ∷ []) (a.kept_left ∷ y ∷ []) a.was rest
-        (last-stays R s t a.kept x y a.kept_left a.asked) gap
+        → TestsLast R s x v.front false t y front → v.middle ≡ x ∷ w.middle
+        → 0 < w.gap_before → Moved (front ++ y ∷ []) (add_moves 1 v.cost) → DedupsSome R s v t w
+    dedups-stays {s} {t} x y front a middle gap_before now =
+        dedups-of s t a.before a.kept (x ∷ []) (true ∷ []) (a.kept_left ∷ y ∷ []) a.was middle
+        (last-stays R s t a.kept x y a.kept_left a.asked) gap_before
         (now ∙ moved (ap (λ (l : List T). l ++ y ∷ []) a.now
         ∙ append_assoc a.before (a.kept_left ∷ []) (y ∷ [])) refl)
 
     module _ (s t u : S) (x y z : T) (front ys zs : List T)
         (a : TestsLast R s x v.front false t y front) (b : Bool)
-        (n : TestsNext R t y ys b u z zs) (whole : v.rest ≡ x ∷ ys) where
+        (n : TestsNext R t y ys b u z zs) (whole : v.middle ≡ x ∷ ys) where
       two-front : (front ++ z ∷ [] ≡ a.before ++ a.kept_left ∷ z ∷ [])
       two-front = ap (λ (l : List T). l ++ z ∷ []) a.now
           ∙ append_assoc a.before (a.kept_left ∷ []) (z ∷ [])
 
-      pub dedups-two : b ≡ true → (value : T) → zs ≡ value ∷ w.rest → 0 < w.gap
+      pub dedups-two : b ≡ true → (value : T) → zs ≡ value ∷ w.middle → 0 < w.gap_before
           → Moved (front ++ z ∷ []) (add_moves 1 v.cost) → DedupsSome R s v u w
-      dedups-two e value rest gap now =
+      dedups-two e value middle gap_before now =
           let asked = last-append R t u y (false ∷ []) (z ∷ []) (n.later ∷ [])
           (last-goes R t u y n.later n.later_left z
           (subst (λ (q : Bool). R t n.later y q u n.later_left z) e n.asked))
           (x ∷ []) s a.kept (true ∷ []) (a.kept_left ∷ [])
           (last-stays R s t a.kept x y a.kept_left a.asked) in
-          let same : n.after ≡ w.rest = cons-tail (sym n.now ∙ rest) in
+          let same : n.after ≡ w.middle = cons-tail (sym n.now ∙ middle) in
           dedups-of s u a.before a.kept (x ∷ n.later ∷ []) (true ∷ false ∷ [])
           (a.kept_left ∷ z ∷ []) a.was (whole ∙ ap (λ (l : List T). x ∷ l)
-          (n.was ∙ ap (λ (l : List T). n.later ∷ l) same)) asked gap (now ∙ moved two-front refl)
+          (n.was ∙ ap (λ (l : List T). n.later ∷ l) same)) asked gap_before (now ∙ moved two-front refl)
 
       pub dedups-run : b ≡ false → (m : ℕ) (q : S) (ws : List T) (r : TestsPairsUpTo R m u zs q ws)
-          → r.after ≡ w.rest → suc (count_true r.stays) ≡ m
-          → 0 < w.gap → Moved ((front ++ z ∷ []) ++ take m ws) (add_moves m (add_moves 1 v.cost))
+          → r.after ≡ w.middle → suc (count_true r.stays) ≡ m
+          → 0 < w.gap_before → Moved ((front ++ z ∷ []) ++ take m ws) (add_moves m (add_moves 1 v.cost))
           → DedupsSome R s v q w
-      dedups-run e m q ws r rest count gap now =
+      dedups-run e m q ws r middle count gap_before now =
           let pair = last-append R t u y (true ∷ []) (z ∷ n.later_left ∷ []) (n.later ∷ [])
           (last-stays R t u y n.later n.later_left z
           (subst (λ (c : Bool). R t n.later y c u n.later_left z) e n.asked))
@@ -104,20 +104,20 @@ module _ {S T : Type 0} (R : OnPairs S T) where
           (sym (cons-head heads)) r.asked in
           let asked = last-append R u q n.later_left r.stays r.left r.done from
           (x ∷ n.later ∷ []) s a.kept (true ∷ true ∷ []) (a.kept_left ∷ z ∷ []) pair in
-          let all : v.rest ≡ x ∷ n.later ∷ (r.done ++ w.rest) =
+          let all : v.middle ≡ x ∷ n.later ∷ (r.done ++ w.middle) =
           whole ∙ ap (λ (l : List T). x ∷ l)
           (n.was ∙ ap (λ (l : List T). n.later ∷ l)
-          (cons-tail heads ∙ ap (λ (l : List T). r.done ++ l) rest)) in
+          (cons-tail heads ∙ ap (λ (l : List T). r.done ++ l) middle)) in
           let paid : 1 + m ≡ suc (suc (count_true r.stays)) = omega (arith, count) in
           dedups-of s q a.before a.kept (x ∷ n.later ∷ r.done) (true ∷ true ∷ r.stays)
-          (a.kept_left ∷ z ∷ r.left) a.was all asked gap
+          (a.kept_left ∷ z ∷ r.left) a.was all asked gap_before
           (now ∙ moved ((λ i. two-front i ++ run-left R m u zs q ws r i)
           ∙ append_assoc a.before (a.kept_left ∷ z ∷ []) r.left)
           (moving-more m 1 v.cost ∙ ap (λ (k : ℕ). add_moves k v.cost) paid))
 
   pub dedups-start : {A : Type 0} (s : S) (v : OpenView T A) → 0 < length v.front
-      → 0 < v.gap → DedupsSome R s v s v
-  dedups-start s v some gap =
+      → 0 < v.gap_before → DedupsSome R s v s v
+  dedups-start s v some gap_before =
       let p = last-of v.front some in
       record {
         before = p.0;
@@ -126,9 +126,9 @@ module _ {S T : Type 0} (R : OnPairs S T) where
         stays = [];
         kept = p.1 ∷ [];
         was = p.2;
-        rest = refl;
+        middle = refl;
         asked = (refl, refl, refl);
-        gap = gap;
+        gap_before = gap_before;
         now = λ i. record v { front = p.2 i; cost = sym (moving-none v.cost) i };
       }
 
@@ -148,19 +148,19 @@ module _ {S T : Type 0} (R : OnPairs S T) where
         stays = h.stays ++ k.stays;
         kept = p.0 ++ k.kept;
         was = h.was;
-        rest = h.rest ∙ (ap (λ (l : List T). h.done ++ l) k.rest
-            ∙ sym (append_assoc h.done k.done z.rest));
+        middle = h.middle ∙ (ap (λ (l : List T). h.done ++ l) k.middle
+            ∙ sym (append_assoc h.done k.done z.middle));
         asked = last-append R t u p.1 k.stays k.kept k.done
             (subst (λ (l : T). TestsEachAgainstLast R t l k.done k.stays k.kept u)
             (sym ends.1) k.asked)
             h.done s h.first h.stays p.0
             (subst (λ (l : List T). TestsEachAgainstLast R s h.first h.done h.stays l t) p.2
             h.asked);
-        gap = k.gap;
+        gap_before = k.gap_before;
         now = k.now ∙ ((λ i. let u = h.now i in record u {
           front = k.before ++ k.kept;
-          gap = z.gap;
-          rest = z.rest;
+          gap_before = z.gap_before;
+          middle = z.middle;
           cost = add_moves (count_true k.stays) u.cost;
         })
             ∙ moved v z (ap (λ (l : List T). l ++ k.kept) (sym ends.0)
@@ -170,20 +170,20 @@ module _ {S T : Type 0} (R : OnPairs S T) where
       }
 
   module _ {A : Type 0} (v w : OpenView T A) (m : ℕ) (s t : S) (ys : List T)
-      (r : TestsPairsUpTo R m s v.rest t ys) where
+      (r : TestsPairsUpTo R m s v.middle t ys) where
     -- `RunPassed` holds if the front items of `w` are the `m` kept items, and the cost is that of
     -- `v`. The first gap and the middle items may differ from those of `v`.
     abbrev RunPassed : Type 0
     RunPassed = Moved v w (take m ys) v.cost
 
-    -- The lemmas `deduped-goes` and `deduped-ends` are the cases of `dedup_rest`.
+    -- The lemmas `deduped-goes` and `deduped-ends` are the cases of `dedup_middle`.
     pub deduped-goes : (value : T) (u : S) (z : OpenView T A) → RunPassed
-        → drop m ys ≡ value ∷ w.rest
-        → DedupsSome R t w u z → z.rest ≡ [] → DedupsRest R s v u z
+        → drop m ys ≡ value ∷ w.middle
+        → DedupsSome R t w u z → z.middle ≡ [] → DedupsMiddle R s v u z
     deduped-goes value u z p k h none =
-        let g = run-goes R m s v.rest t ys r value w.rest k in
+        let g = run-goes R m s v.middle t ys r value w.middle k in
         let here : w.front ≡ r.left = ap (λ x. x.front) p
-        ∙ run-left R m s v.rest t ys r in
+        ∙ run-left R m s v.middle t ys r in
         let flags : r.stays ++ h.stays ≡ all-stay r.more ++ false ∷ h.stays =
         ap (λ (f : List Bool). f ++ h.stays) g.1 ∙ append_assoc (all-stay r.more)
         (false ∷ []) h.stays in
@@ -191,7 +191,7 @@ module _ {S T : Type 0} (R : OnPairs S T) where
         ap moves_of_retain flags
         ∙ moved-all r.more (false ∷ h.stays) in
         let all : r.after ≡ h.done = g.0
-        ∙ (h.rest ∙ (ap (λ (l : List T). h.done ++ l) none ∙ append-nil h.done)) in
+        ∙ (h.middle ∙ (ap (λ (l : List T). h.done ++ l) none ∙ append-nil h.done)) in
         let asked : TestsEachAgainstLast R s r.first (r.done ++ h.done) (r.stays ++ h.stays)
         (h.before ++ h.kept) u =
         last-append R t u h.first h.stays h.kept h.done h.asked r.done s r.first r.stays h.before
@@ -206,15 +206,15 @@ module _ {S T : Type 0} (R : OnPairs S T) where
               l u) (sym (ap (λ x. x.front) h.now)) asked);
           now = h.now ∙ (λ i. let x = p i in record x {
             front = sym (ap (λ y. y.front) h.now) i;
-            gap = z.gap;
-            rest = none i;
+            gap_before = z.gap_before;
+            middle = none i;
             cost = add_moves (sym up i) x.cost;
           });
         }
 
-    pub deduped-ends : RunPassed → drop m ys ≡ [] → w.rest ≡ [] → DedupsRest R s v t w
+    pub deduped-ends : RunPassed → drop m ys ≡ [] → w.middle ≡ [] → DedupsMiddle R s v t w
     deduped-ends p k none =
-        let g = run-ends R m s v.rest t ys r k in
+        let g = run-ends R m s v.middle t ys r k in
         let up : moves_of_retain r.stays ≡ 0 =
         ap moves_of_retain (g.1 ∙ sym (append-nil (all-stay r.more)))
         ∙ moved-all r.more [] in
@@ -224,11 +224,11 @@ module _ {S T : Type 0} (R : OnPairs S T) where
               (sym (append-nil (r.first ∷ r.done))
               ∙ (ap (λ (l : List T). r.first ∷ (r.done ++ l)) (sym g.0) ∙ sym r.was))
               (subst (λ (l : List T). TestsEachAgainstLast R s r.first r.done r.stays l t)
-              (sym (ap (λ x. x.front) p ∙ run-left R m s v.rest t ys r)) r.asked);
+              (sym (ap (λ x. x.front) p ∙ run-left R m s v.middle t ys r)) r.asked);
           now = p ∙ (λ i. record v {
             front = sym (ap (λ x. x.front) p) i;
-            gap = w.gap;
-            rest = none i;
+            gap_before = w.gap_before;
+            middle = none i;
             cost = (sym (moving-none v.cost) ∙ ap (λ (n : ℕ). add_moves n v.cost) (sym up)) i;
           });
         }

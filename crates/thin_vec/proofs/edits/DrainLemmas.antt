@@ -7,7 +7,7 @@ use Rattle.std.specs.Iterator.Runs.{YieldsInOrder, YieldsInReverse}
 use Rattle.thin_block.specs.declared.growth.Growth.{Ghosts}
 use Rattle.std.specs.Iterator.{Yields}
 use Rattle.thin_vec.specs.Edits.Drain.{DrainKeeps, DrainKeepsAlong, DrainSteps, DrainStepsBack, drain_rest}
-use Rattle.thin_vec.specs.Open.{OpenView}
+use Rattle.thin_vec.specs.OpenView.{OpenView}
 use Rattle.thin_vec.specs.declared.edits.drain.Drain.{Drain}
 use Rattle.thin_vec.specs.declared.edits.holder.IntoInner.{Ghosts as IntoInnerGhosts}
 

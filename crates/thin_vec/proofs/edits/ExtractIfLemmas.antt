@@ -11,7 +11,7 @@ use Rattle.thin_block.specs.declared.growth.Growth.{Ghosts}
 use Rattle.thin_vec.specs.Edits.ExtractIf.{ExtractKeepsAlong, ExtractLeaves, extract_block, extract_rest, left_by_extract_if}
 use Rattle.thin_vec.specs.Edits.Retain.{TestResults, TestsInTurn, all_kept}
 use Rattle.thin_vec.specs.List.Capacity.{MovesAtMost}
-use Rattle.thin_vec.specs.OpenBlock.Retain.{TestsUpTo, IsRejectedFirst}
+use Rattle.thin_vec.specs.OpenBlock.Retain.{TestsUpTo, IsRemovedFirst}
 use Rattle.thin_vec.specs.declared.edits.extract_if.ExtractIf.{ExtractIf}
 use Rattle.thin_vec.specs.declared.edits.extract_if.ExtractState.{ExtractState}
 use Rattle.thin_vec.specs.declared.edits.holder.IntoInner.{Ghosts as IntoInnerGhosts}
@@ -22,24 +22,24 @@ not-not true = refl
 not-not false = refl
 
 module _ {F T : Type 0} (R : F → T → Bool → F → T → Type 0) where
-  pub picked-count : (s : F) (xs : List T) (item : Option T) (t : F) (kept rest : List T)
-      → ExtractsNext R s xs item t kept rest → length xs ≡ length kept + length
-      (option_to_list item) + length rest
-  picked-count s [] item t kept rest e =
+  pub picked-count : (s : F) (xs : List T) (item : Option T) (t : F) (kept untested : List T)
+      → ExtractsNext R s xs item t kept untested → length xs ≡ length kept + length
+      (option_to_list item) + length untested
+  picked-count s [] item t kept untested e =
       let i = ap (λ (o : Option T). length (option_to_list o)) e.0 in
       let k = ap length e.2 in
       let r = ap length e.3 in
       omega (arith, i, k, r)
-  picked-count s (x ∷ xs) item t kept rest e =
-      answered e.0 (λ ks m. picked-count e.1 xs item t ks rest m) e.4
+  picked-count s (x ∷ xs) item t kept untested e =
+      answered e.0 (λ ks m. picked-count e.1 xs item t ks untested m) e.4
     where
       -- This is the induction step of `picked-count`.
       answered : (b : Bool)
-          → ((ks : List T) → ExtractsNext R e.1 xs item t ks rest
-          → length xs ≡ length ks + length (option_to_list item) + length rest)
-          → MatchBool b ((item ≡ Some e.2) × (t ≡ e.1) × (kept ≡ []) × (rest ≡ xs))
-          ((ks : List T) × ExtractsNext R e.1 xs item t ks rest × (kept ≡ e.2 ∷ ks))
-          → length (x ∷ xs) ≡ length kept + length (option_to_list item) + length rest
+          → ((ks : List T) → ExtractsNext R e.1 xs item t ks untested
+          → length xs ≡ length ks + length (option_to_list item) + length untested)
+          → MatchBool b ((item ≡ Some e.2) × (t ≡ e.1) × (kept ≡ []) × (untested ≡ xs))
+          ((ks : List T) × ExtractsNext R e.1 xs item t ks untested × (kept ≡ e.2 ∷ ks))
+          → length (x ∷ xs) ≡ length kept + length (option_to_list item) + length untested
       answered true more m =
           let i = ap (λ (o : Option T). length (option_to_list o)) m.0 in
           omega (arith, i, ap length m.2, ap length m.3)
@@ -54,12 +54,12 @@ module _ {F T : Type 0} (R : F → T → Bool → F → T → Type 0) where
     -- In this module, the items `after` have not been tested. The next test returns true for the
     -- first of them, and `item` is this item as the test left it. If `after` is empty, then `item`
     -- is `None`.
-    module _ (between : S) (after : List T) (item : Option T) (t : F) (rest : List T)
-        (e : ExtractsNext R (of between) after item t [] rest) where
+    module _ (between : S) (after : List T) (item : Option T) (t : F) (untested : List T)
+        (e : ExtractsNext R (of between) after item t [] untested) where
       picked-after : (s : S) (run left : List T) → TestsInTurn J s run (all_kept left) between
-          → ExtractsNext R (of s) (run ++ after) item t left rest
+          → ExtractsNext R (of s) (run ++ after) item t left untested
       picked-after s [] [] a =
-          subst (λ (q : S). ExtractsNext R (of q) after item t [] rest) a.1 e
+          subst (λ (q : S). ExtractsNext R (of q) after item t [] untested) a.1 e
       picked-after s [] (y ∷ left) a = absurd (cons-not-nil a.0)
       picked-after s (x ∷ run) [] a = absurd (cons-not-nil (sym a.6))
       picked-after s (x ∷ run) (z ∷ left) a =
@@ -74,14 +74,14 @@ module _ {F T : Type 0} (R : F → T → Bool → F → T → Type 0) where
           (sym (cons-tail a.6)) a.5 in
           (false, of a.2, z, called, (left, picked-after a.2 run left on, refl))
 
-    stops-at-end : (between t : S) (after ys : List T) → IsRejectedFirst J between after t ys
+    stops-at-end : (between t : S) (after ys : List T) → IsRemovedFirst J between after t ys
         → ys ≡ []
         → ExtractsNext R (of between) after None (of t) [] ys
     stops-at-end between t [] ys a none = (refl, ap of a.1, refl, none)
     stops-at-end between t (x ∷ xs) ys a none = absurd (cons-not-nil (sym a.2 ∙ none))
 
     stops-at-item : (between t : S) (after ys : List T) (v : T) (zs : List T)
-        → IsRejectedFirst J between after t ys → ys ≡ v ∷ zs → ExtractsNext R (of between)
+        → IsRemovedFirst J between after t ys → ys ≡ v ∷ zs → ExtractsNext R (of between)
         after (Some v) (of t) [] zs
     stops-at-item between t [] ys v zs a some = absurd (cons-not-nil (sym some ∙ a.0))
     stops-at-item between t (x ∷ xs) ys v zs a some =
@@ -99,13 +99,13 @@ module _ {F T : Type 0} (R : F → T → Bool → F → T → Type 0) where
       pub picked-room : m ≤ length ys
       picked-room = omega (arith, h.reached, ap length h.now, length-append h.left h.end)
 
-      whole : (item : Option T) (rest : List T) → ExtractsNext R (of h.between) h.after item (of t)
-          [] rest → ExtractsNext R (of s) xs item (of t) (take m ys) rest
-      whole item rest e =
-          subst (λ (l : List T). ExtractsNext R (of s) l item (of t) (take m ys) rest) (sym h.was)
-          (subst (λ (l : List T). ExtractsNext R (of s) (h.run ++ h.after) item (of t) l rest)
+      whole : (item : Option T) (untested : List T) → ExtractsNext R (of h.between) h.after item (of t)
+          [] untested → ExtractsNext R (of s) xs item (of t) (take m ys) untested
+      whole item untested e =
+          subst (λ (l : List T). ExtractsNext R (of s) l item (of t) (take m ys) untested) (sym h.was)
+          (subst (λ (l : List T). ExtractsNext R (of s) (h.run ++ h.after) item (of t) l untested)
           (sym left-is)
-          (picked-after h.between h.after item (of t) rest e s h.run h.left h.asked))
+          (picked-after h.between h.after item (of t) untested e s h.run h.left h.asked))
 
       pub picked-none : drop m ys ≡ [] → ExtractsNext R (of s) xs None (of t)
           (take m ys) (drop m ys)
@@ -159,7 +159,7 @@ module _ {T F A G H : Type 0} {g : Ghosts G} {h : IntoInnerGhosts H (ExtractStat
       items = sym (append-nil (extract_block d).front) i
           ++ (extract_rest d ++ (extract_block d).tail);
     };
-    moves = moves-if ((extract_block d).gap == 0)
+    moves = moves-if ((extract_block d).gap_before == 0)
         (length (extract_rest d) + length (extract_block d).tail) _ _ _ refl (omega arith);
     front = sym (append-nil (extract_block d).front);
     tail = refl;
@@ -186,10 +186,10 @@ module _ {T F A G H : Type 0} {g : Ghosts G} {h : IntoInnerGhosts H (ExtractStat
         moves = moves-join (length s.kept)
             (length on.kept + length (extract_rest later) + length (extract_block m).tail)
             _ _ _ _ (omega (arith, both, ap length s.tail))
-            (moves-if ((extract_block d).gap == 0) (length s.kept) _ _ _ s.cost (omega arith))
+            (moves-if ((extract_block d).gap_before == 0) (length s.kept) _ _ _ s.cost (omega arith))
             on.moves;
         front = on.front ∙ front;
         tail = on.tail ∙ s.tail;
-        gone = omega (arith, on.gone, s.gap);
+        gone = omega (arith, on.gone, s.gap_before);
         count = omega (arith, on.count, s.count, both);
       }

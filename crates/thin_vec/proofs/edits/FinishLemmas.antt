@@ -14,7 +14,7 @@ use Rattle.thin_vec.specs.Put.{YieldsThenMayEnd, IsFilledBy}
 use Rattle.thin_vec.specs.declared.put.Filled.{Filled}
 use Rattle.thin_vec.specs.Edits.Splice.{IsSpliceCause, SpliceErrorAccountsFor}
 use Rattle.thin_vec.specs.Edits.Finish.{AddsFromIter, FinishesSplice, without_middle, with_replacement}
-use Rattle.thin_vec.specs.Open.{OpenView, cost_closed, items_of}
+use Rattle.thin_vec.specs.OpenView.{OpenView, cost_closed, items_of}
 use Rattle.thin_vec.specs.ThinVec.{ListView}
 use Rattle.thin_vec.specs.declared.errors.SpliceRefused.{SpliceRefused}
 use Rattle.thin_vec.proofs.list.ExtendLemmas.{yields-join}
@@ -40,7 +40,7 @@ module _ {T A : Type 0} where
     -- The cost counts one move for each item of `xs`, and `m` moves for the items after the range.
     -- Each of these items is moved at most once.
     pub cost : (m : ℕ) × (w.cost ≡ add_moves (length xs + m) v.cost) × (m ≤ length v.tail)
-        × (length xs ≡ v.gap → m ≡ 0)
+        × (length xs ≡ v.gap_before → m ≡ 0)
 
 module _ {S T A : Type 0} (steps : S → Option T → S → Type 0) (can : S → Type 0)
     (remaining : S → Count) where
@@ -49,7 +49,7 @@ module _ {S T A : Type 0} (steps : S → Option T → S → Type 0) (can : S →
   -- allocator is `a`. The value `f` contains the rest of the iterator.
   abbrev pub FillsGap : OpenView T A → A → S → ListView T A → Filled S → Type 0
   FillsGap v a s w f =
-      (by : IsFilledBy steps can remaining v.gap s f) × IsGapFilled v by.items a w
+      (by : IsFilledBy steps can remaining v.gap_before s f) × IsGapFilled v by.items a w
       × (f.end ≡ length v.front + length by.items)
 
   -- `IsReached` describes a state during `finish`, which began with the open block `v` and the
@@ -61,7 +61,7 @@ module _ {S T A : Type 0} (steps : S → Option T → S → Type 0) (can : S →
     pub items : u.items ≡ with_replacement v xs
     pub ends : end ≡ length v.front + length xs
     pub gave : Yields steps s xs t
-    pub full : v.gap ≤ length xs
+    pub full : v.gap_before ≤ length xs
     pub can_next : can t
     pub finite : IsFinite (remaining t)
     pub nearer : length xs + size (remaining t) ≤ size (remaining s)
@@ -71,22 +71,22 @@ module _ {S T A : Type 0} {steps : S → Option T → S → Type 0} {can : S →
   -- If a part of the gap remains empty, `close` moves each tail item once. Otherwise, it moves no
   -- item.
   pub gap-filled : (v u : OpenView T A) (s : S) (z w : ListView T A) (f : Filled S)
-      → ((by : IsFilledBy steps can remaining v.gap s f)
+      → ((by : IsFilledBy steps can remaining v.gap_before s f)
       × (u ≡ record v {
         front = v.front ++ by.items;
-        gap = v.gap - length by.items;
+        gap_before = v.gap_before - length by.items;
         cost = add_moves (length by.items) v.cost;
       }) × (f.end ≡ length u.front))
-      → v.rest ≡ []
+      → v.middle ≡ []
       → w ≡ record z { items = items_of u; capacity = u.capacity; cost = cost_closed u }
       → FillsGap steps can remaining v z.alloc s w f
   gap-filled v u s z w f filled empty closed =
       let xs = filled.0.items in
       let same = filled.1 in
-      let none = ap (λ y. y.rest) same ∙ empty in
+      let none = ap (λ y. y.middle) same ∙ empty in
       let tail = ap (λ y. y.tail) same in
-      let gap = ap (λ y. y.gap) same in
-      let many : length xs ≡ v.gap - u.gap = omega (arith, gap, filled-fits filled.0) in
+      let gap_before = ap (λ y. y.gap_before) same in
+      let many : length xs ≡ v.gap_before - u.gap_before = omega (arith, gap_before, filled-fits filled.0) in
       let put = closed-moves v u (length xs)
       (ap (λ y. y.cost) same ∙ ap (λ n. add_moves n v.cost) many) none tail many in (
         filled.0,
@@ -98,7 +98,7 @@ module _ {S T A : Type 0} {steps : S → Option T → S → Type 0} {can : S →
             put.0,
             ap (λ y. y.cost) closed ∙ put.1,
             put.2,
-            λ full. put.3 (omega (arith, gap, full)),
+            λ full. put.3 (omega (arith, gap_before, full)),
           );
         },
         omega (arith, filled.2, ap (λ y. length y.front) same, length-append v.front xs),

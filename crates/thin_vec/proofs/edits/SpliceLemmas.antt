@@ -16,31 +16,31 @@ use Rattle.thin_block.specs.declared.errors.ThinVecError.TheVariants.{OutOfMemor
 use Rattle.thin_block.specs.Cost.{Cost, add_realloc, add_moves}
 use Rattle.thin_block.specs.Growth.{IsLawful, GrowthRule}
 use Rattle.std.proofs.lemmas.Bool.{cases_lt, false≢true}
-use Rattle.thin_vec.specs.Open.{OpenView, cost_closed, items_of}
+use Rattle.thin_vec.specs.OpenView.{OpenView, cost_closed, items_of}
 use Rattle.thin_vec.specs.Edits.Splice.{IsSpliceCause, SpliceErrorAccountsFor}
 use Rattle.thin_vec.specs.Edits.Finish.{AddsFromIter, without_middle, with_replacement}
 use Rattle.thin_vec.specs.List.Capacity.{LacksRoom}
 use Rattle.thin_vec.specs.ThinVec.{HasRoomFor, ListView, capacity_after_reserve, cost_after_resize}
 use Rattle.thin_vec.specs.declared.errors.ExtendRefused.{ExtendRefused}
 use Rattle.thin_vec.specs.declared.errors.SpliceRefused.{SpliceRefused}
-use Rattle.thin_vec.proofs.list.ExtendLemmas.{adding-join, filled-reserved, loose-join, loose-le, loose-ruled, yields-join}
+use Rattle.thin_vec.proofs.list.ExtendLemmas.{inserting-join, filled-reserved, at_least-join, at_least-le, at_least-ruled, yields-join}
 use Rattle.thin_vec.proofs.RetainLemmas.{moving-more, moving-none}
 use Rattle.thin_vec.proofs.ThinVecLemmas.{cap-kept, cost_after_resize-copied}
 
 -- Closing `w` takes at most one move for each tail item, and none if `w` has no gap.
-pub closed-moves : {T A : Type 0} (v w : OpenView T A) (n : ℕ) → w.cost ≡ add_moves (v.gap - w.gap)
-    v.cost → w.rest ≡ [] → w.tail ≡ v.tail → n ≡ v.gap - w.gap
+pub closed-moves : {T A : Type 0} (v w : OpenView T A) (n : ℕ) → w.cost ≡ add_moves (v.gap_before - w.gap_before)
+    v.cost → w.middle ≡ [] → w.tail ≡ v.tail → n ≡ v.gap_before - w.gap_before
     → (m : ℕ) × (cost_closed w ≡ add_moves (n + m) v.cost) × (m ≤ length v.tail)
-    × (w.gap ≡ 0 → m ≡ 0)
-closed-moves v w n paid none same count = go (eqb w.gap 0) refl
+    × (w.gap_before ≡ 0 → m ≡ 0)
+closed-moves v w n paid none same count = go (eqb w.gap_before 0) refl
   where
     filled : w.cost ≡ add_moves n v.cost
     filled = paid ∙ ap (λ k. add_moves k v.cost) (sym count)
 
-    go : (b : Bool) → eqb w.gap 0 ≡ b → (m : ℕ)
-        × ((if b then w.cost else add_moves (length w.rest + length w.tail) w.cost) ≡ add_moves
+    go : (b : Bool) → eqb w.gap_before 0 ≡ b → (m : ℕ)
+        × ((if b then w.cost else add_moves (length w.middle + length w.tail) w.cost) ≡ add_moves
         (n + m)
-        v.cost) × (m ≤ length v.tail) × (w.gap ≡ 0 → m ≡ 0)
+        v.cost) × (m ≤ length v.tail) × (w.gap_before ≡ 0 → m ≡ 0)
     go true e = (
       0,
       filled ∙ ap (λ k. add_moves k v.cost) (let z : n ≡ n + 0 = omega arith in z),
@@ -48,14 +48,14 @@ closed-moves v w n paid none same count = go (eqb w.gap 0) refl
       λ _. refl,
     )
     go false e =
-        let all : length w.rest + length w.tail ≡ length v.tail =
+        let all : length w.middle + length w.tail ≡ length v.tail =
         omega (arith, ap length none, ap length same) in (
           length v.tail,
           ap (λ k. add_moves k w.cost) all
               ∙ (ap (λ c. add_moves (length v.tail) c) filled
               ∙ moving-more (length v.tail) n v.cost),
           omega arith,
-          λ z. let t : eqb w.gap 0 ≡ true = grind (arith, nat_tests, z) in
+          λ z. let t : eqb w.gap_before 0 ≡ true = grind (arith, nat_tests, z) in
               absurd (false-true (sym e ∙ t)),
         )
       where
@@ -98,9 +98,9 @@ module _ {S X : Type 0} (steps : S → Option X → S → Type 0) where
       subst (λ l. Yields steps s l u) (sym parts) (t, one, now)
 
 module _ {T A : Type 0} where
-  pub adding-run : (v w : ListView T A) (k m n : ℕ) → w.cost ≡ add_moves (k + m) v.cost
+  pub inserting-run : (v w : ListView T A) (k m n : ℕ) → w.cost ≡ add_moves (k + m) v.cost
       → w.capacity ≡ v.capacity → length w.items ≡ length v.items + k → m ≤ n → CostsInserting v w n
-  adding-run v w k m n e same long few = record {
+  inserting-run v w k m n e same long few = record {
     copied = omega (arith, ap (λ c. c.grown) e, same);
     least = omega (arith, ap (λ c. c.moves) e, long);
     moves = omega (arith, ap (λ c. c.moves) e, long, few);
@@ -236,12 +236,12 @@ unmoved true c n none = refl
 unmoved false c n none = ap (λ k. add_moves k c) none ∙ moving-none c
 
 module _ {T A : Type 0} where
-  pub closed-left : (v : OpenView T A) (u : ListView T A) → v.rest ≡ [] → v.tail ≡ []
+  pub closed-left : (v : OpenView T A) (u : ListView T A) → v.middle ≡ [] → v.tail ≡ []
       → record u { items = items_of v; capacity = v.capacity; cost = cost_closed v }
       ≡ without_middle v u.alloc
   closed-left v u none no_tail =
       let free : cost_closed v ≡ v.cost =
-      unmoved (eqb v.gap 0) v.cost (length v.rest + length v.tail)
+      unmoved (eqb v.gap_before 0) v.cost (length v.middle + length v.tail)
       (omega (arith, ap length none, ap length no_tail)) in
       λ i. record {
         items = v.front ++ (none i ++ v.tail);
@@ -280,7 +280,7 @@ module _ (rule : GrowthRule) (R : RattleType) {T A : Type 0} where
   taken-spare v w k m n left paid same long few from = record {
     capacity = inl same;
     had_room = λ _. same;
-    cost = adding-run v w k m n paid same long few;
+    cost = inserting-run v w k m n paid same long few;
     alloc = from;
     cheap = λ p. record {
       none = λ z. let f = p.none (omega (arith, z, same)) in
@@ -311,7 +311,7 @@ module _ (rule : GrowthRule) (R : RattleType) {T A : Type 0} where
         → w.cost ≡ cost_after_resize v w.capacity → (IsCheap v → IsCheap w) → h ≤ size left
         → length v.items ≤ v.capacity → AddsFromIter rule R v w 0 left
     taken-reserved v w h left named same from paid cheap allowed room = record {
-      capacity = loose-ruled rule R law v h w.capacity named;
+      capacity = at_least-ruled rule R law v h w.capacity named;
       had_room = λ fit. cap-kept rule R law v h w.capacity (omega (arith, fit, allowed)) named;
       cost = filled-reserved v w paid same
           (cost_after_resize-copied rule R law v h w.capacity room named);
@@ -326,11 +326,11 @@ module _ (rule : GrowthRule) (R : RattleType) {T A : Type 0} where
         → AddsFromIter rule R v u m left → AddsFromIter rule R u w n more
         → AddsFromIter rule R v w k left
     taken-join v u w m n k left more few long room p q = record {
-      capacity = loose-join rule R law v.capacity u.capacity w.capacity p.capacity q.capacity;
+      capacity = at_least-join rule R law v.capacity u.capacity w.capacity p.capacity q.capacity;
       had_room = λ fit. let same = p.had_room fit in q.had_room (room fit same) ∙ same;
-      cost = adding-join m n k few p.cost q.cost
-          (loose-le rule R law v.capacity u.capacity p.capacity)
-          (loose-le rule R law u.capacity w.capacity q.capacity) long;
+      cost = inserting-join m n k few p.cost q.cost
+          (at_least-le rule R law v.capacity u.capacity p.capacity)
+          (at_least-le rule R law u.capacity w.capacity q.capacity) long;
       alloc = q.alloc ∙ p.alloc;
       cheap = λ c. q.cheap (p.cheap c);
     }

@@ -6,7 +6,7 @@ use Rattle.thin_block.specs.Cost.{Cost}
 use Rattle.thin_block.specs.Slots.{empty_slots, clear_slots, packed_slots, filled_slots, items_in, write_slots, slot_range}
 use Rattle.thin_block.specs.declared.block.Block.{Block}
 use Rattle.thin_block.proofs.BlockLemmas.{slots-are}
-use Rattle.thin_block.proofs.SlotsLemmas.{laid-at, run-at}
+use Rattle.thin_block.proofs.SlotsLemmas.{written-at, run-at}
 use Rattle.thin_vec.specs.ThinVec.{IsListBlock}
 use Rattle.thin_vec.proofs.list.InsertRemoveLemmas.{full-append}
 use Rattle.thin_vec.proofs.ListLemmas.{IsWritten, RestoresInvariant, length-full, restores-front, thin-room}
@@ -16,18 +16,18 @@ module _ {T : Type 0} where
       → write_slots (length xs) (filled_slots ys)
       (packed_slots xs c) ≡ packed_slots (xs ++ ys) c
   front-more xs ys c room =
-      let rest : ℕ = c - length xs - length ys in
-      let parts : length ys + rest ≡ c - length xs = omega arith in
-      let left : rest ≡ c - length (xs ++ ys) = omega (arith, length-append xs ys) in
+      let spare : ℕ = c - length xs - length ys in
+      let parts : length ys + spare ≡ c - length xs = omega arith in
+      let left : spare ≡ c - length (xs ++ ys) = omega (arith, length-append xs ys) in
       let long : length (filled_slots ys) ≡ length (empty_slots {T = T} (length ys)) =
       omega (arith, length-full ys, length-replicate {A = Option T} (length ys) None) in
       ap (λ (s : List (Option T)). write_slots (length xs) (filled_slots ys) (filled_slots xs ++ s))
-      (sym (replicate-append-replicate (length ys) rest None ∙ ap (λ (k : ℕ). empty_slots k) parts))
-      ∙ (laid-at (length xs) (filled_slots xs) (filled_slots ys) (empty_slots (length ys))
-      (empty_slots rest)
+      (sym (replicate-append-replicate (length ys) spare None ∙ ap (λ (k : ℕ). empty_slots k) parts))
+      ∙ (written-at (length xs) (filled_slots xs) (filled_slots ys) (empty_slots (length ys))
+      (empty_slots spare)
       (sym (length-full xs)) long
-      ∙ (sym (append_assoc (filled_slots xs) (filled_slots ys) (empty_slots rest))
-      ∙ (ap (λ (s : List (Option T)). s ++ empty_slots rest) (sym (full-append xs ys))
+      ∙ (sym (append_assoc (filled_slots xs) (filled_slots ys) (empty_slots spare))
+      ∙ (ap (λ (s : List (Option T)). s ++ empty_slots spare) (sym (full-append xs ys))
       ∙ ap (λ (k : ℕ). filled_slots (xs ++ ys) ++ empty_slots k) left)))
 
   module _ (ys : List T) (c i k : ℕ) (order : i ≤ length ys) (room : length ys ≤ c)
@@ -60,7 +60,7 @@ module _ {T : Type 0} where
         let bare : k + (c - length ys) ≡ c - length (take i ys) =
         omega (arith, count, length-take-le i ys order) in
         ap (λ (s : List (Option T)). clear_slots i k s) parted
-        ∙ (laid-at i (filled_slots (take i ys)) (empty_slots k) (filled_slots (drop i ys))
+        ∙ (written-at i (filled_slots (take i ys)) (empty_slots k) (filled_slots (drop i ys))
         (empty_slots (c - length ys)) before long
         ∙ ap (λ (s : List (Option T)). filled_slots (take i ys) ++ s)
         (replicate-append-replicate k (c - length ys) None ∙ ap (λ (m : ℕ). empty_slots m) bare))

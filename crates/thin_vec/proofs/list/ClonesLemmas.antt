@@ -10,7 +10,7 @@ use Rattle.std.specs.Prelude.{All, HoldsAt, replicate, slice_range}
 use lib.ListN.{set}
 use Rattle.thin_block.specs.Growth.{GrowthRule, grown_capacity}
 use Rattle.thin_block.specs.Slots.{filled_slots, write_slots}
-use Rattle.thin_block.proofs.SlotsLemmas.{laid-one}
+use Rattle.thin_block.proofs.SlotsLemmas.{written-one}
 use Rattle.thin_block.specs.Cost.{Cost, add_moves}
 use Rattle.thin_vec.specs.List.Clones.{AppendsRepeats, CloneEquals, FailsAtClone, GrewForFailedClone, WritesClones}
 use Rattle.thin_vec.specs.ThinVec.{IsNew, ListView, capacity_after_reserve, cost_after_resize}
@@ -33,7 +33,7 @@ module _ {T : Type 0} {clones : T → T → Type 0} {sources : List T} {n i : �
         copies = ys ++ y ∷ [];
         cloned = all_zip_more clones sources ys n x y more is lays.cloned is_clone;
         slots = put ∙ (ap (λ r. set r (i + n) (Some y)) lays.slots
-            ∙ (laid-one i (filled_slots ys) s (i + n) (Some y) long (omega arith)
+            ∙ (written-one i (filled_slots ys) s (i + n) (Some y) long (omega arith)
             ∙ ap (λ r. write_slots i r s) (sym (map_push Some ys y))));
       }
 

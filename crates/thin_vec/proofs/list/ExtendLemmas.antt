@@ -18,7 +18,7 @@ use Rattle.thin_block.specs.Cost.{add_moves}
 use Rattle.thin_block.specs.Growth.{GrowthRule, IsLawful, exact_capacity}
 use Rattle.thin_block.specs.Slots.{filled_slots, write_slots}
 use Rattle.thin_block.proofs.CapacityLemmas.{ruled-grows}
-use Rattle.thin_block.proofs.SlotsLemmas.{laid-one}
+use Rattle.thin_block.proofs.SlotsLemmas.{written-one}
 use Rattle.std.specs.Prelude.{◌⊎◌}
 use Rattle.thin_vec.specs.List.Extend.{IsCapacityAfterCollect, CostsInserting, IsKeptOrChosen, IsKeptOrGrown, YieldsAndCanContinue}
 use Rattle.thin_vec.specs.ThinVec.{IsNew, ListView, capacity_after_reserve, cost_after_resize, capacity_after_reserve_exact}
@@ -42,7 +42,7 @@ module _ {S X : Type 0} (steps : S → Option X → S → Type 0) where
       → (t : S) × Yields steps s xs t
   yields-first s u [] ys e = (s, refl)
   yields-first s u (x ∷ xs) ys e =
-      let rest = yields-first e.0 u xs ys e.2 in (rest.0, (e.0, e.1, rest.1))
+      let more = yields-first e.0 u xs ys e.2 in (more.0, (e.0, e.1, more.1))
 
   pub run_of : (s : S) (P : List X → Type 0) → (xs : List X) × Drains steps s xs × P xs
       → WholeRun steps s (λ p. P p.items)
@@ -91,13 +91,13 @@ full-in-hand P Q (Err error) some at_capacity =
 
 module _ {T : Type 0} where
   module _ (s s' r : List (Option T)) where
-    pub laid-more : (i k : ℕ) (xs : List T) (x : T) → s ≡ write_slots i (filled_slots xs) r
+    pub written-more : (i k : ℕ) (xs : List T) (x : T) → s ≡ write_slots i (filled_slots xs) r
         → k ≡ i + length xs
         → k < length r → s' ≡ set s k (Some x) → s' ≡ write_slots i (filled_slots (xs ++ x ∷ [])) r
-    laid-more i k xs x e at within e' =
+    written-more i k xs x e at within e' =
         let long : k ≡ i + length (filled_slots xs) = omega (arith, at, length-full xs) in
         e' ∙ (ap (λ (l : List (Option T)). set l k (Some x)) e
-        ∙ (laid-one i (filled_slots xs) r k (Some x) long within
+        ∙ (written-one i (filled_slots xs) r k (Some x) long within
         ∙ ap (λ (l : List (Option T)). write_slots i l r)
         (sym (map-append (λ (y : T). Some y) xs (x ∷ [])))))
 
@@ -133,15 +133,15 @@ spare-kept v w xs is =
 -- The following lemmas are about how the capacity of a list grows over several calls.
 
 module _ (rule : GrowthRule) (R : RattleType) (law : IsLawful rule) where
-  pub loose-le : (c d : ℕ) → IsKeptOrGrown rule R c d → c ≤ d
-  loose-le c d (inl e) = omega arith
-  loose-le c d (inr p) = let g = ruled-grows rule R c p.0 p.1 law p.2 p.3 in
+  pub at_least-le : (c d : ℕ) → IsKeptOrGrown rule R c d → c ≤ d
+  at_least-le c d (inl e) = omega arith
+  at_least-le c d (inr p) = let g = ruled-grows rule R c p.0 p.1 law p.2 p.3 in
       omega (arith, g.doubled, p.4)
 
-  pub loose-join : (c d e : ℕ) → IsKeptOrGrown rule R c d → IsKeptOrGrown rule R d e
+  pub at_least-join : (c d e : ℕ) → IsKeptOrGrown rule R c d → IsKeptOrGrown rule R d e
       → IsKeptOrGrown rule R c e
-  loose-join c d e (inl p) q = subst (λ n. IsKeptOrGrown rule R n e) p q
-  loose-join c d e (inr p) q = inr (p.0, p.1, p.2, p.3, omega (arith, p.4, loose-le d e q))
+  at_least-join c d e (inl p) q = subst (λ n. IsKeptOrGrown rule R n e) p q
+  at_least-join c d e (inr p) q = inr (p.0, p.1, p.2, p.3, omega (arith, p.4, at_least-le d e q))
 
   pub ruled-more : (c n m : ℕ) {d d' : ℕ} → d' ≡ d → n ≤ m → IsKeptOrChosen rule R c d n
       → IsKeptOrChosen rule R c d' m
@@ -160,10 +160,10 @@ module _ (rule : GrowthRule) (R : RattleType) (law : IsLawful rule) where
   collected-after n h left hint e (inl same) = inr (h, hint, e ∙ ap Some (sym same))
   collected-after n h left hint e (inr p) = inl p
 
-  pub loose-ruled : {T A : Type 0} (v : ListView T A) (k d : ℕ)
+  pub at_least-ruled : {T A : Type 0} (v : ListView T A) (k d : ℕ)
       → capacity_after_reserve rule R v k ≡ Some d
       → IsKeptOrGrown rule R v.capacity d
-  loose-ruled v k d e =
+  at_least-ruled v k d e =
       elim (cases_lt v.capacity (length v.items + k)) [
         | inl more ↦ inr (length v.items + k, d, more, e, omega arith)
         | inr spare ↦ inl (cap-kept rule R law v k d spare e)
@@ -220,10 +220,10 @@ module _ {T A : Type 0} where
       filled-at v w k (ap (λ u. u.cost) e ∙ ap (λ c. add_moves k c) (sym kept)) n
       (omega (arith, ap (λ c. c.grown) kept, same))
 
-  pub adding-join : {v u w : ListView T A} (m n k : ℕ) → m + n ≤ k → CostsInserting v u m
+  pub inserting-join : {v u w : ListView T A} (m n k : ℕ) → m + n ≤ k → CostsInserting v u m
       → CostsInserting u w n → v.capacity ≤ u.capacity → u.capacity ≤ w.capacity
       → length v.items ≤ length u.items → CostsInserting v w k
-  adding-join {v} {u} {w} m n k few p q low high long = record {
+  inserting-join {v} {u} {w} m n k few p q low high long = record {
     copied = omega (arith, p.copied, q.copied);
     least = omega (arith, p.least, q.least);
     moves = omega (arith, p.moves, q.moves, few);
@@ -242,8 +242,8 @@ module _ {T A : Type 0} where
     ];
   }
 
-  pub adding-more : (v w : ListView T A) (n : ℕ) → CostsInserting v w 0 → CostsInserting v w n
-  adding-more v w n p = record {
+  pub inserting-more : (v w : ListView T A) (n : ℕ) → CostsInserting v w 0 → CostsInserting v w n
+  inserting-more v w n p = record {
     copied = p.copied;
     least = p.least;
     moves = omega (arith, p.moves);

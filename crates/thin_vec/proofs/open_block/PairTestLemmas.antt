@@ -233,9 +233,9 @@ module _ {S T : Type 0} (R : OnPairs S T) where
     pub run-over : drop m ys ≡ r.over ++ r.after
     run-over = ap (drop m) r.now ∙ drop_at r.left (r.over ++ r.after) m r.long
 
-    pub run-goes : (value : T) (rest : List T) → drop m ys ≡ value ∷ rest → (r.after ≡ rest)
+    pub run-goes : (value : T) (untested : List T) → drop m ys ≡ value ∷ untested → (r.after ≡ untested)
         × (r.stays ≡ all-stay r.more ++ false ∷ [])
-    run-goes value rest k =
+    run-goes value untested k =
         elim r.stops [
           | inl p ↦ let v = single r.over p.0 in
               (cons-tail (ap (λ (l : List T). l ++ r.after) (sym v.1) ∙ (sym run-over ∙ k)), p.1)

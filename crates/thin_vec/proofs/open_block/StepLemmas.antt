@@ -9,23 +9,23 @@ use Rattle.thin_block.specs.Block.{block_view}
 use Rattle.thin_block.specs.Cost.{add_moves}
 use Rattle.thin_block.specs.Slots.{empty_slots, packed_slots, filled_slots, items_in, write_slots, move_slots, slot}
 use Rattle.thin_block.specs.declared.block.Block.{Block}
-use Rattle.thin_block.proofs.SlotsLemmas.{laid-at, moved_left, moved_right}
+use Rattle.thin_block.proofs.SlotsLemmas.{written-at, moved_left, moved_right}
 use Rattle.thin_vec.specs.OpenBlock.{IsOpen, IsOpenViewOf, open_view}
-use Rattle.thin_vec.specs.Open.{OpenView, items_of, tail_end, slots_of}
+use Rattle.thin_vec.specs.OpenView.{OpenView, items_of, tail_end, slots_of}
 use Rattle.thin_vec.specs.ThinVec.{IsListBlock}
 use Rattle.thin_vec.specs.declared.open_block.OpenBlock.TheInside.{Inside}
 use Rattle.thin_vec.proofs.list.InsertRemoveLemmas.{full-append}
 use Rattle.thin_vec.proofs.ListLemmas.{length-empty, length-full, thin-room}
-use Rattle.thin_vec.proofs.OpenBlockLemmas.{Found, at_rest, at_tail, by_tail, empty-more, found, past_after, past_rest, past_tail, reached, slot-in-empty, slot-in-full, to_after, to_rest, to_tail}
+use Rattle.thin_vec.proofs.OpenBlockLemmas.{Found, at_middle, at_tail, by_tail, empty-more, found, past_after, past_middle, past_tail, reached, slot-in-empty, slot-in-full, to_after, to_middle, to_tail}
 
-pub set-laid : {T : Type 0} (s : List (Option T)) (i : ℕ) (y : Option T) → i < length s
+pub set-written : {T : Type 0} (s : List (Option T)) (i : ℕ) (y : Option T) → i < length s
     → set s i y ≡ write_slots i (y ∷ []) s
-set-laid [] i y low = absurd (omega arith)
-set-laid (x ∷ s) zero y low = refl
-set-laid (x ∷ s) (suc i) y low =
+set-written [] i y low = absurd (omega arith)
+set-written (x ∷ s) zero y low = refl
+set-written (x ∷ s) (suc i) y low =
     let low' : suc i < suc (length s) = low in
     let next : suc (i + 1) ≡ suc i + 1 = omega arith in
-    ap (λ r. x ∷ r) (set-laid s i y (omega arith))
+    ap (λ r. x ∷ r) (set-written s i y (omega arith))
     ∙ ap (λ (n : ℕ). x ∷ (take i s ++ (y ∷ drop n (x ∷ s)))) next
 
 module _ {T A : Type 0} where
@@ -33,13 +33,13 @@ module _ {T A : Type 0} where
   module _ (h : Inside T A) (o : IsOpen h) where
     -- `joined` is `h` after its two gaps became one. `joined-view` is how contracts see it.
     abbrev pub joined : Inside T A
-    joined = record h { rest_start = h.tail_start; rest_end = h.tail_start }
+    joined = record h { middle_start = h.tail_start; middle_end = h.tail_start }
 
     abbrev pub joined-view : OpenView T A
     joined-view = let w : OpenView T A = open_view h in
-        record w { gap = w.gap + w.gap_after; rest = []; gap_after = 0 }
+        record w { gap_before = w.gap_before + w.gap_after; middle = []; gap_after = 0 }
 
-    pub join-step : (open_view h).rest ≡ [] → Found joined joined-view
+    pub join-step : (open_view h).middle ≡ [] → Found joined joined-view
     join-step none =
         let w : OpenView T A = open_view h in
         let past : w.capacity - tail_end w ≡ w.capacity - tail_end joined-view =
@@ -50,8 +50,8 @@ module _ {T A : Type 0} where
         record {
           row = after;
           front = o.front;
-          gap = omega (arith, o.gap, o.rest, o.gap_after, ap length none);
-          rest = omega arith;
+          gap_before = omega (arith, o.gap_before, o.middle, o.gap_after, ap length none);
+          middle = omega arith;
           gap_after = omega arith;
           tail = o.tail;
           room = o.room;
@@ -59,31 +59,31 @@ module _ {T A : Type 0} where
         found joined joined-view shows refl refl
 
     abbrev all-after : List T
-    all-after = (open_view h).rest ++ (open_view h).tail
+    all-after = (open_view h).middle ++ (open_view h).tail
 
     side-by-side : (open_view h).gap_after ≡ 0 → h.block.slots ≡ filled_slots (open_view h).front
-        ++ (empty_slots (open_view h).gap ++ (filled_slots all-after ++ past_tail (open_view h)))
+        ++ (empty_slots (open_view h).gap_before ++ (filled_slots all-after ++ past_tail (open_view h)))
     side-by-side none = o.row ∙ rw none (simp (append_assoc, full-append))
 
-    count-after : (open_view h).gap_after ≡ 0 → length all-after ≡ h.len - h.rest_start
+    count-after : (open_view h).gap_after ≡ 0 → length all-after ≡ h.len - h.middle_start
     count-after none =
         omega (
           arith,
-          length-append (open_view h).rest (open_view h).tail,
-          o.rest,
+          length-append (open_view h).middle (open_view h).tail,
+          o.middle,
           o.gap_after,
           o.tail,
         )
 
-    pub after-filled : (open_view h).gap_after ≡ 0 → (j : ℕ) → h.rest_start ≤ j → j < h.len
+    pub after-filled : (open_view h).gap_after ≡ 0 → (j : ℕ) → h.middle_start ≤ j → j < h.len
         → IsSome (slot h.block.slots j)
     after-filled none j low high =
         let w : OpenView T A = open_view h in
-        let pre : List (Option T) = filled_slots w.front ++ empty_slots w.gap in
-        let start : length pre ≡ h.rest_start = at_rest h w o in
+        let pre : List (Option T) = filled_slots w.front ++ empty_slots w.gap_before in
+        let start : length pre ≡ h.middle_start = at_middle h w o in
         rw (ap (λ (r : List (Option T)). slot r j)
         (side-by-side none
-        ∙ sym (append_assoc (filled_slots w.front) (empty_slots w.gap)
+        ∙ sym (append_assoc (filled_slots w.front) (empty_slots w.gap_before)
         (filled_slots all-after ++ past_tail w))))
         (slot-in-full pre all-after (past_tail w) j (omega (arith, start))
         (omega (arith, start, count-after none)))
@@ -92,42 +92,42 @@ module _ {T A : Type 0} where
     count-all = omega (arith, length-append (open_view h).front all-after, o.front)
 
     pub close-row : (open_view h).gap_after ≡ 0
-        → move_slots h.rest_start h.front_end (h.len - h.rest_start) h.block.slots ≡ packed_slots
+        → move_slots h.middle_start h.front_end (h.len - h.middle_start) h.block.slots ≡ packed_slots
         (items_of (open_view h)) (length h.block.slots)
     close-row none =
         let w : OpenView T A = open_view h in
-        let left : w.gap + (w.capacity - tail_end w) ≡ w.capacity - length (items_of w) =
+        let left : w.gap_before + (w.capacity - tail_end w) ≡ w.capacity - length (items_of w) =
         omega (
           arith,
           count-all,
           reached h w o,
           count-after none,
-          o.gap,
-          o.rest,
+          o.gap_before,
+          o.middle,
           o.gap_after,
           o.tail,
           o.room,
         ) in
-        ap (move_slots h.rest_start h.front_end (h.len - h.rest_start)) (side-by-side none)
-        ∙ (moved_left h.rest_start h.front_end (h.len - h.rest_start) w.gap (filled_slots w.front)
+        ap (move_slots h.middle_start h.front_end (h.len - h.middle_start)) (side-by-side none)
+        ∙ (moved_left h.middle_start h.front_end (h.len - h.middle_start) w.gap_before (filled_slots w.front)
         (filled_slots all-after)
-        (past_tail w) (sym (length-full w.front ∙ o.front)) (sym o.gap)
+        (past_tail w) (sym (length-full w.front ∙ o.front)) (sym o.gap_before)
         (omega (arith, length-full all-after, count-after none))
         ∙ rw (sym left) (simp (append_assoc, full-append, empty-more)))
 
-    pub closed-row : (open_view h).gap_after ≡ 0 → h.front_end ≡ h.rest_start
+    pub closed-row : (open_view h).gap_after ≡ 0 → h.front_end ≡ h.middle_start
         → h.block.slots ≡ packed_slots (items_of (open_view h)) (length h.block.slots)
     closed-row none here =
         let w : OpenView T A = open_view h in
-        let no : w.gap ≡ 0 = omega (arith, o.gap) in
+        let no : w.gap_before ≡ 0 = omega (arith, o.gap_before) in
         let left : w.capacity - tail_end w ≡ w.capacity - length (items_of w) =
         omega (
           arith,
           count-all,
           reached h w o,
           count-after none,
-          o.gap,
-          o.rest,
+          o.gap_before,
+          o.middle,
           o.gap_after,
           o.tail,
           o.room,
@@ -143,8 +143,8 @@ module _ {T A : Type 0} where
         record {
           block = b;
           front_end = start;
-          rest_start = start;
-          rest_end = end;
+          middle_start = start;
+          middle_end = end;
           tail_start = end;
           len = len;
         }
@@ -153,8 +153,8 @@ module _ {T A : Type 0} where
     opened-view = let xs : List T = items_in b.slots in
         record {
           front = take start xs;
-          gap = 0;
-          rest = slice_range xs start end;
+          gap_before = 0;
+          middle = slice_range xs start end;
           gap_after = 0;
           tail = drop end xs;
           capacity = length b.slots;
@@ -183,8 +183,8 @@ module _ {T A : Type 0} where
         (record {
           row = after;
           front = lf;
-          gap = omega arith;
-          rest = omega (arith, lr);
+          gap_before = omega arith;
+          middle = omega (arith, lr);
           gap_after = omega arith;
           tail = omega (arith, lz, all);
           room =
@@ -194,44 +194,44 @@ module _ {T A : Type 0} where
   -- In this module, the items `xs` are written into the first gap of the open block `h`, up to the
   -- slot before index `end`.
   module _ (h : Inside T A) (o : IsOpen h) (b : Block T A) (xs : List T) (end : ℕ)
-      (ends : end ≡ h.front_end + length xs) (fits : end ≤ h.rest_start) where
+      (ends : end ≡ h.front_end + length xs) (fits : end ≤ h.middle_start) where
     fill-step : b.slots ≡ write_slots h.front_end (filled_slots xs) h.block.slots
         → Found (record h { block = b; front_end = end }) (record (open_view h) {
           front = (open_view h).front ++ xs;
-          gap = h.rest_start - end;
+          gap_before = h.middle_start - end;
           alloc = b.alloc;
           cost = b.cost;
         })
     fill-step now =
         let v : OpenView T A = open_view h in
         let w : OpenView T A =
-        record v { front = v.front ++ xs; gap = h.rest_start - end; alloc = b.alloc; cost = b.cost } in
+        record v { front = v.front ++ xs; gap_before = h.middle_start - end; alloc = b.alloc; cost = b.cost } in
         let filled : Inside T A = record h { block = b; front_end = end } in
-        let parts : length xs + (h.rest_start - end) ≡ v.gap =
-        omega (arith, ends, fits, o.gap) in
+        let parts : length xs + (h.middle_start - end) ≡ v.gap_before =
+        omega (arith, ends, fits, o.gap_before) in
         let more : length (v.front ++ xs) ≡ end =
         omega (arith, length-append v.front xs, o.front, ends) in
         let past : v.capacity - tail_end v ≡ v.capacity - tail_end w =
         omega (arith, length-append v.front xs, parts) in
         let long : length (filled_slots xs) ≡ length (empty_slots {T = T} (length xs)) =
         omega (arith, length-full xs, length-empty T (length xs)) in
-        let left : List (Option T) = filled_slots v.rest ++ past_rest v in
-        let split : empty_slots v.gap ++ left ≡ empty_slots (length xs)
-        ++ (empty_slots (h.rest_start - end) ++ left) =
+        let left : List (Option T) = filled_slots v.middle ++ past_middle v in
+        let split : empty_slots v.gap_before ++ left ≡ empty_slots (length xs)
+        ++ (empty_slots (h.middle_start - end) ++ left) =
         ap (λ (k : ℕ). empty_slots k ++ left) (sym parts) ∙ simp (append_assoc, empty-more) in
         let after : b.slots ≡ slots_of w =
         now ∙ (ap (write_slots h.front_end (filled_slots xs))
         (o.row ∙ ap (λ (r : List (Option T)). filled_slots v.front ++ r) split)
-        ∙ (laid-at h.front_end (filled_slots v.front) (filled_slots xs) (empty_slots (length xs))
-        (empty_slots (h.rest_start - end) ++ left)
+        ∙ (written-at h.front_end (filled_slots v.front) (filled_slots xs) (empty_slots (length xs))
+        (empty_slots (h.middle_start - end) ++ left)
         (sym (length-full v.front ∙ o.front)) long
         ∙ rw past (simp (append_assoc, full-append)))) in
         let shows : IsOpenViewOf filled w =
         record {
           row = after;
           front = more;
-          gap = omega (arith, fits);
-          rest = o.rest;
+          gap_before = omega (arith, fits);
+          middle = o.middle;
           gap_after = o.gap_after;
           tail = o.tail;
           room = o.room;
@@ -240,21 +240,21 @@ module _ {T A : Type 0} where
 
   pub fill-view : (h : Inside T A) (o : IsOpen h) {v : OpenView T A} → open_view h ≡ v
       → (b : Block T A)
-      (xs : List T) (end : ℕ) → end ≡ h.front_end + length xs → length xs ≤ v.gap
+      (xs : List T) (end : ℕ) → end ≡ h.front_end + length xs → length xs ≤ v.gap_before
       → block_view b ≡ record (block_view h.block) {
         slots = write_slots h.front_end (filled_slots xs) h.block.slots;
         cost = add_moves (length xs) h.block.cost;
       }
       → Found (record h { block = b; front_end = end }) (record v {
         front = v.front ++ xs;
-        gap = v.gap - length xs;
+        gap_before = v.gap_before - length xs;
         cost = add_moves (length xs) v.cost;
       })
   fill-view h o {v} is b xs end ends room now =
-      let gap = ap (λ w. w.gap) is in
-      let fits : end ≤ h.rest_start = omega (arith, ends, room, gap, o.gap) in
+      let gap_before = ap (λ w. w.gap_before) is in
+      let fits : end ≤ h.middle_start = omega (arith, ends, room, gap_before, o.gap_before) in
       let step = fill-step h o b xs end ends fits (ap (λ w. w.slots) now) in
-      let left : h.rest_start - end ≡ v.gap - length xs = omega (arith, ends, gap, o.gap) in
+      let left : h.middle_start - end ≡ v.gap_before - length xs = omega (arith, ends, gap_before, o.gap_before) in
       let alloc : b.alloc ≡ v.alloc = ap (λ w. w.alloc) now ∙ ap (λ w. w.alloc) is in
       let spent : b.cost ≡ add_moves (length xs) v.cost =
       ap (λ w. w.cost) now ∙ ap (λ w. add_moves (length xs) w.cost) is in
@@ -262,7 +262,7 @@ module _ {T A : Type 0} where
         lies = step.lies;
         view = step.view ∙ (λ i. let w = is i in record w {
           front = w.front ++ xs;
-          gap = left i;
+          gap_before = left i;
           alloc = alloc i;
           cost = spent i;
         });
@@ -322,8 +322,8 @@ module _ {T A : Type 0} where
         omega (arith, room, reached h v o) in
         let turned : to_tail v ++ (empty_slots count ++ (filled_slots v.tail ++ end))
         ≡ filled_slots v.front
-        ++ (empty_slots v.gap
-        ++ (filled_slots v.rest
+        ++ (empty_slots v.gap_before
+        ++ (filled_slots v.middle
         ++ (empty_slots (v.gap_after + count) ++ (filled_slots v.tail ++ end)))) =
         simp (append_assoc, empty-more) in
         let after : b.slots ≡ slots_of widened-view =
@@ -332,16 +332,16 @@ module _ {T A : Type 0} where
         (to_tail v) (filled_slots v.tail) end
         (sym (at_tail h v o)) refl (sym k)
         ∙ (turned ∙ ap (λ (n : ℕ). filled_slots v.front
-        ++ (empty_slots v.gap
-        ++ (filled_slots v.rest
+        ++ (empty_slots v.gap_before
+        ++ (filled_slots v.middle
         ++ (empty_slots (v.gap_after + count) ++ (filled_slots v.tail ++ empty_slots n)))))
         past))) in
         let shows : IsOpenViewOf widened widened-view =
         record {
           row = after;
           front = o.front;
-          gap = o.gap;
-          rest = o.rest;
+          gap_before = o.gap_before;
+          middle = o.middle;
           gap_after = omega (arith, o.gap_after);
           tail = omega (arith, o.tail);
           room = room;

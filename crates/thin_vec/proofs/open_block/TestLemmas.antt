@@ -3,7 +3,7 @@
 use Rattle.std.proofs.Common.{◌≡◌, ℕ, ◌+◌, Bool, true, false, List, [], ◌∷◌, ◌++◌, length, take, drop, refl, sym, ap, subst, ◌∙◌, arith, length-append, append_assoc}
 use Rattle.std.proofs.lemmas.List.{append-nil, drop_at, map_push, take_at}
 use Rattle.thin_vec.specs.Edits.Retain.{TestResults, TestsInTurn, flags_of, items_where, all_kept, count_true}
-use Rattle.thin_vec.specs.OpenBlock.Retain.{TestsAt, TestsUpTo, IsRejectedFirst}
+use Rattle.thin_vec.specs.OpenBlock.Retain.{TestsAt, TestsUpTo, IsRemovedFirst}
 use Rattle.thin_vec.proofs.RetainLemmas.{cons-head, cons-not-nil, cons-tail, items_where-append, items_where-stay, count_true-append, count_true-stay}
 
 module _ {S T : Type 0} (R : S → T → Bool → S → T → Type 0) where
@@ -102,13 +102,13 @@ module _ {S T : Type 0} (R : S → T → Bool → S → T → Type 0) where
 
   -- The following definition and lemmas are about tests that stop at the first item to be removed.
 
-  -- `Part m s xs t kept rest` states that all items of the list `xs` were tested, except the items
-  -- `rest` at its end. `kept` is the list of the `m` kept items, as the closure left them. The
-  -- tests changed the state of the closure from `s` to `t`.
-  pub record Part (m : ℕ) (s : S) (xs : List T) (t : S) (kept rest : List T) : Type 0 where
+  -- `Part m s xs t kept untested` states that all items of the list `xs` were tested, except the
+  -- items `untested` at its end. `kept` is the list of the `m` kept items, as the closure left
+  -- them. The tests changed the state of the closure from `s` to `t`.
+  pub record Part (m : ℕ) (s : S) (xs : List T) (t : S) (kept untested : List T) : Type 0 where
     pub done : List T
     pub results : TestResults T
-    pub was : xs ≡ done ++ rest
+    pub was : xs ≡ done ++ untested
     pub asked : TestsInTurn R s done results t
     pub left : items_where true results ≡ kept
     pub count : count_true (flags_of results) ≡ m
@@ -120,25 +120,25 @@ module _ {S T : Type 0} (R : S → T → Bool → S → T → Type 0) where
     pub run-end : drop m ys ≡ r.end
     run-end = ap (drop m) r.now ∙ drop_at r.left r.end m r.reached
 
-    pub stop-goes : (u : S) (b e : List T) (v : T) (rest : List T) → IsRejectedFirst R u b t e
-        → e ≡ v ∷ rest
-        → (x : T) × (b ≡ x ∷ rest) × R u x false t v
-    stop-goes u [] e v rest h k = absurd (cons-not-nil (sym k ∙ h.0))
-    stop-goes u (x ∷ b) e v rest h k =
-        let same : h.0 ∷ b ≡ v ∷ rest = sym h.2 ∙ k in (
+    pub stop-goes : (u : S) (b e : List T) (v : T) (untested : List T) → IsRemovedFirst R u b t e
+        → e ≡ v ∷ untested
+        → (x : T) × (b ≡ x ∷ untested) × R u x false t v
+    stop-goes u [] e v untested h k = absurd (cons-not-nil (sym k ∙ h.0))
+    stop-goes u (x ∷ b) e v untested h k =
+        let same : h.0 ∷ b ≡ v ∷ untested = sym h.2 ∙ k in (
           x,
           ap (λ (l : List T). x ∷ l) (cons-tail same),
           subst (λ (y : T). R u x false t y) (cons-head same) h.1,
         )
 
-    unfoldable pub part-goes : (v : T) (rest : List T) → drop m ys ≡ v ∷ rest → Part m s xs t (take m ys) rest
-    part-goes v rest k =
-        let g = stop-goes r.between r.after r.end v rest r.stops (sym run-end ∙ k) in
+    unfoldable pub part-goes : (v : T) (untested : List T) → drop m ys ≡ v ∷ untested → Part m s xs t (take m ys) untested
+    part-goes v untested k =
+        let g = stop-goes r.between r.after r.end v untested r.stops (sym run-end ∙ k) in
         record {
           done = r.run ++ g.0 ∷ [];
           results = all_kept r.left ++ (false, v) ∷ [];
           was = r.was ∙ (ap (λ (l : List T). r.run ++ l) g.1
-              ∙ sym (append_assoc r.run (g.0 ∷ []) rest));
+              ∙ sym (append_assoc r.run (g.0 ∷ []) untested));
           asked = asked-append r.between t (g.0 ∷ []) ((false, v) ∷ [])
               (asked-one r.between t g.0 v false g.2) r.run s (all_kept r.left) r.asked;
           left = items_where-append (all_kept r.left) ((false, v) ∷ [])
@@ -155,7 +155,7 @@ module _ {S T : Type 0} (R : S → T → Bool → S → T → Type 0) where
               );
         }
 
-    pub stop-ends : (u : S) (b e : List T) → IsRejectedFirst R u b t e → e ≡ [] → (b ≡ []) × (t ≡ u)
+    pub stop-ends : (u : S) (b e : List T) → IsRemovedFirst R u b t e → e ≡ [] → (b ≡ []) × (t ≡ u)
     stop-ends u [] e h k = (refl, h.1)
     stop-ends u (x ∷ b) e h k = absurd (cons-not-nil (sym h.2 ∙ k))
 

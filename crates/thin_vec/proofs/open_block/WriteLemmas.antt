@@ -10,13 +10,13 @@ use Rattle.thin_block.specs.Lends.{overwrite_items, set_slot}
 use Rattle.thin_block.specs.Slots.{empty_slots, filled_slots, slot}
 use Rattle.thin_block.specs.declared.block.Block.{Block}
 use Rattle.thin_vec.specs.OpenBlock.{IsOpen, IsOpenViewOf, open_view}
-use Rattle.thin_vec.specs.Open.{OpenView, tail_end, slots_of}
+use Rattle.thin_vec.specs.OpenView.{OpenView, tail_end, slots_of}
 use Rattle.thin_vec.specs.declared.open_block.OpenBlock.TheInside.{Inside}
 use Rattle.thin_vec.proofs.RetainLemmas.{cons-head, cons-not-nil, cons-tail, single}
 use Rattle.thin_block.proofs.ResultLemmas.{some-same}
-use Rattle.thin_vec.proofs.OpenBlockLemmas.{Found, found, last-of, past_rest, slot-in-full}
+use Rattle.thin_vec.proofs.OpenBlockLemmas.{Found, found, last-of, past_middle, slot-in-full}
 use Rattle.thin_vec.proofs.ListLemmas.{length-full}
-use Rattle.thin_vec.proofs.open_block.RetainRestLemmas.{row-at, same-past, write-step, written}
+use Rattle.thin_vec.proofs.open_block.MiddleLemmas.{row-at, same-past, write-step, written}
 
 module _ {T : Type 0} where
   -- The following lemmas are about two items in neighboring slots.
@@ -95,43 +95,43 @@ module _ {T A : Type 0} where
     pub pre : List T
     pub post : List T
     pub place : length pre ≡ k
-    pub was : (open_view h).rest ≡ pre ++ x ∷ y ∷ post
+    pub was : (open_view h).middle ≡ pre ++ x ∷ y ∷ post
     pub shown : Found (record h { block = b })
-        (record (open_view h) { rest = pre ++ x' ∷ y' ∷ post })
+        (record (open_view h) { middle = pre ++ x' ∷ y' ∷ post })
 
   module _ (h : Inside T A) (o : IsOpen h) (b : Block T A)
       (kept : block_view b ≡ record (block_view h.block) { slots = b.slots }) where
-    pub write-two-step : (k : ℕ) {x y : T} (x' y' : T) → suc k < length (open_view h).rest
-        → slot h.block.slots (h.rest_start + k) ≡ Some x
-        → slot h.block.slots (suc (h.rest_start + k)) ≡ Some y
-        → b.slots ≡ set (set h.block.slots (h.rest_start + k) (Some x')) (suc (h.rest_start + k))
+    pub write-two-step : (k : ℕ) {x y : T} (x' y' : T) → suc k < length (open_view h).middle
+        → slot h.block.slots (h.middle_start + k) ≡ Some x
+        → slot h.block.slots (suc (h.middle_start + k)) ≡ Some y
+        → b.slots ≡ set (set h.block.slots (h.middle_start + k) (Some x')) (suc (h.middle_start + k))
         (Some y')
         → WrittenTwo h o k b x y x' y'
     write-two-step k {x} {y} x' y' low first second now =
-        let c : Block T A = set_slot h.block (h.rest_start + k) x' in
+        let c : Block T A = set_slot h.block (h.middle_start + k) x' in
         let one = write-step h o c k (omega arith) x x' first refl in
         let m : Inside T A = written h o c k (omega arith) in
-        let next : suc (h.rest_start + k) ≡ h.rest_start + suc k = omega arith in
-        let apart : suc (h.rest_start + k) ≢ h.rest_start + k = λ e. let n : suc (h.rest_start + k)
-        ≡ h.rest_start + k =
+        let next : suc (h.middle_start + k) ≡ h.middle_start + suc k = omega arith in
+        let apart : suc (h.middle_start + k) ≢ h.middle_start + k = λ e. let n : suc (h.middle_start + k)
+        ≡ h.middle_start + k =
         e in omega (arith, n) in
-        let rest : (open_view m).rest ≡ one.pre ++ x' ∷ one.post =
-        ap (λ v. v.rest) one.shown.view in
-        let count : length (one.pre ++ x' ∷ one.post) ≡ length (open_view h).rest =
+        let middle : (open_view m).middle ≡ one.pre ++ x' ∷ one.post =
+        ap (λ v. v.middle) one.shown.view in
+        let count : length (one.pre ++ x' ∷ one.post) ≡ length (open_view h).middle =
         omega (
           arith,
           ap length one.was,
           length-append one.pre (x ∷ one.post),
           length-append one.pre (x' ∷ one.post),
         ) in
-        let there : slot c.slots (h.rest_start + suc k) ≡ Some y =
+        let there : slot c.slots (h.middle_start + suc k) ≡ Some y =
         ap (slot c.slots) (sym next)
-        ∙ (get_or-set_other h.block.slots (h.rest_start + k) (suc (h.rest_start + k)) (Some x')
+        ∙ (get_or-set_other h.block.slots (h.middle_start + k) (suc (h.middle_start + k)) (Some x')
         None apart ∙ second) in
         let two = write-step m one.shown.lies b (suc k)
-        (omega (arith, low, ap length rest, count)) y y' there
+        (omega (arith, low, ap length middle, count)) y y' there
         (slots-are kept (now ∙ ap (λ (n : ℕ). set c.slots n (Some y')) next)) in
-        let same : one.pre ++ x' ∷ one.post ≡ two.pre ++ y ∷ two.post = sym rest ∙ two.was in
+        let same : one.pre ++ x' ∷ one.post ≡ two.pre ++ y ∷ two.post = sym middle ∙ two.was in
         let long : length (one.pre ++ x' ∷ []) ≡ suc k =
         omega (arith, length_push one.pre x', one.place) in
         let same' : (one.pre ++ x' ∷ []) ++ one.post ≡ two.pre ++ y ∷ two.post =
@@ -153,7 +153,7 @@ module _ {T A : Type 0} where
           shown = record {
             lies = two.shown.lies;
             view = two.shown.view
-                ∙ (λ i. record (one.shown.view i) { rest = final i });
+                ∙ (λ i. record (one.shown.view i) { middle = final i });
           };
         }
 
@@ -173,7 +173,7 @@ module _ {T A : Type 0} where
       let v : OpenView T A = open_view h in
       let p = last-of v.front some in
       let pre : List T = p.0 in
-      let z : List (Option T) = empty_slots v.gap ++ (filled_slots v.rest ++ past_rest v) in
+      let z : List (Option T) = empty_slots v.gap_before ++ (filled_slots v.middle ++ past_middle v) in
       let row : h.block.slots ≡ filled_slots pre ++ (Some p.1 ∷ z) = o.row
       ∙ (ap (λ (l : List T). filled_slots l ++ z) p.2 ∙ row-at [] pre p.1 [] z) in
       let here : length (filled_slots pre) ≡ h.front_end - 1 =
@@ -191,14 +191,14 @@ module _ {T A : Type 0} where
       ∙ (set_at (filled_slots pre) (Some p.1) z (Some y) (h.front_end - 1) here
       ∙ (sym (row-at [] pre y [] z)
       ∙ ap (λ (r : List (Option T)). filled_slots (pre ++ y ∷ [])
-      ++ (empty_slots v.gap ++ (filled_slots v.rest ++ r))) (same-past v w refl refl left)))) in
+      ++ (empty_slots v.gap_before ++ (filled_slots v.middle ++ r))) (same-past v w refl refl left)))) in
       let i : Inside T A =
       record h { block = b } in
       let shows : IsOpenViewOf i w = record {
         row = after;
         front = count ∙ o.front;
-        gap = o.gap;
-        rest = o.rest;
+        gap_before = o.gap_before;
+        middle = o.middle;
         gap_after = o.gap_after;
         tail = o.tail;
         room = o.room;
@@ -215,6 +215,6 @@ module _ {T A : Type 0} where
   last-filled h o some =
       let v : OpenView T A = open_view h in
       rw (ap (λ (r : List (Option T)). slot r (h.front_end - 1)) o.row)
-      (slot-in-full [] v.front (empty_slots v.gap ++ (filled_slots v.rest ++ past_rest v))
+      (slot-in-full [] v.front (empty_slots v.gap_before ++ (filled_slots v.middle ++ past_middle v))
       (h.front_end - 1)
       (omega arith) (omega (arith, o.front, some)))

@@ -19,12 +19,12 @@ module _ {T A : Type 0} where
     pub from : IsAllocatedBy b.alloc a
 
 module _ (T A : Type 0) where
-  -- `RestInOrder` states that, for every iterator, calls to `next` yield the remaining items in
-  -- order.
-  abbrev pub RestInOrder : Type 0
-  RestInOrder = YieldsInOrder (YieldsFirst (into_iter_items {T = T} {A = A})) into_iter_items
+  -- `IntoIterYieldsInOrder` states that, for every iterator, calls to `next` yield the remaining
+  -- items in order.
+  abbrev pub IntoIterYieldsInOrder : Type 0
+  IntoIterYieldsInOrder = YieldsInOrder (YieldsFirst (into_iter_items {T = T} {A = A})) into_iter_items
 
-  -- `RestInReverse` states that, for every iterator, calls to `next_back` yield the remaining items
-  -- in reverse order.
-  abbrev pub RestInReverse : Type 0
-  RestInReverse = YieldsInReverse (YieldsLast (into_iter_items {T = T} {A = A})) into_iter_items
+  -- `IntoIterYieldsInReverse` states that, for every iterator, calls to `next_back` yield the
+  -- remaining items in reverse order.
+  abbrev pub IntoIterYieldsInReverse : Type 0
+  IntoIterYieldsInReverse = YieldsInReverse (YieldsLast (into_iter_items {T = T} {A = A})) into_iter_items

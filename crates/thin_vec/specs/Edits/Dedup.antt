@@ -18,10 +18,10 @@ module _ {S T : Type 0} (R : S → T → T → Bool → S → T → T → Type 0
   abbrev pub TestsEachAgainstLast : S → T → List T → List Bool → List T → S → Type 0
   TestsEachAgainstLast s k [] stays ys t = (stays ≡ []) × (ys ≡ k ∷ []) × (t ≡ s)
   TestsEachAgainstLast s k (x ∷ xs) stays ys t =
-      (b : Bool) × (x' : T) × (k' : T) × (u : S) × (rest : List Bool) × R s x k b u x' k'
-      × (stays ≡ not b ∷ rest)
-      × MatchBool b (TestsEachAgainstLast u k' xs rest ys t)
-      ((zs : List T) × TestsEachAgainstLast u x' xs rest zs t × (ys ≡ k' ∷ zs))
+      (b : Bool) × (x' : T) × (k' : T) × (u : S) × (later : List Bool) × R s x k b u x' k'
+      × (stays ≡ not b ∷ later)
+      × MatchBool b (TestsEachAgainstLast u k' xs later ys t)
+      ((zs : List T) × TestsEachAgainstLast u x' xs later zs t × (ys ≡ k' ∷ zs))
 
   -- `TestsAllAgainstLast s xs stays ys t` holds if each item of `xs` except the first was tested
   -- against the last item kept before it. The flags `stays` mark the kept items, and `ys` contains

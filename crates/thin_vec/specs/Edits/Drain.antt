@@ -5,7 +5,7 @@ use Rattle.std.specs.Borrow.{GName}
 use Rattle.std.specs.Iterator.{Yields, YieldsFirst, YieldsLast}
 use Rattle.std.specs.Iterator.Runs.{YieldsInOrder, YieldsInReverse}
 use Rattle.thin_block.specs.declared.growth.Growth.{Ghosts}
-use Rattle.thin_vec.specs.Open.{OpenView, cost_drained}
+use Rattle.thin_vec.specs.OpenView.{OpenView, cost_drained}
 use Rattle.thin_vec.specs.ThinVec.{ListView}
 use Rattle.thin_vec.specs.declared.edits.drain.Drain.{Drain}
 use Rattle.thin_vec.specs.declared.edits.holder.IntoInner.{Ghosts as IntoInnerGhosts}
@@ -24,7 +24,7 @@ module _ {T A G H : Type 0} {g : Ghosts G} {h : IntoInnerGhosts H (OpenView T A)
 
   -- `drain_rest d` contains the items of the range that the `Drain` `d` has not yielded yet.
   abbrev pub drain_rest : Drain T A G H g h → List T
-  drain_rest d = (h.inner d.holder).rest
+  drain_rest d = (h.inner d.holder).middle
 
   -- `drain_list d` is the list that the `Drain` `d` borrows, as it is until `d` is dropped. It
   -- stays as it is if `d` is leaked.

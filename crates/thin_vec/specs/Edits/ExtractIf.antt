@@ -8,7 +8,7 @@ use Rattle.std.specs.Borrow.{GName}
 use Rattle.thin_block.specs.Cost.{add_moves}
 use Rattle.thin_block.specs.declared.growth.Growth.{Ghosts}
 use Rattle.thin_vec.specs.List.Capacity.{MovesAtMost}
-use Rattle.thin_vec.specs.Open.{OpenView, cost_closed, items_of}
+use Rattle.thin_vec.specs.OpenView.{OpenView, cost_closed, items_of}
 use Rattle.thin_vec.specs.ThinVec.{ListView}
 use Rattle.thin_vec.specs.declared.edits.extract_if.ExtractState.{ExtractState}
 use Rattle.thin_vec.specs.declared.edits.extract_if.ExtractIf.{ExtractIf}
@@ -22,15 +22,15 @@ module _ {T F A : Type 0} (R : F → T → Bool → F → T → Type 0) where
   pub record ExtractsOne (old : ExtractState T F A) (item : Option T)
       (new : ExtractState T F A) : Type 0 where
     pub kept : List T
-    pub asked : ExtractsNext R old.picks.pick old.block.rest item new.picks.pick kept new.block.rest
-    pub count : length old.block.rest ≡ length kept + length
-        (option_to_list item) + length new.block.rest
+    pub asked : ExtractsNext R old.picks.pick old.block.middle item new.picks.pick kept new.block.middle
+    pub count : length old.block.middle ≡ length kept + length
+        (option_to_list item) + length new.block.middle
     pub front : new.block.front ≡ old.block.front ++ kept
-    pub gap : new.block.gap ≡ old.block.gap + length (option_to_list item)
+    pub gap_before : new.block.gap_before ≡ old.block.gap_before + length (option_to_list item)
     pub tail : new.block.tail ≡ old.block.tail
     pub capacity : new.block.capacity ≡ old.block.capacity
     pub alloc : new.block.alloc ≡ old.block.alloc
-    pub cost : new.block.cost ≡ (if old.block.gap == 0 then old.block.cost else add_moves
+    pub cost : new.block.cost ≡ (if old.block.gap_before == 0 then old.block.cost else add_moves
         (length kept) old.block.cost)
 
 module _ {T F A G H : Type 0} {g : Ghosts G} {h : IntoInnerGhosts H (ExtractState T F A)} where
@@ -53,7 +53,7 @@ module _ {T F A G H : Type 0} {g : Ghosts G} {h : IntoInnerGhosts H (ExtractStat
 
   -- `extract_rest e` contains the items of the range that have not been tested yet.
   abbrev pub extract_rest : ExtractIf T F A G H g h → List T
-  extract_rest e = (extract_block e).rest
+  extract_rest e = (extract_block e).middle
 
   -- `extract_callee e` is the closure that the `ExtractIf` owns, in its present state.
   abbrev pub extract_callee : ExtractIf T F A G H g h → F
@@ -105,7 +105,7 @@ module _ {T F A G H : Type 0} {g : Ghosts G} {h : IntoInnerGhosts H (ExtractStat
         (left_by_extract_if later).cost
     pub front : (extract_block later).front ≡ (extract_block first).front ++ kept
     pub tail : (extract_block later).tail ≡ (extract_block first).tail
-    pub gone : (extract_block later).gap ≡ (extract_block first).gap + length items
+    pub gone : (extract_block later).gap_before ≡ (extract_block first).gap_before + length items
     pub count : length kept + length items + length (extract_rest later)
         ≡ length (extract_rest first)
 

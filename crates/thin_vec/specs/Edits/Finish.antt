@@ -8,7 +8,7 @@ use Rattle.thin_block.specs.Growth.{GrowthRule}
 use Rattle.thin_vec.specs.Cheap.{IsCheap}
 use Rattle.thin_vec.specs.List.Extend.{CostsInserting, IsCapacityAfterExtend, IsKeptOrGrown, RequestsAtMost}
 use Rattle.thin_vec.specs.Edits.Splice.{IsSpliceCause, SpliceErrorAccountsFor}
-use Rattle.thin_vec.specs.Open.{OpenView}
+use Rattle.thin_vec.specs.OpenView.{OpenView}
 use Rattle.thin_vec.specs.ThinVec.{HasRoomFor, ListView}
 use Rattle.thin_vec.specs.declared.errors.SpliceRefused.{SpliceRefused}
 
@@ -47,7 +47,7 @@ module _ {S T A : Type 0} (steps : S → Option T → S → Type 0) (can : S →
   -- `w`. This list has the allocator `a`, the growth rule `rule` and the item type `R`.
   pub record FinishesSplice (rule : GrowthRule) (R : RattleType) (v : OpenView T A) (a : A) (s : S)
       (w : ListView T A) (result : Result (Unit {0}) (SpliceRefused T S A)) : Type 0 where
-    pub succeeds : size (remaining s) ≤ v.gap → IsOk result
+    pub succeeds : size (remaining s) ≤ v.gap_before → IsOk result
     pub succeeds_at_end : v.tail ≡ [] → HasRoomFor (without_middle v a) (size (remaining s))
         → IsOk result
     pub items : OnOk result ((xs : List T) × Drains steps s xs × (w.items ≡ with_replacement v xs))
@@ -60,7 +60,7 @@ module _ {S T A : Type 0} (steps : S → Option T → S → Type 0) (can : S →
     pub placed : IfErr result (λ error. (xs : List T) × (w.items ≡ with_replacement v xs)
         × SpliceErrorAccountsFor steps can remaining s xs error)
     pub range : OnErr result
-        (0 < length v.tail → length v.front + length v.tail + v.gap ≤ length w.items)
+        (0 < length v.tail → length v.front + length v.tail + v.gap_before ≤ length w.items)
     pub held : IfErr result (λ error. v.tail ≡ [] → error.held.items ≡ [])
     pub in_hand : IfErr result (λ error. v.tail ≡ []
         → MatchOption error.in_hand ((w ≡ without_middle v a) × (error.rest ≡ s))

@@ -50,9 +50,9 @@ module _ {S T : Type 0} (R : S → T → Bool → S → T → Type 0) where
   abbrev pub TestsInTurn : S → List T → TestResults T → S → Type 0
   TestsInTurn s [] results t = (results ≡ []) × (t ≡ s)
   TestsInTurn s (x ∷ xs) results t =
-      (b : Bool) × (y : T) × (u : S) × (rest : TestResults T) × R s x b u y
-      × TestsInTurn u xs rest t
-      × (results ≡ (b, y) ∷ rest)
+      (b : Bool) × (y : T) × (u : S) × (later : TestResults T) × R s x b u y
+      × TestsInTurn u xs later t
+      × (results ≡ (b, y) ∷ later)
 
   -- `IsRetainedTo s v w t` holds if removing the items that failed the test turned the list `v`
   -- into `w`, and changed the state of the test from `s` to `t`.

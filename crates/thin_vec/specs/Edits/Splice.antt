@@ -11,7 +11,7 @@ use Rattle.thin_block.specs.Growth.{GrowthRule}
 use Rattle.thin_block.specs.declared.growth.Growth.{Ghosts}
 use Rattle.thin_vec.specs.List.Capacity.{LacksRoom}
 use Rattle.thin_vec.specs.List.Extend.{YieldsAndCanContinue}
-use Rattle.thin_vec.specs.Open.{OpenView}
+use Rattle.thin_vec.specs.OpenView.{OpenView}
 use Rattle.thin_vec.specs.ThinVec.{HasRoomFor, ListView}
 use Rattle.thin_vec.specs.declared.errors.SpliceRefused.{SpliceRefused}
 use Rattle.thin_vec.specs.declared.edits.splice.Splice.{Splice}
@@ -77,7 +77,7 @@ module _ {I T A G H : Type 0} {g : Ghosts G} {h : IntoInnerGhosts H (OpenView T 
 
   -- `splice_rest s` contains the items of the range that the `Splice` `s` has not yielded yet.
   abbrev pub splice_rest : Splice I T A G H g h → List T
-  splice_rest s = (h.inner s.holder).rest
+  splice_rest s = (h.inner s.holder).middle
 
   -- `splice_tail s` contains the items after the range.
   abbrev pub splice_tail : Splice I T A G H g h → List T
@@ -87,7 +87,7 @@ module _ {I T A G H : Type 0} {g : Ghosts G} {h : IntoInnerGhosts H (OpenView T 
   -- already been yielded.
   abbrev pub splice_range_len : Splice I T A G H g h → ℕ
   splice_range_len s =
-      (h.inner s.holder).gap + length (h.inner s.holder).rest + (h.inner s.holder).gap_after
+      (h.inner s.holder).gap_before + length (h.inner s.holder).middle + (h.inner s.holder).gap_after
 
   -- `splice_iter s` is the iterator whose items will replace the range.
   abbrev pub splice_iter : Splice I T A G H g h → I

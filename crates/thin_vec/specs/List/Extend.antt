@@ -78,9 +78,9 @@ RequestsAtMost requests n limit = (h : ℕ) × IsWithinCount h limit × (request
 
 module _ {T A : Type 0} where
   -- `ExtendsCapacity rule R v w limit` restricts the capacity of the list `w`, which is the list
-  -- `v` after items of an iterator were added: `loose` is a lower bound, and `ruled` says how the
-  -- growth rule chose it. The growth rule is `rule`, the item type is `R`, and the iterator could
-  -- yield at most `limit` items.
+  -- `v` after items of an iterator were added: `at_least` is a lower bound, and `ruled` says how
+  -- the growth rule chose it. The growth rule is `rule`, the item type is `R`, and the iterator
+  -- could yield at most `limit` items.
   pub record ExtendsCapacity (rule : GrowthRule) (R : RattleType) (v w : ListView T A)
       (limit : Count) : Type 0 where
     -- If `v` has room for all items that the iterator could yield, the capacity is unchanged. In
@@ -88,7 +88,7 @@ module _ {T A : Type 0} where
     pub had_room : HasRoomFor v (size limit) → w.capacity ≡ v.capacity
     -- If the capacity changed, it is at least one that the growth rule chooses for more items than
     -- the old capacity.
-    pub loose : (w.capacity ≡ v.capacity)
+    pub at_least : (w.capacity ≡ v.capacity)
         ⊎ ((want : ℕ) × (n : ℕ) × (v.capacity < want)
         × (grown_capacity rule R v.capacity want ≡ Some n) × (n ≤ w.capacity))
     -- The new capacity is the old one, one that the growth rule chooses for at most
@@ -120,7 +120,7 @@ module _ {T A : Type 0} where
   -- `CostsExtending v w limit` bounds the recorded cost of a call that appended the items of an
   -- iterator, and changed the list from `v` to `w`. The iterator could yield at most `limit` items.
   pub record CostsExtending (v w : ListView T A) (limit : Count) : Type 0 where
-    pub adding : CostsInserting v w 0
+    pub inserting : CostsInserting v w 0
     pub requests : RequestsAtMost (w.cost.blocks - v.cost.blocks)
         (length w.items - length v.items) limit
 

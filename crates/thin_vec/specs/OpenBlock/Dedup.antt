@@ -4,7 +4,7 @@ use Rattle.std.specs.Prelude.{◌≡◌, ◌⊎◌, ℕ, suc, ◌<◌, List, [],
 use Rattle.thin_block.specs.Cost.{add_moves}
 use Rattle.thin_vec.specs.Edits.Retain.{moves_of_retain, count_true}
 use Rattle.thin_vec.specs.Edits.Dedup.{TestsEachAgainstLast, TestsAllAgainstLast}
-use Rattle.thin_vec.specs.Open.{OpenView}
+use Rattle.thin_vec.specs.OpenView.{OpenView}
 
 -- `R s x k b t y l` describes one call of a test that compares the item `x` with the last kept item
 -- `k`. `b` is true if `x` is to be removed. The call changes the state of the test from `s` to `t`,
@@ -79,25 +79,25 @@ module _ {S T : Type 0} (R : S → T → T → Bool → S → T → T → Type 0
     pub stays : List Bool
     pub kept : List T
     pub was : v.front ≡ before ++ first ∷ []
-    pub rest : v.rest ≡ done ++ w.rest
+    pub middle : v.middle ≡ done ++ w.middle
     pub asked : TestsEachAgainstLast R s first done stays kept t
-    pub gap : 0 < w.gap
+    pub gap_before : 0 < w.gap_before
     pub now : w ≡ record v {
       front = before ++ kept;
-      gap = w.gap;
-      rest = w.rest;
+      gap_before = w.gap_before;
+      middle = w.middle;
       cost = add_moves (count_true stays) v.cost;
     }
 
-  -- `DedupsRest s v t w` holds if removing all duplicates among the middle items of an open block
+  -- `DedupsMiddle s v t w` holds if removing all duplicates among the middle items of an open block
   -- turned the block `v` into `w`. The kept items form the front of `w`.
-  pub record DedupsRest {A : Type 0} (s : S) (v : OpenView T A) (t : S)
+  pub record DedupsMiddle {A : Type 0} (s : S) (v : OpenView T A) (t : S)
       (w : OpenView T A) : Type 0 where
     pub stays : List Bool
-    pub asked : TestsAllAgainstLast R s v.rest stays w.front t
+    pub asked : TestsAllAgainstLast R s v.middle stays w.front t
     pub now : w ≡ record v {
       front = w.front;
-      gap = w.gap;
-      rest = [];
+      gap_before = w.gap_before;
+      middle = [];
       cost = add_moves (moves_of_retain stays) v.cost;
     }

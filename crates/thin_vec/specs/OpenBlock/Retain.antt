@@ -3,7 +3,7 @@
 use Rattle.std.specs.Prelude.{◌≡◌, ℕ, ◌<◌, ◌==◌, List, [], ◌∷◌, ◌++◌, Bool, true, false, drop, if◌then◌else◌, length, take}
 use Rattle.thin_block.specs.Cost.{add_moves}
 use Rattle.thin_vec.specs.Edits.Retain.{TestResults, TestsInTurn, flags_of, items_where, moves_of_retain, all_kept, count_true}
-use Rattle.thin_vec.specs.Open.{OpenView}
+use Rattle.thin_vec.specs.OpenView.{OpenView}
 
 -- `R s x b t y` describes one call to a test with the item `x`. The call returns `b` (`true`: keep
 -- the item), changes the state of the test from `s` to `t`, and changes the item from `x` to `y`.
@@ -20,12 +20,12 @@ module _ {S T : Type 0} (R : S → T → Bool → S → T → Type 0) where
     pub asked : R s item b t left
     pub now : ys ≡ before ++ left ∷ after
 
-  -- `IsRejectedFirst s xs t ys` describes the last step of a series of tests. If the list `xs` of
+  -- `IsRemovedFirst s xs t ys` describes the last step of a series of tests. If the list `xs` of
   -- untested items is empty, nothing happens. Otherwise its first item fails the test, which
   -- changes the state from `s` to `t`, and the list from `xs` to `ys`.
-  abbrev pub IsRejectedFirst : S → List T → S → List T → Type 0
-  IsRejectedFirst s [] t ys = (ys ≡ []) × (t ≡ s)
-  IsRejectedFirst s (x ∷ xs) t ys = (y : T) × R s x false t y × (ys ≡ y ∷ xs)
+  abbrev pub IsRemovedFirst : S → List T → S → List T → Type 0
+  IsRemovedFirst s [] t ys = (ys ≡ []) × (t ≡ s)
+  IsRemovedFirst s (x ∷ xs) t ys = (y : T) × R s x false t y × (ys ≡ y ∷ xs)
 
   -- `TestsUpTo m s xs t ys` states that the first `m` items of `xs` were tested and kept, and that
   -- the item at index `m`, if there is one, failed the test.
@@ -38,21 +38,21 @@ module _ {S T : Type 0} (R : S → T → Bool → S → T → Type 0) where
     pub reached : length left ≡ m
     pub was : xs ≡ run ++ after
     pub asked : TestsInTurn R s run (all_kept left) between
-    pub stops : IsRejectedFirst between after t end
+    pub stops : IsRemovedFirst between after t end
     pub now : ys ≡ left ++ end
 
-  -- `SeeksRejected s v t w` describes a search in the open block `v` for the next item that fails a
+  -- `SeeksRemoved s v t w` describes a search in the open block `v` for the next item that fails a
   -- test. The kept items are added to the front. An item that fails the test becomes the first
   -- middle item of `w`.
-  pub record SeeksRejected {A : Type 0} (s : S) (v : OpenView T A) (t : S)
+  pub record SeeksRemoved {A : Type 0} (s : S) (v : OpenView T A) (t : S)
       (w : OpenView T A) : Type 0 where
     pub count : ℕ
     pub left : List T
-    pub run : TestsUpTo count s v.rest t left
+    pub run : TestsUpTo count s v.middle t left
     pub now : w ≡ record v {
       front = v.front ++ take count left;
-      rest = drop count left;
-      cost = if v.gap == 0 then v.cost else add_moves count v.cost;
+      middle = drop count left;
+      cost = if v.gap_before == 0 then v.cost else add_moves count v.cost;
     }
 
   -- `RetainsSome s v t w` holds if testing some or all middle items of the open block `v` turned
@@ -61,25 +61,25 @@ module _ {S T : Type 0} (R : S → T → Bool → S → T → Type 0) where
       (w : OpenView T A) : Type 0 where
     pub done : List T
     pub results : TestResults T
-    pub rest : v.rest ≡ done ++ w.rest
+    pub middle : v.middle ≡ done ++ w.middle
     pub asked : TestsInTurn R s done results t
-    pub gap : 0 < w.gap
+    pub gap_before : 0 < w.gap_before
     pub now : w ≡ record v {
       front = v.front ++ items_where true results;
-      gap = w.gap;
-      rest = w.rest;
+      gap_before = w.gap_before;
+      middle = w.middle;
       cost = add_moves (count_true (flags_of results)) v.cost;
     }
 
-  -- `RetainsRest s v t w` holds if testing all middle items of the open block `v` turned `v` into
+  -- `RetainsMiddle s v t w` holds if testing all middle items of the open block `v` turned `v` into
   -- `w`. The kept items were appended to the front items, and the others were removed.
-  pub record RetainsRest {A : Type 0} (s : S) (v : OpenView T A) (t : S)
+  pub record RetainsMiddle {A : Type 0} (s : S) (v : OpenView T A) (t : S)
       (w : OpenView T A) : Type 0 where
     pub results : TestResults T
-    pub asked : TestsInTurn R s v.rest results t
+    pub asked : TestsInTurn R s v.middle results t
     pub now : w ≡ record v {
       front = v.front ++ items_where true results;
-      gap = w.gap;
-      rest = [];
+      gap_before = w.gap_before;
+      middle = [];
       cost = add_moves (moves_of_retain (flags_of results)) v.cost;
     }

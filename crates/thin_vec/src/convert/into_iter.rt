@@ -5,7 +5,7 @@ ghost use Rattle.std.specs.List.{AllZip};
 ghost use Rattle.std.specs.Option.{option_to_list};
 ghost use Rattle.thin_block.specs.Cost.{add_moves};
 ghost use Rattle.thin_vec.specs.List.Clones.{ClonesEqual};
-ghost use Rattle.thin_vec.specs.Convert.IntoIter.{RestInOrder, RestInReverse};
+ghost use Rattle.thin_vec.specs.Convert.IntoIter.{IntoIterYieldsInOrder, IntoIterYieldsInReverse};
 ghost use Rattle.thin_vec.specs.VecWords.{into_iter_items};
 
 use crate::list::ThinVec;
@@ -49,8 +49,8 @@ impl<T, A: Allocator, G: Growth> ThinVec<T, A, G> {
     pub fn into_iter(self) -> IntoIter<T, A, G>
         ensures value { result ≡ self }
         ensures bounds { length self.items < 2 ^ 64 }
-        ensures runs { RestInOrder T A }
-        ensures runs_back { RestInReverse T A }
+        ensures runs { IntoIterYieldsInOrder T A }
+        ensures runs_back { IntoIterYieldsInReverse T A }
     {
         let end = self.len();
         let (block, alloc) = self.into_parts();
@@ -70,7 +70,7 @@ impl<T: Drop, A: Allocator, G: Growth> IntoIterator for ThinVec<T, A, G> {
     type IntoIter = IntoIter<T, A, G>;
 
     ghost into_iter_gives = { λ list it. (it ≡ list) × (length it.items < 2 ^ 64)
-        × RestInOrder T A × RestInReverse T A };
+        × IntoIterYieldsInOrder T A × IntoIterYieldsInReverse T A };
 
     fn into_iter(self) -> IntoIter<T, A, G> {
         ThinVec::into_iter(self)

@@ -49,7 +49,7 @@ impl<T: Drop, A: Allocator, G: Growth> ThinVec<T, A, G> {
             return;
         }
         let mut block = self.open(0, len);
-        block.dedup_rest(test);
+        block.dedup_middle(test);
         self.close(block);
     }
 

@@ -39,7 +39,7 @@ impl<'a, T: Drop, A: Allocator, G: Growth, H: IntoInner<Inner = OpenBlock<T, A>>
     {
         let Drain { list, holder } = self;
         let mut block = holder.into_inner();
-        block.drop_rest();
+        block.drop_middle();
         // Only the proof needs this call: `close` requires an empty list.
         list.clear();
         list.close(block);
@@ -99,7 +99,7 @@ impl<'a, T, A: Allocator, G: Growth> Drain<'a, T, A, G> {
     pub fn as_slice(&self) -> &[T]
         ensures value { result.now ≡ drain_rest self.now }
     {
-        self.holder.value.rest_slice()
+        self.holder.value.middle_slice()
     }
 }
 
@@ -123,7 +123,7 @@ impl<'a, T: Drop, A: Allocator, G: Growth> Iterator for Drain<'a, T, A, G> {
         ensures value { result
             ≡ (length (drain_rest self.now), Some (length (drain_rest self.now))) }
     {
-        let len = self.holder.value.rest_len();
+        let len = self.holder.value.middle_len();
         (len, Some(len))
     }
 }
@@ -141,7 +141,7 @@ impl<'a, T: Drop, A: Allocator, G: Growth> DoubleEndedIterator for Drain<'a, T, 
 
 impl<'a, T: Drop, A: Allocator, G: Growth> ExactSizeIterator for Drain<'a, T, A, G> {
     fn len(&self) -> usize {
-        self.holder.value.rest_len()
+        self.holder.value.middle_len()
     }
 }
 

@@ -88,7 +88,7 @@ impl<T, F: FnMut(&mut T) -> bool, A: Allocator> ExtractState<T, F, A> {
         ensures steps { ExtractsOne (CalledAtMut F.FnMut) self.old result self.new }
         ensures callable { F.IsAlwaysCallable self.new.picks.pick }
     {
-        if self.block.seek_rejected(&mut self.picks) {
+        if self.block.seek_removed(&mut self.picks) {
             Some(self.block.take_first())
         } else {
             None
@@ -122,7 +122,7 @@ impl<T: Drop, A: Allocator, G: Growth> ThinVec<T, A, G> {
         ensures front { (extract_block result).front ≡ take start self.old.items }
         ensures rest { extract_rest result ≡ slice_range self.old.items start end }
         ensures tail { (extract_block result).tail ≡ drop end self.old.items }
-        ensures gap { (extract_block result).gap ≡ 0 }
+        ensures gap { (extract_block result).gap_before ≡ 0 }
         ensures value { extract_callee result ≡ pick }
 
         // The list is empty until the `ExtractIf` is dropped: calls to `next` do not change it
@@ -172,6 +172,6 @@ impl<'a, T: Drop, F: FnMut(&mut T) -> bool, A: Allocator, G: Growth> Iterator
         ensures upper { IfSome result.1 (UpTo (at_most (length (extract_rest self.now)))) }
         ensures value { result ≡ (0, Some (length (extract_rest self.now))) }
     {
-        (0, Some(self.holder.value.block.rest_len()))
+        (0, Some(self.holder.value.block.middle_len()))
     }
 }

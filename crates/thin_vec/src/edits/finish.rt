@@ -7,7 +7,7 @@ ghost use Rattle.std.specs.Option.{option_len, option_to_list};
 ghost use Rattle.thin_vec.specs.List.Capacity.{LacksRoom};
 ghost use Rattle.thin_vec.specs.List.Extend.{IsKeptOrChosen};
 ghost use Rattle.thin_block.specs.Block.{IsAllocatedBy};
-ghost use Rattle.thin_vec.specs.Open.{tail_end};
+ghost use Rattle.thin_vec.specs.OpenView.{tail_end};
 ghost use Rattle.thin_vec.specs.Edits.Splice.{IsSpliceCause, SpliceErrorAccountsFor};
 ghost use Rattle.thin_vec.specs.Edits.Finish.{AddsFromIter, FinishesSplice};
 ghost use Rattle.thin_vec.specs.Put.{IsFilledBy};
@@ -149,7 +149,7 @@ impl<T: Drop, A: Allocator, G: Growth> ThinVec<T, A, G> {
     ) -> Result<(), SpliceRefused<T, I, A>>
         requires nonempty { 0 < length block.tail }
         requires is_empty { self.old.items ≡ [] }
-        requires no_rest { block.rest ≡ [] }
+        requires no_middle { block.middle ≡ [] }
         requires gap_after { block.gap_after ≡ 0 }
         requires same_allocator { IsAllocatedBy block.alloc self.old.alloc }
         requires can_next { I.can_next iter }
@@ -195,7 +195,7 @@ impl<T: Drop, A: Allocator, G: Growth> ThinVec<T, A, G> {
         requires no_tail { block.tail ≡ [] }
         requires bounds { tail_end block ≤ block.capacity }
         requires is_empty { self.old.items ≡ [] }
-        requires no_rest { block.rest ≡ [] }
+        requires no_middle { block.middle ≡ [] }
         requires gap_after { block.gap_after ≡ 0 }
         requires same_allocator { IsAllocatedBy block.alloc self.old.alloc }
         requires can_next { I.can_next iter }

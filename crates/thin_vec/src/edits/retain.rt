@@ -63,7 +63,7 @@ impl<T: Drop, A: Allocator, G: Growth> ThinVec<T, A, G> {
     {
         let len = self.len();
         let mut block = self.open(0, len);
-        block.retain_rest(test);
+        block.retain_middle(test);
         self.close(block);
     }
 }

@@ -89,7 +89,7 @@ impl<'a, T, I, A: Allocator, G: Growth> Splice<'a, I, T, A, G> {
     pub fn len(&self) -> usize
         ensures value { result ≡ length (splice_rest self.now) }
     {
-        self.holder.value.rest_len()
+        self.holder.value.middle_len()
     }
 
     /// Returns the number of remaining items of the range, as lower and as upper bound.
@@ -218,7 +218,7 @@ impl<
     {
         let Splice { list, holder, iter } = self;
         let mut block = holder.into_inner();
-        block.drop_rest();
+        block.drop_middle();
         // Only the proof needs this call: `close` requires an empty list.
         list.clear();
         let answer = if block.has_tail() {

@@ -8,7 +8,7 @@ use thin_block::item_size;
 
 // The size of an item in bytes from which kept items that lie side by side are moved together.
 // Moving smaller items one by one was measured to be faster.
-const LARGE: usize = 128;
+const LARGE_FOR_DEDUP: usize = 128;
 
 /// A test of an item against the last kept item before it.
 pub(crate) trait PairTest<T> {
@@ -34,14 +34,14 @@ impl<T, A: Allocator> OpenBlock<T, A> {
     // Tests the middle item at index `k` against the one before it.
     pub(crate) fn test_pair<J: PairTest<T>>(&mut self, k: usize, test: &mut J) -> bool
         requires nonzero { 0 < k }
-        requires in_bounds { k < length self.old.rest }
+        requires in_bounds { k < length self.old.middle }
         requires callable { J.ready test.old }
-        ensures tested { TestsPairAt J.tests k test.old self.old.rest (not result) test.new
-            self.new.rest }
+        ensures tested { TestsPairAt J.tests k test.old self.old.middle (not result) test.new
+            self.new.middle }
         ensures callable { J.ready test.new }
-        ensures changes { self.new ≡ record self.old { rest = self.new.rest } }
+        ensures changes { self.new ≡ record self.old { middle = self.new.middle } }
     {
-        let at = self.rest_start + (k - 1);
+        let at = self.middle_start + (k - 1);
         let (kept, later) = self.block.slice_mut(at, at + 2).split_at_mut(1);
         test.test(&mut later[0], &mut kept[0])
     }
@@ -60,14 +60,14 @@ impl<T, A: Allocator> OpenBlock<T, A> {
 
     // Tests the first middle item against the item `kept`.
     pub(crate) fn test_next<J: PairTest<T>>(&mut self, kept: &mut T, test: &mut J) -> bool
-        requires nonempty { 0 < length self.old.rest }
+        requires nonempty { 0 < length self.old.middle }
         requires callable { J.ready test.old }
-        ensures tested { TestsNext J.tests test.old kept.old self.old.rest (not result) test.new
-            kept.new self.new.rest }
+        ensures tested { TestsNext J.tests test.old kept.old self.old.middle (not result) test.new
+            kept.new self.new.middle }
         ensures callable { J.ready test.new }
-        ensures changes { self.new ≡ record self.old { rest = self.new.rest } }
+        ensures changes { self.new ≡ record self.old { middle = self.new.middle } }
     {
-        test.test(self.block.slot_mut(self.rest_start), kept)
+        test.test(self.block.slot_mut(self.middle_start), kept)
     }
 }
 
@@ -77,15 +77,15 @@ impl<T, A: Allocator> OpenBlock<T, A> {
     // Tests neighboring middle items up to the first one that is not to be kept. Returns the number
     // of items before that one.
     fn test_pairs<J: PairTest<T>>(&mut self, test: &mut J) -> usize
-        requires nonempty { 0 < length self.old.rest }
+        requires nonempty { 0 < length self.old.middle }
         requires callable { J.ready test.old }
-        ensures tested { TestsPairsUpTo J.tests result test.old self.old.rest test.new
-            self.new.rest }
+        ensures tested { TestsPairsUpTo J.tests result test.old self.old.middle test.new
+            self.new.middle }
         ensures callable { J.ready test.new }
-        ensures changes { self.new ≡ record self.old { rest = self.new.rest } }
+        ensures changes { self.new ≡ record self.old { middle = self.new.middle } }
     {
         let mut kept = 1;
-        while kept < self.rest_len() {
+        while kept < self.middle_len() {
             if !self.test_pair(kept, test) {
                 return kept;
             }
@@ -96,22 +96,22 @@ impl<T, A: Allocator> OpenBlock<T, A> {
 }
 
 impl<T: Drop, A: Allocator> OpenBlock<T, A> {
-    ghost use Rattle.thin_vec.specs.OpenBlock.Dedup.{DedupsRest, DedupsSome};
+    ghost use Rattle.thin_vec.specs.OpenBlock.Dedup.{DedupsMiddle, DedupsSome};
 
     // Tests the middle items, and drops those that are not to be kept. Up to the first removal
     // there is no gap, so no item moves.
-    pub(crate) fn dedup_rest<J: PairTest<T>>(&mut self, test: &mut J)
-        requires nonempty { 0 < length self.old.rest }
+    pub(crate) fn dedup_middle<J: PairTest<T>>(&mut self, test: &mut J)
+        requires nonempty { 0 < length self.old.middle }
         requires is_empty { self.old.front ≡ [] }
-        requires no_gap { self.old.gap ≡ 0 }
+        requires no_gap { self.old.gap_before ≡ 0 }
         requires callable { J.ready test.old }
-        ensures deduped { DedupsRest J.tests test.old self.old test.new self.new }
+        ensures deduped { DedupsMiddle J.tests test.old self.old test.new self.new }
     {
         let kept = self.test_pairs(test);
         self.keep_in_place(kept);
-        if self.rest_len() > 0 {
+        if self.middle_len() > 0 {
             drop(self.take_first());
-            while self.rest_len() > 0 {
+            while self.middle_len() > 0 {
                 self.dedup_next(test);
             }
         }
@@ -125,14 +125,14 @@ impl<T: Drop, A: Allocator> OpenBlock<T, A> {
     // references only for adjacent items.
     fn dedup_next<J: PairTest<T>>(&mut self, test: &mut J)
         requires has_front { 0 < length self.old.front }
-        requires nonempty { 0 < length self.old.rest }
-        requires has_gap { 0 < self.old.gap }
+        requires nonempty { 0 < length self.old.middle }
+        requires has_gap { 0 < self.old.gap_before }
         requires callable { J.ready test.old }
         ensures deduped { DedupsSome J.tests test.old self.old test.new self.new }
 
-        // For the proof of the loop in `dedup_rest`.
+        // For the proof of the loop in `dedup_middle`.
         ensures has_front { 0 < length self.new.front }
-        ensures bound { length self.new.rest < length self.old.rest }
+        ensures bound { length self.new.middle < length self.old.middle }
         ensures callable { J.ready test.new }
     {
         let mut later = self.take_first();
@@ -140,7 +140,7 @@ impl<T: Drop, A: Allocator> OpenBlock<T, A> {
             drop(later);
             return;
         }
-        if item_size::<T>() < LARGE || self.rest_len() == 0 {
+        if item_size::<T>() < LARGE_FOR_DEDUP || self.middle_len() == 0 {
             self.append_to_front(later);
             return;
         }
@@ -152,7 +152,7 @@ impl<T: Drop, A: Allocator> OpenBlock<T, A> {
         }
         let kept = self.test_pairs(test);
         self.move_down(kept);
-        if self.rest_len() > 0 {
+        if self.middle_len() > 0 {
             drop(self.take_first());
         }
     }

@@ -19,16 +19,16 @@ impl<T, A: Allocator> OpenBlock<T, A> {
     pub(crate) fn fill<I: Iterator<Item = T>>(&mut self, iter: I) -> Filled<I>
         requires can_next { I.can_next iter }
         requires finite { IsFinite (I.remaining iter) }
-        ensures filled_by { (by : IsFilledBy I.next_gives I.can_next I.remaining self.old.gap iter
+        ensures filled_by { (by : IsFilledBy I.next_gives I.can_next I.remaining self.old.gap_before iter
             result)
             × (self.new ≡ record self.old {
               front = self.old.front ++ by.items;
-              gap = self.old.gap - length by.items;
+              gap_before = self.old.gap_before - length by.items;
               cost = add_moves (length by.items) self.old.cost;
             }) × (result.end ≡ length self.new.front) }
     {
         let block = mem::replace(&mut self.block, Block::none());
-        let (block, filled) = put_iter(block, self.front_end, self.rest_start, iter);
+        let (block, filled) = put_iter(block, self.front_end, self.middle_start, iter);
         let none = mem::replace(&mut self.block, block);
         none.forget_unallocated();
         self.front_end = filled.end;
@@ -37,10 +37,10 @@ impl<T, A: Allocator> OpenBlock<T, A> {
 
     // Moves the items of `items` into the gap, and frees the vector.
     pub(crate) fn fill_from_vec<B: Allocator>(&mut self, items: Vec<T, B>)
-        requires room { length items.items ≤ self.old.gap }
+        requires room { length items.items ≤ self.old.gap_before }
         ensures { self.new ≡ record self.old {
           front = self.old.front ++ items.items;
-          gap = self.old.gap - length items.items;
+          gap_before = self.old.gap_before - length items.items;
           cost = add_moves (length items.items) self.old.cost;
         } }
     {
@@ -51,10 +51,10 @@ impl<T, A: Allocator> OpenBlock<T, A> {
 
     // Moves the items of `other` into the gap.
     pub(crate) fn fill_from_list<G: Growth>(&mut self, other: &mut ThinVec<T, A, G>)
-        requires room { length other.old.items ≤ self.old.gap }
+        requires room { length other.old.items ≤ self.old.gap_before }
         ensures changes { self.new ≡ record self.old {
           front = self.old.front ++ other.old.items;
-          gap = self.old.gap - length other.old.items;
+          gap_before = self.old.gap_before - length other.old.items;
           cost = add_moves (length other.old.items) self.old.cost;
         } }
         ensures other_changes { other.new ≡ record other.old { items = [] } }
@@ -71,10 +71,10 @@ impl<T, A: Allocator> OpenBlock<T, A> {
 impl<T: Copy, A: Allocator> OpenBlock<T, A> {
     // Copies `items` into the gap.
     pub(crate) fn fill_from_copies(&mut self, items: &[T])
-        requires room { length items.now ≤ self.old.gap }
+        requires room { length items.now ≤ self.old.gap_before }
         ensures { self.new ≡ record self.old {
           front = self.old.front ++ items.now;
-          gap = self.old.gap - length items.now;
+          gap_before = self.old.gap_before - length items.now;
           cost = add_moves (length items.now) self.old.cost;
         } }
     {

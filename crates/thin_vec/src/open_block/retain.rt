@@ -9,7 +9,7 @@ use thin_block::item_size;
 // The size of an item in bytes from which kept items that lie side by side are moved together.
 // Moving smaller items together was measured to cost `retain` up to twice the instructions. No gain
 // was measured at any size up to 1,024 bytes.
-const LARGE: usize = 512;
+const LARGE_FOR_RETAIN: usize = 512;
 
 /// A test of one item.
 pub(crate) trait Test<T> {
@@ -32,25 +32,25 @@ impl<T, A: Allocator> OpenBlock<T, A> {
 
     // Tests the middle item at index `k`.
     pub(crate) fn test<J: Test<T>>(&mut self, k: usize, test: &mut J) -> bool
-        requires in_bounds { k < length self.old.rest }
+        requires in_bounds { k < length self.old.middle }
         requires callable { J.ready test.old }
-        ensures tested { TestsAt J.tests k test.old self.old.rest result test.new self.new.rest }
+        ensures tested { TestsAt J.tests k test.old self.old.middle result test.new self.new.middle }
         ensures callable { J.ready test.new }
-        ensures changes { self.new ≡ record self.old { rest = self.new.rest } }
+        ensures changes { self.new ≡ record self.old { middle = self.new.middle } }
     {
-        test.test(self.block.slot_mut(self.rest_start + k))
+        test.test(self.block.slot_mut(self.middle_start + k))
     }
 
     // Tests the middle items up to the first one that is not to be kept. Returns the number of
     // items before that one.
     pub(crate) fn test_run<J: Test<T>>(&mut self, test: &mut J) -> usize
         requires callable { J.ready test.old }
-        ensures tested { TestsUpTo J.tests result test.old self.old.rest test.new self.new.rest }
+        ensures tested { TestsUpTo J.tests result test.old self.old.middle test.new self.new.middle }
         ensures callable { J.ready test.new }
-        ensures changes { self.new ≡ record self.old { rest = self.new.rest } }
+        ensures changes { self.new ≡ record self.old { middle = self.new.middle } }
     {
         let mut at = 0;
-        while at < self.rest_len() {
+        while at < self.middle_len() {
             if !self.test(at, test) {
                 return at;
             }
@@ -61,28 +61,28 @@ impl<T, A: Allocator> OpenBlock<T, A> {
 }
 
 impl<T, A: Allocator> OpenBlock<T, A> {
-    ghost use Rattle.thin_vec.specs.OpenBlock.Retain.{SeeksRejected};
+    ghost use Rattle.thin_vec.specs.OpenBlock.Retain.{SeeksRemoved};
 
     // Tests the middle items up to the first one that is not to be kept, and appends those before
     // it to the front. Returns whether there is one. It is then the first middle item, and the
     // caller takes it out before the next call.
-    pub(crate) fn seek_rejected<J: Test<T>>(&mut self, test: &mut J) -> bool
+    pub(crate) fn seek_removed<J: Test<T>>(&mut self, test: &mut J) -> bool
         requires callable { J.ready test.old }
-        ensures tested { SeeksRejected J.tests test.old self.old test.new self.new }
-        ensures value { IsTrue result ↔ (0 < length self.new.rest) }
+        ensures tested { SeeksRemoved J.tests test.old self.old test.new self.new }
+        ensures value { IsTrue result ↔ (0 < length self.new.middle) }
         ensures callable { J.ready test.new }
     {
-        if self.front_end == self.rest_start {
+        if self.front_end == self.middle_start {
             let count = self.test_run(test);
             self.keep_in_place(count);
-            return self.rest_len() > 0;
+            return self.middle_len() > 0;
         }
-        if item_size::<T>() >= LARGE {
+        if item_size::<T>() >= LARGE_FOR_RETAIN {
             let count = self.test_run(test);
             self.move_down(count);
-            return self.rest_len() > 0;
+            return self.middle_len() > 0;
         }
-        while self.rest_len() > 0 {
+        while self.middle_len() > 0 {
             if !self.test(0, test) {
                 return true;
             }
@@ -93,22 +93,22 @@ impl<T, A: Allocator> OpenBlock<T, A> {
 }
 
 impl<T: Drop, A: Allocator> OpenBlock<T, A> {
-    ghost use Rattle.thin_vec.specs.OpenBlock.Retain.{RetainsRest};
+    ghost use Rattle.thin_vec.specs.OpenBlock.Retain.{RetainsMiddle};
 
     // Tests the middle items, and drops those that are not to be kept. Up to the first removal
     // there is no gap, so the first loop moves nothing.
-    pub(crate) fn retain_rest<J: Test<T>>(&mut self, test: &mut J)
-        requires no_gap { self.old.gap ≡ 0 }
+    pub(crate) fn retain_middle<J: Test<T>>(&mut self, test: &mut J)
+        requires no_gap { self.old.gap_before ≡ 0 }
         requires callable { J.ready test.old }
-        ensures retained { RetainsRest J.tests test.old self.old test.new self.new }
+        ensures retained { RetainsMiddle J.tests test.old self.old test.new self.new }
     {
         let first = self.test_run(test);
         self.keep_in_place(first);
-        if self.rest_len() > 0 {
+        if self.middle_len() > 0 {
             drop(self.take_first());
-            while self.rest_len() > 0 {
-                if item_size::<T>() >= LARGE {
-                    if self.seek_rejected(test) {
+            while self.middle_len() > 0 {
+                if item_size::<T>() >= LARGE_FOR_RETAIN {
+                    if self.seek_removed(test) {
                         drop(self.take_first());
                     }
                 } else if self.test(0, test) {

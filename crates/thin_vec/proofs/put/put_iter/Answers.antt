@@ -3,7 +3,7 @@ use Rattle.thin_block.specs.Block.{block_view}
 use Rattle.std.proofs.Common.{◌∷◌, ◌++◌, [], ◌∙◌, arith, ap, sym, ◌+◌, ◌-◌}
 use Rattle.std.proofs.lemmas.Bool.{false≢true}
 use Rattle.std.proofs.lemmas.List.{length_push}
-use Rattle.thin_vec.proofs.list.ExtendLemmas.{laid-more, put-more, yields-more}
+use Rattle.thin_vec.proofs.list.ExtendLemmas.{written-more, put-more, yields-more}
 use Rattle.std.proofs.lemmas.Grind.{common_steps}
 use Rattle.thin_vec.proofs.put.put_iter.Goals as goal
 
@@ -18,7 +18,7 @@ loop-i-preserved g c =
       finite = goes.1;
       placed = (
         xs ++ x ∷ [],
-        laid-more c.loop-i.block.slots c.put.new.self.slots c.args.block.slots c.args.start
+        written-more c.loop-i.block.slots c.put.new.self.slots c.args.block.slots c.args.start
             c.loop-i.i xs x held.placed.1 held.placed.2
             (omega (arith, c.loop-i-test.true, c.requires.in_bounds))
             (ap (λ v. v.slots) c.put.ensures.changes),

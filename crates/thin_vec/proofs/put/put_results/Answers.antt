@@ -6,8 +6,8 @@ use Rattle.std.proofs.iter.Next.{called}
 use Rattle.std.proofs.lemmas.List.{length_push, take-append-drop}
 use Rattle.std.specs.Fn.{Called}
 use Rattle.thin_block.specs.Slots.{filled_slots, slot}
-use Rattle.thin_block.proofs.SlotsLemmas.{slot-laid}
-use Rattle.thin_vec.proofs.list.ExtendLemmas.{laid-more, put-more, put-none}
+use Rattle.thin_block.proofs.SlotsLemmas.{slot-written}
+use Rattle.thin_vec.proofs.list.ExtendLemmas.{written-more, put-more, put-none}
 use Rattle.thin_vec.proofs.ListLemmas.{length-full}
 use Rattle.thin_vec.proofs.put.put_results.Goals as goal
 
@@ -33,7 +33,7 @@ put-requires-clause-empty g c =
     let s = c.args.block.now.slots in
     let k = c.args.start + c.loop-i.i in
     ap (λ r. slot r k) placed.1
-    ∙ (slot-laid c.args.start (filled_slots placed.0) s k (omega (arith, c.requires.in_bounds))
+    ∙ (slot-written c.args.start (filled_slots placed.0) s k (omega (arith, c.requires.in_bounds))
     (omega (arith, placed.2, length-full placed.0))
     ∙ c.requires.empty k (omega arith) (omega arith))
 
@@ -47,7 +47,7 @@ loop-i-preserved g c =
     record {
       placed = (
         xs ++ x ∷ [],
-        laid-more c.loop-i.block.slots _ old.slots c.args.start (c.args.start + i) xs x
+        written-more c.loop-i.block.slots _ old.slots c.args.start (c.args.start + i) xs x
             was.placed.1 (omega (arith, was.placed.2)) (omega (arith, c.requires.in_bounds))
             (ap (λ v. v.slots) c.put.ensures.changes),
         omega (arith, was.placed.2, length_push xs x),

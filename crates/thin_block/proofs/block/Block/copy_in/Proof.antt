@@ -17,7 +17,7 @@ use Rattle.thin_block.specs.Slots.{filled_slots, empty_slots, slot, write_slots}
 use Rattle.thin_block.proofs.slots.CopyCall.{Copied, at_copied, IsCopy, Copied-goes, Copied-gives}
 use Rattle.thin_block.proofs.HeaderMemory.{Br}
 use Rattle.thin_block.proofs.SlotMemory.{sz, around, run_out, run_in, of_items, to_room}
-use Rattle.thin_block.proofs.SlotsLemmas.{empty-run, length-laid}
+use Rattle.thin_block.proofs.SlotsLemmas.{empty-run, length-written}
 use Rattle.thin_block.proofs.MethodSignatures.{item, source, others, dropped, all_go, arrives, heard_all, token_out, enters, closes_over, leaves_unit, ptr_of, opens_self, continues, word}
 use Rattle.thin_block.proofs.Addresses.{near, its_ptr, slot_found}
 use Rattle.thin_block.specs.contracts.block.Block.copy_in.{ended, clauses}
@@ -149,14 +149,14 @@ copy_in_spec 𝓤 𝓛 𝓜 𝓡 wired T A LT LA copies gc dc g d dd metc met md
     rewrite ! 0 (λ (ys : List T.Denot). ‵ (all V b here ys (slots_filled f))) copy.items refl $
     use1 𝓛 (‵ (part_at (Array (R E) n) full_share xs b here))
     (to_values E 𝓛 b here n xs refl (slots_filled f) flags filled) $
-    let laid_in : List (Option T.Denot) = write_slots i (filled_slots xs) x.slots in
+    let written_in : List (Option T.Denot) = write_slots i (filled_slots xs) x.slots in
     let long_full : length (filled_slots xs) ≡ n = length-map xs Some in
-    let long : length laid_in ≡ length x.slots =
-    length-laid i (filled_slots xs) x.slots (omega arith) in
-    let y : (Br E Y).Denot = record (with_slots x laid_in long) { cost = add_moves n x.cost } in
+    let long : length written_in ≡ length x.slots =
+    length-written i (filled_slots xs) x.slots (omega arith) in
+    let y : (Br E Y).Denot = record (with_slots x written_in long) { cost = add_moves n x.cost } in
     use1 𝓛 (‵ (slots_own (R E) (filled_slots xs) b here)) (of_items E 𝓛 b n xs here) $
     move ! (0 ∷ 4 ∷ []) $
-    use2 𝓛 (‵ (slots_own (R E) laid_in b (o + 16)))
+    use2 𝓛 (‵ (slots_own (R E) written_in b (o + 16)))
     (run_in E 𝓛 b (o + 16) x.slots i n within (filled_slots xs) long_full) $
     -- The context is now: all slots; the lifetime tokens of `T`, of `items` and of `A`; the header;
     -- the open borrow (4 entries).

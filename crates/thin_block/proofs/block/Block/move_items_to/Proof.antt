@@ -8,7 +8,7 @@ use Rattle.thin_block.specs.Cost.{Cost, add_moves, add_copies}
 use Rattle.thin_block.specs.Lends.{with_slots}
 use Rattle.thin_block.specs.Ownership.{slots_own}
 use Rattle.thin_block.specs.Slots.{filled_slots, empty_slots, slot, write_slots, clear_slots}
-use Rattle.thin_block.proofs.SlotsLemmas.{full-run, empty-run, length-run, length-laid}
+use Rattle.thin_block.proofs.SlotsLemmas.{full-run, empty-run, length-run, length-written}
 use Rattle.thin_block.proofs.HeaderMemory.{args, Br, header, t, block_opens, block_closes}
 use Rattle.thin_block.proofs.SlotMemory.{sz, reach, around, run_out, run_in, to_items, of_items, to_room, of_room}
 use Rattle.thin_block.specs.Block.{block_view}
@@ -165,14 +165,14 @@ move_items_to_spec 𝓤 𝓛 𝓜 𝓡 wired T A LT LA g d dd met md =
     sets ! (of_opd ! (unit_lit !)) refl (tt, tt) $
     -- The context now begins with the items at their new address and the memory at their old
     -- address.
-    let laid_to : List (Option T.Denot) = write_slots to (filled_slots xs) y.slots in
+    let written_to : List (Option T.Denot) = write_slots to (filled_slots xs) y.slots in
     let long_full : length (filled_slots xs) ≡ k = length-map xs Some ∙ long in
-    let long_to : length laid_to ≡ length y.slots =
-    length-laid to (filled_slots xs) y.slots (omega arith) in
-    let y' : B.Denot = record (with_slots y laid_to long_to) { cost = cost } in
+    let long_to : length written_to ≡ length y.slots =
+    length-written to (filled_slots xs) y.slots (omega arith) in
+    let y' : B.Denot = record (with_slots y written_to long_to) { cost = cost } in
     use1 𝓛 (‵ (slots_own (R E) (filled_slots xs) b' dst)) (of_items E 𝓛 b' k xs dst) $
     move ! (0 ∷ 5 ∷ []) $
-    use2 𝓛 (‵ (slots_own (R E) laid_to b' (o' + 16)))
+    use2 𝓛 (‵ (slots_own (R E) written_to b' (o' + 16)))
     (run_in E 𝓛 b' (o' + 16) y.slots to k target (filled_slots xs) long_full) $
     move ! (5 ∷ 0 ∷ 6 ∷ 7 ∷ 8 ∷ 9 ∷ []) $
     rewrite ! 0 (λ (n : ℕ). ‵ (header (t E Y) (R E) y.len n y.alloc b' o')) (sym long_to) refl $
@@ -183,7 +183,7 @@ move_items_to_spec 𝓤 𝓛 𝓜 𝓡 wired T A LT LA g d dd met md =
     let left : List (Option T.Denot) = clear_slots from k x.slots in
     let long_empty : length (empty_slots {T = T.Denot} k) ≡ k = length-replicate k None in
     let long_left : length left ≡ length x.slots =
-    length-laid from (empty_slots k) x.slots (omega arith) in
+    length-written from (empty_slots k) x.slots (omega arith) in
     let x' : B.Denot = with_slots x left long_left in
     move ! (3 ∷ 6 ∷ []) $ use1 𝓛 (‵ (slots_own (R E) (empty_slots k) b src)) (of_room E 𝓛 b k src) $
     use2 𝓛 (‵ (slots_own (R E) left b (o + 16)))

@@ -6,7 +6,7 @@ use Rattle.std.specs.declared.option.Option.TheVariants.{None}
 use Rattle.thin_block.specs.Slots.{slot}
 use Rattle.thin_block.proofs.BlockLemmas.{slots-are}
 use Rattle.thin_block.proofs.CapacityLemmas.{fits-part}
-use Rattle.thin_block.proofs.SlotsLemmas.{laid_single}
+use Rattle.thin_block.proofs.SlotsLemmas.{written-single}
 use Rattle.thin_block.proofs.block.Block.put.Goals as goal
 
 pub put_array-requires : goal.put_array-requires
@@ -23,5 +23,5 @@ put_array-requires g c =
 pub returns : goal.returns
 returns g c = record {
   changes = slots-are c.put_array.ensures.changes
-      (laid_single c.args.self.now.slots c.args.i c.args.value c.requires.in_bounds);
+      (written-single c.args.self.now.slots c.args.i c.args.value c.requires.in_bounds);
 }

@@ -6,7 +6,7 @@ use Rattle.thin_block.specs.Cost.{add_moves}
 use Rattle.thin_block.specs.Lends.{with_slots}
 use Rattle.thin_block.specs.Ownership.{slots_own}
 use Rattle.thin_block.specs.Slots.{filled_slots, empty_slots, write_slots}
-use Rattle.thin_block.proofs.SlotsLemmas.{empty-run, length-laid}
+use Rattle.thin_block.proofs.SlotsLemmas.{empty-run, length-written}
 use Rattle.thin_block.proofs.HeaderMemory.{Br}
 use Rattle.thin_block.proofs.SlotMemory.{sz, around, run_out, run_in, of_items, to_room}
 use denote.Exit.{all_rest}
@@ -70,13 +70,13 @@ put_array_spec 𝓤 𝓛 𝓜 𝓡 wired T A N LT LA fits_N g d dd met md =
     (part_in 𝓛 (Array (R E) N) refl full_share values b here v) $
     use1 𝓛 (given (length values ≡ N) (‵ (part_at (Array (R E) N) full_share values b here)))
     (counted E 𝓛 b N values here) $ learn ! (λ count.
-    let laid_in : List (Option T.Denot) = write_slots i (filled_slots values) x.slots in
+    let written_in : List (Option T.Denot) = write_slots i (filled_slots values) x.slots in
     let long_full : length (filled_slots values) ≡ N = length-map values Some ∙ count in
-    let long : length laid_in ≡ length x.slots = length-laid i (filled_slots values)
+    let long : length written_in ≡ length x.slots = length-written i (filled_slots values)
     x.slots (omega arith) in
-    let y : (Br E Y).Denot = record (with_slots x laid_in long) { cost = add_moves N x.cost } in
+    let y : (Br E Y).Denot = record (with_slots x written_in long) { cost = add_moves N x.cost } in
     use1 𝓛 (‵ (slots_own (R E) (filled_slots values) b here)) (of_items E 𝓛 b N values here) $
-    use2 𝓛 (‵ (slots_own (R E) laid_in b (o + 16)))
+    use2 𝓛 (‵ (slots_own (R E) written_in b (o + 16)))
     (run_in E 𝓛 b (o + 16) x.slots i N within (filled_slots values) long_full) $
     closes_over E Y ! tt r y b o at long $
     returns ! (look_at ! 0 refl) $ free_all ! refl $ leaves_unit E Y ! r y 2 are.0.0 $

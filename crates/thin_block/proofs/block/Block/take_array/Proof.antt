@@ -5,7 +5,7 @@ use Rattle.thin_block.proofs.WalkPrelude.{length-map, length-replicate, ty_array
 use Rattle.thin_block.specs.Lends.{with_slots}
 use Rattle.thin_block.specs.Ownership.{slots_own}
 use Rattle.thin_block.specs.Slots.{filled_slots, empty_slots, clear_slots}
-use Rattle.thin_block.proofs.SlotsLemmas.{full-run, length-run, length-laid}
+use Rattle.thin_block.proofs.SlotsLemmas.{full-run, length-run, length-written}
 use Rattle.thin_block.proofs.HeaderMemory.{Br}
 use Rattle.thin_block.proofs.SlotMemory.{sz, around, run_out, run_in, to_items, of_room}
 use Rattle.thin_block.proofs.MethodSignatures.{item, source, others, block_stays, goes, begins, enters, closes_over, args_at, leaves_with, ptr_of, opens_self, continues, word}
@@ -57,7 +57,7 @@ take_array_spec 𝓤 𝓛 𝓜 𝓡 wired T A N LT LA fits_N g d dd met md =
     sets ! (of_opd ! (get ! refl)) refl good $
     let left : List (Option T.Denot) = clear_slots i N x.slots in
     let long_empty : length (empty_slots {T = T.Denot} N) ≡ N = length-replicate N None in
-    let long : length left ≡ length x.slots = length-laid i (empty_slots N) x.slots (omega arith) in
+    let long : length left ≡ length x.slots = length-written i (empty_slots N) x.slots (omega arith) in
     let y : (Br E Y).Denot = with_slots x left long in
     use1 𝓛 (‵ (froom (ty_array (layout T) N) b here))
     (𝓛.laws.at_room (ty_array (layout T) N) b here v) $

@@ -20,7 +20,7 @@ returns-in-Ok g c =
       allowed = (
         tt,
         replaces ((e.items.2 ∙ ap (λ l. old.items ++ l) items) ∙ sym (at-end old.items _))
-            e.capacity e.cost.adding e.preserved (sym (without_range-end old)) count (omega arith),
+            e.capacity e.cost.inserting e.preserved (sym (without_range-end old)) count (omega arith),
       );
     }
 
@@ -51,7 +51,7 @@ returns-in-Err g c =
                 ∙ sym (ap (λ h. e.placed.0 ++ (h ++ (one ++ hinted_items rest))) none)));
             claim = claim ∙ c.new.ensures.lower;
             filled = replaces (e.placed.1 ∙ sym (at-end old.items e.placed.0)) e.capacity
-                e.cost.adding e.preserved (sym (without_range-end old)) count (omega arith);
+                e.cost.inserting e.preserved (sym (without_range-end old)) count (omega arith);
             no_room = places-end old ⊥ may
                 (λ nothing. false≢true
                 (e.succeeds (omega (arith, nothing, most, e.preserved.within.0.room)))) full;

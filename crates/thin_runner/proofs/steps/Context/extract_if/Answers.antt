@@ -19,7 +19,7 @@ loop-init g c =
     let block = extract_block extract in
     let free : block.cost ≡ a.list.now.cost =
     sym (ap (λ n. if n == 0 then block.cost else add_moves
-    (length block.rest + length block.tail) block.cost) e.gap)
+    (length block.middle + length block.tail) block.cost) e.gap)
     ∙ ap (λ v. v.cost) e.left in
     let results =
     extract_results ask a.self.judge a.count (slice_range a.list.now.items a.start a.end) in
@@ -83,7 +83,7 @@ loop-preserved g c =
           (handed_out k (items_where false left))
           ∙ (ap (λ l. c.loop.answers.items ++ l) (sym handed) ∙ at.answers));
       extracting = extracting-step results (take a.start a.list.now.items) a.list.now.cost
-          _ _ s.kept c.next.result at.extracting next s.front s.gap s.cost;
+          _ _ s.kept c.next.result at.extracting next s.front s.gap_before s.cost;
       tail = s.tail ∙ at.tail;
       lender = steps.lender ∙ at.lender;
       capacity = ap (λ v. v.capacity) steps.left ∙ at.capacity;

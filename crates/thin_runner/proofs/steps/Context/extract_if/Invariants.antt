@@ -21,7 +21,7 @@ invariant-loop g l =
       extracting : IsExtracting results (take l.fn.start l.fn.list.items) l.fn.list.cost (record {
         left = left;
         front = (extract_block l.extract).front;
-        out = (extract_block l.extract).gap;
+        out = (extract_block l.extract).gap_before;
         paid = (extract_block l.extract).cost;
       });
       tail : (extract_block l.extract).tail ≡ drop l.fn.end l.fn.list.items;

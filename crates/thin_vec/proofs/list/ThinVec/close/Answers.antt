@@ -1,6 +1,6 @@
 -- `close_gap` removes the gap, and `close` puts the block back into the list.
 use Rattle.std.proofs.Common.{ap, sym, ◌∙◌, rules}
-use Rattle.thin_vec.specs.Open.{items_of}
+use Rattle.thin_vec.specs.OpenView.{items_of}
 use Rattle.thin_vec.proofs.ListLemmas.{RestoresInvariant, settled, thin-room, list_view-becomes}
 use Rattle.thin_vec.proofs.list.ThinVec.close.Goals as goal
 

@@ -10,7 +10,7 @@ use Rattle.thin_vec.proofs.ThinVecLemmas.{cost_after_resize-blocks, cost_after_r
 use Rattle.std.proofs.lemmas.Bool.{false≢true}
 use Rattle.thin_vec.specs.List.Capacity.{LacksRoom}
 use Rattle.std.proofs.Common.{inl, sym, Some, List, None, [], refl}
-use Rattle.thin_vec.proofs.list.ExtendLemmas.{full-in-hand, ruled-after, run_of_ok, adding-join, filled-reserved, loose-join, loose-le, loose-ruled, run_given, run_given_err}
+use Rattle.thin_vec.proofs.list.ExtendLemmas.{full-in-hand, ruled-after, run_of_ok, inserting-join, filled-reserved, at_least-join, at_least-le, at_least-ruled, run_given, run_given_err}
 use Rattle.thin_vec.proofs.list.ReservesLemmas.{lacks-room}
 use Rattle.thin_vec.proofs.list.ThinVec.extend.Goals as goal
 
@@ -27,8 +27,8 @@ returns-in-Ok-clause-capacity g c =
         c.size_hint.ensures.lower c.requires.finite,
       )) in
           e.had_room (omega (arith, room, same, ap length c.reserve.ensures.items)) ∙ same;
-      loose = loose-join rule T law v.capacity u.capacity w.capacity
-          (loose-ruled rule T law v hint u.capacity reserves.ok) e.at_least;
+      at_least = at_least-join rule T law v.capacity u.capacity w.capacity
+          (at_least-ruled rule T law v hint u.capacity reserves.ok) e.at_least;
       ruled = ruled-after rule T law v.capacity u.capacity w.capacity (length w.items) _ e.capacity
           (λ same. (
             hint,
@@ -43,15 +43,15 @@ returns-in-Ok-clause-cost g c =
     let v = c.args.self.now in let u = c.reserve.new.self in let w = c.extend_unhinted.new.self in
     let e = c.extend_unhinted.ensures in let hint = c.size_hint.result.0 in
     record {
-      adding = adding-join 0 0 0 (omega arith)
+      inserting = inserting-join 0 0 0 (omega arith)
           (filled-reserved v u c.in-Ok.ensures.cost c.reserve.ensures.items
           (cost_after_resize-copied rule T law v hint u.capacity
           c.reserve.ensures.preserved.within.0.room
           c.in-Ok.ensures.capacity.ok))
           e.cost
-          (loose-le rule T law v.capacity u.capacity
-          (loose-ruled rule T law v hint u.capacity c.in-Ok.ensures.capacity.ok))
-          (loose-le rule T law u.capacity w.capacity e.at_least)
+          (at_least-le rule T law v.capacity u.capacity
+          (at_least-ruled rule T law v hint u.capacity c.in-Ok.ensures.capacity.ok))
+          (at_least-le rule T law u.capacity w.capacity e.at_least)
           (omega (arith, ap length c.reserve.ensures.items));
       requests = (
         hint,
@@ -72,7 +72,7 @@ returns-in-Err-clause-capacity g c =
     let same = ap (λ v. v.capacity) c.in-Err.ensures.err in
     record {
       had_room = λ _. same;
-      loose = inl same;
+      at_least = inl same;
       ruled = inl (inl same);
     }
 
@@ -126,7 +126,7 @@ returns-in-Err-clause-err_runs g c =
 
 pub returns-in-Err-clause-cost : goal.returns-in-Err-clause-cost
 returns-in-Err-clause-cost g c = record {
-  adding = search (arith, ◌∙◌);
+  inserting = search (arith, ◌∙◌);
   requests = (
     c.size_hint.result.0,
     c.size_hint.ensures.lower,

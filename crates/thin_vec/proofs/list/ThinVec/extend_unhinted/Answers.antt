@@ -9,7 +9,7 @@ use Rattle.thin_vec.specs.Cheap.{IsCheap}
 use Rattle.thin_vec.specs.List.Capacity.{LacksRoom, PreservesList}
 use Rattle.thin_vec.specs.List.Extend.{CostsInserting, IsKeptOrChosen, IsKeptOrGrown}
 use Rattle.thin_vec.specs.Put.{YieldsThenMayEnd}
-use Rattle.thin_vec.proofs.list.ExtendLemmas.{ruled-more, filled-at, adding-join, filled-spare, loose-join, loose-le, loose-ruled, spare-kept, yields-join, yields-more}
+use Rattle.thin_vec.proofs.list.ExtendLemmas.{ruled-more, filled-at, inserting-join, filled-spare, at_least-join, at_least-le, at_least-ruled, spare-kept, yields-join, yields-more}
 use Rattle.thin_vec.proofs.CallerLemmas.{grows-cheap, grows-preserved}
 use Rattle.thin_vec.proofs.list.ReservesLemmas.{keeps-join}
 use Rattle.thin_vec.proofs.ThinVecLemmas.{cost_after_resize-blocks, cost_after_resize-copied}
@@ -53,10 +53,10 @@ spent : (g : _) (c : After-fill_spare-left g)
 spent g c =
     let held = c.loop-rest.invariant in
     let v = c.args.self.now in let u = c.loop-rest.self in let w = c.fill_spare-left.new.self in
-    adding-join 0 0 0 (omega arith) held.cost
+    inserting-join 0 0 0 (omega arith) held.cost
     (filled-spare u w (length w.items - length u.items) (changed g c)
     (omega (arith, longer g c)))
-    (loose-le g.G.Growth.rule (param 0 g.row.T) g.met.G.Growth.law v.capacity u.capacity held.loose)
+    (at_least-le g.G.Growth.rule (param 0 g.row.T) g.met.G.Growth.law v.capacity u.capacity held.at_least)
     (omega (arith, ap (λ z. z.capacity) (changed g c)))
     (omega (arith, ap length held.placed.1, length-append v.items held.placed.0))
 
@@ -158,12 +158,12 @@ loop-rest-preserved g c =
     let kept = ap (λ y. y.capacity) (changed g filled) in
     let long = ap length pushed.items ∙ length_push w.items c.in-Some.item in
     let more = longer g filled in
-    let grown = loose-ruled rule T law w 1 z.capacity pushed.grows.ok in
+    let grown = at_least-ruled rule T law w 1 z.capacity pushed.grows.ok in
     let push = filled-at w z 1 pushed.cost long
     (cost_after_resize-copied rule T law w 1 z.capacity c.fill_spare-left.ensures.bounds.1.room
     pushed.grows.ok) in
-    let high = loose-le rule T law w.capacity z.capacity grown in
-    let low = loose-le rule T law v.capacity u.capacity held.loose in
+    let high = at_least-le rule T law w.capacity z.capacity grown in
+    let low = at_least-le rule T law v.capacity u.capacity held.at_least in
     let all = full g here.Else-ended in
     record {
       can = goes.0;
@@ -177,13 +177,13 @@ loop-rest-preserved g c =
             c.in-Some.ensures.steps,
       );
       nearer = omega (arith, held.nearer, nearer, goes.2, more, long);
-      loose = loose-join rule T law v.capacity u.capacity z.capacity held.loose
+      at_least = at_least-join rule T law v.capacity u.capacity z.capacity held.at_least
           (subst (λ n. IsKeptOrGrown rule T n z.capacity) kept grown);
       never_less = omega (arith, held.never_less, pushed.grows.never_less, kept);
       had_room = λ fit. let same = held.had_room fit in
           pushed.grows.had_room (omega (arith, fit, held.nearer, nearer, goes.2, more, same, kept))
           ∙ (kept ∙ same);
-      cost = adding-join 0 0 0 (omega arith) (spent g filled) push (omega (arith, low, kept)) high
+      cost = inserting-join 0 0 0 (omega arith) (spent g filled) push (omega (arith, low, kept)) high
           (omega (arith, ap length held.placed.1, length-append v.items held.placed.0, more));
       requests = omega (
         arith,
@@ -215,8 +215,8 @@ returns-in-Err-clause-succeeds g c = λ fit.
     let held = c.loop-rest.invariant in
     let by = c.fill_spare-left.ensures.filled_by.0 in
     let goes = c.in-Some.ensures.goes.on (by.asked c.if-ended.false).1 in
-    let low = loose-le g.G.Growth.rule (param 0 g.row.T) g.met.G.Growth.law c.args.self.now.capacity
-    c.loop-rest.self.capacity held.loose in
+    let low = at_least-le g.G.Growth.rule (param 0 g.row.T) g.met.G.Growth.law c.args.self.now.capacity
+    c.loop-rest.self.capacity held.at_least in
     c.in-Err.ensures.succeeds
     (omega (
       arith,
@@ -266,7 +266,7 @@ grown : (g : _) (c : After-fill_spare-left g) → IsKeptOrGrown g.G.Growth.rule 
     c.args.self.now.capacity c.fill_spare-left.new.self.capacity
 grown g c =
     subst (λ n. IsKeptOrGrown g.G.Growth.rule (param 0 g.row.T) c.args.self.now.capacity n)
-    (sym (ap (λ z. z.capacity) (changed g c))) c.loop-rest.invariant.loose
+    (sym (ap (λ z. z.capacity) (changed g c))) c.loop-rest.invariant.at_least
 
 pub returns-then-ended-clause-at_least : goal.returns-then-ended-clause-at_least
 returns-then-ended-clause-at_least g c = grown g (goal.at.returns-then-ended-clause-at_least g c).After-fill_spare-left

@@ -16,7 +16,7 @@ invariant-loop-rest g l = record {
       × Yields g.I.Iterator.next_gives l.fn.iter xs l.rest;
   nearer : length l.self.items + size (g.I.Iterator.remaining l.rest)
       ≤ length l.fn.self.items + size (g.I.Iterator.remaining l.fn.iter);
-  loose : IsKeptOrGrown g.G.Growth.rule (param 0 g.row.T) l.fn.self.capacity l.self.capacity;
+  at_least : IsKeptOrGrown g.G.Growth.rule (param 0 g.row.T) l.fn.self.capacity l.self.capacity;
   never_less : l.fn.self.capacity ≤ l.self.capacity;
   had_room : length l.fn.self.items + size (g.I.Iterator.remaining l.fn.iter) ≤ l.fn.self.capacity
       → l.self.capacity ≡ l.fn.self.capacity;

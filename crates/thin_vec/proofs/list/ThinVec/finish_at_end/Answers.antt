@@ -7,7 +7,7 @@ use Rattle.thin_vec.specs.List.Extend.{IsCapacityAfterExtend, RequestsAtMost}
 use Rattle.thin_vec.specs.Edits.Finish.{AddsFromIter, without_middle}
 use Rattle.thin_vec.specs.ThinVec.{HasRoomFor}
 use Rattle.thin_vec.proofs.edits.SpliceLemmas.{after-items, closed-left, stop-at-end, stopped-now, when-some}
-use Rattle.thin_vec.proofs.list.ExtendLemmas.{adding-more}
+use Rattle.thin_vec.proofs.list.ExtendLemmas.{inserting-more}
 use Rattle.thin_vec.proofs.edits.FinishLemmas.{finished-ok}
 use Rattle.thin_vec.specs.declared.errors.SpliceRefused.{SpliceRefused}
 use Rattle.thin_vec.proofs.list.ThinVec.finish_at_end.Goals.{After-extend}
@@ -17,7 +17,7 @@ left : (g : _) (c : After-extend g)
     → c.close.new.self ≡ without_middle c.args.block c.args.self.now.alloc
 left g c =
     c.close.ensures.changes
-    ∙ closed-left c.args.block c.args.self.now c.requires.no_rest c.requires.no_tail
+    ∙ closed-left c.args.block c.args.self.now c.requires.no_middle c.requires.no_tail
 
 taken : (g : _) (c : After-extend g)
     → AddsFromIter g.G.Growth.rule (param 0 g.row.T)
@@ -27,9 +27,9 @@ taken g c =
     let n = 2 * length c.args.block.tail in
     let w = c.extend.new.self in let more = g.I.Iterator.remaining c.args.iter in
     let now : AddsFromIter g.G.Growth.rule (param 0 g.row.T) c.close.new.self w n more = record {
-      capacity = c.extend.ensures.capacity.loose;
+      capacity = c.extend.ensures.capacity.at_least;
       had_room = c.extend.ensures.capacity.had_room;
-      cost = adding-more c.close.new.self w n c.extend.ensures.cost.adding;
+      cost = inserting-more c.close.new.self w n c.extend.ensures.cost.inserting;
       alloc = c.extend.ensures.preserved.alloc;
       cheap = c.extend.ensures.preserved.cheap;
     } in

@@ -20,7 +20,7 @@ filled : (g : _) (c : After-close g) → FillsGap g.I.Iterator.next_gives
     c.close.new.self c.fill-rest.result
 filled g c =
     gap-filled c.args.block c.fill-rest.new.self c.args.iter c.args.self.now c.close.new.self
-    c.fill-rest.result c.fill-rest.ensures.filled_by c.requires.no_rest c.close.ensures.changes
+    c.fill-rest.result c.fill-rest.ensures.filled_by c.requires.no_middle c.close.ensures.changes
 
 pub returns-then-ended : goal.returns-then-ended
 returns-then-ended g c =

@@ -3,7 +3,7 @@ use Rattle.std.proofs.Common.{◌≤◌, ap, ◌∙◌, arith, length, refl}
 use denote.Param.{param}
 use Rattle.thin_block.specs.Slots.{items_in}
 use Rattle.thin_block.proofs.CapacityLemmas.{fits-less}
-use Rattle.thin_vec.proofs.list.CapacityLemmas.{restores-tried}
+use Rattle.thin_vec.proofs.list.CapacityChangeLemmas.{restores-tried}
 use Rattle.thin_vec.proofs.ListLemmas.{RestoresInvariant, list_view-becomes}
 use Rattle.thin_vec.proofs.ThinVecLemmas.{within-settled}
 use Rattle.thin_vec.proofs.list.ThinVec.grow_to.Goals as goal

@@ -32,9 +32,9 @@ items : (g : _) (c : After-close g)
 items g c =
     let put = c.fill_from_vec.ensures in let held = c.collect_rest-held.result.held.items in
     let front = ap (λ v. v.front) put ∙ ap (λ l. l ++ held) c.open_with_gap-block.ensures.front in
-    let rest = ap (λ v. v.rest) put ∙ c.open_with_gap-block.ensures.rest in
+    let middle = ap (λ v. v.middle) put ∙ c.open_with_gap-block.ensures.middle in
     let tail = ap (λ v. v.tail) put ∙ c.open_with_gap-block.ensures.tail in
-    ap (λ z. z.items) c.close.ensures.changes ∙ (λ i. front i ++ (rest i ++ tail i))
+    ap (λ z. z.items) c.close.ensures.changes ∙ (λ i. front i ++ (middle i ++ tail i))
 
 capacity : (g : _) (c : After-close g)
     → c.close.new.self.capacity ≡ c.reserve.new.self.capacity
@@ -52,13 +52,13 @@ cost g c =
     let w = c.fill_from_vec.new.self in
     let k = length c.collect_rest-held.result.held.items in
     let count = c.len-count.ensures ∙ c.collect_rest-held.result.held.ok.0 in
-    let before = c.open_with_gap-block.ensures.gap in
-    let none : w.gap ≡ 0 =
-    omega (arith, ap (λ v. v.gap) c.fill_from_vec.ensures, before, count) in
-    let all : k ≡ block.gap - w.gap = omega (arith, none, before, count) in
+    let before = c.open_with_gap-block.ensures.gap_before in
+    let none : w.gap_before ≡ 0 =
+    omega (arith, ap (λ v. v.gap_before) c.fill_from_vec.ensures, before, count) in
+    let all : k ≡ block.gap_before - w.gap_before = omega (arith, none, before, count) in
     let put = closed-moves block w k
     (ap (λ v. v.cost) c.fill_from_vec.ensures ∙ ap (λ n. add_moves n block.cost) all)
-    (ap (λ v. v.rest) c.fill_from_vec.ensures ∙ c.open_with_gap-block.ensures.rest)
+    (ap (λ v. v.middle) c.fill_from_vec.ensures ∙ c.open_with_gap-block.ensures.middle)
     (ap (λ v. v.tail) c.fill_from_vec.ensures)
     all in
     let moves = run-moves c.len-count.result (length v.items - c.args.at) k put.0 v.cost block.cost

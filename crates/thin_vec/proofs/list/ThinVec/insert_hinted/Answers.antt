@@ -28,7 +28,7 @@ fills : (g : _) (c : After-close g) → FillsGap g.I.Iterator.next_gives g.I.Ite
 fills g c =
     gap-filled c.open_with_gap-block.result c.fill-filled.new.self c.args.iter
     c.open_with_gap-block.new.self c.close.new.self c.fill-filled.result
-    c.fill-filled.ensures.filled_by c.open_with_gap-block.ensures.rest c.close.ensures.changes
+    c.fill-filled.ensures.filled_by c.open_with_gap-block.ensures.middle c.close.ensures.changes
 
 taken : (g : _) (c : After-close g) (n : _)
     → (fills g c).1.cost.0 + (length c.reserve.new.self.items - c.args.at) ≤ n
@@ -63,7 +63,7 @@ returns-clause-filled_by g c =
     let filled = (fills g ((goal.at.returns-clause-filled_by g c).After-close)) in
     let xs = filled.0.items in
     let there = wide g ((goal.at.returns-clause-filled_by g c).After-close) in (
-      c.open_with_gap-block.result.gap,
+      c.open_with_gap-block.result.gap_before,
       filled.0,
       filled.1.items
           ∙ ((λ i. (there.front i ++ xs) ++ there.tail i)

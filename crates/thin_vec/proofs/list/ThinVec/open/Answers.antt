@@ -42,8 +42,8 @@ pub returns-clause-front : goal.returns-clause-front
 returns-clause-front g c = ap (λ v. v.front) (facts g c).view
     ∙ ap (λ xs. take c.args.start xs) (same g c)
 
-pub returns-clause-rest : goal.returns-clause-rest
-returns-clause-rest g c = ap (λ v. v.rest) (facts g c).view
+pub returns-clause-middle : goal.returns-clause-middle
+returns-clause-middle g c = ap (λ v. v.middle) (facts g c).view
     ∙ ap (λ xs. slice_range xs c.args.start c.args.end) (same g c)
 
 pub returns-clause-tail : goal.returns-clause-tail

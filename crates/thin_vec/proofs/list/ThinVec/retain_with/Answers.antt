@@ -1,4 +1,4 @@
--- `retain_rest` tests each item, and drops the items that are not to be kept.
+-- `retain_middle` tests each item, and drops the items that are not to be kept.
 use Rattle.std.proofs.Common.{◌≡◌, arith, rules}
 use Rattle.thin_vec.proofs.ThinVecLemmas.{within-like}
 use Rattle.std.proofs.lemmas.Grind.{common_steps}

@@ -5,7 +5,7 @@ use Rattle.thin_block.proofs.CapacityLemmas.{fits-less}
 use Rattle.thin_block.specs.Slots.{items_in}
 use Rattle.thin_vec.proofs.ListLemmas.{RestoresInvariant}
 use Rattle.thin_vec.proofs.ThinVecLemmas.{within-none, within-settled}
-use Rattle.thin_vec.proofs.list.CapacityLemmas.{restores-shrink}
+use Rattle.thin_vec.proofs.list.CapacityChangeLemmas.{restores-shrink}
 use Rattle.thin_vec.specs.ThinVec.{fits_allocatable}
 use Rattle.thin_vec.proofs.list.ThinVec.shrink_to.Goals as goal
 

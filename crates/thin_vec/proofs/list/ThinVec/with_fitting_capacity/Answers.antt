@@ -4,7 +4,7 @@ use Rattle.std.proofs.lemmas.Grind.{common_steps}
 use Rattle.thin_vec.proofs.ListLemmas.{RestoresInvariant}
 use Rattle.thin_vec.proofs.ThinVecLemmas.{within-settled}
 use Rattle.thin_vec.proofs.list.ThinVec.with_fitting_capacity.Goals.{In_ok-block}
-use Rattle.thin_vec.proofs.list.CapacityLemmas.{restores-new}
+use Rattle.thin_vec.proofs.list.CapacityChangeLemmas.{restores-new}
 use Rattle.thin_vec.proofs.list.ThinVec.with_fitting_capacity.Goals as goal
 
 facts : (g : _) (c : In_ok-block g)

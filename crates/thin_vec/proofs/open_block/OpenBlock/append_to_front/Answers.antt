@@ -3,7 +3,7 @@ use Rattle.std.proofs.Common.{◌+◌, ◌-◌, ◌<◌, ◌++◌, ◌∷◌, �
 use Rattle.thin_block.specs.Block.{block_view}
 use Rattle.thin_block.specs.Cost.{add_moves}
 use Rattle.thin_vec.proofs.OpenBlockLemmas.{Found}
-use Rattle.thin_vec.proofs.open_block.StepLemmas.{fill-view, set-laid}
+use Rattle.thin_vec.proofs.open_block.StepLemmas.{fill-view, set-written}
 use Rattle.thin_vec.proofs.open_block.OpenBlock.append_to_front.Goals as goal
 
 facts : (g : _) (c : goal.After-self-1 g)
@@ -13,19 +13,19 @@ facts : (g : _) (c : goal.After-self-1 g)
     })
     (record c.args.self.now {
       front = c.args.self.now.front ++ c.args.value ∷ [];
-      gap = c.args.self.now.gap - 1;
+      gap_before = c.args.self.now.gap_before - 1;
       cost = add_moves 1 c.args.self.now.cost;
     })
 facts g c =
     let h = c.self.inside in
     let o = c.self.invariant in
-    let gap = ap (λ v. v.gap) c.self.view_is in
+    let gap_before = ap (λ v. v.gap_before) c.self.view_is in
     let low : h.front_end < length h.block.slots =
-    omega (arith, c.requires.has_gap, gap, o.gap, o.rest, o.gap_after, o.tail, o.room) in
+    omega (arith, c.requires.has_gap, gap_before, o.gap_before, o.middle, o.gap_after, o.tail, o.room) in
     fill-view h o c.self.view_is c.put.new.self (c.args.value ∷ []) (h.front_end + 1) refl
     (omega (arith, c.requires.has_gap))
     (c.put.ensures.changes ∙ (λ i. record (block_view h.block) {
-      slots = set-laid h.block.slots h.front_end (Some c.args.value) low i;
+      slots = set-written h.block.slots h.front_end (Some c.args.value) low i;
       cost = add_moves 1 h.block.cost;
     }))
 

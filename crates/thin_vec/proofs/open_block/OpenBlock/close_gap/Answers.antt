@@ -2,7 +2,7 @@
 use Rattle.std.proofs.Common.{◌≡◌, ◌+◌, ◌-◌, ap, arith, ◌∙◌}
 use Rattle.thin_block.specs.Slots.{packed_slots, move_slots}
 use Rattle.thin_vec.specs.OpenBlock.{open_view}
-use Rattle.thin_vec.specs.Open.{items_of}
+use Rattle.thin_vec.specs.OpenView.{items_of}
 use Rattle.thin_vec.proofs.OpenBlockLemmas.{before-empty}
 use Rattle.thin_vec.proofs.open_block.StepLemmas.{after-filled, close-row, closed-row}
 use Rattle.std.proofs.lemmas.Grind.{common_steps}
@@ -11,19 +11,19 @@ use Rattle.thin_vec.proofs.open_block.OpenBlock.close_gap.Goals as goal
 pub close_small_gap-closed-requires-clause-empty : goal.close_small_gap-closed-requires-clause-empty
 close_small_gap-closed-requires-clause-empty g c = λ j low high.
     let o = c.self.invariant in
-    before-empty c.self.inside (open_view c.self.inside) o j low (omega (arith, high, o.gap))
+    before-empty c.self.inside (open_view c.self.inside) o j low (omega (arith, high, o.gap_before))
 
 pub close_small_gap-closed-requires-clause-filled : goal.close_small_gap-closed-requires-clause-filled
 close_small_gap-closed-requires-clause-filled g c = λ j low high.
     let o = c.self.invariant in
     after-filled c.self.inside o (ap (λ v. v.gap_after) c.self.view_is ∙ c.requires.gap_after) j
-    (omega (arith, low, o.gap)) (omega (arith, high, o.gap))
+    (omega (arith, low, o.gap_before)) (omega (arith, high, o.gap_before))
 
-pub returns-then-front_end-rest_start-clause-slots : goal.returns-then-front_end-rest_start-clause-slots
-returns-then-front_end-rest_start-clause-slots g c =
+pub returns-then-front_end-middle_start-clause-slots : goal.returns-then-front_end-middle_start-clause-slots
+returns-then-front_end-middle_start-clause-slots g c =
     let none = ap (λ v. v.gap_after) c.self.view_is ∙ c.requires.gap_after in
     ap (λ v. v.slots) c.set_len.ensures.changes
-    ∙ (closed-row c.self.inside c.self.invariant none c.if-front_end-rest_start.true
+    ∙ (closed-row c.self.inside c.self.invariant none c.if-front_end-middle_start.true
     ∙ ap (λ v. packed_slots (items_of v) v.capacity) c.self.view_is)
 
 pub returns-clause-slots : goal.returns-clause-slots
@@ -31,10 +31,10 @@ returns-clause-slots g c =
     let h = c.self.inside in
     let o = c.self.invariant in
     let none = ap (λ v. v.gap_after) c.self.view_is ∙ c.requires.gap_after in
-    let same : h.front_end + (h.rest_start - h.front_end) ≡ h.rest_start = omega (arith, o.gap) in
+    let same : h.front_end + (h.middle_start - h.front_end) ≡ h.middle_start = omega (arith, o.gap_before) in
     ap (λ v. v.slots) c.store_len.ensures.changes
     ∙ (ap (λ v. v.slots) c.close_small_gap-closed.ensures.changes
-    ∙ (ap (λ n. move_slots n h.front_end (h.len - h.rest_start) h.block.slots) same
+    ∙ (ap (λ n. move_slots n h.front_end (h.len - h.middle_start) h.block.slots) same
     ∙ (close-row h o none ∙ ap (λ v. packed_slots (items_of v) v.capacity) c.self.view_is)))
 
 pub close_small_gap-closed-requires-clause-in_bounds : goal.close_small_gap-closed-requires-clause-in_bounds

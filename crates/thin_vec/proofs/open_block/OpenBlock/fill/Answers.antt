@@ -17,7 +17,7 @@ facts : (g : _) (c : goal.After-self-1 g)
     })
     (record c.args.self.now {
       front = c.args.self.now.front ++ xs;
-      gap = c.args.self.now.gap - length xs;
+      gap_before = c.args.self.now.gap_before - length xs;
       cost = add_moves (length xs) c.args.self.now.cost;
     })
 facts g c =
@@ -27,7 +27,7 @@ facts g c =
     let many : put.result.1.end - h.front_end ≡ length xs =
     omega (arith, put.ensures.filled_by.2) in
     fill-view h c.self.invariant c.self.view_is c.replace-none.new.dest xs _ put.ensures.filled_by.2
-    (omega (arith, filled-fits put.ensures.filled_by.0, ap (λ v. v.gap) c.self.view_is))
+    (omega (arith, filled-fits put.ensures.filled_by.0, ap (λ v. v.gap_before) c.self.view_is))
     (ap block_view c.replace-none.ensures.after
     ∙ (slots-are put.ensures.changes put.ensures.filled_by.1
     ∙ (λ i. let v = block_view (c.replace-block.ensures.value i) in record v {
@@ -41,7 +41,7 @@ invariant_of-self g c = (facts g c).lies
 pub returns : goal.returns
 returns g c = record {
   filled_by = (
-    filled-room (ap (λ v. v.gap) c.self.view_is) c.put_iter-block.ensures.filled_by.0,
+    filled-room (ap (λ v. v.gap_before) c.self.view_is) c.put_iter-block.ensures.filled_by.0,
     (facts g c).view,
     sym (facts g c).lies.front,
   );

@@ -29,7 +29,7 @@ facts : (g : _) (c : goal.After-self-1 g)
     })
     (record c.args.self.now {
       front = c.args.self.now.front ++ c.args.other.now.items;
-      gap = c.args.self.now.gap - length c.args.other.now.items;
+      gap_before = c.args.self.now.gap_before - length c.args.other.now.items;
       cost = add_moves (length c.args.other.now.items) c.args.self.now.cost;
     })
 facts g c =

@@ -7,11 +7,11 @@ use Rattle.thin_vec.proofs.open_block.OpenBlock.merge_gaps.Goals as goal
 facts : (g : _) (c : goal.After-self-2-1 g)
     → Found (joined c.self.inside c.self.invariant) (joined-view c.self.inside c.self.invariant)
 facts g c = join-step c.self.inside c.self.invariant
-    (ap (λ v. v.rest) c.self.view_is ∙ c.requires.no_rest)
+    (ap (λ v. v.middle) c.self.view_is ∙ c.requires.no_middle)
 
 pub invariant_of-self : goal.invariant_of-self
 invariant_of-self g c = (facts g c).lies
 
 pub returns : goal.returns
 returns g c = (facts g c).view ∙ (λ i. let v = c.self.view_is i in record v
-    { gap = v.gap + v.gap_after; rest = sym c.requires.no_rest i; gap_after = 0 })
+    { gap_before = v.gap_before + v.gap_after; middle = sym c.requires.no_middle i; gap_after = 0 })

@@ -5,40 +5,40 @@ use Rattle.std.specs.Prelude.{IsSome}
 use Rattle.thin_block.specs.Cost.{add_moves}
 use Rattle.thin_block.specs.Slots.{move_slots, slot}
 use Rattle.thin_vec.specs.OpenBlock.{open_view}
-use Rattle.thin_vec.proofs.OpenBlockLemmas.{Found, before-empty, rest-filled}
-use Rattle.thin_vec.proofs.open_block.RetainRestLemmas.{moved_run, moved_run-view, move_down-step}
+use Rattle.thin_vec.proofs.OpenBlockLemmas.{Found, before-empty, middle-filled}
+use Rattle.thin_vec.proofs.open_block.MiddleLemmas.{moved_run, moved_run-view, move_down-step}
 use Rattle.thin_vec.proofs.open_block.OpenBlock.move_down.Goals as goal
 
 pub close_gap-closed-requires-clause-empty : goal.close_gap-closed-requires-clause-empty
 close_gap-closed-requires-clause-empty g c = λ j low high.
     let o = c.self.invariant in
     ap (λ b. slot b.slots j) c.replace-block.ensures.value
-    ∙ before-empty c.self.inside (open_view c.self.inside) o j low (omega (arith, high, o.gap))
+    ∙ before-empty c.self.inside (open_view c.self.inside) o j low (omega (arith, high, o.gap_before))
 
 pub close_gap-closed-requires-clause-filled : goal.close_gap-closed-requires-clause-filled
 close_gap-closed-requires-clause-filled g c = λ j low high.
     let o = c.self.invariant in
     subst (λ b. IsSome (slot b.slots j)) (sym c.replace-block.ensures.value)
-    (rest-filled c.self.inside (open_view c.self.inside) o j (omega (arith, low, o.gap)) (omega (
+    (middle-filled c.self.inside (open_view c.self.inside) o j (omega (arith, low, o.gap_before)) (omega (
       arith,
       high,
-      o.gap,
-      o.rest,
+      o.gap_before,
+      o.middle,
       c.requires.in_bounds,
-      ap (λ v. length v.rest) c.self.view_is,
+      ap (λ v. length v.middle) c.self.view_is,
     )))
 
 facts : (g : _) (c : goal.After-self-2-1 g)
-    → let low : c.args.k ≤ length (open_view c.self.inside).rest =
-    omega (arith, c.requires.in_bounds, ap (λ v. length v.rest) c.self.view_is) in
+    → let low : c.args.k ≤ length (open_view c.self.inside).middle =
+    omega (arith, c.requires.in_bounds, ap (λ v. length v.middle) c.self.view_is) in
     Found (moved_run c.self.inside c.self.invariant c.args.k low c.replace-none.new.dest)
     (moved_run-view c.self.inside c.self.invariant c.args.k low c.replace-none.new.dest)
 facts g c =
     let h = c.self.inside in
     let o = c.self.invariant in
-    let low : c.args.k ≤ length (open_view h).rest =
-    omega (arith, c.requires.in_bounds, ap (λ v. length v.rest) c.self.view_is) in
-    let same : h.front_end + (h.rest_start - h.front_end) ≡ h.rest_start = omega (arith, o.gap) in
+    let low : c.args.k ≤ length (open_view h).middle =
+    omega (arith, c.requires.in_bounds, ap (λ v. length v.middle) c.self.view_is) in
+    let same : h.front_end + (h.middle_start - h.front_end) ≡ h.middle_start = omega (arith, o.gap_before) in
     move_down-step h o c.args.k low c.replace-none.new.dest
     (ap block_view c.replace-none.ensures.after
     ∙ (c.close_gap-closed.ensures.changes
@@ -58,4 +58,4 @@ returns g c =
     ∙ (ap (λ b. add_moves c.args.k b.cost) c.replace-block.ensures.value
     ∙ ap (λ v. add_moves c.args.k v.cost) c.self.view_is)) in
     (facts g c).view ∙ (λ i. let v = c.self.view_is i in record v
-    { front = v.front ++ take c.args.k v.rest; rest = drop c.args.k v.rest; cost = spent i })
+    { front = v.front ++ take c.args.k v.middle; middle = drop c.args.k v.middle; cost = spent i })

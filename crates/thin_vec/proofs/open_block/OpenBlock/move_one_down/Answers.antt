@@ -7,16 +7,16 @@ pub returns : goal.returns
 returns g c =
     let v = c.args.self.now in
     let taken = c.take_first-value in
-    let gap : v.gap + 1 - 1 ≡ v.gap = omega arith in
+    let gap_before : v.gap_before + 1 - 1 ≡ v.gap_before = omega arith in
     c.append_to_front.ensures
     ∙ ((λ i. let w = taken.ensures.changes i in record w {
       front = w.front ++ taken.result ∷ [];
-      gap = w.gap - 1;
+      gap_before = w.gap_before - 1;
       cost = add_moves 1 w.cost;
     })
     ∙ (λ i. record v {
-      front = v.front ++ take 1 (sym taken.ensures.rest i);
-      gap = gap i;
-      rest = drop 1 (sym taken.ensures.rest i);
+      front = v.front ++ take 1 (sym taken.ensures.middle i);
+      gap_before = gap_before i;
+      middle = drop 1 (sym taken.ensures.middle i);
       cost = add_moves 1 v.cost;
     }))

@@ -5,7 +5,7 @@ use Rattle.thin_block.specs.Block.{block_view}
 use Rattle.thin_block.specs.Cost.{add_moves}
 use Rattle.thin_block.specs.Slots.{move_slots, slot}
 use Rattle.thin_vec.specs.OpenBlock.{IsOpenViewOf, open_view}
-use Rattle.thin_vec.specs.Open.{OpenView, tail_end}
+use Rattle.thin_vec.specs.OpenView.{OpenView, tail_end}
 use Rattle.thin_vec.specs.declared.open_block.OpenBlock.TheInside.{Inside}
 use Rattle.thin_vec.proofs.OpenBlockLemmas.{Found, reached, tail-filled}
 use Rattle.thin_vec.proofs.open_block.StepLemmas.{spare-empty, widen-step, widened, widened-view}

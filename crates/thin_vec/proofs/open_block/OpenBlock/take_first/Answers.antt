@@ -1,7 +1,7 @@
--- `take_first` empties slot `rest_start`, which then belongs to the gap after the front items.
+-- `take_first` empties slot `middle_start`, which then belongs to the gap after the front items.
 use Rattle.std.proofs.Common.{◌≡◌, ◌<◌, ◌+◌, ◌∷◌, List, ap, sym, ◌∙◌, arith, length}
 use Rattle.thin_vec.specs.OpenBlock.{open_view}
-use Rattle.thin_vec.proofs.OpenBlockLemmas.{Found, first-left, first-view, first-step, rest-filled}
+use Rattle.thin_vec.proofs.OpenBlockLemmas.{Found, first-left, first-view, first-step, middle-filled}
 use Rattle.thin_vec.proofs.open_block.OpenBlock.take_first.Goals as goal
 
 pub take-requires : goal.take-requires
@@ -9,15 +9,15 @@ take-requires g c =
     let h = c.self.inside in
     let o = c.self.invariant in
     record {
-      filled = rest-filled h (open_view h) o h.rest_start (omega arith)
-          (omega (arith, o.rest, c.requires.nonempty, ap (λ v. length v.rest) c.self.view_is));
+      filled = middle-filled h (open_view h) o h.middle_start (omega arith)
+          (omega (arith, o.middle, c.requires.nonempty, ap (λ v. length v.middle) c.self.view_is));
     }
 
-some : (g : _) (c : goal.After-take g) → 0 < length (open_view c.self.inside).rest
-some g c = omega (arith, c.requires.nonempty, ap (λ v. length v.rest) c.self.view_is)
+some : (g : _) (c : goal.After-take g) → 0 < length (open_view c.self.inside).middle
+some g c = omega (arith, c.requires.nonempty, ap (λ v. length v.middle) c.self.view_is)
 
 facts : (g : _) (c : goal.After-take g) → (ys : List g.row.T.Denot)
-    × ((open_view c.self.inside).rest ≡ c.take.result ∷ ys)
+    × ((open_view c.self.inside).middle ≡ c.take.result ∷ ys)
     × Found (first-left c.self.inside c.self.invariant c.take.new.self (some g c))
     (first-view c.self.inside c.self.invariant c.take.new.self (some g c) ys)
 facts g c = first-step c.self.inside c.self.invariant c.take.new.self (some g c) c.take.result
@@ -26,13 +26,13 @@ facts g c = first-step c.self.inside c.self.invariant c.take.new.self (some g c)
 pub invariant_of-self : goal.invariant_of-self
 invariant_of-self g c = (facts g c).2.lies
 
-pub returns-clause-rest : goal.returns-clause-rest
-returns-clause-rest g c =
-    sym (ap (λ v. v.rest) c.self.view_is)
+pub returns-clause-middle : goal.returns-clause-middle
+returns-clause-middle g c =
+    sym (ap (λ v. v.middle) c.self.view_is)
     ∙ ((facts g c).1 ∙ ap (λ xs. c.take.result ∷ xs)
-    (sym (ap (λ v. v.rest) (facts g c).2.view)))
+    (sym (ap (λ v. v.middle) (facts g c).2.view)))
 
 pub returns-clause-changes : goal.returns-clause-changes
 returns-clause-changes g c = let seen = (facts g c).2.view in
     seen ∙ (λ i. let v = c.self.view_is i in
-    record v { rest = (sym seen i).rest; gap = v.gap + 1 })
+    record v { middle = (sym seen i).middle; gap_before = v.gap_before + 1 })

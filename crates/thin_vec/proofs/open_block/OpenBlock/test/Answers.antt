@@ -1,9 +1,9 @@
--- The test may change the item in slot `rest_start + k`, and changes no other item in the block.
+-- The test may change the item in slot `middle_start + k`, and changes no other item in the block.
 use Rattle.std.proofs.Common.{◌<◌, ◌+◌, refl, ap, sym, ◌∙◌, arith, length}
 use Rattle.thin_block.specs.Lends.{set_slot}
 use Rattle.thin_vec.specs.OpenBlock.{open_view}
-use Rattle.thin_vec.proofs.OpenBlockLemmas.{rest-filled}
-use Rattle.thin_vec.proofs.open_block.RetainRestLemmas.{Written, write-step}
+use Rattle.thin_vec.proofs.OpenBlockLemmas.{middle-filled}
+use Rattle.thin_vec.proofs.open_block.MiddleLemmas.{Written, write-step}
 use Rattle.thin_vec.proofs.open_block.OpenBlock.test.Goals as goal
 
 pub slot_mut-requires : goal.slot_mut-requires
@@ -11,18 +11,18 @@ slot_mut-requires g c =
     let h = c.self.inside in
     let o = c.self.invariant in
     record {
-      filled = rest-filled h (open_view h) o (h.rest_start + c.args.k) (omega arith)
-          (omega (arith, o.rest, c.requires.in_bounds, ap (λ v. length v.rest) c.self.view_is));
+      filled = middle-filled h (open_view h) o (h.middle_start + c.args.k) (omega arith)
+          (omega (arith, o.middle, c.requires.in_bounds, ap (λ v. length v.middle) c.self.view_is));
     }
 
-low : (g : _) (c : goal.After-self-1 g) → c.args.k < length (open_view c.self.inside).rest
-low g c = omega (arith, c.requires.in_bounds, ap (λ v. length v.rest) c.self.view_is)
+low : (g : _) (c : goal.After-self-1 g) → c.args.k < length (open_view c.self.inside).middle
+low g c = omega (arith, c.requires.in_bounds, ap (λ v. length v.middle) c.self.view_is)
 
 facts : (g : _) (c : goal.After-self-1 g) → Written c.self.inside c.self.invariant
-    (set_slot c.self.inside.block (c.self.inside.rest_start + c.args.k) c.test.new.item)
+    (set_slot c.self.inside.block (c.self.inside.middle_start + c.args.k) c.test.new.item)
     c.args.k (low g c) c.slot_mut.result.now c.test.new.item
 facts g c = write-step c.self.inside c.self.invariant
-    (set_slot c.self.inside.block (c.self.inside.rest_start + c.args.k) c.test.new.item)
+    (set_slot c.self.inside.block (c.self.inside.middle_start + c.args.k) c.test.new.item)
     c.args.k (low g c) c.slot_mut.result.now c.test.new.item c.slot_mut.ensures.value refl
 
 pub invariant_of-self : goal.invariant_of-self
@@ -37,11 +37,11 @@ returns-clause-tested g c =
       left = c.test.new.item;
       after = f.post;
       place = f.place;
-      was = sym (ap (λ v. v.rest) c.self.view_is) ∙ f.was;
+      was = sym (ap (λ v. v.middle) c.self.view_is) ∙ f.was;
       asked = c.test.ensures.tested;
-      now = ap (λ v. v.rest) f.shown.view;
+      now = ap (λ v. v.middle) f.shown.view;
     }
 
 pub returns-clause-changes : goal.returns-clause-changes
 returns-clause-changes g c = let seen = (facts g c).shown.view in
-    seen ∙ (λ i. record (c.self.view_is i) { rest = (sym seen i).rest })
+    seen ∙ (λ i. record (c.self.view_is i) { middle = (sym seen i).middle })

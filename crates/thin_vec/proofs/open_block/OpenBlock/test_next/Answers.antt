@@ -6,8 +6,8 @@ use lib.ListN.{set}
 use Rattle.thin_block.specs.Lends.{set_slot}
 use Rattle.thin_block.specs.Slots.{slot}
 use Rattle.std.proofs.lemmas.List.{nil_from_length}
-use Rattle.thin_vec.proofs.OpenBlockLemmas.{rest-filled}
-use Rattle.thin_vec.proofs.open_block.RetainRestLemmas.{Written, write-step}
+use Rattle.thin_vec.proofs.OpenBlockLemmas.{middle-filled}
+use Rattle.thin_vec.proofs.open_block.MiddleLemmas.{Written, write-step}
 use Rattle.thin_vec.proofs.open_block.OpenBlock.test_next.Goals as goal
 
 pub slot_mut-requires : goal.slot_mut-requires
@@ -15,20 +15,20 @@ slot_mut-requires g c =
     let h = c.self.inside in
     let o = c.self.invariant in
     record {
-      filled = rest-filled h (open_view h) o h.rest_start (omega arith)
-          (omega (arith, o.rest, c.requires.nonempty, ap (λ v. length v.rest) c.self.view_is));
+      filled = middle-filled h (open_view h) o h.middle_start (omega arith)
+          (omega (arith, o.middle, c.requires.nonempty, ap (λ v. length v.middle) c.self.view_is));
     }
 
-low : (g : _) (c : goal.After-self-1 g) → 0 < length (open_view c.self.inside).rest
-low g c = omega (arith, c.requires.nonempty, ap (λ v. length v.rest) c.self.view_is)
+low : (g : _) (c : goal.After-self-1 g) → 0 < length (open_view c.self.inside).middle
+low g c = omega (arith, c.requires.nonempty, ap (λ v. length v.middle) c.self.view_is)
 
 facts : (g : _) (c : goal.After-self-1 g) → Written c.self.inside c.self.invariant
-    (set_slot c.self.inside.block c.self.inside.rest_start c.test.new.later) 0 (low g c)
+    (set_slot c.self.inside.block c.self.inside.middle_start c.test.new.later) 0 (low g c)
     c.slot_mut.result.now c.test.new.later
 facts g c =
     let h = c.self.inside in
-    let here : h.rest_start ≡ h.rest_start + 0 = omega arith in
-    write-step h c.self.invariant (set_slot h.block h.rest_start c.test.new.later) 0 (low g c)
+    let here : h.middle_start ≡ h.middle_start + 0 = omega arith in
+    write-step h c.self.invariant (set_slot h.block h.middle_start c.test.new.later) 0 (low g c)
     c.slot_mut.result.now c.test.new.later
     (ap (λ n. slot h.block.slots n) (sym here) ∙ c.slot_mut.ensures.value)
     (slots-are refl (ap (λ n. set h.block.slots n (Some c.test.new.later)) here))
@@ -44,12 +44,12 @@ returns-clause-tested g c =
       later = c.slot_mut.result.now;
       later_left = c.test.new.later;
       after = f.post;
-      was = sym (ap (λ v. v.rest) c.self.view_is)
+      was = sym (ap (λ v. v.middle) c.self.view_is)
           ∙ (f.was ∙ ap (λ l. l ++ c.slot_mut.result.now ∷ f.post) none);
       asked = c.test.ensures.tested;
-      now = ap (λ v. v.rest) f.shown.view ∙ ap (λ l. l ++ c.test.new.later ∷ f.post) none;
+      now = ap (λ v. v.middle) f.shown.view ∙ ap (λ l. l ++ c.test.new.later ∷ f.post) none;
     }
 
 pub returns-clause-changes : goal.returns-clause-changes
 returns-clause-changes g c = let seen = (facts g c).shown.view in
-    seen ∙ (λ i. record (c.self.view_is i) { rest = (sym seen i).rest })
+    seen ∙ (λ i. record (c.self.view_is i) { middle = (sym seen i).middle })

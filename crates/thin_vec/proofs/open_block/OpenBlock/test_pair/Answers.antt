@@ -4,21 +4,21 @@ use Rattle.std.proofs.lemmas.Grind.{common_steps}
 use lib.ListN.{set}
 use Rattle.thin_block.specs.Lends.{set_slots}
 use Rattle.thin_vec.specs.OpenBlock.{open_view}
-use Rattle.thin_vec.proofs.OpenBlockLemmas.{rest-filled}
+use Rattle.thin_vec.proofs.OpenBlockLemmas.{middle-filled}
 use Rattle.thin_vec.proofs.open_block.WriteLemmas.{WrittenTwo, parts-of, write-two-step}
 use Rattle.thin_vec.proofs.open_block.OpenBlock.test_pair.Goals as goal
 
 pub slice_mut-requires-clause-filled : goal.slice_mut-requires-clause-filled
 slice_mut-requires-clause-filled g c = λ j low high.
     let o = c.self.invariant in
-    rest-filled c.self.inside (open_view c.self.inside) o j (omega (arith, low))
+    middle-filled c.self.inside (open_view c.self.inside) o j (omega (arith, low))
     (omega (
       arith,
       high,
-      o.rest,
+      o.middle,
       c.requires.in_bounds,
       c.requires.nonzero,
-      ap (λ v. length v.rest) c.self.view_is,
+      ap (λ v. length v.middle) c.self.view_is,
     ))
 
 pub split_at_mut-kept-requires : goal.split_at_mut-kept-requires
@@ -29,7 +29,7 @@ bounds-later-0 g c = grind (arith, common_steps)
 
 facts : (g : _) (c : goal.After-self-3-1 g) → WrittenTwo c.self.inside c.self.invariant
     (c.args.k - 1)
-    (set_slots c.self.inside.block (c.self.inside.rest_start + (c.args.k - 1))
+    (set_slots c.self.inside.block (c.self.inside.middle_start + (c.args.k - 1))
     (set c.split_at_mut-kept.result.0.now 0 c.test.new.kept
     ++ set c.split_at_mut-kept.result.1.now 0 c.test.new.later)) c.index-kept-0.result
     c.index-later-0.result c.test.new.kept c.test.new.later
@@ -37,24 +37,24 @@ facts g c =
     let h = c.self.inside in
     let o = c.self.invariant in
     let parts = c.split_at_mut-kept in
-    let at = h.rest_start + (c.args.k - 1) in
-    let low : suc (c.args.k - 1) < length (open_view h).rest =
+    let at = h.middle_start + (c.args.k - 1) in
+    let low : suc (c.args.k - 1) < length (open_view h).middle =
     omega (
       arith,
       c.requires.in_bounds,
       c.requires.nonzero,
-      ap (λ v. length v.rest) c.self.view_is,
+      ap (λ v. length v.middle) c.self.view_is,
     ) in
     let within : at + 2 ≤ length h.block.slots =
     omega (
       arith,
-      o.rest,
+      o.middle,
       o.gap_after,
       o.tail,
       o.room,
       c.requires.in_bounds,
       c.requires.nonzero,
-      ap (λ v. length v.rest) c.self.view_is,
+      ap (λ v. length v.middle) c.self.view_is,
     ) in
     let two = parts-of h.block.slots at c.slice_mut.result.now parts.result.0.now
     parts.result.1.now within c.slice_mut.ensures.value parts.ensures.value (search rules)
@@ -76,11 +76,11 @@ returns-clause-tested g c =
       later_left = c.test.new.later;
       after = f.post;
       place = omega (arith, f.place, c.requires.nonzero);
-      was = sym (ap (λ v. v.rest) c.self.view_is) ∙ f.was;
+      was = sym (ap (λ v. v.middle) c.self.view_is) ∙ f.was;
       asked = search rules;
-      now = ap (λ v. v.rest) f.shown.view;
+      now = ap (λ v. v.middle) f.shown.view;
     }
 
 pub returns-clause-changes : goal.returns-clause-changes
 returns-clause-changes g c = let seen = (facts g c).shown.view in
-    seen ∙ (λ i. record (c.self.view_is i) { rest = (sym seen i).rest })
+    seen ∙ (λ i. record (c.self.view_is i) { middle = (sym seen i).middle })

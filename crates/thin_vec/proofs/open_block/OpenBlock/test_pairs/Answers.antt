@@ -8,7 +8,7 @@ use Rattle.thin_vec.proofs.open_block.OpenBlock.test_pairs.Goals as goal
 
 pub loop-kept-init : goal.loop-kept-init
 loop-kept-init g c = record {
-  stays = pair-start g.J.PairTest.tests c.args.test.now c.args.self.now.rest c.requires.nonempty;
+  stays = pair-start g.J.PairTest.tests c.args.test.now c.args.self.now.middle c.requires.nonempty;
   ready = c.requires.callable;
   same = refl;
 }
@@ -17,21 +17,21 @@ pub returns-then-not-test_pair-clause-tested : goal.returns-then-not-test_pair-c
 returns-then-not-test_pair-clause-tested g c =
     let l = c.loop-kept in
     let goes : c.test_pair.result ≡ false = search rules in
-    pair-goes g.J.PairTest.tests l.kept c.args.test.now c.args.self.now.rest l.test l.self.rest
-    l.invariant.stays c.test_pair.new.test c.test_pair.new.self.rest
-    (subst (λ b. TestsPairAt g.J.PairTest.tests l.kept l.test l.self.rest b c.test_pair.new.test
-    c.test_pair.new.self.rest) (ap not goes) c.test_pair.ensures.tested)
+    pair-goes g.J.PairTest.tests l.kept c.args.test.now c.args.self.now.middle l.test l.self.middle
+    l.invariant.stays c.test_pair.new.test c.test_pair.new.self.middle
+    (subst (λ b. TestsPairAt g.J.PairTest.tests l.kept l.test l.self.middle b c.test_pair.new.test
+    c.test_pair.new.self.middle) (ap not goes) c.test_pair.ensures.tested)
 
 pub loop-kept-preserved : goal.loop-kept-preserved
 loop-kept-preserved g c =
     let l = c.loop-kept in
     let kept : c.test_pair.result ≡ true = search rules in
     record {
-      stays = pair-more g.J.PairTest.tests l.kept c.args.test.now c.args.self.now.rest l.test
-          l.self.rest l.invariant.stays c.test_pair.new.test
-          c.test_pair.new.self.rest
-          (subst (λ b. TestsPairAt g.J.PairTest.tests l.kept l.test l.self.rest b
-          c.test_pair.new.test c.test_pair.new.self.rest) (ap not kept) c.test_pair.ensures.tested);
+      stays = pair-more g.J.PairTest.tests l.kept c.args.test.now c.args.self.now.middle l.test
+          l.self.middle l.invariant.stays c.test_pair.new.test
+          c.test_pair.new.self.middle
+          (subst (λ b. TestsPairAt g.J.PairTest.tests l.kept l.test l.self.middle b
+          c.test_pair.new.test c.test_pair.new.self.middle) (ap not kept) c.test_pair.ensures.tested);
       ready = search rules;
       same = search rules;
     }

@@ -5,10 +5,10 @@ use Rattle.thin_vec.proofs.open_block.OpenBlock.test_run.Given as goal
 
 abbrev pub invariant-loop-at : goal.invariant-loop-at
 invariant-loop-at g l = record {
-  stays : Stays g.J.Test.tests l.at l.fn.test l.fn.self.rest l.test l.self.rest;
+  stays : Stays g.J.Test.tests l.at l.fn.test l.fn.self.middle l.test l.self.middle;
   ready : g.J.Test.ready l.test;
-  same : l.self ≡ record l.fn.self { rest = l.self.rest };
+  same : l.self ≡ record l.fn.self { middle = l.self.middle };
 }
 
 abbrev pub decreases-loop-at : goal.decreases-loop-at
-decreases-loop-at g l = length l.self.rest - l.at
+decreases-loop-at g l = length l.self.middle - l.at

@@ -1,6 +1,6 @@
 -- A call of `next` changes only the state that the `ExtractIf` owns.
 use Rattle.std.proofs.Common.{◌++◌, refl}
-use Rattle.thin_vec.specs.Open.{cost_closed}
+use Rattle.thin_vec.specs.OpenView.{cost_closed}
 use Rattle.thin_vec.proofs.edits.extract_if.ExtractIfIterator.next.Goals as goal
 
 pub returns-clause-steps : goal.returns-clause-steps
@@ -12,7 +12,7 @@ returns-clause-steps g c =
       lender = refl;
       meanwhile = refl;
       left = λ i. record {
-        items = s.front i ++ (new.block.rest ++ s.tail i);
+        items = s.front i ++ (new.block.middle ++ s.tail i);
         capacity = s.capacity i;
         alloc = c.args.self.now.list.now.alloc;
         cost = cost_closed new.block;

@@ -2,10 +2,10 @@
 use Rattle.std.proofs.Common.{[], inl, inr, ◌≡◌, ◌+◌, ◌≤◌, ◌++◌, ◌∙◌, ap, arith, length, length-append, subst}
 use denote.Param.{param}
 use Rattle.thin_vec.specs.Edits.Finish.{FinishesSplice}
-use Rattle.thin_vec.specs.Open.{tail_end}
+use Rattle.thin_vec.specs.OpenView.{tail_end}
 use Rattle.thin_vec.specs.Edits.Splice.{left_by_splice, splice_front, splice_iter, splice_list, splice_tail}
 use Rattle.thin_vec.proofs.ThinVecLemmas.{allocatable-less}
-use Rattle.thin_vec.proofs.list.ExtendLemmas.{loose-le, run_of_ok}
+use Rattle.thin_vec.proofs.list.ExtendLemmas.{at_least-le, run_of_ok}
 use Rattle.thin_vec.proofs.edits.SpliceLemmas.{if-err}
 use Rattle.thin_vec.proofs.edits.splice.Splice.finish.Goals.{else-has_tail, then-has_tail}
 use Rattle.thin_vec.proofs.edits.splice.Splice.finish.Goals as goal
@@ -20,24 +20,24 @@ returns g c =
     let s = splice_iter c.args.self in
     let w = c.if-has_tail.list in let r = c.if-has_tail.answer in
     let said : FinishesSplice steps g.I.Iterator.can_next g.I.Iterator.remaining rule T
-    c.drop_rest.new.self c.clear.new.self.alloc s w r =
+    c.drop_middle.new.self c.clear.new.self.alloc s w r =
     elim c.if-has_tail.branch [
       | then-has_tail x ↦ rw x.list-is (rw x.answer-is x.finish_before_tail-answer.ensures)
       | else-has_tail x ↦ rw x.list-is (rw x.answer-is x.finish_at_end-answer.ensures)
     ] in
-    let dropped = c.drop_rest.ensures
+    let dropped = c.drop_middle.ensures
     ∙ (λ i. let h = c.into_inner-block.ensures.value i in
-    record h { gap = h.gap + length h.rest + h.gap_after; rest = []; gap_after = 0 }) in
+    record h { gap_before = h.gap_before + length h.middle + h.gap_after; middle = []; gap_after = 0 }) in
     let f = subst
     (λ b. FinishesSplice steps g.I.Iterator.can_next g.I.Iterator.remaining rule T b a s w r)
     dropped
     (subst
     (λ o. FinishesSplice steps g.I.Iterator.can_next g.I.Iterator.remaining rule T
-    c.drop_rest.new.self o s w r) (ap (λ v. v.alloc) c.clear.ensures.changes) said) in
-    let le = loose-le rule T g.met.G.Growth.law v.capacity w.capacity f.taken.capacity in
+    c.drop_middle.new.self o s w r) (ap (λ v. v.alloc) c.clear.ensures.changes) said) in
+    let le = at_least-le rule T g.met.G.Growth.law v.capacity w.capacity f.taken.capacity in
     let within = c.len-len.ensures.bounds in
     let left = left_by_splice c.args.self in
-    let room : length left.items + (v.gap + length v.rest + v.gap_after) ≤ left.capacity =
+    let room : length left.items + (v.gap_before + length v.middle + v.gap_after) ≤ left.capacity =
     omega (
       arith,
       subst (λ b. tail_end b ≤ b.capacity) dropped c.has_tail.ensures.in_bounds,
@@ -65,7 +65,7 @@ returns g c =
       cause = f.cause;
       capacity = record {
         had_room = f.taken.had_room;
-        loose = f.taken.capacity;
+        at_least = f.taken.capacity;
         ruled = f.ruled;
       };
       cost = f.taken.cost;

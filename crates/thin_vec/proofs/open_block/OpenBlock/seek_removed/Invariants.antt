@@ -1,7 +1,7 @@
 -- The tested items have been kept, and have been moved to the end of the front items.
 use Rattle.std.proofs.Common.{length}
-use Rattle.thin_vec.proofs.open_block.SiftedLemmas.{Keeps}
-use Rattle.thin_vec.proofs.open_block.OpenBlock.seek_rejected.Given as goal
+use Rattle.thin_vec.proofs.open_block.RetainMiddleLemmas.{Keeps}
+use Rattle.thin_vec.proofs.open_block.OpenBlock.seek_removed.Given as goal
 
 abbrev pub invariant-loop-self : goal.invariant-loop-self
 invariant-loop-self g l = record {
@@ -10,4 +10,4 @@ invariant-loop-self g l = record {
 }
 
 abbrev pub decreases-loop-self : goal.decreases-loop-self
-decreases-loop-self g l = length l.self.rest
+decreases-loop-self g l = length l.self.middle

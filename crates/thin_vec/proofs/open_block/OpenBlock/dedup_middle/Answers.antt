@@ -5,7 +5,7 @@ use Rattle.std.proofs.lemmas.Grind.{common_steps}
 use Rattle.std.proofs.lemmas.List.{nil_from_length}
 use Rattle.thin_vec.proofs.edits.DedupLemmas.{deduped-ends, deduped-goes, dedups-start, dedups-then}
 use Rattle.thin_vec.proofs.open_block.PairTestLemmas.{run-left}
-use Rattle.thin_vec.proofs.open_block.OpenBlock.dedup_rest.Goals as goal
+use Rattle.thin_vec.proofs.open_block.OpenBlock.dedup_middle.Goals as goal
 
 pub loop-self-init : goal.loop-self-init
 loop-self-init g c =
@@ -16,14 +16,14 @@ loop-self-init g c =
       arith,
       ap (λ v. length v.front) c.take_first.ensures.changes,
       ap (λ v. length v.front) c.keep_in_place.ensures,
-      length-append run.new.self.front (take run.result run.new.self.rest),
+      length-append run.new.self.front (take run.result run.new.self.middle),
       ap length (run-left g.J.PairTest.tests run.result _ _ _ _ asked),
       asked.long,
       asked.kept,
     ) in
     record {
       dedups = dedups-start g.J.PairTest.tests run.new.test c.take_first.new.self some
-          (omega (arith, ap (λ v. v.gap) c.take_first.ensures.changes));
+          (omega (arith, ap (λ v. v.gap_before) c.take_first.ensures.changes));
       some = some;
       ready = run.ensures.callable;
     }
@@ -39,25 +39,25 @@ loop-self-preserved g c = record {
 pub returns-after-loop-self : goal.returns-after-loop-self
 returns-after-loop-self g c =
     let run = c.test_pairs-kept in
-    let end : length c.loop-self.self.rest ≡ 0 = grind (arith, common_steps) in
+    let end : length c.loop-self.self.middle ≡ 0 = grind (arith, common_steps) in
     record {
       deduped = deduped-goes g.J.PairTest.tests c.args.self.now c.take_first.new.self run.result
-          c.args.test.now run.new.test run.new.self.rest run.ensures.tested c.take_first.result
+          c.args.test.now run.new.test run.new.self.middle run.ensures.tested c.take_first.result
           c.loop-self.test c.loop-self.self
           (search rules)
-          (sym (ap (λ v. v.rest) c.keep_in_place.ensures) ∙ c.take_first.ensures.rest)
+          (sym (ap (λ v. v.middle) c.keep_in_place.ensures) ∙ c.take_first.ensures.middle)
           c.loop-self.invariant.dedups
-          (nil_from_length c.loop-self.self.rest end);
+          (nil_from_length c.loop-self.self.middle end);
     }
 
-pub returns-else-rest_len-gt0 : goal.returns-else-rest_len-gt0
-returns-else-rest_len-gt0 g c =
+pub returns-else-middle_len-gt0 : goal.returns-else-middle_len-gt0
+returns-else-middle_len-gt0 g c =
     let run = c.test_pairs-kept in
-    let none : c.keep_in_place.new.self.rest ≡ [] = nil_from_length c.keep_in_place.new.self.rest
-    (omega (arith, c.rest_len.ensures.value, c.if-rest_len-gt0.false)) in
+    let none : c.keep_in_place.new.self.middle ≡ [] = nil_from_length c.keep_in_place.new.self.middle
+    (omega (arith, c.middle_len.ensures.value, c.if-middle_len-gt0.false)) in
     record {
       deduped = deduped-ends g.J.PairTest.tests c.args.self.now c.keep_in_place.new.self run.result
-          c.args.test.now run.new.test run.new.self.rest run.ensures.tested
+          c.args.test.now run.new.test run.new.self.middle run.ensures.tested
           (search rules)
-          (sym (ap (λ v. v.rest) c.keep_in_place.ensures) ∙ none) none;
+          (sym (ap (λ v. v.middle) c.keep_in_place.ensures) ∙ none) none;
     }

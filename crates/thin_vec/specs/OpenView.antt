@@ -12,16 +12,16 @@ use Rattle.thin_block.specs.Slots.{empty_slots, filled_slots}
 --   +-----------+-----------+-----------+-----------+-----------+-------------+
 --   |   items   |   empty   |   items   |   empty   |   items   |    empty    |
 --   +-----------+-----------+-----------+-----------+-----------+-------------+
---       front        gap        rest      gap_after     tail      spare slots
+--       front        gap_before    middle    gap_after     tail      spare slots
 -- ```
 pub record OpenView (T A : Type 0) : Type 0 where
   -- The front items: the items before the edited range, then the items of the range that a call
   -- such as `retain` has kept so far, or the items that `finish` of a `Splice` has inserted so far.
   pub front : List T
   -- The number of empty slots between the front and the middle run.
-  pub gap : ℕ
+  pub gap_before : ℕ
   -- The middle items: the items of the edited range that have not been yielded or tested yet.
-  pub rest : List T
+  pub middle : List T
   -- The number of empty slots between the middle run and the tail.
   pub gap_after : ℕ
   -- The tail items: the items after the edited range.
@@ -41,11 +41,11 @@ open_view_code {T} {A} t a =
     (coded× coded_ℕ (coded× (coded_list t)
     (coded× coded_ℕ (coded× (coded_list t)
     (coded× coded_ℕ (coded× (coded_option a) cost_code)))))))
-    (λ v. (v.front, (v.gap, (v.rest, (v.gap_after, (v.tail, (v.capacity, (v.alloc, v.cost))))))))
+    (λ v. (v.front, (v.gap_before, (v.middle, (v.gap_after, (v.tail, (v.capacity, (v.alloc, v.cost))))))))
     (λ p. record {
       front = p.0;
-      gap = p.1.0;
-      rest = p.1.1.0;
+      gap_before = p.1.0;
+      middle = p.1.1.0;
       gap_after = p.1.1.1.0;
       tail = p.1.1.1.1.0;
       capacity = p.1.1.1.1.1.0;
@@ -57,7 +57,7 @@ open_view_code {T} {A} t a =
 module _ {T A : Type 0} where
   -- `tail_start v` is the index of the first slot of the tail of the open block `v`.
   abbrev pub tail_start : OpenView T A → ℕ
-  tail_start v = length v.front + v.gap + length v.rest + v.gap_after
+  tail_start v = length v.front + v.gap_before + length v.middle + v.gap_after
 
   -- `tail_end v` is the index directly after the tail of the open block `v`.
   abbrev pub tail_end : OpenView T A → ℕ
@@ -66,24 +66,24 @@ module _ {T A : Type 0} where
   -- `range_len v` is the number of slots between the front and the tail of the open block `v`. For
   -- a `Drain` or a `Splice`, this is the length of the range, whatever has been yielded of it.
   abbrev pub range_len : OpenView T A → ℕ
-  range_len v = v.gap + length v.rest + v.gap_after
+  range_len v = v.gap_before + length v.middle + v.gap_after
 
   -- `slots_of v` contains all slots of the open block `v`, in order.
   abbrev pub slots_of : OpenView T A → List (Option T)
   slots_of v = filled_slots v.front
-      ++ (empty_slots v.gap
-      ++ (filled_slots v.rest
+      ++ (empty_slots v.gap_before
+      ++ (filled_slots v.middle
       ++ (empty_slots v.gap_after
       ++ (filled_slots v.tail ++ empty_slots (v.capacity - tail_end v)))))
 
   -- `items_of v` is the list of all items of the open block `v`, in order.
   abbrev pub items_of : OpenView T A → List T
-  items_of v = v.front ++ (v.rest ++ v.tail)
+  items_of v = v.front ++ (v.middle ++ v.tail)
 
   -- `cost_closed v` is the recorded cost of the open block `v` after the gap between its front and
   -- its middle run has been closed.
   abbrev pub cost_closed : OpenView T A → Cost
-  cost_closed v = if v.gap == 0 then v.cost else add_moves (length v.rest + length v.tail) v.cost
+  cost_closed v = if v.gap_before == 0 then v.cost else add_moves (length v.middle + length v.tail) v.cost
 
   -- `cost_drained v` is the recorded cost of the open block `v` after its middle items have been
   -- removed, and its tail items have been moved down to follow the front directly. This is the cost

@@ -51,12 +51,12 @@ module _ {T A : Type 0} {b : Block T A} {a : A} (t : IsListBlock b a) where
       → RestoresInvariant b' a (items_in b.slots) k
   restores-shrink b' k room less w =
       let xs : List T = items_in b.slots in
-      let rest : List (Option T) = replicate (length b.slots - k) None in
+      let spare : List (Option T) = replicate (length b.slots - k) None in
       restores-remade b' k w
       (ap (λ (r : List (Option T)). take k r)
       (t.packed.row ∙ sym (front-grow xs k (length b.slots) room less))
-      ∙ (ap (λ (m : ℕ). take m (packed_slots xs k ++ rest)) (sym (length-front xs k room))
-      ∙ take-append_seam (packed_slots xs k) rest)) room
+      ∙ (ap (λ (m : ℕ). take m (packed_slots xs k ++ spare)) (sym (length-front xs k room))
+      ∙ take-append_seam (packed_slots xs k) spare)) room
 
 pub restores-new : {T A : Type 0} (b : Block T A) (a : A) (c : ℕ) {k : Cost}
     → block_view b ≡ record { slots = empty_slots c; len = 0; alloc = Some a; cost = k }

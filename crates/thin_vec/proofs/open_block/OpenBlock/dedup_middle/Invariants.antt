@@ -1,7 +1,7 @@
 -- `DedupsSome` describes all tests so far. Each iteration reduces the number of untested items.
 use Rattle.std.proofs.Common.{◌<◌, length}
 use Rattle.thin_vec.specs.OpenBlock.Dedup.{DedupsSome}
-use Rattle.thin_vec.proofs.open_block.OpenBlock.dedup_rest.Given as goal
+use Rattle.thin_vec.proofs.open_block.OpenBlock.dedup_middle.Given as goal
 
 abbrev pub invariant-loop-self : goal.invariant-loop-self
 invariant-loop-self g l = record {
@@ -11,4 +11,4 @@ invariant-loop-self g l = record {
 }
 
 abbrev pub decreases-loop-self : goal.decreases-loop-self
-decreases-loop-self g l = length l.self.rest
+decreases-loop-self g l = length l.self.middle
