@@ -136,9 +136,9 @@ impl<T, A: Allocator> Block<T, A> {
     }
 
     // Changes the number of slots of the block of length `len` to `cap`. If the items form whole
-    // words and take at least `LONG * 8` bytes, or if the block is padded and remains so, the
-    // allocator resizes the block, possibly in place. Otherwise, the items are moved to a new
-    // block, and the old block is freed.
+    // words and take at least `LONG * 8` bytes, or if the block is padded, remains so and has an
+    // item, the allocator resizes the block, possibly in place. Otherwise, the items are moved to a
+    // new block, and the old block is freed.
     #[inline(always)]
     fn resize(&mut self, alloc: &A, len: usize, cap: usize) -> Result<(), ThinVecError>
         requires same_allocator { IsAllocatedBy self.old.alloc alloc.now }

@@ -2,8 +2,9 @@
 //! that it needs, makes no other request and no other call, and drops and frees everything.
 //!
 //! A sweep makes each call of a group (`Calls`) on many lists, with several arguments. It makes the
-//! call with enough memory, and then again for each of its requests, with that request refused.
-//! Clones of counted items are requests, too. After the call, the list itself says what is right:
+//! call with enough memory, and then again with one of its requests refused, each in turn (of many
+//! requests, some of those in the middle are left out). Clones of counted items are requests, too.
+//! After the call, the list itself says what is right:
 //!
 //! - Each request was for a new capacity of the list, or is one of those that the call announces
 //!   (`Due`). Closures, clones and comparisons were called as often as the call announces.

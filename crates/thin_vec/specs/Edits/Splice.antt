@@ -94,7 +94,6 @@ module _ {I T A G H : Type 0} {g : Ghosts G} {h : IntoInnerGhosts H (OpenView T 
   splice_iter s = s.iter
 
   -- `splice_list s` is the list that the `Splice` `s` borrows, as it is until `finish` is called.
-  -- It stays as it is if `s` is leaked.
   abbrev pub splice_list : Splice I T A G H g h → ListView T A
   splice_list s = s.list.now
 
