@@ -1,12 +1,14 @@
 //! Defines the types of items that tests make from numbers.
 use crate::ledger::{Counted, CountedWord, Ledger};
-use std::mem::align_of;
 
 /// A type of items that a test makes from numbers. Numbers below 251 make different items, except
 /// that all items of 0 bytes are equal, and all of the type `CountedWord`.
 pub trait Numbered: Clone + Eq + Drop {
     /// The size of an item in bytes.
     const SIZE: usize;
+
+    /// The alignment of an item in bytes.
+    const ALIGN: usize = 8;
 
     /// The greatest capacity that a list of such items can have, computed by hand. The block then
     /// takes at most `isize::MAX` bytes: a header of 16 bytes and the items, rounded up to a
@@ -28,11 +30,11 @@ pub fn block_bytes<T: Numbered>(capacity: usize) -> u64 {
     if capacity == 0 {
         return 0;
     }
-    if T::SIZE > 16 && align_of::<T>() >= 8 && capacity >= 32 {
+    if T::SIZE > 16 && T::ALIGN >= 8 && capacity >= 32 {
         return capacity.saturating_add(2).saturating_mul(T::SIZE) as u64;
     }
     let bytes = capacity.saturating_mul(T::SIZE).saturating_add(16);
-    let rounded = if align_of::<T>() > 8 {
+    let rounded = if T::ALIGN > 8 {
         bytes.div_ceil(16).saturating_mul(16)
     } else {
         bytes.div_ceil(8).saturating_mul(8)
@@ -43,6 +45,8 @@ pub fn block_bytes<T: Numbered>(capacity: usize) -> u64 {
 impl Numbered for () {
     const SIZE: usize = 0;
 
+    const ALIGN: usize = 1;
+
     const LIMIT: usize = isize::MAX as usize;
 
     fn numbered(_ledger: &'static Ledger, _number: u64) -> () {}
@@ -50,6 +54,8 @@ impl Numbered for () {
 
 impl Numbered for u8 {
     const SIZE: usize = 1;
+
+    const ALIGN: usize = 1;
 
     const LIMIT: usize = 9_223_372_036_854_775_784;
 
@@ -61,6 +67,8 @@ impl Numbered for u8 {
 impl Numbered for [u8; 3] {
     const SIZE: usize = 3;
 
+    const ALIGN: usize = 1;
+
     const LIMIT: usize = 3_074_457_345_618_258_594;
 
     fn numbered(_ledger: &'static Ledger, number: u64) -> [u8; 3] {
@@ -70,6 +78,8 @@ impl Numbered for [u8; 3] {
 
 impl Numbered for [u8; 5] {
     const SIZE: usize = 5;
+
+    const ALIGN: usize = 1;
 
     const LIMIT: usize = 1_844_674_407_370_955_156;
 
@@ -81,6 +91,8 @@ impl Numbered for [u8; 5] {
 impl Numbered for [u8; 7] {
     const SIZE: usize = 7;
 
+    const ALIGN: usize = 1;
+
     const LIMIT: usize = 1_317_624_576_693_539_397;
 
     fn numbered(_ledger: &'static Ledger, number: u64) -> [u8; 7] {
@@ -90,6 +102,8 @@ impl Numbered for [u8; 7] {
 
 impl Numbered for u16 {
     const SIZE: usize = 2;
+
+    const ALIGN: usize = 2;
 
     const LIMIT: usize = 4_611_686_018_427_387_892;
 
@@ -101,6 +115,8 @@ impl Numbered for u16 {
 impl Numbered for i32 {
     const SIZE: usize = 4;
 
+    const ALIGN: usize = 4;
+
     const LIMIT: usize = 2_305_843_009_213_693_946;
 
     fn numbered(_ledger: &'static Ledger, number: u64) -> i32 {
@@ -110,6 +126,8 @@ impl Numbered for i32 {
 
 impl Numbered for [u32; 3] {
     const SIZE: usize = 12;
+
+    const ALIGN: usize = 4;
 
     const LIMIT: usize = 768_614_336_404_564_648;
 
@@ -121,6 +139,8 @@ impl Numbered for [u32; 3] {
 impl Numbered for [u32; 5] {
     const SIZE: usize = 20;
 
+    const ALIGN: usize = 4;
+
     const LIMIT: usize = 461_168_601_842_738_789;
 
     fn numbered(_ledger: &'static Ledger, number: u64) -> [u32; 5] {
@@ -130,6 +150,8 @@ impl Numbered for [u32; 5] {
 
 impl Numbered for [u32; 7] {
     const SIZE: usize = 28;
+
+    const ALIGN: usize = 4;
 
     const LIMIT: usize = 329_406_144_173_384_849;
 
@@ -181,6 +203,8 @@ impl Numbered for [u64; 40] {
 impl Numbered for u128 {
     const SIZE: usize = 16;
 
+    const ALIGN: usize = 16;
+
     const LIMIT: usize = 576_460_752_303_423_486;
 
     fn numbered(_ledger: &'static Ledger, number: u64) -> u128 {
@@ -190,6 +214,8 @@ impl Numbered for u128 {
 
 impl Numbered for [u128; 3] {
     const SIZE: usize = 48;
+
+    const ALIGN: usize = 16;
 
     const LIMIT: usize = 192_153_584_101_141_162;
 
@@ -236,6 +262,8 @@ impl Numbered for Counted<'static, u64> {
 
 impl Numbered for Counted<'static, u128> {
     const SIZE: usize = 32;
+
+    const ALIGN: usize = 16;
 
     const LIMIT: usize = 288_230_376_151_711_743;
 

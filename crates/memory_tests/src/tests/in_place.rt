@@ -5,7 +5,7 @@ use crate::tests::support::assert_same;
 use std::alloc::{Allocator, Global};
 use std::process::Abort;
 use std::test::Fail;
-use thin_testing::{Ledger, Numbered};
+use thin_testing::{Ledger, Numbered, Refusing};
 use thin_vec::{Growth, ThinVec, ThinVecError};
 
 // Asserts the length and the capacity of the list, and that each item is made from its index.
@@ -163,5 +163,39 @@ fn a_list_moves_if_it_cannot_grow_in_place(rt: HostRuntime) -> Result<(), Fail> 
     assert_moves::<[u64; 3]>(&rt, ledger, alloc)?;
     assert_moves::<[u128; 3]>(&rt, ledger, alloc)?;
     assert_moves::<[u64; 40]>(&rt, ledger, alloc)?;
+    Ok(())
+}
+
+// Pushes 3000 items onto a list that owns its allocator, which takes more bytes than a reference.
+// Then the list shrinks and grows again.
+fn assert_owner_grows<T: Numbered>(
+    rt: &impl Abort,
+    ledger: &'static Ledger,
+) -> Result<(), ThinVecError> {
+    let mut list: ThinVec<T, Refusing<Global>> = ThinVec::new(Refusing::new(ledger.global, 0));
+    for index in 0..3000 {
+        list.push(T::numbered(ledger, index))?;
+    }
+    list.shrink_to_fit()?;
+    list.reserve_exact(500)?;
+    assert_numbered(rt, ledger, &list, 3000, 3500);
+    list.truncate(40);
+    list.shrink_to(41)?;
+    assert_numbered(rt, ledger, &list, 40, 41);
+    Ok(())
+}
+
+#[test]
+fn a_list_grows_and_shrinks_over_an_allocator_that_it_owns(rt: HostRuntime) -> Result<(), Fail> {
+    let ledger = Ledger::leaked(rt.alloc())?;
+    assert_owner_grows::<()>(&rt, ledger)?;
+    assert_owner_grows::<u8>(&rt, ledger)?;
+    assert_owner_grows::<u16>(&rt, ledger)?;
+    assert_owner_grows::<i32>(&rt, ledger)?;
+    assert_owner_grows::<u64>(&rt, ledger)?;
+    assert_owner_grows::<u128>(&rt, ledger)?;
+    assert_owner_grows::<[u32; 3]>(&rt, ledger)?;
+    assert_owner_grows::<[u64; 3]>(&rt, ledger)?;
+    assert_owner_grows::<[u64; 40]>(&rt, ledger)?;
     Ok(())
 }

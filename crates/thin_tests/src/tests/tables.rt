@@ -121,7 +121,7 @@ fn prints_a_row_of_many_entries(rt: HostRuntime) -> Result<(), Fail> {
 
 // Only two of the rows get entries: row 0 in descending order of the columns, and the last row in
 // ascending order. The capacity of each grows from 4 to 4096 by doubling, with 11 requests. The
-// table itself makes one request.
+// table itself makes one request. A row, an entry and a header take 16 bytes each.
 #[test]
 fn set_adds_thousands_of_columns_to_a_row(rt: HostRuntime) -> Result<(), Fail> {
     let refusing = Refusing::leaked(rt.alloc(), 0)?;
@@ -137,6 +137,13 @@ fn set_adds_thousands_of_columns_to_a_row(rt: HostRuntime) -> Result<(), Fail> {
         assert_set(&rt, &mut table, (4999, column), 7, None)?;
     }
     assert_counts(&rt, refusing, 23, 3);
+    let row = 4096_u64.saturating_mul(16).saturating_add(16);
+    let rows = 5000_u64.saturating_mul(16).saturating_add(16);
+    assert_same(
+        &rt,
+        refusing.bytes(),
+        rows.saturating_add(row.saturating_mul(2)),
+    );
     assert_same(&rt, table.len(), 8000);
     Ok(())
 }
