@@ -275,7 +275,9 @@ impl<T, A: Allocator> OpenBlock<T, A> {
     pub(crate) fn merge_gaps(&mut self)
         requires no_middle { self.old.middle ≡ [] }
         ensures { self.new
-            ≡ record self.old { gap_before = self.old.gap_before + self.old.gap_after; gap_after = 0 } }
+            ≡ record self.old {
+              gap_before = self.old.gap_before + self.old.gap_after; gap_after = 0;
+            } }
     {
         self.middle_start = self.tail_start;
         self.middle_end = self.tail_start;

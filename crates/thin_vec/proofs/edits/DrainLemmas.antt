@@ -86,7 +86,8 @@ module _ {T A G H : Type 0} {g : Ghosts G} {h : IntoInnerGhosts H (OpenView T A)
       (from_front DrainSteps (λ x. x) drain_rest (λ a b n. ap length n.gave.0)
       (λ a x b n. n.gave) p s)
 
-  pub drains_in_reverse : YieldsInReverse (DrainStepsBack {T = T} {A = A} {G = G} {H = H} {g = g} {h = h})
+  pub drains_in_reverse : YieldsInReverse
+    (DrainStepsBack {T = T} {A = A} {G = G} {H = H} {g = g} {h = h})
       drain_rest
   drains_in_reverse p s =
       as_is_back p (drain_rest p.from)

@@ -86,7 +86,8 @@ module _ {S T A : Type 0} {steps : S → Option T → S → Type 0} {can : S →
       let none = ap (λ y. y.middle) same ∙ empty in
       let tail = ap (λ y. y.tail) same in
       let gap_before = ap (λ y. y.gap_before) same in
-      let many : length xs ≡ v.gap_before - u.gap_before = omega (arith, gap_before, filled-fits filled.0) in
+      let many : length xs ≡ v.gap_before - u.gap_before =
+        omega (arith, gap_before, filled-fits filled.0) in
       let put = closed-moves v u (length xs)
       (ap (λ y. y.cost) same ∙ ap (λ n. add_moves n v.cost) many) none tail many in (
         filled.0,
@@ -250,7 +251,8 @@ module _ {S T A : Type 0} {steps : S → Option T → S → Type 0} {can : S →
           items.2 ∙ between-more v u.items xs items.0 end p.items p.ends,
         )
         taken ruled blocks (λ none. absurd (omega (arith, some, ap length none)))
-    finished-from {t} {u} {xs} (Err e) p some ends items placed cause err taken ruled blocks = record {
+    finished-from {t} {u} {xs} (Err e) p some ends items placed cause err taken ruled blocks =
+      record {
       succeeds = λ few. ends (omega (arith, few, p.full, p.nearer));
       succeeds_at_end = λ none _. absurd (omega (arith, some, ap length none));
       items = tt;

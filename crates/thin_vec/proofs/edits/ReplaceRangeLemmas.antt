@@ -23,7 +23,8 @@ too-many rule R v k n law bounded never some =
       | inl more ↦ never-some (capacity_after_reserve rule R v k)
           (λ c is. let grown = ruled-grows rule R v.capacity (length v.items + k) c law more is in
           never (fits-less R n c grown.fits (omega (arith, grown.enough, some))))
-      | inr spare ↦ absurd (never (fits-less R n v.capacity (fits_allocatable R v.capacity bounded.allocatable)
+      | inr spare ↦ absurd
+        (never (fits-less R n v.capacity (fits_allocatable R v.capacity bounded.allocatable)
           (omega (arith, spare, some))))
     ]
 

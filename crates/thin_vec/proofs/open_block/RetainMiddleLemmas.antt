@@ -203,7 +203,8 @@ module _ {S T : Type 0} (R : S → T → Bool → S → T → Type 0) where
           cost = add_moves n v.cost;
         }))
 
-  pub retains-start : {A : Type 0} (s : S) (v : OpenView T A) → 0 < v.gap_before → RetainsSome R s v s v
+  pub retains-start : {A : Type 0} (s : S) (v : OpenView T A) → 0 < v.gap_before
+    → RetainsSome R s v s v
   retains-start s v gap_before =
       record {
         done = [];
@@ -255,7 +256,8 @@ module _ {S T : Type 0} (R : S → T → Bool → S → T → Type 0) where
         { front = v.front ++ take m ys; gap_before = w.gap_before; middle = w.middle }
 
     -- The lemmas `retained-goes` and `retained-ends` are the cases of `retain_middle`.
-    pub retained-goes : (value : T) (u : S) (z : OpenView T A) → Passed → drop m ys ≡ value ∷ w.middle
+    pub retained-goes : (value : T) (u : S) (z : OpenView T A) → Passed → drop m ys
+      ≡ value ∷ w.middle
         → RetainsSome R t w u z → z.middle ≡ [] → RetainsMiddle R s v u z
     unfolding part-goes
     retained-goes value u z p k h none =

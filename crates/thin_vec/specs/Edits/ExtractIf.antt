@@ -22,7 +22,8 @@ module _ {T F A : Type 0} (R : F → T → Bool → F → T → Type 0) where
   pub record ExtractsOne (old : ExtractState T F A) (item : Option T)
       (new : ExtractState T F A) : Type 0 where
     pub kept : List T
-    pub asked : ExtractsNext R old.picks.pick old.block.middle item new.picks.pick kept new.block.middle
+    pub asked : ExtractsNext R old.picks.pick old.block.middle item new.picks.pick kept
+      new.block.middle
     pub count : length old.block.middle ≡ length kept + length
         (option_to_list item) + length new.block.middle
     pub front : new.block.front ≡ old.block.front ++ kept

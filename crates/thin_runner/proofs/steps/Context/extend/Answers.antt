@@ -20,7 +20,8 @@ returns-in-Ok g c =
       allowed = (
         tt,
         replaces ((e.items.2 ∙ ap (λ l. old.items ++ l) items) ∙ sym (at-end old.items _))
-            e.capacity e.cost.inserting e.preserved (sym (without_range-end old)) count (omega arith),
+            e.capacity e.cost.inserting e.preserved (sym (without_range-end old)) count
+              (omega arith),
       );
     }
 

@@ -24,7 +24,8 @@ fails g c all =
           (omega (arith, ap length same, c.requires.in_bounds)),
     ))
     (c.push_clones_within.ensures.stopped_at less)
-    (subst (λ l. All g.T.Clone.is_infallible (slice_range l c.args.start c.args.end)) (sym same) all)
+    (subst (λ l. All g.T.Clone.is_infallible (slice_range l c.args.start c.args.end)) (sym same)
+      all)
 
 pub returns-then-push_clones_within-end-clause-succeeds :
     goal.returns-then-push_clones_within-end-clause-succeeds

@@ -20,7 +20,8 @@ returns-then-seek_removed-clause-steps g c =
     record {
       kept = take a.count a.left;
       asked = asked;
-      count = picked-count R v.picks.pick v.block.middle _ t.pick (take a.count a.left) z.middle asked;
+      count = picked-count R v.picks.pick v.block.middle _ t.pick (take a.count a.left) z.middle
+        asked;
       front = search rules;
       gap_before = search rules;
       tail = search rules;

@@ -118,7 +118,8 @@ returns-in-Err-extend_unhinted-clause-cause g c =
       by_hint = λ none. absurd (hand-empty in_hand none);
     }
 
-pub returns-in-Err-extend_unhinted-clause-in_hand : goal.returns-in-Err-extend_unhinted-clause-in_hand
+pub returns-in-Err-extend_unhinted-clause-in_hand :
+  goal.returns-in-Err-extend_unhinted-clause-in_hand
 returns-in-Err-extend_unhinted-clause-in_hand g c =
     match-some _ _ c.in-Err-extend_unhinted.refused.in_hand c.in-Err-extend_unhinted.ensures.in_hand
     c.in-Err-extend_unhinted.ensures.err_full
@@ -155,7 +156,8 @@ returns-in-Err-clause-err_runs g c =
     (λ l. l ≡ c.reserve_exact.new.self.items ++ []) refl
     (ap (λ l. l ++ []) (sym none))
 
-pub returns-in-Err-extend_unhinted-clause-err_runs : goal.returns-in-Err-extend_unhinted-clause-err_runs
+pub returns-in-Err-extend_unhinted-clause-err_runs :
+  goal.returns-in-Err-extend_unhinted-clause-err_runs
 returns-in-Err-extend_unhinted-clause-err_runs g c =
     let placed = c.in-Err-extend_unhinted.ensures.placed in
     let items = placed.1 ∙ ap (λ old. old ++ placed.0)
