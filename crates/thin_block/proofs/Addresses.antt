@@ -55,8 +55,9 @@ module _ {M : Type 1} {𝓤 : Ura M} (𝓛 : Logic 𝓤) (Ev : Env 𝓤 𝓛.H) 
     abbrev pub gone : List (Item 𝓤)
     gone = set 𝓛 p₄ (holds p₄ (vptr b (i * sz E + o))) far
 
-    -- `goes_by` lists the context entries that this computation reads or replaces, and `goes_with`
-    -- what they must be. `p` holds the address of the first item, and `pᵢ` holds the index `i`.
+    -- `goes_by p pᵢ` lists the context entries that the computation of `p.add(i)` reads or
+    -- replaces, and `goes_with p pᵢ` lists what these entries must be. The local variable `p` holds
+    -- the address of the first item, and `pᵢ` holds the index `i`.
     abbrev pub goes_by : ℕ → ℕ → List (Item 𝓤)
     goes_by p pᵢ = at 𝓛 pᵢ Γ ∷ at 𝓛 p₃ Γ ∷ at 𝓛 p far ∷ at 𝓛 p₃ far ∷ at 𝓛 p₄ far ∷ []
 

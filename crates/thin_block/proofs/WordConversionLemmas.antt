@@ -195,7 +195,8 @@ module _ {M : Type 1} {𝓤 : Ura M} (𝓛 : Logic 𝓤) (T : RattleType) (L : L
           (words_back 𝓛 T L m k b told xs count j v (div_ceil c m) c (o + 16) whole slots
           (let fill : div_ceil c m ≡ v + count = omega arith in fill) (told.counts.covers c)) $
           split ! $
-          -- The context is now: the slots; the right to convert them back; memory for the capacity;
-          -- memory for the length; the right to convert these back; the right to free the words.
+          -- The context is now: the slots; the right to convert the slots into words; memory for
+          -- the capacity; memory for the length; the right to convert the memory of the header into
+          -- words; the right to free the words.
           move ! (1 ∷ 5 ∷ []) $ fjoin ! $ move ! (4 ∷ 0 ∷ []) $ fjoin ! $
           move ! (2 ∷ 3 ∷ 1 ∷ 0 ∷ []) $ done !

@@ -169,8 +169,8 @@ padded_right_at t τ s c b start o =
     (fsep (fwand (froom ty_ptr b (end_of s c o)) (froom τ b (end_of s c o)))
     (t (padded_type τ c) (block_ptr b start))))
 
--- `padded_right t τ s c b o` is `padded_right_at` for some start of the memory. The first slot is
--- one item after the start.
+-- `padded_right t τ s c b o` is `padded_right_at t τ s c b start o`, where `start` is the offset
+-- one item (`s` bytes) before the first slot.
 abbrev pub padded_right : (Ty → Ptr → Fml) → Ty → ℕ → ℕ → ℕ → ℕ → Fml
 padded_right t τ s c b o = fex ℕ (λ start.
     fsep (feq ℕ (start + s) (o + 16)) (padded_right_at t τ s c b start o))

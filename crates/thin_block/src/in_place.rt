@@ -70,7 +70,8 @@ impl<T, A: Allocator> Block<T, A> {
     // Resizes the block of length `len` to `cap` slots, and may leave it at its address. `M` items
     // form a word, and the header is as large as `K` words.
     //
-    // `resize` is inlined into the callers of `grow`. This function is cold, so that it is not.
+    // `resize` is inlined into the callers of `grow`. This function is marked `#[cold]` so that it
+    // is not inlined there, too.
     #[cold]
     pub(crate) fn resize_in_place<const M: usize, const K: usize>(
         &mut self,

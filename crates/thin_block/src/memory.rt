@@ -266,7 +266,8 @@ impl<T, A: Allocator> Block<T, A> {
         }
     }
 
-    // Frees the allocation of the block, which is not padded, as `release` does.
+    // Frees the allocation of the block, which is not padded. Blocks that were resized as arrays of
+    // words have the same size and alignment as all others.
     fn free_block(self, alloc: &A, bytes: usize, align: usize)
         requires same_allocator { self.alloc ≡ Some alloc.now }
         requires empty { self.slots ≡ empty_slots (length self.slots) }

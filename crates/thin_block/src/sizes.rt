@@ -37,7 +37,8 @@ pub(crate) fn align_of_block<T>() -> usize
     if align > 8 { align } else { 8 }
 }
 
-// Returns the size in bytes of a block for `cap` items.
+// Returns the size in bytes of a block for `cap` items that is not padded. It is a multiple of the
+// alignment, so a block whose items form words is an array of words of just this size.
 pub(crate) fn bytes_of_block<T>(cap: usize) -> usize
     requires { Fits T.row cap }
     ensures value { result ≡ block_bytes (type_size T.row) (type_align T.row) cap }

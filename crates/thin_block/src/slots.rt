@@ -79,7 +79,8 @@ impl<T, A: Allocator> Block<T, A> {
     }
 
     /// Removes the item from slot `i` and returns it. If `j != i`, then moves the item of slot `j`
-    /// into slot `i`.
+    /// into slot `i`. If `j` equals `i`, the slot is empty afterwards, though its bytes are written
+    /// back, and no move is counted.
     pub fn swap_take(&mut self, i: usize, j: usize) -> T
         requires filled { IsSome (slot self.old.slots i) }
         requires other_filled { IsSome (slot self.old.slots j) }

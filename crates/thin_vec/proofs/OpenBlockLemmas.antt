@@ -233,7 +233,8 @@ module _ {T A : Type 0} where
               (ap (λ (z : BlockView T A). z.cost) now),
         )
 
-    -- `last-left` and `last-view` are the same for the last middle item.
+    -- `last-left` is `h` without its last middle item. `last-view ys` is how contracts see it if
+    -- `ys` are the other middle items.
     abbrev pub last-left : Inside T A
     last-left = record h { block = b; middle_end = h.middle_end - 1 }
 

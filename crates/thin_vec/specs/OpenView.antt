@@ -12,15 +12,17 @@ use Rattle.thin_block.specs.Slots.{empty_slots, filled_slots}
 --   +-----------+-----------+-----------+-----------+-----------+-------------+
 --   |   items   |   empty   |   items   |   empty   |   items   |    empty    |
 --   +-----------+-----------+-----------+-----------+-----------+-------------+
---       front        gap_before    middle    gap_after     tail      spare slots
+--       front     gap_before    middle     gap_after     tail       spare slots
 -- ```
 pub record OpenView (T A : Type 0) : Type 0 where
   -- The front items: the items before the edited range, then the items of the range that a call
-  -- such as `retain` has kept so far, or the items that `finish` of a `Splice` has inserted so far.
+  -- such as `retain` has kept so far, or the items that an edit such as `finish` of a `Splice` has
+  -- inserted so far.
   pub front : List T
   -- The number of empty slots between the front and the middle run.
   pub gap_before : ℕ
-  -- The middle items: the items of the edited range that have not been yielded or tested yet.
+  -- The middle items: the items of the edited range that have not been yielded, kept or removed
+  -- yet.
   pub middle : List T
   -- The number of empty slots between the middle run and the tail.
   pub gap_after : ℕ

@@ -59,8 +59,9 @@ pub struct SpliceRefused<T, I, A: Allocator = Global> {
     /// uses the allocator that was passed to `finish`; this is tested, since no contract of `Vec`
     /// names the allocator.
     pub held: Vec<T, A>,
-    /// The item after those in `held`, for which there was no room. It is `None` if the call could
-    /// not reserve room for several items at once.
+    /// The item that the iterator yielded after the items in `held`, if there was no room for this
+    /// item. It is `None` if the call could not reserve room for the lower bound of the size hint,
+    /// or for all items in `held`.
     pub in_hand: Option<T>,
     /// The iterator, which yields the items that were not taken. If `held` contains items and
     /// `in_hand` is `None`, the iterator has ended, and `next` must not be called on it.

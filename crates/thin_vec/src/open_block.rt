@@ -20,7 +20,8 @@ use thin_block::{Block, Growth};
 /// The block of a list while a method such as `retain` removes, replaces or tests the items of a
 /// range. During this time, there may be empty slots between the items.
 ///
-/// The fields say in which slot each of six parts begins. Any part may consist of no slots.
+/// The slots are divided into six parts, each of which may consist of no slots. Each field but
+/// `block` is the index of the slot in which a part begins; the front begins at 0.
 ///
 /// ```text
 ///   0       front_end    middle_start     middle_end    tail_start      len        capacity
@@ -44,7 +45,7 @@ use thin_block::{Block, Growth};
 /// `specs/OpenView.antt`. Only the proofs of its methods deal with slots. So each step of an edit
 /// is a method, even a step that only one function takes.
 pub struct OpenBlock<T, A: Allocator> {
-    // The length that the block stores is not used while it is open.
+    // While the block is open, the length that it stores is not used.
     pub(crate) block: Block<T, A>,
     pub(crate) front_end: usize,
     pub(crate) middle_start: usize,
@@ -202,7 +203,8 @@ impl<T, A: Allocator> OpenBlock<T, A> {
         self.front_end += 1;
     }
 
-    // Lets the first `k` middle items belong to the front. There is no gap, so none of them moves.
+    // Lets the first `k` middle items belong to the front. `gap_before` is 0, so none of them
+    // moves.
     pub(crate) fn keep_in_place(&mut self, k: usize)
         requires no_gap { self.old.gap_before ≡ 0 }
         requires in_bounds { k ≤ length self.old.middle }
@@ -230,7 +232,8 @@ impl<T, A: Allocator> OpenBlock<T, A> {
         self.append_to_front(value);
     }
 
-    // Moves the first `k` middle items to the end of the front, two or more of them together.
+    // Moves the first `k` middle items to the end of the front. Two or more of them move by one
+    // call of `Block::close_gap`, after which the gap begins behind them.
     pub(crate) fn move_down(&mut self, k: usize)
         requires in_bounds { k ≤ length self.old.middle }
         requires has_gap { 0 < self.old.gap_before }
@@ -271,7 +274,7 @@ impl<T, A: Allocator> OpenBlock<T, A> {
         self.tail_start < self.len
     }
 
-    // Joins the gaps before and after the empty middle run.
+    // Joins `gap_before` and `gap_after`, which have no middle items between them.
     pub(crate) fn merge_gaps(&mut self)
         requires no_middle { self.old.middle ≡ [] }
         ensures { self.new
@@ -283,7 +286,8 @@ impl<T, A: Allocator> OpenBlock<T, A> {
         self.middle_end = self.tail_start;
     }
 
-    // Moves the items after the gap down, stores their number in the block, and returns it.
+    // Moves the items after `gap_before` down to the end of the front, stores the number of all
+    // items in the block, and returns the block.
     #[inline(always)]
     fn close_gap(self) -> Block<T, A>
         requires gap_after { self.gap_after ≡ 0 }

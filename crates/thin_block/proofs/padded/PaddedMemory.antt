@@ -25,7 +25,8 @@ module _ {M : Type 1} {𝓤 : Ura M} (𝓛 : Logic 𝓤) (τ : Ty) (b n : ℕ)
     abbrev pointers : Ty
     pointers = ty_array ty_ptr (suc (n + 1))
 
-    -- Splits memory for an item into memory for an address, and the right to convert it back.
+    -- Splits memory for an item into memory for an address, and the right to convert the memory for
+    -- the address back into memory for the item.
     pub address_out : ent 𝓤 (H.room τ b o)
         (sep 𝓤 (H.room ty_ptr b o) (sem 𝓛 (fwand (froom ty_ptr b o) (froom τ b o))))
     address_out =

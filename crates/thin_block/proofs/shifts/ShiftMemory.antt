@@ -44,8 +44,9 @@ module _ (E : El) {M : Type 1} {𝓤 : Ura M} (𝓛 : Logic 𝓤) (b o : ℕ) (s
   abbrev Room : ℕ → ℕ → Fml
   Room n at = froom (ty_array (elτ E) n) b at
 
-  -- `Moves Was Is` holds if the memory `Was` can be separated from the other slots before a move of
-  -- items, and the memory `Is` can be joined with the other slots after the move.
+  -- `Moves Was Is` holds if the memory of all slots can be split into `Was` and a rest before a
+  -- move of items, and `Is` and the same rest can be joined into the memory of all slots after the
+  -- move.
   pub record Moves (Was Is : Fml) : Type 1 where
     pub Rest : Fml
     pub out : ent 𝓤 (sem 𝓛 (Row o slots)) (sep 𝓤 (sem 𝓛 Was) (sem 𝓛 Rest))

@@ -342,8 +342,9 @@ module _ {M : Type 1} {𝓤 : Ura M} (𝓛 : Logic 𝓤) (T : RattleType) (L : L
         ‵ (slots_own (R E) (empty_slots j) b after))
         (cut E 𝓛 b (filled_slots xs) (empty_slots j) o after last) $ split ! $ move ! (2 ∷ []) $
         fsplit ! $
-        -- The context is now: the rights (`word_wands`); the unused memory after the last slot; the
-        -- filled slots; the empty slots.
+        -- The context is now: the right, for each word, to convert memory for its items into memory
+        -- for the word (`word_wands`); the unused memory after the last slot; the filled slots; the
+        -- empty slots.
         move ! (2 ∷ 0 ∷ []) $
         use2 𝓛 (‵ (runs_at (R E) N (chunks n xs) b o) ⊛ ‵ (word_wands τ' m v b after))
         (to_runs n w v xs o after long total at_after) $ split ! $ move ! (3 ∷ 1 ∷ 2 ∷ []) $

@@ -95,7 +95,8 @@ fn take_ends<T: Drop, A: Allocator, G: Growth>(
     }
 }
 
-// Carries out one step on `drain`, and returns its result.
+// Takes one item from the end of `drain` that `step` names, and returns it, or returns `None` if no
+// item remains.
 fn take_end<T: Drop, A: Allocator, G: Growth>(
     drain: &mut Drain<'_, T, A, G>,
     step: Step,

@@ -1,5 +1,5 @@
--- These lemmas state what an open block contains after a closure tested some of its middle items,
--- and the items were kept or removed.
+-- These lemmas state what an open block contains after a closure has tested some of its middle
+-- items, and each tested item has been kept or removed.
 use Rattle.std.proofs.Common.{◌≡◌, ℕ, ◌+◌, ◌<◌, ◌≤◌, Bool, true, false, List, [], ◌∷◌, ◌++◌, length, take, drop, refl, sym, ap, subst, ◌∙◌, arith, length-append, append_assoc}
 use Rattle.std.proofs.Math.Seq.{take-add}
 use Rattle.std.proofs.lemmas.List.{append-nil, drop-drop, drop_at, length-take-le, nil_from_length, take-append-drop, take_at}

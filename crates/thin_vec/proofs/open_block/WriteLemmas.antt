@@ -1,5 +1,5 @@
--- These lemmas are for the `dedup` methods. They say how contracts see an open block after items
--- were written into one or two of its slots.
+-- These lemmas are for the `dedup` methods. They state how contracts see an open block after items
+-- have been written into one or two of its slots.
 use Rattle.std.proofs.Common.{◌≡◌, ◌≢◌, ℕ, zero, suc, ◌+◌, ◌-◌, ◌<◌, ◌≤◌, List, [], ◌∷◌, ◌++◌, Option, Some, None, length, take, drop, refl, sym, ap, ◌∙◌, arith, length-append, append_assoc, get_or}
 use Rattle.std.proofs.lemmas.List.{drop_at, get_or_at, get_or-set_other, length-drop, length-take-le, length_push, set_at, take_at}
 use Rattle.std.specs.Prelude.{IsSome, slice_range}

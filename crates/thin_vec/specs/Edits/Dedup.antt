@@ -6,7 +6,8 @@ use Rattle.thin_vec.specs.ThinVec.{ListView}
 use Rattle.thin_vec.specs.Edits.Retain.{moves_of_retain}
 
 -- `R s x k b t y l` describes one call of a test. The call compares the item `x` with the last kept
--- item `k`, and returns the Boolean value `b`, which is true if `x` is to be removed. The call
+-- item `k`, and returns the Boolean value `b`, which is true if `x` is to be removed, as the
+-- closure of `dedup_by` says. (The tests of `retain` return true for an item to be kept.) The call
 -- changes the state of the test from `s` to `t`, the item from `x` to `y`, and the kept item from
 -- `k` to `l`.
 module _ {S T : Type 0} (R : S → T → T → Bool → S → T → T → Type 0) where

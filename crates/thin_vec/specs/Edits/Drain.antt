@@ -58,8 +58,9 @@ module _ {T A G H : Type 0} {g : Ghosts G} {h : IntoInnerGhosts H (OpenView T A)
     pub gave : YieldsLast drain_rest old item new
     pub keeps : DrainKeeps old new
 
-  -- `DrainKeepsAlong d` states that calls to `next` on the `Drain` `d`, however many there are, do
-  -- not change the list that will remain after `d` is dropped. This follows from `DrainSteps`.
+  -- `DrainKeepsAlong d` states that calls to `next` on the `Drain` `d`, however many there are,
+  -- change neither the borrowed list nor the list that will remain after `d` is dropped
+  -- (`DrainKeeps`). This follows from `DrainSteps`.
   abbrev pub DrainKeepsAlong : Drain T A G H g h → Type 0
   DrainKeepsAlong first = (items : List T) (later : Drain T A G H g h)
       → Yields DrainSteps first items later → DrainKeeps first later

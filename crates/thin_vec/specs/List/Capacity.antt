@@ -51,8 +51,9 @@ module _ {T A : Type 0} where
   CostsMoves n v w = w.cost ≡ add_moves n (cost_after_resize v w.capacity)
 
   -- `LacksRoom rule R w k cause` states why a call failed with the error `cause`: the list `w` has
-  -- no room for `k` more items of the type `R`. The cause is `CapacityOverflow` if and only if the
-  -- growth rule `rule` chooses no capacity for these items.
+  -- no room for `k` more items of the type `R`. It is the list after the call, or an equal one
+  -- before it. The cause is `CapacityOverflow` if and only if the growth rule `rule` chooses no
+  -- capacity for these items.
   abbrev pub LacksRoom : GrowthRule → RattleType → ListView T A → ℕ → ThinVecError → Type 0
   LacksRoom rule R w k cause =
       ¬ (HasRoomFor w k)

@@ -61,14 +61,15 @@ impl<T: Drop, A: Allocator, G: Growth> ThinVec<T, A, G> {
         requires start_le_end { start ≤ end }
         requires in_bounds { end ≤ length self.old.items }
 
-        // `runs` and `runs_back` follow from the contracts of `next` and `next_back`, and are for
-        // callers' proofs about loops.
+        // What the `Drain` yields. `runs` and `runs_back` follow from the contracts of `next` and
+        // `next_back`, and are for callers' proofs about loops.
         ensures rest { drain_rest result ≡ slice_range self.old.items start end }
         ensures runs { DrainYieldsInOrder result }
         ensures runs_back { DrainYieldsInReverse result }
 
         // The `Drain` borrows the list, so the list is a part of `result`, and not `self.new`. It
-        // is empty until the `Drain` is dropped: calls to `next` do not change it (`DrainKeeps`).
+        // is empty until the `Drain` is dropped: calls to `next` and `next_back` do not change it
+        // (`DrainKeeps`).
         ensures meanwhile { drain_list result
             ≡ record self.old { items = []; capacity = 0; cost = no_cost } }
 
@@ -79,8 +80,9 @@ impl<T: Drop, A: Allocator, G: Growth> ThinVec<T, A, G> {
               (length self.old.items - end) self.old.cost;
         } }
 
-        // `stays` follows from the contract of `next`. For both ends, see `drain_leaves` in
-        // `thin_vec.proofs.edits.DrainLemmas`.
+        // Which list is borrowed, and what calls to `next` leave unchanged. `stays` follows from
+        // the contract of `next`. For calls to both `next` and `next_back`, see the lemma
+        // `drain_leaves` in `thin_vec.proofs.edits.DrainLemmas`.
         ensures same_reference { drain_lender result ≡ self.entry.ghost_name }
         ensures stays { DrainKeepsAlong result }
     {

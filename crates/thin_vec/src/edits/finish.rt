@@ -155,7 +155,8 @@ impl<T: Drop, A: Allocator, G: Growth> ThinVec<T, A, G> {
         requires can_next { I.can_next iter }
         requires finite { IsFinite (I.remaining iter) }
 
-        // All `ensures` clauses of `Splice::finish` follow from this clause.
+        // The `ensures` clauses of `Splice::finish` follow from this clause, and from the bounds of
+        // the list and of the block.
         ensures { FinishesSplice I.next_gives I.can_next I.remaining G.rule T.row block
             self.old.alloc
             iter self.new result }

@@ -16,8 +16,8 @@ pub trait IntoInner {
         ensures value { result ≡ inner self };
 }
 
-/// The only type that implements `IntoInner`, and the default of the type parameter `H` of `Drain`,
-/// `ExtractIf` and `Splice`. Users of these types need not write `H`.
+/// The only type of this crate that implements `IntoInner`, and the default of the type parameter
+/// `H` of `Drain`, `ExtractIf` and `Splice`. Users of these types need not write `H`.
 pub struct Holder<B> {
     pub(crate) value: B,
 }

@@ -52,7 +52,8 @@ impl<T, A: Allocator, G: Growth> ThinVec<T, A, G> {
         requires start_le_end { start ≤ end }
         requires in_bounds { end ≤ length self.old.items }
 
-        // What the `Splice` yields (`rest`), and the iterator of the new items (`value`).
+        // What the `Splice` yields (`rest`), the number of slots of the range (`range`), and the
+        // iterator of the new items (`value`).
         ensures rest { splice_rest result ≡ slice_range self.old.items start end }
         ensures range { splice_range_len result ≡ end - start }
         ensures value { splice_iter result ≡ iter }
@@ -139,21 +140,21 @@ impl<
     /// # Errors
     ///
     /// `finish` cannot fail, and requests no memory, if the iterator cannot yield more items than
-    /// the range has slots, or if no item follows the range and the list has room for all items. If
-    /// items follow the range, such room does not guarantee success: the lower bound of the size
-    /// hint may be too low, and then the vector requests memory.
+    /// the range has slots, or if no item follows the range and the list has room for as many items
+    /// as the iterator may yield. If items follow the range, such room does not guarantee success:
+    /// the lower bound of the size hint may be too low, and then the vector requests memory.
     ///
-    /// On failure, no item is lost: items of the iterator that are not in the list are in the
-    /// error.
+    /// On failure, the items of the range are dropped all the same. No item of the iterator is
+    /// lost: those that are not in the list are in the error.
     ///
     /// - If no item follows the range, `held` is empty. If `in_hand` is `None`, room for the size
-    ///   hint could not be reserved, and no item was inserted. Otherwise, the list is full.
-    /// - If items follow the range, all its slots are filled. If `in_hand` has an item, the vector
-    ///   could not grow. Otherwise, the list could not grow: for the size hint if `held` is empty,
-    ///   and for the items in `held` if it is not.
+    /// hint could not be reserved, and no item was inserted. Otherwise, the list is full. - If
+    /// items follow the range, all slots of the range are filled. If `in_hand` has an item, the
+    /// vector could not grow, and the `cause` is `OutOfMemory`. Otherwise, the list could not grow:
+    /// for the size hint if `held` is empty, and for the items in `held` if it is not.
     ///
-    /// The `cause` is `CapacityOverflow` if the growth rule chooses no capacity for the required
-    /// length, and otherwise `OutOfMemory`.
+    /// If the list could not grow, the `cause` is `CapacityOverflow` if the growth rule chooses no
+    /// capacity for the items that need room, and `OutOfMemory` if it chooses one.
     // Always inlined for the reason that `finish_before_tail` gives.
     #[inline(always)]
     pub fn finish(self, alloc: A) -> Result<(), SpliceRefused<T, I, A>>
@@ -169,8 +170,8 @@ impl<
             (λ p. self.exit.0.now.items
             ≡ (splice_front self.entry ++ p.items) ++ splice_tail self.entry)) }
 
-        // When it must succeed, and when the list makes no request for memory. If no item follows
-        // the range, `had_room` follows from `capacity` and `cost`.
+        // When it must succeed, and when the list makes no request for memory. `had_room` follows
+        // from `capacity` and `cost`, because the slots of the range are a part of the capacity.
         ensures succeeds { HasSlotsFor self.entry (size (I.remaining (splice_iter self.entry)))
             → IsOk result }
         ensures had_room { HasSlotsFor self.entry (size (I.remaining (splice_iter self.entry)))
@@ -199,7 +200,8 @@ impl<
             × (error.rest ≡ splice_iter self.entry))
             (λ _. length self.exit.0.now.items ≡ self.exit.0.now.capacity)) }
 
-        // In every case. The limit of the iterator stands for its size hint.
+        // In every case. No contract can name the lower bound of the size hint, so `capacity` says
+        // that there is such a number, at most the limit of the iterator.
         ensures capacity { ExtendsCapacity G.rule T.row (left_by_splice self.entry) self.exit.0.now
             (I.remaining (splice_iter self.entry)) }
 

@@ -16,7 +16,7 @@ impl<T, A: Allocator, G: Growth> ThinVec<T, A, G> {
     ///
     /// # Errors
     ///
-    /// Fails if and only if `reserve(other.len())` would fail, for the same cause.
+    /// Fails if and only if `reserve(other.len())` would fail, with the same cause.
     pub fn append(&mut self, other: &mut ThinVec<T, A, G>) -> Result<(), ThinVecError>
         // On success.
         ensures items { OnOk result (self.new.items ≡ self.old.items ++ other.old.items) }
@@ -44,7 +44,7 @@ impl<T, A: Allocator, G: Growth> ThinVec<T, A, G> {
     }
 
     /// Moves the items from index `at` onward to a new list, which owns `alloc` and has no spare
-    /// capacity. This list keeps its capacity.
+    /// capacity. The capacity of `self` does not change.
     ///
     /// # Errors
     ///

@@ -54,7 +54,7 @@ impl<T, A: Allocator, G: Growth> ThinVec<T, A, G> {
     ///
     /// # Errors
     ///
-    /// Fails only if there is not enough room, for the causes of `reserve`.
+    /// Fails only if there is not enough room. The possible causes are those of `reserve`.
     #[tactic(auto, using(thin_block::proofs::CapacityLemmas::exact))]
     pub fn reserve_exact(&mut self, additional: usize) -> Result<(), ThinVecError>
         // On success.

@@ -19,7 +19,7 @@ impl<T: Clone, A: Allocator, G: Growth> ThinVec<T, A, G> {
     ///
     /// # Errors
     ///
-    /// Fails if `reserve(items.len())` would fail, for the same cause. Also fails with
+    /// Fails if `reserve(items.len())` would fail, with the same cause. Also fails with
     /// `OutOfMemory` if an item cannot be cloned. In this case, all clones are dropped, and the
     /// list keeps its old items and its new capacity.
     pub fn extend_from_slice(&mut self, items: &[T]) -> Result<(), ThinVecError>
@@ -59,8 +59,8 @@ impl<T: Clone, A: Allocator, G: Growth> ThinVec<T, A, G> {
     ///
     /// # Errors
     ///
-    /// Fails with `OutOfMemory` if `alloc` fails, or if an item cannot be cloned. On failure,
-    /// `alloc` and all clones are dropped.
+    /// Fails with `OutOfMemory` if `alloc` refuses the memory, or if an item cannot be cloned. On
+    /// failure, `alloc` and all clones are dropped.
     pub fn clone(&self, alloc: A) -> Result<ThinVec<T, A, G>, ThinVecError>
         // On success. `items_if_clones_equal` follows from `items`, and is for callers' proofs.
         ensures items { IfOk result (λ list. AllZip T.is_clone self.now.items list.items) }
@@ -250,6 +250,7 @@ impl<T: Clone, A: Allocator, G: Growth> ThinVec<T, A, G> {
 impl<T: Clone, A: Allocator + Copy, G: Growth> Clone for ThinVec<T, A, G> {
     ghost is_clone = { IsClonedList T.is_clone };
 
+    // The clone of an empty list requests no memory; that of any other list may be refused.
     ghost is_infallible = { λ list. list.items ≡ [] };
 
     fn clone(&self) -> Result<Self, AllocError> {

@@ -29,9 +29,9 @@ impl<T, A: Allocator, G: Growth> ThinVec<T, A, G> {
     ///
     /// # Errors
     ///
-    /// Fails, for the causes of `reserve`, if there is no room for the lower bound or for a later
-    /// item. The list keeps the items that were appended before, and the error returns the other
-    /// items to the caller.
+    /// Fails if there is no room for the lower bound or for a later item. The possible causes are
+    /// those of `reserve`. The list keeps the items that were appended before, and the error
+    /// returns the other items to the caller.
     pub fn extend<I: Iterator<Item = T>>(&mut self, iter: I) -> Result<(), ExtendRefused<T, I>>
         requires can_next { I.can_next iter }
         requires finite { IsFinite (I.remaining iter) }
@@ -238,8 +238,8 @@ impl<T, A: Allocator> ThinVec<T, A> {
 impl<T: Drop, A: Allocator, G: Growth> Extend<T> for ThinVec<T, A, G> {
     ghost extend_gives = { ExtendsList G.rule T.row };
 
-    // Appends the items as the inherent method does. On failure, drops the items that were not
-    // appended.
+    // Appends the items as the inherent method does. On failure, drops the item in hand and the
+    // iterator.
     fn extend<U: IntoIterator<Item = T>>(&mut self, iter: U) -> Result<(), AllocError> {
         match ThinVec::extend(self, iter.into_iter()) {
             Ok(()) => Ok(()),
@@ -253,7 +253,8 @@ impl<T: Drop, A: Allocator> FromIterator<T> for ThinVec<T, A> {
 
     ghost from_iter_gives = { IsCollectedFrom T.row };
 
-    // Makes a list as the inherent method does. On failure, drops all items.
+    // Makes a list as the inherent method does. On failure, drops the list, the item in hand and
+    // the iterator.
     fn from_iter<U: IntoIterator<Item = T>>(
         alloc: A,
         iter: U,

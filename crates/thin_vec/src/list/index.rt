@@ -19,6 +19,8 @@ impl<T, A: Allocator, G: Growth> DerefSlice for ThinVec<T, A, G> {
 
     ghost deref_gives = { λ list items. items ≡ list.items };
 
+    // The clauses are those of `as_slice`. Callers that know the type have them in place of the
+    // contract of the trait.
     fn deref(&self) -> &[T]
         ensures value { result.now ≡ self.now.items }
         ensures len { length result.now ≡ length self.now.items }

@@ -19,7 +19,7 @@ impl<T, A: Allocator, G: Growth> ThinVec<T, A, G> {
     ///
     /// # Errors
     ///
-    /// Fails if and only if `reserve(1)` would fail, for the same cause. The error returns `value`
+    /// Fails if and only if `reserve(1)` would fail, with the same cause. The error returns `value`
     /// to the caller.
     pub fn push(&mut self, value: T) -> Result<(), Rejected<T>>
         // On success. `len` follows from `items`, and is for callers' proofs.
@@ -38,7 +38,7 @@ impl<T, A: Allocator, G: Growth> ThinVec<T, A, G> {
         // In every case.
         ensures grows { Grows G.rule T.row 1 self.old self.new result }
 
-        // These follow, for callers' proofs.
+        // These follow from `items`, `err` and `cause`, and are for callers' proofs.
         ensures full { OnErr result (self.old.capacity ≤ length self.old.items) }
         ensures by_index { SameBelow self.old.items self.new.items (length self.old.items)
             × ((d : T) → IsOk result

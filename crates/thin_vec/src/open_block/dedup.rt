@@ -98,8 +98,8 @@ impl<T, A: Allocator> OpenBlock<T, A> {
 impl<T: Drop, A: Allocator> OpenBlock<T, A> {
     ghost use Rattle.thin_vec.specs.OpenBlock.Dedup.{DedupsMiddle, DedupsSome};
 
-    // Tests the middle items, and drops those that are not to be kept. Up to the first removal
-    // there is no gap, so no item moves.
+    // Tests each middle item but the first, which is kept, and drops those that are not to be kept.
+    // Up to the first removal there is no gap, so no item moves.
     pub(crate) fn dedup_middle<J: PairTest<T>>(&mut self, test: &mut J)
         requires nonempty { 0 < length self.old.middle }
         requires is_empty { self.old.front ≡ [] }
@@ -118,8 +118,8 @@ impl<T: Drop, A: Allocator> OpenBlock<T, A> {
     }
 
     // Tests the first middle item, and appends it to the front or drops it. If it is kept and the
-    // items are large, goes on up to the next item that is not to be kept, and moves those before
-    // it together.
+    // items are large, goes on up to the next item that is not to be kept, drops this one, and
+    // moves those before it together.
     //
     // The item is taken out of the block before its test, because the block provides two mutable
     // references only for adjacent items.

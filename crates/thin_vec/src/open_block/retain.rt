@@ -7,8 +7,8 @@ use std::alloc::Allocator;
 use thin_block::item_size;
 
 // The size of an item in bytes from which kept items that lie side by side are moved together.
-// Moving smaller items together was measured to cost `retain` up to twice the instructions. No gain
-// was measured at any size up to 1,024 bytes.
+// Moving smaller items together was measured to cost `retain` up to twice the instructions. From
+// this size on, it costs nothing, and one call moves many items.
 const LARGE_FOR_RETAIN: usize = 512;
 
 /// A test of one item.
@@ -67,7 +67,7 @@ impl<T, A: Allocator> OpenBlock<T, A> {
 
     // Tests the middle items up to the first one that is not to be kept, and appends those before
     // it to the front. Returns whether there is one. It is then the first middle item, and the
-    // caller takes it out before the next call.
+    // caller takes it out, or the next call would test it again.
     pub(crate) fn seek_removed<J: Test<T>>(&mut self, test: &mut J) -> bool
         requires callable { J.ready test.old }
         ensures tested { SeeksRemoved J.tests test.old self.old test.new self.new }
@@ -98,7 +98,7 @@ impl<T: Drop, A: Allocator> OpenBlock<T, A> {
     ghost use Rattle.thin_vec.specs.OpenBlock.Retain.{RetainsMiddle};
 
     // Tests the middle items, and drops those that are not to be kept. Up to the first removal
-    // there is no gap, so the first loop moves nothing.
+    // there is no gap, so `test_run` and `keep_in_place` move nothing.
     pub(crate) fn retain_middle<J: Test<T>>(&mut self, test: &mut J)
         requires no_gap { self.old.gap_before ≡ 0 }
         requires callable { J.ready test.old }

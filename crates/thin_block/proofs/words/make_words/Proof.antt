@@ -46,7 +46,7 @@ module _ (E : El) (m : ℕ) where
     (stay_dropped (plain (λ _. usize)) yes, tt),
   )
 
-  -- `Runs` is the type of a list of words in which each word is given as the list of its items.
+  -- `Runs` is the type of lists of words in which each word is given as the list of its items.
   abbrev Runs : Type 0
   Runs = List (List (el_x E))
 

@@ -1,4 +1,5 @@
--- Each iteration carries out one command, so all have run when the loop ends.
+-- Each iteration carries out the next command and appends its reply. The loop ends when no command
+-- is left.
 use Rattle.std.proofs.Common.{◌≡◌, ◌∷◌, [], ap, arith, length, rules}
 use Rattle.std.specs.Vec.Iter.{into_iter_items}
 use Rattle.std.proofs.lemmas.List.{nil_from_length}

@@ -163,7 +163,8 @@ resize_padded_spec 𝓤 𝓛 𝓜 𝓡 wired T A LT LA g d dd met md =
       fits = subst (λ (n : ℕ). n * s < 2 ^ 63) (sym held_is) wide.short;
       new_fits = subst (λ (n : ℕ). n * s < 2 ^ 63) (sym wanted_is) wide'.short;
     } in
-    -- The token of `T` is also that of the const argument.
+    -- Splits the lifetime token of `T` into two parts. The second part is used as the lifetime
+    -- token of the const argument `K` of `resize_array`.
     move ! (3 ∷ []) $ use1 𝓛 (‵ (flft κT qL) ⊛ ‵ (flft κT qR)) (𝓛.lfts.lft_split κT qT) $ split ! $
     move ! (2 ∷ 3 ∷ 4 ∷ 0 ∷ 5 ∷ 1 ∷ []) $ group ! 6 $
     use1 𝓛 (raw (V.pre y))

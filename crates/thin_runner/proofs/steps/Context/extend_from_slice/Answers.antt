@@ -1,4 +1,5 @@
--- The slice that is passed to `extend_from_slice` contains all items of the vector.
+-- The slice that is passed to `extend_from_slice` contains all items of the vector that the command
+-- holds.
 use Rattle.std.proofs.Common.{Err, ap, arith, length}
 use Rattle.thin_vec.specs.ThinVec.{HasRoomFor}
 use Rattle.thin_runner.proofs.CommandLemmas.{refuses-clone, some-items}

@@ -1,4 +1,4 @@
--- `insert` fails if `reserve` fails, for the same cause.
+-- `insert` fails if `reserve(1)` fails, and its error has the same cause.
 use Rattle.std.proofs.lemmas.Bool.{false≢true}
 use denote.Param.{param}
 use Rattle.thin_vec.proofs.list.ReservesLemmas.{lacks-room}
