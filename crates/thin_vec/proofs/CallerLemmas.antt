@@ -111,7 +111,7 @@ module _ {T A X E : Type 0} {rule : GrowthRule} {R : RattleType} {k : ℕ} {v w 
   }
 
 module _ {T A : Type 0} (rule : GrowthRule) (R : RattleType) (law : IsLawful rule)
-  (v w : ListView T A)
+    (v w : ListView T A)
     (k n : ℕ) (room : length v.items ≤ v.capacity)
     (named : capacity_after_reserve rule R v k ≡ Some w.capacity) (cost : CostsMoves n v w) where
   regrown-cheap : IsCheap v → IsCheap w

@@ -178,7 +178,7 @@ module _ {T F A G H : Type 0} {g : Ghosts G} {h : IntoInnerGhosts H (ExtractStat
         → (held ≡ old ++ filter test (extract_rest start))
         × ((left_by_extract_if new).items
         ≡ (extract_block start).front
-          ++ (others test (extract_rest start) ++ (extract_block start).tail))
+        ++ (others test (extract_rest start) ++ (extract_block start).tail))
     extract_end {start} {now} {new} {old} {held} {item} was step none =
         let got = step.extracts in
         let part = parts test R says _ _ _ _ _ _ got.asked in

@@ -35,7 +35,7 @@ module _ {T : Type 0} where
       (get-some xs (j - length pre) (omega arith))
 
   pub slot-in-empty : (pre : List (Option T)) (k : ℕ) (post : List (Option T)) (j : ℕ)
-    → length pre ≤ j
+      → length pre ≤ j
       → j < length pre + k → slot (pre ++ (empty_slots k ++ post)) j ≡ None
   slot-in-empty pre k post j low high =
       let n : j - length pre < k = omega arith in
@@ -84,7 +84,7 @@ module _ {T A : Type 0} where
 
     pub at_middle : length (to_middle v) ≡ h.middle_start
     at_middle =
-      simp (length-append, length-full, length-empty T) (omega (arith, s.front, s.gap_before))
+        simp (length-append, length-full, length-empty T) (omega (arith, s.front, s.gap_before))
 
     pub at_tail : length (to_tail v) ≡ h.tail_start
     at_tail = simp (length-append, length-full, length-empty T)
@@ -134,7 +134,7 @@ module _ {T A : Type 0} where
     pub found : h.block.alloc ≡ v.alloc → h.block.cost ≡ v.cost → Found h v
     found alloc cost =
         let gap_before : h.middle_start - h.front_end ≡ v.gap_before =
-          omega (arith, s.gap_before) in
+        omega (arith, s.gap_before) in
         let gap_after : h.tail_start - h.middle_end ≡ v.gap_after = omega (arith, s.gap_after) in
         let view : open_view h ≡ v =
         λ i. record {
@@ -151,7 +151,7 @@ module _ {T A : Type 0} where
         record { lies = subst (IsOpenViewOf h) (sym view) s; view = view }
 
     pub middle-filled : (j : ℕ) → h.middle_start ≤ j → j < h.middle_end
-      → IsSome (slot h.block.slots j)
+        → IsSome (slot h.block.slots j)
     middle-filled j low high =
         rw (ap (λ (r : List (Option T)). slot r j) by_middle)
         (slot-in-full (to_middle v) v.middle (past_middle v) j (omega (arith, at_middle))
@@ -167,7 +167,7 @@ module _ {T A : Type 0} where
     before-empty j low high =
         ap (λ (r : List (Option T)). slot r j) s.row
         ∙ slot-in-empty (filled_slots v.front) v.gap_before
-          (filled_slots v.middle ++ past_middle v) j
+        (filled_slots v.middle ++ past_middle v) j
         (omega (arith, length-full v.front, s.front))
         (omega (arith, length-full v.front, s.front, s.gap_before))
 
@@ -194,7 +194,7 @@ module _ {T A : Type 0} where
 
     pub first-step : (x : T) → slot h.block.slots h.middle_start ≡ Some x
         → block_view b
-          ≡ record (block_view h.block) { slots = set h.block.slots h.middle_start None }
+        ≡ record (block_view h.block) { slots = set h.block.slots h.middle_start None }
         → (ys : List T) × (v.middle ≡ x ∷ ys) × Found first-left (first-view ys)
     first-step x is now =
         let parts = first-of v.middle some in
@@ -202,12 +202,12 @@ module _ {T A : Type 0} where
         let ys : List T = parts.1 in
         let row : h.block.slots ≡ to_middle v ++ (Some y ∷ (filled_slots ys ++ past_middle v)) =
         by_middle h v o
-          ∙ ap (λ (r : List T). to_middle v ++ (filled_slots r ++ past_middle v)) parts.2 in
+        ∙ ap (λ (r : List T). to_middle v ++ (filled_slots r ++ past_middle v)) parts.2 in
         let same : y ≡ x =
         some-same (sym (get_or_at (to_middle v) (Some y)
         (filled_slots ys ++ past_middle v) None h.middle_start
         (at_middle h v o))
-          ∙ (ap (λ (r : List (Option T)). slot r h.middle_start) (sym row) ∙ is)) in
+        ∙ (ap (λ (r : List (Option T)). slot r h.middle_start) (sym row) ∙ is)) in
         let reached' : v.capacity - tail_end v ≡ v.capacity - tail_end (first-view ys) =
         omega (arith, ap length parts.2) in
         let after : b.slots ≡ slots_of (first-view ys) =
@@ -262,7 +262,7 @@ module _ {T A : Type 0} where
         ) in
         let row : h.block.slots ≡ pre ++ (Some y ∷ past_middle v) =
         by_middle h v o
-          ∙ (ap (λ (r : List T). to_middle v ++ (filled_slots r ++ past_middle v)) parts.2
+        ∙ (ap (λ (r : List T). to_middle v ++ (filled_slots r ++ past_middle v)) parts.2
         ∙ simp (append_assoc, map_push)) in
         let same : y ≡ x =
         some-same (sym (get_or_at pre (Some y) (past_middle v) None (h.middle_end - 1) before)

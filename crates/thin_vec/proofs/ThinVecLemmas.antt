@@ -46,7 +46,7 @@ module _ {T A : Type 0} (R : RattleType) (b : Block T A) (a : A) where
     room = thin-room b' a after.thin;
     small = omega (arith, after.cap, ap (λ (w : ListView T A). w.capacity) is, kept.small);
     allocatable = subst (IsAllocatable (type_size R) (type_align R))
-      (sym (after.cap ∙ ap (λ (w : ListView T A). w.capacity) is))
+        (sym (after.cap ∙ ap (λ (w : ListView T A). w.capacity) is))
         kept.allocatable;
   }
 
@@ -69,7 +69,7 @@ module _ {T A : Type 0} (R : RattleType) (w : ListView T A) where
     room = omega (arith, ap length none);
     small = omega arith;
     allocatable = subst (IsAllocatable (type_size R) (type_align R)) (sym nothing)
-      (allocatable R 0 (fits-none R));
+        (allocatable R 0 (fits-none R));
   }
 
   pub within-like : (v : ListView T A) → IsBounded R v → w.capacity ≡ v.capacity

@@ -43,8 +43,10 @@ open_view_code {T} {A} t a =
     (coded× coded_ℕ (coded× (coded_list t)
     (coded× coded_ℕ (coded× (coded_list t)
     (coded× coded_ℕ (coded× (coded_option a) cost_code)))))))
-    (λ v. (v.front,
-      (v.gap_before, (v.middle, (v.gap_after, (v.tail, (v.capacity, (v.alloc, v.cost))))))))
+    (λ v. (
+      v.front,
+      (v.gap_before, (v.middle, (v.gap_after, (v.tail, (v.capacity, (v.alloc, v.cost)))))),
+    ))
     (λ p. record {
       front = p.0;
       gap_before = p.1.0;
@@ -87,7 +89,7 @@ module _ {T A : Type 0} where
   -- its middle run has been closed.
   abbrev pub cost_closed : OpenView T A → Cost
   cost_closed v =
-    if v.gap_before == 0 then v.cost else add_moves (length v.middle + length v.tail) v.cost
+      if v.gap_before == 0 then v.cost else add_moves (length v.middle + length v.tail) v.cost
 
   -- `cost_drained v` is the recorded cost of the open block `v` after its middle items have been
   -- removed, and its tail items have been moved down to follow the front directly. This is the cost

@@ -279,7 +279,8 @@ impl<T, A: Allocator> OpenBlock<T, A> {
         requires no_middle { self.old.middle ≡ [] }
         ensures { self.new
             ≡ record self.old {
-              gap_before = self.old.gap_before + self.old.gap_after; gap_after = 0;
+              gap_before = self.old.gap_before + self.old.gap_after;
+              gap_after = 0;
             } }
     {
         self.middle_start = self.tail_start;

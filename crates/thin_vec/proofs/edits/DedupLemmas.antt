@@ -29,7 +29,7 @@ module _ {S T : Type 0} (R : OnPairs S T) where
         → record v { front = f; gap_before = w.gap_before; middle = w.middle; cost = k }
         ≡ record v { front = f'; gap_before = w.gap_before; middle = w.middle; cost = k' }
     moved e n =
-      λ i. record v { front = e i; gap_before = w.gap_before; middle = w.middle; cost = n i }
+        λ i. record v { front = e i; gap_before = w.gap_before; middle = w.middle; cost = n i }
 
     module _ (s t : S) where
       dedups-of : (before : List T) (first : T) (done : List T) (stays : List Bool) (kept : List T)
@@ -87,12 +87,12 @@ module _ {S T : Type 0} (R : OnPairs S T) where
           dedups-of s u a.before a.kept (x ∷ n.later ∷ []) (true ∷ false ∷ [])
           (a.kept_left ∷ z ∷ []) a.was (whole ∙ ap (λ (l : List T). x ∷ l)
           (n.was ∙ ap (λ (l : List T). n.later ∷ l) same)) asked gap_before
-            (now ∙ moved two-front refl)
+          (now ∙ moved two-front refl)
 
       pub dedups-run : b ≡ false → (m : ℕ) (q : S) (ws : List T) (r : TestsPairsUpTo R m u zs q ws)
           → r.after ≡ w.middle → suc (count_true r.stays) ≡ m
           → 0 < w.gap_before
-            → Moved ((front ++ z ∷ []) ++ take m ws) (add_moves m (add_moves 1 v.cost))
+          → Moved ((front ++ z ∷ []) ++ take m ws) (add_moves m (add_moves 1 v.cost))
           → DedupsSome R s v q w
       dedups-run e m q ws r middle count gap_before now =
           let pair = last-append R t u y (true ∷ []) (z ∷ n.later_left ∷ []) (n.later ∷ [])

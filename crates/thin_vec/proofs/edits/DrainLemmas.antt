@@ -87,7 +87,7 @@ module _ {T A G H : Type 0} {g : Ghosts G} {h : IntoInnerGhosts H (OpenView T A)
       (λ a x b n. n.gave) p s)
 
   pub drains_in_reverse : YieldsInReverse
-    (DrainStepsBack {T = T} {A = A} {G = G} {H = H} {g = g} {h = h})
+      (DrainStepsBack {T = T} {A = A} {G = G} {H = H} {g = g} {h = h})
       drain_rest
   drains_in_reverse p s =
       as_is_back p (drain_rest p.from)

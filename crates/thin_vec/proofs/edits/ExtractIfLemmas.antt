@@ -100,11 +100,11 @@ module _ {F T : Type 0} (R : F → T → Bool → F → T → Type 0) where
       picked-room = omega (arith, h.reached, ap length h.now, length-append h.left h.end)
 
       whole : (item : Option T) (untested : List T)
-        → ExtractsNext R (of h.between) h.after item (of t)
+          → ExtractsNext R (of h.between) h.after item (of t)
           [] untested → ExtractsNext R (of s) xs item (of t) (take m ys) untested
       whole item untested e =
           subst (λ (l : List T). ExtractsNext R (of s) l item (of t) (take m ys) untested)
-            (sym h.was)
+          (sym h.was)
           (subst (λ (l : List T). ExtractsNext R (of s) (h.run ++ h.after) item (of t) l untested)
           (sym left-is)
           (picked-after h.between h.after item (of t) untested e s h.run h.left h.asked))
@@ -189,7 +189,7 @@ module _ {T F A G H : Type 0} {g : Ghosts G} {h : IntoInnerGhosts H (ExtractStat
             (length on.kept + length (extract_rest later) + length (extract_block m).tail)
             _ _ _ _ (omega (arith, both, ap length s.tail))
             (moves-if ((extract_block d).gap_before == 0) (length s.kept) _ _ _ s.cost
-              (omega arith))
+            (omega arith))
             on.moves;
         front = on.front ∙ front;
         tail = on.tail ∙ s.tail;

@@ -87,7 +87,7 @@ module _ {S T A : Type 0} {steps : S → Option T → S → Type 0} {can : S →
       let tail = ap (λ y. y.tail) same in
       let gap_before = ap (λ y. y.gap_before) same in
       let many : length xs ≡ v.gap_before - u.gap_before =
-        omega (arith, gap_before, filled-fits filled.0) in
+      omega (arith, gap_before, filled-fits filled.0) in
       let put = closed-moves v u (length xs)
       (ap (λ y. y.cost) same ∙ ap (λ n. add_moves n v.cost) many) none tail many in (
         filled.0,
@@ -252,27 +252,27 @@ module _ {S T A : Type 0} {steps : S → Option T → S → Type 0} {can : S →
         )
         taken ruled blocks (λ none. absurd (omega (arith, some, ap length none)))
     finished-from {t} {u} {xs} (Err e) p some ends items placed cause err taken ruled blocks =
-      record {
-      succeeds = λ few. ends (omega (arith, few, p.full, p.nearer));
-      succeeds_at_end = λ none _. absurd (omega (arith, some, ap length none));
-      items = tt;
-      taken = taken;
-      ruled = ruled;
-      blocks = blocks;
-      requests = λ none. absurd (omega (arith, some, ap length none));
-      placed = (
-        xs,
-        ap (λ z. z.items) err ∙ p.items,
-        stopped-more steps can remaining s t xs e p.gave placed,
-      );
-      range = λ _. omega (
-        arith,
-        ap (λ z. length z.items) err,
-        reached-long p,
-        p.ends,
-        p.full,
-      );
-      held = λ none. absurd (omega (arith, some, ap length none));
-      in_hand = λ none. absurd (omega (arith, some, ap length none));
-      cause = cause;
-    }
+        record {
+          succeeds = λ few. ends (omega (arith, few, p.full, p.nearer));
+          succeeds_at_end = λ none _. absurd (omega (arith, some, ap length none));
+          items = tt;
+          taken = taken;
+          ruled = ruled;
+          blocks = blocks;
+          requests = λ none. absurd (omega (arith, some, ap length none));
+          placed = (
+            xs,
+            ap (λ z. z.items) err ∙ p.items,
+            stopped-more steps can remaining s t xs e p.gave placed,
+          );
+          range = λ _. omega (
+            arith,
+            ap (λ z. length z.items) err,
+            reached-long p,
+            p.ends,
+            p.full,
+          );
+          held = λ none. absurd (omega (arith, some, ap length none));
+          in_hand = λ none. absurd (omega (arith, some, ap length none));
+          cause = cause;
+        }

@@ -24,7 +24,7 @@ too-many rule R v k n law bounded never some =
           (λ c is. let grown = ruled-grows rule R v.capacity (length v.items + k) c law more is in
           never (fits-less R n c grown.fits (omega (arith, grown.enough, some))))
       | inr spare ↦ absurd
-        (never (fits-less R n v.capacity (fits_allocatable R v.capacity bounded.allocatable)
+          (never (fits-less R n v.capacity (fits_allocatable R v.capacity bounded.allocatable)
           (omega (arith, spare, some))))
     ]
 

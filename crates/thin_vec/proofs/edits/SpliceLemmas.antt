@@ -29,7 +29,7 @@ use Rattle.thin_vec.proofs.ThinVecLemmas.{cap-kept, cost_after_resize-copied}
 
 -- Closing `w` takes at most one move for each tail item, and none if `w` has no gap.
 pub closed-moves : {T A : Type 0} (v w : OpenView T A) (n : ℕ)
-  → w.cost ≡ add_moves (v.gap_before - w.gap_before)
+    → w.cost ≡ add_moves (v.gap_before - w.gap_before)
     v.cost → w.middle ≡ [] → w.tail ≡ v.tail → n ≡ v.gap_before - w.gap_before
     → (m : ℕ) × (cost_closed w ≡ add_moves (n + m) v.cost) × (m ≤ length v.tail)
     × (w.gap_before ≡ 0 → m ≡ 0)

@@ -23,7 +23,7 @@ module _ {T : Type 0} where
       omega (arith, length-full ys, length-replicate {A = Option T} (length ys) None) in
       ap (λ (s : List (Option T)). write_slots (length xs) (filled_slots ys) (filled_slots xs ++ s))
       (sym
-        (replicate-append-replicate (length ys) spare None ∙ ap (λ (k : ℕ). empty_slots k) parts))
+      (replicate-append-replicate (length ys) spare None ∙ ap (λ (k : ℕ). empty_slots k) parts))
       ∙ (written-at (length xs) (filled_slots xs) (filled_slots ys) (empty_slots (length ys))
       (empty_slots spare)
       (sym (length-full xs)) long

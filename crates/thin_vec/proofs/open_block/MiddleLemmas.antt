@@ -129,7 +129,7 @@ module _ {T A : Type 0} where
     -- the slots of the block `b`. `moved_run-view b` is how contracts see it.
     abbrev pub moved_run : Block T A → Inside T A
     moved_run b =
-      record h { block = b; front_end = h.front_end + k; middle_start = h.middle_start + k }
+        record h { block = b; front_end = h.front_end + k; middle_start = h.middle_start + k }
 
     abbrev pub moved_run-view : Block T A → OpenView T A
     moved_run-view b = record u
@@ -147,7 +147,7 @@ module _ {T A : Type 0} where
         let more : length w.front ≡ length u.front + k =
         omega (arith, length-append u.front (take k u.middle), few) in
         let left : u.capacity - tail_end u ≡ w.capacity - tail_end w =
-          omega (arith, more, middle) in
+        omega (arith, more, middle) in
         let after : b.slots ≡ slots_of w =
         now ∙ rw left (simp (append_assoc, full-append)) in
         found (moved_run b) w

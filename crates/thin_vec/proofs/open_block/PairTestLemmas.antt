@@ -14,7 +14,7 @@ abbrev pub OnPairs : Type 0 → Type 0 → Type 1
 OnPairs S T = S → T → T → Bool → S → T → T → Type 0
 
 pub last-same : {X : Type 0} (a b : List X) (x y : X) → a ++ x ∷ [] ≡ b ++ y ∷ [] → (a ≡ b)
-  × (x ≡ y)
+    × (x ≡ y)
 last-same [] [] x y e = (refl, cons-head e)
 last-same [] (z ∷ b) x y e = let n = ap length e in absurd (omega (arith, n, length_push b y))
 last-same (z ∷ a) [] x y e = let n = ap length e in absurd (omega (arith, n, length_push a x))
@@ -235,7 +235,7 @@ module _ {S T : Type 0} (R : OnPairs S T) where
     run-over = ap (drop m) r.now ∙ drop_at r.left (r.over ++ r.after) m r.long
 
     pub run-goes : (value : T) (untested : List T) → drop m ys ≡ value ∷ untested
-      → (r.after ≡ untested)
+        → (r.after ≡ untested)
         × (r.stays ≡ all-stay r.more ++ false ∷ [])
     run-goes value untested k =
         elim r.stops [

@@ -204,7 +204,7 @@ module _ {S T : Type 0} (R : S → T → Bool → S → T → Type 0) where
         }))
 
   pub retains-start : {A : Type 0} (s : S) (v : OpenView T A) → 0 < v.gap_before
-    → RetainsSome R s v s v
+      → RetainsSome R s v s v
   retains-start s v gap_before =
       record {
         done = [];
@@ -257,7 +257,7 @@ module _ {S T : Type 0} (R : S → T → Bool → S → T → Type 0) where
 
     -- The lemmas `retained-goes` and `retained-ends` are the cases of `retain_middle`.
     pub retained-goes : (value : T) (u : S) (z : OpenView T A) → Passed → drop m ys
-      ≡ value ∷ w.middle
+        ≡ value ∷ w.middle
         → RetainsSome R t w u z → z.middle ≡ [] → RetainsMiddle R s v u z
     unfolding part-goes
     retained-goes value u z p k h none =

@@ -63,7 +63,7 @@ module _ {T A : Type 0} where
 
     side-by-side : (open_view h).gap_after ≡ 0 → h.block.slots ≡ filled_slots (open_view h).front
         ++ (empty_slots (open_view h).gap_before
-          ++ (filled_slots all-after ++ past_tail (open_view h)))
+        ++ (filled_slots all-after ++ past_tail (open_view h)))
     side-by-side none = o.row ∙ rw none (simp (append_assoc, full-append))
 
     count-after : (open_view h).gap_after ≡ 0 → length all-after ≡ h.len - h.middle_start
@@ -94,7 +94,7 @@ module _ {T A : Type 0} where
 
     pub close-row : (open_view h).gap_after ≡ 0
         → move_slots h.middle_start h.front_end (h.len - h.middle_start) h.block.slots
-          ≡ packed_slots
+        ≡ packed_slots
         (items_of (open_view h)) (length h.block.slots)
     close-row none =
         let w : OpenView T A = open_view h in
@@ -112,7 +112,7 @@ module _ {T A : Type 0} where
         ) in
         ap (move_slots h.middle_start h.front_end (h.len - h.middle_start)) (side-by-side none)
         ∙ (moved_left h.middle_start h.front_end (h.len - h.middle_start) w.gap_before
-          (filled_slots w.front)
+        (filled_slots w.front)
         (filled_slots all-after)
         (past_tail w) (sym (length-full w.front ∙ o.front)) (sym o.gap_before)
         (omega (arith, length-full all-after, count-after none))
@@ -208,8 +208,13 @@ module _ {T A : Type 0} where
     fill-step now =
         let v : OpenView T A = open_view h in
         let w : OpenView T A =
-        record v { front = v.front ++ xs; gap_before = h.middle_start - end; alloc =
-          b.alloc; cost = b.cost } in
+        record v {
+          front = v.front ++ xs;
+          gap_before = h.middle_start - end;
+          alloc =
+              b.alloc;
+          cost = b.cost;
+        } in
         let filled : Inside T A = record h { block = b; front_end = end } in
         let parts : length xs + (h.middle_start - end) ≡ v.gap_before =
         omega (arith, ends, fits, o.gap_before) in
@@ -259,7 +264,7 @@ module _ {T A : Type 0} where
       let fits : end ≤ h.middle_start = omega (arith, ends, room, gap_before, o.gap_before) in
       let step = fill-step h o b xs end ends fits (ap (λ w. w.slots) now) in
       let left : h.middle_start - end ≡ v.gap_before - length xs =
-        omega (arith, ends, gap_before, o.gap_before) in
+      omega (arith, ends, gap_before, o.gap_before) in
       let alloc : b.alloc ≡ v.alloc = ap (λ w. w.alloc) now ∙ ap (λ w. w.alloc) is in
       let spent : b.cost ≡ add_moves (length xs) v.cost =
       ap (λ w. w.cost) now ∙ ap (λ w. add_moves (length xs) w.cost) is in

@@ -132,7 +132,7 @@ module _ {S T : Type 0} (R : S → T → Bool → S → T → Type 0) where
         )
 
     unfoldable pub part-goes : (v : T) (untested : List T) → drop m ys ≡ v ∷ untested
-      → Part m s xs t (take m ys) untested
+        → Part m s xs t (take m ys) untested
     part-goes v untested k =
         let g = stop-goes r.between r.after r.end v untested r.stops (sym run-end ∙ k) in
         record {

@@ -105,7 +105,7 @@ module _ {T A : Type 0} where
         → slot h.block.slots (h.middle_start + k) ≡ Some x
         → slot h.block.slots (suc (h.middle_start + k)) ≡ Some y
         → b.slots ≡ set (set h.block.slots (h.middle_start + k) (Some x'))
-          (suc (h.middle_start + k))
+        (suc (h.middle_start + k))
         (Some y')
         → WrittenTwo h o k b x y x' y'
     write-two-step k {x} {y} x' y' low first second now =
@@ -114,7 +114,7 @@ module _ {T A : Type 0} where
         let m : Inside T A = written h o c k (omega arith) in
         let next : suc (h.middle_start + k) ≡ h.middle_start + suc k = omega arith in
         let apart : suc (h.middle_start + k) ≢ h.middle_start + k =
-          λ e. let n : suc (h.middle_start + k)
+        λ e. let n : suc (h.middle_start + k)
         ≡ h.middle_start + k =
         e in omega (arith, n) in
         let middle : (open_view m).middle ≡ one.pre ++ x' ∷ one.post =
@@ -176,7 +176,7 @@ module _ {T A : Type 0} where
       let p = last-of v.front some in
       let pre : List T = p.0 in
       let z : List (Option T) =
-        empty_slots v.gap_before ++ (filled_slots v.middle ++ past_middle v) in
+      empty_slots v.gap_before ++ (filled_slots v.middle ++ past_middle v) in
       let row : h.block.slots ≡ filled_slots pre ++ (Some p.1 ∷ z) = o.row
       ∙ (ap (λ (l : List T). filled_slots l ++ z) p.2 ∙ row-at [] pre p.1 [] z) in
       let here : length (filled_slots pre) ≡ h.front_end - 1 =
@@ -195,7 +195,7 @@ module _ {T A : Type 0} where
       ∙ (sym (row-at [] pre y [] z)
       ∙ ap (λ (r : List (Option T)). filled_slots (pre ++ y ∷ [])
       ++ (empty_slots v.gap_before ++ (filled_slots v.middle ++ r)))
-        (same-past v w refl refl left)))) in
+      (same-past v w refl refl left)))) in
       let i : Inside T A =
       record h { block = b } in
       let shows : IsOpenViewOf i w = record {
@@ -220,6 +220,6 @@ module _ {T A : Type 0} where
       let v : OpenView T A = open_view h in
       rw (ap (λ (r : List (Option T)). slot r (h.front_end - 1)) o.row)
       (slot-in-full [] v.front (empty_slots v.gap_before
-        ++ (filled_slots v.middle ++ past_middle v))
+      ++ (filled_slots v.middle ++ past_middle v))
       (h.front_end - 1)
       (omega arith) (omega (arith, o.front, some)))

@@ -23,10 +23,10 @@ module _ (T A : Type 0) where
   -- items in order.
   abbrev pub IntoIterYieldsInOrder : Type 0
   IntoIterYieldsInOrder =
-    YieldsInOrder (YieldsFirst (into_iter_items {T = T} {A = A})) into_iter_items
+      YieldsInOrder (YieldsFirst (into_iter_items {T = T} {A = A})) into_iter_items
 
   -- `IntoIterYieldsInReverse` states that, for every iterator, calls to `next_back` yield the
   -- remaining items in reverse order.
   abbrev pub IntoIterYieldsInReverse : Type 0
   IntoIterYieldsInReverse =
-    YieldsInReverse (YieldsLast (into_iter_items {T = T} {A = A})) into_iter_items
+      YieldsInReverse (YieldsLast (into_iter_items {T = T} {A = A})) into_iter_items

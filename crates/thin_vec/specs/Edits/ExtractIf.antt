@@ -23,7 +23,7 @@ module _ {T F A : Type 0} (R : F → T → Bool → F → T → Type 0) where
       (new : ExtractState T F A) : Type 0 where
     pub kept : List T
     pub asked : ExtractsNext R old.picks.pick old.block.middle item new.picks.pick kept
-      new.block.middle
+        new.block.middle
     pub count : length old.block.middle ≡ length kept + length
         (option_to_list item) + length new.block.middle
     pub front : new.block.front ≡ old.block.front ++ kept

@@ -88,7 +88,7 @@ module _ {I T A G H : Type 0} {g : Ghosts G} {h : IntoInnerGhosts H (OpenView T 
   abbrev pub splice_range_len : Splice I T A G H g h → ℕ
   splice_range_len s =
       (h.inner s.holder).gap_before + length (h.inner s.holder).middle +
-        (h.inner s.holder).gap_after
+      (h.inner s.holder).gap_after
 
   -- `splice_iter s` is the iterator whose items will replace the range.
   abbrev pub splice_iter : Splice I T A G H g h → I

@@ -19,8 +19,7 @@ impl<T, A: Allocator> OpenBlock<T, A> {
     pub(crate) fn fill<I: Iterator<Item = T>>(&mut self, iter: I) -> Filled<I>
         requires can_next { I.can_next iter }
         requires finite { IsFinite (I.remaining iter) }
-        ensures filled_by {
-            (by : IsFilledBy I.next_gives I.can_next I.remaining self.old.gap_before iter result)
+        ensures filled_by { (by : IsFilledBy I.next_gives I.can_next I.remaining self.old.gap_before iter result)
             × (self.new ≡ record self.old {
               front = self.old.front ++ by.items;
               gap_before = self.old.gap_before - length by.items;

@@ -34,8 +34,7 @@ impl<T, A: Allocator> OpenBlock<T, A> {
     pub(crate) fn test<J: Test<T>>(&mut self, k: usize, test: &mut J) -> bool
         requires in_bounds { k < length self.old.middle }
         requires callable { J.ready test.old }
-        ensures tested {
-            TestsAt J.tests k test.old self.old.middle result test.new self.new.middle }
+        ensures tested { TestsAt J.tests k test.old self.old.middle result test.new self.new.middle }
         ensures callable { J.ready test.new }
         ensures changes { self.new ≡ record self.old { middle = self.new.middle } }
     {
@@ -46,8 +45,7 @@ impl<T, A: Allocator> OpenBlock<T, A> {
     // items before that one.
     pub(crate) fn test_run<J: Test<T>>(&mut self, test: &mut J) -> usize
         requires callable { J.ready test.old }
-        ensures tested {
-            TestsUpTo J.tests result test.old self.old.middle test.new self.new.middle }
+        ensures tested { TestsUpTo J.tests result test.old self.old.middle test.new self.new.middle }
         ensures callable { J.ready test.new }
         ensures changes { self.new ≡ record self.old { middle = self.new.middle } }
     {

@@ -58,7 +58,7 @@ take_array_spec 𝓤 𝓛 𝓜 𝓡 wired T A N LT LA fits_N g d dd met md =
     let left : List (Option T.Denot) = clear_slots i N x.slots in
     let long_empty : length (empty_slots {T = T.Denot} N) ≡ N = length-replicate N None in
     let long : length left ≡ length x.slots =
-      length-written i (empty_slots N) x.slots (omega arith) in
+    length-written i (empty_slots N) x.slots (omega arith) in
     let y : (Br E Y).Denot = with_slots x left long in
     use1 𝓛 (‵ (froom (ty_array (layout T) N) b here))
     (𝓛.laws.at_room (ty_array (layout T) N) b here v) $

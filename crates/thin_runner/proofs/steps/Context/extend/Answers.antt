@@ -21,7 +21,7 @@ returns-in-Ok g c =
         tt,
         replaces ((e.items.2 ∙ ap (λ l. old.items ++ l) items) ∙ sym (at-end old.items _))
             e.capacity e.cost.inserting e.preserved (sym (without_range-end old)) count
-              (omega arith),
+            (omega arith),
       );
     }
 

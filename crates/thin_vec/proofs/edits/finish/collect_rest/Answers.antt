@@ -74,7 +74,7 @@ loop-refused-preserved g c =
         before.0 ++ one,
         ap (λ l. l ++ one) before.1,
         yields-more g.I.Iterator.next_gives c.args.iter l.rest c.next-in-loop-refused.new.self
-          before.0
+            before.0
             c.in-Some-next.item before.2 c.in-Some-next.ensures.steps,
       );
       fewer = omega (arith, l.invariant.fewer, goes.2);

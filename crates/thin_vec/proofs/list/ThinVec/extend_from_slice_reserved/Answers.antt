@@ -21,11 +21,11 @@ returns-clause-items_if_clones_equal g c = λ equal.
     ∙ take_all c.push_clones_reserved.result items c.if-push_clones_reserved-items.false)
 
 pub returns-then-push_clones_reserved-items-clause-err_items :
-  goal.returns-then-push_clones_reserved-items-clause-err_items
+    goal.returns-then-push_clones_reserved-items-clause-err_items
 returns-then-push_clones_reserved-items-clause-err_items g c = grind (arith, common_steps)
 
 pub returns-then-push_clones_reserved-items-clause-err :
-  goal.returns-then-push_clones_reserved-items-clause-err
+    goal.returns-then-push_clones_reserved-items-clause-err
 returns-then-push_clones_reserved-items-clause-err g c = search (arith, ◌∙◌)
 
 pub returns-clause-succeeds : goal.returns-clause-succeeds

@@ -25,7 +25,7 @@ fails g c all =
     ))
     (c.push_clones_within.ensures.stopped_at less)
     (subst (λ l. All g.T.Clone.is_infallible (slice_range l c.args.start c.args.end)) (sym same)
-      all)
+    all)
 
 pub returns-then-push_clones_within-end-clause-succeeds :
     goal.returns-then-push_clones_within-end-clause-succeeds

@@ -27,11 +27,11 @@ appended g c =
     ∙ append_assoc c.args.self.now.items before.0 filled.0.items)
 
 changed : (g : _) (c : After-fill_spare-left g) → c.fill_spare-left.new.self
-  ≡ record c.loop-rest.self {
-  items = c.fill_spare-left.new.self.items;
-  cost = add_moves (length c.fill_spare-left.new.self.items - length c.loop-rest.self.items)
-      c.loop-rest.self.cost;
-}
+    ≡ record c.loop-rest.self {
+      items = c.fill_spare-left.new.self.items;
+      cost = add_moves (length c.fill_spare-left.new.self.items - length c.loop-rest.self.items)
+          c.loop-rest.self.cost;
+    }
 changed g c = spare-kept _ _ _ c.fill_spare-left.ensures.filled_by.1
 
 longer : (g : _) (c : After-fill_spare-left g) → length c.fill_spare-left.new.self.items
@@ -58,7 +58,7 @@ spent g c =
     (filled-spare u w (length w.items - length u.items) (changed g c)
     (omega (arith, longer g c)))
     (at_least-le g.G.Growth.rule (param 0 g.row.T) g.met.G.Growth.law v.capacity u.capacity
-      held.at_least)
+    held.at_least)
     (omega (arith, ap (λ z. z.capacity) (changed g c)))
     (omega (arith, ap length held.placed.1, length-append v.items held.placed.0))
 
@@ -113,8 +113,10 @@ pub returns-in_default-clause-items : goal.returns-in_default-clause-items
 returns-in_default-clause-items g c =
     let here = goal.at.returns-in_default-clause-items g c in (
       c.loop-rest.invariant.placed.0 ++ c.fill_spare-left.ensures.filled_by.0.items,
-      (c.next.new.self,
-        (c.fill_spare-left.result.rest, yielded g here.Else-ended, c.in_default.ensures.steps)),
+      (
+        c.next.new.self,
+        (c.fill_spare-left.result.rest, yielded g here.Else-ended, c.in_default.ensures.steps),
+      ),
       appended g here.After-fill_spare-left,
     )
 
@@ -137,7 +139,7 @@ returns-in-Err-clause-placed g c =
 
 pub returns-then-ended-clause-capacity : goal.returns-then-ended-clause-capacity
 returns-then-ended-clause-capacity g c =
-  ruled g (goal.at.returns-then-ended-clause-capacity g c).After-fill_spare-left
+    ruled g (goal.at.returns-then-ended-clause-capacity g c).After-fill_spare-left
 
 pub returns-in_default-clause-capacity : goal.returns-in_default-clause-capacity
 returns-in_default-clause-capacity g c =
@@ -146,7 +148,7 @@ returns-in_default-clause-capacity g c =
 pub returns-in-Err-clause-capacity : goal.returns-in-Err-clause-capacity
 returns-in-Err-clause-capacity g c =
     rw c.in-Err.ensures.err
-      (ruled g (goal.at.returns-in-Err-clause-capacity g c).After-fill_spare-left)
+    (ruled g (goal.at.returns-in-Err-clause-capacity g c).After-fill_spare-left)
 
 pub loop-rest-preserved : goal.loop-rest-preserved
 loop-rest-preserved g c =
@@ -189,7 +191,7 @@ loop-rest-preserved g c =
           pushed.grows.had_room (omega (arith, fit, held.nearer, nearer, goes.2, more, same, kept))
           ∙ (kept ∙ same);
       cost = inserting-join 0 0 0 (omega arith) (spent g filled) push (omega (arith, low, kept))
-        high
+          high
           (omega (arith, ap length held.placed.1, length-append v.items held.placed.0, more));
       requests = omega (
         arith,
@@ -222,7 +224,7 @@ returns-in-Err-clause-succeeds g c = λ fit.
     let by = c.fill_spare-left.ensures.filled_by.0 in
     let goes = c.in-Some.ensures.goes.on (by.asked c.if-ended.false).1 in
     let low = at_least-le g.G.Growth.rule (param 0 g.row.T) g.met.G.Growth.law
-      c.args.self.now.capacity
+    c.args.self.now.capacity
     c.loop-rest.self.capacity held.at_least in
     c.in-Err.ensures.succeeds
     (omega (
@@ -238,7 +240,7 @@ returns-in-Err-clause-succeeds g c = λ fit.
 
 pub returns-then-ended-clause-cost : goal.returns-then-ended-clause-cost
 returns-then-ended-clause-cost g c =
-  spent g (goal.at.returns-then-ended-clause-cost g c).After-fill_spare-left
+    spent g (goal.at.returns-then-ended-clause-cost g c).After-fill_spare-left
 
 pub returns-in_default-clause-cost : goal.returns-in_default-clause-cost
 returns-in_default-clause-cost g c =
@@ -261,7 +263,7 @@ requested g c =
 
 pub returns-then-ended-clause-blocks : goal.returns-then-ended-clause-blocks
 returns-then-ended-clause-blocks g c =
-  requested g (goal.at.returns-then-ended-clause-blocks g c).After-fill_spare-left
+    requested g (goal.at.returns-then-ended-clause-blocks g c).After-fill_spare-left
 
 pub returns-in_default-clause-blocks : goal.returns-in_default-clause-blocks
 returns-in_default-clause-blocks g c =
@@ -270,7 +272,7 @@ returns-in_default-clause-blocks g c =
 pub returns-in-Err-clause-blocks : goal.returns-in-Err-clause-blocks
 returns-in-Err-clause-blocks g c =
     rw c.in-Err.ensures.err
-      (requested g (goal.at.returns-in-Err-clause-blocks g c).After-fill_spare-left)
+    (requested g (goal.at.returns-in-Err-clause-blocks g c).After-fill_spare-left)
 
 grown : (g : _) (c : After-fill_spare-left g) → IsKeptOrGrown g.G.Growth.rule (param 0 g.row.T)
     c.args.self.now.capacity c.fill_spare-left.new.self.capacity
@@ -280,7 +282,7 @@ grown g c =
 
 pub returns-then-ended-clause-at_least : goal.returns-then-ended-clause-at_least
 returns-then-ended-clause-at_least g c =
-  grown g (goal.at.returns-then-ended-clause-at_least g c).After-fill_spare-left
+    grown g (goal.at.returns-then-ended-clause-at_least g c).After-fill_spare-left
 
 pub returns-in_default-clause-at_least : goal.returns-in_default-clause-at_least
 returns-in_default-clause-at_least g c =
@@ -289,7 +291,7 @@ returns-in_default-clause-at_least g c =
 pub returns-in-Err-clause-at_least : goal.returns-in-Err-clause-at_least
 returns-in-Err-clause-at_least g c =
     rw c.in-Err.ensures.err
-      (grown g (goal.at.returns-in-Err-clause-at_least g c).After-fill_spare-left)
+    (grown g (goal.at.returns-in-Err-clause-at_least g c).After-fill_spare-left)
 
 pub returns-in-Err-clause-cause : goal.returns-in-Err-clause-cause
 returns-in-Err-clause-cause g c =
@@ -313,7 +315,7 @@ kept g c =
 
 pub returns-then-ended-clause-preserved : goal.returns-then-ended-clause-preserved
 returns-then-ended-clause-preserved g c =
-  kept g (goal.at.returns-then-ended-clause-preserved g c).After-fill_spare-left
+    kept g (goal.at.returns-then-ended-clause-preserved g c).After-fill_spare-left
 
 pub returns-in_default-clause-preserved : goal.returns-in_default-clause-preserved
 returns-in_default-clause-preserved g c =

@@ -15,10 +15,10 @@ returns-clause-left g c =
     (λ i. e.front i ++ (e.middle i ++ e.tail i))
     ∙ in-parts v.items c.args.start c.args.end c.requires.start_le_end in
     let cost : (if b.gap_before == 0 then b.cost else add_moves (length b.middle + length b.tail)
-      b.cost)
+    b.cost)
     ≡ v.cost =
     ap (λ n. if n == 0 then b.cost else add_moves (length b.middle + length b.tail) b.cost)
-      e.gap_before
+    e.gap_before
     ∙ e.cost in
     λ i. record {
       items = items i;

@@ -5,6 +5,6 @@ use Rattle.thin_vec.proofs.list.ReservesLemmas.{reserves-room}
 use Rattle.thin_vec.proofs.list.ThinVec.reserve.Goals as goal
 
 pub returns-then-additional-capacity-clause-capacity :
-  goal.returns-then-additional-capacity-clause-capacity
+    goal.returns-then-additional-capacity-clause-capacity
 returns-then-additional-capacity-clause-capacity g c =
     reserves-room _ c.args.self.now _ c.args.additional c.args.self.now (search arith) refl

@@ -15,7 +15,7 @@ use Rattle.thin_vec.proofs.list.ThinVec.resize.Goals as goal
 
 -- `reserve` gave the list the capacity `c`, which the growth rule chose.
 reserved : {T A : Type 0} (rule : GrowthRule) (R : RattleType) (v : ListView T A) (len : ℕ)
-  {old c : ℕ}
+    {old c : ℕ}
     → old ≡ length v.items → capacity_after_reserve rule R v (len - old) ≡ Some c
     → capacity_after_reserve rule R v (len - length v.items) ≡ Some c
 reserved rule R v len same named =
@@ -85,7 +85,7 @@ pub returns-in_err-reserve-clause-items : goal.returns-in_err-reserve-clause-ite
 returns-in_err-reserve-clause-items g c = search (arith, ◌∙◌)
 
 pub returns-in_err-reserve-clause-items_if_clones_equal :
-  goal.returns-in_err-reserve-clause-items_if_clones_equal
+    goal.returns-in_err-reserve-clause-items_if_clones_equal
 returns-in_err-reserve-clause-items_if_clones_equal g c = search (arith, ◌∙◌)
 
 pub returns-then-len-old-clause-items : goal.returns-then-len-old-clause-items

@@ -43,6 +43,6 @@ returns-clause-bounds g c =
       before,
       within-settled _ _ _ _ _
           (fits-less (param 0 g.row.T) _ _
-            (fits_allocatable (param 0 g.row.T) c.args.self.now.capacity before.allocatable)
+          (fits_allocatable (param 0 g.row.T) c.args.self.now.capacity before.allocatable)
           (omega (arith, c.if-wanted-capacity.false, c.capacity.ensures.value))) (facts g c),
     )

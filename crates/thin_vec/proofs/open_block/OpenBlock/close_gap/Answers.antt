@@ -14,14 +14,14 @@ close_small_gap-closed-requires-clause-empty g c = λ j low high.
     before-empty c.self.inside (open_view c.self.inside) o j low (omega (arith, high, o.gap_before))
 
 pub close_small_gap-closed-requires-clause-filled :
-  goal.close_small_gap-closed-requires-clause-filled
+    goal.close_small_gap-closed-requires-clause-filled
 close_small_gap-closed-requires-clause-filled g c = λ j low high.
     let o = c.self.invariant in
     after-filled c.self.inside o (ap (λ v. v.gap_after) c.self.view_is ∙ c.requires.gap_after) j
     (omega (arith, low, o.gap_before)) (omega (arith, high, o.gap_before))
 
 pub returns-then-front_end-middle_start-clause-slots :
-  goal.returns-then-front_end-middle_start-clause-slots
+    goal.returns-then-front_end-middle_start-clause-slots
 returns-then-front_end-middle_start-clause-slots g c =
     let none = ap (λ v. v.gap_after) c.self.view_is ∙ c.requires.gap_after in
     ap (λ v. v.slots) c.set_len.ensures.changes
@@ -34,14 +34,14 @@ returns-clause-slots g c =
     let o = c.self.invariant in
     let none = ap (λ v. v.gap_after) c.self.view_is ∙ c.requires.gap_after in
     let same : h.front_end + (h.middle_start - h.front_end) ≡ h.middle_start =
-      omega (arith, o.gap_before) in
+    omega (arith, o.gap_before) in
     ap (λ v. v.slots) c.store_len.ensures.changes
     ∙ (ap (λ v. v.slots) c.close_small_gap-closed.ensures.changes
     ∙ (ap (λ n. move_slots n h.front_end (h.len - h.middle_start) h.block.slots) same
     ∙ (close-row h o none ∙ ap (λ v. packed_slots (items_of v) v.capacity) c.self.view_is)))
 
 pub close_small_gap-closed-requires-clause-in_bounds :
-  goal.close_small_gap-closed-requires-clause-in_bounds
+    goal.close_small_gap-closed-requires-clause-in_bounds
 close_small_gap-closed-requires-clause-in_bounds g c = grind (arith, common_steps)
 
 pub returns-clause-len : goal.returns-clause-len

@@ -54,7 +54,7 @@ pub returns-else-middle_len-gt0 : goal.returns-else-middle_len-gt0
 returns-else-middle_len-gt0 g c =
     let run = c.test_pairs-kept in
     let none : c.keep_in_place.new.self.middle ≡ [] =
-      nil_from_length c.keep_in_place.new.self.middle
+    nil_from_length c.keep_in_place.new.self.middle
     (omega (arith, c.middle_len.ensures.value, c.if-middle_len-gt0.false)) in
     record {
       deduped = deduped-ends g.J.PairTest.tests c.args.self.now c.keep_in_place.new.self run.result

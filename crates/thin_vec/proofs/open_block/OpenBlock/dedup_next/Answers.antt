@@ -47,10 +47,10 @@ returns-then-middle_len-gt0-clause-deduped g c =
     let w = c.take_first-then-middle_len-gt0.new.self in
     let goes = run-goes R c.test_pairs-kept.result c.test_next-stays.new.test
     c.append_to_front-2.new.self.middle c.test_pairs-kept.new.test
-      c.test_pairs-kept.new.self.middle r
+    c.test_pairs-kept.new.self.middle r
     c.take_first-then-middle_len-gt0.result w.middle
     (sym (ap (λ v. v.middle) c.move_down.ensures)
-      ∙ c.take_first-then-middle_len-gt0.ensures.middle) in
+    ∙ c.take_first-then-middle_len-gt0.ensures.middle) in
     dedups-run R c.args.self.now w c.args.test.now c.test_last.new.test c.test_next-stays.new.test
     c.take_first-later.result c.test_last.new.later c.test_next-stays.new.kept
     c.test_last.new.self.front c.test_last.new.self.middle c.append_to_front-2.new.self.middle
@@ -69,10 +69,10 @@ returns-else-middle_len-gt0-clause-deduped g c =
     let w = c.move_down.new.self in
     let none : w.middle ≡ [] =
     nil_from_length w.middle
-      (omega (arith, c.middle_len-2.ensures.value, c.if-middle_len-gt0.false)) in
+    (omega (arith, c.middle_len-2.ensures.value, c.if-middle_len-gt0.false)) in
     let ends = run-ends R c.test_pairs-kept.result c.test_next-stays.new.test
     c.append_to_front-2.new.self.middle c.test_pairs-kept.new.test
-      c.test_pairs-kept.new.self.middle r
+    c.test_pairs-kept.new.self.middle r
     (sym (ap (λ v. v.middle) c.move_down.ensures) ∙ none) in
     dedups-run R c.args.self.now w c.args.test.now c.test_last.new.test c.test_next-stays.new.test
     c.take_first-later.result c.test_last.new.later c.test_next-stays.new.kept

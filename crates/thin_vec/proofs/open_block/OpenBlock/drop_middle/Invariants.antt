@@ -5,7 +5,7 @@ use Rattle.thin_vec.proofs.open_block.OpenBlock.drop_middle.Given as goal
 abbrev pub invariant-loop-self : goal.invariant-loop-self
 invariant-loop-self g l = record {
   gap_before : l.self.gap_before + length l.self.middle
-    ≡ l.fn.self.gap_before + length l.fn.self.middle;
+      ≡ l.fn.self.gap_before + length l.fn.self.middle;
   same : l.self ≡ record l.fn.self { gap_before = l.self.gap_before; middle = l.self.middle };
 }
 

@@ -6,7 +6,7 @@ use Rattle.thin_vec.proofs.open_block.OpenBlock.middle_slice.Goals as goal
 
 pub slice-requires-clause-filled : goal.slice-requires-clause-filled
 slice-requires-clause-filled g c =
-  λ i low high. middle-filled c.self.inside (open_view c.self.inside)
+    λ i low high. middle-filled c.self.inside (open_view c.self.inside)
     c.self.invariant i low high
 
 pub returns : goal.returns

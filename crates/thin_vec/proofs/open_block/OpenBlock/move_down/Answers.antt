@@ -14,14 +14,14 @@ close_gap-closed-requires-clause-empty g c = λ j low high.
     let o = c.self.invariant in
     ap (λ b. slot b.slots j) c.replace-block.ensures.value
     ∙ before-empty c.self.inside (open_view c.self.inside) o j low
-      (omega (arith, high, o.gap_before))
+    (omega (arith, high, o.gap_before))
 
 pub close_gap-closed-requires-clause-filled : goal.close_gap-closed-requires-clause-filled
 close_gap-closed-requires-clause-filled g c = λ j low high.
     let o = c.self.invariant in
     subst (λ b. IsSome (slot b.slots j)) (sym c.replace-block.ensures.value)
     (middle-filled c.self.inside (open_view c.self.inside) o j (omega (arith, low, o.gap_before))
-      (omega (
+    (omega (
       arith,
       high,
       o.gap_before,
@@ -41,7 +41,7 @@ facts g c =
     let low : c.args.k ≤ length (open_view h).middle =
     omega (arith, c.requires.in_bounds, ap (λ v. length v.middle) c.self.view_is) in
     let same : h.front_end + (h.middle_start - h.front_end) ≡ h.middle_start =
-      omega (arith, o.gap_before) in
+    omega (arith, o.gap_before) in
     move_down-step h o c.args.k low c.replace-none.new.dest
     (ap block_view c.replace-none.ensures.after
     ∙ (c.close_gap-closed.ensures.changes

@@ -95,7 +95,7 @@ returns-else-middle_len-gt0 g c =
     let R = g.J.Test.tests in
     let run = c.test_run-first in
     let none : c.keep_in_place.new.self.middle ≡ [] =
-      nil_from_length c.keep_in_place.new.self.middle
+    nil_from_length c.keep_in_place.new.self.middle
     (omega (arith, c.middle_len.ensures.value, c.if-middle_len-gt0.false)) in
     record {
       retained = retained-ends R c.args.self.now c.keep_in_place.new.self run.result c.args.test.now

@@ -37,8 +37,13 @@ returns-then-not-test-clause-tested g c =
     keeps-goes g.J.Test.tests c.args.test.now c.args.self.now l.test l.self l.invariant.keeps
     c.test.result c.test.new.test c.test.new.self.middle c.test.ensures.tested c.test.new.self
     c.test.ensures.changes (search rules)
-    (omega (arith, c.if-self.false, c.self.invariant.gap_before, ap (λ u. u.gap_before)
-      c.self.view_is))
+    (omega (
+      arith,
+      c.if-self.false,
+      c.self.invariant.gap_before,
+      ap (λ u. u.gap_before)
+          c.self.view_is,
+    ))
 
 pub loop-self-preserved : goal.loop-self-preserved
 loop-self-preserved g c =
@@ -46,7 +51,7 @@ loop-self-preserved g c =
     record {
       keeps = keeps-more g.J.Test.tests c.args.test.now c.args.self.now l.test l.self
           l.invariant.keeps c.test.result c.test.new.test c.test.new.self.middle
-            c.test.ensures.tested
+          c.test.ensures.tested
           c.test.new.self c.test.ensures.changes (search rules) c.move_one_down.new.self
           c.move_one_down.ensures;
       ready = search rules;

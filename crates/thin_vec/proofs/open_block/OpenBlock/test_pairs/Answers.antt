@@ -32,7 +32,7 @@ loop-kept-preserved g c =
           c.test_pair.new.self.middle
           (subst (λ b. TestsPairAt g.J.PairTest.tests l.kept l.test l.self.middle b
           c.test_pair.new.test c.test_pair.new.self.middle) (ap not kept)
-            c.test_pair.ensures.tested);
+          c.test_pair.ensures.tested);
       ready = search rules;
       same = search rules;
     }

@@ -11,4 +11,4 @@ returns-in-Ok-clause-overflow g c =
 pub returns-in-Err-clause-overflow : goal.returns-in-Err-clause-overflow
 returns-in-Err-clause-overflow g c =
     tells-same _ _ _ _ (exact-at _ _ 0 (length c.args.items.now) refl refl)
-      c.in-Err.ensures.overflow
+    c.in-Err.ensures.overflow

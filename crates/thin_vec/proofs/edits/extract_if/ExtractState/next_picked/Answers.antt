@@ -21,7 +21,7 @@ returns-then-seek_removed-clause-steps g c =
       kept = take a.count a.left;
       asked = asked;
       count = picked-count R v.picks.pick v.block.middle _ t.pick (take a.count a.left) z.middle
-        asked;
+          asked;
       front = search rules;
       gap_before = search rules;
       tail = search rules;

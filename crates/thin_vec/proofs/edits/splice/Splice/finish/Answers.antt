@@ -28,7 +28,10 @@ returns g c =
     let dropped = c.drop_middle.ensures
     ∙ (λ i. let h = c.into_inner-block.ensures.value i in
     record h {
-      gap_before = h.gap_before + length h.middle + h.gap_after; middle = []; gap_after = 0 }) in
+      gap_before = h.gap_before + length h.middle + h.gap_after;
+      middle = [];
+      gap_after = 0;
+    }) in
     let f = subst
     (λ b. FinishesSplice steps g.I.Iterator.can_next g.I.Iterator.remaining rule T b a s w r)
     dropped

@@ -119,7 +119,7 @@ returns-in-Err-extend_unhinted-clause-cause g c =
     }
 
 pub returns-in-Err-extend_unhinted-clause-in_hand :
-  goal.returns-in-Err-extend_unhinted-clause-in_hand
+    goal.returns-in-Err-extend_unhinted-clause-in_hand
 returns-in-Err-extend_unhinted-clause-in_hand g c =
     match-some _ _ c.in-Err-extend_unhinted.refused.in_hand c.in-Err-extend_unhinted.ensures.in_hand
     c.in-Err-extend_unhinted.ensures.err_full
@@ -157,7 +157,7 @@ returns-in-Err-clause-err_runs g c =
     (ap (λ l. l ++ []) (sym none))
 
 pub returns-in-Err-extend_unhinted-clause-err_runs :
-  goal.returns-in-Err-extend_unhinted-clause-err_runs
+    goal.returns-in-Err-extend_unhinted-clause-err_runs
 returns-in-Err-extend_unhinted-clause-err_runs g c =
     let placed = c.in-Err-extend_unhinted.ensures.placed in
     let items = placed.1 ∙ ap (λ old. old ++ placed.0)

@@ -30,7 +30,7 @@ returns-in-Err g c =
     let e = c.in-Err.ensures in let placed = e.placed in let old = c.args.self.now.items in
     let steps = g.U.IntoIter.Iterator.next_gives in
     let first =
-      yields-first steps c.into_iter.result c.in-Err._refused.rest placed.0 _ placed.2.gave in
+    yields-first steps c.into_iter.result c.in-Err._refused.rest placed.0 _ placed.2.gave in
     record {
       ran = (
         c.into_iter.result,
