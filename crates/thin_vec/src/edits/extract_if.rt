@@ -150,6 +150,23 @@ impl<T: Drop, A: Allocator, G: Growth> ThinVec<T, A, G> {
     }
 }
 
+impl<'a, T, F: FnMut(&mut T) -> bool, A: Allocator, G: Growth> ExtractIf<'a, T, F, A, G> {
+    ghost use Rattle.thin_vec.specs.Edits.ExtractIf.{ExtractSteps, extract_callee};
+
+    /// Tests the remaining items, in order, until the closure returns true for one of them. Then
+    /// removes that item and returns it. If the closure returns true for none of them, this call
+    /// and all later calls to `next` return `None`.
+    // The trait has this method, too. Some loops in generic functions need this one: `rt check` does
+    // not accept a call of the trait's in them.
+    pub fn next(&mut self) -> Option<T>
+        requires callable { F.IsAlwaysCallable (extract_callee self.old) }
+        ensures steps { ExtractSteps (CalledAtMut F.FnMut) self.old result self.new }
+        ensures callable { F.IsAlwaysCallable (extract_callee self.new) }
+    {
+        self.holder.value.next_picked()
+    }
+}
+
 impl<'a, T: Drop, F: FnMut(&mut T) -> bool, A: Allocator, G: Growth> Iterator
     for ExtractIf<'a, T, F, A, G> {
     ghost use Rattle.thin_vec.specs.Edits.ExtractIf.{ExtractSteps, extract_callee, extract_rest};
@@ -164,7 +181,7 @@ impl<'a, T: Drop, F: FnMut(&mut T) -> bool, A: Allocator, G: Growth> Iterator
     ghost remaining = { λ extract. at_most (length (extract_rest extract)) };
 
     fn next(&mut self) -> Option<T> {
-        self.holder.value.next_picked()
+        ExtractIf::next(self)
     }
 
     fn size_hint(&self) -> (usize, Option<usize>)

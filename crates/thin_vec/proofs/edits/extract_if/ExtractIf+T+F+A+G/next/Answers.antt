@@ -1,7 +1,7 @@
 -- A call of `next` changes only the state that the `ExtractIf` owns.
 use Rattle.std.proofs.Common.{◌++◌, refl}
 use Rattle.thin_vec.specs.OpenView.{cost_closed}
-use Rattle.thin_vec.proofs.edits.extract_if.ExtractIfIterator.next.Goals as goal
+use Rattle.thin_vec.proofs.edits.extract_if.ExtractIf+T+F+A+G.next.Goals as goal
 
 pub returns-clause-steps : goal.returns-clause-steps
 returns-clause-steps g c =
