@@ -1,6 +1,4 @@
-//! The methods that edit a range of a list. During an edit, there may be gaps of empty slots
-//! between the items. They are closed before a method such as `retain` returns, when a `Drain` or
-//! an `ExtractIf` is dropped, or by `Splice::finish`.
+//! The methods that edit a range of a list.
 
 mod dedup;
 mod drain;

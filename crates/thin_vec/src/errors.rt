@@ -68,8 +68,7 @@ pub struct SpliceRefused<T, I, A: Allocator = Global> {
     pub rest: I,
 }
 
-// The conversions drop what the error holds. They are written out, because `rt ci` refuses an
-// `impl` that a macro of this repository writes.
+// The conversions drop what the error holds.
 impl<S: Drop> From<Rejected<S>> for ThinVecError {
     ghost from_gives = { λ refused cause. cause ≡ refused.cause };
 

@@ -15,7 +15,7 @@ use thin_block::ThinVecError;
 ///
 /// - `thin_vec![alloc =>]` makes an empty list without an allocation.
 /// - `thin_vec![alloc => x, y]` makes a list of the given items. The capacity is the number of
-///   items. They are evaluated only if the memory was allocated.
+///   items.
 /// - `thin_vec![alloc => x; k]` makes a list of `k` items: clones of `x`, and then `x` itself.
 ///   `Doubling` chooses the capacity. If `k` is 0, `x` is dropped.
 ///

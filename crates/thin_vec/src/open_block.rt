@@ -35,15 +35,14 @@ use thin_block::{Block, Growth};
 /// - The *front* contains the items before the range, and those kept or inserted so far. They do
 ///   not move again while the block is open.
 /// - The *middle run* contains the items of the range that have not been yielded, kept or removed
-///   so far. In names, the middle run is called `middle`.
+///   so far.
 /// - `gap_after` has slots only after items were removed from the end of the middle run, or after
 ///   the tail was moved up.
 /// - The *tail* contains the items after the range.
 ///
 /// An `OpenBlock` owns the block and all items in it. It does not implement `Drop`: `close` puts
-/// the block back into the list. Contracts describe it as an `OpenView`, which is defined in
-/// `specs/OpenView.antt`. Only the proofs of its methods deal with slots. So each step of an edit
-/// is a method, even a step that only one function takes.
+/// the block back into the list. Only the proofs of its methods deal with slots. So each step of an
+/// edit is a method, even a step that only one function takes.
 pub struct OpenBlock<T, A: Allocator> {
     // While the block is open, the length that it stores is not used.
     pub(crate) block: Block<T, A>,
@@ -164,7 +163,7 @@ impl<T, A: Allocator> OpenBlock<T, A> {
         self.middle_end - self.middle_start
     }
 
-    // Removes and returns the first middle item. Its slot becomes a part of the gap.
+    // Removes and returns the first middle item.
     pub(crate) fn take_first(&mut self) -> T
         requires nonempty { 0 < length self.old.middle }
         ensures middle { self.old.middle ≡ result ∷ self.new.middle }
@@ -203,8 +202,7 @@ impl<T, A: Allocator> OpenBlock<T, A> {
         self.front_end += 1;
     }
 
-    // Lets the first `k` middle items belong to the front. `gap_before` is 0, so none of them
-    // moves.
+    // Adds the first `k` middle items to the front without moving them.
     pub(crate) fn keep_in_place(&mut self, k: usize)
         requires no_gap { self.old.gap_before ≡ 0 }
         requires in_bounds { k ≤ length self.old.middle }
@@ -232,8 +230,7 @@ impl<T, A: Allocator> OpenBlock<T, A> {
         self.append_to_front(value);
     }
 
-    // Moves the first `k` middle items to the end of the front. Two or more of them move by one
-    // call of `Block::close_gap`, after which the gap begins behind them.
+    // Moves the first `k` middle items to the end of the front.
     pub(crate) fn move_down(&mut self, k: usize)
         requires in_bounds { k ≤ length self.old.middle }
         requires has_gap { 0 < self.old.gap_before }
@@ -253,7 +250,6 @@ impl<T, A: Allocator> OpenBlock<T, A> {
         let block = mem::replace(&mut self.block, Block::none());
         let closed = block.close_gap(self.front_end, self.middle_start - self.front_end, k);
         let none = mem::replace(&mut self.block, closed);
-        // `none` was in the place of the block during the call.
         none.forget_unallocated();
         self.front_end += k;
         self.middle_start += k;
@@ -268,7 +264,7 @@ impl<T, A: Allocator> OpenBlock<T, A> {
     pub(crate) fn has_tail(&self) -> bool
         ensures value { IsTrue result ↔ (0 < length self.now.tail) }
 
-        // In every case. This holds of each open block, and the proof of `Splice::finish` needs it.
+        // This holds for each open block, and the proof of `Splice::finish` needs it.
         ensures in_bounds { tail_end self.now ≤ self.now.capacity }
     {
         self.tail_start < self.len
@@ -287,8 +283,7 @@ impl<T, A: Allocator> OpenBlock<T, A> {
         self.middle_end = self.tail_start;
     }
 
-    // Moves the items after `gap_before` down to the end of the front, stores the number of all
-    // items in the block, and returns the block.
+    // Moves the items after `gap_before` down to the end of the front, and returns the block.
     #[inline(always)]
     fn close_gap(self) -> Block<T, A>
         requires gap_after { self.gap_after ≡ 0 }
@@ -364,7 +359,7 @@ impl<T, A: Allocator> OpenBlock<T, A> {
 }
 
 impl<T: Drop, A: Allocator> OpenBlock<T, A> {
-    // Drops the middle items. Their slots and the gaps around them become one gap.
+    // Drops the middle items.
     pub(crate) fn drop_middle(&mut self)
         ensures { self.new ≡ record self.old {
           gap_before = self.old.gap_before + length self.old.middle + self.old.gap_after;

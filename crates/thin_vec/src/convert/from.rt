@@ -18,8 +18,7 @@ impl<T, A: Allocator> ThinVec<T, A> {
     /// Moves the items of an array into a new list.
     ///
     /// If `T` is a type parameter of the caller, the caller needs the precondition
-    /// `N * type_size T.row < 2 ^ 63`, as for every array. (`type_size` is defined in
-    /// `Rattle.std.specs.Mem`.) The macro `thin_vec!` does not need it.
+    /// `N * type_size T.row < 2 ^ 63`. The macro `thin_vec!` does not need it.
     ///
     /// # Errors
     ///

@@ -44,8 +44,7 @@ impl<T, A: Allocator, G: Growth> Model for IntoIter<T, A, G> {
 }
 
 impl<T, A: Allocator, G: Growth> ThinVec<T, A, G> {
-    /// Converts the list into an iterator that yields its items from either end. The call allocates
-    /// nothing, and moves no item.
+    /// Converts the list into an iterator that yields its items from either end.
     pub fn into_iter(self) -> IntoIter<T, A, G>
         ensures value { result ≡ self }
         ensures bounds { length self.items < 2 ^ 64 }
@@ -179,8 +178,7 @@ impl<T: Clone, A: Allocator, G: Growth> IntoIter<T, A, G> {
     ///
     /// # Errors
     ///
-    /// Fails with `OutOfMemory` if `alloc` fails, or if an item cannot be cloned. On failure,
-    /// `alloc` and all clones are dropped.
+    /// Fails as `ThinVec::clone` does.
     pub fn clone(&self, alloc: A) -> Result<IntoIter<T, A, G>, ThinVecError>
         // On success.
         ensures items { IfOk result (λ it. AllZip T.is_clone self.now.items it.items) }

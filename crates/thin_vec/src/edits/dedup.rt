@@ -21,7 +21,7 @@ impl<T: Drop, A: Allocator, G: Growth> ThinVec<T, A, G> {
         requires callable { F.IsAlwaysCallable same }
         ensures deduped { IsDedupedBy (CalledAtPairMut F.FnMut) same self.old self.new }
 
-        // These follow from `deduped`, and are for callers' proofs.
+        // These follow from `deduped`.
         ensures moves { MovesAtMost (length self.new.items) self.old.cost self.new.cost }
         ensures bound { length self.new.items ≤ length self.old.items }
 
@@ -55,12 +55,12 @@ impl<T: Drop, A: Allocator, G: Growth> ThinVec<T, A, G> {
 
     /// Removes and drops each item whose key is equal to the key of the last item kept before it.
     /// Calls `key` twice for each item except the first: with this item, and then with the last
-    /// item kept. `key` may change the items.
+    /// item kept.
     pub fn dedup_by_key<K: PartialEq + Drop, F: FnMut(&mut T) -> K>(&mut self, key: F)
         requires callable { F.IsAlwaysCallable key }
         ensures deduped { IsDedupedBy (ComparesKeys F.FnMut K.eq) key self.old self.new }
 
-        // These follow from `deduped`, and are for callers' proofs.
+        // These follow from `deduped`.
         ensures moves { MovesAtMost (length self.new.items) self.old.cost self.new.cost }
         ensures bound { length self.new.items ≤ length self.old.items }
 

@@ -50,39 +50,34 @@ impl<T: Drop, A: Allocator, G: Growth> ThinVec<T, A, G> {
     ghost use Rattle.thin_vec.specs.Edits.Drain.{DrainKeepsAlong, DrainYieldsInOrder, DrainYieldsInReverse, drain_lender, drain_list, drain_rest, left_by_drain};
 
     /// Removes the items `start..end` from the list, and returns an iterator that yields them from
-    /// either end. To check a range, call the function `bounds` of this crate.
+    /// either end.
     ///
     /// Until the iterator is dropped, the list is empty and has capacity 0. Dropping the iterator
     /// drops the items that were not yielded, and returns the items outside the range to the list,
     /// in the same allocation. If the iterator is leaked, the list stays empty, and its old items
-    /// are leaked. Neither this call nor the drop requests memory or can fail.
+    /// are leaked.
     #[tactic(auto, unfolding(crate::specs::Edits::Drain::left_by_drain))]
     pub fn drain(&mut self, start: usize, end: usize) -> Drain<'_, T, A, G>
         requires start_le_end { start ≤ end }
         requires in_bounds { end ≤ length self.old.items }
 
-        // What the `Drain` yields. `runs` and `runs_back` follow from the contracts of `next` and
-        // `next_back`, and are for callers' proofs about loops.
+        // What the `Drain` yields.
         ensures rest { drain_rest result ≡ slice_range self.old.items start end }
         ensures runs { DrainYieldsInOrder result }
         ensures runs_back { DrainYieldsInReverse result }
 
-        // The `Drain` borrows the list, so the list is a part of `result`, and not `self.new`. It
-        // is empty until the `Drain` is dropped: calls to `next` and `next_back` do not change it
-        // (`DrainKeeps`).
+        // The list until the `Drain` is dropped.
         ensures meanwhile { drain_list result
             ≡ record self.old { items = []; capacity = 0; cost = no_cost } }
 
-        // What the list is after the `Drain` is dropped.
+        // The list after the `Drain` is dropped.
         ensures left { left_by_drain result ≡ record self.old {
           items = remove_range self.old.items start end;
           cost = if start == end then self.old.cost else add_moves
               (length self.old.items - end) self.old.cost;
         } }
 
-        // Which list is borrowed, and what calls to `next` leave unchanged. `stays` follows from
-        // the contract of `next`. For calls to both `next` and `next_back`, see the lemma
-        // `drain_leaves` in `thin_vec.proofs.edits.DrainLemmas`.
+        // Which list is borrowed, and what calls to `next` leave unchanged.
         ensures same_reference { drain_lender result ≡ self.entry.ghost_name }
         ensures stays { DrainKeepsAlong result }
     {

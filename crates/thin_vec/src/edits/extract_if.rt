@@ -29,7 +29,7 @@ pub struct ExtractIf<
     ghost from: { IsAllocatedBy (H.inner holder).block.alloc list.now.alloc },
 }
 
-/// What an `ExtractIf` owns: the open block of the list, and the test of the items.
+/// What an `ExtractIf` owns.
 pub struct ExtractState<T, F, A: Allocator> {
     block: OpenBlock<T, A>,
     picks: ExtractBy<F>,
@@ -102,10 +102,9 @@ impl<T: Drop, A: Allocator, G: Growth> ThinVec<T, A, G> {
     /// Returns an iterator that removes the items in the range `start..end` for which `pick`
     /// returns true, and yields them in order.
     ///
-    /// `extract_if` itself does not call `pick`. Each call to `next` tests items of the range, in
-    /// order, until `pick` returns true for one of them. After the `ExtractIf` is dropped, the list
-    /// contains every item that was not yielded, also those that were not tested. If it is leaked,
-    /// the list stays empty, and its old items are leaked.
+    /// After the `ExtractIf` is dropped, the list contains every item that was not yielded, also
+    /// those that were not tested. If it is leaked, the list stays empty, and its old items are
+    /// leaked.
     ///
     /// No memory is requested. Each item that stays in the list and follows the first removed item
     /// is moved once, even if it is not in the range.
@@ -118,15 +117,14 @@ impl<T: Drop, A: Allocator, G: Growth> ThinVec<T, A, G> {
         requires start_le_end { start ≤ end }
         requires in_bounds { end ≤ length self.old.items }
 
-        // What the `ExtractIf` owns. `value` is the closure.
+        // What the `ExtractIf` owns.
         ensures front { (extract_block result).front ≡ take start self.old.items }
         ensures rest { extract_rest result ≡ slice_range self.old.items start end }
         ensures tail { (extract_block result).tail ≡ drop end self.old.items }
         ensures gap { (extract_block result).gap_before ≡ 0 }
         ensures value { extract_callee result ≡ pick }
 
-        // The list is empty until the `ExtractIf` is dropped: calls to `next` do not change it
-        // (`ExtractSteps`).
+        // The list until the `ExtractIf` is dropped.
         ensures meanwhile { extract_list result
             ≡ record self.old { items = []; capacity = 0; cost = no_cost } }
 
@@ -156,8 +154,6 @@ impl<'a, T, F: FnMut(&mut T) -> bool, A: Allocator, G: Growth> ExtractIf<'a, T, 
     /// Tests the remaining items, in order, until the closure returns true for one of them. Then
     /// removes that item and returns it. If the closure returns true for none of them, this call
     /// and all later calls to `next` return `None`.
-    // The trait has this method, too. Some loops in generic functions need this one: `rt check` does
-    // not accept a call of the trait's in them.
     pub fn next(&mut self) -> Option<T>
         requires callable { F.IsAlwaysCallable (extract_callee self.old) }
         ensures steps { ExtractSteps (CalledAtMut F.FnMut) self.old result self.new }

@@ -45,7 +45,7 @@ impl<T: Drop, A: Allocator, G: Growth> ThinVec<T, A, G> {
         // When it must succeed.
         ensures succeeds { size (I.remaining iter) ≡ 0 → IsOk result }
 
-        // On failure, nothing changed.
+        // On failure.
         ensures err { IfErr result (λ rejected. (self.new ≡ self.old)
             × (rejected.value ≡ iter)) }
         ensures cause { IfErr result
@@ -72,7 +72,7 @@ impl<T: Drop, A: Allocator, G: Growth> ThinVec<T, A, G> {
     }
 
     // Collects the items of `iter` in a vector, and then inserts them before the item at index
-    // `at`. If `iter` yields no item, nothing is allocated.
+    // `at`.
     #[inline(always)]
     fn insert_held<I: Iterator<Item = T>>(
         &mut self,
@@ -91,7 +91,7 @@ impl<T: Drop, A: Allocator, G: Growth> ThinVec<T, A, G> {
         // When it must succeed.
         ensures succeeds { size (I.remaining iter) ≡ 0 → IsOk result }
 
-        // On failure, no item is lost.
+        // On failure.
         ensures err { OnErr result (self.new ≡ self.old) }
         ensures placed { IfErr result
             (λ error. SpliceErrorAccountsFor I.next_gives I.can_next I.remaining iter [] error) }
@@ -155,8 +155,6 @@ impl<T: Drop, A: Allocator, G: Growth> ThinVec<T, A, G> {
         requires can_next { I.can_next iter }
         requires finite { IsFinite (I.remaining iter) }
 
-        // The `ensures` clauses of `Splice::finish` follow from this clause, and from the bounds of
-        // the list and of the block.
         ensures { FinishesSplice I.next_gives I.can_next I.remaining G.rule T.row block
             self.old.alloc
             iter self.new result }

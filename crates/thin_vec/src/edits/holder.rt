@@ -17,7 +17,7 @@ pub trait IntoInner {
 }
 
 /// The only type of this crate that implements `IntoInner`, and the default of the type parameter
-/// `H` of `Drain`, `ExtractIf` and `Splice`. Users of these types need not write `H`.
+/// `H` of `Drain`, `ExtractIf` and `Splice`.
 pub struct Holder<B> {
     pub(crate) value: B,
 }

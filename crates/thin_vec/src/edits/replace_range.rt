@@ -42,7 +42,7 @@ impl<T: Clone, A: Allocator, G: Growth> ThinVec<T, A, G> {
         // When it must succeed.
         ensures succeeds_empty { length items.now ≡ 0 → IsOk result }
 
-        // On failure, the list is unchanged.
+        // On failure.
         ensures overflow { capacity_after_reserve G.rule T.row self.old
             (length items.now - (end - start)) ≡ None → IsErr result }
         ensures cause { IfErr result (IsCauseOf (capacity_after_reserve G.rule T.row self.old

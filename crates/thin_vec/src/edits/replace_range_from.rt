@@ -14,9 +14,7 @@ impl<T: Copy, A: Allocator, G: Growth> ThinVec<T, A, G> {
     /// # Errors
     ///
     /// Fails only if `items` is longer than the range, and the list has no room for the surplus.
-    ///
-    /// - `CapacityOverflow`: the new capacity would be too large.
-    /// - `OutOfMemory`: the allocator failed.
+    /// The possible causes are those of `reserve`.
     pub fn replace_range_from_copies(
         &mut self,
         start: usize,
@@ -32,7 +30,7 @@ impl<T: Copy, A: Allocator, G: Growth> ThinVec<T, A, G> {
         ensures cost { OnOk result (CostsMoves
             (moves_replacing self.old start end (length items.now)) self.old self.new) }
 
-        // When it must succeed. `succeeds_shorter` follows from `succeeds`.
+        // When it must succeed.
         ensures succeeds { HasRoomFor self.old (length items.now - (end - start)) → IsOk result }
         ensures succeeds_shorter { length items.now ≤ end - start → IsOk result }
 
@@ -80,7 +78,7 @@ impl<T: Drop, A: Allocator, G: Growth> ThinVec<T, A, G> {
             (moves_replacing self.old start end (length other.old.items)) self.old self.new) }
         ensures other_changes { OnOk result (other.new ≡ record other.old { items = [] }) }
 
-        // When it must succeed. `succeeds_shorter` follows from `succeeds`.
+        // When it must succeed.
         ensures succeeds { HasRoomFor self.old (length other.old.items - (end - start))
             → IsOk result }
         ensures succeeds_shorter { length other.old.items ≤ end - start → IsOk result }

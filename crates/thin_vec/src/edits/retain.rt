@@ -14,12 +14,12 @@ impl<T: Drop, A: Allocator, G: Growth> ThinVec<T, A, G> {
     ghost use Rattle.thin_vec.specs.ThinVec.{IsBounded};
 
     /// Keeps the items for which `keep` returns true, and drops the other items. Calls `keep` once
-    /// for each item, in order. Each kept item that follows a removed item is moved once.
+    /// for each item, in order.
     pub fn retain<F: FnMut(&T) -> bool>(&mut self, keep: F)
         requires callable { F.IsAlwaysCallable keep }
         ensures retained { IsRetained (ReadsOnly (CalledAt F.FnMut)) keep self.old self.new }
 
-        // These follow from `retained`, and are for callers' proofs.
+        // These follow from `retained`.
         ensures filtered { IsFiltered (CalledAt F.FnMut) keep self.old.items self.new.items }
         ensures moves { MovesAtMost (length self.new.items) self.old.cost self.new.cost }
         ensures bound { length self.new.items ≤ length self.old.items }
@@ -38,7 +38,7 @@ impl<T: Drop, A: Allocator, G: Growth> ThinVec<T, A, G> {
         requires callable { F.IsAlwaysCallable keep }
         ensures retained { IsRetained (CalledAtMut F.FnMut) keep self.old self.new }
 
-        // These follow from `retained`, and are for callers' proofs.
+        // These follow from `retained`.
         ensures moves { MovesAtMost (length self.new.items) self.old.cost self.new.cost }
         ensures bound { length self.new.items ≤ length self.old.items }
 

@@ -40,8 +40,7 @@ impl<T, A: Allocator, G: Growth> ThinVec<T, A, G> {
     ghost use Rattle.thin_vec.specs.Edits.Splice.{left_by_splice, splice_front, splice_iter, splice_lender, splice_list, splice_range_len, splice_rest, splice_tail};
 
     /// Begins to replace the items `start..end` with the items of `iter`. The caller has to call
-    /// `finish` on the returned `Splice`. `splice` itself requests no memory, moves no item, and
-    /// takes no item from `iter`.
+    /// `finish` on the returned `Splice`.
     #[tactic(auto, unfolding(crate::specs::Edits::Splice::left_by_splice))]
     pub fn splice<I: Iterator<Item = T>>(
         &mut self,
@@ -52,8 +51,7 @@ impl<T, A: Allocator, G: Growth> ThinVec<T, A, G> {
         requires start_le_end { start ≤ end }
         requires in_bounds { end ≤ length self.old.items }
 
-        // What the `Splice` yields (`rest`), the number of slots of the range (`range`), and the
-        // iterator of the new items (`value`).
+        // What the `Splice` owns.
         ensures rest { splice_rest result ≡ slice_range self.old.items start end }
         ensures range { splice_range_len result ≡ end - start }
         ensures value { splice_iter result ≡ iter }
@@ -66,8 +64,7 @@ impl<T, A: Allocator, G: Growth> ThinVec<T, A, G> {
         ensures tail { splice_tail result ≡ drop end self.old.items }
         ensures bounds { IsBounded T.row self.old }
 
-        // The list is empty until `finish` is called: calls to `next` do not change it
-        // (`SpliceKeeps`).
+        // The list until `finish` is called.
         ensures meanwhile { splice_list result
             ≡ record self.old { items = []; capacity = 0; cost = no_cost } }
 
@@ -133,36 +130,24 @@ impl<
     /// their place, up to its first `None`.
     ///
     /// If no item follows the range, `finish` appends the items of the iterator as `extend` does.
-    /// Otherwise, it fills the slots of the range, then room for the lower bound of the size hint,
-    /// and then collects the remaining items in a vector that uses `alloc`, from which it moves
+    /// Otherwise, it fills the slots of the range, and then as many new slots as the lower bound of
+    /// the size hint. It collects any further items in a vector that uses `alloc`, and then moves
     /// them into the list.
     ///
     /// # Errors
     ///
-    /// `finish` cannot fail, and requests no memory, if the iterator cannot yield more items than
-    /// the range has slots, or if no item follows the range and the list has room for as many items
-    /// as the iterator may yield. If items follow the range, such room does not guarantee success:
-    /// the lower bound of the size hint may be too low, and then the vector requests memory.
+    /// Fails if the list or the vector cannot grow. The possible causes are those of `reserve`. If
+    /// the range has a slot for each item that the iterator may yield, `finish` cannot fail.
     ///
     /// On failure, the items of the range are dropped all the same. No item of the iterator is
     /// lost: those that are not in the list are in the error.
-    ///
-    /// - If no item follows the range, `held` is empty. If `in_hand` is `None`, room for the size
-    /// hint could not be reserved, and no item was inserted. Otherwise, the list is full. - If
-    /// items follow the range, all slots of the range are filled. If `in_hand` has an item, the
-    /// vector could not grow, and the `cause` is `OutOfMemory`. Otherwise, the list could not grow:
-    /// for the size hint if `held` is empty, and for the items in `held` if it is not.
-    ///
-    /// If the list could not grow, the `cause` is `CapacityOverflow` if the growth rule chooses no
-    /// capacity for the items that need room, and `OutOfMemory` if it chooses one.
     // Always inlined for the reason that `finish_before_tail` gives.
     #[inline(always)]
     pub fn finish(self, alloc: A) -> Result<(), SpliceRefused<T, I, A>>
         requires can_next { I.can_next (splice_iter self) }
         requires finite { IsFinite (I.remaining (splice_iter self)) }
 
-        // On success. The list is `self.exit.0.now`. `runs` follows from `items`, and has the form
-        // that std's lemmas about adaptors such as `map` expect.
+        // On success. The list is `self.exit.0.now`.
         ensures items { OnOk result ((xs : List T) × Drains I.next_gives (splice_iter self.entry) xs
             × (self.exit.0.now.items
             ≡ (splice_front self.entry ++ xs) ++ splice_tail self.entry)) }
@@ -170,8 +155,7 @@ impl<
             (λ p. self.exit.0.now.items
             ≡ (splice_front self.entry ++ p.items) ++ splice_tail self.entry)) }
 
-        // When it must succeed, and when the list makes no request for memory. `had_room` follows
-        // from `capacity` and `cost`, because the slots of the range are a part of the capacity.
+        // When it must succeed, and when the list makes no request for memory.
         ensures succeeds { HasSlotsFor self.entry (size (I.remaining (splice_iter self.entry)))
             → IsOk result }
         ensures had_room { HasSlotsFor self.entry (size (I.remaining (splice_iter self.entry)))
@@ -200,16 +184,13 @@ impl<
             × (error.rest ≡ splice_iter self.entry))
             (λ _. length self.exit.0.now.items ≡ self.exit.0.now.capacity)) }
 
-        // In every case. No contract can name the lower bound of the size hint, so `capacity` says
-        // that there is such a number, at most the limit of the iterator.
+        // In every case.
         ensures capacity { ExtendsCapacity G.rule T.row (left_by_splice self.entry) self.exit.0.now
             (I.remaining (splice_iter self.entry)) }
 
         ensures cost { CostsInserting (left_by_splice self.entry) self.exit.0.now
             (2 * length (splice_tail self.entry)) }
 
-        // If items follow the range, the list requests memory at most twice. Otherwise, it does so
-        // at most as often as `extend` may.
         ensures blocks { (0 < length (splice_tail self.entry)
             → self.exit.0.now.cost.blocks ≤ (left_by_splice self.entry).cost.blocks + 2)
             × (splice_tail self.entry ≡ [] → RequestsAtMost

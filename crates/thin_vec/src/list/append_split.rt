@@ -26,7 +26,7 @@ impl<T, A: Allocator, G: Growth> ThinVec<T, A, G> {
         // When it must succeed.
         ensures succeeds { HasRoomFor self.old (length other.old.items) → IsOk result }
 
-        // On failure, both lists are unchanged.
+        // On failure.
         ensures err { OnErr result (self.new ≡ self.old) }
         ensures other_err { OnErr result (other.new ≡ other.old) }
 
@@ -44,7 +44,7 @@ impl<T, A: Allocator, G: Growth> ThinVec<T, A, G> {
     }
 
     /// Moves the items from index `at` onward to a new list, which owns `alloc` and has no spare
-    /// capacity. The capacity of `self` does not change.
+    /// capacity.
     ///
     /// # Errors
     ///
@@ -63,7 +63,7 @@ impl<T, A: Allocator, G: Growth> ThinVec<T, A, G> {
         // When it must succeed.
         ensures succeeds { at ≡ length self.old.items → IsOk result }
 
-        // On failure, the list is unchanged.
+        // On failure.
         ensures cause { IfErr result (λ cause. cause ≡ ThinVecError.OutOfMemory) }
         ensures err { OnErr result (self.new ≡ self.old) }
 

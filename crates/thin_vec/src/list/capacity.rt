@@ -16,7 +16,7 @@ impl<T, A: Allocator, G: Growth> ThinVec<T, A, G> {
 
     /// Reserves room for at least `additional` more items. If there is not enough room, the list
     /// grows to the capacity that the growth rule chooses, which is at least twice the old
-    /// capacity. If the block moves to another address, every item is copied.
+    /// capacity.
     ///
     /// # Errors
     ///
@@ -33,7 +33,7 @@ impl<T, A: Allocator, G: Growth> ThinVec<T, A, G> {
         // When it must succeed.
         ensures succeeds { HasRoomFor self.old additional → IsOk result }
 
-        // On failure, the list is unchanged.
+        // On failure.
         ensures err { OnErr result (self.new ≡ self.old) }
 
         // In every case.
@@ -66,7 +66,7 @@ impl<T, A: Allocator, G: Growth> ThinVec<T, A, G> {
         // When it must succeed.
         ensures succeeds { HasRoomFor self.old additional → IsOk result }
 
-        // On failure, the list is unchanged.
+        // On failure.
         ensures err { OnErr result (self.new ≡ self.old) }
         ensures overflow { OverflowsIff
             (capacity_after_reserve_exact T.row self.old additional) result }
@@ -98,7 +98,7 @@ impl<T, A: Allocator, G: Growth> ThinVec<T, A, G> {
         // When it must succeed.
         ensures succeeds { HasRoomFor self.old additional → IsOk result }
 
-        // On failure, the list is unchanged.
+        // On failure.
         ensures err { OnErr result (self.new ≡ self.old) }
 
         // In every case.
@@ -114,8 +114,7 @@ impl<T, A: Allocator, G: Growth> ThinVec<T, A, G> {
         Ok(())
     }
 
-    // Grows the list to make room for `additional` more items. It is cold, because most calls of
-    // `reserve` find enough room.
+    // Grows the list to make room for `additional` more items.
     #[cold]
     #[tactic(auto, using(thin_block::proofs::CapacityLemmas::ruled))]
     fn grow_for(&mut self, additional: usize) -> Result<(), ThinVecError>
@@ -157,7 +156,6 @@ impl<T, A: Allocator, G: Growth> ThinVec<T, A, G> {
         requires fits { Fits T.row cap }
         requires bounds { IsBounded T.row self.old }
 
-        // Only `capacity` and `cost` may change.
         ensures changes { self.new ≡ record self.old {
           capacity = self.new.capacity;
           cost = self.new.cost;
@@ -168,7 +166,7 @@ impl<T, A: Allocator, G: Growth> ThinVec<T, A, G> {
         ensures cost { OnOk result
             (self.new.cost ≡ add_realloc (length self.old.items) self.old.cost) }
 
-        // On failure, the list is unchanged.
+        // On failure.
         ensures err { OnErr result (self.new ≡ self.old) }
         ensures cause { IfErr result (λ cause. cause ≡ ThinVecError.OutOfMemory) }
 

@@ -1,4 +1,4 @@
-//! The methods that clone items. Room for all clones is reserved before the first clone is made.
+//! The methods that clone items.
 ghost use Rattle.std.specs.Prelude.{◌≡◌, ◌⊎◌, ◌+◌, ◌<◌, ◌≤◌, [], ◌++◌, ◌-◌, All, HoldsAt, IfErr, IfOk, IsOk, OnErr, OnOk, length, slice_range, take};
 ghost use Rattle.std.specs.List.{AllZip, AppendsClones};
 ghost use Rattle.thin_block.specs.Capacity.{Fits};
@@ -32,8 +32,7 @@ impl<T: Clone, A: Allocator, G: Growth> ThinVec<T, A, G> {
         ensures succeeds { HasRoomFor self.old (length items.now) → All T.is_infallible items.now
             → IsOk result }
 
-        // On failure, the list is unchanged, or an item could not be cloned after room was
-        // reserved.
+        // On failure.
         ensures err { OnErr result ((self.new ≡ self.old)
             ⊎ GrewForFailedClone (capacity_after_reserve G.rule T.row self.old (length items.now))
             T.is_infallible items.now self.old self.new) }
@@ -43,7 +42,7 @@ impl<T: Clone, A: Allocator, G: Growth> ThinVec<T, A, G> {
         // In every case.
         ensures grows { Grows G.rule T.row (length items.now) self.old self.new result }
 
-        // These follow from `items` and `err`, and are for callers' proofs.
+        // These follow from `items` and `err`.
         ensures items_if_clones_equal { OnOk result (ClonesEqual T.is_clone
             → self.new.items ≡ self.old.items ++ items.now) }
         ensures err_items { OnErr result (self.new.items ≡ self.old.items) }
@@ -62,7 +61,7 @@ impl<T: Clone, A: Allocator, G: Growth> ThinVec<T, A, G> {
     /// Fails with `OutOfMemory` if `alloc` refuses the memory, or if an item cannot be cloned. On
     /// failure, `alloc` and all clones are dropped.
     pub fn clone(&self, alloc: A) -> Result<ThinVec<T, A, G>, ThinVecError>
-        // On success. `items_if_clones_equal` follows from `items`, and is for callers' proofs.
+        // On success.
         ensures items { IfOk result (λ list. AllZip T.is_clone self.now.items list.items) }
         ensures items_if_clones_equal { IfOk result (λ list. ClonesEqual T.is_clone
             → list.items ≡ self.now.items) }
@@ -88,7 +87,7 @@ impl<T: Clone, A: Allocator, G: Growth> ThinVec<T, A, G> {
     ) -> Result<ThinVec<T, A, G>, ThinVecError>
         requires fits { Fits T.row (length items.now) }
 
-        // On success. `items_if_clones_equal` follows from `items`, and is for callers' proofs.
+        // On success.
         ensures items { IfOk result (λ list. AllZip T.is_clone items.now list.items) }
         ensures items_if_clones_equal { IfOk result (λ list. ClonesEqual T.is_clone
             → list.items ≡ items.now) }
@@ -117,7 +116,7 @@ impl<T: Clone, A: Allocator, G: Growth> ThinVec<T, A, G> {
     pub fn extend_from_slice_reserved(&mut self, items: &[T]) -> Result<(), ThinVecError>
         requires room { HasRoomFor self.old (length items.now) }
 
-        // On success. `items_if_clones_equal` follows from `items`, and is for callers' proofs.
+        // On success.
         ensures items { OnOk result
             (AppendsClones T.is_clone self.old.items self.new.items items.now) }
         ensures items_if_clones_equal { OnOk result (ClonesEqual T.is_clone
@@ -127,7 +126,7 @@ impl<T: Clone, A: Allocator, G: Growth> ThinVec<T, A, G> {
         // When it must succeed.
         ensures succeeds { All T.is_infallible items.now → IsOk result }
 
-        // On failure, the items are unchanged, and the clones that were made count as moves.
+        // On failure.
         ensures cause { IfErr result (λ cause. cause ≡ ThinVecError.OutOfMemory) }
         ensures err_items { OnErr result (self.new.items ≡ self.old.items) }
         ensures err { OnErr result (FailsAtClone T.is_infallible items.now self.old.cost
@@ -194,7 +193,7 @@ impl<T: Clone, A: Allocator, G: Growth> ThinVec<T, A, G> {
         // In every case.
         ensures grows { Grows G.rule T.row (end - start) self.old self.new result }
 
-        // These follow from `items` and `err`, and are for callers' proofs.
+        // These follow from `items` and `err`.
         ensures items_if_clones_equal { OnOk result (ClonesEqual T.is_clone
             → self.new.items ≡ self.old.items ++ slice_range self.old.items start end) }
         ensures err_items { OnErr result (self.new.items ≡ self.old.items) }
@@ -219,7 +218,6 @@ impl<T: Clone, A: Allocator, G: Growth> ThinVec<T, A, G> {
         requires room { HasRoomFor self.old (end - start) }
         requires bounds { IsBounded T.row self.old }
 
-        // The first `result` items of the range were cloned.
         ensures in_bounds { result ≤ end - start }
         ensures items { AppendsClones T.is_clone self.old.items self.new.items
             (take result (slice_range self.old.items start end)) }
@@ -229,7 +227,6 @@ impl<T: Clone, A: Allocator, G: Growth> ThinVec<T, A, G> {
           cost = add_moves result self.old.cost;
         } }
 
-        // If these are not all, the next item could not be cloned.
         ensures stopped_at { result < end - start → HoldsAt (λ x. ¬ (T.is_infallible x))
             (slice_range self.old.items start end) result }
 

@@ -26,7 +26,7 @@ impl<T: Copy, A: Allocator, G: Growth> ThinVec<T, A, G> {
         // When it must succeed.
         ensures succeeds { HasRoomFor self.old (length items.now) → IsOk result }
 
-        // On failure, the list is unchanged.
+        // On failure.
         ensures err { OnErr result (self.new ≡ self.old) }
 
         // In every case.

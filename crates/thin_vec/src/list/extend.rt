@@ -1,7 +1,4 @@
 //! The methods `extend` and `from_iter`, which move the items of an iterator into a list.
-//!
-//! The clause `runs` follows from `items`, and `err_runs` from `placed`. They are for std's lemmas
-//! about adaptors such as `map`, which speak of a *run* of the iterator.
 ghost use Rattle.std.specs.Prelude.{◌≡◌, ◌+◌, ◌-◌, ◌<◌, ◌≤◌, List, ◌++◌, IfErr, IfOk, IsOk, IsSome, MatchOption, None, OnErr, OnOk, length};
 ghost use Rattle.std.specs.Iterator.Runs.{SomeRun, WholeRun};
 ghost use Rattle.std.specs.Iterator.{Drains, IsFinite, size};
@@ -23,9 +20,8 @@ use std::mem;
 use thin_block::{Block, Growth, ThinVecError};
 
 impl<T, A: Allocator, G: Growth> ThinVec<T, A, G> {
-    /// Appends the items that `iter` yields before its first `None`. After this `None`, `next` is
-    /// not called again. The call asks for the size hint of `iter` once, and begins by reserving
-    /// room for its lower bound.
+    /// Appends the items that `iter` yields before its first `None`. The call begins by reserving
+    /// room for the lower bound of the size hint.
     ///
     /// # Errors
     ///
@@ -45,7 +41,7 @@ impl<T, A: Allocator, G: Growth> ThinVec<T, A, G> {
         // When it must succeed.
         ensures succeeds { HasRoomFor self.old (size (I.remaining iter)) → IsOk result }
 
-        // On failure, every item that `iter` yielded is in the list or in the error.
+        // On failure.
         ensures placed { IfErr result (λ error. (xs : List T)
             × (self.new.items ≡ self.old.items ++ xs)
             × YieldsAndCanContinue I.next_gives I.can_next I.remaining iter
@@ -238,8 +234,7 @@ impl<T, A: Allocator> ThinVec<T, A> {
 impl<T: Drop, A: Allocator, G: Growth> Extend<T> for ThinVec<T, A, G> {
     ghost extend_gives = { ExtendsList G.rule T.row };
 
-    // Appends the items as the inherent method does. On failure, drops the item in hand and the
-    // iterator.
+    // Does the same as the inherent method, but drops the error.
     fn extend<U: IntoIterator<Item = T>>(&mut self, iter: U) -> Result<(), AllocError> {
         match ThinVec::extend(self, iter.into_iter()) {
             Ok(()) => Ok(()),
@@ -253,8 +248,7 @@ impl<T: Drop, A: Allocator> FromIterator<T> for ThinVec<T, A> {
 
     ghost from_iter_gives = { IsCollectedFrom T.row };
 
-    // Makes a list as the inherent method does. On failure, drops the list, the item in hand and
-    // the iterator.
+    // Does the same as the inherent method, but drops the error.
     fn from_iter<U: IntoIterator<Item = T>>(
         alloc: A,
         iter: U,

@@ -19,8 +19,7 @@ impl<T, A: Allocator, G: Growth> DerefSlice for ThinVec<T, A, G> {
 
     ghost deref_gives = { λ list items. items ≡ list.items };
 
-    // The clauses are those of `as_slice`. Callers that know the type have them in place of the
-    // contract of the trait.
+    // The clauses are those of `as_slice`.
     fn deref(&self) -> &[T]
         ensures value { result.now ≡ self.now.items }
         ensures len { length result.now ≡ length self.now.items }

@@ -32,7 +32,7 @@ impl<T, A: Allocator, G: Growth> ThinVec<T, A, G> {
         // When it must succeed.
         ensures succeeds { HasRoomFor self.old 1 → IsOk result }
 
-        // On failure, the list is unchanged.
+        // On failure.
         ensures err { OnErr result (self.new ≡ self.old) }
         ensures value_returned { IfErr result (λ error. error.value ≡ value) }
         ensures cause { IfErr result (λ error. LacksRoom G.rule T.row self.old 1 error.cause) }
@@ -76,7 +76,7 @@ impl<T, A: Allocator, G: Growth> ThinVec<T, A, G> {
             (insert self.old.items index) (length self.old.items - index + 1) result) }
         ensures value { IfOk result (λ item. item.now ≡ value) }
 
-        // When it must succeed, and when it must fail: if no capacity can be chosen.
+        // When it must succeed, and when it must fail.
         ensures succeeds { HasRoomFor self.old 1 → IsOk result }
         ensures overflow { capacity_after_reserve G.rule T.row self.old 1 ≡ None → IsErr result }
 
@@ -150,7 +150,7 @@ impl<T, A: Allocator, G: Growth> ThinVec<T, A, G> {
 impl<T: Drop, A: Allocator, G: Growth> ThinVec<T, A, G> {
     ghost use Rattle.thin_vec.specs.ThinVec.{IsBounded};
 
-    /// Drops the items from index `len` onward, if there are any. The capacity does not change.
+    /// Drops the items from index `len` onward, if there are any.
     pub fn truncate(&mut self, len: usize)
         ensures items { self.new.items ≡ take len self.old.items }
         ensures changes { self.new ≡ record self.old { items = self.new.items } }
@@ -166,7 +166,7 @@ impl<T: Drop, A: Allocator, G: Growth> ThinVec<T, A, G> {
         }
     }
 
-    /// Drops all items. The capacity does not change.
+    /// Drops all items.
     pub fn clear(&mut self)
         ensures items { self.new.items ≡ [] }
         ensures len { length self.new.items ≡ 0 }

@@ -22,7 +22,7 @@ impl<T, A: Allocator, G: Growth> ThinVec<T, A, G> {
     /// Fails if and only if `reserve(1)` would fail, with the same cause. The error returns `value`
     /// to the caller.
     pub fn push(&mut self, value: T) -> Result<(), Rejected<T>>
-        // On success. `len` follows from `items`, and is for callers' proofs.
+        // On success.
         ensures items { OnOk result (self.new.items ≡ self.old.items ++ value ∷ []) }
         ensures len { OnOk result (length self.new.items ≡ length self.old.items + 1) }
         ensures cost { OnOk result (CostsMoves 1 self.old self.new) }
@@ -30,7 +30,7 @@ impl<T, A: Allocator, G: Growth> ThinVec<T, A, G> {
         // When it must succeed.
         ensures succeeds { HasRoomFor self.old 1 → IsOk result }
 
-        // On failure, the list is unchanged.
+        // On failure.
         ensures err { OnErr result (self.new ≡ self.old) }
         ensures value_returned { IfErr result (λ error. error.value ≡ value) }
         ensures cause { IfErr result (λ error. LacksRoom G.rule T.row self.old 1 error.cause) }
@@ -38,7 +38,7 @@ impl<T, A: Allocator, G: Growth> ThinVec<T, A, G> {
         // In every case.
         ensures grows { Grows G.rule T.row 1 self.old self.new result }
 
-        // These follow from `items`, `err` and `cause`, and are for callers' proofs.
+        // These follow from `items`, `err` and `cause`.
         ensures full { OnErr result (self.old.capacity ≤ length self.old.items) }
         ensures by_index { SameBelow self.old.items self.new.items (length self.old.items)
             × ((d : T) → IsOk result
@@ -76,7 +76,7 @@ impl<T, A: Allocator, G: Growth> ThinVec<T, A, G> {
             (λ x. self.old.items ++ x ∷ []) 1 result) }
         ensures value { IfOk result (λ item. item.now ≡ value) }
 
-        // When it must succeed, and when it must fail: if no capacity can be chosen.
+        // When it must succeed, and when it must fail.
         ensures succeeds { HasRoomFor self.old 1 → IsOk result }
         ensures overflow { capacity_after_reserve G.rule T.row self.old 1 ≡ None → IsErr result }
 

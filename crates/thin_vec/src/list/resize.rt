@@ -43,7 +43,7 @@ impl<T: Clone, A: Allocator, G: Growth> ThinVec<T, A, G> {
         // In every case.
         ensures grows { Grows G.rule T.row (len - length self.old.items) self.old self.new result }
 
-        // These follow from `items` and `err`, and are for callers' proofs.
+        // These follow from `items` and `err`.
         ensures len { OnOk result (length self.new.items ≡ len) }
         ensures items_if_clones_equal { OnOk result (CloneEquals T.is_clone value
             → self.new.items ≡ take len self.old.items ++ replicate
@@ -106,7 +106,7 @@ impl<T: Drop, A: Allocator, G: Growth> ThinVec<T, A, G> {
         // When it must succeed.
         ensures succeeds { len ≤ self.old.capacity → IsOk result }
 
-        // On failure, the list is unchanged.
+        // On failure.
         ensures err { OnErr result (self.new ≡ self.old) }
 
         // In every case.

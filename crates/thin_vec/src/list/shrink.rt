@@ -26,7 +26,7 @@ impl<T, A: Allocator, G: Growth> ThinVec<T, A, G> {
             → IsOk result }
         ensures succeeds_empty { length self.old.items ≡ 0 → min_capacity ≡ 0 → IsOk result }
 
-        // On failure, the list is unchanged.
+        // On failure.
         ensures err { OnErr result (self.new ≡ self.old) }
         ensures cause { IfErr result (λ cause. cause ≡ ThinVecError.OutOfMemory) }
 
@@ -48,8 +48,7 @@ impl<T, A: Allocator, G: Growth> ThinVec<T, A, G> {
         Ok(())
     }
 
-    /// Shrinks the capacity to the length. If the list is empty, this frees its block, and cannot
-    /// fail.
+    /// Shrinks the capacity to the length.
     ///
     /// # Errors
     ///
@@ -63,7 +62,7 @@ impl<T, A: Allocator, G: Growth> ThinVec<T, A, G> {
         ensures succeeds_empty { length self.old.items ≡ 0 → IsOk result }
         ensures succeeds { length self.old.items ≡ self.old.capacity → IsOk result }
 
-        // On failure, the list is unchanged.
+        // On failure.
         ensures err { OnErr result (self.new ≡ self.old) }
         ensures cause { IfErr result (λ cause. cause ≡ ThinVecError.OutOfMemory) }
 

@@ -99,7 +99,6 @@ impl<T: Drop, A: Allocator> OpenBlock<T, A> {
     ghost use Rattle.thin_vec.specs.OpenBlock.Dedup.{DedupsMiddle, DedupsSome};
 
     // Tests each middle item but the first, which is kept, and drops those that are not to be kept.
-    // Up to the first removal there is no gap, so no item moves.
     pub(crate) fn dedup_middle<J: PairTest<T>>(&mut self, test: &mut J)
         requires nonempty { 0 < length self.old.middle }
         requires is_empty { self.old.front ≡ [] }

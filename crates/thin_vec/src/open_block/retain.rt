@@ -64,8 +64,7 @@ impl<T, A: Allocator> OpenBlock<T, A> {
     ghost use Rattle.thin_vec.specs.OpenBlock.Retain.{SeeksRemoved};
 
     // Tests the middle items up to the first one that is not to be kept, and appends those before
-    // it to the front. Returns whether there is one. It is then the first middle item, and the
-    // caller takes it out, or the next call would test it again.
+    // it to the front. Returns whether there is one. It is then the first middle item.
     pub(crate) fn seek_removed<J: Test<T>>(&mut self, test: &mut J) -> bool
         requires callable { J.ready test.old }
         ensures tested { SeeksRemoved J.tests test.old self.old test.new self.new }
