@@ -31,8 +31,6 @@ struct Header {
 ///
 /// A block cannot be dropped: the caller must empty every slot and then call `release`, which frees
 /// the memory.
-///
-/// Contracts also mention three counters, and the allocator of the memory, which are not stored.
 pub struct Block<T, A: Allocator> {
     // A pointer to the capacity. In memory, the capacity is followed by the length, and then by the
     // slots. In a padded block, unused memory precedes the capacity, and the address of all this
@@ -104,7 +102,7 @@ impl<T, A: Allocator> Block<T, A> {
         unsafe { *at }
     }
 
-    /// Sets the stored length. The slots do not change.
+    /// Sets the stored length.
     pub fn set_len(&mut self, len: usize)
         requires in_bounds { len ≤ length self.old.slots }
         ensures changes { block_view self.new ≡ record (block_view self.old) { len = len } }

@@ -9,11 +9,10 @@ use crate::sizes::fits;
 pub mod doubling;
 pub mod power_bytes;
 
-/// A growth rule: it chooses the new capacity of a list that needs more room. Methods such as
-/// `reserve_exact` do not use it.
+/// A growth rule: it chooses the new capacity of a list that needs more room.
 pub trait Growth {
     /// The growth rule as a function of the size of an item, its alignment, the old capacity and
-    /// the required capacity. Returns `None` if the new capacity is too large.
+    /// the required capacity.
     ghost rule: { ℕ → ℕ → ℕ → ℕ → Option ℕ };
 
     /// Returns the capacity to which a list of capacity `cap` grows in order to hold `want` items.
@@ -27,7 +26,6 @@ pub trait Growth {
     ghost law: { IsLawful rule };
 }
 
-// Returns `next` if a block of this capacity is small enough to be allocated.
 #[tactic(auto, unfolding(crate::specs::Growth::checked_capacity))]
 fn checked_capacity<T>(next: usize) -> Option<usize>
     ensures value { result ≡ checked_capacity (type_size T.row) (type_align T.row) next }

@@ -1,6 +1,5 @@
 //! Functions that resize a block with the allocator's methods `grow` and `shrink`, which may leave
-//! the block at its address. These methods resize only arrays. So the functions convert the block
-//! into an array of words, and convert the array back afterwards.
+//! the block at its address.
 ghost use Rattle.std.specs.Prelude.{◌≡◌, ◌+◌, ◌*◌, ◌/◌, ◌<◌, ◌≤◌, IfErr, IfOk, List, length};
 ghost use Rattle.std.specs.declared.option.Option.TheVariants.{Some};
 ghost use Rattle.std.specs.Int.{div_ceil};

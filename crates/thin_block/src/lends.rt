@@ -36,8 +36,7 @@ impl<T, A: Allocator> Block<T, A> {
         unsafe { &mut *(at.add(HEADER_WORDS) as *mut T).add(i) }
     }
 
-    /// Returns the items in the slots `start..end` as a mutable slice. As for `slice`, the range
-    /// may be empty.
+    /// Returns the items in the slots `start..end` as a mutable slice.
     pub fn slice_mut(&mut self, start: usize, end: usize) -> &mut [T]
         requires start_le_end { start ≤ end }
         requires in_bounds { end ≤ length self.old.slots }

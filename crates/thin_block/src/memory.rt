@@ -75,8 +75,7 @@ impl<T, A: Allocator> Block<T, A> {
         }
     }
 
-    /// Grows the block to `cap` slots with one request for memory. Each item is copied at most
-    /// once.
+    /// Grows the block to `cap` slots with one request for memory.
     ///
     /// # Errors
     ///
@@ -107,8 +106,7 @@ impl<T, A: Allocator> Block<T, A> {
         self.resize(alloc, self.len(), cap)
     }
 
-    /// Shrinks the block to its first `cap` slots with one request for memory. Each item is copied
-    /// at most once.
+    /// Shrinks the block to its first `cap` slots with one request for memory.
     ///
     /// # Errors
     ///
@@ -137,8 +135,7 @@ impl<T, A: Allocator> Block<T, A> {
 
     // Changes the number of slots of the block of length `len` to `cap`. If the items form whole
     // words and take at least `LONG * 8` bytes, or if the block is padded, remains so and has an
-    // item, the allocator resizes the block, possibly in place. Otherwise, the items are moved to a
-    // new block, and the old block is freed.
+    // item, the allocator resizes the block, possibly in place.
     #[inline(always)]
     fn resize(&mut self, alloc: &A, len: usize, cap: usize) -> Result<(), ThinVecError>
         requires same_allocator { IsAllocatedBy self.old.alloc alloc.now }
@@ -186,7 +183,7 @@ impl<T, A: Allocator> Block<T, A> {
         }
     }
 
-    // Frees the allocation of the block, which has `cap` slots, all empty.
+    // Frees the allocation of the block.
     #[tactic(auto, unfolding(crate::specs::Capacity::has_padding))]
     fn free(self, alloc: &A, cap: usize)
         requires same_allocator { IsAllocatedBy self.alloc alloc.now }
@@ -266,8 +263,7 @@ impl<T, A: Allocator> Block<T, A> {
         }
     }
 
-    // Frees the allocation of the block, which is not padded. Blocks that were resized as arrays of
-    // words have the same size and alignment as all others.
+    // Frees the allocation of the block, which is not padded.
     fn free_block(self, alloc: &A, bytes: usize, align: usize)
         requires same_allocator { self.alloc ≡ Some alloc.now }
         requires empty { self.slots ≡ empty_slots (length self.slots) }

@@ -1,8 +1,7 @@
 //! Functions that allocate, resize and free padded blocks. In a padded block, the header and the
 //! unused memory before it take as many bytes as an item. So the allocator's methods `grow` and
 //! `shrink`, which resize only arrays, can resize the block as an array of items. The address of
-//! this memory cannot be computed from the address of the header, since a pointer can be moved up
-//! but not down. So it is stored directly after the slots, in the place of one more item.
+//! the allocation is stored directly after the slots, since a pointer can be moved up but not down.
 ghost use Rattle.std.specs.Prelude.{◌≡◌, ◌+◌, ◌-◌, ◌*◌, ◌<◌, ◌≤◌, IfErr, IfOk, length, true};
 ghost use Rattle.std.specs.declared.option.Option.TheVariants.{Some};
 ghost use Rattle.std.specs.Mem.{type_size};
@@ -62,7 +61,7 @@ impl<T, A: Allocator> Block<T, A> {
         }
     }
 
-    // Frees the allocation of the padded block as `release` does.
+    // Frees the allocation of the padded block.
     pub(crate) fn free_padded(self, alloc: &A, cap: usize, bytes: usize, align: usize)
         requires same_allocator { self.alloc ≡ Some alloc.now }
         requires capacity { cap ≡ length self.slots }
@@ -124,10 +123,8 @@ impl<T, A: Allocator> Block<T, A> {
         grown
     }
 
-    // Returns this block with `cap` slots and the same items, or the unchanged block if the
-    // allocator fails. The function resizes the memory of the block as an array from `held` to
-    // `wanted` items. The padding and the header are the gap. `front` is the number of bytes before
-    // the header.
+    // Resizes the memory of the block as an array from `held` to `wanted` items. The padding and
+    // the header are the gap.
     fn resize_padded(
         self,
         alloc: &A,

@@ -50,8 +50,7 @@ impl<T, A: Allocator> Block<T, A> {
         self.move_within(to, gap, 0, k, false);
     }
 
-    /// Moves the items in the slots `from..from + k` up by `gap` slots. If `gap` is a constant,
-    /// LLVM turns this call into a `memmove`.
+    /// Moves the items in the slots `from..from + k` up by `gap` slots.
     #[inline(always)]
     pub fn move_up(&mut self, from: usize, gap: usize, k: usize)
         requires in_bounds { from + gap + k ≤ length self.old.slots }
@@ -123,8 +122,7 @@ impl<T, A: Allocator> Block<T, A> {
         block
     }
 
-    /// Moves items up as `move_up` does. The block is passed by value to keep its pointer in a
-    /// register.
+    /// Moves items up as `move_up` does.
     #[inline(never)]
     pub fn open_gap(self, from: usize, gap: usize, k: usize) -> Block<T, A>
         requires in_bounds { from + gap + k ≤ length self.slots }

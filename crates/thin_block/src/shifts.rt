@@ -2,8 +2,7 @@
 //! slots and the new slots may overlap.
 //!
 //! Unlike `std::ptr::copy`, `copy_overlapping` does not compare the two pointers, because Rattle
-//! allows this comparison only in the first half of the address space. So the caller says in which
-//! direction the items move.
+//! allows this comparison only in the first half of the address space.
 ghost use Rattle.std.specs.Prelude.{ℕ, ◌^◌, ◌<◌, List};
 ghost use Rattle.core.specs.Ptr.{array_size, memory_before_copy, memory_after_copy};
 ghost use types.Logic.{sem};

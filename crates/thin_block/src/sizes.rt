@@ -50,14 +50,12 @@ pub(crate) fn bytes_of_block<T>(cap: usize) -> usize
 const PADDED: usize = 32;
 
 // Returns whether a block for `cap` items is padded unless the items take `2^62` bytes or more.
-// This costs at most one comparison, since the size and the alignment of an item are constants.
 pub(crate) fn may_be_padded<T>(cap: usize) -> bool
     ensures value { result ≡ may_have_padding (type_size T.row) (type_align T.row) cap }
 {
     item_size::<T>() > HEADER && item_align::<T>() >= 8 && cap >= PADDED
 }
 
-// Returns whether a block for `cap` items is padded.
 #[tactic(auto, unfolding(crate::specs::Capacity::has_padding))]
 pub(crate) fn is_padded<T>(cap: usize) -> bool
     requires { Fits T.row cap }

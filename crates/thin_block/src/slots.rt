@@ -49,8 +49,7 @@ impl<T, A: Allocator> Block<T, A> {
         }
     }
 
-    /// Moves the item out of slot `i`, and returns it. Taking an item out of a block is not counted
-    /// as a move.
+    /// Moves the item out of slot `i`, and returns it.
     pub fn take(&mut self, i: usize) -> T
         requires filled { IsSome (slot self.old.slots i) }
         ensures value { slot self.old.slots i ≡ Some result }
@@ -67,7 +66,6 @@ impl<T, A: Allocator> Block<T, A> {
     pub fn swap(&mut self, i: usize, j: usize)
         requires filled { IsSome (slot self.old.slots i) }
         requires other_filled { IsSome (slot self.old.slots j) }
-        // The cost counts each slot that is written: both, or one if `i` equals `j`.
         ensures changes { block_view self.new ≡ record (block_view self.old) {
           slots = slice_set
               (slice_set self.old.slots i (slot self.old.slots j)) j (slot self.old.slots i);

@@ -9,7 +9,7 @@ use crate::sizes::item_size;
 
 /// A growth rule that chooses the required capacity or twice the old capacity, whichever is
 /// greater. If the old capacity is 0, it chooses at least 4, or at least 1 if an item takes more
-/// than `usize::MAX / 8` bytes. The Rust crate thin-vec uses the same rule.
+/// than `usize::MAX / 8` bytes.
 pub struct Doubling {}
 
 impl Growth for Doubling {
@@ -30,8 +30,7 @@ impl Growth for Doubling {
     ghost law = { doubling_law };
 }
 
-/// Returns the least capacity that `Doubling` chooses for the first block of a list: 1 if an item
-/// takes more than `usize::MAX / 8` bytes, and 4 otherwise.
+/// Returns the least capacity that `Doubling` chooses for the first block of a list.
 pub fn first_capacity<T>() -> usize
     ensures value { result ≡ min_non_zero_cap (type_size T.row) }
 {

@@ -15,8 +15,7 @@ use crate::sizes::{HEADER, item_size};
 ///
 /// An allocator that rounds requests up to powers of two wastes less than the size of one item per
 /// block, unless the block has padding, as a large block of items above 16 bytes has. For items of
-/// size 0, the rule is the same as `Doubling`. The Rust crate thin-vec has a similar rule for
-/// Gecko.
+/// size 0, the rule is the same as `Doubling`.
 pub struct PowerBytes {}
 
 impl Growth for PowerBytes {
@@ -25,9 +24,6 @@ impl Growth for PowerBytes {
 
     ghost rule = { power_bytes };
 
-    // Returns the capacity that the rule chooses. If items take at least one byte and this capacity
-    // is `n`, there is a power of two `p` such that the header and `n` items fit into `p` bytes,
-    // but the header and `n + 1` items do not.
     fn next_capacity<T>(cap: usize, want: usize) -> Option<usize>
         requires { cap < want }
         ensures value { result ≡ power_bytes (type_size T.row) (type_align T.row) cap want }
