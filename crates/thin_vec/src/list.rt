@@ -23,8 +23,8 @@ use std::marker::{Model, PhantomData};
 use thin_block::{Block, Doubling, Growth, ThinVecError};
 
 /// A growable list like Rust's `Vec`, but only one pointer wide if its allocator is zero-sized, as
-/// `Global` is. The length and the capacity are stored at the start of the allocation, called the
-/// *block* of the list. A list of capacity 0 has no block.
+/// `Global` is. The length and the capacity are stored in the allocation, before the items. This
+/// allocation is called the *block* of the list. A list of capacity 0 has no block.
 ///
 /// The list owns its items, its block and its allocator. Dropping the list drops its items and
 /// frees its block.
