@@ -90,7 +90,7 @@ module _ {T A : Type 0} where
     at_tail = simp (length-append, length-full, length-empty T)
         (omega (arith, s.front, s.gap_before, s.middle, s.gap_after))
 
-    pub reached : tail_end v ≡ h.len
+    pub reached : tail_end v ≡ h.tail_end
     reached = omega (arith, s.front, s.gap_before, s.middle, s.gap_after, s.tail)
 
     shown-cap : length h.block.slots ≡ v.capacity
@@ -157,7 +157,7 @@ module _ {T A : Type 0} where
         (slot-in-full (to_middle v) v.middle (past_middle v) j (omega (arith, at_middle))
         (omega (arith, at_middle, s.middle)))
 
-    pub tail-filled : (j : ℕ) → h.tail_start ≤ j → j < h.len → IsSome (slot h.block.slots j)
+    pub tail-filled : (j : ℕ) → h.tail_start ≤ j → j < h.tail_end → IsSome (slot h.block.slots j)
     tail-filled j low high =
         rw (ap (λ (r : List (Option T)). slot r j) by_tail)
         (slot-in-full (to_tail v) v.tail (past_tail v) j (omega (arith, at_tail))

@@ -29,8 +29,8 @@ module _ {T A : Type 0} where
     pub gap_before : h.front_end + v.gap_before ≡ h.middle_start
     pub middle : h.middle_start + length v.middle ≡ h.middle_end
     pub gap_after : h.middle_end + v.gap_after ≡ h.tail_start
-    pub tail : h.tail_start + length v.tail ≡ h.len
-    pub room : h.len ≤ v.capacity
+    pub tail : h.tail_start + length v.tail ≡ h.tail_end
+    pub room : h.tail_end ≤ v.capacity
 
   -- `IsOpen h` is the invariant of the type `OpenBlock`.
   abbrev pub IsOpen : Inside T A → Type 0

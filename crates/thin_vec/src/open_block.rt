@@ -24,7 +24,7 @@ use thin_block::{Block, Growth};
 /// `block` is the index of the slot in which a part begins; the front begins at 0.
 ///
 /// ```text
-///   0       front_end    middle_start     middle_end    tail_start      len        capacity
+///   0       front_end    middle_start     middle_end    tail_start    tail_end     capacity
 ///   |           |            |            |            |            |             |
 ///   +-----------+------------+------------+------------+------------+-------------+
 ///   |   items   |   empty    |   items    |   empty    |   items    |    empty    |
@@ -50,7 +50,7 @@ pub struct OpenBlock<T, A: Allocator> {
     pub(crate) middle_start: usize,
     pub(crate) middle_end: usize,
     pub(crate) tail_start: usize,
-    pub(crate) len: usize,
+    pub(crate) tail_end: usize,
 }
 
 impl<T, A: Allocator> Model for OpenBlock<T, A> {
@@ -96,7 +96,7 @@ impl<T, A: Allocator, G: Growth> ThinVec<T, A, G> {
             middle_start: start,
             middle_end: end,
             tail_start: end,
-            len,
+            tail_end: len,
         }
     }
 
@@ -267,7 +267,7 @@ impl<T, A: Allocator> OpenBlock<T, A> {
         // This holds for each open block, and the proof of `Splice::finish` needs it.
         ensures in_bounds { tail_end self.now ≤ self.now.capacity }
     {
-        self.tail_start < self.len
+        self.tail_start < self.tail_end
     }
 
     // Joins `gap_before` and `gap_after`, which have no middle items between them.
@@ -299,15 +299,15 @@ impl<T, A: Allocator> OpenBlock<T, A> {
             middle_start,
             middle_end: _,
             tail_start: _,
-            len,
+            tail_end,
         } = self;
         if front_end == middle_start {
-            opened.set_len(len);
+            opened.set_len(tail_end);
             return opened;
         }
         let gap_before = middle_start - front_end;
-        let mut closed = opened.close_small_gap(front_end, gap_before, len - middle_start);
-        closed.store_len(len - gap_before);
+        let mut closed = opened.close_small_gap(front_end, gap_before, tail_end - middle_start);
+        closed.store_len(tail_end - gap_before);
         closed
     }
 
@@ -322,11 +322,11 @@ impl<T, A: Allocator> OpenBlock<T, A> {
     {
         let from = self.tail_start;
         let block = mem::replace(&mut self.block, Block::none());
-        let opened = block.open_gap(from, count, self.len - from);
+        let opened = block.open_gap(from, count, self.tail_end - from);
         let none = mem::replace(&mut self.block, opened);
         none.forget_unallocated();
         self.tail_start += count;
-        self.len += count;
+        self.tail_end += count;
     }
 
     pub(crate) fn next(&mut self) -> Option<T>

@@ -66,7 +66,7 @@ module _ {T A : Type 0} where
         ++ (filled_slots all-after ++ past_tail (open_view h)))
     side-by-side none = o.row ∙ rw none (simp (append_assoc, full-append))
 
-    count-after : (open_view h).gap_after ≡ 0 → length all-after ≡ h.len - h.middle_start
+    count-after : (open_view h).gap_after ≡ 0 → length all-after ≡ h.tail_end - h.middle_start
     count-after none =
         omega (
           arith,
@@ -76,7 +76,7 @@ module _ {T A : Type 0} where
           o.tail,
         )
 
-    pub after-filled : (open_view h).gap_after ≡ 0 → (j : ℕ) → h.middle_start ≤ j → j < h.len
+    pub after-filled : (open_view h).gap_after ≡ 0 → (j : ℕ) → h.middle_start ≤ j → j < h.tail_end
         → IsSome (slot h.block.slots j)
     after-filled none j low high =
         let w : OpenView T A = open_view h in
@@ -93,7 +93,7 @@ module _ {T A : Type 0} where
     count-all = omega (arith, length-append (open_view h).front all-after, o.front)
 
     pub close-row : (open_view h).gap_after ≡ 0
-        → move_slots h.middle_start h.front_end (h.len - h.middle_start) h.block.slots
+        → move_slots h.middle_start h.front_end (h.tail_end - h.middle_start) h.block.slots
         ≡ packed_slots
         (items_of (open_view h)) (length h.block.slots)
     close-row none =
@@ -110,8 +110,8 @@ module _ {T A : Type 0} where
           o.tail,
           o.room,
         ) in
-        ap (move_slots h.middle_start h.front_end (h.len - h.middle_start)) (side-by-side none)
-        ∙ (moved_left h.middle_start h.front_end (h.len - h.middle_start) w.gap_before
+        ap (move_slots h.middle_start h.front_end (h.tail_end - h.middle_start)) (side-by-side none)
+        ∙ (moved_left h.middle_start h.front_end (h.tail_end - h.middle_start) w.gap_before
         (filled_slots w.front)
         (filled_slots all-after)
         (past_tail w) (sym (length-full w.front ∙ o.front)) (sym o.gap_before)
@@ -149,7 +149,7 @@ module _ {T A : Type 0} where
           middle_start = start;
           middle_end = end;
           tail_start = end;
-          len = len;
+          tail_end = len;
         }
 
     abbrev pub opened-view : OpenView T A
@@ -281,10 +281,10 @@ module _ {T A : Type 0} where
   -- In this module, the tail items of the open block `h` are moved up by `count` slots. Before the
   -- move, at least `count` empty slots follow the tail items.
   module _ (h : Inside T A) (o : IsOpen h) (b : Block T A) (count : ℕ)
-      (room : h.len + count ≤ (open_view h).capacity) where
+      (room : h.tail_end + count ≤ (open_view h).capacity) where
     -- `widened` is `h` after its tail items were moved up. `widened-view` is how contracts see it.
     abbrev pub widened : Inside T A
-    widened = record h { block = b; tail_start = h.tail_start + count; len = h.len + count }
+    widened = record h { block = b; tail_start = h.tail_start + count; tail_end = h.tail_end + count }
 
     abbrev pub widened-view : OpenView T A
     widened-view =
@@ -303,12 +303,12 @@ module _ {T A : Type 0} where
         (ap (λ (k : ℕ). empty_slots k) (sym all)
         ∙ sym (replicate-append-replicate count (v.capacity - tail_end v - count) None))
 
-    pub spare-empty : (j : ℕ) → h.len ≤ j → j < h.len + count → slot h.block.slots j ≡ None
+    pub spare-empty : (j : ℕ) → h.tail_end ≤ j → j < h.tail_end + count → slot h.block.slots j ≡ None
     spare-empty j low high =
         let v : OpenView T A = open_view h in
         let before : List (Option T) = to_tail v ++ filled_slots v.tail in
         let end : List (Option T) = empty_slots (v.capacity - tail_end v - count) in
-        let long : length before ≡ h.len =
+        let long : length before ≡ h.tail_end =
         omega (
           arith,
           length-append (to_tail v) (filled_slots v.tail),
@@ -321,12 +321,12 @@ module _ {T A : Type 0} where
         ∙ slot-in-empty before count end j (omega (arith, long)) (omega (arith, long))
 
     pub widen-step : b.slots ≡ move_slots h.tail_start (h.tail_start + count)
-        (h.len - h.tail_start) h.block.slots
+        (h.tail_end - h.tail_start) h.block.slots
         → Found widened widened-view
     widen-step now =
         let v : OpenView T A = open_view h in
         let end : List (Option T) = empty_slots (v.capacity - tail_end v - count) in
-        let k : length (filled_slots v.tail) ≡ h.len - h.tail_start =
+        let k : length (filled_slots v.tail) ≡ h.tail_end - h.tail_start =
         omega (arith, length-full v.tail, o.tail) in
         let past : v.capacity - tail_end v - count ≡ v.capacity - tail_end widened-view =
         omega (arith, room, reached h v o) in
@@ -337,8 +337,8 @@ module _ {T A : Type 0} where
         ++ (empty_slots (v.gap_after + count) ++ (filled_slots v.tail ++ end)))) =
         simp (append_assoc, empty-more) in
         let after : b.slots ≡ slots_of widened-view =
-        now ∙ (ap (move_slots h.tail_start (h.tail_start + count) (h.len - h.tail_start)) spare
-        ∙ (moved_right h.tail_start (h.tail_start + count) (h.len - h.tail_start) count
+        now ∙ (ap (move_slots h.tail_start (h.tail_start + count) (h.tail_end - h.tail_start)) spare
+        ∙ (moved_right h.tail_start (h.tail_start + count) (h.tail_end - h.tail_start) count
         (to_tail v) (filled_slots v.tail) end
         (sym (at_tail h v o)) refl (sym k)
         ∙ (turned ∙ ap (λ (n : ℕ). filled_slots v.front

@@ -37,7 +37,7 @@ returns-clause-slots g c =
     omega (arith, o.gap_before) in
     ap (λ v. v.slots) c.store_len.ensures.changes
     ∙ (ap (λ v. v.slots) c.close_small_gap-closed.ensures.changes
-    ∙ (ap (λ n. move_slots n h.front_end (h.len - h.middle_start) h.block.slots) same
+    ∙ (ap (λ n. move_slots n h.front_end (h.tail_end - h.middle_start) h.block.slots) same
     ∙ (close-row h o none ∙ ap (λ v. packed_slots (items_of v) v.capacity) c.self.view_is)))
 
 pub close_small_gap-closed-requires-clause-in_bounds :

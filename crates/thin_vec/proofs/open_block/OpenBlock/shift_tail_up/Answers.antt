@@ -13,7 +13,7 @@ use Rattle.thin_vec.proofs.open_block.OpenBlock.shift_tail_up.Goals as goal
 
 fits : {T A : Type 0} (h : Inside T A) (v : OpenView T A) (k : ℕ) → IsOpenViewOf h (open_view h)
     → open_view h ≡ v
-    → tail_end v + k ≤ v.capacity → h.len + k ≤ (open_view h).capacity
+    → tail_end v + k ≤ v.capacity → h.tail_end + k ≤ (open_view h).capacity
 fits h v k shows is room =
     omega (arith, room, reached h (open_view h) shows, ap tail_end is, ap (λ w. w.capacity) is)
 
@@ -36,12 +36,12 @@ stored : (g : _) (c : goal.After-self-2-1 g)
     → let h = c.self.inside in
     block_view c.replace-none.new.dest ≡ record (block_view h.block) {
       slots = move_slots h.tail_start (h.tail_start + c.args.count)
-          (h.len - h.tail_start) h.block.slots;
-      cost = add_moves (h.len - h.tail_start) h.block.cost;
+          (h.tail_end - h.tail_start) h.block.slots;
+      cost = add_moves (h.tail_end - h.tail_start) h.block.cost;
     }
 stored g c =
     let h = c.self.inside in
-    let k : ℕ = h.len - h.tail_start in
+    let k : ℕ = h.tail_end - h.tail_start in
     ap block_view c.replace-none.ensures.after
     ∙ (c.open_gap-opened.ensures.changes
     ∙ (λ i. let v = block_view (c.replace-block.ensures.value i) in record v {
@@ -68,7 +68,7 @@ returns g c =
     let now = c.args.self.now in
     let alloc : dest.alloc ≡ now.alloc =
     ap (λ v. v.alloc) (stored g c) ∙ ap (λ v. v.alloc) c.self.view_is in
-    let count : h.len - h.tail_start ≡ length now.tail =
+    let count : h.tail_end - h.tail_start ≡ length now.tail =
     omega (arith, c.self.invariant.tail, ap (λ v. length v.tail) c.self.view_is) in
     let spent : dest.cost ≡ add_moves (length now.tail) now.cost =
     ap (λ v. v.cost) (stored g c) ∙ (λ i. add_moves (count i) (c.self.view_is i).cost) in
