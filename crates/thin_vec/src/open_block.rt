@@ -248,8 +248,8 @@ impl<T, A: Allocator> OpenBlock<T, A> {
             return;
         }
         let block = mem::replace(&mut self.block, Block::none());
-        let closed = block.close_gap(self.front_end, self.middle_start - self.front_end, k);
-        let none = mem::replace(&mut self.block, closed);
+        let block = block.close_gap(self.front_end, self.middle_start - self.front_end, k);
+        let none = mem::replace(&mut self.block, block);
         none.forget_unallocated();
         self.front_end += k;
         self.middle_start += k;
@@ -322,8 +322,8 @@ impl<T, A: Allocator> OpenBlock<T, A> {
     {
         let from = self.tail_start;
         let block = mem::replace(&mut self.block, Block::none());
-        let opened = block.open_gap(from, count, self.tail_end - from);
-        let none = mem::replace(&mut self.block, opened);
+        let block = block.open_gap(from, count, self.tail_end - from);
+        let none = mem::replace(&mut self.block, block);
         none.forget_unallocated();
         self.tail_start += count;
         self.tail_end += count;

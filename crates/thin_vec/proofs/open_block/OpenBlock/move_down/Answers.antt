@@ -9,15 +9,15 @@ use Rattle.thin_vec.proofs.OpenBlockLemmas.{Found, before-empty, middle-filled}
 use Rattle.thin_vec.proofs.open_block.MiddleLemmas.{moved_run, moved_run-view, move_down-step}
 use Rattle.thin_vec.proofs.open_block.OpenBlock.move_down.Goals as goal
 
-pub close_gap-closed-requires-clause-empty : goal.close_gap-closed-requires-clause-empty
-close_gap-closed-requires-clause-empty g c = λ j low high.
+pub close_gap-block-requires-clause-empty : goal.close_gap-block-requires-clause-empty
+close_gap-block-requires-clause-empty g c = λ j low high.
     let o = c.self.invariant in
     ap (λ b. slot b.slots j) c.replace-block.ensures.value
     ∙ before-empty c.self.inside (open_view c.self.inside) o j low
     (omega (arith, high, o.gap_before))
 
-pub close_gap-closed-requires-clause-filled : goal.close_gap-closed-requires-clause-filled
-close_gap-closed-requires-clause-filled g c = λ j low high.
+pub close_gap-block-requires-clause-filled : goal.close_gap-block-requires-clause-filled
+close_gap-block-requires-clause-filled g c = λ j low high.
     let o = c.self.invariant in
     subst (λ b. IsSome (slot b.slots j)) (sym c.replace-block.ensures.value)
     (middle-filled c.self.inside (open_view c.self.inside) o j (omega (arith, low, o.gap_before))
@@ -44,7 +44,7 @@ facts g c =
     omega (arith, o.gap_before) in
     move_down-step h o c.args.k low c.replace-none.new.dest
     (ap block_view c.replace-none.ensures.after
-    ∙ (c.close_gap-closed.ensures.changes
+    ∙ (c.close_gap-block.ensures.changes
     ∙ (λ i. let v = block_view (c.replace-block.ensures.value i) in record v {
       slots = move_slots (same i) h.front_end c.args.k v.slots;
       cost = add_moves c.args.k v.cost;
@@ -57,7 +57,7 @@ pub returns : goal.returns
 returns g c =
     let spent : c.replace-none.new.dest.cost ≡ add_moves c.args.k c.args.self.now.cost =
     ap (λ b. b.cost) c.replace-none.ensures.after
-    ∙ (ap (λ v. v.cost) c.close_gap-closed.ensures.changes
+    ∙ (ap (λ v. v.cost) c.close_gap-block.ensures.changes
     ∙ (ap (λ b. add_moves c.args.k b.cost) c.replace-block.ensures.value
     ∙ ap (λ v. add_moves c.args.k v.cost) c.self.view_is)) in
     (facts g c).view ∙ (λ i. let v = c.self.view_is i in record v

@@ -17,8 +17,8 @@ fits : {T A : Type 0} (h : Inside T A) (v : OpenView T A) (k : ℕ) → IsOpenVi
 fits h v k shows is room =
     omega (arith, room, reached h (open_view h) shows, ap tail_end is, ap (λ w. w.capacity) is)
 
-pub open_gap-opened-requires-clause-empty : goal.open_gap-opened-requires-clause-empty
-open_gap-opened-requires-clause-empty g c = λ j low high.
+pub open_gap-block-requires-clause-empty : goal.open_gap-block-requires-clause-empty
+open_gap-block-requires-clause-empty g c = λ j low high.
     let h = c.self.inside in
     let o = c.self.invariant in
     let room = fits h c.args.self.now c.args.count o c.self.view_is c.requires.room in
@@ -26,8 +26,8 @@ open_gap-opened-requires-clause-empty g c = λ j low high.
     ∙ spare-empty h o h.block c.args.count room j (omega (arith, low, o.tail))
     (omega (arith, high, o.tail))
 
-pub open_gap-opened-requires-clause-filled : goal.open_gap-opened-requires-clause-filled
-open_gap-opened-requires-clause-filled g c = λ j low high.
+pub open_gap-block-requires-clause-filled : goal.open_gap-block-requires-clause-filled
+open_gap-block-requires-clause-filled g c = λ j low high.
     let o = c.self.invariant in
     subst (λ b. IsSome (slot b.slots j)) (sym c.replace-block.ensures.value)
     (tail-filled c.self.inside (open_view c.self.inside) o j low (omega (arith, high, o.tail)))
@@ -43,7 +43,7 @@ stored g c =
     let h = c.self.inside in
     let k : ℕ = h.tail_end - h.tail_start in
     ap block_view c.replace-none.ensures.after
-    ∙ (c.open_gap-opened.ensures.changes
+    ∙ (c.open_gap-block.ensures.changes
     ∙ (λ i. let v = block_view (c.replace-block.ensures.value i) in record v {
       slots = move_slots h.tail_start (h.tail_start + c.args.count) k v.slots;
       cost = add_moves k v.cost;
