@@ -191,7 +191,7 @@ impl<T, A: Allocator> OpenBlock<T, A> {
 
     // Moves `value` into the first slot of the gap.
     pub(crate) fn append_to_front(&mut self, value: T)
-        requires has_gap { 0 < self.old.gap_before }
+        requires gap_before { 0 < self.old.gap_before }
         ensures { self.new ≡ record self.old {
           front = self.old.front ++ value ∷ [];
           gap_before = self.old.gap_before - 1;
@@ -204,7 +204,7 @@ impl<T, A: Allocator> OpenBlock<T, A> {
 
     // Adds the first `k` middle items to the front without moving them.
     pub(crate) fn keep_in_place(&mut self, k: usize)
-        requires no_gap { self.old.gap_before ≡ 0 }
+        requires gap_before { self.old.gap_before ≡ 0 }
         requires in_bounds { k ≤ length self.old.middle }
         ensures { self.new
             ≡ record self.old {
@@ -219,7 +219,7 @@ impl<T, A: Allocator> OpenBlock<T, A> {
     // Moves the first middle item to the end of the front.
     pub(crate) fn move_one_down(&mut self)
         requires nonempty { 0 < length self.old.middle }
-        requires has_gap { 0 < self.old.gap_before }
+        requires gap_before { 0 < self.old.gap_before }
         ensures { self.new ≡ record self.old {
           front = self.old.front ++ take 1 self.old.middle;
           middle = drop 1 self.old.middle;
@@ -233,7 +233,7 @@ impl<T, A: Allocator> OpenBlock<T, A> {
     // Moves the first `k` middle items to the end of the front.
     pub(crate) fn move_down(&mut self, k: usize)
         requires in_bounds { k ≤ length self.old.middle }
-        requires has_gap { 0 < self.old.gap_before }
+        requires gap_before { 0 < self.old.gap_before }
         ensures { self.new ≡ record self.old {
           front = self.old.front ++ take k self.old.middle;
           middle = drop k self.old.middle;

@@ -102,7 +102,7 @@ impl<T: Drop, A: Allocator> OpenBlock<T, A> {
     pub(crate) fn dedup_middle<J: PairTest<T>>(&mut self, test: &mut J)
         requires nonempty { 0 < length self.old.middle }
         requires is_empty { self.old.front ≡ [] }
-        requires no_gap { self.old.gap_before ≡ 0 }
+        requires gap_before { self.old.gap_before ≡ 0 }
         requires callable { J.ready test.old }
         ensures deduped { DedupsMiddle J.tests test.old self.old test.new self.new }
     {
@@ -125,7 +125,7 @@ impl<T: Drop, A: Allocator> OpenBlock<T, A> {
     fn dedup_next<J: PairTest<T>>(&mut self, test: &mut J)
         requires has_front { 0 < length self.old.front }
         requires nonempty { 0 < length self.old.middle }
-        requires has_gap { 0 < self.old.gap_before }
+        requires gap_before { 0 < self.old.gap_before }
         requires callable { J.ready test.old }
         ensures deduped { DedupsSome J.tests test.old self.old test.new self.new }
 

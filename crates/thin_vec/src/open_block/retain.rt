@@ -97,7 +97,7 @@ impl<T: Drop, A: Allocator> OpenBlock<T, A> {
     // Tests the middle items, and drops those that are not to be kept. Up to the first removal
     // there is no gap, so `test_run` and `keep_in_place` move nothing.
     pub(crate) fn retain_middle<J: Test<T>>(&mut self, test: &mut J)
-        requires no_gap { self.old.gap_before ≡ 0 }
+        requires gap_before { self.old.gap_before ≡ 0 }
         requires callable { J.ready test.old }
         ensures retained { RetainsMiddle J.tests test.old self.old test.new self.new }
     {

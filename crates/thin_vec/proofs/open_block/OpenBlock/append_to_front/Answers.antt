@@ -23,7 +23,7 @@ facts g c =
     let low : h.front_end < length h.block.slots =
     omega (
       arith,
-      c.requires.has_gap,
+      c.requires.gap_before,
       gap_before,
       o.gap_before,
       o.middle,
@@ -32,7 +32,7 @@ facts g c =
       o.room,
     ) in
     fill-view h o c.self.view_is c.put.new.self (c.args.value ∷ []) (h.front_end + 1) refl
-    (omega (arith, c.requires.has_gap))
+    (omega (arith, c.requires.gap_before))
     (c.put.ensures.changes ∙ (λ i. record (block_view h.block) {
       slots = set-written h.block.slots h.front_end (Some c.args.value) low i;
       cost = add_moves 1 h.block.cost;

@@ -14,7 +14,7 @@ facts g c =
     let low : c.args.k ≤ length (open_view c.self.inside).middle =
     omega (arith, c.requires.in_bounds, ap (λ v. length v.middle) c.self.view_is) in
     pass-step c.self.inside c.self.invariant c.args.k low
-    (ap (λ v. v.gap_before) c.self.view_is ∙ c.requires.no_gap)
+    (ap (λ v. v.gap_before) c.self.view_is ∙ c.requires.gap_before)
 
 pub invariant_of-self : goal.invariant_of-self
 invariant_of-self g c = (facts g c).lies
