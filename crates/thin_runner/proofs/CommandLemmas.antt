@@ -2,7 +2,7 @@
 use Rattle.std.proofs.Common.{◌≡◌, ℕ, ◌<◌, ◌⊎◌, List, [], ◌∷◌, Some, refl, length, inl, inr, arith}
 use Rattle.std.specs.Borrow.{RattleType}
 use Rattle.std.specs.Prelude.{HoldsAt}
-use Rattle.thin_vec.specs.List.Clones.{GrewForFailedClone}
+use Rattle.thin_vec.specs.List.Clones.{LeftByFailedClone}
 use Rattle.thin_vec.specs.Cost.{add_moves}
 use Rattle.thin_vec.specs.Growth.{GrowthRule}
 use Rattle.thin_vec.specs.ThinVec.{ListView, capacity_after_reserve, cost_after_resize}
@@ -29,7 +29,7 @@ module _ {T A : Type 0} where
     pub refuses-clone : (R : RattleType) (k : ℕ) {infallible : T → Type 0} {sources : List T}
         {v w : ListView T A} → w.alloc ≡ v.alloc
         → (w ≡ v)
-        ⊎ GrewForFailedClone (capacity_after_reserve rule R v k) infallible sources v w
+        ⊎ LeftByFailedClone (capacity_after_reserve rule R v k) infallible sources v w
         → (w ≡ v) ⊎ ((at : ℕ) × (at < length sources)
         × HoldsAt (λ x. ¬ (infallible x)) sources at
         × ((capacity_after_reserve rule R v k ≡ Some w.capacity)

@@ -16,7 +16,7 @@ use Rattle.thin_block.proofs.CapacityLemmas.{exact-fits, exact-same, ruled-overf
 use Rattle.thin_block.proofs.ResultLemmas.{some-same}
 use Rattle.thin_vec.specs.Cheap.{IsCheap, IsCheapAt}
 use Rattle.thin_vec.specs.List.Capacity.{CostsMoves, Grows, PreservesList, Reserves, OverflowsIffTooLarge}
-use Rattle.thin_vec.specs.List.Clones.{GrewForFailedClone}
+use Rattle.thin_vec.specs.List.Clones.{LeftByFailedClone}
 use Rattle.thin_vec.specs.ThinVec.{IsBounded, IsCauseOf, ListView, capacity_after_reserve}
 use Rattle.thin_vec.proofs.ThinVecLemmas.{allocatable-less, cheap-regrown, cost_after_resize-copied}
 use Rattle.std.proofs.Math.Seq.{take-append_seam}
@@ -164,14 +164,14 @@ module _ {T A : Type 0} {rule : GrowthRule} (law : IsLawful rule) {R : RattleTyp
     pub cloned-cheap : (infallible : T → Type 0) (sources : List T) → Grows rule R k v w r
         → OnOk r (CostsMoves n v w)
         → OnErr r ((w ≡ v)
-        ⊎ GrewForFailedClone (capacity_after_reserve rule R v k) infallible sources v w)
+        ⊎ LeftByFailedClone (capacity_after_reserve rule R v k) infallible sources v w)
         → IsCheap v → IsCheap w
     cloned-cheap infallible sources g cost err cheap = go r g.ok cost err
       where
         go : (r : Result X E) → OnOk r (capacity_after_reserve rule R v k ≡ Some w.capacity)
             → OnOk r (CostsMoves n v w)
             → OnErr r ((w ≡ v)
-            ⊎ GrewForFailedClone (capacity_after_reserve rule R v k) infallible sources v w)
+            ⊎ LeftByFailedClone (capacity_after_reserve rule R v k) infallible sources v w)
             → IsCheap w
         go (Ok x) named cost err = regrown-cheap rule R law v w k n g.was_room named cost cheap
         go (Err e) named cost (inl same) = subst IsCheap (sym same) cheap

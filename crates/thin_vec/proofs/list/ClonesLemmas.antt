@@ -12,7 +12,7 @@ use Rattle.thin_block.specs.Growth.{GrowthRule, grown_capacity}
 use Rattle.thin_block.specs.Slots.{filled_slots, write_slots}
 use Rattle.thin_block.proofs.SlotsLemmas.{written-one}
 use Rattle.thin_block.specs.Cost.{Cost, add_moves}
-use Rattle.thin_vec.specs.List.Clones.{AppendsRepeats, CloneEquals, FailsAtClone, GrewForFailedClone, WritesClones}
+use Rattle.thin_vec.specs.List.Clones.{AppendsRepeats, CloneEquals, FailsAtClone, LeftByFailedClone, WritesClones}
 use Rattle.thin_vec.specs.ThinVec.{IsNew, ListView, capacity_after_reserve, cost_after_resize}
 use Rattle.thin_vec.proofs.ListLemmas.{length-full}
 
@@ -96,7 +96,7 @@ module _ {T A : Type 0} (infallible : T → Type 0) (sources : List T) (v u w : 
     {named : Option ℕ} (is : named ≡ Some u.capacity) (items : u.items ≡ v.items)
     (cost : u.cost ≡ cost_after_resize v u.capacity) (same : w.capacity ≡ u.capacity) where
   pub grew : w.items ≡ u.items → FailsAtClone infallible sources u.cost w.cost
-      → GrewForFailedClone named infallible sources v w
+      → LeftByFailedClone named infallible sources v w
   grew kept fails = record {
     items = kept ∙ items;
     capacity = is ∙ ap Some (sym same);
@@ -110,7 +110,7 @@ module _ {T A : Type 0} (infallible : T → Type 0) (sources : List T) (v u w : 
 
   pub grew-after : {X E : Type 0} (r : Result X E) → OnErr r (w.items ≡ u.items)
       → OnErr r (FailsAtClone infallible sources u.cost w.cost)
-      → OnErr r ((w ≡ v) ⊎ GrewForFailedClone named infallible sources v w)
+      → OnErr r ((w ≡ v) ⊎ LeftByFailedClone named infallible sources v w)
   grew-after (Ok x) kept fails = tt
   grew-after (Err e) kept fails = inr (grew kept fails)
 

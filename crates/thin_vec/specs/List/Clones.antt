@@ -68,11 +68,11 @@ pub record FailsAtClone {T : Type 0} (infallible : T → Type 0) (sources : List
   -- Each clone that was made counts as one move, although it was dropped again.
   pub cost : after ≡ add_moves at before
 
--- `GrewForFailedClone wanted infallible sources v w` describes a call that reserved room, cloned
--- items of `sources` in order until a clone failed, and dropped the clones again. It changed the
--- list from `v` to `w`. The option `wanted` is the capacity that reserving chooses, or `None` if it
--- is too large. `infallible x` states that cloning `x` cannot fail.
-pub record GrewForFailedClone {T A : Type 0} (wanted : Option ℕ) (infallible : T → Type 0)
+-- `LeftByFailedClone wanted infallible sources v w` describes a call that reserved room in the list
+-- `v`, cloned items of `sources` in order until a clone failed, and dropped the clones again. It
+-- left the list `w`. The option `wanted` is the capacity that reserving chooses, or `None` if it is
+-- too large. `infallible x` states that cloning `x` cannot fail.
+pub record LeftByFailedClone {T A : Type 0} (wanted : Option ℕ) (infallible : T → Type 0)
     (sources : List T) (v w : ListView T A) : Type 0 where
   pub items : w.items ≡ v.items
   pub capacity : wanted ≡ Some w.capacity

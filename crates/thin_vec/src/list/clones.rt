@@ -3,7 +3,7 @@ ghost use Rattle.std.specs.Prelude.{◌≡◌, ◌⊎◌, ◌+◌, ◌<◌, ◌�
 ghost use Rattle.std.specs.List.{AllZip, AppendsClones};
 ghost use Rattle.thin_block.specs.Capacity.{Fits};
 ghost use Rattle.thin_block.specs.Cost.{add_moves};
-ghost use Rattle.thin_vec.specs.List.Clones.{ClonesEqual, FailsAtClone, GrewForFailedClone, IsClonedList};
+ghost use Rattle.thin_vec.specs.List.Clones.{ClonesEqual, FailsAtClone, LeftByFailedClone, IsClonedList};
 ghost use Rattle.thin_vec.specs.List.Capacity.{CostsMoves, Grows, IsFreshList, OverflowsIff, PreservesList};
 
 use crate::list::ThinVec;
@@ -34,7 +34,7 @@ impl<T: Clone, A: Allocator, G: Growth> ThinVec<T, A, G> {
 
         // On failure.
         ensures err { OnErr result ((self.new ≡ self.old)
-            ⊎ GrewForFailedClone (capacity_after_reserve G.rule T.row self.old (length items.now))
+            ⊎ LeftByFailedClone (capacity_after_reserve G.rule T.row self.old (length items.now))
             T.is_infallible items.now self.old self.new) }
         ensures overflow { OverflowsIff
             (capacity_after_reserve G.rule T.row self.old (length items.now)) result }
@@ -185,7 +185,7 @@ impl<T: Clone, A: Allocator, G: Growth> ThinVec<T, A, G> {
 
         // On failure.
         ensures err { OnErr result ((self.new ≡ self.old)
-            ⊎ GrewForFailedClone (capacity_after_reserve G.rule T.row self.old (end - start))
+            ⊎ LeftByFailedClone (capacity_after_reserve G.rule T.row self.old (end - start))
             T.is_infallible (slice_range self.old.items start end) self.old self.new) }
         ensures overflow { OverflowsIff
             (capacity_after_reserve G.rule T.row self.old (end - start)) result }

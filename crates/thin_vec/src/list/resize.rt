@@ -2,7 +2,7 @@
 ghost use Rattle.std.specs.Prelude.{◌≡◌, ◌⊎◌, ◌+◌, ◌-◌, ◌<◌, ◌≤◌, ◌++◌, IsOk, OnErr, OnOk, length, replicate, take};
 ghost use Rattle.std.specs.List.{AppendsResults};
 ghost use Rattle.thin_block.specs.Cost.{add_moves};
-ghost use Rattle.thin_vec.specs.List.Clones.{AppendsRepeats, CloneEquals, GrewForFailedClone, IsResized};
+ghost use Rattle.thin_vec.specs.List.Clones.{AppendsRepeats, CloneEquals, LeftByFailedClone, IsResized};
 ghost use Rattle.thin_vec.specs.List.Capacity.{CostsMoves, Grows, OverflowsIff, PreservesList, Reserves};
 
 use crate::list::ThinVec;
@@ -33,7 +33,7 @@ impl<T: Clone, A: Allocator, G: Growth> ThinVec<T, A, G> {
             → IsOk result }
 
         // On failure.
-        ensures err { OnErr result ((self.new ≡ self.old) ⊎ GrewForFailedClone
+        ensures err { OnErr result ((self.new ≡ self.old) ⊎ LeftByFailedClone
             (capacity_after_reserve G.rule T.row self.old (len - length self.old.items))
             T.is_infallible (replicate (len - length self.old.items - 1) value)
             self.old self.new) }
