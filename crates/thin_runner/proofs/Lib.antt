@@ -13,4 +13,5 @@ mod AmortisedLemmas
 mod SlackLemmas
 mod PlainLemmas
 mod PlainExamples
+mod StepsExamples
 mod HeadlineLemmas

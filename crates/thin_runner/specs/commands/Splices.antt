@@ -51,11 +51,9 @@ module _ {T A : Type 0} (rule : GrowthRule) (R : RattleType) (old : ListView T A
     pub by_hint : held ≡ [] → in_hand ≡ None
         → (h : ℕ) × IsWithinCount h (at_most (rest.lower + length (into_iter_items rest.items)))
         × LacksRoom rule R new h cause
-    -- Suppose that `held` contains items, and that `in_hand` is `None`. Then the cause is
-    -- `CapacityOverflow` if and only if the growth rule chooses no capacity that has room for both
-    -- the items of the list `new` and the items in `held`.
-    pub by_held : 0 < length held → in_hand ≡ None
-        → (cause ≡ CapacityOverflow) ↔ (capacity_after_reserve rule R new (length held) ≡ None)
+    -- If `held` contains items and `in_hand` is `None`, then the list had no room for the items in
+    -- `held`.
+    pub by_held : 0 < length held → in_hand ≡ None → LacksRoom rule R new (length held) cause
     -- If `in_hand` contains an item, and the list `old` has items after the range, then the cause
     -- is `OutOfMemory`. In this case, the call failed because there was not enough memory to put
     -- the item into the vector `held`.

@@ -110,7 +110,7 @@ returns-in-Err-finish g c =
                   ),
                 ))) places);
             by_hint = e.cause.by_hint;
-            by_held = λ some none. (e.cause.by_held some none).1;
+            by_held = e.cause.by_held;
             by_in_hand = λ more some.
                 (e.cause.by_in_hand (some-tail xs after end (tail g at) more) some).0;
             by_push = λ full some.
