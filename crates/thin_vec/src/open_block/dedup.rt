@@ -20,7 +20,8 @@ pub(crate) trait PairTest<T> {
     /// `ready s` holds if the test can be called in the state `s` with any two items.
     ghost ready: { Self → Type 0 };
 
-    /// Returns whether the item `later` is to be kept.
+    /// Returns whether the item `later` is to be kept. So the result is the opposite of `b`: the
+    /// closure of `dedup_by` returns true for an item to be removed.
     fn test(&mut self, later: &mut T, kept: &mut T) -> bool
         requires callable { ready self.old }
         ensures tested { tests self.old later.old kept.old (not result) self.new later.new
