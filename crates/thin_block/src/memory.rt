@@ -226,7 +226,9 @@ impl<T, A: Allocator> Block<T, A> {
     }
 
     // Allocates a block that is not padded and is to replace the block `old`, as `replacement`
-    // does. At run time, `old` is not used: it names the counters that the new block continues.
+    // does. At run time, `old` is not used: it names the counters that the new block continues. The
+    // caller computes `bytes` and `align`, so that the proof by hand has no other call to follow
+    // than that of the allocator.
     fn allocate_block(
         alloc: &A,
         cap: usize,
@@ -263,7 +265,8 @@ impl<T, A: Allocator> Block<T, A> {
         }
     }
 
-    // Frees the allocation of the block, which is not padded.
+    // Frees the allocation of the block, which is not padded. `bytes` and `align` are arguments for
+    // the reason that `allocate_block` gives.
     fn free_block(self, alloc: &A, bytes: usize, align: usize)
         requires same_allocator { self.alloc ≡ Some alloc.now }
         requires empty { self.slots ≡ empty_slots (length self.slots) }
