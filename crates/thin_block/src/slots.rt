@@ -10,7 +10,9 @@ use crate::sizes::HEADER_WORDS;
 use core::slots::Slots;
 use std::alloc::Allocator;
 
-// The greatest number of items that the function `fill_from` copies one by one.
+// The greatest number of items that the function `fill_from` copies one by one. For five bytes, this
+// was measured to take two thirds of the instructions of a call to `Slots::copy_in`. For 16 `u64`,
+// both took about the same, and for more, the call took fewer.
 const MAX_COPIED_ONE_BY_ONE: usize = 16;
 
 impl<T, A: Allocator> Block<T, A> {
