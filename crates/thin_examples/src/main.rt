@@ -230,7 +230,11 @@ fn show_splice(rt: &impl Print, alloc: Global) -> io::Result<()> {
     show(rt, "splice_by", list)?;
     let mut list = ThinVec::from_array(alloc, [1, 2, 3, 4])?;
     replace::splice_one(&mut list, 1, 3, 9, alloc);
-    show(rt, "splice_one", list)
+    show(rt, "splice_one", list)?;
+    let mut text = ThinVec::from_array(alloc, ["a", "b", "c"])?;
+    let pasted = ThinVec::from_array(alloc, ["x", "y"])?;
+    replace::paste(&mut text, 1, 2, pasted, alloc)?;
+    show(rt, "paste", text)
 }
 
 fn show_transfer(rt: &impl Print, alloc: Global) -> io::Result<()> {

@@ -2,13 +2,15 @@
 ghost use Rattle.std.specs.Iterator.Runs.{WholeRun};
 ghost use Rattle.std.specs.Iterator.{IsFinite};
 ghost use Rattle.std.specs.List.{replace_range};
-ghost use Rattle.std.specs.Prelude.{◌≡◌, ◌+◌, ◌-◌, ◌<◌, ◌≤◌, ◌++◌, [], ◌∷◌, IsOk, OnErr, OnOk, drop, length, take};
+ghost use Rattle.std.specs.Option.{option_to_list};
+ghost use Rattle.std.specs.Prelude.{◌≡◌, ◌+◌, ◌-◌, ◌<◌, ◌≤◌, ◌++◌, List, [], ◌∷◌, IfErr, IsOk, OnErr, OnOk, drop, length, take};
 ghost use Rattle.thin_vec.specs.Edits.ReplaceRange.{ReplacesByClones};
 ghost use Rattle.thin_vec.specs.ThinVec.{HasRoomFor};
+ghost use Rattle.thin_vec.specs.VecWords.{into_iter_items};
 
 use std::alloc::{AllocError, Allocator};
 use std::iter::once;
-use thin_vec::{Growth, SpliceRefused, ThinVec, ThinVecError, thin_vec};
+use thin_vec::{Growth, IntoIter, SpliceRefused, ThinVec, ThinVecError, thin_vec};
 
 /// Replaces the bytes at the indices `start..end` with `word`.
 ///
@@ -162,4 +164,31 @@ pub fn splice_one<A: Allocator, G: Growth>(
         Ok(()) => (),
         Err(_refused) => unreachable!(),
     }
+}
+
+/// Replaces the lines at the indices `start..end` with the lines of `pasted`, as the command
+/// "paste" of an editor does.
+///
+/// # Errors
+///
+/// Fails if there is no room for the lines. On failure, the lines at the indices `start..end` are
+/// removed, but no pasted line is lost: the first ones are in their place, and the error contains
+/// the others.
+pub fn paste<T: Drop, A: Allocator, G: Growth>(
+    text: &mut ThinVec<T, A, G>,
+    start: usize,
+    end: usize,
+    pasted: ThinVec<T, A, G>,
+    alloc: A,
+) -> Result<(), SpliceRefused<T, IntoIter<T, A, G>, A>>
+    requires start_le_end { start ≤ end }
+    requires in_bounds { end ≤ length text.old.items }
+    ensures items { OnOk result (text.new.items
+        ≡ (take start text.old.items ++ pasted.items) ++ drop end text.old.items) }
+    ensures none_lost { IfErr result (λ error. (placed : List T)
+        × (text.new.items ≡ (take start text.old.items ++ placed) ++ drop end text.old.items)
+        × (pasted.items ≡ placed ++ (error.held.items
+        ++ (option_to_list error.in_hand ++ into_iter_items error.rest)))) }
+{
+    text.splice(start, end, pasted.into_iter()).finish(alloc)
 }
