@@ -2,7 +2,7 @@
 ghost use Rattle.std.specs.Prelude.{◌≡◌, ◌-◌, ◌≤◌, ◌++◌, IfErr, IsErr, IsOk, None, OnErr, OnOk, Some, drop, length, take};
 ghost use Rattle.thin_vec.specs.List.Clones.{ClonesEqual};
 ghost use Rattle.thin_vec.specs.Edits.ReplaceRange.{ReplacesByClones, moves_replacing};
-ghost use Rattle.thin_vec.specs.ThinVec.{IsCauseOf, capacity_after_reserve};
+ghost use Rattle.thin_vec.specs.ThinVec.{HasRoomFor, IsCauseOf, capacity_after_reserve};
 ghost use Rattle.thin_vec.specs.List.Capacity.{CostsMoves, PreservesList};
 
 use crate::list::ThinVec;
@@ -49,7 +49,9 @@ impl<T: Clone, A: Allocator, G: Growth> ThinVec<T, A, G> {
             (length items.now - (end - start)))) }
         ensures err { OnErr result (self.new ≡ self.old) }
 
-        // In every case.
+        // In every case. `had_room` follows from `capacity` and `err`, and is for callers' proofs.
+        ensures had_room { HasRoomFor self.old (length items.now - (end - start))
+            → self.new.capacity ≡ self.old.capacity }
         ensures preserved { PreservesList T.row self.old self.new }
     {
         // Only the proof needs this call: its contract says that the list `IsBounded`.

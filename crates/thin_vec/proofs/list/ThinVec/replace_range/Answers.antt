@@ -41,6 +41,10 @@ returns-clause-capacity g c =
     (param 0 g.row.T) v (n - (c.args.end - c.args.start)) ≡ Some w.capacity)) (count g c)
     c.replace_range_from_list.ensures.capacity.ok
 
+pub returns-clause-had_room : goal.returns-clause-had_room
+returns-clause-had_room g c room =
+    c.replace_range_from_list.ensures.capacity.had_room (omega (arith, count g c, room))
+
 pub returns-clause-cost : goal.returns-clause-cost
 returns-clause-cost g c =
     let v = c.args.self.now in let w = c.replace_range_from_list.new.self in
