@@ -71,6 +71,8 @@ pub fn insert_names<T: Clone, A: Allocator, G: Growth>(
     ensures items { OnOk result (ReplacesByClones T.is_clone list.old.items at at names.now
         list.new.items) }
     ensures err { OnErr result (list.new ≡ list.old) }
+    ensures capacity { HasRoomFor list.old (length names.now)
+        → list.new.capacity ≡ list.old.capacity }
 {
     list.replace_range(alloc, at, at, names)
 }
