@@ -21,6 +21,9 @@ impl<T, A: Allocator, G: Growth> ThinVec<T, A, G> {
     ///
     /// Fails if and only if `reserve(1)` would fail, with the same cause. The error returns `value`
     /// to the caller.
+    // LLVM would inline this function anyway. With `always`, it does so before it simplifies the
+    // caller, and makes shorter loops.
+    #[inline(always)]
     pub fn push(&mut self, value: T) -> Result<(), Rejected<T>>
         // On success.
         ensures items { OnOk result (self.new.items ≡ self.old.items ++ value ∷ []) }
@@ -44,10 +47,11 @@ impl<T, A: Allocator, G: Growth> ThinVec<T, A, G> {
             × ((d : T) → IsOk result
             → slice_index_or self.new.items (length self.old.items) d ≡ value) }
     {
+        let len = self.len();
         if let Err(cause) = self.reserve(1) {
             return Err(Rejected { value, cause });
         }
-        self.push_reserved(value);
+        self.push_at(len, value);
         Ok(())
     }
 
@@ -60,7 +64,21 @@ impl<T, A: Allocator, G: Growth> ThinVec<T, A, G> {
         ensures capacity { self.new.capacity ≡ self.old.capacity }
         ensures preserved { PreservesList T.row self.old self.new }
     {
-        let len = self.block.len();
+        self.push_at(self.len(), value);
+    }
+
+    // Appends `value` to a list that has `len` items, and room for it. `push` passes the length that
+    // it read before it reserved room, so that it reads the length once.
+    fn push_at(&mut self, len: usize, value: T)
+        requires len { len ≡ length self.old.items }
+        requires room { HasRoomFor self.old 1 }
+        requires bounds { IsBounded T.row self.old }
+        ensures items { self.new.items ≡ self.old.items ++ value ∷ [] }
+        ensures len { length self.new.items ≡ length self.old.items + 1 }
+        ensures cost { self.new.cost ≡ add_moves 1 self.old.cost }
+        ensures capacity { self.new.capacity ≡ self.old.capacity }
+        ensures preserved { PreservesList T.row self.old self.new }
+    {
         self.block.put_and_set_len(len, value, len + 1);
     }
 

@@ -1,23 +1,32 @@
 -- `put_and_set_len` writes `value` into the slot directly after the last item.
-use Rattle.std.proofs.Common.{◌++◌, ◌∷◌, [], ap, ◌∙◌, length, arith, refl}
-use Rattle.thin_vec.proofs.ListLemmas.{RestoresInvariant, restores-push}
-use Rattle.thin_block.specs.Slots.{items_in}
-use Rattle.thin_vec.proofs.list.ReservesLemmas.{keeps-settled}
+use Rattle.std.proofs.Common.{◌≡◌, ◌++◌, ◌∷◌, [], ap, ◌∙◌, length, arith, refl, subst, sym}
 use Rattle.std.proofs.lemmas.List.{length_push}
-use Rattle.thin_vec.proofs.list.ThinVec.push_reserved.Goals as goal
+use Rattle.thin_block.specs.Capacity.{Fits}
+use Rattle.thin_block.specs.Slots.{items_in}
+use Rattle.thin_vec.specs.ThinVec.{fits_allocatable}
+use Rattle.thin_vec.proofs.ListLemmas.{RestoresInvariant, restores-push}
+use Rattle.thin_vec.proofs.list.ReservesLemmas.{keeps-settled}
+use denote.Param.{param}
+use Rattle.thin_vec.proofs.list.ThinVec.push_at.Goals as goal
+
+stored-len : (g : _) (c : goal.After-put_and_set_len g) → c.args.len ≡ c.self.inside.block.len
+stored-len g c = omega (
+  arith,
+  c.requires.len,
+  c.self.invariant.packed.len,
+  ap (λ v. length v.items) c.self.view_is,
+)
 
 facts : (g : _) (c : goal.After-put_and_set_len g)
     → RestoresInvariant c.put_and_set_len.new.self c.self.inside.alloc
     (items_in c.self.inside.block.slots ++ c.args.value ∷ []) (length c.self.inside.block.slots)
 facts g c =
-    restores-push c.self.invariant c.put_and_set_len.new.self c.args.value c.len-len.result
-    c.len-len.ensures.value
+    restores-push c.self.invariant c.put_and_set_len.new.self c.args.value c.args.len
+    (stored-len g c)
     (omega (
       arith,
+      c.requires.len,
       c.requires.room,
-      c.len-len.ensures.value,
-      c.self.invariant.packed.len,
-      ap (λ v. length v.items) c.self.view_is,
       ap (λ v. v.capacity) c.self.view_is,
     ))
     c.put_and_set_len.ensures.changes
@@ -33,5 +42,7 @@ returns-clause-len g c = ap length (returns-clause-items g c) ∙ length_push _ 
 
 pub returns-clause-preserved : goal.returns-clause-preserved
 returns-clause-preserved g c =
-    keeps-settled _ _ c.self.invariant c.self.view_is c.len-len.ensures.bounds (facts g c)
+    keeps-settled _ _ c.self.invariant c.self.view_is
+    (subst (Fits (param 0 g.row.T)) (sym (ap (λ v. v.capacity) c.self.view_is))
+    (fits_allocatable (param 0 g.row.T) _ c.requires.bounds.allocatable)) (facts g c)
     (ap (λ v. v.cost) c.put_and_set_len.ensures.changes) (refl, refl)
