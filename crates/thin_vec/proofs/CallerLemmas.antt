@@ -22,13 +22,12 @@ use Rattle.thin_vec.proofs.ThinVecLemmas.{allocatable-less, cheap-regrown, cost_
 use Rattle.std.proofs.Math.Seq.{take-append_seam}
 use Rattle.std.specs.List.{refill}
 use Rattle.thin_vec.specs.Lends.{with_items}
-use Rattle.std.specs.Iterator.{DrainsIf}
 use Rattle.std.proofs.lemmas.Iterator.{YieldsList}
 use Rattle.std.proofs.lemmas.Iterator.Adapters.{fact_from_collect}
 use Rattle.thin_vec.specs.List.Extend.{IsCollectedFrom}
 use Rattle.std.proofs.lemmas.List.{append-nil}
 use Rattle.std.proofs.lemmas.List.Sorted.{length_permutation}
-use Rattle.std.specs.Iterator.{Count, Drains, Yields, YieldsFirst}
+use Rattle.std.specs.Iterator.{Count, Drains, DrainsIf, Yields, YieldsFirst}
 use Rattle.std.specs.Option.{option_to_list}
 use Rattle.thin_vec.specs.VecWords.{into_iter_items}
 use Rattle.thin_vec.specs.Edits.Splice.{SpliceErrorAccountsFor}
@@ -41,14 +40,11 @@ exact-few R zero few small = exact-same R 0 0 (omega arith)
 exact-few R (suc n) few small =
     exact-fits R 0 (suc n) (omega arith) (small_fits R (suc n) few small)
 
-none_some : {A B : Type 0} (x : A) → None ≡ Some x → B
-none_some x e = cc
-
 -- `named` is the capacity that a call needs, or `None` if this capacity is too large.
 cause-named : (named : Option ℕ) (n : ℕ) (cause : ThinVecError) → named ≡ Some n
     → IsCauseOf named cause → cause ≡ OutOfMemory
 cause-named named n OutOfMemory here told = refl
-cause-named named n CapacityOverflow here told = none_some n (sym (told refl) ∙ here)
+cause-named named n CapacityOverflow here told = let none = told refl in cc
 
 pub few_items : {X : Type 0} (R : RattleType) (n : ℕ) (result : Result X ThinVecError)
     → n < 2 ^ 31 → type_size R < 2 ^ 31 → OverflowsIffTooLarge R n result
@@ -180,7 +176,7 @@ module _ {T A : Type 0} {rule : GrowthRule} (law : IsLawful rule) {R : RattleTyp
 
 named-by : (b : Bool) (m n : ℕ) → (if b then Some m else None) ≡ Some n → m ≡ n
 named-by true m n e = some-same e
-named-by false m n e = none_some n e
+named-by false m n e = cc
 
 either_most : (b : Bool) → (if b then 1 else 4) ≤ 4
 either_most true = omega arith
@@ -206,7 +202,7 @@ doubling-most R c w n more e = elim (cases_lt w (2 ^ 64)) [
       (sym (ruled-rule doubling R c w more word) ∙ e) in
       let few : twice ≤ max 4 (2 * w) = twice-most (c == 0) s c w more in
       omega (arith, named, few))
-  | inr high ↦ none_some n (sym (ruled-overflow doubling R c w more high) ∙ e)
+  | inr high ↦ cc (ruled-overflow doubling R c w more high)
 ]
 
 pub refill_all : {T : Type 0} (xs ws : List T) → length ws ≡ length xs

@@ -68,10 +68,7 @@ module _ {T : Type 0} where
       let m : k ≡ c - length (xs ++ v ∷ []) = omega (arith, length_push xs v) in
       ap (λ (n : ℕ). set (filled_slots xs ++ replicate n None) (length xs) (Some v)) e
       ∙ (set_at (filled_slots xs) None (replicate k None) (Some v) (length xs) (length-full xs)
-      ∙ (sym (append_assoc (filled_slots xs) (Some v ∷ []) (replicate k None))
-      ∙ (ap (λ (r : List (Option T)). r ++ replicate k None)
-      (sym (map_push (λ (x : T). Some x) xs v))
-      ∙ ap (λ (n : ℕ). filled_slots (xs ++ v ∷ []) ++ replicate n None) m)))
+      ∙ rw (← m) (simp (append_assoc, map_push)))
 
   pub full-take : (xs : List T) (s : List (Option T)) (i : ℕ) (d : T) → i < length xs
       → set (filled_slots xs ++ s) i None ≡ filled_slots
@@ -144,18 +141,12 @@ module _ {T A : Type 0} where
       → (b' : Block T A) {xs : List T} {c : ℕ} {k : Cost}
       → length b'.slots ≡ c → items_in b'.slots ≡ xs → b'.cost ≡ k
       → list_view b' w.alloc ≡ record v { items = xs; capacity = c; cost = k }
-  list_view-becomes is b' slots items cost = λ i. record {
-    items = items i;
-    capacity = slots i;
-    alloc = (is i).alloc;
-    cost = cost i;
-  }
+  list_view-becomes is b' slots items cost = cc
 
   pub list_view-keeps : {w v : ListView T A} → w ≡ v → (b' : Block T A) {xs : List T} {k : Cost}
       → length b'.slots ≡ w.capacity → items_in b'.slots ≡ xs → b'.cost ≡ k
       → list_view b' w.alloc ≡ record v { items = xs; cost = k }
-  list_view-keeps is b' slots items cost =
-      list_view-becomes is b' (slots ∙ ap (λ (u : ListView T A). u.capacity) is) items cost
+  list_view-keeps is b' slots items cost = cc
 
   pub thin-room : (b : Block T A) (a : A) → IsListBlock b a
       → length (items_in b.slots) ≤ length b.slots

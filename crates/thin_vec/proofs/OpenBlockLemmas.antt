@@ -99,7 +99,6 @@ module _ {T A : Type 0} where
           arith,
           simp (length-append, length-full, length-empty T) at (ap length s.row),
           reached,
-          s.room,
         )
 
     shown-front : items_in (take h.front_end h.block.slots) ≡ v.front
@@ -144,8 +143,7 @@ module _ {T A : Type 0} where
           gap_after = gap_after i;
           tail = shown-tail i;
           capacity = shown-cap i;
-          alloc =
-              alloc i;
+          alloc = alloc i;
           cost = cost i;
         } in
         record { lies = subst (IsOpenViewOf h) (sym view) s; view = view }
@@ -215,22 +213,18 @@ module _ {T A : Type 0} where
         ∙ (ap (λ (r : List (Option T)). set r h.middle_start None) row
         ∙ (set_at (to_middle v) (Some y) (filled_slots ys ++ past_middle v) None h.middle_start
         (at_middle h v o)
-        ∙ rw reached' (simp (append_assoc, empty-more)))) in
-        let shows : IsOpenViewOf first-left (first-view ys) =
-        record {
-          row = after;
-          front = o.front;
-          gap_before = omega (arith, o.gap_before);
-          middle = omega (arith, o.middle, ap length parts.2);
-          gap_after = o.gap_after;
-          tail =
-              o.tail;
-          room = o.room;
-        } in (
+        ∙ rw reached' (simp (append_assoc, empty-more)))) in (
           ys,
           parts.2 ∙ ap (λ (z : T). z ∷ ys) same,
-          found first-left (first-view ys) shows (ap (λ (z : BlockView T A). z.alloc) now)
-              (ap (λ (z : BlockView T A). z.cost) now),
+          found first-left (first-view ys) (record {
+            row = after;
+            front = o.front;
+            gap_before = omega arith;
+            middle = omega (arith, ap length parts.2);
+            gap_after = o.gap_after;
+            tail = o.tail;
+            room = o.room;
+          }) (ap (λ z. z.alloc) now) (ap (λ z. z.cost) now),
         )
 
     -- `last-left` is `h` without its last middle item. `last-view ys` is how contracts see it if
@@ -257,8 +251,6 @@ module _ {T A : Type 0} where
           length-append (to_middle v) (filled_slots ys),
           at_middle h v o,
           length-full ys,
-          o.middle,
-          longer,
         ) in
         let row : h.block.slots ≡ pre ++ (Some y ∷ past_middle v) =
         by_middle h v o
@@ -274,19 +266,16 @@ module _ {T A : Type 0} where
         ap (λ (z : BlockView T A). z.slots) now
         ∙ (ap (λ (r : List (Option T)). set r (h.middle_end - 1) None) row
         ∙ (set_at pre (Some y) (past_middle v) None (h.middle_end - 1) before
-        ∙ rw (reached', more) (simp append_assoc))) in
-        let shows : IsOpenViewOf last-left (last-view ys) =
-        record {
-          row = after;
-          front = o.front;
-          gap_before = o.gap_before;
-          middle = omega (arith, o.middle, longer);
-          gap_after = omega (arith, o.gap_after, o.middle, longer);
-          tail = o.tail;
-          room = o.room;
-        } in (
+        ∙ rw (reached', more) (simp append_assoc))) in (
           ys,
           parts.2 ∙ ap (λ (z : T). ys ++ z ∷ []) same,
-          found last-left (last-view ys) shows (ap (λ (z : BlockView T A). z.alloc) now)
-              (ap (λ (z : BlockView T A). z.cost) now),
+          found last-left (last-view ys) (record {
+            row = after;
+            front = o.front;
+            gap_before = o.gap_before;
+            middle = omega arith;
+            gap_after = omega arith;
+            tail = o.tail;
+            room = o.room;
+          }) (ap (λ z. z.alloc) now) (ap (λ z. z.cost) now),
         )

@@ -1,11 +1,10 @@
 -- These lemmas are about loops that put items into the empty slots of a block. They state how many
 -- items a loop takes at most, and what the slots contain.
-use Rattle.std.proofs.Common.{◌≡◌, ℕ, ◌+◌, ◌<◌, ◌≤◌, List, [], ◌∷◌, ◌++◌, length, take, drop, Option, Some, None, sym, ap, ◌∙◌, append_assoc, arith, get_or, length-append}
+use Rattle.std.proofs.Common.{◌≡◌, ℕ, ◌+◌, ◌<◌, ◌≤◌, List, [], ◌∷◌, ◌++◌, length, take, drop, Option, Some, None, Bool, true, false, refl, sym, ap, ◌∙◌, append_assoc, arith, get_or, length-append}
 use Rattle.std.proofs.lemmas.List.{append-nil, length-take-le, length_push, set_at, take_more}
 use lib.ListN.{set}
 use Rattle.thin_block.specs.Slots.{filled_slots, write_slots}
 use Rattle.thin_block.proofs.SlotsLemmas.{written-none}
-use Rattle.std.proofs.Common.{Bool, true, false, refl}
 use Rattle.std.specs.Iterator.{Count}
 use Rattle.thin_vec.specs.Put.{IsFilledBy}
 use Rattle.thin_vec.specs.declared.put.Filled.{Filled}

@@ -1,8 +1,9 @@
 -- These lemmas are about lists of results (a result says whether a test keeps an item), and about
 -- the items that `retain` keeps. `R` describes the calls to the closure, and `s` and `t` are its
 -- states.
-use Rattle.std.proofs.Common.{◌≡◌, ℕ, zero, suc, ◌+◌, ◌<◌, ◌≤◌, Bool, true, false, List, [], ◌∷◌, ◌++◌, length, drop, refl, sym, ap, subst, ◌∙◌, arith}
+use Rattle.std.proofs.Common.{◌≡◌, ℕ, zero, suc, ◌+◌, ◌<◌, ◌≤◌, Bool, true, false, List, [], ◌∷◌, ◌++◌, length, drop, take, refl, sym, ap, ◌∙◌, arith}
 use Rattle.std.proofs.lemmas.Bool.{ne_eqb}
+use Rattle.std.proofs.lemmas.List.{drop_at, take_at}
 use Rattle.std.specs.Prelude.{◌==◌, if◌then◌else◌}
 use Rattle.std.specs.List.{filter, items_where_true}
 use Rattle.std.specs.List.Retain.{IsFiltered, ReturnsInTurn}
@@ -48,6 +49,13 @@ single (x ∷ y ∷ xs) e = absurd (omega (arith, e))
 pub none-left : {X : Type 0} (xs : List X) → (0 < length xs → ⊥) → xs ≡ []
 none-left [] none = refl
 none-left (x ∷ xs) none = absurd (none (omega arith))
+
+pub same-parts : {X : Type 0} (a b c d : List X) → length a ≡ length c → a ++ b ≡ c ++ d → (a ≡ c)
+    × (b ≡ d)
+same-parts a b c d n e = (
+  sym (take_at a b (length c) n) ∙ (ap (take (length c)) e ∙ take_at c d (length c) refl),
+  sym (drop_at a b (length c) n) ∙ (ap (drop (length c)) e ∙ drop_at c d (length c) refl),
+)
 
 -- At most the kept items are moved.
 pub moves_of_retain-few : (stays : List Bool) → moves_of_retain stays ≤ count_true stays
@@ -120,18 +128,10 @@ module _ {S T : Type 0} (R : S → T → Bool → S → Type 0) where
   told : (xs : List T) (s t : S) (a : TestResults T) → TestsInTurn (ReadsOnly R) s xs a t
       → (length (flags_of a) ≡ length xs) × ReturnsInTurn R s (flags_of a) xs t
       × (items_where true a ≡ items_where_true (flags_of a) xs)
-  told [] s t [] h = (refl, sym h.1, refl)
-  told [] s t (q ∷ a) h = absurd (cons-not-nil h.0)
-  told (x ∷ xs) s t [] h = absurd (cons-not-nil (sym h.6))
-  told (x ∷ xs) s t ((b, y) ∷ a) h =
-      let same : (b, y) ≡ (h.0, h.1) = cons-head h.6 in
-      let more = told xs h.2 t a
-      (subst (λ (c : TestResults T). TestsInTurn (ReadsOnly R) h.2 xs c t)
-      (sym (cons-tail h.6)) h.5) in
-      let answer : R s x b h.2 = subst (λ (c : Bool). R s x c h.2)
-      (sym (ap (λ (p : Bool × T). p.0) same)) h.4.0 in
-      let left : y ≡ x = ap (λ (p : Bool × T). p.1) same ∙ h.4.1 in
-      (ap suc more.0, (h.2, answer, more.1), first b y x a xs left more.2)
+  told [] s t a h = rw h.0 (refl, sym h.1, refl)
+  told (x ∷ xs) s t a h =
+      let more = told xs h.2 t h.3 h.5 in
+      rw h.6 (ap suc more.0, (h.2, h.4.0, more.1), first h.0 h.1 x h.3 xs h.4.1 more.2)
     where
       -- In this induction step of `told`, `b` is the flag for `x`, and `y` is `x` after the test.
       first : (b : Bool) (y x : T) (a : TestResults T) (xs : List T) → y ≡ x
@@ -156,12 +156,8 @@ module _ {S T : Type 0} (R : S → T → Bool → S → Type 0) where
 module _ {S T : Type 0} (R : S → T → Bool → S → T → Type 0) where
   pub few-left : (xs : List T) (s t : S) (a : TestResults T) → TestsInTurn R s xs a t
       → length (items_where true a) ≤ length xs
-  few-left [] s t a h =
-      subst (λ (b : TestResults T). length (items_where true b) ≤ 0) (sym h.0) (omega arith)
-  few-left (x ∷ xs) s t a h =
-      let more = few-left xs h.2 t h.3 h.5 in
-      subst (λ (b : TestResults T). length (items_where true b) ≤ suc (length xs)) (sym h.6)
-      (one h.0 h.1 h.3 xs more)
+  few-left [] s t a h = rw h.0 (omega arith)
+  few-left (x ∷ xs) s t a h = rw h.6 (one h.0 h.1 h.3 xs (few-left xs h.2 t h.3 h.5))
     where
       one : (b : Bool) (y : T) (a : TestResults T) (xs : List T)
           → length (items_where true a) ≤ length xs

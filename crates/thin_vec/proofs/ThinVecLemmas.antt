@@ -117,21 +117,9 @@ cheap-growing : {c : ℕ} {k : Cost} (n c' : ℕ) → IsCheapAt c k → n ≤ c 
 cheap-growing {c = zero} {k} n c' h le larger doubled =
     let z = h.none refl in
     let two : 2 ^ (k.blocks + 1) ≡ 2 = ap (λ q. 2 ^ (q + 1)) z.0 in
-    record {
-      none = λ q. absurd (omega (arith, larger));
-      grown = λ q. omega (arith, z.1, larger, le);
-      blocks = λ q. omega (arith, two, larger);
-    }
+    omega arith
 cheap-growing {c = suc c} {k} n c' h le larger doubled =
-    let few : k.grown < suc c = h.grown (omega arith) in
-    let half : 2 ^ k.blocks ≤ 2 * suc c = h.blocks (omega arith) in
-    let twice : 2 ^ (k.blocks + 1) ≡ 2 ^ k.blocks * 2 = pow_more 2 k.blocks in
-    record {
-      none = λ q. absurd (omega (arith, larger));
-      grown = λ q. omega (arith, doubled, few, le);
-      blocks =
-          λ q. omega (arith, twice, half, doubled);
-    }
+    omega (arith, h.grown (omega arith), h.blocks (omega arith), pow_more 2 k.blocks)
 
 module _ {T A : Type 0} (rule : GrowthRule) (R : RattleType) (law : IsLawful rule)
     (v : ListView T A) (k c : ℕ) where

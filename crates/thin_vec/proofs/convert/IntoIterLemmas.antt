@@ -18,6 +18,7 @@ use Rattle.std.specs.List.{length_refill, refill}
 use Rattle.thin_vec.specs.Lends.{with_items}
 use Rattle.thin_vec.specs.ThinVec.{list_view}
 use Rattle.thin_vec.proofs.LendsLemmas.{over-front}
+use Rattle.thin_vec.proofs.OpenBlockLemmas.{empty-more}
 use Rattle.thin_vec.proofs.ListLemmas.{from-same, full-same, get-some, items-empty, items-full, length-empty, length-full, slot-get}
 
 module _ {T : Type 0} where
@@ -31,18 +32,13 @@ module _ {T : Type 0} where
   set-first start k x xs =
       set_at (empty_slots start) (Some x) (filled_slots xs ++ empty_slots k) None start
       (length-empty T start)
-      ∙ (sym (append_assoc (empty_slots start) (None ∷ []) (filled_slots xs ++ empty_slots k))
-      ∙ ap (λ (s : List (Option T)). s ++ (filled_slots xs ++ empty_slots k))
-      (replicate-append-replicate start 1 None))
+      ∙ simp (append_assoc, empty-more)
 
   row-last : (start k : ℕ) (xs : List T) (x : T)
       → empty_slots start ++ (filled_slots (xs ++ x ∷ []) ++ empty_slots k)
       ≡ (empty_slots start ++ filled_slots xs) ++ (Some x ∷ empty_slots k)
   row-last start k xs x =
-      ap (λ (s : List (Option T)). empty_slots start ++ (s ++ empty_slots k)) (map_push Some xs x)
-      ∙ (ap (λ (s : List (Option T)). empty_slots start ++ s)
-      (append_assoc (filled_slots xs) (Some x ∷ []) (empty_slots k))
-      ∙ sym (append_assoc (empty_slots start) (filled_slots xs) (Some x ∷ empty_slots k)))
+      simp (append_assoc, map_push)
 
   before-last : (start : ℕ) (xs : List T)
       → length (empty_slots start ++ filled_slots xs) ≡ start + length xs
@@ -135,7 +131,6 @@ module _ {T A : Type 0} where
       let after : List (Option T) = empty_slots (length b.slots - end) in
       omega (
         arith,
-        t.len,
         ap length t.row,
         length-append (empty_slots start) (filled_slots xs ++ after),
         length-append (filled_slots xs) after,

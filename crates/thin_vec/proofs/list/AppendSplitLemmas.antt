@@ -27,9 +27,7 @@ module _ {T : Type 0} where
       ∙ (written-at (length xs) (filled_slots xs) (filled_slots ys) (empty_slots (length ys))
       (empty_slots spare)
       (sym (length-full xs)) long
-      ∙ (sym (append_assoc (filled_slots xs) (filled_slots ys) (empty_slots spare))
-      ∙ (ap (λ (s : List (Option T)). s ++ empty_slots spare) (sym (full-append xs ys))
-      ∙ ap (λ (k : ℕ). filled_slots (xs ++ ys) ++ empty_slots k) left)))
+      ∙ rw (← left) (simp (append_assoc, full-append)))
 
   module _ (ys : List T) (c i k : ℕ) (order : i ≤ length ys) (room : length ys ≤ c)
       (count : k ≡ length ys - i) where
@@ -38,10 +36,7 @@ module _ {T : Type 0} where
     parted =
         ap (λ (l : List T). filled_slots l ++ empty_slots (c - length ys))
         (sym (take-append-drop i ys))
-        ∙ (ap (λ (s : List (Option T)). s ++ empty_slots (c - length ys))
-        (full-append (take i ys) (drop i ys))
-        ∙ append_assoc (filled_slots (take i ys)) (filled_slots (drop i ys))
-        (empty_slots (c - length ys)))
+        ∙ simp (append_assoc, full-append)
 
     before : i ≡ length (filled_slots (take i ys))
     before = omega (arith, length-full (take i ys), length-take-le i ys order)

@@ -1,6 +1,6 @@
 -- These lemmas are for calls that append the items of an iterator to a list.
 use Rattle.std.proofs.Common.{true, ◌≡◌, ℕ, ◌+◌, ◌-◌, ◌<◌, ◌≤◌, List, [], ◌∷◌, ◌++◌, inl, inr, length, length-append, Option, None, Some, refl, sym, ap, subst, ◌∙◌, arith, false}
-use Rattle.std.proofs.lemmas.Bool.{cases_lt}
+use Rattle.std.proofs.lemmas.Bool.{cases_lt, false≢true}
 use Rattle.std.proofs.lemmas.List.{map-append}
 use Rattle.std.specs.Borrow.{RattleType}
 use Rattle.std.proofs.iter.runs.Made.{run, to_end}
@@ -9,8 +9,7 @@ use Rattle.std.specs.Iterator.SizeHint.{IsWithinCount}
 use Rattle.std.specs.Iterator.Runs.{SomeRun, WholeRun}
 use Rattle.std.specs.declared.result.Result.{Result}
 use Rattle.std.specs.declared.result.Result.TheVariants.{Ok, Err}
-use Rattle.std.specs.Prelude.{OnErr, OnOk, IfErr, IsSome, MatchOption}
-use Rattle.std.proofs.lemmas.Bool.{false≢true}
+use Rattle.std.specs.Prelude.{◌⊎◌, OnErr, OnOk, IfErr, IsSome, MatchOption}
 use Rattle.std.specs.Option.{option_to_list}
 use lib.ListN.{set}
 use Rattle.thin_block.specs.Block.{BlockView}
@@ -19,7 +18,6 @@ use Rattle.thin_block.specs.Growth.{GrowthRule, IsLawful, exact_capacity}
 use Rattle.thin_block.specs.Slots.{filled_slots, write_slots}
 use Rattle.thin_block.proofs.CapacityLemmas.{ruled-grows}
 use Rattle.thin_block.proofs.SlotsLemmas.{written-one}
-use Rattle.std.specs.Prelude.{◌⊎◌}
 use Rattle.thin_vec.specs.List.Extend.{IsCapacityAfterCollect, CostsInserting, IsKeptOrChosen, IsKeptOrGrown, YieldsAndCanContinue}
 use Rattle.thin_vec.specs.ThinVec.{IsNew, ListView, capacity_after_reserve, cost_after_resize, capacity_after_reserve_exact}
 use Rattle.thin_vec.specs.declared.errors.ExtendRefused.{ExtendRefused}
@@ -125,10 +123,9 @@ pub spare-kept : {T A : Type 0} (v w : ListView T A) (xs : List T)
     → w ≡ record v
     { items = w.items; cost = add_moves (length w.items - length v.items) v.cost }
 spare-kept v w xs is =
-    let items = ap (λ z. z.items) is in
     let many : length xs ≡ length w.items - length v.items =
-    omega (arith, ap length items, length-append v.items xs) in
-    is ∙ (λ i. record v { items = sym items i; cost = add_moves (many i) v.cost })
+    omega (arith, ap (λ z. length z.items) is, length-append v.items xs) in
+    cc
 
 -- The following lemmas are about how the capacity of a list grows over several calls.
 
@@ -200,15 +197,8 @@ module _ {T A : Type 0} where
       → (cost_after_resize v w.capacity).grown + v.capacity ≤ v.cost.grown + w.capacity
       → CostsInserting v w 0
   filled-reserved v w e n few =
-      filled-at v w 0 (e
-      ∙ (λ i. record {
-        blocks = (cost_after_resize v w.capacity).blocks;
-        grown = (cost_after_resize v w.capacity).grown;
-        moves =
-            (let z : (cost_after_resize v w.capacity).moves
-            ≡ (cost_after_resize v w.capacity).moves + 0 = omega arith in
-            z) i;
-      })) (omega (arith, ap length n)) few
+      filled-at v w 0 (e ∙ sym (moving-none (cost_after_resize v w.capacity)))
+      (omega (arith, ap length n)) few
 
   pub filled-spare : (v w : ListView T A) (k : ℕ)
       → w ≡ record v { items = w.items; cost = add_moves k v.cost }
@@ -227,26 +217,15 @@ module _ {T A : Type 0} where
     copied = omega (arith, p.copied, q.copied);
     least = omega (arith, p.least, q.least);
     moves = omega (arith, p.moves, q.moves, few);
-    kept = λ same. let a : u.capacity ≡ v.capacity = omega arith in
-        let b : w.capacity ≡ u.capacity = omega arith in let f = p.kept a in let h = q.kept b in
-        (h.0 ∙ f.0, h.1 ∙ f.1);
+    kept = λ same. omega (arith, p.kept (omega arith), q.kept (omega arith));
     grown = λ more. elim (cases_lt v.capacity u.capacity) [
       | inl first ↦ elim (cases_lt u.capacity w.capacity) [
-        | inl again ↦ let f = p.grown first in let h = q.grown again in
-            (omega (arith, f.0, h.0), omega (arith, f.1, h.1))
-        | inr still ↦ let f = p.grown first in let h = q.kept (omega arith) in
-            (omega (arith, f.0, h.0), omega (arith, f.1, h.1))
+        | inl again ↦ omega (arith, p.grown first, q.grown again)
+        | inr still ↦ omega (arith, p.grown first, q.kept (omega arith))
       ]
-      | inr still ↦ let f = p.kept (omega arith) in let h = q.grown (omega arith) in
-          (omega (arith, f.0, h.0), omega (arith, f.1, h.1, long))
+      | inr still ↦ omega (arith, p.kept (omega arith), q.grown (omega arith))
     ];
   }
 
   pub inserting-more : (v w : ListView T A) (n : ℕ) → CostsInserting v w 0 → CostsInserting v w n
-  inserting-more v w n p = record {
-    copied = p.copied;
-    least = p.least;
-    moves = omega (arith, p.moves);
-    kept = p.kept;
-    grown = p.grown;
-  }
+  inserting-more v w n p = omega arith

@@ -2,7 +2,7 @@
 -- contains during such a call and after it.
 use Rattle.std.proofs.Common.{◌≡◌, ◌≢◌, ℕ, zero, suc, ◌+◌, ◌-◌, ◌<◌, ◌≤◌, List, [], ◌∷◌, ◌++◌, length, take, drop, Option, Some, None, refl, sym, ap, ◌∙◌, subst, arith, get_or, length-append, append_assoc}
 use Rattle.std.proofs.Math.Seq.{drop-length, take-append_seam}
-use Rattle.std.proofs.lemmas.List.{set_comm, set-append_left, length-replicate, length-take-le, length_push, take-append-drop, replicate-append-replicate, set_at, get_or_at, map-append, length-take, length-drop}
+use Rattle.std.proofs.lemmas.List.{set_comm, set-append_left, length-replicate, length-take-le, length_push, take-append-drop, replicate-append-replicate, set_at, get_or_at, drop_more, map-append, length-take, length-drop}
 use Rattle.std.proofs.lemmas.List.Edits.{length-insert, length-remove}
 use Rattle.std.specs.Prelude.{IsSome, insert, remove}
 use Rattle.std.specs.List.{swap_remove}
@@ -130,14 +130,7 @@ module _ {T : Type 0} where
 
   item-at : (xs : List T) (i : ℕ) → i < length xs → (x : T) × (drop i xs ≡ x ∷ drop (i + 1) xs)
   item-at [] i h = absurd (omega arith)
-  item-at (x ∷ xs) zero h = (x, refl)
-  item-at (x ∷ xs) (suc i) h =
-      let r = item-at xs i (omega arith) in
-      let same : i + 1 + 1 ≡ suc i + 1 = omega arith in (
-        r.0,
-        r.1 ∙ ap (λ k. r.0 ∷ drop k (x ∷ xs)) (let e : suc (i + 1) ≡ suc i + 1 = omega arith in
-            e),
-      )
+  item-at (x ∷ xs) i h = (get_or (x ∷ xs) i x, drop_more (x ∷ xs) i x h)
 
   pub full-append : (xs ys : List T) → filled_slots (xs ++ ys) ≡ filled_slots xs ++ filled_slots ys
   full-append xs ys = map-append (λ (x : T). Some x) xs ys
@@ -277,7 +270,6 @@ module _ {T A : Type 0} where
               length-take-le (length xs - 1) s
                   (omega (arith, length-set xs i (get_or xs (length xs - 1) v))),
               length_push ys m,
-              long,
             )
 
     pub restores-replaced : (v : T) → i ≤ last → last + 1 ≡ b.len → slot b.slots i ≡ Some v

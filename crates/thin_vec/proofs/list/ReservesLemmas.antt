@@ -41,16 +41,12 @@ tells-same R S m n e told = record {
   overflow = (λ over. sym e ∙ told.overflow.0 over, λ none. told.overflow.1 (e ∙ none));
 }
 
-memory-no-overflow : {P : Type 0} (cause : ThinVecError) → cause ≡ OutOfMemory
-    → cause ≡ CapacityOverflow → P
-memory-no-overflow cause is over = cc
-
 pub tells-then : {X : Type 0} (named : Option ℕ) (n : ℕ) (r : Result X ThinVecError)
     → named ≡ Some n → IfErr r (λ cause. cause ≡ OutOfMemory) → OverflowsIff named r
 tells-then named n (Ok x) is _ = tells-ok x named n is
 tells-then named n (Err cause) is memory = record {
   overflow = (
-    λ e. memory-no-overflow cause memory (err-same e),
+    λ e. cc (memory, err-same e),
     λ none. absurd (none-some none is),
   );
 }
@@ -66,15 +62,12 @@ keeps-join p q = record {
 }
 
 module _ {T A : Type 0} (R : RattleType) (v : ListView T A) where
-  cheap-kept : (w : ListView T A) → w.capacity ≡ v.capacity
+  pub cheap-kept : (w : ListView T A) → w.capacity ≡ v.capacity
       → (w.cost.blocks ≡ v.cost.blocks) × (w.cost.grown ≡ v.cost.grown) → IsCheap v → IsCheap w
   cheap-kept w capacity (blocks, grown) cheap = record {
-    none = λ none. let old = cheap.none (sym capacity ∙ none) in
-        (blocks ∙ old.0, grown ∙ old.1);
-    grown = λ some. let old = cheap.grown (omega (arith, capacity, some)) in
-        omega (arith, old, grown, capacity);
-    blocks = λ some. let old = cheap.blocks (omega (arith, capacity, some)) in
-        rw (blocks, capacity) old;
+    none = λ none. omega (arith, cheap.none (omega arith));
+    grown = λ some. omega (arith, cheap.grown (omega arith));
+    blocks = λ some. rw (blocks, capacity) (cheap.blocks (omega arith));
   }
 
   pub keeps-kept : (w : ListView T A) → w.alloc ≡ v.alloc → w.capacity ≡ v.capacity
@@ -155,7 +148,7 @@ module _ {T A : Type 0} (R : RattleType) (v : ListView T A) where
           ok = tt;
           err = inr named;
           overflow = (
-            λ e. memory-no-overflow cause memory (err-same e),
+            λ e. cc (memory, err-same e),
             λ none. absurd (none-some none named),
           );
         }

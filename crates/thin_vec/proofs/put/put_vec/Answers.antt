@@ -1,6 +1,5 @@
 -- Each iteration moves the last item of the vector into the slot before the items moved so far.
 use Rattle.std.proofs.lemmas.Grind.{common_steps}
-use Rattle.thin_block.specs.Cost.{add_moves}
 use Rattle.thin_block.specs.Slots.{filled_slots, write_slots}
 use Rattle.thin_vec.proofs.list.ExtendLemmas.{put-more, put-none}
 use Rattle.thin_block.specs.Block.{block_view}
@@ -49,6 +48,5 @@ returns g c =
     let all : length xs - length c.loop-item.items.items ≡ length xs =
     grind (arith, common_steps) in
     record {
-      changes = c.loop-item.invariant.same
-          ∙ (λ i. record (block_view old) { slots = slots i; cost = add_moves (all i) old.cost });
+      changes = cc (c.loop-item.invariant.same, slots, all);
     }

@@ -10,15 +10,7 @@ use Rattle.thin_vec.proofs.list.ThinVec.append_from.Goals as goal
 pub move_run_to-requires-clause-filled : goal.move_run_to-requires-clause-filled
 move_run_to-requires-clause-filled g c = λ i low high.
     thin-filled c.other.inside.block c.other.inside.alloc i c.other.invariant
-    (omega (
-      arith,
-      low,
-      high,
-      c.len.ensures.value,
-      c.other.invariant.packed.len,
-      c.requires.in_bounds,
-      ap (λ v. length v.items) c.other.view_is,
-    ))
+    (omega (arith, ap (λ v. length v.items) c.other.view_is))
 
 cut : (g : _) (c : goal.After-set_len-2 g)
     → RestoresInvariant c.set_len.new.self c.other.inside.alloc
@@ -39,11 +31,6 @@ joined g c =
     (ap (λ n. n - c.args.start) c.len.ensures.value) c.len-len.ensures.value
     (omega (
       arith,
-      c.requires.room,
-      c.len.ensures.value,
-      c.len-len.ensures.value,
-      c.self.invariant.packed.len,
-      c.other.invariant.packed.len,
       ap (λ v. length v.items) c.self.view_is,
       ap (λ v. length v.items) c.other.view_is,
       ap (λ v. v.capacity) c.self.view_is,

@@ -1,6 +1,6 @@
 -- `extend` reserves room for the lower bound of the size hint, and then calls `extend_unhinted`.
 use Rattle.std.proofs.lemmas.Grind.{common_steps}
-use Rattle.std.proofs.Common.{◌≡◌, ◌++◌, ◌∙◌, Err, ap, arith, length, subst}
+use Rattle.std.proofs.Common.{◌≡◌, ◌++◌, ◌∙◌, List, None, Some, [], ap, arith, inl, length, refl, subst, sym}
 use Rattle.std.proofs.lemmas.List.{append-nil}
 use Rattle.std.specs.Iterator.Runs.{SomeRun, WholeRun}
 use Rattle.std.specs.Option.{option_to_list}
@@ -9,7 +9,6 @@ use denote.Param.{param}
 use Rattle.thin_vec.proofs.ThinVecLemmas.{cost_after_resize-blocks, cost_after_resize-copied}
 use Rattle.std.proofs.lemmas.Bool.{false≢true}
 use Rattle.thin_vec.specs.List.Capacity.{LacksRoom}
-use Rattle.std.proofs.Common.{inl, sym, Some, List, None, [], refl}
 use Rattle.thin_vec.proofs.list.ExtendLemmas.{full-in-hand, ruled-after, run_of_ok, inserting-join, filled-reserved, at_least-join, at_least-le, at_least-ruled, run_given, run_given_err}
 use Rattle.thin_vec.proofs.list.ReservesLemmas.{lacks-room}
 use Rattle.thin_vec.proofs.list.ThinVec.extend.Goals as goal
@@ -23,7 +22,6 @@ returns-in-Ok-clause-capacity g c =
     record {
       had_room = λ room. let same = reserves.had_room (omega (
         arith,
-        room,
         c.size_hint.ensures.lower c.requires.finite,
       )) in
           e.had_room (omega (arith, room, same, ap length c.reserve.ensures.items)) ∙ same;
@@ -58,7 +56,6 @@ returns-in-Ok-clause-cost g c =
         c.size_hint.ensures.lower,
         omega (
           arith,
-          e.blocks,
           ap (λ k. k.blocks) c.in-Ok.ensures.cost,
           cost_after_resize-blocks v u.capacity,
           c.in-Ok.ensures.ok,

@@ -14,14 +14,7 @@ facts : (g : _) (c : goal.After-store_len g)
     (items_in c.self.inside.block.slots ++ c.args.items.now) (length c.self.inside.block.slots)
 facts g c =
     restores-more c.self.invariant c.store_len.new.self c.args.items.now _ c.len-len.ensures.value
-    (omega (
-      arith,
-      c.requires.room,
-      c.len-len.ensures.value,
-      c.self.invariant.packed.len,
-      ap (λ v. length v.items) c.self.view_is,
-      ap (λ v. v.capacity) c.self.view_is,
-    ))
+    (omega (arith, ap (λ v. length v.items) c.self.view_is, ap (λ v. v.capacity) c.self.view_is))
     refl (then-len c.store_len.ensures.changes c.copy_in.ensures.changes)
 
 pub invariant_of-self : goal.invariant_of-self

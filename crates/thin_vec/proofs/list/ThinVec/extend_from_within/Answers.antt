@@ -19,7 +19,6 @@ fails g c all =
     c.push_clones_within.result
     (omega (
       arith,
-      less,
       length-range xs c.args.start c.args.end
           (omega (arith, ap length same, c.requires.in_bounds)),
     ))
@@ -44,11 +43,7 @@ returns-then-push_clones_within-end-clause-err g c =
     (cut-back c.reserve.new.self.items placed.ensures.items.0 c.truncate.ensures.items
     placed.ensures.items.1 c.len-len.ensures.value) (record {
       at = placed.result;
-      in_bounds = omega (
-        arith,
-        less,
-        length-range v.items c.args.start c.args.end c.requires.in_bounds,
-      );
+      in_bounds = omega (arith, length-range v.items c.args.start c.args.end c.requires.in_bounds);
       fallible = subst (λ l. HoldsAt (λ x. ¬ (g.T.Clone.is_infallible x))
           (slice_range l c.args.start c.args.end) placed.result) c.reserve.ensures.items
           (placed.ensures.stopped_at less);
@@ -70,7 +65,6 @@ returns-clause-items g c =
       subst (λ l. AllZip g.T.Clone.is_clone l placed.0)
           (take_all c.push_clones_within.result range (omega (
             arith,
-            c.if-push_clones_within-end.false,
             length-range c.reserve.new.self.items c.args.start c.args.end
                 (omega (arith, ap length same, c.requires.in_bounds)),
           )) ∙ ap (λ l. slice_range l c.args.start c.args.end) same)

@@ -84,7 +84,6 @@ full g c =
       ap (λ v. length v.items) filled.1,
       length-append c.loop-rest.self.items filled.0.items,
       ap (λ v. v.capacity) filled.1,
-      c.fill_spare-left.ensures.bounds.0.room,
     )
 
 pub next-requires : goal.next-requires
@@ -195,15 +194,10 @@ loop-rest-preserved g c =
           (omega (arith, ap length held.placed.1, length-append v.items held.placed.0, more));
       requests = omega (
         arith,
-        held.requests,
         ap (λ y. y.cost.blocks) (changed g filled),
         ap (λ k. k.blocks) pushed.cost,
         cost_after_resize-blocks w z.capacity,
-        all,
         kept,
-        low,
-        more,
-        long,
       );
       ruled = inr (
         w.capacity,
@@ -229,11 +223,7 @@ returns-in-Err-clause-succeeds g c = λ fit.
     c.in-Err.ensures.succeeds
     (omega (
       arith,
-      fit,
-      held.nearer,
       by.nearer c.if-ended.false,
-      goes.2,
-      low,
       longer g filled,
       ap (λ z. z.capacity) (changed g filled),
     ))
@@ -254,12 +244,7 @@ requested : (g : _) (c : After-fill_spare-left g) → c.fill_spare-left.new.self
     ≤ c.args.self.now.cost.blocks
     + (length c.fill_spare-left.new.self.items - c.args.self.now.capacity)
 requested g c =
-    omega (
-      arith,
-      c.loop-rest.invariant.requests,
-      ap (λ y. y.cost.blocks) (changed g c),
-      longer g c,
-    )
+    omega (arith, ap (λ y. y.cost.blocks) (changed g c), longer g c)
 
 pub returns-then-ended-clause-blocks : goal.returns-then-ended-clause-blocks
 returns-then-ended-clause-blocks g c =

@@ -1,5 +1,5 @@
 -- `put_iter` moves items into the slots after the last item, and `set_len` stores the new length.
-use Rattle.thin_block.proofs.BlockLemmas.{slots-are, then-len}
+use Rattle.thin_block.proofs.BlockLemmas.{then-len}
 use Rattle.std.proofs.lemmas.Grind.{common_steps}
 use Rattle.std.proofs.Common.{◌++◌, ◌-◌, ◌≡◌, ◌∙◌, ap, arith, length, length-append}
 use Rattle.thin_block.specs.Block.{block_view}
@@ -18,13 +18,12 @@ stored : (g : _) (c : goal.After-set_len g) → block_view c.replace-none.new.de
       cost = add_moves (c.put_iter-block.result.1.end - c.len-len.result) c.self.inside.block.cost;
     }
 stored g c =
-    let put = c.put_iter-block in
-    ap block_view c.replace-none.ensures.after
-    ∙ (slots-are put.ensures.changes put.ensures.filled_by.1
-    ∙ (λ i. let v = block_view (c.replace-block.ensures.value i) in record v {
-      slots = write_slots c.len-len.result (filled_slots put.ensures.filled_by.0.items) v.slots;
-      cost = add_moves (put.result.1.end - c.len-len.result) v.cost;
-    }))
+    cc (
+      c.replace-none.ensures.after,
+      c.put_iter-block.ensures.changes,
+      c.put_iter-block.ensures.filled_by.1,
+      c.replace-block.ensures.value,
+    )
 
 facts : (g : _) (c : goal.After-set_len g)
     → RestoresInvariant c.set_len.new.self c.self.inside.alloc
@@ -37,9 +36,6 @@ facts g c =
     (omega (
       arith,
       filled-fits put.0,
-      c.cap-cap.ensures.value,
-      c.len-len.ensures.value,
-      c.self.invariant.packed.len,
       thin-room c.self.inside.block c.self.inside.alloc c.self.invariant,
     ))
     put.2
@@ -53,9 +49,6 @@ ends g c =
       arith,
       ap length (facts g c).items,
       length-append (items_in c.self.inside.block.slots) put.0.items,
-      put.2,
-      c.len-len.ensures.value,
-      c.self.invariant.packed.len,
     )
 
 begins : (g : _) (c : goal.After-set_len g) → c.len-len.result ≡ length c.args.self.now.items

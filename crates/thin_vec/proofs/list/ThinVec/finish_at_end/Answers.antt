@@ -84,8 +84,6 @@ returns-in-Err g c =
     record {
       succeeds = λ few. c.in-Err.ensures.succeeds (omega (
         arith,
-        few,
-        c.requires.bounds,
         ap (λ z. length z.items) is,
         ap (λ z. z.capacity) is,
         length-append v.front v.tail,

@@ -128,9 +128,4 @@ returns-else-ended-2 g c =
     (ruled-after rule T law u.capacity y.capacity w.capacity (length w.items) _
     c.insert_held.ensures.capacity
     (λ same. (hint.0, hint.1, hint.2 ∙ ap Some (sym same)))))
-    (λ _. omega (
-      arith,
-      ap (λ z. z.blocks) p.1.cost.1,
-      c.insert_hinted.ensures.blocks,
-      c.insert_held.ensures.blocks,
-    ))
+    (λ _. omega (arith, ap (λ z. z.blocks) p.1.cost.1))

@@ -89,8 +89,6 @@ pub returns-in-Some-in_hand-clause-succeeds : goal.returns-in-Some-in_hand-claus
 returns-in-Some-in_hand-clause-succeeds g c = λ none.
     absurd (omega (
       arith,
-      none,
-      c.collect_rest-held.ensures.bound,
       (c.in-Some.ensures.goes.on c.requires.finite).2,
       ap option_len c.in-Some-in_hand.is,
     ))
@@ -121,14 +119,7 @@ pub returns-in-Err-clause-succeeds : goal.returns-in-Err-clause-succeeds
 returns-in-Err-clause-succeeds g c = λ none.
     let here = (goal.at.returns-in-Err-clause-succeeds g c).In-Err in
     c.in-Err.ensures.succeeds
-    (omega (
-      arith,
-      count g here,
-      none,
-      c.collect_rest-held.ensures.bound,
-      (c.in-Some.ensures.goes.on c.requires.finite).2,
-      c.reserve.ensures.preserved.within.0.room,
-    ))
+    (omega (arith, count g here, (c.in-Some.ensures.goes.on c.requires.finite).2))
 
 pub returns-in-Err-clause-cause : goal.returns-in-Err-clause-cause
 returns-in-Err-clause-cause g c = λ tail some.
@@ -144,7 +135,6 @@ returns-in-Err-clause-cause g c = λ tail some.
     (λ _. (
       λ room. false≢true (c.in-Err.ensures.succeeds (omega (
         arith,
-        room,
         ap (λ z. length z.items) c.in-Err.ensures.err,
         ap (λ z. z.capacity) c.in-Err.ensures.err,
         count g here,
@@ -189,7 +179,6 @@ returns-clause-capacity g c =
     (omega (
       arith,
       c.len-count.ensures ∙ c.collect_rest-held.result.held.ok.0,
-      long,
       ap length c.reserve.ensures.items,
     )))
 
@@ -211,12 +200,7 @@ returns-clause-added g c =
     (taken-reserved rule T law v u c.len-count.result left c.in_default-reserve.ensures.capacity.ok
     c.reserve.ensures.items c.reserve.ensures.preserved.alloc c.in_default-reserve.ensures.cost
     c.reserve.ensures.preserved.cheap
-    (omega (
-      arith,
-      count,
-      c.collect_rest-held.ensures.bound,
-      (c.in-Some.ensures.goes.on c.requires.finite).2,
-    ))
+    (omega (arith, count, (c.in-Some.ensures.goes.on c.requires.finite).2))
     c.reserve.ensures.preserved.within.0.room)
     (taken-spare rule T u c.close.new.self
     (length c.collect_rest-held.result.held.items) paid.0 n left

@@ -70,7 +70,6 @@ returns-clause-filled_by g c =
           ∙ ap (λ l. (take c.args.at l ++ xs) ++ drop c.args.at l) c.reserve.ensures.items),
       omega (
         arith,
-        filled.2,
         ap length there.front,
         length-take-le c.args.at c.reserve.new.self.items there.in_bounds,
       ),
@@ -125,12 +124,7 @@ returns-in-Err-clause-blocks g c = omega (arith, ap (λ z. z.cost.blocks) c.in-E
 pub returns-in-Err-clause-succeeds : goal.returns-in-Err-clause-succeeds
 returns-in-Err-clause-succeeds g c = λ none.
     c.in-Err.ensures.succeeds
-    (omega (
-      arith,
-      none,
-      c.size_hint-hint.ensures.lower c.requires.finite,
-      c.reserve.ensures.preserved.within.0.room,
-    ))
+    (omega (arith, c.size_hint-hint.ensures.lower c.requires.finite))
 
 pub returns-in-Err-clause-cause : goal.returns-in-Err-clause-cause
 returns-in-Err-clause-cause g c =

@@ -14,28 +14,14 @@ use Rattle.thin_vec.proofs.list.ThinVec.insert_reserved.Goals as goal
 pub move_run-requires-clause-filled : goal.move_run-requires-clause-filled
 move_run-requires-clause-filled g c = λ j low high.
     thin-filled c.self.inside.block c.self.inside.alloc j c.self.invariant
-    (omega (
-      arith,
-      low,
-      high,
-      c.requires.in_bounds,
-      c.len-len.ensures.value,
-      c.self.invariant.packed.len,
-      ap (λ v. length v.items) c.self.view_is,
-    ))
+    (omega (arith, ap (λ v. length v.items) c.self.view_is))
 
 pub put_and_set_len-requires-clause-empty : goal.put_and_set_len-requires-clause-empty
 put_and_set_len-requires-clause-empty g c =
     ap (λ v. slot v.slots c.args.index) c.move_run.ensures.changes
     ∙ thin-gap c.self.invariant c.args.index
     (omega (arith, c.requires.in_bounds, ap (λ v. length v.items) c.self.view_is))
-    (omega (
-      arith,
-      c.requires.room,
-      c.self.invariant.packed.len,
-      ap (λ v. length v.items) c.self.view_is,
-      ap (λ v. v.capacity) c.self.view_is,
-    ))
+    (omega (arith, ap (λ v. length v.items) c.self.view_is, ap (λ v. v.capacity) c.self.view_is))
     refl (ap (λ n. n - c.args.index) c.len-len.ensures.value)
 
 facts : (g : _) (c : After-put_and_set_len g)
@@ -45,13 +31,7 @@ facts : (g : _) (c : After-put_and_set_len g)
 facts g c =
     restores-insert c.self.invariant c.put_and_set_len.new.self c.args.index c.args.value
     (omega (arith, c.requires.in_bounds, ap (λ v. length v.items) c.self.view_is))
-    (omega (
-      arith,
-      c.requires.room,
-      c.self.invariant.packed.len,
-      ap (λ v. length v.items) c.self.view_is,
-      ap (λ v. v.capacity) c.self.view_is,
-    ))
+    (omega (arith, ap (λ v. length v.items) c.self.view_is, ap (λ v. v.capacity) c.self.view_is))
     refl (ap (λ n. n - c.args.index) c.len-len.ensures.value) c.len-len.ensures.value
     (c.put_and_set_len.ensures.changes ∙ ap {A = BlockView _ _} (λ v. record v {
       slots = set v.slots c.args.index (Some c.args.value);

@@ -9,23 +9,11 @@ pub take-value-requires : goal.take-value-requires
 take-value-requires g c =
     record {
       filled = thin-filled c.self.inside.block c.self.inside.alloc _ c.self.invariant
-          (omega (
-            arith,
-            c.requires.nonempty,
-            c.len-last.ensures.value,
-            c.self.invariant.packed.len,
-            ap (λ v. length v.items) c.self.view_is,
-          ));
+          (omega (arith, ap (λ v. length v.items) c.self.view_is));
     }
 
 stored : (g : _) (c : goal.After-store_len g) → c.len-last.result - 1 + 1 ≡ c.self.inside.block.len
-stored g c = omega (
-  arith,
-  c.requires.nonempty,
-  c.len-last.ensures.value,
-  c.self.invariant.packed.len,
-  ap (λ v. length v.items) c.self.view_is,
-)
+stored g c = omega (arith, ap (λ v. length v.items) c.self.view_is)
 
 facts : (g : _) (c : goal.After-store_len g)
     → RestoresInvariant c.store_len.new.self c.self.inside.alloc

@@ -17,16 +17,7 @@ facts g c =
     let len = c.len-len in
     let many = length-copies put.slots put.in_bounds in
     restores-more c.self.invariant c.set_len.new.self put.slots.copies len.result len.ensures.value
-    (omega (
-      arith,
-      c.requires.room,
-      put.in_bounds,
-      many,
-      len.ensures.value,
-      c.self.invariant.packed.len,
-      ap (λ v. length v.items) c.self.view_is,
-      ap (λ v. v.capacity) c.self.view_is,
-    ))
+    (omega (arith, ap (λ v. length v.items) c.self.view_is, ap (λ v. v.capacity) c.self.view_is))
     (omega (arith, many))
     (then-len c.set_len.ensures.changes
     (slots-are put.changes put.slots.slots))

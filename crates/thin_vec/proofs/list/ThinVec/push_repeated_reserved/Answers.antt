@@ -26,11 +26,7 @@ facts g c =
     restores-more c.self.invariant c.set_len.new.self put.slots.copies len.result len.ensures.value
     (omega (
       arith,
-      c.requires.room,
-      put.in_bounds,
       many g c,
-      len.ensures.value,
-      c.self.invariant.packed.len,
       ap (λ v. length v.items) c.self.view_is,
       ap (λ v. v.capacity) c.self.view_is,
     ))

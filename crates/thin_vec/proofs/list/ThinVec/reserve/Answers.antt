@@ -1,6 +1,5 @@
 -- If the list has room for `additional` more items, its capacity does not change.
-use Rattle.std.proofs.Common.{arith}
-use Rattle.std.proofs.Common.{refl}
+use Rattle.std.proofs.Common.{arith, refl}
 use Rattle.thin_vec.proofs.list.ReservesLemmas.{reserves-room}
 use Rattle.thin_vec.proofs.list.ThinVec.reserve.Goals as goal
 

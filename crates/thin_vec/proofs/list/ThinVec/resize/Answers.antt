@@ -41,12 +41,7 @@ returns-clause-items g c =
         length_push c.push_repeated_reserved.new.self.items x,
         ap length placed.items,
         length-append c.reserve.new.self.items placed.copies,
-        placed.count,
         ap length same,
-        c.push_repeated_reserved.ensures.in_bounds,
-        c.if-push_repeated_reserved-count.false,
-        c.len-old.ensures.value,
-        c.if-len-old.false,
       );
     }
 
@@ -59,12 +54,7 @@ returns-clause-items_if_clones_equal g c = λ equal.
     take_all c.args.len old (omega (arith, c.len-old.ensures.value, c.if-len-old.false)) in
     equal-repeated g.T.Clone.is_clone placed.result (c.args.len - c.len-old.result) equal
     placed.ensures.items c.push_reserved.ensures.items
-    (omega (
-      arith,
-      placed.ensures.in_bounds,
-      c.if-push_repeated_reserved-count.false,
-      c.if-len-old.false,
-    ))
+    (omega arith)
     ∙ (ap (λ xs. xs ++ replicate (c.args.len - c.len-old.result) x)
     (c.reserve.ensures.items ∙ sym all)
     ∙ ap (λ n. take c.args.len old ++ replicate (c.args.len - n) x) c.len-old.ensures.value)
@@ -124,12 +114,7 @@ returns-then-push_repeated_reserved-count-clause-err g c =
     placed.ensures.items.items
     (c.len-old.ensures.value ∙ ap length (sym c.reserve.ensures.items))) (record {
       at = placed.result;
-      in_bounds = omega (
-        arith,
-        c.if-push_repeated_reserved-count.true,
-        c.len-old.ensures.value,
-        length-replicate (c.args.len - length v.items - 1) c.args.value,
-      );
+      in_bounds = omega (arith, length-replicate (c.args.len - length v.items - 1) c.args.value);
       fallible = λ d. subst (λ x. ¬ (g.T.Clone.is_infallible x))
           (sym (get_or-replicate (c.args.len - length v.items - 1) placed.result c.args.value d
           (omega (arith, c.if-push_repeated_reserved-count.true, c.len-old.ensures.value))))

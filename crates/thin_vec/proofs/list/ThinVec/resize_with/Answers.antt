@@ -3,14 +3,13 @@
 use Rattle.std.proofs.Common.{Ok, ◌≡◌, ◌-◌, ◌++◌, ap, arith, length, length-append, refl, subst, sym, take, take_all, ◌∙◌}
 use denote.Param.{param}
 use Rattle.thin_vec.specs.List.Capacity.{Reserves}
-use Rattle.thin_vec.specs.ThinVec.{capacity_after_reserve}
+use Rattle.thin_vec.specs.ThinVec.{capacity_after_reserve, fits_allocatable}
 use Rattle.thin_block.proofs.BlockLemmas.{slots-are, then-len}
 use Rattle.thin_block.specs.Capacity.{Fits}
 use Rattle.thin_block.specs.Slots.{items_in}
 use Rattle.thin_vec.proofs.list.AppendSplitLemmas.{restores-more}
 use Rattle.thin_vec.proofs.ListLemmas.{RestoresInvariant}
 use Rattle.thin_vec.proofs.list.ReservesLemmas.{keeps-join, keeps-settled, reserves-room, reserves-then}
-use Rattle.thin_vec.specs.ThinVec.{fits_allocatable}
 use Rattle.thin_vec.proofs.list.ThinVec.resize_with.Goals.{After-set_len}
 use Rattle.thin_vec.proofs.list.ThinVec.resize_with.Goals as goal
 
@@ -37,18 +36,10 @@ facts g c =
     let len : old.result ≡ length c.reserve.new.self.items =
     omega (arith, same, old.ensures.value) in
     restores-more c.self.invariant c.set_len.new.self put.slots.0 old.result
-    (omega (
-      arith,
-      len,
-      c.self.invariant.packed.len,
-      ap (λ v. length v.items) c.self.view_is,
-    ))
+    (omega (arith, ap (λ v. length v.items) c.self.view_is))
     (omega (
       arith,
       c.in_ok-reserve.ensures.ok,
-      put.slots.2,
-      len,
-      c.self.invariant.packed.len,
       ap (λ v. length v.items) c.self.view_is,
       ap (λ v. v.capacity) c.self.view_is,
     ))
@@ -87,13 +78,10 @@ returns-clause-len g c =
     let made = c.put_results.ensures.slots in
     omega (
       arith,
-      made.2,
       ap length (facts g c).items,
       length-append (items_in c.self.inside.block.slots) made.0,
       ap (λ v. length v.items) c.self.view_is,
       ap length c.reserve.ensures.items,
-      c.len-old.ensures.value,
-      c.if-len-old.false,
     )
 
 pub returns-clause-preserved : goal.returns-clause-preserved

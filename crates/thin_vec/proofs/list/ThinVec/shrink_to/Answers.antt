@@ -13,18 +13,8 @@ facts : (g : _) (c : goal.In_ok-shrink g) → RestoresInvariant c.shrink.new.sel
     (items_in c.self.inside.block.slots) c.max-wanted.result
 facts g c =
     restores-shrink c.self.invariant c.shrink.new.self c.max-wanted.result
-    (omega (
-      arith,
-      c.max-wanted.ensures,
-      c.len.ensures.value,
-      ap (λ v. length v.items) c.self.view_is,
-    ))
-    (omega (
-      arith,
-      c.if-wanted-capacity.false,
-      c.capacity.ensures.value,
-      ap (λ v. v.capacity) c.self.view_is,
-    ))
+    (omega (arith, ap (λ v. length v.items) c.self.view_is))
+    (omega (arith, ap (λ v. v.capacity) c.self.view_is))
     c.in_ok-shrink.ensures.ok
 
 pub invariant_of-self-2 : goal.invariant_of-self-2

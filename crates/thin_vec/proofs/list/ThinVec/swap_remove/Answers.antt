@@ -14,13 +14,7 @@ swap_take-value-requires g c =
       filled = thin-filled c.self.inside.block c.self.inside.alloc c.args.index c.self.invariant
           (omega (arith, c.requires.in_bounds, ap (λ v. length v.items) c.self.view_is));
       other_filled = thin-filled c.self.inside.block c.self.inside.alloc _ c.self.invariant
-          (omega (
-            arith,
-            c.requires.in_bounds,
-            c.len-last.ensures.value,
-            c.self.invariant.packed.len,
-            ap (λ v. length v.items) c.self.view_is,
-          ));
+          (omega (arith, ap (λ v. length v.items) c.self.view_is));
     }
 
 facts : (g : _) (c : goal.After-store_len g)
@@ -31,20 +25,8 @@ facts g c =
     let long = ap (λ v. length v.items) c.self.view_is in
     restores-replaced c.self.invariant c.store_len.new.self c.args.index (c.len-last.result - 1)
     c.swap_take-value.result
-    (omega (
-      arith,
-      c.requires.in_bounds,
-      c.len-last.ensures.value,
-      c.self.invariant.packed.len,
-      long,
-    ))
-    (omega (
-      arith,
-      c.requires.in_bounds,
-      c.len-last.ensures.value,
-      c.self.invariant.packed.len,
-      long,
-    ))
+    (omega arith)
+    (omega arith)
     c.swap_take-value.ensures.value
     (then-len c.store_len.ensures.changes c.swap_take-value.ensures.changes)
 

@@ -94,7 +94,6 @@ returns-clause-bounds g c =
             arith,
             ap length (facts g c).items,
             length-take c.args.len c.args.self.now.items,
-            before.room,
           )),
     )
 

@@ -15,13 +15,7 @@ facts g c =
     let none = ap length (ap (λ v. v.items) c.list.view_is ∙ c.in-Ok.ensures.items) in
     restores-more c.list.invariant c.set_len.new.self c.args.items 0
     (sym (c.list.invariant.packed.len ∙ none))
-    (omega (
-      arith,
-      c.count-len.ensures.value,
-      c.count-len.ensures.len,
-      c.in-Ok.ensures.capacity,
-      ap (λ v. v.capacity) c.list.view_is,
-    ))
+    (omega (arith, c.in-Ok.ensures.capacity, ap (λ v. v.capacity) c.list.view_is))
     (omega (arith, c.count-len.ensures.len))
     (then-len c.set_len.ensures.changes c.put_array.ensures.changes)
 

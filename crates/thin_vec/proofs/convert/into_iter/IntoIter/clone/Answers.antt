@@ -14,9 +14,6 @@ from_fitting_slice-requires g c =
           c.cap-room.ensures.fits
           (omega (
             arith,
-            room,
-            c.self.invariant.len,
-            c.cap-room.ensures.value,
             ap length c.as_slice.ensures.value,
             ap (λ v. length v.items) c.self.view_is,
           ));

@@ -6,24 +6,14 @@ use Rattle.thin_vec.proofs.ListLemmas.{list_view-keeps}
 use Rattle.thin_vec.proofs.convert.into_iter.IntoIter.take_first.Goals as goal
 
 some : (g : _) (c : goal.After-take g) → c.self.inside.start < c.self.inside.end
-some g c = omega (
-  arith,
-  c.self.invariant.len,
-  c.requires.nonempty,
-  ap (λ v. length v.items) c.self.view_is,
-)
+some g c = omega (arith, ap (λ v. length v.items) c.self.view_is)
 
 pub take-requires : goal.take-requires
 take-requires g c =
     record {
       filled = walked-filled c.self.inside.block c.self.inside.alloc c.self.inside.start
           c.self.inside.end c.self.inside.start c.self.invariant (omega arith)
-          (omega (
-            arith,
-            c.self.invariant.len,
-            c.requires.nonempty,
-            ap (λ v. length v.items) c.self.view_is,
-          ));
+          (omega (arith, ap (λ v. length v.items) c.self.view_is));
     }
 
 facts : (g : _) (c : goal.After-take g) → Walking c.take.new.self c.self.inside.alloc

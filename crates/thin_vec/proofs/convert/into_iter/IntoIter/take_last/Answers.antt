@@ -6,12 +6,7 @@ use Rattle.thin_vec.proofs.ListLemmas.{list_view-keeps}
 use Rattle.thin_vec.proofs.convert.into_iter.IntoIter.take_last.Goals as goal
 
 some : (g : _) (c : goal.After-take g) → c.self.inside.start < c.self.inside.end
-some g c = omega (
-  arith,
-  c.self.invariant.len,
-  c.requires.nonempty,
-  ap (λ v. length v.items) c.self.view_is,
-)
+some g c = omega (arith, ap (λ v. length v.items) c.self.view_is)
 
 pub take-requires : goal.take-requires
 take-requires g c =

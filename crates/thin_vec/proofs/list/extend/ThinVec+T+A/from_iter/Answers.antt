@@ -27,7 +27,6 @@ collected g c =
           e.had_room (omega (arith, none, items))
           ∙ (c.reserve_exact.ensures.had_room (omega (
             arith,
-            none,
             c.size_hint.ensures.lower c.requires.finite,
             ap length c.new-list.ensures.new.items,
           ))
@@ -41,7 +40,6 @@ collected g c =
         c.size_hint.ensures.lower,
         omega (
           arith,
-          e.blocks,
           ap (λ k. k.blocks) c.in-Ok.ensures.cost,
           cost_after_resize-blocks c.new-list.result u.capacity,
           c.in-Ok.ensures.room,
