@@ -14,6 +14,7 @@ use Rattle.thin_vec.specs.ThinVec.{ListView}
 use Rattle.thin_vec.specs.declared.edits.extract_if.ExtractIf.{ExtractIf}
 use Rattle.thin_vec.specs.declared.edits.extract_if.ExtractState.{ExtractState}
 use Rattle.thin_vec.specs.declared.edits.holder.IntoInner.{Ghosts as IntoInnerGhosts}
+use Rattle.thin_vec.proofs.open_block.PairTestLemmas.{map-answer}
 
 -- The following lemmas are about `dedup_by` and `dedup_by_key`.
 
@@ -30,14 +31,8 @@ module _ {S T : Type 0} (R : S → T → T → Bool → S → T → T → Type 0
     h.1,
     h.2,
     h.5,
-    (elim h.0 as (λ b.
-        MatchBool b (TestsEachAgainstLast R h.3 h.2 xs h.4 ys t)
-        ((zs : List T) × TestsEachAgainstLast R h.3 h.1 xs h.4 zs t × (ys ≡ h.2 ∷ zs))
-        → MatchBool b (DedupsFrom R h.3 h.2 xs ys)
-        ((zs : List T) × DedupsFrom R h.3 h.1 xs zs × (ys ≡ h.2 ∷ zs))) [
-          | true ↦ λ m. dedups_from xs h.3 h.2 h.4 ys t m
-          | false ↦ λ m. (m.0, dedups_from xs h.3 h.1 h.4 m.0 t m.1, m.2)
-        ]) h.7,
+    map-answer h.0 (λ m. dedups_from xs h.3 h.2 h.4 ys t m)
+        (λ m. (m.0, dedups_from xs h.3 h.1 h.4 m.0 t m.1, m.2)) h.7,
   )
 
   dedups_all : (xs : List T) (s : S) (stays : List Bool) (ys : List T) (t : S)
@@ -71,9 +66,6 @@ module _ {T : Type 0} (test : T → Bool) where
     pub stay : others xs ≡ kept ++ others untested
     pub ended : item ≡ None → untested ≡ []
 
-  none-some : {x : T} → None ≡ Some x → ⊥
-  none-some e = cc
-
   module _ {S : Type 0} (R : S → T → Bool → S → T → Type 0)
       (says : (s : S) (x : T) (b : Bool) (t : S) (y : T) → R s x b t y
       → (b ≡ test x) × (y ≡ x)) where
@@ -90,7 +82,7 @@ module _ {T : Type 0} (test : T → Bool) where
           ∙ sym (λ i. option_to_list (m.0 i) ++ filter test (m.3 i)));
       stay = ap (λ b. cond (not b) (x ∷ others xs) (others xs)) (sym p)
           ∙ sym (λ i. m.2 i ++ others (m.3 i));
-      ended = λ n. absurd (none-some (sym n ∙ m.0));
+      ended = λ n. cc m.0;
     }
     part x xs item t u y kept untested false p q more m =
         let then = more m.0 m.1 in
@@ -163,8 +155,6 @@ module _ {T F A G H : Type 0} {g : Ghosts G} {h : IntoInnerGhosts H (ExtractStat
           lender = step.lender ∙ was.lender;
           count = omega (
             arith,
-            was.count,
-            got.count,
             ap (λ r. length (option_to_list r)) is,
             ap length put,
             length-append held (x ∷ []),

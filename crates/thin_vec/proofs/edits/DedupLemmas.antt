@@ -1,9 +1,9 @@
 -- These lemmas state what an open block and a list contain after the duplicates among their items
 -- were removed. `R` describes the calls to the closure that compares two items.
 use Rattle.std.proofs.Common.{◌≡◌, ℕ, suc, ◌+◌, ◌<◌, ◌≤◌, Bool, true, false, List, [], ◌∷◌, ◌++◌, length, take, drop, refl, sym, ap, subst, ◌∙◌, arith, append_assoc}
-use Rattle.std.proofs.lemmas.List.{append-nil}
+use Rattle.std.proofs.lemmas.List.{append-nil, same_from_push}
 use Rattle.std.specs.List.{dedup, dedup_from}
-use Rattle.std.specs.Prelude.{MatchBool, cond, if◌then◌else◌, not}
+use Rattle.std.specs.Prelude.{MatchBool, not}
 use Rattle.thin_block.specs.Cost.{Cost, add_moves}
 use Rattle.thin_vec.specs.Edits.Retain.{moves_of_retain, count_true}
 use Rattle.thin_vec.specs.Edits.Dedup.{TestsEachAgainstLast, TestsAllAgainstLast, Compares, IsDedupedBy, IsDedupedTo, dedup_flags, dedup_flags_from}
@@ -13,7 +13,7 @@ use Rattle.thin_vec.specs.OpenBlock.Dedup.{TestsLast, TestsNext, DedupsMiddle, T
 use Rattle.thin_vec.specs.ThinVec.{ListView}
 use Rattle.thin_vec.proofs.RetainLemmas.{cons-head, cons-tail, moves_of_retain-few, moving-more, moving-none}
 use Rattle.thin_vec.proofs.OpenBlockLemmas.{last-of}
-use Rattle.thin_vec.proofs.open_block.PairTestLemmas.{OnPairs, all-stay, last-append, last-goes, last-same, last-some, last-stays, map-answer, moved-all, run-ends, run-goes, run-left, count_true-join}
+use Rattle.thin_vec.proofs.open_block.PairTestLemmas.{OnPairs, all-stay, by-answer, last-append, last-goes, last-some, last-stays, map-answer, moved-all, run-ends, run-goes, run-left, count_true-join}
 
 module _ {S T : Type 0} (R : OnPairs S T) where
   -- The following definitions and lemmas are about open blocks.
@@ -143,7 +143,7 @@ module _ {S T : Type 0} (R : OnPairs S T) where
       append_assoc h.before p.0 (p.1 ∷ [])
       ∙ (ap (λ (l : List T). h.before ++ l) (sym p.2)
       ∙ (sym (ap (λ u. u.front) h.now) ∙ k.was)) in
-      let ends = last-same (h.before ++ p.0) k.before p.1 k.first e in
+      let ends = same_from_push (h.before ++ p.0) k.before p.1 k.first e in
       record {
         before = h.before;
         first = h.first;
@@ -160,16 +160,14 @@ module _ {S T : Type 0} (R : OnPairs S T) where
             (subst (λ (l : List T). TestsEachAgainstLast R s h.first h.done h.stays l t) p.2
             h.asked);
         gap_before = k.gap_before;
-        now = k.now ∙ ((λ i. let u = h.now i in record u {
-          front = k.before ++ k.kept;
-          gap_before = z.gap_before;
-          middle = z.middle;
-          cost = add_moves (count_true k.stays) u.cost;
-        })
-            ∙ moved v z (ap (λ (l : List T). l ++ k.kept) (sym ends.0)
-            ∙ append_assoc h.before p.0 k.kept)
-            (moving-more (count_true k.stays) (count_true h.stays) v.cost
-            ∙ ap (λ (n : ℕ). add_moves n v.cost) (sym (count_true-join h.stays k.stays))));
+        now = cc (
+          k.now,
+          h.now,
+          ends.0,
+          append_assoc h.before p.0 k.kept,
+          moving-more (count_true k.stays) (count_true h.stays) v.cost,
+          count_true-join h.stays k.stays,
+        );
       }
 
   module _ {A : Type 0} (v w : OpenView T A) (m : ℕ) (s t : S) (ys : List T)
@@ -289,22 +287,10 @@ module _ {S T : Type 0} (E : T → T → Bool) where
       → MatchBool b (TestsEachAgainstLast (Compares E) h.3 h.2 xs h.4 ys t)
       ((zs : List T) × TestsEachAgainstLast (Compares E) h.3 h.1 xs h.4 zs t × (ys ≡ h.2 ∷ zs))
       → (f ≡ dedup_flags_from E k (x ∷ xs)) × (ys ≡ dedup_from E k (x ∷ xs))) [
-        | true ↦ λ e st m. let r = last-compares xs h.3 t h.2 h.4 ys m in (
-          st ∙ (ap (λ (l : List Bool). false ∷ l)
-              (r.0 ∙ ap (λ (l : T). dedup_flags_from E l xs) h.5.2)
-              ∙ ap (λ (b : Bool). if b then false ∷ dedup_flags_from E k xs else
-              true ∷ dedup_flags_from E x xs) e),
-          r.1 ∙ (ap (λ (l : T). dedup_from E l xs) h.5.2
-              ∙ ap (λ (b : Bool). cond b (dedup_from E k xs) (k ∷ dedup_from E x xs)) e),
-        )
-        | false ↦ λ e st m. let r = last-compares xs h.3 t h.1 h.4 m.0 m.1 in (
-          st ∙ (ap (λ (l : List Bool). true ∷ l)
-              (r.0 ∙ ap (λ (l : T). dedup_flags_from E l xs) h.5.1)
-              ∙ ap (λ (b : Bool). if b then false ∷ dedup_flags_from E k xs else
-              true ∷ dedup_flags_from E x xs) e),
-          m.2 ∙ ((λ i. h.5.2 i ∷ (r.1 ∙ ap (λ (l : T). dedup_from E l xs) h.5.1) i)
-              ∙ ap (λ (b : Bool). cond b (dedup_from E k xs) (k ∷ dedup_from E x xs)) e),
-        )
+        | true ↦ λ e st m. let r = last-compares xs h.3 t h.2 h.4 ys m in
+            rw (← e, ← h.5.2) (st ∙ ap (λ l. false ∷ l) r.0, r.1)
+        | false ↦ λ e st m. let r = last-compares xs h.3 t h.1 h.4 m.0 m.1 in
+            rw (← e, ← h.5.1, ← h.5.2) (st ∙ ap (λ l. true ∷ l) r.0, m.2 ∙ ap (λ l. h.2 ∷ l) r.1)
       ]
       h.5.0 h.6 h.7
 
@@ -318,15 +304,9 @@ module _ {S T : Type 0} (R : OnPairs S T) where
       → TestsEachAgainstLast R s k xs stays ys t → length ys ≤ suc (length xs)
   few-last [] s t k stays ys h = omega (arith, ap length h.1)
   few-last (x ∷ xs) s t k stays ys h =
-      one h.0 h.7 (λ l zs m. few-last xs h.3 t l h.4 zs m)
-    where
-      one : (b : Bool) → MatchBool b (TestsEachAgainstLast R h.3 h.2 xs h.4 ys t)
-          ((zs : List T) × TestsEachAgainstLast R h.3 h.1 xs h.4 zs t × (ys ≡ h.2 ∷ zs))
-          → ((l : T) (zs : List T) → TestsEachAgainstLast R h.3 l xs h.4 zs t
-          → length zs ≤ suc (length xs))
-          → length ys ≤ suc (suc (length xs))
-      one true m few = let f = few h.2 ys m in omega (arith, f)
-      one false m few = let f = few h.1 m.0 m.1 in omega (arith, f, ap length m.2)
+      by-answer h.0 _ _ (length ys ≤ suc (suc (length xs)))
+      (λ m. omega (arith, few-last xs h.3 t h.2 h.4 ys m))
+      (λ m. omega (arith, few-last xs h.3 t h.1 h.4 m.0 m.1, ap length m.2)) h.7
 
   few-pairs : (xs : List T) (s t : S) (stays : List Bool) (ys : List T)
       → TestsAllAgainstLast R s xs stays ys t → length ys ≤ length xs

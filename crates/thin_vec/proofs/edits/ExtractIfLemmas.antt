@@ -5,17 +5,18 @@ use Rattle.std.proofs.lemmas.List.{append-nil, drop_at, length-take-le, take-app
 use Rattle.std.proofs.lemmas.List.Folds.{drop_split}
 use Rattle.std.specs.List.Retain.{ExtractsNext}
 use Rattle.std.specs.Option.{option_to_list}
-use Rattle.std.specs.Prelude.{◌==◌, MatchBool, if◌then◌else◌, not, slice_range}
+use Rattle.std.specs.Prelude.{◌==◌, if◌then◌else◌, not, slice_range}
 use Rattle.thin_block.specs.Cost.{Cost, add_moves}
 use Rattle.thin_block.specs.declared.growth.Growth.{Ghosts}
 use Rattle.thin_vec.specs.Edits.ExtractIf.{ExtractKeepsAlong, ExtractLeaves, extract_block, extract_rest, left_by_extract_if}
-use Rattle.thin_vec.specs.Edits.Retain.{TestResults, TestsInTurn, all_kept}
+use Rattle.thin_vec.specs.Edits.Retain.{TestsInTurn, all_kept}
 use Rattle.thin_vec.specs.List.Capacity.{MovesAtMost}
 use Rattle.thin_vec.specs.OpenBlock.Retain.{TestsUpTo, IsRemovedFirst}
 use Rattle.thin_vec.specs.declared.edits.extract_if.ExtractIf.{ExtractIf}
 use Rattle.thin_vec.specs.declared.edits.extract_if.ExtractState.{ExtractState}
 use Rattle.thin_vec.specs.declared.edits.holder.IntoInner.{Ghosts as IntoInnerGhosts}
 use Rattle.thin_vec.proofs.RetainLemmas.{cons-head, cons-not-nil, cons-tail, moving-more, moving-none}
+use Rattle.thin_vec.proofs.open_block.PairTestLemmas.{by-answer}
 
 pub not-not : (b : Bool) → not (not b) ≡ b
 not-not true = refl
@@ -26,24 +27,12 @@ module _ {F T : Type 0} (R : F → T → Bool → F → T → Type 0) where
       → ExtractsNext R s xs item t kept untested → length xs ≡ length kept + length
       (option_to_list item) + length untested
   picked-count s [] item t kept untested e =
-      let i = ap (λ (o : Option T). length (option_to_list o)) e.0 in
-      let k = ap length e.2 in
-      let r = ap length e.3 in
-      omega (arith, i, k, r)
+      omega (arith, ap (λ o. length (option_to_list o)) e.0, ap length e.2, ap length e.3)
   picked-count s (x ∷ xs) item t kept untested e =
-      answered e.0 (λ ks m. picked-count e.1 xs item t ks untested m) e.4
-    where
-      -- This is the induction step of `picked-count`.
-      answered : (b : Bool)
-          → ((ks : List T) → ExtractsNext R e.1 xs item t ks untested
-          → length xs ≡ length ks + length (option_to_list item) + length untested)
-          → MatchBool b ((item ≡ Some e.2) × (t ≡ e.1) × (kept ≡ []) × (untested ≡ xs))
-          ((ks : List T) × ExtractsNext R e.1 xs item t ks untested × (kept ≡ e.2 ∷ ks))
-          → length (x ∷ xs) ≡ length kept + length (option_to_list item) + length untested
-      answered true more m =
-          let i = ap (λ (o : Option T). length (option_to_list o)) m.0 in
-          omega (arith, i, ap length m.2, ap length m.3)
-      answered false more m = omega (arith, more m.0 m.1, ap length m.2)
+      by-answer e.0 _ _
+      (length (x ∷ xs) ≡ length kept + length (option_to_list item) + length untested)
+      (λ m. omega (arith, ap (λ o. length (option_to_list o)) m.0, ap length m.2, ap length m.3))
+      (λ m. omega (arith, picked-count e.1 xs item t m.0 untested m.1, ap length m.2)) e.4
 
   module _ {S : Type 0} (of : S → F) where
     -- `J` describes the calls to a predicate that negates the result of a closure. If `s` is a
@@ -64,15 +53,11 @@ module _ {F T : Type 0} (R : F → T → Bool → F → T → Type 0) where
       picked-after s (x ∷ run) [] a = absurd (cons-not-nil (sym a.6))
       picked-after s (x ∷ run) (z ∷ left) a =
           let h = cons-head a.6 in
-          let answer : true ≡ a.0 = ap (λ (p : Bool × T). p.0) h in
-          let as_left : z ≡ a.1 = ap (λ (p : Bool × T). p.1) h in
-          let called : R (of s) x false (of a.2) z =
-          subst (λ (w : T). R (of s) x false (of a.2) w) (sym as_left)
-          (subst (λ (b : Bool). R (of s) x (not b) (of a.2) a.1) (sym answer) a.4) in
-          let on : TestsInTurn J a.2 run (all_kept left) between =
-          subst (λ (q : TestResults T). TestsInTurn J a.2 run q between)
-          (sym (cons-tail a.6)) a.5 in
-          (false, of a.2, z, called, (left, picked-after a.2 run left on, refl))
+          let answer : true ≡ a.0 = ap (λ p. p.0) h in
+          let as_left : z ≡ a.1 = ap (λ p. p.1) h in
+          let called : R (of s) x false (of a.2) z = rw (← answer, ← as_left) at a.4 in
+          let on = picked-after a.2 run left (rw (← cons-tail a.6) at a.5) in
+          (false, of a.2, z, called, (left, on, refl))
 
     stops-at-end : (between t : S) (after ys : List T) → IsRemovedFirst J between after t ys
         → ys ≡ []
@@ -103,18 +88,14 @@ module _ {F T : Type 0} (R : F → T → Bool → F → T → Type 0) where
           → ExtractsNext R (of h.between) h.after item (of t)
           [] untested → ExtractsNext R (of s) xs item (of t) (take m ys) untested
       whole item untested e =
-          subst (λ (l : List T). ExtractsNext R (of s) l item (of t) (take m ys) untested)
-          (sym h.was)
-          (subst (λ (l : List T). ExtractsNext R (of s) (h.run ++ h.after) item (of t) l untested)
-          (sym left-is)
-          (picked-after h.between h.after item (of t) untested e s h.run h.left h.asked))
+          rw (h.was, left-is)
+          (picked-after h.between h.after item (of t) untested e s h.run h.left h.asked)
 
       pub picked-none : drop m ys ≡ [] → ExtractsNext R (of s) xs None (of t)
           (take m ys) (drop m ys)
       picked-none none =
           whole None (drop m ys)
-          (subst (λ (l : List T). ExtractsNext R (of h.between) h.after None (of t) [] l)
-          (sym end-is) (stops-at-end h.between t h.after h.end h.stops (sym end-is ∙ none)))
+          (rw end-is (stops-at-end h.between t h.after h.end h.stops (sym end-is ∙ none)))
 
       pub picked-some : (v : T) (zs : List T) → drop m ys ≡ v ∷ zs
           → ExtractsNext R (of s) xs (Some v) (of t) (take m ys) zs
@@ -179,12 +160,7 @@ module _ {T F A G H : Type 0} {g : Ghosts G} {h : IntoInnerGhosts H (ExtractStat
         lender = on.lender ∙ one.lender;
         meanwhile = on.meanwhile ∙ one.meanwhile;
         kept = s.kept ++ on.kept;
-        left = on.left ∙ (λ i. record {
-          items = front i ++ (extract_rest later ++ s.tail i);
-          capacity = s.capacity i;
-          alloc = (one.left i).alloc;
-          cost = (left_by_extract_if later).cost;
-        });
+        left = cc (on.left, front, s.tail, s.capacity, one.left);
         moves = moves-join (length s.kept)
             (length on.kept + length (extract_rest later) + length (extract_block m).tail)
             _ _ _ _ (omega (arith, both, ap length s.tail))

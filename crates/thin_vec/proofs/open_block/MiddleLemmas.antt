@@ -8,7 +8,7 @@ use Rattle.thin_block.specs.Cost.{Cost}
 use Rattle.thin_block.specs.Slots.{empty_slots, filled_slots, move_slots, slot}
 use Rattle.thin_block.specs.declared.block.Block.{Block}
 use Rattle.thin_block.proofs.SlotsLemmas.{moved_left}
-use Rattle.thin_vec.specs.OpenBlock.{IsOpen, IsOpenViewOf, open_view}
+use Rattle.thin_vec.specs.OpenBlock.{IsOpen, open_view}
 use Rattle.thin_vec.specs.OpenView.{OpenView, tail_end, slots_of}
 use Rattle.thin_vec.specs.declared.open_block.OpenBlock.TheInside.{Inside}
 use Rattle.thin_vec.proofs.list.InsertRemoveLemmas.{full-append}
@@ -76,7 +76,6 @@ module _ {T A : Type 0} where
           length-append (to_middle v) (filled_slots pre),
           at_middle h v o,
           length-full pre,
-          p.3,
         )
         in
         let same : p.1 ≡ x =
@@ -99,25 +98,20 @@ module _ {T A : Type 0} where
         ∙ (set_at (to_middle v ++ filled_slots pre) (Some p.1) (filled_slots post ++ past_middle v)
         (Some y) (h.middle_start + k) here
         ∙ rw left (simp (append_assoc, full-append)))) in
-        let shows : IsOpenViewOf written w =
-        record {
-          row = after;
-          front = o.front;
-          gap_before = o.gap_before;
-          middle = omega (arith, o.middle, count);
-          gap_after = o.gap_after;
-          tail = o.tail;
-          room = o.room;
-        }
-        in
         record {
           pre = pre;
           post = post;
           place = p.3;
-          was = p.4 ∙ ap (λ (z : T). pre ++ z ∷ post)
-              same;
-          shown = found written w shows (ap (λ (z : BlockView T A). z.alloc) now)
-              (ap (λ (z : BlockView T A). z.cost) now);
+          was = p.4 ∙ ap (λ (z : T). pre ++ z ∷ post) same;
+          shown = found written w (record {
+            row = after;
+            front = o.front;
+            gap_before = o.gap_before;
+            middle = omega (arith, o.middle, count);
+            gap_after = o.gap_after;
+            tail = o.tail;
+            room = o.room;
+          }) (ap (λ z. z.alloc) now) (ap (λ z. z.cost) now);
         }
 
   -- In this module, the first `k` middle items of the open block `h` become front items.

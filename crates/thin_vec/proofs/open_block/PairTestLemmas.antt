@@ -1,26 +1,17 @@
 -- These lemmas state which items of a list are kept when a closure compares each item with the last
 -- item kept before it. `R` describes the calls to the closure.
 use Rattle.std.proofs.Common.{◌≡◌, ℕ, zero, suc, ◌+◌, ◌<◌, Bool, true, false, List, [], ◌∷◌, ◌++◌, length, take, drop, refl, sym, ap, subst, ◌∙◌, arith, inl, inr, append_assoc}
-use Rattle.std.proofs.lemmas.List.{drop_at, length_push, replicate-append-replicate, take_at}
+use Rattle.std.proofs.lemmas.List.{drop_at, length_push, replicate-append-replicate, same_from_push, take_at}
 use Rattle.std.specs.Prelude.{MatchBool, replicate}
 use Rattle.thin_vec.specs.Edits.Retain.{moves_of_retain, count_true}
 use Rattle.thin_vec.specs.Edits.Dedup.{TestsEachAgainstLast}
 use Rattle.thin_vec.specs.OpenBlock.Dedup.{TestsPairAt, TestsPairsUpTo}
-use Rattle.thin_vec.proofs.RetainLemmas.{cons-head, cons-not-nil, cons-tail, single}
+use Rattle.thin_vec.proofs.RetainLemmas.{cons-head, cons-not-nil, cons-tail, same-parts, single}
 
 -- `OnPairs S T` is the type of the relations that describe a test of two items of type `T` by a
 -- closure with states of type `S`.
 abbrev pub OnPairs : Type 0 → Type 0 → Type 1
 OnPairs S T = S → T → T → Bool → S → T → T → Type 0
-
-pub last-same : {X : Type 0} (a b : List X) (x y : X) → a ++ x ∷ [] ≡ b ++ y ∷ [] → (a ≡ b)
-    × (x ≡ y)
-last-same [] [] x y e = (refl, cons-head e)
-last-same [] (z ∷ b) x y e = let n = ap length e in absurd (omega (arith, n, length_push b y))
-last-same (z ∷ a) [] x y e = let n = ap length e in absurd (omega (arith, n, length_push a x))
-last-same (z ∷ a) (q ∷ b) x y e =
-    let p = last-same a b x y (cons-tail e) in
-    ((λ i. cons-head e i ∷ p.0 i), p.1)
 
 -- `all-stay n` is a list of `n` flags that are all true. A true flag says that an item is kept.
 abbrev pub all-stay : ℕ → List Bool
@@ -40,7 +31,7 @@ pub moved-all : (n : ℕ) (b : List Bool)
 moved-all zero b = refl
 moved-all (suc n) b = moved-all n b
 
-by-answer : (b : Bool) (P Q G : Type 0) → (P → G) → (Q → G) → MatchBool b P Q → G
+pub by-answer : (b : Bool) (P Q G : Type 0) → (P → G) → (Q → G) → MatchBool b P Q → G
 by-answer true P Q G f g m = f m
 by-answer false P Q G f g m = g m
 
@@ -78,11 +69,8 @@ module _ {S T : Type 0} (R : OnPairs S T) where
         → TestsEachAgainstLast R s k xs f (pre ++ l ∷ []) t
         → TestsEachAgainstLast R s k (xs ++ zs) (f ++ g) (pre ++ ws) u
     last-append [] s k f pre h =
-        let e = last-same pre [] l k h.1 in
-        subst (λ (a : List Bool). TestsEachAgainstLast R s k zs (a ++ g) (pre ++ ws) u) (sym h.0)
-        (subst (λ (a : List T). TestsEachAgainstLast R s k zs g (a ++ ws) u) (sym e.0)
-        (subst (λ (a : T). TestsEachAgainstLast R s a zs g ws u) e.1
-        (subst (λ (a : S). TestsEachAgainstLast R a l zs g ws u) h.2 m)))
+        let e = same_from_push pre [] l k h.1 in
+        rw (h.0, e.0, ← e.1, ← h.2) m
     last-append (x ∷ xs) s k f pre h = (
       h.0,
       h.1,
@@ -145,18 +133,9 @@ module _ {S T : Type 0} (R : OnPairs S T) where
     next-pair : (b : Bool) (u : S) (zs : List T) (a : TestsPairAt R m t ys b u zs)
         → NextPair b u zs a
     next-pair b u zs a =
-        let e : h.pre ++ h.last ∷ h.after ≡ a.before ++ a.kept ∷ a.later ∷ a.after = sym h.now
-        ∙ a.was in
-        let n : length a.before ≡ length h.pre = omega (arith, a.place, h.kept) in
-        let fronts : h.pre ≡ a.before =
-        sym (take_at h.pre (h.last ∷ h.after) (length h.pre) refl)
-        ∙ (ap (take (length h.pre)) e
-        ∙ take_at a.before (a.kept ∷ a.later ∷ a.after) (length h.pre) n) in
-        let rests : h.last ∷ h.after ≡ a.kept ∷ a.later ∷ a.after =
-        sym (drop_at h.pre (h.last ∷ h.after) (length h.pre) refl)
-        ∙ (ap (drop (length h.pre)) e
-        ∙ drop_at a.before (a.kept ∷ a.later ∷ a.after) (length h.pre) n) in
-        record { front = sym fronts; last = sym (cons-head rests); after = cons-tail rests }
+        let p = same-parts h.pre (h.last ∷ h.after) a.before (a.kept ∷ a.later ∷ a.after)
+        (omega (arith, a.place, h.kept)) (sym h.now ∙ a.was) in
+        record { front = sym p.0; last = sym (cons-head p.1); after = cons-tail p.1 }
 
     next-asked : (b : Bool) (u : S) (zs : List T) (a : TestsPairAt R m t ys b u zs)
         → R t a.later h.last b u a.later_left a.kept_left
@@ -194,11 +173,7 @@ module _ {S T : Type 0} (R : OnPairs S T) where
           pre = pre;
           last = a.later_left;
           was = next-was false u zs a;
-          asked = subst (λ (l : List T). TestsEachAgainstLast R s h.first (h.done ++ a.later ∷ [])
-              (all-stay (length pre)) l u)
-              (sym (append_assoc h.pre (a.kept_left ∷ []) (a.later_left ∷ [])))
-              (subst (λ (f : List Bool). TestsEachAgainstLast R s h.first (h.done ++ a.later ∷ []) f
-              (h.pre ++ a.kept_left ∷ a.later_left ∷ []) u) flags asked);
+          asked = rw (← flags, append_assoc h.pre (a.kept_left ∷ []) (a.later_left ∷ [])) asked;
           kept = omega (arith, longer, h.kept);
           now = next-now false u zs a;
         }
@@ -257,11 +232,4 @@ module _ {S T : Type 0} (R : OnPairs S T) where
     pub run-count : (f : List Bool) → count_true f ≡ 0 → r.stays ≡ all-stay r.more ++ f
         → suc (count_true r.stays) ≡ m
     run-count f none e =
-        omega (
-          arith,
-          ap count_true e,
-          count_true-join (all-stay r.more) f,
-          count_true-all r.more,
-          none,
-          r.kept,
-        )
+        omega (arith, ap count_true e, count_true-join (all-stay r.more) f, count_true-all r.more)

@@ -26,12 +26,7 @@ module _ {S T : Type 0} (R : S → T → Bool → S → T → Type 0) where
           middle = p.was;
           asked = p.asked;
           gap_before = gap_before;
-          now = now ∙ (λ i. record v {
-            front = v.front ++ sym p.left i;
-            gap_before = w.gap_before;
-            middle = w.middle;
-            cost = add_moves (sym p.count i) v.cost;
-          });
+          now = cc;
         }
 
   -- In this module, the open block `v` has a gap of empty slots before its middle items. These
@@ -141,25 +136,16 @@ module _ {S T : Type 0} (R : S → T → Bool → S → T → Type 0) where
             left = all;
             run = stays-more R n s v.middle t h.left h.run u all
                 (subst (λ (c : Bool). TestsAt R n t h.left c u all) stays asked-all);
-            now = moved
-                ∙ ((λ i. let x = changes i in record x {
-                  front = x.front ++ take 1 x.middle;
-                  middle = drop 1 x.middle;
-                  cost = add_moves 1 x.cost;
-                })
-                ∙ ((λ i. let x = h.now i in record x {
-                  front = x.front ++ take 1 zs;
-                  middle = drop 1 zs;
-                  cost = add_moves 1 x.cost;
-                })
-                ∙ (λ i. record v {
-                  front = (append_assoc v.front (take n h.left) (take 1 zs)
-                      ∙ ap (λ (l : List T). v.front ++ l)
-                      ((λ j. sym before-is j ++ take 1 (sym after-is j))
-                      ∙ sym (take-add n 1 all))) i;
-                  middle = (ap (drop 1) (sym after-is) ∙ drop-drop 1 n all) i;
-                  cost = moving-more 1 n v.cost i;
-                })));
+            now = cc (
+              moved,
+              h.now,
+              before-is,
+              after-is,
+              append_assoc v.front (take n h.left) (take 1 zs),
+              take-add n 1 all,
+              drop-drop 1 n all,
+              moving-more 1 n v.cost,
+            );
           }
 
       pub keeps-goes : b ≡ false → 0 < v.gap_before → SeeksRemoved R s v u z
@@ -170,13 +156,7 @@ module _ {S T : Type 0} (R : S → T → Bool → S → T → Type 0) where
             left = all;
             run = stays-goes R n s v.middle t h.left h.run u all
                 (subst (λ (c : Bool). TestsAt R n t h.left c u all) goes asked-all);
-            now = changes
-                ∙ ((λ i. record (h.now i) { middle = zs })
-                ∙ (λ i. record v {
-                  front = v.front ++ sym before-is i;
-                  middle = sym after-is i;
-                  cost = sym (moving-after v.gap_before n v.cost gap_before) i;
-                }));
+            now = cc (h.now, before-is, after-is, moving-after v.gap_before n v.cost gap_before);
           }
 
     pub keeps-retains : 0 < v.gap_before → RetainsSome R s v t w
@@ -196,12 +176,7 @@ module _ {S T : Type 0} (R : S → T → Bool → S → T → Type 0) where
           count = count_true-stay r.left ∙ r.reached;
         })
         (omega (arith, gap_before, ap (λ x. x.gap_before) h.now))
-        (h.now ∙ (λ i. record v {
-          front = v.front ++ take n h.left;
-          gap_before = sym (ap (λ x. x.gap_before) h.now) i;
-          middle = sym (ap (λ x. x.middle) h.now) i;
-          cost = add_moves n v.cost;
-        }))
+        (cc h.now)
 
   pub retains-start : {A : Type 0} (s : S) (v : OpenView T A) → 0 < v.gap_before
       → RetainsSome R s v s v
@@ -226,24 +201,14 @@ module _ {S T : Type 0} (R : S → T → Bool → S → T → Type 0) where
             ∙ sym (append_assoc h.done k.done z.middle));
         asked = asked-append R t u k.done k.results k.asked h.done s h.results h.asked;
         gap_before = k.gap_before;
-        now = k.now ∙ ((λ i. let u = h.now i in record u {
-          front = u.front ++ items_where true k.results;
-          gap_before = z.gap_before;
-          middle = z.middle;
-          cost = add_moves (count_true (flags_of k.results)) u.cost;
-        })
-            ∙ (λ i. record v {
-              front = (append_assoc v.front (items_where true h.results)
-                  (items_where true k.results)
-                  ∙ ap (λ (l : List T). v.front ++ l)
-                  (sym (items_where-append h.results k.results))) i;
-              gap_before = z.gap_before;
-              middle = z.middle;
-              cost = (moving-more (count_true (flags_of k.results))
-                  (count_true (flags_of h.results)) v.cost
-                  ∙ ap (λ (n : ℕ). add_moves n v.cost)
-                  (sym (count_true-append h.results k.results))) i;
-            }));
+        now = cc (
+          k.now,
+          h.now,
+          append_assoc v.front (items_where true h.results) (items_where true k.results),
+          items_where-append h.results k.results,
+          moving-more (count_true (flags_of k.results)) (count_true (flags_of h.results)) v.cost,
+          count_true-append h.results k.results,
+        );
       }
 
   module _ {A : Type 0} (v w : OpenView T A) (m : ℕ) (s t : S) (ys : List T)
@@ -275,23 +240,12 @@ module _ {S T : Type 0} (R : S → T → Bool → S → T → Type 0) where
           asked = subst (λ (l : List T). TestsInTurn R s l results u)
               (ap (λ (l : List T). part.done ++ l) all ∙ sym part.was)
               (asked-append R t u h.done h.results h.asked part.done s part.results part.asked);
-          now = h.now ∙ ((λ i. let u = p i in record u {
-            front = u.front ++ items_where true h.results;
-            gap_before = z.gap_before;
-            middle = none i;
-            cost = add_moves (sym up i) u.cost;
-          })
-              ∙ (λ i. record v {
-                front = (ap (λ (l : List T). (v.front ++ l) ++ items_where true h.results)
-                    (sym part.left)
-                    ∙ (append_assoc v.front (items_where true part.results)
-                    (items_where true h.results)
-                    ∙ ap (λ (l : List T). v.front ++ l)
-                    (sym (items_where-append part.results h.results)))) i;
-                gap_before = z.gap_before;
-                middle = [];
-                cost = add_moves (moves_of_retain (flags_of results)) v.cost;
-              }));
+          now = cc (
+            h.now,
+            part.left,
+            append_assoc v.front (items_where true part.results) (items_where true h.results),
+            items_where-append part.results h.results,
+          );
         }
 
     pub retained-ends : Passed → drop m ys ≡ [] → w.middle ≡ [] → RetainsMiddle R s v t w
@@ -305,10 +259,5 @@ module _ {S T : Type 0} (R : S → T → Bool → S → T → Type 0) where
           results = part.results;
           asked = subst (λ (l : List T). TestsInTurn R s l part.results t)
               (sym (append-nil part.done) ∙ sym part.was) part.asked;
-          now = p ∙ (λ i. record v {
-            front = v.front ++ sym part.left i;
-            gap_before = w.gap_before;
-            middle = none i;
-            cost = (sym (moving-none v.cost) ∙ ap (λ (n : ℕ). add_moves n v.cost) (sym up)) i;
-          });
+          now = cc (part.left, moving-none v.cost);
         }

@@ -1,7 +1,7 @@
 -- These lemmas state what an open block contains after it was opened, filled or closed, or after
 -- its gaps or its tail items were moved.
-use Rattle.std.proofs.Common.{◌≡◌, ℕ, zero, suc, ◌+◌, ◌-◌, ◌<◌, ◌≤◌, List, [], ◌∷◌, ◌++◌, Option, None, length, take, drop, refl, sym, ap, ◌∙◌, arith, length-append, append_assoc}
-use Rattle.std.proofs.lemmas.List.{length-drop, length-take, length-take-le, replicate-append-replicate}
+use Rattle.std.proofs.Common.{◌≡◌, ℕ, suc, ◌+◌, ◌-◌, ◌<◌, ◌≤◌, List, [], ◌∷◌, ◌++◌, Option, None, length, take, drop, refl, sym, ap, ◌∙◌, arith, length-append, append_assoc}
+use Rattle.std.proofs.lemmas.List.{length-drop, length-take, length-take-le, replicate-append-replicate, set_split}
 use Rattle.std.proofs.lemmas.List.Edits.{split_between}
 use Rattle.std.specs.Prelude.{IsSome, slice_range}
 use lib.ListN.{set}
@@ -10,8 +10,8 @@ use Rattle.thin_block.specs.Cost.{add_moves}
 use Rattle.thin_block.specs.Slots.{empty_slots, packed_slots, filled_slots, items_in, write_slots, move_slots, slot}
 use Rattle.thin_block.specs.declared.block.Block.{Block}
 use Rattle.thin_block.proofs.SlotsLemmas.{written-at, moved_left, moved_right}
-use Rattle.thin_vec.specs.OpenBlock.{IsOpen, IsOpenViewOf, open_view}
-use Rattle.thin_vec.specs.OpenView.{OpenView, items_of, tail_end, slots_of}
+use Rattle.thin_vec.specs.OpenBlock.{IsOpen, open_view}
+use Rattle.thin_vec.specs.OpenView.{OpenView, items_of, tail_end}
 use Rattle.thin_vec.specs.ThinVec.{IsListBlock}
 use Rattle.thin_vec.specs.declared.open_block.OpenBlock.TheInside.{Inside}
 use Rattle.thin_vec.proofs.list.InsertRemoveLemmas.{full-append}
@@ -20,13 +20,9 @@ use Rattle.thin_vec.proofs.OpenBlockLemmas.{Found, at_middle, at_tail, by_tail, 
 
 pub set-written : {T : Type 0} (s : List (Option T)) (i : ℕ) (y : Option T) → i < length s
     → set s i y ≡ write_slots i (y ∷ []) s
-set-written [] i y low = absurd (omega arith)
-set-written (x ∷ s) zero y low = refl
-set-written (x ∷ s) (suc i) y low =
-    let low' : suc i < suc (length s) = low in
-    let next : suc (i + 1) ≡ suc i + 1 = omega arith in
-    ap (λ r. x ∷ r) (set-written s i y (omega arith))
-    ∙ ap (λ (n : ℕ). x ∷ (take i s ++ (y ∷ drop n (x ∷ s)))) next
+set-written s i y low =
+    let next : suc i ≡ i + 1 = omega arith in
+    set_split s i y low ∙ ap (λ n. take i s ++ (y ∷ drop n s)) next
 
 module _ {T A : Type 0} where
   -- This module is about joining the two gaps of the open block `h`, and about closing `h`.
@@ -44,19 +40,15 @@ module _ {T A : Type 0} where
         let w : OpenView T A = open_view h in
         let past : w.capacity - tail_end w ≡ w.capacity - tail_end joined-view =
         omega (arith, ap length none) in
-        let after : h.block.slots ≡ slots_of joined-view =
-        o.row ∙ rw (past, none) (simp (append_assoc, empty-more)) in
-        let shows : IsOpenViewOf joined joined-view =
-        record {
-          row = after;
+        found joined joined-view (record {
+          row = o.row ∙ rw (past, none) (simp (append_assoc, empty-more));
           front = o.front;
           gap_before = omega (arith, o.gap_before, o.middle, o.gap_after, ap length none);
           middle = omega arith;
           gap_after = omega arith;
           tail = o.tail;
           room = o.room;
-        } in
-        found joined joined-view shows refl refl
+        }) refl refl
 
     abbrev all-after : List T
     all-after = (open_view h).middle ++ (open_view h).tail
@@ -68,13 +60,7 @@ module _ {T A : Type 0} where
 
     count-after : (open_view h).gap_after ≡ 0 → length all-after ≡ h.tail_end - h.middle_start
     count-after none =
-        omega (
-          arith,
-          length-append (open_view h).middle (open_view h).tail,
-          o.middle,
-          o.gap_after,
-          o.tail,
-        )
+        omega (arith, length-append (open_view h).middle (open_view h).tail)
 
     pub after-filled : (open_view h).gap_after ≡ 0 → (j : ℕ) → h.middle_start ≤ j → j < h.tail_end
         → IsSome (slot h.block.slots j)
@@ -99,17 +85,7 @@ module _ {T A : Type 0} where
     close-row none =
         let w : OpenView T A = open_view h in
         let left : w.gap_before + (w.capacity - tail_end w) ≡ w.capacity - length (items_of w) =
-        omega (
-          arith,
-          count-all,
-          reached h w o,
-          count-after none,
-          o.gap_before,
-          o.middle,
-          o.gap_after,
-          o.tail,
-          o.room,
-        ) in
+        omega (arith, count-all, reached h w o, count-after none) in
         ap (move_slots h.middle_start h.front_end (h.tail_end - h.middle_start)) (side-by-side none)
         ∙ (moved_left h.middle_start h.front_end (h.tail_end - h.middle_start) w.gap_before
         (filled_slots w.front)
@@ -124,17 +100,7 @@ module _ {T A : Type 0} where
         let w : OpenView T A = open_view h in
         let no : w.gap_before ≡ 0 = omega (arith, o.gap_before) in
         let left : w.capacity - tail_end w ≡ w.capacity - length (items_of w) =
-        omega (
-          arith,
-          count-all,
-          reached h w o,
-          count-after none,
-          o.gap_before,
-          o.middle,
-          o.gap_after,
-          o.tail,
-          o.room,
-        ) in
+        omega (arith, count-all, reached h w o, count-after none) in
         side-by-side none ∙ rw (left, no) (simp (append_assoc, full-append))
 
   -- In this module, the block `b` becomes an open block with the middle items `start..end`.
@@ -178,20 +144,17 @@ module _ {T A : Type 0} where
         let lz : length z ≡ len - end = omega (arith, length-drop end xs) in
         let past : length b.slots - length xs ≡ length b.slots - tail_end opened-view =
         omega (arith, lf, lr, lz) in
-        let after : b.slots ≡ slots_of opened-view =
-        t.packed.row ∙ (ap
-        (λ (l : List T). filled_slots l ++ empty_slots (length b.slots - length xs)) cut
-        ∙ rw past (simp (append_assoc, full-append))) in
         found (opened len) opened-view
         (record {
-          row = after;
+          row = t.packed.row
+              ∙ (ap (λ l. filled_slots l ++ empty_slots (length b.slots - length xs)) cut
+              ∙ rw past (simp (append_assoc, full-append)));
           front = lf;
           gap_before = omega arith;
           middle = omega (arith, lr);
           gap_after = omega arith;
           tail = omega (arith, lz, all);
-          room =
-              omega (arith, all, thin-room b a t);
+          room = omega (arith, all, thin-room b a t);
         }) refl refl
 
   -- In this module, the items `xs` are written into the first gap of the open block `h`, up to the
@@ -211,15 +174,11 @@ module _ {T A : Type 0} where
         record v {
           front = v.front ++ xs;
           gap_before = h.middle_start - end;
-          alloc =
-              b.alloc;
+          alloc = b.alloc;
           cost = b.cost;
         } in
-        let filled : Inside T A = record h { block = b; front_end = end } in
         let parts : length xs + (h.middle_start - end) ≡ v.gap_before =
         omega (arith, ends, fits, o.gap_before) in
-        let more : length (v.front ++ xs) ≡ end =
-        omega (arith, length-append v.front xs, o.front, ends) in
         let past : v.capacity - tail_end v ≡ v.capacity - tail_end w =
         omega (arith, length-append v.front xs, parts) in
         let long : length (filled_slots xs) ≡ length (empty_slots {T = T} (length xs)) =
@@ -228,24 +187,20 @@ module _ {T A : Type 0} where
         let split : empty_slots v.gap_before ++ left ≡ empty_slots (length xs)
         ++ (empty_slots (h.middle_start - end) ++ left) =
         ap (λ (k : ℕ). empty_slots k ++ left) (sym parts) ∙ simp (append_assoc, empty-more) in
-        let after : b.slots ≡ slots_of w =
-        now ∙ (ap (write_slots h.front_end (filled_slots xs))
-        (o.row ∙ ap (λ (r : List (Option T)). filled_slots v.front ++ r) split)
-        ∙ (written-at h.front_end (filled_slots v.front) (filled_slots xs) (empty_slots (length xs))
-        (empty_slots (h.middle_start - end) ++ left)
-        (sym (length-full v.front ∙ o.front)) long
-        ∙ rw past (simp (append_assoc, full-append)))) in
-        let shows : IsOpenViewOf filled w =
-        record {
-          row = after;
-          front = more;
+        found (record h { block = b; front_end = end }) w (record {
+          row = now ∙ (ap (write_slots h.front_end (filled_slots xs))
+              (o.row ∙ ap (λ (r : List (Option T)). filled_slots v.front ++ r) split)
+              ∙ (written-at h.front_end (filled_slots v.front) (filled_slots xs)
+              (empty_slots (length xs)) (empty_slots (h.middle_start - end) ++ left)
+              (sym (length-full v.front ∙ o.front)) long
+              ∙ rw past (simp (append_assoc, full-append))));
+          front = omega (arith, length-append v.front xs);
           gap_before = omega (arith, fits);
           middle = o.middle;
           gap_after = o.gap_after;
           tail = o.tail;
           room = o.room;
-        } in
-        found filled w shows refl refl
+        }) refl refl
 
   pub fill-view : (h : Inside T A) (o : IsOpen h) {v : OpenView T A} → open_view h ≡ v
       → (b : Block T A)
@@ -314,7 +269,6 @@ module _ {T A : Type 0} where
           length-append (to_tail v) (filled_slots v.tail),
           at_tail h v o,
           length-full v.tail,
-          o.tail,
         ) in
         ap (λ (r : List (Option T)). slot r j)
         (spare ∙ sym (append_assoc (to_tail v) (filled_slots v.tail) (empty_slots count ++ end)))
@@ -330,30 +284,16 @@ module _ {T A : Type 0} where
         omega (arith, length-full v.tail, o.tail) in
         let past : v.capacity - tail_end v - count ≡ v.capacity - tail_end widened-view =
         omega (arith, room, reached h v o) in
-        let turned : to_tail v ++ (empty_slots count ++ (filled_slots v.tail ++ end))
-        ≡ filled_slots v.front
-        ++ (empty_slots v.gap_before
-        ++ (filled_slots v.middle
-        ++ (empty_slots (v.gap_after + count) ++ (filled_slots v.tail ++ end)))) =
-        simp (append_assoc, empty-more) in
-        let after : b.slots ≡ slots_of widened-view =
-        now ∙ (ap (move_slots h.tail_start (h.tail_start + count) (h.tail_end - h.tail_start)) spare
-        ∙ (moved_right h.tail_start (h.tail_start + count) (h.tail_end - h.tail_start) count
-        (to_tail v) (filled_slots v.tail) end
-        (sym (at_tail h v o)) refl (sym k)
-        ∙ (turned ∙ ap (λ (n : ℕ). filled_slots v.front
-        ++ (empty_slots v.gap_before
-        ++ (filled_slots v.middle
-        ++ (empty_slots (v.gap_after + count) ++ (filled_slots v.tail ++ empty_slots n)))))
-        past))) in
-        let shows : IsOpenViewOf widened widened-view =
-        record {
-          row = after;
+        found widened widened-view (record {
+          row = now
+              ∙ (ap (move_slots h.tail_start (h.tail_start + count) (h.tail_end - h.tail_start)) spare
+              ∙ (moved_right h.tail_start (h.tail_start + count) (h.tail_end - h.tail_start) count
+              (to_tail v) (filled_slots v.tail) end (sym (at_tail h v o)) refl (sym k)
+              ∙ rw (← past) (simp (append_assoc, empty-more))));
           front = o.front;
           gap_before = o.gap_before;
           middle = o.middle;
           gap_after = omega (arith, o.gap_after);
           tail = omega (arith, o.tail);
           room = room;
-        } in
-        found widened widened-view shows refl refl
+        }) refl refl

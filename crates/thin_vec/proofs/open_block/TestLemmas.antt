@@ -4,14 +4,13 @@ use Rattle.std.proofs.Common.{◌≡◌, ℕ, ◌+◌, Bool, true, false, List, 
 use Rattle.std.proofs.lemmas.List.{append-nil, drop_at, map_push, take_at}
 use Rattle.thin_vec.specs.Edits.Retain.{TestResults, TestsInTurn, flags_of, items_where, all_kept, count_true}
 use Rattle.thin_vec.specs.OpenBlock.Retain.{TestsAt, TestsUpTo, IsRemovedFirst}
-use Rattle.thin_vec.proofs.RetainLemmas.{cons-head, cons-not-nil, cons-tail, items_where-append, items_where-stay, count_true-append, count_true-stay}
+use Rattle.thin_vec.proofs.RetainLemmas.{cons-head, cons-not-nil, cons-tail, items_where-append, items_where-stay, same-parts, count_true-append, count_true-stay}
 
 module _ {S T : Type 0} (R : S → T → Bool → S → T → Type 0) where
   module _ (t u : S) (ys : List T) (b : TestResults T) (k : TestsInTurn R t ys b u) where
     pub asked-append : (xs : List T) (s : S) (a : TestResults T) → TestsInTurn R s xs a t
         → TestsInTurn R s (xs ++ ys) (a ++ b) u
-    asked-append [] s a h = subst (λ (c : TestResults T). TestsInTurn R s ys (c ++ b) u) (sym h.0)
-        (subst (λ (q : S). TestsInTurn R q ys b u) h.1 k)
+    asked-append [] s a h = rw (h.0, ← h.1) k
     asked-append (x ∷ xs) s a h = (
       h.0,
       h.1,
@@ -55,12 +54,9 @@ module _ {S T : Type 0} (R : S → T → Bool → S → T → Type 0) where
     next-parts : (b : Bool) (u : S) (zs : List T) (a : TestsAt R m t ys b u zs)
         → (a.before ≡ h.left) × (h.more ≡ a.item ∷ a.after)
     next-parts b u zs a =
-        let e : h.left ++ h.more ≡ a.before ++ a.item ∷ a.after = sym h.now ∙ a.was in (
-          sym (take_at a.before (a.item ∷ a.after) m a.place)
-              ∙ (ap (take m) (sym e) ∙ take_at h.left h.more m h.reached),
-          sym (drop_at h.left h.more m h.reached)
-              ∙ (ap (drop m) e ∙ drop_at a.before (a.item ∷ a.after) m a.place),
-        )
+        let p = same-parts h.left h.more a.before (a.item ∷ a.after) (h.reached ∙ sym a.place)
+        (sym h.now ∙ a.was) in
+        (sym p.0, p.1)
 
     next-now : (b : Bool) (u : S) (zs : List T) (a : TestsAt R m t ys b u zs)
         → zs ≡ h.left ++ a.left ∷ a.after
@@ -69,8 +65,6 @@ module _ {S T : Type 0} (R : S → T → Bool → S → T → Type 0) where
     pub stays-more : (u : S) (zs : List T) → TestsAt R m t ys true u zs
         → Stays (m + 1) s xs u zs
     stays-more u zs a =
-        let joined : all_kept h.left ++ (true, a.left) ∷ [] ≡ all_kept (h.left ++ a.left ∷ []) =
-        sym (map_push (λ (x : T). (true, x)) h.left a.left) in
         record {
           run = h.run ++ a.item ∷ [];
           left = h.left ++ a.left ∷ [];
@@ -78,7 +72,7 @@ module _ {S T : Type 0} (R : S → T → Bool → S → T → Type 0) where
           reached = omega (arith, h.reached, length-append h.left (a.left ∷ []));
           was = h.was ∙ (ap (λ (l : List T). h.run ++ l) (next-parts true u zs a).1
               ∙ sym (append_assoc h.run (a.item ∷ []) a.after));
-          asked = subst (λ (c : TestResults T). TestsInTurn R s (h.run ++ a.item ∷ []) c u) joined
+          asked = rw map_push
               (asked-append t u (a.item ∷ []) ((true, a.left) ∷ [])
               (asked-one t u a.item a.left true a.asked) h.run s (all_kept h.left) h.asked);
           now = next-now true u zs a ∙ sym (append_assoc h.left (a.left ∷ []) a.after);
@@ -145,15 +139,11 @@ module _ {S T : Type 0} (R : S → T → Bool → S → T → Type 0) where
           left = items_where-append (all_kept r.left) ((false, v) ∷ [])
               ∙ (append-nil (items_where true (all_kept r.left))
               ∙ (items_where-stay r.left ∙ sym run-kept));
-          count = let none : count_true
-              (flags_of (let one : TestResults T = (false, v) ∷ [] in one)) ≡ 0 =
-              refl in omega (
-                arith,
-                count_true-append (all_kept r.left) ((false, v) ∷ []),
-                count_true-stay r.left,
-                r.reached,
-                none,
-              );
+          count = omega (
+            arith,
+            count_true-append (all_kept r.left) ((false, v) ∷ []),
+            count_true-stay r.left,
+          );
         }
 
     pub stop-ends : (u : S) (b e : List T) → IsRemovedFirst R u b t e → e ≡ [] → (b ≡ []) × (t ≡ u)

@@ -1,7 +1,7 @@
 -- These lemmas are for the `dedup` methods. They state how contracts see an open block after items
 -- have been written into one or two of its slots.
 use Rattle.std.proofs.Common.{◌≡◌, ◌≢◌, ℕ, zero, suc, ◌+◌, ◌-◌, ◌<◌, ◌≤◌, List, [], ◌∷◌, ◌++◌, Option, Some, None, length, take, drop, refl, sym, ap, ◌∙◌, arith, length-append, append_assoc, get_or}
-use Rattle.std.proofs.lemmas.List.{drop_at, get_or_at, get_or-set_other, length-drop, length-take-le, length_push, set_at, take_at}
+use Rattle.std.proofs.lemmas.List.{get_or_at, get_or-set_other, length-drop, length-take-le, length_push, set_at}
 use Rattle.std.specs.Prelude.{IsSome, slice_range}
 use lib.ListN.{set}
 use Rattle.thin_block.proofs.BlockLemmas.{slots-are}
@@ -9,10 +9,10 @@ use Rattle.thin_block.specs.Block.{BlockView, block_view}
 use Rattle.thin_block.specs.Lends.{overwrite_items, set_slot}
 use Rattle.thin_block.specs.Slots.{empty_slots, filled_slots, slot}
 use Rattle.thin_block.specs.declared.block.Block.{Block}
-use Rattle.thin_vec.specs.OpenBlock.{IsOpen, IsOpenViewOf, open_view}
+use Rattle.thin_vec.specs.OpenBlock.{IsOpen, open_view}
 use Rattle.thin_vec.specs.OpenView.{OpenView, tail_end, slots_of}
 use Rattle.thin_vec.specs.declared.open_block.OpenBlock.TheInside.{Inside}
-use Rattle.thin_vec.proofs.RetainLemmas.{cons-head, cons-not-nil, cons-tail, single}
+use Rattle.thin_vec.proofs.RetainLemmas.{cons-head, cons-not-nil, cons-tail, same-parts, single}
 use Rattle.thin_block.proofs.ResultLemmas.{some-same}
 use Rattle.thin_vec.proofs.OpenBlockLemmas.{Found, found, last-of, past_middle, slot-in-full}
 use Rattle.thin_vec.proofs.ListLemmas.{length-full}
@@ -71,10 +71,8 @@ module _ {T : Type 0} where
           arith,
           length-full all,
           ap length lent',
-          few,
           ap length cut,
           length-append a b,
-          one,
         ) in
         let p = single a one in
         let q = single b two in
@@ -113,10 +111,7 @@ module _ {T A : Type 0} where
         let one = write-step h o c k (omega arith) x x' first refl in
         let m : Inside T A = written h o c k (omega arith) in
         let next : suc (h.middle_start + k) ≡ h.middle_start + suc k = omega arith in
-        let apart : suc (h.middle_start + k) ≢ h.middle_start + k =
-        λ e. let n : suc (h.middle_start + k)
-        ≡ h.middle_start + k =
-        e in omega (arith, n) in
+        let apart : suc (h.middle_start + k) ≢ h.middle_start + k = omega arith in
         let middle : (open_view m).middle ≡ one.pre ++ x' ∷ one.post =
         ap (λ v. v.middle) one.shown.view in
         let count : length (one.pre ++ x' ∷ one.post) ≡ length (open_view h).middle =
@@ -134,24 +129,17 @@ module _ {T A : Type 0} where
         (omega (arith, low, ap length middle, count)) y y' there
         (slots-are kept (now ∙ ap (λ (n : ℕ). set c.slots n (Some y')) next)) in
         let same : one.pre ++ x' ∷ one.post ≡ two.pre ++ y ∷ two.post = sym middle ∙ two.was in
-        let long : length (one.pre ++ x' ∷ []) ≡ suc k =
-        omega (arith, length_push one.pre x', one.place) in
-        let same' : (one.pre ++ x' ∷ []) ++ one.post ≡ two.pre ++ y ∷ two.post =
-        append_assoc one.pre (x' ∷ []) one.post ∙ same in
-        let left : one.pre ++ x' ∷ [] ≡ two.pre =
-        sym (take_at (one.pre ++ x' ∷ []) one.post (suc k) long)
-        ∙ (ap (take (suc k)) same' ∙ take_at two.pre (y ∷ two.post) (suc k) two.place) in
-        let right : one.post ≡ y ∷ two.post =
-        sym (drop_at (one.pre ++ x' ∷ []) one.post (suc k) long)
-        ∙ (ap (drop (suc k)) same' ∙ drop_at two.pre (y ∷ two.post) (suc k) two.place) in
+        let parts = same-parts (one.pre ++ x' ∷ []) one.post two.pre (y ∷ two.post)
+        (omega (arith, length_push one.pre x', one.place, two.place))
+        (append_assoc one.pre (x' ∷ []) one.post ∙ same) in
         let final : two.pre ++ y' ∷ two.post ≡ one.pre ++ x' ∷ y' ∷ two.post =
-        ap (λ (l : List T). l ++ y' ∷ two.post) (sym left)
+        ap (λ (l : List T). l ++ y' ∷ two.post) (sym parts.0)
         ∙ append_assoc one.pre (x' ∷ []) (y' ∷ two.post) in
         record {
           pre = one.pre;
           post = two.post;
           place = one.place;
-          was = one.was ∙ ap (λ (l : List T). one.pre ++ x ∷ l) right;
+          was = one.was ∙ ap (λ (l : List T). one.pre ++ x ∷ l) parts.1;
           shown = record {
             lies = two.shown.lies;
             view = two.shown.view
@@ -196,22 +184,18 @@ module _ {T A : Type 0} where
       ∙ ap (λ (r : List (Option T)). filled_slots (pre ++ y ∷ [])
       ++ (empty_slots v.gap_before ++ (filled_slots v.middle ++ r)))
       (same-past v w refl refl left)))) in
-      let i : Inside T A =
-      record h { block = b } in
-      let shows : IsOpenViewOf i w = record {
-        row = after;
-        front = count ∙ o.front;
-        gap_before = o.gap_before;
-        middle = o.middle;
-        gap_after = o.gap_after;
-        tail = o.tail;
-        room = o.room;
-      } in
       record {
         pre = pre;
         was = p.2 ∙ ap (λ (q : T). pre ++ q ∷ []) same;
-        shown = found i w shows (ap (λ (z : BlockView T A). z.alloc) now)
-            (ap (λ (z : BlockView T A). z.cost) now);
+        shown = found (record h { block = b }) w (record {
+          row = after;
+          front = count ∙ o.front;
+          gap_before = o.gap_before;
+          middle = o.middle;
+          gap_after = o.gap_after;
+          tail = o.tail;
+          room = o.room;
+        }) (ap (λ z. z.alloc) now) (ap (λ z. z.cost) now);
       }
 
   pub last-filled : (h : Inside T A) (o : IsOpen h) → 0 < length (open_view h).front

@@ -21,16 +21,7 @@ facts g c =
     let o = c.self.invariant in
     let gap_before = ap (λ v. v.gap_before) c.self.view_is in
     let low : h.front_end < length h.block.slots =
-    omega (
-      arith,
-      c.requires.gap_before,
-      gap_before,
-      o.gap_before,
-      o.middle,
-      o.gap_after,
-      o.tail,
-      o.room,
-    ) in
+    omega arith in
     fill-view h o c.self.view_is c.put.new.self (c.args.value ∷ []) (h.front_end + 1) refl
     (omega (arith, c.requires.gap_before))
     (c.put.ensures.changes ∙ (λ i. record (block_view h.block) {

@@ -1,5 +1,5 @@
 -- There are no middle items, so the gap before them and the gap after them form one gap.
-use Rattle.std.proofs.Common.{◌+◌, ap, sym, ◌∙◌}
+use Rattle.std.proofs.Common.{ap, ◌∙◌}
 use Rattle.thin_vec.proofs.OpenBlockLemmas.{Found}
 use Rattle.thin_vec.proofs.open_block.StepLemmas.{join-step, joined, joined-view}
 use Rattle.thin_vec.proofs.open_block.OpenBlock.merge_gaps.Goals as goal
@@ -13,5 +13,4 @@ pub invariant_of-self : goal.invariant_of-self
 invariant_of-self g c = (facts g c).lies
 
 pub returns : goal.returns
-returns g c = (facts g c).view ∙ (λ i. let v = c.self.view_is i in record v
-    { gap_before = v.gap_before + v.gap_after; middle = sym c.requires.no_middle i; gap_after = 0 })
+returns g c = cc ((facts g c).view, c.self.view_is, c.requires.no_middle)

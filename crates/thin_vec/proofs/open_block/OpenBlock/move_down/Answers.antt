@@ -21,14 +21,7 @@ close_gap-block-requires-clause-filled g c = λ j low high.
     let o = c.self.invariant in
     subst (λ b. IsSome (slot b.slots j)) (sym c.replace-block.ensures.value)
     (middle-filled c.self.inside (open_view c.self.inside) o j (omega (arith, low, o.gap_before))
-    (omega (
-      arith,
-      high,
-      o.gap_before,
-      o.middle,
-      c.requires.in_bounds,
-      ap (λ v. length v.middle) c.self.view_is,
-    )))
+    (omega (arith, ap (λ v. length v.middle) c.self.view_is)))
 
 facts : (g : _) (c : goal.After-self-2-1 g)
     → let low : c.args.k ≤ length (open_view c.self.inside).middle =

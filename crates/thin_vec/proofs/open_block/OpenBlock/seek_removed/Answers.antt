@@ -39,8 +39,6 @@ returns-then-not-test-clause-tested g c =
     c.test.ensures.changes (search rules)
     (omega (
       arith,
-      c.if-self.false,
-      c.self.invariant.gap_before,
       ap (λ u. u.gap_before)
           c.self.view_is,
     ))

@@ -40,14 +40,11 @@ stored : (g : _) (c : goal.After-self-2-1 g)
       cost = add_moves (h.tail_end - h.tail_start) h.block.cost;
     }
 stored g c =
-    let h = c.self.inside in
-    let k : ℕ = h.tail_end - h.tail_start in
-    ap block_view c.replace-none.ensures.after
-    ∙ (c.open_gap-block.ensures.changes
-    ∙ (λ i. let v = block_view (c.replace-block.ensures.value i) in record v {
-      slots = move_slots h.tail_start (h.tail_start + c.args.count) k v.slots;
-      cost = add_moves k v.cost;
-    }))
+    cc (
+      c.replace-none.ensures.after,
+      c.open_gap-block.ensures.changes,
+      c.replace-block.ensures.value,
+    )
 
 facts : (g : _) (c : goal.After-self-2-1 g)
     → let room = fits c.self.inside c.args.self.now c.args.count c.self.invariant

@@ -12,14 +12,7 @@ pub slice_mut-requires-clause-filled : goal.slice_mut-requires-clause-filled
 slice_mut-requires-clause-filled g c = λ j low high.
     let o = c.self.invariant in
     middle-filled c.self.inside (open_view c.self.inside) o j (omega (arith, low))
-    (omega (
-      arith,
-      high,
-      o.middle,
-      c.requires.in_bounds,
-      c.requires.nonzero,
-      ap (λ v. length v.middle) c.self.view_is,
-    ))
+    (omega (arith, ap (λ v. length v.middle) c.self.view_is))
 
 pub split_at_mut-kept-requires : goal.split_at_mut-kept-requires
 split_at_mut-kept-requires g c = grind (arith, common_steps)
@@ -39,23 +32,9 @@ facts g c =
     let parts = c.split_at_mut-kept in
     let at = h.middle_start + (c.args.k - 1) in
     let low : suc (c.args.k - 1) < length (open_view h).middle =
-    omega (
-      arith,
-      c.requires.in_bounds,
-      c.requires.nonzero,
-      ap (λ v. length v.middle) c.self.view_is,
-    ) in
+    omega (arith, ap (λ v. length v.middle) c.self.view_is) in
     let within : at + 2 ≤ length h.block.slots =
-    omega (
-      arith,
-      o.middle,
-      o.gap_after,
-      o.tail,
-      o.room,
-      c.requires.in_bounds,
-      c.requires.nonzero,
-      ap (λ v. length v.middle) c.self.view_is,
-    ) in
+    omega (arith, ap (λ v. length v.middle) c.self.view_is) in
     let two = parts-of h.block.slots at c.slice_mut.result.now parts.result.0.now
     parts.result.1.now within c.slice_mut.ensures.value parts.ensures.value (search rules)
     c.test.new.kept c.test.new.later c.index-kept-0.is c.index-later-0.is in
