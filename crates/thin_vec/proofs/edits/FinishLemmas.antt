@@ -147,7 +147,6 @@ module _ {S T A : Type 0} {steps : S → Option T → S → Type 0} {can : S →
             ap length wide.tail,
             length-take-le at u.items wide.in_bounds,
             length-drop at u.items,
-            wide.in_bounds,
           ))
           (omega (arith, all.2, few)) (p.1.alloc ∙ from)
 
@@ -265,13 +264,7 @@ module _ {S T A : Type 0} {steps : S → Option T → S → Type 0} {can : S →
             ap (λ z. z.items) err ∙ p.items,
             stopped-more steps can remaining s t xs e p.gave placed,
           );
-          range = λ _. omega (
-            arith,
-            ap (λ z. length z.items) err,
-            reached-long p,
-            p.ends,
-            p.full,
-          );
+          range = λ _. omega (arith, ap (λ z. length z.items) err, reached-long p);
           held = λ none. absurd (omega (arith, some, ap length none));
           in_hand = λ none. absurd (omega (arith, some, ap length none));
           cause = cause;

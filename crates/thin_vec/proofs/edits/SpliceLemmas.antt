@@ -1,6 +1,6 @@
 -- These lemmas are about `Splice::finish`, which replaces a range of a list with the items of an
 -- iterator. They state what `finish` costs, which items the iterator yields, and why a call fails.
-use Rattle.std.proofs.Common.{if◌then◌else◌, inl, inr, Option, Some, None, append_assoc, drop, take, subst, ◌≡◌, ℕ, ◌+◌, ◌-◌, ◌*◌, ◌^◌, ◌<◌, ◌≤◌, Bool, true, false, eqb, List, [], ◌∷◌, ◌++◌, ap, arith, length, length-append, refl, sym, ◌∙◌}
+use Rattle.std.proofs.Common.{if◌then◌else◌, inl, inr, Option, Some, None, append_assoc, drop, take, subst, ◌≡◌, ℕ, ◌+◌, ◌-◌, ◌<◌, ◌≤◌, Bool, true, false, eqb, List, [], ◌∷◌, ◌++◌, ap, arith, length, length-append, refl, sym, ◌∙◌}
 use Rattle.std.proofs.lemmas.List.{append-nil, drop_at, length-drop, length-take-le, take_at}
 use Rattle.std.specs.Borrow.{RattleType}
 use Rattle.std.specs.Option.{option_to_list}
@@ -25,6 +25,7 @@ use Rattle.thin_vec.specs.declared.errors.ExtendRefused.{ExtendRefused}
 use Rattle.thin_vec.specs.declared.errors.SpliceRefused.{SpliceRefused}
 use Rattle.thin_vec.proofs.list.ExtendLemmas.{inserting-join, filled-reserved, at_least-join, at_least-le, at_least-ruled, yields-join}
 use Rattle.thin_vec.proofs.RetainLemmas.{moving-more, moving-none}
+use Rattle.thin_vec.proofs.list.ReservesLemmas.{cheap-kept}
 use Rattle.thin_vec.proofs.ThinVecLemmas.{cap-kept, cost_after_resize-copied}
 
 -- Closing `w` takes at most one move for each tail item, and none if `w` has no gap.
@@ -57,11 +58,8 @@ closed-moves v w n paid none same count = go (eqb w.gap_before 0) refl
               ∙ moving-more (length v.tail) n v.cost),
           omega arith,
           λ z. let t : eqb w.gap_before 0 ≡ true = grind (arith, nat_tests, z) in
-              absurd (false-true (sym e ∙ t)),
+              cc,
         )
-      where
-        false-true : false ≡ true → ⊥
-        false-true h = cc
 
 -- A first step makes `n` moves, or none if `count` is 0. `k + m` more moves follow it.
 pub run-moves : (count n k m : ℕ) (c d : Cost) → d ≡ (if eqb count 0 then c else add_moves n c)
@@ -101,13 +99,8 @@ module _ {S X : Type 0} (steps : S → Option X → S → Type 0) where
 module _ {T A : Type 0} where
   pub inserting-run : (v w : ListView T A) (k m n : ℕ) → w.cost ≡ add_moves (k + m) v.cost
       → w.capacity ≡ v.capacity → length w.items ≡ length v.items + k → m ≤ n → CostsInserting v w n
-  inserting-run v w k m n e same long few = record {
-    copied = omega (arith, ap (λ c. c.grown) e, same);
-    least = omega (arith, ap (λ c. c.moves) e, long);
-    moves = omega (arith, ap (λ c. c.moves) e, long, few);
-    kept = λ _. (ap (λ c. c.blocks) e, ap (λ c. c.grown) e);
-    grown = λ more. absurd (omega (arith, more, same));
-  }
+  inserting-run v w k m n e same long few =
+      omega (arith, ap (λ c. c.blocks) e, ap (λ c. c.grown) e, ap (λ c. c.moves) e)
 
 pub if-err : {X E : Type 0} {P Q : E → Type 0} (r : Result X E) → ((e : E) → r ≡ Err e → P e → Q e)
     → IfErr r P → IfErr r Q
@@ -127,7 +120,6 @@ inserted-long xs ys at in_bounds =
       length-append (take at xs) ys,
       length-take-le at xs in_bounds,
       length-drop at xs,
-      in_bounds,
     )
 
 module _ {S X : Type 0} (steps : S → Option X → S → Type 0) where
@@ -244,12 +236,7 @@ module _ {T A : Type 0} where
       let free : cost_closed v ≡ v.cost =
       unmoved (eqb v.gap_before 0) v.cost (length v.middle + length v.tail)
       (omega (arith, ap length none, ap length no_tail)) in
-      λ i. record {
-        items = v.front ++ (none i ++ v.tail);
-        capacity = v.capacity;
-        alloc = u.alloc;
-        cost = free i;
-      }
+      cc (none, free)
 
   pub between-more : (v : OpenView T A) (us xs ys : List T) (end : ℕ) → us ≡ with_replacement v xs
       → end ≡ length v.front + length xs
@@ -283,19 +270,7 @@ module _ (rule : GrowthRule) (R : RattleType) {T A : Type 0} where
     had_room = λ _. same;
     cost = inserting-run v w k m n paid same long few;
     alloc = from;
-    cheap = λ p. record {
-      none = λ z. let f = p.none (omega (arith, z, same)) in
-          (ap (λ c. c.blocks) paid ∙ f.0, ap (λ c. c.grown) paid ∙ f.1);
-      grown = λ some. omega (
-        arith,
-        p.grown (omega (arith, some, same)),
-        ap (λ c. c.grown) paid,
-        same,
-      );
-      blocks = λ some. subst (λ b. 2 ^ b ≤ 2 * w.capacity) (sym (ap (λ c. c.blocks) paid))
-          (subst (λ d. 2 ^ v.cost.blocks ≤ 2 * d) (sym same)
-          (p.blocks (omega (arith, some, same))));
-    };
+    cheap = cheap-kept R v w same (ap (λ c. c.blocks) paid, ap (λ c. c.grown) paid);
   }
 
   pub taken-none : (v w : ListView T A) (n : ℕ) (left : Count) → w ≡ v

@@ -28,7 +28,6 @@ loop-rest-init g c =
       );
       fewer = omega (
         arith,
-        c.loop-refused.invariant.fewer,
         ap length c.push_reserved.ensures.items,
         ap length c.in-Ok.ensures.items,
         length_push c.reserve.new.self.items c.loop-refused.next,
@@ -53,8 +52,6 @@ loop-rest-preserved g c =
       );
       fewer = omega (
         arith,
-        l.invariant.fewer,
-        goes.2,
         ap length c.push_reserved-in-loop-rest.ensures.items,
         length_push l.held.items c.in-Some.item,
       );
