@@ -30,8 +30,8 @@ pub struct Ledger {
     pub hints: Cell<u64>,
     /// The number of calls to closures that call `Ledger::called`.
     pub calls: Cell<u64>,
-    /// The last digits of the numbers of the counted items that were dropped, in this order, as
-    /// the digits of a decimal number.
+    /// A sum over the numbers of the counted items that were dropped. It depends on their order:
+    /// `Ledger::add_drop` says how.
     pub dropped: Cell<u64>,
 }
 
@@ -70,6 +70,15 @@ impl Ledger {
         ] {
             cell.set(0);
         }
+    }
+
+    /// Returns the sum `dropped` after one more drop, of the item with the given number. A drop in
+    /// another order, however early, changes the sum.
+    pub fn add_drop(dropped: u64, number: u64) -> u64 {
+        dropped
+            .wrapping_mul(1_000_003)
+            .wrapping_add(number)
+            .wrapping_add(1)
     }
 
     /// Counts a call to a closure, and returns the number of earlier calls.
@@ -145,8 +154,9 @@ impl<P: Drop> Drop for Counted<'_, P> {
             payload: _,
         } = self;
         ledger.live.set(ledger.live.get().saturating_sub(1));
-        let dropped = ledger.dropped.get().wrapping_mul(10);
-        ledger.dropped.set(dropped.wrapping_add(number % 10));
+        ledger
+            .dropped
+            .set(Ledger::add_drop(ledger.dropped.get(), number));
     }
 }
 

@@ -1,82 +1,329 @@
-//! A test of the order in which items are dropped: from the first to the last, as in Rust.
-use crate::tests::support::{assert_len, assert_same};
+//! Tests of the order in which items are dropped: from the first to the last, as in Rust.
+ghost use Rattle.std.specs.Iterator.{IsFinite};
+ghost use Rattle.std.specs.Prelude.{◌≤◌, length};
+ghost use Rattle.thin_vec.specs.Edits.Splice.{SpliceKeeps};
+
+use crate::tests::support::assert_same;
 use std::alloc::Allocator;
-use std::iter::empty;
+use std::iter::Iterator;
 use std::process::Abort;
 use std::test::Fail;
-use thin_testing::{Counted, Ledger, List, Numbered, counted_list, filled_list, splice};
-use thin_vec::{Doubling, ThinVec, ThinVecError};
+use thin_testing::{Counted, Ledger, Lender, List, Numbered, filled_list, numbered_items};
+use thin_vec::{Doubling, Splice, SpliceRefused, ThinVec, ThinVecError};
 
-// Removes items of a list of `len` items by one of several calls, and drops the list.
-fn remove_by_way<T: Drop, A: Allocator>(
-    rt: &impl Abort,
-    way: u32,
-    mut list: ThinVec<T, A>,
+// A call that removes the items of a range.
+#[derive(Clone, Copy, PartialEq, Debug)]
+enum Call {
+    Drop,
+    IntoIter,
+    Clear,
+    Truncate,
+    Resize,
+    Retain,
+    RetainMut,
+    DedupBy,
+    DedupByKey,
+    Drain,
+    ExtractIf,
+    Splice,
+    ReplaceRange,
+    ReplaceRangeFromList,
+}
+
+const CALLS: [Call; 14] = [
+    Call::Drop,
+    Call::IntoIter,
+    Call::Clear,
+    Call::Truncate,
+    Call::Resize,
+    Call::Retain,
+    Call::RetainMut,
+    Call::DedupBy,
+    Call::DedupByKey,
+    Call::Drain,
+    Call::ExtractIf,
+    Call::Splice,
+    Call::ReplaceRange,
+    Call::ReplaceRangeFromList,
+];
+
+// The number of the value that `resize` drops.
+const VALUE: u64 = 5000;
+
+// A call on a list of `len` items, whose numbers are their indices.
+#[derive(Clone, Copy, PartialEq, Debug)]
+struct Case {
+    call: Call,
     len: usize,
-) {
-    assert_len(rt, &list, len);
-    assert!(rt; len > 1);
-    match way {
-        0 => list.truncate(2),
-        1 => list.clear(),
-        2 => list.retain(|_item| false),
-        3 => list.dedup_by(|_later, _kept| true),
-        4 => drop(list.drain(1, len - 1)),
-        5 => {
-            let mut drain = list.drain(1, len);
-            drop(drain.next());
-            drop(drain.next_back());
-        }
-        6 => {
-            drop(list.into_iter());
-            return;
-        }
-        7 => {
-            let mut rest = list.into_iter();
-            drop(rest.next());
-            drop(rest.next_back());
-            return;
-        }
-        _ => (),
-    }
-    drop(list);
+    // The range.
+    start: usize,
+    end: usize,
+    // The number of items that are taken from the front of the range, and then from its back, at
+    // most 3 from each. Each of them is dropped at once.
+    fronts: usize,
+    backs: usize,
+    // The number of items that replace the range. Their numbers follow those of the list.
+    new: usize,
 }
 
-// Appends the last digits of the numbers `from..to` to the decimal number `digits`, as a ledger does
-// when it counts the dropped items.
-fn then(digits: u64, from: u64, to: u64) -> u64 {
-    let mut digits = digits;
+impl Case {
+    // Returns whether the call can have this range, these items taken and these new items.
+    fn is_possible(self) -> bool {
+        let takes_none = self.fronts == 0 && self.backs == 0;
+        let is_whole = self.start == 0 && self.end == self.len;
+        match self.call {
+            Call::Drop | Call::Clear => is_whole && takes_none && self.new == 0,
+            Call::IntoIter => is_whole && self.new == 0,
+            Call::Truncate | Call::Resize => self.end == self.len && takes_none && self.new == 0,
+            Call::Retain | Call::RetainMut => takes_none && self.new == 0,
+            Call::DedupBy | Call::DedupByKey => self.start > 0 && takes_none && self.new == 0,
+            Call::Drain => self.new == 0,
+            Call::ExtractIf => self.backs == 0 && self.new == 0,
+            Call::Splice => true,
+            Call::ReplaceRange | Call::ReplaceRangeFromList => takes_none,
+        }
+    }
+
+    // Returns whether the item at the index is in the range.
+    fn holds(self, index: u64) -> bool {
+        self.start as u64 <= index && index < self.end as u64
+    }
+
+    // Returns the sum over all drops, as the ledger computes it: those by the call, and then those of
+    // the items that are left in the list.
+    fn dropped(self) -> u64 {
+        let first = self.start.saturating_add(self.fronts).min(self.end);
+        let last = self.end.saturating_sub(self.backs).max(first);
+        let mut sum = then(0, self.start, first);
+        for back in last..self.end {
+            let before = back.saturating_sub(last).saturating_add(1);
+            let number = self.end.saturating_sub(before);
+            sum = then(sum, number, number.saturating_add(1));
+        }
+        let stays = self.call == Call::ExtractIf;
+        if !stays {
+            sum = then(sum, first, last);
+        }
+        if self.call == Call::Resize {
+            sum = Ledger::add_drop(sum, VALUE);
+        }
+        sum = then(sum, 0, self.start);
+        sum = then(sum, self.len, self.len.saturating_add(self.new));
+        if stays {
+            sum = then(sum, first, last);
+        }
+        then(sum, self.end, self.len)
+    }
+}
+
+// Adds the drops of the items from number `from` up to, but not including, `to`.
+fn then(sum: u64, from: usize, to: usize) -> u64 {
+    let mut sum = sum;
     for number in from..to {
-        digits = digits.wrapping_mul(10).wrapping_add(number % 10);
+        sum = Ledger::add_drop(sum, number as u64);
     }
-    digits
+    sum
 }
 
-// Returns in which order `remove_by_way` has to drop the items, whose numbers count from 0.
-fn order(way: u32, len: u64) -> u64 {
-    let last = len.saturating_sub(1);
-    match way {
-        0 => then(then(0, 2, len), 0, 2),
-        3 => then(then(0, 1, len), 0, 1),
-        4 => then(then(then(0, 1, last), 0, 1), last, len),
-        5 => then(then(then(then(0, 1, 2), last, len), 2, last), 0, 1),
-        7 => then(then(then(0, 0, 1), last, len), 1, last),
-        _ => then(0, 0, len),
-    }
-}
-
-// Tries each call on lists of several lengths.
-fn assert_in_order<T: Numbered>(
+// Makes the call on a new list, and drops the list. Returns the sum over all drops.
+#[inline(never)]
+fn drops_of<T: Numbered>(
     rt: &impl Abort,
     ledger: &'static Ledger,
+    case: Case,
+) -> Result<u64, Fail> {
+    let list: List<T, Doubling> = filled_list(ledger, case.len, 0)?;
+    let items = numbered_items(ledger, &ledger.alloc, case.len as u64, case.new)?;
+    ledger.begin(0);
+    match case.call {
+        Call::Drop => drop(list),
+        Call::IntoIter => drop_iterator(list, case),
+        Call::ReplaceRange => replace_range(rt, ledger, list, case, items.as_slice())?,
+        _ => make_call(rt, ledger, list, case, items)?,
+    }
+    Ok(ledger.dropped.get())
+}
+
+// Takes items from an `IntoIter`, and drops it.
+fn drop_iterator<T: Drop, A: Allocator>(list: ThinVec<T, A>, case: Case) {
+    let mut rest = list.into_iter();
+    for _ in 0..case.fronts {
+        drop(rest.next());
+    }
+    for _ in 0..case.backs {
+        drop(rest.next_back());
+    }
+}
+
+// Replaces the range by clones of the items, and drops the list, but not the items.
+fn replace_range<T: Numbered>(
+    rt: &impl Abort,
+    ledger: &'static Ledger,
+    mut list: List<T, Doubling>,
+    case: Case,
+    items: &[T],
 ) -> Result<(), ThinVecError> {
-    for len in [5, 17, 40] {
-        for way in 0..9 {
-            let list: List<T, Doubling> = filled_list(ledger, len, 0)?;
-            ledger.begin(0);
-            remove_by_way(rt, way, list, len);
-            let dropped = ledger.dropped.get();
-            assert_same(rt, (len, way, dropped), (len, way, order(way, len as u64)));
+    assert!(rt; case.start <= case.end && case.end <= list.len());
+    list.replace_range(&ledger.alloc, case.start, case.end, items)
+}
+
+// Makes a call that borrows the list, and drops the list.
+fn make_call<T: Numbered>(
+    rt: &impl Abort,
+    ledger: &'static Ledger,
+    mut list: List<T, Doubling>,
+    case: Case,
+    items: Vec<T, Lender>,
+) -> Result<(), Fail> {
+    match case.call {
+        Call::Clear => list.clear(),
+        Call::Truncate => list.truncate(case.start),
+        Call::Resize => list.resize(case.start, T::numbered(ledger, VALUE))?,
+        Call::Retain => list.retain(move |_item| !case.holds(ledger.called())),
+        Call::RetainMut => list.retain_mut(move |_item| !case.holds(ledger.called())),
+        Call::DedupBy => list.dedup_by(move |_later, _kept| {
+            case.holds(ledger.called().saturating_add(1))
+        }),
+        Call::DedupByKey => list.dedup_by_key(move |_item| key(case, ledger.called())),
+        _ => {
+            assert!(rt; case.start <= case.end && case.end <= list.len());
+            edit_range(list, ledger, case, items)?;
+        }
+    }
+    Ok(())
+}
+
+// Returns the key of an item. Two calls compare a later item, whose call is the first, with the item
+// that was kept before it. The keys are equal if the later item is in the range.
+fn key(case: Case, call: u64) -> bool {
+    call % 2 == 0 && !case.holds((call / 2).saturating_add(1))
+}
+
+// Makes a call that takes the bounds of the range, and drops the list.
+fn edit_range<T: Numbered>(
+    mut list: List<T, Doubling>,
+    ledger: &'static Ledger,
+    case: Case,
+    items: Vec<T, Lender>,
+) -> Result<(), Fail>
+    requires start_le_end { case.start ≤ case.end }
+    requires in_bounds { case.end ≤ length list.items }
+{
+    match case.call {
+        Call::Drain => {
+            let mut drain = list.drain(case.start, case.end);
+            for _ in 0..case.fronts {
+                drop(drain.next());
+            }
+            for _ in 0..case.backs {
+                drop(drain.next_back());
+            }
+        }
+        Call::ExtractIf => {
+            let mut extract = list.extract_if(case.start, case.end, |_item: &mut T| true);
+            for _ in 0..case.fronts {
+                drop(extract.next());
+            }
+        }
+        Call::Splice => splice(&mut list, case, items.into_iter(), &ledger.alloc)?,
+        _ => {
+            let mut other = ThinVec::from_vec(&ledger.alloc, items)?;
+            list.replace_range_from_list(case.start, case.end, &mut other)?;
+        }
+    }
+    Ok(())
+}
+
+// Takes items from a `Splice`, and calls `finish`.
+fn splice<T: Drop, A: Allocator, I: Iterator<Item = T>>(
+    list: &mut ThinVec<T, A>,
+    case: Case,
+    iter: I,
+    alloc: A,
+) -> Result<(), SpliceRefused<T, I, A>>
+    requires start_le_end { case.start ≤ case.end }
+    requires in_bounds { case.end ≤ length list.old.items }
+    requires can_next { I.can_next iter }
+    requires finite { IsFinite (I.remaining iter) }
+{
+    let mut splice = list.splice(case.start, case.end, iter);
+    take_fronts(&mut splice, case.fronts);
+    take_backs(&mut splice, case.backs);
+    splice.finish(alloc)
+}
+
+// Calls `next` at most 3 times. A loop would need an invariant.
+fn take_fronts<T: Drop, A: Allocator, I>(splice: &mut Splice<'_, I, T, A>, count: usize)
+    ensures keeps { SpliceKeeps splice.old splice.new }
+{
+    if count > 0 {
+        drop(splice.next());
+    }
+    if count > 1 {
+        drop(splice.next());
+    }
+    if count > 2 {
+        drop(splice.next());
+    }
+}
+
+// Calls `next_back` at most 3 times.
+fn take_backs<T: Drop, A: Allocator, I>(splice: &mut Splice<'_, I, T, A>, count: usize)
+    ensures keeps { SpliceKeeps splice.old splice.new }
+{
+    if count > 0 {
+        drop(splice.next_back());
+    }
+    if count > 1 {
+        drop(splice.next_back());
+    }
+    if count > 2 {
+        drop(splice.next_back());
+    }
+}
+
+// Makes the call with each number of items taken, and with several numbers of new items.
+fn assert_range<T: Numbered>(
+    rt: &impl Abort,
+    ledger: &'static Ledger,
+    case: Case,
+) -> Result<(), Fail> {
+    for fronts in 0..4 {
+        for backs in 0..4 {
+            for new in [0, 2, 9] {
+                let case = Case {
+                    fronts,
+                    backs,
+                    new,
+                    ..case
+                };
+                if case.is_possible() {
+                    let dropped = drops_of::<T>(rt, ledger, case)?;
+                    assert_same(rt, (case, dropped), (case, case.dropped()));
+                }
+            }
+        }
+    }
+    Ok(())
+}
+
+// Makes each call on lists of several lengths, with several ranges.
+fn assert_in_order<T: Numbered>(rt: &impl Abort, ledger: &'static Ledger) -> Result<(), Fail> {
+    for call in CALLS {
+        for len in [5_usize, 17, 40, 100, 1000] {
+            let last = len.saturating_sub(1);
+            for (start, end) in [(0, len), (1, last), (1, len), (2, len), (0, 2)] {
+                let case = Case {
+                    call,
+                    len,
+                    start,
+                    end,
+                    fronts: 0,
+                    backs: 0,
+                    new: 0,
+                };
+                assert_range::<T>(rt, ledger, case)?;
+            }
         }
     }
     Ok(())
@@ -92,16 +339,64 @@ fn removed_items_are_dropped_in_order(rt: HostRuntime) -> Result<(), Fail> {
     Ok(())
 }
 
-// Replaces all but the first and the last item of a list by none, and asserts the order of drops.
+// Clones the items of the list by one of four calls. Returns whether the call failed.
+fn is_clone_refused<T: Numbered>(
+    ledger: &'static Ledger,
+    call: u32,
+    list: &mut List<T, Doubling>,
+) -> bool {
+    let len = list.len();
+    match call {
+        0 => {
+            let mut other: List<T, Doubling> = ThinVec::new(&ledger.alloc);
+            other.extend_from_slice(list.as_slice()).is_err()
+        }
+        1 => list.extend_from_within(0, len).is_err(),
+        2 => list.clone(&ledger.alloc).is_err(),
+        _ => ThinVec::from_slice(&ledger.alloc, list.as_slice()).is_err(),
+    }
+}
+
+// The first request of each call is for a block, and each other one for a clone.
+fn assert_clones_in_order<T: Numbered>(
+    rt: &impl Abort,
+    ledger: &'static Ledger,
+) -> Result<(), ThinVecError> {
+    for call in 0..4 {
+        for clones in [0_usize, 1, 2, 30, 99] {
+            let mut list: List<T, Doubling> = filled_list(ledger, 100, 0)?;
+            ledger.begin((clones as u64).saturating_add(2));
+            let is_refused = is_clone_refused(ledger, call, &mut list);
+            let found = (call, clones, is_refused, ledger.dropped.get());
+            assert_same(rt, found, (call, clones, true, then(0, 0, clones)));
+        }
+    }
+    Ok(())
+}
+
 #[test]
-fn finish_drops_the_range_in_order(rt: HostRuntime) -> Result<(), Fail> {
+fn clones_are_dropped_in_order_if_one_is_refused(rt: HostRuntime) -> Result<(), Fail> {
     let ledger = Ledger::leaked(rt.alloc())?;
-    for (len, end) in [(5, 4), (40, 39), (40, 40)] {
-        let mut list = counted_list(ledger, rt.alloc(), len)?;
-        ledger.begin(0);
-        assert!(rt; 1 <= end && end <= list.len());
-        splice(&mut list, (1, end), empty(), rt.alloc())?;
-        assert_same(&rt, ledger.dropped.get(), then(0, 1, end as u64));
+    assert_clones_in_order::<Counted<'static>>(&rt, ledger)?;
+    assert_clones_in_order::<Counted<'static, [u64; 14]>>(&rt, ledger)?;
+    Ok(())
+}
+
+// Returns the sum over the drops of two items, in this order.
+fn sum_of(ledger: &'static Ledger, numbers: [u64; 2]) -> u64 {
+    ledger.begin(0);
+    for number in numbers {
+        drop(Counted::new(ledger, number, ()));
+    }
+    ledger.dropped.get()
+}
+
+#[test]
+fn the_sum_over_drops_depends_on_their_order(rt: HostRuntime) -> Result<(), Fail> {
+    let ledger = Ledger::leaked(rt.alloc())?;
+    for (one, two) in [(0, 1), (1, 2), (7, 17), (0, 1000)] {
+        let is_same = sum_of(ledger, [one, two]) == sum_of(ledger, [two, one]);
+        assert_same(&rt, (one, two, is_same), (one, two, false));
     }
     Ok(())
 }
