@@ -76,6 +76,18 @@ impl Numbered for [u8; 3] {
     }
 }
 
+impl Numbered for [u8; 4] {
+    const SIZE: usize = 4;
+
+    const ALIGN: usize = 1;
+
+    const LIMIT: usize = 2_305_843_009_213_693_946;
+
+    fn numbered(_ledger: &'static Ledger, number: u64) -> [u8; 4] {
+        [(number % 251) as u8; 4]
+    }
+}
+
 impl Numbered for [u8; 5] {
     const SIZE: usize = 5;
 
@@ -124,6 +136,18 @@ impl Numbered for i32 {
     }
 }
 
+impl Numbered for [u32; 2] {
+    const SIZE: usize = 8;
+
+    const ALIGN: usize = 4;
+
+    const LIMIT: usize = 1_152_921_504_606_846_973;
+
+    fn numbered(_ledger: &'static Ledger, number: u64) -> [u32; 2] {
+        [(number % 65521) as u32; 2]
+    }
+}
+
 impl Numbered for [u32; 3] {
     const SIZE: usize = 12;
 
@@ -167,6 +191,16 @@ impl Numbered for u64 {
 
     fn numbered(_ledger: &'static Ledger, number: u64) -> u64 {
         number
+    }
+}
+
+impl Numbered for [u64; 2] {
+    const SIZE: usize = 16;
+
+    const LIMIT: usize = 576_460_752_303_423_486;
+
+    fn numbered(_ledger: &'static Ledger, number: u64) -> [u64; 2] {
+        [number; 2]
     }
 }
 

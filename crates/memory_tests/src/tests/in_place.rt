@@ -85,7 +85,7 @@ fn assert_capacities<T: Numbered, A: Allocator>(
 fn assert_type<T: Numbered>(rt: &impl Abort, ledger: &'static Ledger) -> Result<(), ThinVecError> {
     let long = 256_usize.checked_div(T::SIZE).unwrap_or(0);
     for len in long.saturating_sub(1)..long.saturating_add(9) {
-        for more in [1, 2, 3, 4, 5, 6, 7, 8, 9, 2000] {
+        for more in [1, 2, 3, 4, 5, 6, 7, 8, 9, 6000, 70_000] {
             ledger.begin(0);
             assert_capacities::<T, _>(rt, ledger, &ledger.alloc, len, more, true)?;
             assert_capacities::<T, _>(rt, ledger, ledger.global, len, more, false)?;
@@ -107,6 +107,15 @@ fn a_list_of_each_width_grows_and_shrinks_in_place(rt: HostRuntime) -> Result<()
 }
 
 #[test]
+fn a_list_of_arrays_of_each_width_grows_and_shrinks_in_place(rt: HostRuntime) -> Result<(), Fail> {
+    let ledger = Ledger::leaked(rt.alloc())?;
+    assert_type::<[u8; 4]>(&rt, ledger)?;
+    assert_type::<[u32; 2]>(&rt, ledger)?;
+    assert_type::<[u64; 2]>(&rt, ledger)?;
+    Ok(())
+}
+
+#[test]
 fn a_list_of_items_of_odd_sizes_grows_and_shrinks(rt: HostRuntime) -> Result<(), Fail> {
     let ledger = Ledger::leaked(rt.alloc())?;
     assert_type::<[u8; 3]>(&rt, ledger)?;
@@ -123,7 +132,7 @@ fn a_list_of_items_of_odd_sizes_grows_and_shrinks(rt: HostRuntime) -> Result<(),
 fn a_list_of_triples_grows_and_shrinks_around_32_slots(rt: HostRuntime) -> Result<(), Fail> {
     let ledger = Ledger::leaked(rt.alloc())?;
     for len in 1..40 {
-        for more in [1, 2, 3, 16, 33, 2000] {
+        for more in [1, 2, 3, 16, 33, 6000, 70_000] {
             ledger.begin(0);
             assert_capacities::<[u64; 3], _>(&rt, ledger, &ledger.alloc, len, more, true)?;
             assert_capacities::<[u64; 3], _>(&rt, ledger, ledger.global, len, more, false)?;
