@@ -1,13 +1,17 @@
 //! Tests of the calls that take an allocator. What they make uses this allocator, and not that of
 //! the list, even if the list is empty. A list drops an allocator that it owns.
+ghost use Rattle.std.specs.Mem.{type_size};
+ghost use Rattle.std.specs.Prelude.{◌*◌, ◌<◌, ◌^◌};
+
 use crate::tests::support::{assert_counts, assert_len, assert_same};
 use std::alloc::{Allocator, Global};
 use std::default::Emptied;
+use std::io;
 use std::process::Abort;
 use std::rc::Rc;
 use std::test::Fail;
 use thin_runner::hinted::Hinted;
-use thin_testing::{Refusing, list_of, splice};
+use thin_testing::{Counted, Ledger, Numbered, Refusing, list_of, numbered_items, splice};
 use thin_vec::{ThinVec, ThinVecError, thin_vec};
 
 // Makes a `Vec` of the items of the list with the allocator `alloc`, by one of six calls. The
@@ -75,29 +79,45 @@ fn finish_holds_items_back_on_the_allocator_passed(rt: HostRuntime) -> Result<()
 type Owned = Refusing<&'static Refusing<Global>>;
 
 // Makes a list of `count` items whose allocator owns a clone of `owner`.
-fn owning_list(
-    alloc: &'static Refusing<Global>,
+fn owning_list<T: Numbered>(
+    ledger: &'static Ledger,
     owner: &Rc<u64>,
     count: u64,
-) -> Result<ThinVec<u128, Owned>, Fail> {
-    let mut list = ThinVec::new(Refusing::owning(alloc, owner.clone()?));
+) -> Result<ThinVec<T, Owned>, Fail> {
+    let mut list = ThinVec::new(Refusing::owning(&ledger.alloc, owner.clone()?));
     for item in 0..count {
-        list.push(u128::from(item))?;
+        list.push(T::numbered(ledger, item))?;
     }
     Ok(list)
 }
 
-// Ends the list by one of thirteen calls, of which some take the allocator `alloc`. Drops the result.
-fn end(call: u32, list: ThinVec<u128, Owned>, alloc: Owned, global: Global) -> Result<(), Fail> {
-    match call {
-        0..5 => end_alone(call, list),
-        5..9 => convert(call, list, alloc),
-        _ => finish(call, list, alloc, global),
+// The number of calls that each of five functions makes: `end_alone`, `convert`, `make`, `fill` and
+// `finish`.
+const CALLS: [u32; 5] = [7, 8, 5, 7, 16];
+
+// Ends the list by a call of one of the five functions. Drops the result, and the allocator `alloc`.
+fn end<T: Numbered, A: Allocator>(
+    function: usize,
+    call: u32,
+    list: ThinVec<T, A>,
+    alloc: A,
+    ledger: &'static Ledger,
+) -> io::Result<()>
+    requires small { 40 * type_size T.row < 2 ^ 63 }
+{
+    match function {
+        0 => end_alone(call, list),
+        1 => convert(call, list, alloc),
+        2 => make(call, list, alloc, ledger),
+        3 => fill(call, list, alloc, ledger),
+        _ => finish(call, list, alloc, ledger),
     }
 }
 
 // Ends the list by a call that takes no allocator.
-fn end_alone(call: u32, mut list: ThinVec<u128, Owned>) -> Result<(), Fail> {
+fn end_alone<T: Numbered, A: Allocator>(call: u32, mut list: ThinVec<T, A>) -> io::Result<()>
+    requires small { 40 * type_size T.row < 2 ^ 63 }
+{
     match call {
         0 => drop(list),
         1 => drop(list.into_iter()),
@@ -107,57 +127,211 @@ fn end_alone(call: u32, mut list: ThinVec<u128, Owned>) -> Result<(), Fail> {
             drop(rest.next_back());
         }
         3 => drop(list.into_array::<40>().is_ok()),
-        _ => {
+        4 => {
             list.clear();
             list.shrink_to_fit()?;
+        }
+        5 => list.retain(|_item| false),
+        _ => {
+            list.shrink_to_fit()?;
+            list.reserve(1)?;
+            list.reserve_exact(300)?;
         }
     }
     Ok(())
 }
 
 // Makes something of the list by a call that takes an allocator.
-fn convert(call: u32, mut list: ThinVec<u128, Owned>, alloc: Owned) -> Result<(), Fail> {
+fn convert<T: Numbered, A: Allocator>(
+    call: u32,
+    mut list: ThinVec<T, A>,
+    alloc: A,
+) -> io::Result<()> {
     match call {
-        5 => drop(list.into_vec(alloc)?),
-        6 => drop(list.into_boxed_slice(alloc)?),
-        7 => drop(list.split_off(alloc, 0)?),
-        _ => drop(list.clone(alloc)?),
+        0 => drop(list.into_vec(alloc)?),
+        1 => drop(list.into_boxed_slice(alloc)?),
+        2 => drop(list.split_off(alloc, 0)?),
+        3 => {
+            let len = list.len();
+            drop(list.split_off(alloc, len)?);
+        }
+        4 => drop(list.clone(alloc)?),
+        5 => drop(list.into_iter().clone(alloc)?),
+        6 => {
+            let mut other = ThinVec::new(alloc);
+            other.append(&mut list)?;
+        }
+        _ => {
+            let mut other = ThinVec::new(alloc);
+            other.replace_range_from_list(0, 0, &mut list)?;
+        }
     }
     Ok(())
 }
 
-// Inserts the items of an iterator, whose hint is exact or too low, in place of the first half of the
-// list, or at its end. Drops the list.
-fn finish(
+// Makes another list by a call that takes an allocator.
+fn make<T: Numbered, A: Allocator>(
     call: u32,
-    mut list: ThinVec<u128, Owned>,
-    alloc: Owned,
-    global: Global,
-) -> Result<(), Fail> {
-    let lower = if call < 11 { 2 } else { 0 };
-    let items = Hinted::new([7, 8].to_vec(global)?, lower);
-    let len = list.len();
-    if call % 2 == 0 {
-        splice(&mut list, (0, len / 2), items, alloc)?;
-        return Ok(());
+    list: ThinVec<T, A>,
+    alloc: A,
+    ledger: &'static Ledger,
+) -> io::Result<()>
+    requires small { 40 * type_size T.row < 2 ^ 63 }
+{
+    let (one, two) = (T::numbered(ledger, 7), T::numbered(ledger, 8));
+    match call {
+        0 => drop(ThinVec::<T, A>::with_capacity(alloc, list.len())?),
+        1 => drop(ThinVec::from_slice(alloc, list.as_slice())?),
+        2 => drop(thin_vec![alloc => one; list.len()]?),
+        3 => drop(thin_vec![alloc => one, two]?),
+        _ => drop(ThinVec::from_array(alloc, [one, two])?),
     }
-    splice(&mut list, (len, len), items, alloc)?;
+    Ok(())
+}
+
+// Makes a list of as many items of a vector as the list has, or puts them into the list.
+fn fill<T: Numbered, A: Allocator>(
+    call: u32,
+    mut list: ThinVec<T, A>,
+    alloc: A,
+    ledger: &'static Ledger,
+) -> io::Result<()> {
+    let len = list.len();
+    let items = numbered_items(ledger, ledger.global, 7, len)?;
+    match call {
+        0 => drop(ThinVec::from_vec(alloc, items)?),
+        1 => drop(ThinVec::from_boxed_slice(alloc, items.into_boxed_slice())?),
+        2 => drop(ThinVec::from_iter(alloc, Hinted::new(items, 0))?),
+        3 => drop(ThinVec::from_iter(alloc, Hinted::new(items, len))?),
+        4 => list.replace_range(alloc, 0, 0, items.as_slice())?,
+        5 => list.replace_range(alloc, 0, len, items.as_slice())?,
+        _ => list.replace_range(alloc, 0, len / 2, &[])?,
+    }
+    Ok(())
+}
+
+// Puts the items of an iterator, whose hint is exact or too low, in place of one of four ranges of
+// the list. Drops the list.
+fn finish<T: Numbered, A: Allocator>(
+    call: u32,
+    mut list: ThinVec<T, A>,
+    alloc: A,
+    ledger: &'static Ledger,
+) -> io::Result<()> {
+    let (count, lower) = match call / 4 {
+        0 => (2, 2),
+        1 => (2, 0),
+        2 => (60, 1),
+        _ => (0, 0),
+    };
+    let items = numbered_items(ledger, ledger.global, 7, count)?;
+    let items = Hinted::new(items, lower);
+    let len = list.len();
+    match call % 4 {
+        0 => splice(&mut list, (0, len / 2), items, alloc)?,
+        1 => splice(&mut list, (len, len), items, alloc)?,
+        2 => splice(&mut list, (0, len), items, alloc)?,
+        _ => splice(&mut list, (0, 0), items, alloc)?,
+    }
+    Ok(())
+}
+
+// The requests that are refused: by the allocator of the list, and by the one that is passed. If a
+// number is 0, none is.
+const REFUSED: [(u64, u64); 6] = [(0, 0), (1, 0), (2, 0), (0, 1), (0, 2), (0, 3)];
+
+// Returns how many requests the call makes, and for how many bytes, if the lists only refer to their
+// allocator.
+fn requested<T: Numbered>(
+    ledger: &'static Ledger,
+    function: usize,
+    call: u32,
+    count: u64,
+) -> Result<(u64, u64), Fail>
+    requires small { 40 * type_size T.row < 2 ^ 63 }
+{
+    let mut list: ThinVec<T, &'static Refusing<Global>> = ThinVec::new(&ledger.alloc);
+    for item in 0..count {
+        list.push(T::numbered(ledger, item))?;
+    }
+    ledger.begin(0);
+    end(function, call, list, &ledger.alloc, ledger)?;
+    Ok((ledger.alloc.requests(), ledger.alloc.lent()))
+}
+
+// Makes each call on lists of several lengths. Asserts that all allocators are dropped, and that the
+// requests are those of a list that owns no allocator.
+fn assert_dropped<T: Numbered>(rt: &impl Abort, ledger: &'static Ledger) -> Result<(), Fail>
+    requires small { 40 * type_size T.row < 2 ^ 63 }
+{
+    let owner = Rc::new(ledger.global, 0)?;
+    for count in [0, 1, 2, 3, 40, 200] {
+        let mut function: usize = 0;
+        for calls in CALLS {
+            for call in 0..calls {
+                let due = requested::<T>(ledger, function, call, count)?;
+                for (own, passed) in REFUSED {
+                    let alloc = Refusing::owning(&ledger.alloc, owner.clone()?);
+                    alloc.refuse(passed);
+                    let list: ThinVec<T, Owned> = owning_list(ledger, &owner, count)?;
+                    list.allocator().refuse(own);
+                    ledger.begin(0);
+                    let is_ok = end(function, call, list, alloc, ledger).is_ok();
+                    let made = (function, call, count, own, passed);
+                    if own == 0 && passed == 0 {
+                        let found = (ledger.alloc.requests(), ledger.alloc.lent());
+                        assert_same(rt, (made, is_ok, found), (made, true, due));
+                    }
+                    let left = (Rc::strong_count(&owner), ledger.alloc.blocks());
+                    assert_same(rt, (made, left, ledger.live.get()), (made, (1, 0), 0));
+                }
+            }
+            function = function.saturating_add(1);
+        }
+    }
     Ok(())
 }
 
 #[test]
 fn a_list_drops_the_allocator_that_it_owns(rt: HostRuntime) -> Result<(), Fail> {
-    let alloc = Refusing::leaked(rt.alloc(), 0)?;
-    let owner = Rc::new(rt.alloc(), 0)?;
-    for count in [0, 1, 2, 3, 40, 200] {
-        for call in 0..13 {
-            let other = Refusing::owning(alloc, owner.clone()?);
-            end(call, owning_list(alloc, &owner, count)?, other, rt.alloc())?;
-            let left = (call, Rc::strong_count(&owner), alloc.blocks());
-            assert_same(&rt, left, (call, 1, 0));
+    let ledger = Ledger::leaked(rt.alloc())?;
+    assert_dropped::<()>(&rt, ledger)?;
+    assert_dropped::<u8>(&rt, ledger)?;
+    assert_dropped::<u128>(&rt, ledger)?;
+    assert_dropped::<[u64; 40]>(&rt, ledger)?;
+    assert_dropped::<Counted<'static>>(&rt, ledger)?;
+    assert_dropped::<Counted<'static, [u64; 14]>>(&rt, ledger)
+}
+
+// Makes lists of copies. Asserts that all allocators are dropped.
+fn assert_dropped_by_copies<T: Numbered + Copy>(
+    rt: &impl Abort,
+    ledger: &'static Ledger,
+) -> Result<(), Fail> {
+    let owner = Rc::new(ledger.global, 0)?;
+    for count in [0, 1, 2, 40] {
+        for passed in 0..2 {
+            let list: ThinVec<T, Owned> = owning_list(ledger, &owner, count)?;
+            let one = Refusing::owning(&ledger.alloc, owner.clone()?);
+            let two = Refusing::owning(&ledger.alloc, owner.clone()?);
+            one.refuse(passed);
+            two.refuse(passed);
+            drop(list.clone_copies(one).is_ok());
+            drop(ThinVec::from_copies(two, list.as_slice()).is_ok());
+            drop(list);
+            let left = (Rc::strong_count(&owner), ledger.alloc.blocks());
+            assert_same(rt, (count, passed, left), (count, passed, (1, 0)));
         }
     }
     Ok(())
+}
+
+#[test]
+fn copies_drop_the_allocators_that_they_own(rt: HostRuntime) -> Result<(), Fail> {
+    let ledger = Ledger::leaked(rt.alloc())?;
+    assert_dropped_by_copies::<u8>(&rt, ledger)?;
+    assert_dropped_by_copies::<u128>(&rt, ledger)?;
+    assert_dropped_by_copies::<[u64; 40]>(&rt, ledger)
 }
 
 // Makes a list of the given capacity by one of three calls.
@@ -203,16 +377,25 @@ fn a_refused_collection_drops_the_allocator(rt: HostRuntime) -> Result<(), Fail>
     Ok(())
 }
 
-#[test]
-fn an_emptied_list_clones_the_allocator_once(rt: HostRuntime) -> Result<(), Fail> {
-    let alloc = Refusing::leaked(rt.alloc(), 0)?;
+// Makes lists without items by `emptied`, from lists of several lengths.
+fn assert_emptied<T: Numbered>(rt: &impl Abort, ledger: &'static Ledger) -> Result<(), Fail> {
     for len in [0, 1, 40] {
-        let mut list: ThinVec<u8, Owned> = ThinVec::new(Refusing::new(alloc, 0));
-        list.resize(len, 7)?;
+        let mut list: ThinVec<T, Owned> = ThinVec::new(Refusing::new(&ledger.alloc, 0));
+        list.resize(len, T::numbered(ledger, 7))?;
         list.allocator().refuse(0);
-        let empty: ThinVec<u8, Owned> = Emptied::emptied(&list)?;
+        let empty: ThinVec<T, Owned> = Emptied::emptied(&list)?;
         let requests = list.allocator().requests();
-        assert_same(&rt, (len, requests, empty.has_capacity()), (len, 1, false));
+        assert_same(rt, (len, requests, empty.has_capacity()), (len, 1, false));
     }
     Ok(())
+}
+
+#[test]
+fn an_emptied_list_clones_the_allocator_once(rt: HostRuntime) -> Result<(), Fail> {
+    let ledger = Ledger::leaked(rt.alloc())?;
+    assert_emptied::<()>(&rt, ledger)?;
+    assert_emptied::<u8>(&rt, ledger)?;
+    assert_emptied::<u64>(&rt, ledger)?;
+    assert_emptied::<u128>(&rt, ledger)?;
+    assert_emptied::<[u64; 40]>(&rt, ledger)
 }

@@ -5,6 +5,7 @@ ghost use Rattle.std.specs.Prelude.{◌*◌, ◌<◌, ◌^◌};
 
 use crate::tests::support::assert_same;
 use std::alloc::Global;
+use std::io;
 use std::process::Abort;
 use std::test::Fail;
 use thin_testing::{Ledger, Numbered};
@@ -22,7 +23,7 @@ fn make_and_end<T: Numbered>(
     alloc: Global,
     way: u32,
     len: usize,
-) -> Result<(), Fail>
+) -> io::Result<()>
     requires small { 1 * type_size T.row < 2 ^ 63 }
 {
     let capacity = LARGE.checked_div(T::SIZE).unwrap_or(0);
