@@ -38,7 +38,7 @@ where
 {
     for cause in [ThinVecError::OutOfMemory, ThinVecError::CapacityOverflow] {
         for count in 0..2 {
-            for len in [0, 1, 4, 40] {
+            for len in [0, 1, 4, 40, 300] {
                 assert_each_dropped::<E>(rt, alloc, ledger, cause, count, len)?;
             }
         }

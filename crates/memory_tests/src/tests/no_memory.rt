@@ -132,6 +132,7 @@ fn remove_at_indices<A: Allocator>(rt: &impl Abort, way: u32, mut list: ThinVec<
             let mut drain = list.drain(0, 3);
             assert_same(rt, (drain.next(), drain.next_back()), (Some(1), Some(3)));
             assert_same(rt, (drain.len(), drain.as_slice().len()), (1, 1));
+            assert_same(rt, drain.size_hint(), (1, Some(1)));
         }
         14 => {
             let mut odd = list.extract_if(0, 3, |item: &mut i32| *item % 2 == 1);
@@ -139,6 +140,7 @@ fn remove_at_indices<A: Allocator>(rt: &impl Abort, way: u32, mut list: ThinVec<
         }
         15 => {
             let mut splice = list.splice(0, 2, empty());
+            assert_same(rt, (splice.len(), splice.size_hint()), (2, (2, Some(2))));
             assert_same(rt, (splice.next(), splice.next_back()), (Some(1), Some(2)));
             assert_same(rt, splice.finish(alloc).is_ok(), true);
         }
@@ -146,6 +148,11 @@ fn remove_at_indices<A: Allocator>(rt: &impl Abort, way: u32, mut list: ThinVec<
             let mut rest = list.into_iter();
             assert_same(rt, (rest.next(), rest.next_back()), (Some(1), Some(3)));
             assert_same(rt, (rest.len(), rest.as_slice().len()), (1, 1));
+            assert_same(
+                rt,
+                (rest.size_hint(), rest.as_mut_slice().len()),
+                ((1, Some(1)), 1),
+            );
         }
     }
 }
@@ -160,8 +167,8 @@ fn calls_that_remove_items_take_no_memory(rt: HostRuntime) -> Result<(), Fail> {
     Ok(())
 }
 
-// Reads the list 1, 2, 3, and compares it with an equal list.
-fn read<A: Allocator>(rt: &impl Abort, list: &ThinVec<i32, A>, other: &ThinVec<i32, A>) {
+// Reads the list of the numbers from 1 to `last`, and compares it with an equal list.
+fn read<A: Allocator>(rt: &impl Abort, list: &ThinVec<i32, A>, other: &ThinVec<i32, A>, last: i32) {
     assert_same(rt, (list.is_empty(), list.has_capacity()), (false, true));
     assert_same(
         rt,
@@ -170,11 +177,11 @@ fn read<A: Allocator>(rt: &impl Abort, list: &ThinVec<i32, A>, other: &ThinVec<i
     );
     assert_same(rt, list.partial_cmp(other), Some(Ordering::Equal));
     list.hash(&mut DefaultHasher::new());
-    let mut sum: i32 = 0;
-    for item in list {
-        sum = sum.saturating_add(*item);
+    let mut item: i32 = 0;
+    for number in list {
+        item = *number;
     }
-    assert_same(rt, (sum, list.first()), (6, Some(&1)));
+    assert_same(rt, (item, list.first()), (last, Some(&1)));
     assert_same(
         rt,
         bounds(Bound::Excluded(0), Bound::Unbounded, 3),
@@ -182,26 +189,33 @@ fn read<A: Allocator>(rt: &impl Abort, list: &ThinVec<i32, A>, other: &ThinVec<i
     );
 }
 
-// Writes to the list 1, 2, 3.
-fn write<A: Allocator>(rt: &impl Abort, list: &mut ThinVec<i32, A>) {
+// Writes to the list of the numbers from 1 to `last`.
+fn write<A: Allocator>(rt: &impl Abort, list: &mut ThinVec<i32, A>, last: i32) {
     for item in &mut *list {
         *item = item.saturating_add(1);
     }
     list.as_mut_slice().reverse();
-    assert_same(rt, list.get_mut(9).is_none(), true);
-    assert_len(rt, list, 3);
+    assert_same(rt, list.get_mut(90).is_none(), true);
+    assert!(rt; list.len() > 1);
     list[0] = 7;
-    assert_same(rt, (list[0], list[1]), (7, 3));
+    assert_same(rt, (list[0], list[1]), (7, last));
 }
 
 #[test]
 fn calls_that_read_and_write_items_take_no_memory(rt: HostRuntime) -> Result<(), Fail> {
     let lender = Refusing::leaked(rt.alloc(), 0)?;
-    let other = roomy(lender)?;
-    let mut list = roomy(lender)?;
-    read(&rt, &list, &other);
-    write(&rt, &mut list);
-    assert_same(&rt, list.allocator().requests(), 0);
+    for last in [3_i32, 40] {
+        lender.refuse(0);
+        let mut list: List = ThinVec::new(lender);
+        for number in 0..last {
+            list.push(number.saturating_add(1))?;
+        }
+        let other = list.clone(lender)?;
+        lender.refuse_all();
+        read(&rt, &list, &other, last);
+        write(&rt, &mut list, last);
+        assert_same(&rt, (last, lender.requests()), (last, 0));
+    }
     Ok(())
 }
 

@@ -43,3 +43,29 @@ pub fn assert_counts(rt: &impl Abort, refusing: &Refusing<Global>, requests: u64
         (requests, blocks),
     );
 }
+
+#[test]
+#[should_panic]
+fn detects_a_wrong_value(rt: HostRuntime) {
+    assert_same(&rt, 1, 2);
+}
+
+#[test]
+#[should_panic]
+fn detects_a_wrong_length(rt: HostRuntime) {
+    let list: ThinVec<i32> = ThinVec::new(rt.alloc());
+    assert_len(&rt, &list, 1);
+}
+
+#[test]
+#[should_panic]
+fn detects_a_wrong_capacity(rt: HostRuntime) {
+    let list: ThinVec<i32> = ThinVec::new(rt.alloc());
+    assert_list(&rt, &list, &[], 1);
+}
+
+#[test]
+#[should_panic]
+fn detects_a_wrong_number_of_blocks(rt: HostRuntime) {
+    assert_counts(&rt, &Refusing::new(rt.alloc(), 0), 0, 1);
+}
