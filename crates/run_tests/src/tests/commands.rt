@@ -173,6 +173,16 @@ fn nth_command<T: Numbered, R: Abort>(
     }
 }
 
+// Returns how often the command of a line asks the judge, unless a request is refused.
+fn asked(number: usize) -> u64 {
+    match number {
+        38 | 39 | 48 => 4,
+        41 => 3,
+        42 => 6,
+        _ => 0,
+    }
+}
+
 // Executes the command of a line after an earlier one, with request number `refused` refused.
 // Returns the outcome, and the number of requests. The first request is that for the room for the
 // reply.
@@ -186,8 +196,14 @@ fn outcome<R: Abort>(
     let (spare, command) = nth_command(rt, ledger, number);
     let mut list: List<Item> = list_of(rt, ledger, items(rt, ledger, &[1, 2, 2, 3]), spare);
     let before = list_text(ledger.global, &list)?;
-    let ran = run_single(rt, ledger, &mut list, command, &Evens, refused);
+    let ran = run_single(rt, ledger, &mut list, command, &Evens { ledger }, refused);
     let requests = ran.requests;
+    let asked = if requests < refused { asked(number) } else { 0 };
+    assert_eq!(rt;
+        ledger.calls.get(),
+        asked,
+        "calls of the judge, line {number}"
+    );
     let reply = last_text(rt, ledger.global, ran)?;
     let after = list_text(ledger.global, &list)?;
     assert_clean(rt, ledger, list);

@@ -22,7 +22,8 @@ enum Kind {
     Extend,
 }
 
-// An edit of a range of a list of at most 64 items, whose numbers are their indices.
+// An edit of a range of a list, whose items have their indices as numbers. If the answers are checked,
+// the list has at most 64 items.
 #[derive(Clone, Copy, Debug)]
 struct Edit {
     kind: Kind,
@@ -147,6 +148,13 @@ fn assert_answers<T: Numbered, R: Abort>(
         _ => panic!(rt; "{edit:?} failed"),
     };
     assert_eq!(rt; answers.len(), edit.steps, "{edit:?}");
+    // A `Vec` has no room, or room for 8 small items.
+    let most = if edit.steps == 0 {
+        0
+    } else {
+        edit.steps.max(8)
+    };
+    assert!(rt; answers.capacity() <= most, "{edit:?}");
     let is_extract = edit.kind == Kind::ExtractIf;
     let mut rest = Rest {
         first: edit.start,
@@ -270,11 +278,32 @@ fn assert_long_ranges<T: Numbered, R: Abort>(rt: &R, ledger: &'static Ledger) {
     }
 }
 
+// Executes edits of a list of 300 items with many steps, and asserts that nothing is left behind.
+fn assert_longer_ranges<T: Numbered, R: Abort>(rt: &R, ledger: &'static Ledger) {
+    for kind in [Kind::Drain, Kind::ExtractIf, Kind::Splice] {
+        for bits in [0, u64::MAX, 0x5555_5555_5555_5555] {
+            for steps in [50, 64, 65, 100, 200, 297, 298, 299] {
+                for new in [0, 5] {
+                    ledger.begin(0);
+                    let edit = Edit::new(kind, 300, 1, 299).walked(steps, bits);
+                    let command = edit.given(new, 0).command(rt, ledger);
+                    let items = run_of_items(rt, ledger, 0, edit.len);
+                    let mut list: List<T> = list_of(rt, ledger, items, 0);
+                    let judge = Digits { digits: bits };
+                    drop(step(&ledger.alloc, &mut list, command, &judge));
+                    assert_clean(rt, ledger, list);
+                }
+            }
+        }
+    }
+}
+
 // Executes the edits on lists of `T`.
 fn assert_edits<T: Numbered, R: Abort>(rt: &R, alloc: Global) {
     let ledger = leaked_ledger(rt, alloc);
     assert_ranges::<T, R>(rt, ledger);
     assert_long_ranges::<T, R>(rt, ledger);
+    assert_longer_ranges::<T, R>(rt, ledger);
 }
 
 #[test]

@@ -3,6 +3,7 @@ ghost use Rattle.std.specs.Prelude.{◌≡◌, ◌==◌, ◌/◌, ◌%◌, false
 
 use crate::tests::made::Item;
 use thin_runner::judge::Judge;
+use thin_testing::Ledger;
 
 /// A judge that takes its answers from the binary digits of a number. A 1 means `true`.
 #[derive(Clone, Copy)]
@@ -57,9 +58,11 @@ impl<T> Judge<T> for Digits {
 }
 
 /// A judge that looks at the numbers of the items. It keeps and takes even items, and the key of an
-/// item is its number.
+/// item is its number. The ledger counts how often it is asked, as calls.
 #[derive(Clone, Copy)]
-pub struct Evens;
+pub struct Evens {
+    pub ledger: &'static Ledger,
+}
 
 impl Judge<Item> for Evens {
     ghost model = { record {
@@ -71,22 +74,27 @@ impl Judge<Item> for Evens {
     } };
 
     fn look(&mut self, item: &Item) -> bool {
+        let _earlier = self.ledger.called();
         item.number() % 2 == 0
     }
 
     fn keep(&mut self, item: &mut Item) -> bool {
+        let _earlier = self.ledger.called();
         item.number() % 2 == 0
     }
 
     fn same(&mut self, later: &mut Item, _kept: &mut Item) -> bool {
+        let _earlier = self.ledger.called();
         later.number() % 2 == 0
     }
 
     fn key(&mut self, item: &mut Item) -> u64 {
+        let _earlier = self.ledger.called();
         item.number()
     }
 
     fn take(&mut self, item: &mut Item) -> bool {
+        let _earlier = self.ledger.called();
         item.number() % 2 == 0
     }
 }

@@ -116,7 +116,8 @@ pub struct Ran<T: Drop> {
 }
 
 /// Executes the commands by one call to `run`, with request number `refused` refused. Before, the
-/// replies are one `Item(None)`, and there is no room for another one.
+/// replies are one `Item(None)`, and there is no room for another one. Afterwards, there is room for
+/// no more replies than needed, or for 4.
 pub fn run_all<T: Numbered, J: Judge<T>, R: Abort>(
     rt: &R,
     ledger: &'static Ledger,
@@ -128,7 +129,13 @@ pub fn run_all<T: Numbered, J: Judge<T>, R: Abort>(
     let mut replies = room(rt, &ledger.alloc, 1);
     put(rt, &mut replies, Reply::Item(None));
     ledger.begin(refused);
+    let most = commands.len().saturating_add(1).max(4);
     let ran = run(&ledger.alloc, list, commands, &mut replies, judge);
+    assert!(rt;
+        replies.capacity() <= most,
+        "room for {} replies",
+        replies.capacity()
+    );
     Ran {
         cause: ran.err(),
         requests: ledger.alloc.requests(),

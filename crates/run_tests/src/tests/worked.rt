@@ -1,8 +1,8 @@
-//! Tests of one run of six commands, and of three commands whose judge counts its calls.
+//! Tests of one run of six commands, and of the commands that ask a judge.
 use crate::tests::judges::{Evens, TURNS};
 use crate::tests::made::{
     Asked, Item, Lender, List, Told, assert_clean, assert_text, items, leaked_ledger, list_of, put,
-    room, run_all, run_single, steps,
+    room, run_all, run_of_items, run_single, steps,
 };
 use crate::tests::shown::{list_text, reply_text};
 use std::alloc::AllocError;
@@ -112,7 +112,7 @@ fn assert_run<R: Abort>(
         ledger,
         &mut list,
         six_commands(rt, ledger),
-        &Evens,
+        &Evens { ledger },
         refused,
     );
     let is_refused = 0 < refused && refused <= ran.requests;
@@ -196,7 +196,15 @@ fn six_commands_one_by_one(rt: HostRuntime) -> Result<(), Fail> {
         let mut number: usize = 0;
         for texts in &RUN {
             let command = nth_command(&rt, ledger, number);
-            assert_single(&rt, ledger, &mut list, command, &Evens, is_step, *texts)?;
+            assert_single(
+                &rt,
+                ledger,
+                &mut list,
+                command,
+                &Evens { ledger },
+                is_step,
+                *texts,
+            )?;
             number = number.saturating_add(1);
         }
         assert_clean(&rt, ledger, list);
@@ -226,4 +234,41 @@ fn a_judge_that_counts_its_calls(rt: HostRuntime) -> Result<(), Fail> {
     assert_turned(&rt, ledger, Command::DedupBy, ("Done", "[1, 3, 5] 6"))?;
     assert_turned(&rt, ledger, Command::ExtractIf(0, 6, 2), extracted)?;
     Ok(())
+}
+
+// Executes the command on a list of `len` items, numbered from 1, and asserts how often it asks the
+// judge.
+fn assert_asked<R: Abort>(
+    rt: &R,
+    ledger: &'static Ledger,
+    len: usize,
+    command: Asked<Item>,
+    asked: usize,
+) {
+    let mut list = list_of(rt, ledger, run_of_items(rt, ledger, 1, len), 0);
+    ledger.begin(0);
+    drop(step(&ledger.alloc, &mut list, command, &Evens { ledger }));
+    assert_eq!(rt; ledger.calls.get(), asked as u64, "{len} items");
+    assert_clean(rt, ledger, list);
+}
+
+#[test]
+fn a_judge_is_asked_no_more_than_needed(rt: HostRuntime) {
+    let ledger = leaked_ledger(&rt, rt.alloc());
+    for len in [0_usize, 1, 2, 6, 100] {
+        let (pairs, more) = (len.saturating_sub(1), len.saturating_add(1));
+        assert_asked(&rt, ledger, len, Command::Retain, len);
+        assert_asked(&rt, ledger, len, Command::RetainMut, len);
+        assert_asked(&rt, ledger, len, Command::DedupBy, pairs);
+        assert_asked(
+            &rt,
+            ledger,
+            len,
+            Command::DedupByKey,
+            pairs.saturating_mul(2),
+        );
+        assert_asked(&rt, ledger, len, Command::ExtractIf(0, len, more), len);
+        assert_asked(&rt, ledger, len, Command::ExtractIf(0, len, 1), len.min(2));
+        assert_asked(&rt, ledger, len, Command::ExtractIf(0, len, 0), 0);
+    }
 }
