@@ -1,6 +1,6 @@
 //! Tests of the sweeps themselves: they make the calls that they should make, and see what is wrong.
-use crate::asserts::assert_right;
-use crate::sweep::{Calls, sweep};
+use crate::asserts::{assert_right, assert_same};
+use crate::sweep::{Calls, sweep, sweep_at_random};
 use std::alloc::Global;
 use std::process::Abort;
 use thin_testing::{Answer, At, Case, Counted, Due, Ledger};
@@ -36,11 +36,26 @@ fn sweep_makes_each_call_and_refuses_each_request(rt: HostRuntime) {
     assert_eq!(rt; swept, (36, 18));
 }
 
+// Each of the three calls is made in 60 rounds, which is three cases without and three with a refusal.
+#[test]
+fn random_sweep_makes_each_call_and_refuses_each_request(rt: HostRuntime) {
+    let ledger = Ledger::leaked(rt.alloc()).expect(&rt, "memory");
+    let swept = sweep_at_random::<Requests, Item16, Doubling, _>(&rt, ledger);
+    assert_eq!(rt; swept, (360, 180));
+}
+
 type Item16 = Counted<'static>;
+
+// Returns a case.
+fn case_of<R: Abort>(rt: &R, alloc: Global, at: At) -> Case<Item16, Doubling> {
+    let ledger = Ledger::leaked(alloc).expect(rt, "memory");
+    let mut case = Case::new(ledger, at).expect(rt, "memory");
+    case.begin("none");
+    case
+}
 
 // Returns a case of a list of two items and capacity 3.
 fn two_items<R: Abort>(rt: &R, alloc: Global, refused: u64) -> Case<Item16, Doubling> {
-    let ledger = Ledger::leaked(alloc).expect(rt, "memory");
     let at = At {
         call: "",
         length: 2,
@@ -48,9 +63,54 @@ fn two_items<R: Abort>(rt: &R, alloc: Global, refused: u64) -> Case<Item16, Doub
         argument: 0,
         refused,
     };
-    let mut case = Case::new(ledger, at).expect(rt, "memory");
-    case.begin("none");
-    case
+    case_of(rt, alloc, at)
+}
+
+// On a list of four items, the arguments below 25 choose each index, each range and each number of
+// new items, and those below 16 choose each pattern. A bit of each number stands for a choice.
+#[test]
+fn arguments_choose_each_index_range_number_and_pattern(rt: HostRuntime) {
+    let (mut indices, mut ranges, mut counts) = (0_u64, 0_u64, 0_u64);
+    for argument in 0..25_usize {
+        let at = At {
+            call: "",
+            length: 4,
+            spare: 1,
+            argument,
+            refused: 0,
+        };
+        let case = case_of(&rt, rt.alloc(), at);
+        let (start, end) = case.range();
+        indices |= 1 << (case.index() % 64);
+        ranges |= 1 << (start.saturating_mul(8).saturating_add(end) % 64);
+        counts |= 1 << (case.count() % 64);
+        let mut kept: u64 = 0;
+        for index in 0..4_u64 {
+            if at.pattern().keeps(index) {
+                kept |= 1 << (index % 64);
+            }
+        }
+        assert_eq!(rt; kept, argument as u64 % 16);
+    }
+    assert_eq!(rt; (indices, ranges), (0b1_1111, 0x10_181c_1e1f));
+    assert_eq!(rt; counts, 0x2000_0002_022f);
+}
+
+// Random cases have lists of none to more than 500 items, up to as many spare slots, and wide ranges.
+#[test]
+fn random_cases_differ(rt: HostRuntime) {
+    let (mut longest, mut roomiest, mut widest, mut empty) = (0_usize, 0_usize, 0_usize, 0_usize);
+    for round in 0..At::rounds::<Item16>() {
+        let at = At::random::<Item16>(round, 0);
+        let case = case_of(&rt, rt.alloc(), at);
+        let (start, end) = case.range();
+        longest = longest.max(at.length);
+        roomiest = roomiest.max(at.spare);
+        widest = widest.max(end.saturating_sub(start));
+        empty = empty.saturating_add(usize::from(at.length == 0));
+    }
+    assert!(rt; longest > 500 && roomiest > 500 && widest > 500);
+    assert!(rt; 0 < empty && empty < 20);
 }
 
 #[test]
@@ -154,6 +214,20 @@ fn detects_a_block_that_is_not_freed(rt: HostRuntime) {
     case.begin("none");
     assert_right(&rt, case.check(Ok(Due::NOTHING)));
     drop(other);
+}
+
+#[test]
+#[should_panic(expected = "failed: bytes, At")]
+fn detects_a_block_of_a_wrong_size(rt: HostRuntime) {
+    let case = two_items(&rt, rt.alloc(), 0);
+    assert_right(&rt, case.check_live(2, 4));
+}
+
+#[test]
+#[should_panic(expected = "failed: wrong, At")]
+fn detects_a_wrong_value(rt: HostRuntime) {
+    let case = two_items(&rt, rt.alloc(), 0);
+    assert_same(&rt, case.at, "wrong", 1, 2);
 }
 
 #[test]

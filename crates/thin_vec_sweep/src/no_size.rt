@@ -2,8 +2,10 @@
 //! and of the last item of one byte, panics. So each of these tests passes only if the call drops an
 //! item, or the last one.
 use std::alloc::{AllocError, Global};
+use std::iter::empty;
 use std::mem;
 use std::process::Abort;
+use thin_testing::splice;
 use thin_vec::ThinVec;
 
 // An item that has no size if `R` has none. Its drop panics.
@@ -82,6 +84,25 @@ fn dedup_by_drops_items_of_no_size(rt: HostRuntime) {
 
 #[test]
 #[should_panic(expected = "the item is dropped")]
+fn finish_drops_items_of_no_size(rt: HostRuntime) {
+    let mut list = fuses(rt, rt.alloc());
+    assert!(rt; list.len() == 2);
+    mem::forget(splice(&mut list, (0, 1), empty(), rt.alloc()));
+    mem::forget(list);
+}
+
+#[test]
+#[should_panic(expected = "the item is dropped")]
+fn replace_range_drops_items_of_no_size(rt: HostRuntime) {
+    let mut list = fuses(rt, rt.alloc());
+    assert!(rt; list.len() == 2);
+    let is_replaced = list.replace_range(rt.alloc(), 0, 1, &[]).is_ok();
+    assert!(rt; !is_replaced);
+    mem::forget(list);
+}
+
+#[test]
+#[should_panic(expected = "the item is dropped")]
 fn resize_drops_a_value_of_no_size(rt: HostRuntime) {
     let mut list = fuses(rt, rt.alloc());
     let is_shorter = list.resize(2, Fuse { rt }).is_ok();
@@ -143,6 +164,15 @@ fn drain_drops_the_last_item_of_one_byte(rt: HostRuntime) {
 #[should_panic(expected = "the last item is dropped")]
 fn into_iter_drops_the_last_item_of_one_byte(rt: HostRuntime) {
     drop(chain(rt, rt.alloc(), 300).into_iter());
+}
+
+#[test]
+#[should_panic(expected = "the last item is dropped")]
+fn finish_drops_the_last_item_of_one_byte(rt: HostRuntime) {
+    let mut list = chain(rt, rt.alloc(), 300);
+    assert!(rt; list.len() == 300);
+    mem::forget(splice(&mut list, (1, 300), empty(), rt.alloc()));
+    mem::forget(list);
 }
 
 #[test]

@@ -51,16 +51,22 @@ pub fn sweep<C: Calls<T, G>, T: Numbered, G: Growth, R: Abort>(
     (cases, refusals)
 }
 
-/// Makes each call of the group on random lists with random arguments.
+/// Makes each call of the group on random lists with random arguments. Returns the number of cases,
+/// and the number of those in which a request was refused.
 pub fn sweep_at_random<C: Calls<T, G>, T: Numbered, G: Growth, R: Abort>(
     rt: &R,
     ledger: &'static Ledger,
-) {
+) -> (u64, u64) {
+    let (mut cases, mut refusals) = (0_u64, 0_u64);
     for round in 0..At::rounds::<T>() {
         for call in 0..C::CALLS {
-            each_refusal::<C, T, G, R>(rt, ledger, At::random::<T>(round, call), call);
+            let at = At::random::<T>(round, call);
+            let refused = each_refusal::<C, T, G, R>(rt, ledger, at, call);
+            refusals = refusals.saturating_add(refused);
+            cases = cases.saturating_add(refused).saturating_add(1);
         }
     }
+    (cases, refusals)
 }
 
 // Makes the call with enough memory, and then with each of its requests refused. If it makes many

@@ -63,11 +63,14 @@ fn cause<G: Growth, R: Abort>(rt: &R, case: &Case<u8, G>, error: &Error) -> Thin
     ThinVecError::OutOfMemory
 }
 
-// A letter takes one byte or two.
+// The text repeats one letter, which takes 1, 2, 3 or 4 bytes. A random text has all these letters.
 fn from_str<G: Growth, R: Abort>(rt: &R, case: &mut Case<u8, G>) -> Answer {
-    let letter = if case.at.argument % 2 == 0 { "ß" } else { "s" };
+    let letters = ["ß", "s", "語", "𝄞"];
+    let first = case.at.argument / 2;
     let mut text = String::new(case.ledger.global);
-    for _ in 0..case.count() {
+    for index in 0..case.count() {
+        let other = if case.at.is_random() { index } else { 0 };
+        let letter = letters[first.wrapping_add(other) % 4];
         text.push_str(letter).expect(rt, "memory");
     }
     case.begin("from_str");
