@@ -21,7 +21,11 @@ DEFINITION = re.compile(
     r"^ *(?:(?:pub|abbrev|unfoldable|opaque) )*(?:(record|data) )?(?:pub )?"
     r"([A-Za-z_◌][^\s:({]*)\s*(?:[({].*)?(?::|$)"
 )
-KIND = re.compile(r"^ *(?:pub (?:record|data)|(?:abbrev|unfoldable|opaque) pub)\b")
+# A definition, and not a lemma or a field. An opaque one has no word beside `pub`, but its type ends
+# with `Type 0`.
+KIND = re.compile(
+    r"^ *(?:pub (?:record|data)\b|(?:abbrev|unfoldable|opaque) pub\b|pub \w+ :.*\bType 0$)"
+)
 # Ghost members that only the compiler asks for: laws that every implementation has.
 LAWS = {"laws", "total", "matches_partial_cmp", "matches_eq", "respects_eq", "from"}
 
@@ -441,40 +445,92 @@ def sources(crate):
 
 
 def definitions(crate):
-    """The definitions of a crate's spec files, without those of its formers.
-
-    Each name has a file, a comment and lines. The lines of a definition in a `module _ (..) where`
-    begin with this head, which has parameters of it.
-    """
+    """The definitions of a crate's spec files, without those of its formers."""
     found = {}
     for path in sorted((TOP / "crates" / crate / "specs").rglob("*.antt")):
-        if "formers" in path.parts:
-            continue
-        lines, comment, heads = path.read_text(encoding="utf-8").splitlines(), [], []
-        for at, line in enumerate(lines):
-            bare = line.strip()
-            if bare.startswith("--"):
-                comment.append(bare[2:].removeprefix(" ").rstrip())
-                continue
-            depth = len(line) - len(line.lstrip())
-            if bare and not re.match(r"[(){}]", bare):
-                heads = [head for head in heads if head[0] < depth]
-            if bare.startswith("module _"):
-                end = at
-                while not lines[end].rstrip().endswith(" where"):
-                    end += 1
-                heads.append((depth, lines[at : end + 1]))
-            match = DEFINITION.match(line)
-            if match and KIND.match(line) and comment:
-                end = at
-                while end < len(lines) and lines[end].strip():
-                    end += 1
-                around = [text for _, head in heads for text in head]
-                found.setdefault(
-                    match.group(2), (path, paragraphs(comment), dedent(around + lines[at:end]))
-                )
-            comment = []
+        if "formers" not in path.parts:
+            found = {**definitions_in(path), **found}
     return found
+
+
+@functools.cache
+def definitions_in(path):
+    """The definitions of a spec file. Each name has the file, a comment and lines.
+
+    The lines of a definition in a `module _ (..) where` begin with this head, which has parameters
+    of it. Its comment ends with the comment of the head, which says what these are.
+    """
+    lines, comment, heads, found = path.read_text(encoding="utf-8").splitlines(), [], [], {}
+    for at, line in enumerate(lines):
+        bare = line.strip()
+        if bare.startswith("--"):
+            comment.append(bare[2:].removeprefix(" ").rstrip())
+            continue
+        depth = len(line) - len(line.lstrip())
+        if bare and not re.match(r"[(){}]", bare):
+            heads = [head for head in heads if head[0] < depth]
+        if bare.startswith("module _"):
+            end = at
+            while not lines[end].rstrip().endswith(" where"):
+                end += 1
+            heads.append((depth, lines[at : end + 1], paragraphs(comment)))
+        match = DEFINITION.match(line)
+        if match and KIND.match(line) and comment:
+            end = at
+            while end < len(lines) and lines[end].strip():
+                end += 1
+            around = [text for _, head, _ in heads for text in head]
+            said = [text for _, _, about in heads for text in about]
+            found.setdefault(
+                match.group(2),
+                (path, paragraphs(comment) + said, dedent(around + lines[at:end])),
+            )
+        comment = []
+    return found
+
+
+USE = re.compile(r"^\s*(?:ghost |pub )?use ([\w.]+)\.\{([^}]*)\}", re.M)
+
+
+@functools.cache
+def imported(path):
+    """The words that the `use` lines of a file import, each with its module and its name there."""
+    found = {}
+    for module, words in USE.findall(path.read_text(encoding="utf-8")):
+        for word in words.split(","):
+            name, _, alias = word.strip().partition(" as ")
+            found[alias or name] = (module, name)
+    return found
+
+
+@functools.cache
+def spec_file(module):
+    """The spec file of a module of this repository, or None.
+
+    A crate may export a module of another crate under its last name."""
+    if not re.match(r"Rattle\.\w+\.specs\.\w", module):
+        return None
+    _, crate, _, *parts = module.split(".")
+    root = TOP / "crates" / crate / "specs"
+    path, lib = root.joinpath(*parts).with_suffix(".antt"), root / "Lib.antt"
+    if path.exists() or not lib.exists():
+        return path if path.exists() else None
+    for other in re.findall(r"^pub use ([\w.]+)$", lib.read_text(encoding="utf-8"), re.M):
+        if other.endswith(f".{parts[0]}"):
+            return spec_file(".".join([other, *parts[1:]]))
+    return None
+
+
+def definition(path, word):
+    """The file and the name of the definition that a word of a file means, or None.
+
+    It is that of the file itself, or the one that the `use` line names, if it is of this
+    repository."""
+    if path.suffix == ".antt" and word in definitions_in(path):
+        return path, word
+    module, name = imported(path).get(word, ("", word))
+    place = spec_file(module)
+    return (place, name) if place and name in definitions_in(place) else None
 
 
 def lemmas(crate):

@@ -1,7 +1,7 @@
 """tools/index and tools/reference: a page is as the code is, and --write follows a change."""
 import unittest
 
-from tool import ToolTest, change
+from tool import ToolTest, change, load
 
 
 class MadePages(ToolTest):
@@ -25,6 +25,20 @@ class MadePages(ToolTest):
                 self.passes(name, "--write", top=top)
                 self.assertNotIn(" planted ", (top / page).read_text(encoding="utf-8"))
         self.assertIn("Planted.", (top / "docs" / "INDEX.md").read_text(encoding="utf-8"))
+
+    def test_the_definitions_that_a_contract_uses(self):
+        reference = load("reference")
+        found = reference.used_definitions("thin_vec")
+        # The contracts that import `vec_len` from std mean the word about a `Vec`.
+        self.assertNotIn("vec_len", found)
+        # One is opaque, and one is named in a trait.
+        self.assertIn("IsAllocatable", found["IsBounded"][3])
+        self.assertIn("IsValidGrowth", found["IsLawful"][3])
+
+    def test_a_field_hides_a_word_in_the_fields_after_it(self):
+        text = "record Pair (a : A) where\n  pub fits : Fits a\n  pub fits_too : fits → more"
+        found = load("reference").words_of(text)
+        self.assertEqual(found & {"fits", "Fits", "more", "fits_too"}, {"Fits", "more"})
 
     def test_an_unknown_crate_is_told_before_a_page_is_written(self):
         top = self.copy("mutants.d", "proofs", "specs")

@@ -56,6 +56,42 @@ fn fails() {
 """
 
 
+SPECS = {
+    "one/specs/Lib.antt": "pub use Rattle.two.specs.Rules\n",
+    "one/specs/List/Words.antt": """-- Words about lists.
+use Rattle.std.specs.Prelude.{length, capacity}
+
+-- `size v` is the number of items of `v`.
+abbrev pub size : V → ℕ
+size v = length v
+
+-- `IsSmall n` hides its body.
+pub IsSmall : ℕ → Type 0
+IsSmall n = n < 10
+
+pub small_is : IsSmall 1
+small_is = holds
+
+-- `R a b` describes one step.
+module _ (R : ℕ → ℕ → Type 0) where
+  -- `Steps a b` holds after some steps.
+  abbrev pub Steps : ℕ → ℕ → Type 0
+  Steps a b = R a b
+
+-- Outside.
+abbrev pub Outside : Type 0
+Outside = IsSmall 2
+""",
+    "two/specs/Rules.antt": """-- `capacity n` is a rule.
+abbrev pub capacity : ℕ → ℕ
+capacity n = n
+""",
+    "two/src/use.rt": """ghost use Rattle.one.specs.List.Words.{IsSmall as Small, size};
+    ghost use Rattle.one.specs.Rules.{capacity};
+""",
+}
+
+
 class Reading(ToolTest):
     def setUp(self):
         self.path = self.folder() / "double.rt"
@@ -124,6 +160,49 @@ class Reading(ToolTest):
             tests = [(path.name, item.name) for path, item in rattle_source.tests_of("one")]
             self.assertEqual(tests, [("lib.rt", "fails")])
             self.assertEqual(rattle_source.lemmas("one"), {"halves", "inner"})
+
+    def specs(self):
+        """A folder with the files of `SPECS`."""
+        top = self.folder()
+        for name, text in SPECS.items():
+            path = top / "crates" / name
+            path.parent.mkdir(parents=True, exist_ok=True)
+            path.write_text(text, encoding="utf-8")
+        return top
+
+    def test_the_definitions_of_a_file(self):
+        path = self.specs() / "crates/one/specs/List/Words.antt"
+        found = rattle_source.definitions_in(path)
+        self.assertEqual(list(found), ["size", "IsSmall", "Steps", "Outside"])
+        _, comment, lines = found["Steps"]
+        self.assertEqual(
+            comment, ["`Steps a b` holds after some steps.", "`R a b` describes one step."]
+        )
+        self.assertEqual(lines[0], "module _ (R : ℕ → ℕ → Type 0) where")
+        self.assertEqual(found["Outside"][1], ["Outside."])
+        self.assertEqual(
+            found["Outside"][2], ["abbrev pub Outside : Type 0", "Outside = IsSmall 2"]
+        )
+
+    def test_a_word_means_what_its_use_line_names(self):
+        top = self.specs()
+        words = top / "crates/one/specs/List/Words.antt"
+        rules = top / "crates/two/specs/Rules.antt"
+        source = top / "crates/two/src/use.rt"
+        with mock.patch.object(rattle_source, "TOP", top):
+            meanings = [
+                (source, "Small", (words, "IsSmall")),
+                (source, "size", (words, "size")),
+                (source, "capacity", (rules, "capacity")),
+                (source, "IsSmall", None),
+                (words, "size", (words, "size")),
+                (words, "capacity", None),
+                (words, "length", None),
+                (rules, "size", None),
+            ]
+            for path, word, meaning in meanings:
+                with self.subTest(path=path.name, word=word):
+                    self.assertEqual(rattle_source.definition(path, word), meaning)
 
     def test_a_brace_that_is_not_closed(self):
         self.path = self.folder() / "open.rt"
