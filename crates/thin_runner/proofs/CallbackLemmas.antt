@@ -81,7 +81,7 @@ module _ {S T J : Type 0} (R : S → T → T → Bool → S → T → T → Type
       → w.capacity ≡ v.capacity → w.alloc ≡ v.alloc
       → w ≡ filtered_list v (test_pairs same (judge_of s) v.items)
   deduped-by s v w r capacity alloc =
-      let by = test_pairs-by s r.0 v.items r.1.stays w.items r.1.asked in
+      let by = test_pairs-by s r.0 v.items r.1.kept w.items r.1.asked in
       let cost = r.1.cost ∙ ap (λ m. add_moves m v.cost) by.0 in
       λ i. record { items = by.1 i; capacity = capacity i; alloc = alloc i; cost = cost i }
 

@@ -90,7 +90,7 @@ module _ {T A : Type 0} {rule : GrowthRule} {R : RattleType} {old : ListView T A
   pub replaces : {new v : ListView T A} {placed : List T} {left : Count} {most extra : ℕ}
       → new.items ≡ (take a old.items ++ placed) ++ drop b old.items
       → ExtendsCapacity rule R v new left
-      → CostsInserting v new extra → PreservesList R v new → v ≡ without_range old a b
+      → CostsInserting extra v new → PreservesList R v new → v ≡ without_range old a b
       → left ≡ at_most most
       → extra ≡ 2 * (length old.items - b) → Replaces rule R old a b placed most new
   replaces {new} {v} {placed} {left} {most} {extra} items grows cost keeps same count double =
@@ -98,8 +98,8 @@ module _ {T A : Type 0} {rule : GrowthRule} {R : RattleType} {old : ListView T A
         items = items;
         capacity = subst (λ (u : ListView T A). ExtendsCapacity rule R u new (at_most most)) same
             (subst (λ (n : Count). ExtendsCapacity rule R v new n) count grows);
-        cost = subst (λ (u : ListView T A). CostsInserting u new (2 * (length old.items - b))) same
-            (subst (λ (n : ℕ). CostsInserting v new n) double cost);
+        cost = subst (λ (u : ListView T A). CostsInserting (2 * (length old.items - b)) u new) same
+            (subst (λ (n : ℕ). CostsInserting n v new) double cost);
         keeps = subst (λ (u : ListView T A). PreservesList R u new) same keeps;
       }
 

@@ -43,7 +43,7 @@ module _ {S T : Type 0} (R : S → T → T → Bool → S → T → T → Type 0
   pub deduped_deduped : {A : Type 0} (s : S) (v w : ListView T A) → IsDedupedBy R s v w
       → IsDeduped R s v.items w.items
   deduped_deduped s v w h =
-      record { told = dedups_all v.items s h.1.stays w.items h.0 h.1.asked }
+      record { told = dedups_all v.items s h.1.kept w.items h.0 h.1.asked }
 
   pub deduped_dedup : {A : Type 0} (same : T → T → Bool) {s : S} {v w : ListView T A}
       → ((x y : T) (b : Bool) (t : S) (x' y' : T) → R s x y b t x' y'

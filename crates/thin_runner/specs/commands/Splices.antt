@@ -29,7 +29,7 @@ module _ {T A : Type 0} (rule : GrowthRule) (R : RattleType) (old : ListView T A
   pub record Replaces (placed : List T) (most : ℕ) (new : ListView T A) : Type 0 where
     pub items : new.items ≡ (take a old.items ++ placed) ++ drop b old.items
     pub capacity : ExtendsCapacity rule R (without_range old a b) new (at_most most)
-    pub cost : CostsInserting (without_range old a b) new (2 * (length old.items - b))
+    pub cost : CostsInserting (2 * (length old.items - b)) (without_range old a b) new
     pub keeps : PreservesList R (without_range old a b) new
 
   -- `StopsBetween` describes a splice, or a call to `extend`, that failed with `cause` and turned

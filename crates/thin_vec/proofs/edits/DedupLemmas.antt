@@ -269,8 +269,8 @@ module _ {J S T : Type 0} (R : OnPairs S T) (inside : J → S) where
   deduped-through s v w t h = (
     inside t,
     record {
-      stays = h.stays;
-      asked = pairs-through v.items s t h.stays w.items
+      kept = h.kept;
+      asked = pairs-through v.items s t h.kept w.items
           h.asked;
       cost = h.cost;
     },
@@ -315,7 +315,7 @@ module _ {S T : Type 0} (R : OnPairs S T) where
 
   pub few-deduped : {A : Type 0} (s : S) (v w : ListView T A) → IsDedupedBy R s v w
       → length w.items ≤ length v.items
-  few-deduped s v w h = few-pairs v.items s h.0 h.1.stays w.items h.1.asked
+  few-deduped s v w h = few-pairs v.items s h.0 h.1.kept w.items h.1.asked
 
   -- As many flags are true as items are kept after the first.
   kept-last : (xs : List T) (s t : S) (k : T) (stays : List Bool) (ys : List T)
@@ -344,7 +344,7 @@ module _ {S T : Type 0} (R : OnPairs S T) where
   pub deduped-moves : {A : Type 0} (s t : S) (v w : ListView T A) → IsDedupedTo R s v w t
       → MovesAtMost (length w.items) v.cost w.cost
   deduped-moves s t v w h = record {
-    moves = moves_of_retain h.stays;
-    few = few-moves v.items s t h.stays w.items h.asked;
+    moves = moves_of_retain h.kept;
+    few = few-moves v.items s t h.kept w.items h.asked;
     cost = h.cost;
   }

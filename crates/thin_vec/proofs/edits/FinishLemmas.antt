@@ -9,11 +9,11 @@ use Rattle.std.specs.declared.result.Result.TheVariants.{Ok, Err}
 use Rattle.std.specs.Iterator.{Count, Drains, IsFinite, Yields, size}
 use Rattle.thin_block.specs.Cost.{add_moves}
 use Rattle.thin_block.specs.Growth.{IsLawful, GrowthRule, grown_capacity}
-use Rattle.thin_vec.specs.List.Extend.{IsCapacityAfterExtend, IsKeptOrChosen, RequestsAtMost}
+use Rattle.thin_vec.specs.List.Extend.{IsKeptOrChosen}
 use Rattle.thin_vec.specs.Put.{YieldsThenMayEnd, IsFilledBy}
 use Rattle.thin_vec.specs.declared.put.Filled.{Filled}
 use Rattle.thin_vec.specs.Edits.Splice.{IsSpliceCause, SpliceErrorAccountsFor}
-use Rattle.thin_vec.specs.Edits.Finish.{AddsFromIter, FinishesSplice, without_middle, with_replacement}
+use Rattle.thin_vec.specs.Edits.Finish.{AddsFromIter, FinishesSplice, IsCapacityAfterExtend, without_middle, with_replacement}
 use Rattle.thin_vec.specs.OpenView.{OpenView, cost_closed, items_of}
 use Rattle.thin_vec.specs.ThinVec.{ListView}
 use Rattle.thin_vec.specs.declared.errors.SpliceRefused.{SpliceRefused}
@@ -211,8 +211,8 @@ module _ {S T A : Type 0} {steps : S → Option T → S → Type 0} {can : S →
         → IsCapacityAfterExtend rule R (without_middle v a) w.capacity (length w.items)
         (remaining s)
         → (0 < length v.tail → w.cost.blocks ≤ v.cost.blocks + 2)
-        → (v.tail ≡ [] → RequestsAtMost (w.cost.blocks - v.cost.blocks)
-        (length w.items - length (v.front ++ v.tail)) (remaining s))
+        → (v.tail ≡ [] → w.cost.blocks
+        ≤ v.cost.blocks + 1 + (length w.items - length (v.front ++ v.tail)))
         → FinishesSplice steps can remaining rule R v a s w (Ok x)
     finished-ok x items taken ruled blocks requests = record {
       succeeds = λ _. refl;

@@ -98,7 +98,7 @@ module _ {S X : Type 0} (steps : S → Option X → S → Type 0) where
 
 module _ {T A : Type 0} where
   pub inserting-run : (v w : ListView T A) (k m n : ℕ) → w.cost ≡ add_moves (k + m) v.cost
-      → w.capacity ≡ v.capacity → length w.items ≡ length v.items + k → m ≤ n → CostsInserting v w n
+      → w.capacity ≡ v.capacity → length w.items ≡ length v.items + k → m ≤ n → CostsInserting n v w
   inserting-run v w k m n e same long few =
       omega (arith, ap (λ c. c.blocks) e, ap (λ c. c.grown) e, ap (λ c. c.moves) e)
 

@@ -16,9 +16,9 @@ use Rattle.thin_block.specs.Block.{BlockView}
 use Rattle.thin_block.specs.Cost.{add_moves}
 use Rattle.thin_block.specs.Growth.{GrowthRule, IsLawful, exact_capacity}
 use Rattle.thin_block.specs.Slots.{filled_slots, write_slots}
-use Rattle.thin_block.proofs.CapacityLemmas.{ruled-grows}
+use Rattle.thin_block.proofs.CapacityLemmas.{ruled-grows, ruled-same}
 use Rattle.thin_block.proofs.SlotsLemmas.{written-one}
-use Rattle.thin_vec.specs.List.Extend.{IsCapacityAfterCollect, CostsInserting, IsKeptOrChosen, IsKeptOrGrown, YieldsAndCanContinue}
+use Rattle.thin_vec.specs.List.Extend.{IsCapacityAfterCollect, IsChosenByRule, CostsInserting, IsKeptOrChosen, IsKeptOrGrown, YieldsAndCanContinue}
 use Rattle.thin_vec.specs.ThinVec.{IsNew, ListView, capacity_after_reserve, cost_after_resize, capacity_after_reserve_exact}
 use Rattle.thin_vec.specs.declared.errors.ExtendRefused.{ExtendRefused}
 use Rattle.thin_vec.proofs.RetainLemmas.{moving-more, moving-none}
@@ -151,6 +151,21 @@ module _ (rule : GrowthRule) (R : RattleType) (law : IsLawful rule) where
   ruled-after c d e n P (inl same) f = inr (f same)
   ruled-after c d e n P (inr p) f = inl (inr p)
 
+  -- The old capacity is the one after `reserve(0)`.
+  pub ruled-reserved : {T A : Type 0} (v : ListView T A) (d n : ℕ) (left : Count)
+      → length v.items ≤ v.capacity
+      → IsKeptOrChosen rule R v.capacity d n
+      ⊎ ((h : ℕ) × IsWithinCount h left × (capacity_after_reserve rule R v h ≡ Some d))
+      → IsChosenByRule rule R d n
+      ⊎ ((h : ℕ) × IsWithinCount h left × (capacity_after_reserve rule R v h ≡ Some d))
+  ruled-reserved v d n left room (inl (inl same)) = inr (
+    0,
+    (λ _. omega arith),
+    ruled-same rule R v.capacity (length v.items + 0) (omega (arith, room)) ∙ ap Some (sym same),
+  )
+  ruled-reserved v d n left room (inl (inr p)) = inl p
+  ruled-reserved v d n left room (inr q) = inr q
+
   pub collected-after : {c d : ℕ} (n h : ℕ) (left : Count) → IsWithinCount h left
       → exact_capacity R 0 h ≡ Some c → IsKeptOrChosen rule R c d n
       → IsCapacityAfterCollect rule R d n left
@@ -178,7 +193,7 @@ module _ {T A : Type 0} where
       → w.cost ≡ add_moves k (cost_after_resize v w.capacity)
       → length w.items ≡ length v.items + k
       → (cost_after_resize v w.capacity).grown + v.capacity ≤ v.cost.grown + w.capacity
-      → CostsInserting v w 0
+      → CostsInserting 0 v w
   filled-at v w k e n few = record {
     copied = omega (arith, ap (λ c. c.grown) e, few);
     least = omega (arith, ap (λ c. c.moves) e, cost_after_resize-moves v w.capacity, n);
@@ -187,7 +202,7 @@ module _ {T A : Type 0} where
       ap (λ c. c.blocks) (e ∙ ap (λ c. add_moves k c) (cost_after_resize-same v w.capacity same)),
       ap (λ c. c.grown) (e ∙ ap (λ c. add_moves k c) (cost_after_resize-same v w.capacity same)),
     );
-    grown = λ more. let f =
+    on_growth = λ more. let f =
         e ∙ ap (λ c. add_moves k c) (cost_after_resize-more v w.capacity more) in
         (omega (arith, ap (λ c. c.blocks) f), omega (arith, ap (λ c. c.grown) f));
   }
@@ -195,14 +210,14 @@ module _ {T A : Type 0} where
   pub filled-reserved : (v w : ListView T A) → w.cost ≡ cost_after_resize v w.capacity
       → w.items ≡ v.items
       → (cost_after_resize v w.capacity).grown + v.capacity ≤ v.cost.grown + w.capacity
-      → CostsInserting v w 0
+      → CostsInserting 0 v w
   filled-reserved v w e n few =
       filled-at v w 0 (e ∙ sym (moving-none (cost_after_resize v w.capacity)))
       (omega (arith, ap length n)) few
 
   pub filled-spare : (v w : ListView T A) (k : ℕ)
       → w ≡ record v { items = w.items; cost = add_moves k v.cost }
-      → length w.items ≡ length v.items + k → CostsInserting v w 0
+      → length w.items ≡ length v.items + k → CostsInserting 0 v w
   filled-spare v w k e n =
       let same : w.capacity ≡ v.capacity = ap (λ u. u.capacity) e in
       let kept : cost_after_resize v w.capacity ≡ v.cost =
@@ -210,22 +225,22 @@ module _ {T A : Type 0} where
       filled-at v w k (ap (λ u. u.cost) e ∙ ap (λ c. add_moves k c) (sym kept)) n
       (omega (arith, ap (λ c. c.grown) kept, same))
 
-  pub inserting-join : {v u w : ListView T A} (m n k : ℕ) → m + n ≤ k → CostsInserting v u m
-      → CostsInserting u w n → v.capacity ≤ u.capacity → u.capacity ≤ w.capacity
-      → length v.items ≤ length u.items → CostsInserting v w k
+  pub inserting-join : {v u w : ListView T A} (m n k : ℕ) → m + n ≤ k → CostsInserting m v u
+      → CostsInserting n u w → v.capacity ≤ u.capacity → u.capacity ≤ w.capacity
+      → length v.items ≤ length u.items → CostsInserting k v w
   inserting-join {v} {u} {w} m n k few p q low high long = record {
     copied = omega (arith, p.copied, q.copied);
     least = omega (arith, p.least, q.least);
     moves = omega (arith, p.moves, q.moves, few);
     kept = λ same. omega (arith, p.kept (omega arith), q.kept (omega arith));
-    grown = λ more. elim (cases_lt v.capacity u.capacity) [
+    on_growth = λ more. elim (cases_lt v.capacity u.capacity) [
       | inl first ↦ elim (cases_lt u.capacity w.capacity) [
-        | inl again ↦ omega (arith, p.grown first, q.grown again)
-        | inr still ↦ omega (arith, p.grown first, q.kept (omega arith))
+        | inl again ↦ omega (arith, p.on_growth first, q.on_growth again)
+        | inr still ↦ omega (arith, p.on_growth first, q.kept (omega arith))
       ]
-      | inr still ↦ omega (arith, p.kept (omega arith), q.grown (omega arith))
+      | inr still ↦ omega (arith, p.kept (omega arith), q.on_growth (omega arith))
     ];
   }
 
-  pub inserting-more : (v w : ListView T A) (n : ℕ) → CostsInserting v w 0 → CostsInserting v w n
+  pub inserting-more : (v w : ListView T A) (n : ℕ) → CostsInserting 0 v w → CostsInserting n v w
   inserting-more v w n p = omega arith

@@ -11,33 +11,33 @@ use Rattle.thin_vec.specs.Edits.Retain.{moves_of_retain}
 -- changes the state of the test from `s` to `t`, the item from `x` to `y`, and the kept item from
 -- `k` to `l`.
 module _ {S T : Type 0} (R : S → T → T → Bool → S → T → T → Type 0) where
-  -- `TestsEachAgainstLast s k xs stays ys t` states that the items of `xs` were tested in order,
+  -- `TestsEachAgainstLast s k xs kept ys t` states that the items of `xs` were tested in order,
   -- each against the last item that was kept before it. For the first item of `xs`, this last kept
-  -- item is `k`. The tests changed the state from `s` to `t`. The list `stays` contains one flag
+  -- item is `k`. The tests changed the state from `s` to `t`. The list `kept` contains one flag
   -- for each item of `xs`, which is true if the item was kept. The list `ys` contains `k` and then
   -- the kept items, as the tests left them.
   abbrev pub TestsEachAgainstLast : S → T → List T → List Bool → List T → S → Type 0
-  TestsEachAgainstLast s k [] stays ys t = (stays ≡ []) × (ys ≡ k ∷ []) × (t ≡ s)
-  TestsEachAgainstLast s k (x ∷ xs) stays ys t =
+  TestsEachAgainstLast s k [] kept ys t = (kept ≡ []) × (ys ≡ k ∷ []) × (t ≡ s)
+  TestsEachAgainstLast s k (x ∷ xs) kept ys t =
       (b : Bool) × (x' : T) × (k' : T) × (u : S) × (later : List Bool) × R s x k b u x' k'
-      × (stays ≡ not b ∷ later)
+      × (kept ≡ not b ∷ later)
       × MatchBool b (TestsEachAgainstLast u k' xs later ys t)
       ((zs : List T) × TestsEachAgainstLast u x' xs later zs t × (ys ≡ k' ∷ zs))
 
-  -- `TestsAllAgainstLast s xs stays ys t` holds if each item of `xs` except the first was tested
-  -- against the last item kept before it. The flags `stays` mark the kept items, and `ys` contains
+  -- `TestsAllAgainstLast s xs kept ys t` holds if each item of `xs` except the first was tested
+  -- against the last item kept before it. The flags `kept` mark the kept items, and `ys` contains
   -- the first item and the kept items after the tests. The state of the test changed from `s` to
   -- `t`.
   abbrev pub TestsAllAgainstLast : S → List T → List Bool → List T → S → Type 0
-  TestsAllAgainstLast s [] stays ys t = (stays ≡ []) × (ys ≡ []) × (t ≡ s)
-  TestsAllAgainstLast s (x ∷ xs) stays ys t = TestsEachAgainstLast s x xs stays ys t
+  TestsAllAgainstLast s [] kept ys t = (kept ≡ []) × (ys ≡ []) × (t ≡ s)
+  TestsAllAgainstLast s (x ∷ xs) kept ys t = TestsEachAgainstLast s x xs kept ys t
 
   -- `IsDedupedTo s v w t` holds if removing the duplicates turned the list `v` into `w`, and
   -- changed the state of the test from `s` to `t`.
   pub record IsDedupedTo {A : Type 0} (s : S) (v w : ListView T A) (t : S) : Type 0 where
-    pub stays : List Bool
-    pub asked : TestsAllAgainstLast s v.items stays w.items t
-    pub cost : w.cost ≡ add_moves (moves_of_retain stays) v.cost
+    pub kept : List Bool
+    pub asked : TestsAllAgainstLast s v.items kept w.items t
+    pub cost : w.cost ≡ add_moves (moves_of_retain kept) v.cost
 
   -- `IsDedupedBy s v w` holds if removing the duplicates turned the list `v` into `w`, where the
   -- test started in the state `s`.

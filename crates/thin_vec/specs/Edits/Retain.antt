@@ -10,12 +10,12 @@ count_true [] = zero
 count_true (true ∷ flags) = suc (count_true flags)
 count_true (false ∷ flags) = count_true flags
 
--- `moves_of_retain stays` is the number of kept items that follow the first removed item. The flags
--- `stays` say for each item whether it is kept.
+-- `moves_of_retain kept` is the number of kept items that follow the first removed item. The flags
+-- `kept` say for each item whether it is kept.
 abbrev pub moves_of_retain : List Bool → ℕ
 moves_of_retain [] = zero
-moves_of_retain (true ∷ stays) = moves_of_retain stays
-moves_of_retain (false ∷ stays) = count_true stays
+moves_of_retain (true ∷ kept) = moves_of_retain kept
+moves_of_retain (false ∷ kept) = count_true kept
 
 -- `TestResults T` is the type of lists of results. A result for an item consists of a flag, which
 -- is true if the item is kept, and the item as the test left it.

@@ -59,10 +59,10 @@ module _ {T A : Type 0} where
     pub by_push : tail ≡ [] → IsSome error.in_hand → LacksRoom rule R w 1 error.cause
 
 module _ {I T A G H : Type 0} {g : Ghosts G} {h : IntoInnerGhosts H (OpenView T A)} where
-  -- `left_by_splice s` is the list without the range: the items before and after it. `finish` then
-  -- inserts the items of the iterator between them. The contract of `splice` says what this list
-  -- is, and calls to `next` and `next_back` do not change it. The prover unfolds this definition
-  -- only on request.
+  -- `left_by_splice s` is the list without the range: the items before and after it. The contract
+  -- of `splice` says what this list is, calls to `next` and `next_back` do not change it, and the
+  -- contract of `finish` says what `finish` adds to it. The prover unfolds this definition only on
+  -- request.
   unfoldable pub left_by_splice : Splice I T A G H g h → ListView T A
   left_by_splice s = record {
     items = (h.inner s.holder).front ++ (h.inner s.holder).tail;
@@ -103,8 +103,8 @@ module _ {I T A G H : Type 0} {g : Ghosts G} {h : IntoInnerGhosts H (OpenView T 
   abbrev pub splice_lender : Splice I T A G H g h → GName
   splice_lender s = s.list.ghost_name
 
-  -- `HasSlotsFor s n` states that the `Splice` `s` can insert `n` items without a request for
-  -- memory. It holds in two cases:
+  -- `HasSlotsFor s n` states that `finish` of the `Splice` `s` cannot fail to insert `n` items,
+  -- because it requests no memory for them. It holds in two cases:
   --
   -- - The range has at least `n` slots.
   -- - No item follows the range, and the list without the range has room for `n` more items.

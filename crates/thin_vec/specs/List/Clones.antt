@@ -59,11 +59,10 @@ pub record IsResized {T : Type 0} (clones : T → T → Type 0) (xs : List T) (n
 -- `after` at the end of the call. `infallible x` states that cloning `x` cannot fail.
 pub record FailsAtClone {T : Type 0} (infallible : T → Type 0) (sources : List T)
     (before after : Cost) : Type 0 where
-  -- The index of the item that could not be cloned. So this is also the number of clones that were
-  -- made before. No clause says which index it is.
+  -- The index of an item whose cloning can fail. As many clones were made as there are items before
+  -- it.
   pub at : ℕ
   pub in_bounds : at < length sources
-  -- This states only that cloning the item at this index could fail.
   pub fallible : HoldsAt (λ x. ¬ (infallible x)) sources at
   -- Each clone that was made counts as one move, although it was dropped again.
   pub cost : after ≡ add_moves at before
@@ -76,11 +75,10 @@ pub record LeftByFailedClone {T A : Type 0} (wanted : Option ℕ) (infallible : 
     (sources : List T) (v w : ListView T A) : Type 0 where
   pub items : w.items ≡ v.items
   pub capacity : wanted ≡ Some w.capacity
-  -- The index of the item that could not be cloned. So this is also the number of clones that were
-  -- made before. No clause says which index it is.
+  -- The index of an item whose cloning can fail. As many clones were made as there are items before
+  -- it.
   pub at : ℕ
   pub in_bounds : at < length sources
-  -- This states only that cloning the item at this index could fail.
   pub fallible : HoldsAt (λ x. ¬ (infallible x)) sources at
   -- The cost of reserving, and one move for each clone that was made.
   pub cost : w.cost ≡ add_moves at (cost_after_resize v w.capacity)

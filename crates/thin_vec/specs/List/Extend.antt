@@ -53,28 +53,12 @@ IsChosenByRule rule R d n =
 abbrev pub IsKeptOrChosen : GrowthRule → RattleType → ℕ → ℕ → ℕ → Type 0
 IsKeptOrChosen rule R c d n = (d ≡ c) ⊎ IsChosenByRule rule R d n
 
--- `IsCapacityAfterExtend rule R v d n limit` is the field `ruled` of `ExtendsCapacity`: the list
--- `v` may have capacity `d` and length `n` after items of an iterator were added to it. No public
--- contract uses this definition.
-abbrev pub IsCapacityAfterExtend : {T A : Type 0} → GrowthRule → RattleType → ListView T A → ℕ → ℕ
-    → Count → Type 0
-IsCapacityAfterExtend rule R v d n limit =
-    IsKeptOrChosen rule R v.capacity d n
-    ⊎ ((h : ℕ) × IsWithinCount h limit × (capacity_after_reserve rule R v h ≡ Some d))
-
 -- `IsCapacityAfterCollect rule R d n limit` holds if `d` is a possible capacity of a new list that
 -- has been filled from an iterator. Here, `n` is the length of the list, `rule` is its growth rule,
 -- and `R` is its item type. At the start, the iterator could yield at most `limit` items.
 abbrev pub IsCapacityAfterCollect : GrowthRule → RattleType → ℕ → ℕ → Count → Type 0
 IsCapacityAfterCollect rule R d n limit =
     IsChosenByRule rule R d n ⊎ ((h : ℕ) × IsWithinCount h limit × (exact_capacity R 0 h ≡ Some d))
-
--- `RequestsAtMost requests n limit` bounds the number of requests for memory of a call that
--- appended `n` items of an iterator: there was at most one request for the first `h` items, and at
--- most one for each item after them. Here, `h` is a possible lower bound in the size hint of the
--- iterator, which could yield at most `limit` items.
-abbrev pub RequestsAtMost : ℕ → ℕ → Count → Type 0
-RequestsAtMost requests n limit = (h : ℕ) × IsWithinCount h limit × (requests ≤ 1 + (n - h))
 
 module _ {T A : Type 0} where
   -- `ExtendsCapacity rule R v w limit` restricts the capacity of the list `w`, which is the list
@@ -88,22 +72,20 @@ module _ {T A : Type 0} where
     pub had_room : HasRoomFor v (size limit) → w.capacity ≡ v.capacity
     -- If the capacity changed, it is at least one that the growth rule chooses for more items than
     -- the old capacity.
-    pub at_least : (w.capacity ≡ v.capacity)
-        ⊎ ((want : ℕ) × (n : ℕ) × (v.capacity < want)
-        × (grown_capacity rule R v.capacity want ≡ Some n) × (n ≤ w.capacity))
-    -- The new capacity is the old one, one that the growth rule chooses for at most
-    -- `length w.items` items, or the one after `reserve(h)` on `v`, where `h` is at most `limit`.
-    -- For `extend`, `h` is a possible lower bound in the size hint. For `finish` of a `Splice` with
-    -- items after the range, it is the number of slots of the range plus a possible lower bound for
-    -- the items that did not fit there.
-    pub ruled : ((w.capacity ≡ v.capacity) ⊎ IsChosenByRule rule R w.capacity (length w.items))
+    pub at_least : IsKeptOrGrown rule R v.capacity w.capacity
+    -- The new capacity is one that the growth rule chooses for at most `length w.items` items, or
+    -- the one after `reserve(h)` on `v`, where `h` is at most `limit`. If `h` is 0, this is the old
+    -- capacity. For `extend`, `h` may be a possible lower bound in the size hint. For `finish` of a
+    -- `Splice` with items after the range, it may be the number of slots of the range plus a
+    -- possible lower bound for the items that did not fit there.
+    pub ruled : IsChosenByRule rule R w.capacity (length w.items)
         ⊎ ((h : ℕ) × IsWithinCount h limit × (capacity_after_reserve rule R v h ≡ Some w.capacity))
 
-  -- `CostsInserting v w n` bounds the recorded cost of a call that added items to a list, and
+  -- `CostsInserting n v w` bounds the recorded cost of a call that added items to a list, and
   -- changed the list from `v` to `w`. Each added item costs one move, and moving the items that
   -- were already in `v` costs at most `n` moves in total. The fields add on both sides of `≤`
   -- rather than subtract, because a subtraction on `ℕ` ends at 0.
-  pub record CostsInserting (v w : ListView T A) (n : ℕ) : Type 0 where
+  pub record CostsInserting (n : ℕ) (v w : ListView T A) : Type 0 where
     -- There were at least as many moves as added items.
     pub least : v.cost.moves + length w.items ≤ w.cost.moves + length v.items
     -- There were at most `n` more moves than added items.
@@ -112,17 +94,17 @@ module _ {T A : Type 0} where
     pub kept : w.capacity ≡ v.capacity → (w.cost.blocks ≡ v.cost.blocks)
         × (w.cost.grown ≡ v.cost.grown)
     -- Growth requested memory at least once, and copied each item of `v` at least once.
-    pub grown : v.capacity < w.capacity → (v.cost.blocks < w.cost.blocks)
+    pub on_growth : v.capacity < w.capacity → (v.cost.blocks < w.cost.blocks)
         × (v.cost.grown + length v.items ≤ w.cost.grown)
     -- The call copied at most as many items as the capacity has grown by.
     pub copied : w.cost.grown + v.capacity ≤ v.cost.grown + w.capacity
 
-  -- `CostsExtending v w limit` bounds the recorded cost of a call that appended the items of an
-  -- iterator, and changed the list from `v` to `w`. The iterator could yield at most `limit` items.
-  pub record CostsExtending (v w : ListView T A) (limit : Count) : Type 0 where
-    pub inserting : CostsInserting v w 0
-    pub requests : RequestsAtMost (w.cost.blocks - v.cost.blocks)
-        (length w.items - length v.items) limit
+  -- `CostsExtending v w` bounds the recorded cost of a call that appended the items of an iterator,
+  -- and changed the list from `v` to `w`.
+  pub record CostsExtending (v w : ListView T A) : Type 0 where
+    pub inserting : CostsInserting 0 v w
+    -- There was at most one request for memory, and one more for each added item.
+    pub requests : w.cost.blocks ≤ v.cost.blocks + 1 + (length w.items - length v.items)
 
   -- `IsCollectedList rule R a w limit` describes a new list `w` that was made from the items of an
   -- iterator. The allocator is `a`, the growth rule is `rule`, and the item type is `R`. The
@@ -136,7 +118,8 @@ module _ {T A : Type 0} where
     -- `length w.items` items, or a possible lower bound in the size hint of the iterator.
     pub ruled : IsCapacityAfterCollect rule R w.capacity (length w.items) limit
     pub moves : w.cost.moves ≡ length w.items
-    pub requests : RequestsAtMost w.cost.blocks (length w.items) limit
+    -- There was at most one request for memory, and one more for each item.
+    pub requests : w.cost.blocks ≤ 1 + length w.items
     pub made : IsFreshList R a w
 
   -- `ExtendsList rule R v xs w` describes a call that appended the items `xs` to a list, and
@@ -146,7 +129,7 @@ module _ {T A : Type 0} where
   ExtendsList rule R v xs w =
       (w.items ≡ v.items ++ xs) × (length w.items ≡ length v.items + length xs)
       × (v.capacity ≤ w.capacity) × IsKeptOrGrown rule R v.capacity w.capacity
-      × CostsInserting v w 0
+      × CostsInserting 0 v w
       × (w.alloc ≡ v.alloc) × (IsCheap v → IsCheap w) × IsBounded R w
 
   -- `IsCollectedFrom R xs v` states what std's `FromIterator` guarantees about a list `v` that was

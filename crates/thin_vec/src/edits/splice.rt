@@ -4,8 +4,8 @@ ghost use Rattle.std.specs.Iterator.{Drains, IsFinite, size};
 ghost use Rattle.std.specs.Iterator.Runs.{WholeRun};
 ghost use Rattle.std.specs.List.{remove_range};
 ghost use Rattle.thin_vec.specs.List.Capacity.{PreservesList};
-ghost use Rattle.thin_vec.specs.List.Extend.{CostsInserting, ExtendsCapacity, RequestsAtMost};
-ghost use Rattle.thin_vec.specs.ThinVec.{IsBounded};
+ghost use Rattle.thin_vec.specs.List.Extend.{CostsInserting, ExtendsCapacity};
+ghost use Rattle.thin_vec.specs.ThinVec.{HasRoomFor, IsBounded};
 ghost use Rattle.thin_block.specs.Block.{IsAllocatedBy};
 ghost use Rattle.thin_block.specs.Cost.{no_cost};
 
@@ -155,10 +155,12 @@ impl<
             (λ p. self.exit.0.now.items
             ≡ (splice_front self.entry ++ p.items) ++ splice_tail self.entry)) }
 
-        // When it must succeed, and when the list makes no request for memory.
+        // When it must succeed, and when the list makes no request for memory. `had_room` follows
+        // from `capacity` and `cost`.
         ensures succeeds { HasSlotsFor self.entry (size (I.remaining (splice_iter self.entry)))
             → IsOk result }
-        ensures had_room { HasSlotsFor self.entry (size (I.remaining (splice_iter self.entry)))
+        ensures had_room { HasRoomFor (left_by_splice self.entry)
+            (size (I.remaining (splice_iter self.entry)))
             → (self.exit.0.now.capacity ≡ (left_by_splice self.entry).capacity)
             × (self.exit.0.now.cost.blocks ≡ (left_by_splice self.entry).cost.blocks) }
 
@@ -188,16 +190,18 @@ impl<
         ensures capacity { ExtendsCapacity G.rule T.row (left_by_splice self.entry) self.exit.0.now
             (I.remaining (splice_iter self.entry)) }
 
-        ensures cost { CostsInserting (left_by_splice self.entry) self.exit.0.now
-            (2 * length (splice_tail self.entry)) }
+        ensures cost { CostsInserting (2 * length (splice_tail self.entry))
+            (left_by_splice self.entry) self.exit.0.now }
 
         ensures blocks { (0 < length (splice_tail self.entry)
             → self.exit.0.now.cost.blocks ≤ (left_by_splice self.entry).cost.blocks + 2)
-            × (splice_tail self.entry ≡ [] → RequestsAtMost
-            (self.exit.0.now.cost.blocks - (left_by_splice self.entry).cost.blocks)
-            (length self.exit.0.now.items - length (left_by_splice self.entry).items)
-            (I.remaining (splice_iter self.entry))) }
+            × (splice_tail self.entry ≡ []
+            → self.exit.0.now.cost.blocks ≤ (left_by_splice self.entry).cost.blocks + 1
+            + (length self.exit.0.now.items - length (left_by_splice self.entry).items)) }
         ensures preserved { PreservesList T.row (left_by_splice self.entry) self.exit.0.now }
+
+        // The slots of the range are a part of the capacity.
+        ensures bounds { HasRoomFor (left_by_splice self.entry) (splice_range_len self.entry) }
     {
         let Splice { list, holder, iter } = self;
         let mut block = holder.into_inner();

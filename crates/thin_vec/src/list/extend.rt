@@ -58,7 +58,7 @@ impl<T, A: Allocator, G: Growth> ThinVec<T, A, G> {
 
         // In every case.
         ensures capacity { ExtendsCapacity G.rule T.row self.old self.new (I.remaining iter) }
-        ensures cost { CostsExtending self.old self.new (I.remaining iter) }
+        ensures cost { CostsExtending self.old self.new }
         ensures preserved { PreservesList T.row self.old self.new }
     {
         match self.reserve(iter.size_hint().0) {
@@ -103,7 +103,7 @@ impl<T, A: Allocator, G: Growth> ThinVec<T, A, G> {
         ensures at_least { IsKeptOrGrown G.rule T.row self.old.capacity self.new.capacity }
         ensures capacity { IsKeptOrChosen G.rule T.row self.old.capacity self.new.capacity
             (length self.new.items) }
-        ensures cost { CostsInserting self.old self.new 0 }
+        ensures cost { CostsInserting 0 self.old self.new }
         ensures blocks { self.new.cost.blocks
             ≤ self.old.cost.blocks + (length self.new.items - self.old.capacity) }
         ensures preserved { PreservesList T.row self.old self.new }

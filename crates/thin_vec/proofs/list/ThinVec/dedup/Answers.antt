@@ -9,14 +9,14 @@ use Rattle.thin_vec.proofs.list.ThinVec.dedup.Goals as goal
 pub returns-clause-items : goal.returns-clause-items
 returns-clause-items g c =
     let h = c.dedup_with.ensures.deduped in
-    (pairs-compare g.T.PartialEq.eq c.args.self.now.items _ _ h.stays
+    (pairs-compare g.T.PartialEq.eq c.args.self.now.items _ _ h.kept
     c.dedup_with.new.self.items h.asked).1
 
 pub returns-clause-cost : goal.returns-clause-cost
 returns-clause-cost g c =
     let h = c.dedup_with.ensures.deduped in
     h.cost ∙ ap (λ f. add_moves (moves_of_retain f) c.args.self.now.cost)
-    (pairs-compare g.T.PartialEq.eq c.args.self.now.items _ _ h.stays
+    (pairs-compare g.T.PartialEq.eq c.args.self.now.items _ _ h.kept
     c.dedup_with.new.self.items h.asked).0
 
 pub returns-clause-bound : goal.returns-clause-bound

@@ -1,6 +1,6 @@
 -- `extend` reserves room for the lower bound of the size hint, and then calls `extend_unhinted`.
 use Rattle.std.proofs.lemmas.Grind.{common_steps}
-use Rattle.std.proofs.Common.{◌≡◌, ◌++◌, ◌∙◌, List, None, Some, [], ap, arith, inl, length, refl, subst, sym}
+use Rattle.std.proofs.Common.{◌≡◌, ◌++◌, ◌∙◌, List, None, Some, [], ap, arith, inl, inr, length, refl, subst, sym}
 use Rattle.std.proofs.lemmas.List.{append-nil}
 use Rattle.std.specs.Iterator.Runs.{SomeRun, WholeRun}
 use Rattle.std.specs.Option.{option_to_list}
@@ -9,7 +9,7 @@ use denote.Param.{param}
 use Rattle.thin_vec.proofs.ThinVecLemmas.{cost_after_resize-blocks, cost_after_resize-copied}
 use Rattle.std.proofs.lemmas.Bool.{false≢true}
 use Rattle.thin_vec.specs.List.Capacity.{LacksRoom}
-use Rattle.thin_vec.proofs.list.ExtendLemmas.{full-in-hand, ruled-after, run_of_ok, inserting-join, filled-reserved, at_least-join, at_least-le, at_least-ruled, run_given, run_given_err}
+use Rattle.thin_vec.proofs.list.ExtendLemmas.{full-in-hand, ruled-reserved, run_of_ok, inserting-join, filled-reserved, at_least-join, at_least-le, at_least-ruled, run_given, run_given_err}
 use Rattle.thin_vec.proofs.list.ReservesLemmas.{lacks-room}
 use Rattle.thin_vec.proofs.list.ThinVec.extend.Goals as goal
 
@@ -27,12 +27,10 @@ returns-in-Ok-clause-capacity g c =
           e.had_room (omega (arith, room, same, ap length c.reserve.ensures.items)) ∙ same;
       at_least = at_least-join rule T law v.capacity u.capacity w.capacity
           (at_least-ruled rule T law v hint u.capacity reserves.ok) e.at_least;
-      ruled = ruled-after rule T law v.capacity u.capacity w.capacity (length w.items) _ e.capacity
-          (λ same. (
-            hint,
-            c.size_hint.ensures.lower,
-            reserves.ok ∙ ap Some (sym same),
-          ));
+      ruled = elim e.capacity [
+        | inl same ↦ inr (hint, c.size_hint.ensures.lower, reserves.ok ∙ ap Some (sym same))
+        | inr chosen ↦ inl chosen
+      ];
     }
 
 pub returns-in-Ok-clause-cost : goal.returns-in-Ok-clause-cost
@@ -51,26 +49,25 @@ returns-in-Ok-clause-cost g c =
           (at_least-ruled rule T law v hint u.capacity c.in-Ok.ensures.capacity.ok))
           (at_least-le rule T law u.capacity w.capacity e.at_least)
           (omega (arith, ap length c.reserve.ensures.items));
-      requests = (
-        hint,
-        c.size_hint.ensures.lower,
-        omega (
-          arith,
-          ap (λ k. k.blocks) c.in-Ok.ensures.cost,
-          cost_after_resize-blocks v u.capacity,
-          c.in-Ok.ensures.ok,
-          ap length c.reserve.ensures.items,
-        ),
+      requests = omega (
+        arith,
+        ap (λ k. k.blocks) c.in-Ok.ensures.cost,
+        cost_after_resize-blocks v u.capacity,
+        c.in-Ok.ensures.ok,
+        ap length c.reserve.ensures.items,
       );
     }
 
 pub returns-in-Err-clause-capacity : goal.returns-in-Err-clause-capacity
 returns-in-Err-clause-capacity g c =
+    let v = c.args.self.now in let w = c.reserve.new.self in
     let same = ap (λ v. v.capacity) c.in-Err.ensures.err in
     record {
       had_room = λ _. same;
       at_least = inl same;
-      ruled = inl (inl same);
+      ruled = ruled-reserved g.G.Growth.rule (param 0 g.row.T) g.met.G.Growth.law v w.capacity
+          (length w.items) (g.I.Iterator.remaining c.args.iter)
+          c.reserve.ensures.preserved.within.0.room (inl (inl same));
     }
 
 pub returns-in-Err-clause-cause : goal.returns-in-Err-clause-cause
@@ -124,11 +121,7 @@ returns-in-Err-clause-err_runs g c =
 pub returns-in-Err-clause-cost : goal.returns-in-Err-clause-cost
 returns-in-Err-clause-cost g c = record {
   inserting = search (arith, ◌∙◌);
-  requests = (
-    c.size_hint.result.0,
-    c.size_hint.ensures.lower,
-    omega (arith, ap (λ v. v.cost.blocks) c.in-Err.ensures.err),
-  );
+  requests = omega (arith, ap (λ v. v.cost.blocks) c.in-Err.ensures.err);
 }
 
 pub returns-in-Ok-clause-cause : goal.returns-in-Ok-clause-cause

@@ -50,7 +50,7 @@ ruled g c =
     (ap (λ z. z.capacity) (changed g c)) (omega (arith, longer g c)) c.loop-rest.invariant.ruled
 
 spent : (g : _) (c : After-fill_spare-left g)
-    → CostsInserting c.args.self.now c.fill_spare-left.new.self 0
+    → CostsInserting 0 c.args.self.now c.fill_spare-left.new.self
 spent g c =
     let held = c.loop-rest.invariant in
     let v = c.args.self.now in let u = c.loop-rest.self in let w = c.fill_spare-left.new.self in

@@ -20,7 +20,7 @@ invariant-loop-rest g l = record {
   never_less : l.fn.self.capacity ≤ l.self.capacity;
   had_room : length l.fn.self.items + size (g.I.Iterator.remaining l.fn.iter) ≤ l.fn.self.capacity
       → l.self.capacity ≡ l.fn.self.capacity;
-  cost : CostsInserting l.fn.self l.self 0;
+  cost : CostsInserting 0 l.fn.self l.self;
   requests : l.self.cost.blocks
       ≤ l.fn.self.cost.blocks + (length l.self.items - l.fn.self.capacity);
   ruled : IsKeptOrChosen g.G.Growth.rule (param 0 g.row.T) l.fn.self.capacity

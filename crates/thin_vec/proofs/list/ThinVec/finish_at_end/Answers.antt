@@ -1,10 +1,9 @@
 -- `close` leaves only the items before the range, and `extend` appends the items of the iterator.
-use Rattle.std.proofs.Common.{◌≡◌, ◌-◌, ◌*◌, ◌++◌, ◌∙◌, ap, arith, length, length-append, refl, subst, sym}
+use Rattle.std.proofs.Common.{inl, inr, ◌≡◌, ◌+◌, ◌-◌, ◌*◌, ◌≤◌, ◌++◌, ◌∙◌, ap, arith, length, length-append, refl, subst, sym}
 use Rattle.std.specs.Iterator.{size}
 use Rattle.std.specs.Prelude.{MatchOption}
 use denote.Param.{param}
-use Rattle.thin_vec.specs.List.Extend.{IsCapacityAfterExtend, RequestsAtMost}
-use Rattle.thin_vec.specs.Edits.Finish.{AddsFromIter, without_middle}
+use Rattle.thin_vec.specs.Edits.Finish.{AddsFromIter, IsCapacityAfterExtend, without_middle}
 use Rattle.thin_vec.specs.ThinVec.{HasRoomFor}
 use Rattle.thin_vec.proofs.edits.SpliceLemmas.{after-items, closed-left, stop-at-end, stopped-now, when-some}
 use Rattle.thin_vec.proofs.list.ExtendLemmas.{inserting-more}
@@ -44,16 +43,19 @@ ruled g c =
     let w = c.extend.new.self in
     subst (λ z. IsCapacityAfterExtend g.G.Growth.rule (param 0 g.row.T) z w.capacity
     (length w.items)
-    (g.I.Iterator.remaining c.args.iter)) (left g c) c.extend.ensures.capacity.ruled
+    (g.I.Iterator.remaining c.args.iter)) (left g c)
+    (elim c.extend.ensures.capacity.ruled [
+      | inl chosen ↦ inl (inr chosen)
+      | inr reserved ↦ inr reserved
+    ])
 
-requests : (g : _) (c : After-extend g)
-    → RequestsAtMost (c.extend.new.self.cost.blocks - c.args.block.cost.blocks)
-    (length c.extend.new.self.items - length (c.args.block.front ++ c.args.block.tail))
-    (g.I.Iterator.remaining c.args.iter)
+requests : (g : _) (c : After-extend g) → c.extend.new.self.cost.blocks
+    ≤ c.args.block.cost.blocks + 1
+    + (length c.extend.new.self.items - length (c.args.block.front ++ c.args.block.tail))
 requests g c =
     let w = c.extend.new.self in
-    subst (λ z. RequestsAtMost (w.cost.blocks - z.cost.blocks) (length w.items - length z.items)
-    (g.I.Iterator.remaining c.args.iter)) (left g c) c.extend.ensures.cost.requests
+    subst (λ z. w.cost.blocks ≤ z.cost.blocks + 1 + (length w.items - length z.items)) (left g c)
+    c.extend.ensures.cost.requests
 
 pub returns-in-Ok : goal.returns-in-Ok
 returns-in-Ok g c =

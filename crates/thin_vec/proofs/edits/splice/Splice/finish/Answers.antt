@@ -5,7 +5,7 @@ use Rattle.thin_vec.specs.Edits.Finish.{FinishesSplice}
 use Rattle.thin_vec.specs.OpenView.{tail_end}
 use Rattle.thin_vec.specs.Edits.Splice.{left_by_splice, splice_front, splice_iter, splice_list, splice_tail}
 use Rattle.thin_vec.proofs.ThinVecLemmas.{allocatable-less}
-use Rattle.thin_vec.proofs.list.ExtendLemmas.{at_least-le, run_of_ok}
+use Rattle.thin_vec.proofs.list.ExtendLemmas.{at_least-le, ruled-reserved, run_of_ok}
 use Rattle.thin_vec.proofs.edits.SpliceLemmas.{if-err}
 use Rattle.thin_vec.proofs.edits.splice.Splice.finish.Goals.{else-has_tail, then-has_tail}
 use Rattle.thin_vec.proofs.edits.splice.Splice.finish.Goals as goal
@@ -55,12 +55,10 @@ returns g c =
         | inl few ↦ f.succeeds few
         | inr room ↦ f.succeeds_at_end room.0 room.1
       ];
-      had_room = λ places.
-          let same = f.taken.had_room (elim places [
-            | inl few ↦ omega (arith, few, room)
-            | inr fit ↦ fit.1
-          ]) in
+      had_room = λ fit.
+          let same = f.taken.had_room fit in
           (same, (f.taken.cost.kept same).0);
+      bounds = room;
       placed = f.placed;
       err_full = if-err r
           (λ error is now some. omega (arith, now some, length-append v.front v.tail)) f.range;
@@ -70,7 +68,8 @@ returns g c =
       capacity = record {
         had_room = f.taken.had_room;
         at_least = f.taken.capacity;
-        ruled = f.ruled;
+        ruled = ruled-reserved rule T g.met.G.Growth.law left w.capacity (length w.items)
+            (g.I.Iterator.remaining s) (omega (arith, room)) f.ruled;
       };
       cost = f.taken.cost;
       blocks = (f.blocks, f.requests);

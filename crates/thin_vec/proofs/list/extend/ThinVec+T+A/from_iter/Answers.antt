@@ -35,16 +35,11 @@ collected g c =
           c.size_hint.ensures.lower
           (sym (exact-new _ _ _ _ c.new-list.ensures.new) ∙ c.in-Ok.ensures.capacity) e.capacity;
       moves = search (arith, ◌∙◌);
-      requests = (
-        c.size_hint.result.0,
-        c.size_hint.ensures.lower,
-        omega (
-          arith,
-          ap (λ k. k.blocks) c.in-Ok.ensures.cost,
-          cost_after_resize-blocks c.new-list.result u.capacity,
-          c.in-Ok.ensures.room,
-          ap (λ k. k.blocks) c.new-list.ensures.new.cost,
-        ),
+      requests = omega (
+        arith,
+        ap (λ k. k.blocks) c.in-Ok.ensures.cost,
+        cost_after_resize-blocks c.new-list.result u.capacity,
+        ap (λ k. k.blocks) c.new-list.ensures.new.cost,
       );
       made = record {
         alloc = search (arith, ◌∙◌);
@@ -69,14 +64,10 @@ returns-in-Err-clause-err g c =
       none = λ _. none;
       ruled = inr (0, (λ _. omega arith), least ∙ ap Some (sym none));
       moves = search (arith, ◌∙◌);
-      requests = (
-        0,
-        (λ _. omega arith),
-        omega (
-          arith,
-          ap (λ v. v.cost.blocks) c.in-Err.ensures.err,
-          ap (λ k. k.blocks) c.new-list.ensures.new.cost,
-        ),
+      requests = omega (
+        arith,
+        ap (λ v. v.cost.blocks) c.in-Err.ensures.err,
+        ap (λ k. k.blocks) c.new-list.ensures.new.cost,
       );
       made = record {
         alloc = search (arith, ◌∙◌);
