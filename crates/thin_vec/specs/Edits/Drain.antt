@@ -27,7 +27,7 @@ module _ {T A G H : Type 0} {g : Ghosts G} {h : IntoInnerGhosts H (OpenView T A)
   drain_rest d = (h.inner d.holder).middle
 
   -- `drain_list d` is the list that the `Drain` `d` borrows, as it is until `d` is dropped. It
-  -- stays as it is if `d` is leaked.
+  -- stays as it is if `d` is leaked (this is tested, not proved).
   abbrev pub drain_list : Drain T A G H g h → ListView T A
   drain_list d = d.list.now
 

@@ -61,7 +61,7 @@ module _ {T F A G H : Type 0} {g : Ghosts G} {h : IntoInnerGhosts H (ExtractStat
   extract_callee e = (h.inner e.holder).picks.pick
 
   -- `extract_list e` is the list that the `ExtractIf` `e` borrows, as it is until `e` is dropped.
-  -- It stays as it is if `e` is leaked.
+  -- It stays as it is if `e` is leaked (this is tested, not proved).
   abbrev pub extract_list : ExtractIf T F A G H g h → ListView T A
   extract_list e = e.list.now
 

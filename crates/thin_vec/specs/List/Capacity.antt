@@ -51,9 +51,9 @@ module _ {T A : Type 0} where
   CostsMoves n v w = w.cost ≡ add_moves n (cost_after_resize v w.capacity)
 
   -- `LacksRoom rule R w k cause` states why a call failed with the error `cause`: the list `w` has
-  -- no room for `k` more items of the type `R`. It is the list after the call, or an equal one
-  -- before it. The cause is `CapacityOverflow` if and only if the growth rule `rule` chooses no
-  -- capacity for these items.
+  -- no room for `k` more items of the type `R`. Here, `w` is the list at the time of the failure,
+  -- which does not change it. The cause is `CapacityOverflow` if and only if the growth rule `rule`
+  -- chooses no capacity for these items.
   abbrev pub LacksRoom : GrowthRule → RattleType → ListView T A → ℕ → ThinVecError → Type 0
   LacksRoom rule R w k cause =
       ¬ (HasRoomFor w k)
@@ -72,9 +72,10 @@ module _ {T A : Type 0} where
     pub overflow : IsErrOf r CapacityOverflow ↔ (capacity_after_reserve rule R v k ≡ None)
 
   -- `PreservesList R v w` says what stays true in a call that changes the list `v` of items of the
-  -- type `R` to `w`. The allocator did not change, the capacity did not shrink (which follows from
-  -- `Reserves`, where both hold), and the bound `IsCheap` on the cost was preserved. Before and
-  -- after the call, the length and the capacity are within their bounds (`within`).
+  -- type `R` to `w`. The allocator did not change, the capacity did not shrink, and the bound
+  -- `IsCheap` on the cost was preserved. Before and after the call, the length and the capacity are
+  -- within their bounds (`within`). In a contract that also has a clause with `Reserves`, the field
+  -- `never_less` follows from that clause.
   pub record PreservesList (R : RattleType) (v w : ListView T A) : Type 0 where
     pub alloc : w.alloc ≡ v.alloc
     pub never_less : v.capacity ≤ w.capacity
