@@ -132,7 +132,7 @@ impl<
     /// If no item follows the range, `finish` appends the items of the iterator as `extend` does.
     /// Otherwise, it fills the slots of the range, and then as many new slots as the lower bound of
     /// the size hint. It collects any further items in a vector that uses `alloc`, and then moves
-    /// them into the list.
+    /// them into the list. On success, `alloc` is dropped. On failure, `held` owns it.
     ///
     /// # Errors
     ///
@@ -171,13 +171,9 @@ impl<
             (splice_iter self.entry) xs error) }
         ensures cause { IfErr result (λ error. IsSpliceCause G.rule T.row self.exit.0.now
             (splice_tail self.entry) (I.remaining error.rest) error) }
-
-        // If items follow the range, all its slots are filled.
         ensures err_full { OnErr result (0 < length (splice_tail self.entry)
             → length (left_by_splice self.entry).items + splice_range_len self.entry
             ≤ length self.exit.0.now.items) }
-
-        // If no item follows the range, either the range was only removed, or the list is full.
         ensures held { IfErr result (λ error. splice_tail self.entry ≡ []
             → error.held.items ≡ []) }
         ensures in_hand { IfErr result (λ error. splice_tail self.entry ≡ []
