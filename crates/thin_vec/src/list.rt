@@ -1,5 +1,5 @@
 //! The type `ThinVec` and its most common methods. The folders `list`, `convert` and `edits` have
-//! the others. `docs/CONTRACTS.md` explains the notation of the contracts.
+//! the others. `docs/CONTRACTS.md` explains the notation.
 ghost use Rattle.std.specs.Prelude.{◌≡◌, ◌↔◌, ◌+◌, ◌-◌, ◌<◌, ◌==◌, [], ◌∷◌, ◌++◌, IsSome, IsTrue, MatchOption, None, Some, length, slice_index_or};
 ghost use Rattle.std.specs.Option.{option_to_list};
 ghost use Rattle.thin_block.specs.Block.{IsAllocatedBy};
@@ -221,7 +221,7 @@ impl<T: Drop, A: Allocator, G: Growth> Drop for ThinVec<T, A, G> {
 }
 
 // Drops the items, and then frees the block. `drop` is inlined, so this loop is a function of its
-// own, which is compiled only once for each type of list.
+// own, compiled once for each type of list.
 #[inline(never)]
 fn drop_block<T: Drop, A: Allocator>(mut block: Block<T, A>, alloc: A)
     requires packed { IsPacked block.slots block.len }

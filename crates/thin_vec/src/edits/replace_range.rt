@@ -49,7 +49,7 @@ impl<T: Clone, A: Allocator, G: Growth> ThinVec<T, A, G> {
             (length items.now - (end - start)))) }
         ensures err { OnErr result (self.new ≡ self.old) }
 
-        // In every case. `had_room` follows from `capacity` and `err`, and is for callers' proofs.
+        // In every case. `had_room` follows from `capacity` and `err`.
         ensures had_room { HasRoomFor self.old (length items.now - (end - start))
             → self.new.capacity ≡ self.old.capacity }
         ensures preserved { PreservesList T.row self.old self.new }

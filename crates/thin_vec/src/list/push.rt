@@ -21,8 +21,8 @@ impl<T, A: Allocator, G: Growth> ThinVec<T, A, G> {
     ///
     /// Fails if and only if `reserve(1)` would fail, with the same cause. The error returns `value`
     /// to the caller.
-    // LLVM would inline this function anyway. With `always`, it does so before it simplifies the
-    // caller, and makes shorter loops.
+    // With `always`, LLVM inlines this function before it simplifies the caller, and makes shorter
+    // loops.
     #[inline(always)]
     pub fn push(&mut self, value: T) -> Result<(), Rejected<T>>
         // On success.
@@ -67,8 +67,7 @@ impl<T, A: Allocator, G: Growth> ThinVec<T, A, G> {
         self.push_at(self.len(), value);
     }
 
-    // Appends `value` to a list that has `len` items, and room for it. `push` passes the length that
-    // it read before it reserved room, so that it reads the length once.
+    // Appends `value` to a list of `len` items that has room for it. So `push` reads the length once.
     fn push_at(&mut self, len: usize, value: T)
         requires len { len ≡ length self.old.items }
         requires room { HasRoomFor self.old 1 }
