@@ -1,26 +1,19 @@
 -- These lemmas split the memory of a block into its header and its slots, and put these parts back
 -- together.
 use Rattle.std.proofs.Common.{◌≡◌, Bool, true, ℕ, Some, None, ◌+◌, ◌*◌, ◌<◌, List, [], ◌∷◌, ◌++◌, length, refl, sym, ap, subst, ◌∙◌, arith, w64, Option}
-use Rattle.thin_block.proofs.WalkPrelude.{Ura, Ty, Width, Args, w8, w16, w32, w128, a_type, dcons, dnil, ty_int, ty_array, size, align, align_w, align-bytes, size-raw, lone, cell_at, mem, Val, vstruct, vcons, vnil, bytes, ent, emp, sep, wand, id⊢, never, apply∗, Lft, GName, Share, Fml, ftrue, fsep, fat, froom, flft, fbor, vint, uint_in, uint_out, lies_at, Logic, sem, ‵, ◌⊛◌, ◌$◌, ◌∵◌, !, qed, by, move, keep, drop, use0, use1, use2, split, split3, join, fsplit, fsplit3, fjoin, rewrite, keeps, assume, feq_i, feq_l, Item, Goal, Step, step, Seq, done, RattleType, param, bounded, Ptr, RawPtr, block_ptr, ptr_val, Struct, usize, shows, nothing, peeks, full_share, El, R, Al, type_size, type_align}
-use mir.Syntax.{Tys, tcons, tnil}
+use Rattle.thin_block.proofs.WalkPrelude.{Ura, Ty, Width, Args, w8, w16, w32, w128, a_type, dcons, dnil, ty_int, ty_array, size, align, align_w, align-bytes, size-raw, lone, cell_at, mem, Val, vstruct, vcons, vnil, bytes, ent, emp, sep, wand, id⊢, never, apply∗, Lft, GName, Share, Fml, ftrue, fsep, fat, froom, flft, fbor, vint, uint_in, uint_out, lies_at, Logic, sem, ‵, ◌⊛◌, ◌$◌, ◌∵◌, !, qed, by, move, keep, drop, use0, use1, use2, split, split3, join, fsplit, fsplit3, fjoin, rewrite, keeps, assume, feq_i, feq_l, Item, Goal, Step, step, Seq, done, RattleType, param, bounded, Ptr, RawPtr, block_ptr, ptr_val, Struct, usize, shows, nothing, peeks, full_share, El, R, Al, type_size, type_align, Tys, tcons, tnil, up, align-raw, fwand, fobs, fauth, fobor, in_a_block, lent_at, block_align, block_bytes}
 use mir.Raw.{raw}
-use prog.Memory.{up}
-use prog.RawLaws.{align-raw}
 use Rattle.std.specs.Prelude.{max}
 use mir.Val.{of_list}
 use base.Stored.{Gv}
-use base.Fml.{fwand, fobs, fauth, fobor}
 use prog.Model.{rooms_at}
 use types.Kit.{raw as given_raw, Soaks}
 use types.SemTy.{Body}
-use denote.RawPtr.{in_a_block}
 use denote.Shadow.{shadow, makes_shadow}
-use denote.Struct.Lending.{lent_at}
 use denote.Steps.{opens, closes}
 use borrow.Author.Tests.{clash}
 use Rattle.std.specs.Option.{is_some}
 use Rattle.thin_block.specs.Ownership.{is_nonempty, fits_block, slots_own, unjoined_room, block_type, header_owns, header_room, dealloc_right, block_owns}
-use Rattle.thin_block.specs.Capacity.{block_align, block_bytes}
 use Rattle.thin_block.proofs.sizes.SizesLemmas.{fits_none}
 use Rattle.thin_block.specs.contracts.block.Block as block
 

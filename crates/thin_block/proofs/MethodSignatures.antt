@@ -1,24 +1,25 @@
 -- These lemmas begin and end the proofs of methods that take `&mut self` or `&self`. They also say
 -- which arguments a method gives back to its caller.
+-- `pub use` lines export lemmas of other files that several of these proofs cite.
 use Rattle.std.proofs.Common.{◌≡◌, true, ℕ, zero, suc, ◌+◌, ◌^◌, ◌<◌, List, [], ◌∷◌, length, refl, sym, w64, T}
-use Rattle.thin_block.proofs.WalkPrelude.{Ura, Fn, ty_int, Args, a_type, a_number, dcons, dnil, named, Val, vint, vptr, vunit, WT, has_ty, full_share, SProp, ent, sep, id⊢, Fml, Lft, Share, ftrue, fsep, feq, flft, fbor, Calls, Loops, Wp, WpFn, fact, tables, Logic, sem, Item, Goal, Seq, Sq, Step, step, ‵, raw, ◌⊛◌, prop, runs, at_ret, keep, ◌$◌, ◌∵◌, !, qed, move, use1, split, join, fsplit, fsplit3, fjoin, fjoin3, feq_i, rewrite, regoal, drop, enter, exec, env, yes, cell_at, mem, bounded, number, Laws, RattleType, owns, usize, block_ptr, Slot, plain, types_at, nothing, heard, Stays, stay_ref, stay_dropped, Goes-ref, Goes-dropped, Al, El, R, Facts, Shown, after}
-use mir.Syntax.{Dict}
+use Rattle.thin_block.proofs.WalkPrelude.{Ura, Fn, ty_int, Args, a_type, a_number, dcons, dnil, named, Val, vint, vptr, vunit, WT, has_ty, full_share, SProp, ent, sep, id⊢, Fml, Lft, Share, ftrue, fsep, feq, flft, fbor, Calls, Loops, Wp, WpFn, fact, tables, Logic, sem, Item, Goal, Seq, Sq, Step, step, ‵, raw, ◌⊛◌, prop, runs, at_ret, keep, ◌$◌, ◌∵◌, !, qed, move, use1, split, join, fsplit, fsplit3, fjoin, fjoin3, feq_i, rewrite, regoal, drop, enter, exec, env, yes, cell_at, mem, bounded, number, Laws, RattleType, owns, usize, block_ptr, Slot, plain, types_at, nothing, heard, Stays, stay_ref, stay_dropped, Goes-ref, Goes-dropped, Al, El, R, Facts, Shown, after, Dict, fobs, fauth, fobor, hidden_shr, fits_block, slots_own}
 use base.Stored.{Gv}
-use base.Fml.{fobs, fauth, fobor}
 use prog.Model.{Model}
 use contract.Lifetimes.{Lfts, Shares, toks}
 use contract.Running.{Running}
 use types.SemTy.{Body}
 use types.Kit.{Soaks, allocs, params', post}
-use denote.Memory.{hidden_shr}
 use denote.RattleType.{Denots, Valss}
 use denote.Ref.{MutBor, MutRef, mut_vals, at_last}
 use denote.Signature.{mut_ref_to, shr_ref_to}
 use denote.Triple.End.{Kepts}
 use denote.Triple.Walked.{AllGo, Silent}
 use Rattle.core.specs.declared.alloc.Allocator.{Ghosts}
-use Rattle.thin_block.specs.Ownership.{fits_block, slots_own}
-use Rattle.thin_block.proofs.HeaderMemory.{Br, Header, Slots, header, t, block_val, block_opens, block_closes}
+pub use Rattle.thin_block.proofs.HeaderMemory.{alloc_there, args, Br, header, t, block_val, block_had, items, any_some, block_made, header_written}
+use Rattle.thin_block.proofs.HeaderMemory.{Header, Slots, block_opens, block_closes}
+pub use Rattle.thin_block.proofs.SlotMemory.{sz, slot_in, reach, around, run_out, run_in, of_items, to_room}
+pub use Rattle.thin_block.proofs.Addresses.{moves_on, near, its_ptr, slot_found, takes_slot, takes_item}
+pub use Rattle.thin_block.proofs.SlotsLemmas.{the_item, filled-within, full-run, length-run, length-moved, empty-run, length-written, packed-carried, packed-le, packed-long, packed-parted}
 
 abbrev pub others : {n : ℕ} → List (Slot n) → List (Slot n)
 others [] = []

@@ -1,21 +1,15 @@
 -- These lemmas are about shared references to a block. `block_seen` splits such a reference into
 -- its parts, and `run_seen` makes a slice from a shared reference to contiguous items.
 use Rattle.std.proofs.Common.{◌≡◌, ℕ, zero, suc, Some, None, ◌+◌, ◌*◌, ◌≤◌, List, [], ◌∷◌, ◌++◌, length, Bool, true, refl, sym, ap, subst, ◌∙◌, arith, Option}
-use Rattle.thin_block.proofs.WalkPrelude.{zero-mul, suc-mul, Ura, ent, sep, via, id⊢, never, Lft, Fml, feq, Logic, sem, Item, Goal, Seq, ‵, ◌⊛◌, ◌$◌, ◌∵◌, !, qed, by, move, keep, use1, split, split3, rewrite, fsplit, feq_i, feq_l, done, RattleType, usize, param, RawPtr, block_ptr, nothing, Struct, Al, El, R, el_x}
+use Rattle.thin_block.proofs.WalkPrelude.{zero-mul, suc-mul, Ura, ent, sep, via, id⊢, never, Lft, Fml, feq, Logic, sem, Item, Goal, Seq, ‵, ◌⊛◌, ◌$◌, ◌∵◌, !, qed, by, move, keep, use1, split, split3, rewrite, fsplit, feq_i, feq_l, done, RattleType, usize, param, RawPtr, block_ptr, nothing, Struct, Al, El, R, el_x, fhide, hidden_shr, shared_of, in_a_block, elements_shared, is_nonempty, fits_block, block_shares, slot_shares, slots_share, filled_slots, slot_range}
 use lib.ListN.{drop, take-append-drop}
 use base.Logic.{snd∗}
-use base.Fml.{fhide}
 use types.Kit.{frame}
-use denote.Memory.{hidden_shr, shared_of}
 use denote.Opens.{unhide}
-use denote.RawPtr.{in_a_block}
-use denote.Slice.{elements_shared}
 use denote.Struct.Lending.{lent_out}
 use denote.Struct.Owning.{shape}
 use borrow.Author.Tests.{clash}
 use Rattle.std.specs.Option.{is_some}
-use Rattle.thin_block.specs.Ownership.{is_nonempty, fits_block, block_shares, slot_shares, slots_share}
-use Rattle.thin_block.specs.Slots.{filled_slots, slot_range}
 use Rattle.thin_block.proofs.sizes.SizesLemmas.{fits_none}
 use Rattle.thin_block.proofs.HeaderMemory.{Br}
 use Rattle.thin_block.proofs.SlotMemory.{Slot, sz}

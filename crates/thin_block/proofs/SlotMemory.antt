@@ -1,16 +1,12 @@
 -- These lemmas separate the memory of some slots of a block from the memory of the other slots, and
 -- convert the memory of slots into arrays, slice elements or uninitialized memory.
 use Rattle.std.proofs.Common.{◌≡◌, true, ℕ, zero, suc, None, ◌+◌, ◌*◌, ◌^◌, ◌<◌, ◌≤◌, List, [], ◌∷◌, ◌++◌, length, refl, sym, ap, ◌∙◌, arith, take, Option}
-use Rattle.thin_block.proofs.WalkPrelude.{zero-mul, suc-mul, set, get_or, length-set, Ura, full_share, ty_array, bare, ent, sep, emp, via, id⊢, Fml, ftrue, fsep, froom, Logic, sem, ‵, ◌⊛◌, given, ◌$◌, ◌∵◌, !, qed, by, move, keep, use1, use2, use3, split, split3, learn, rewrite, keeps, fsplit, fjoin, done, Array, part_at, mem, cells, RattleType, nothing, type_size, El, R, el_x, elτ, times_below}
+use Rattle.thin_block.proofs.WalkPrelude.{zero-mul, suc-mul, set, get_or, length-set, Ura, full_share, ty_array, bare, ent, sep, emp, via, id⊢, Fml, ftrue, fsep, froom, Logic, sem, ‵, ◌⊛◌, given, ◌$◌, ◌∵◌, !, qed, by, move, keep, use1, use2, use3, split, split3, learn, rewrite, keeps, fsplit, fjoin, done, Array, part_at, mem, cells, RattleType, nothing, type_size, El, R, el_x, elτ, times_below, ⊎_elim, row, fits_block, slot_owns, slots_own, filled_slots, empty_slots, slot_range, write_slots}
 use lib.ListN.{drop, take-append-drop, length-take, length-drop}
-use mathlib.Core.Logic.{⊎_elim}
 use Rattle.core.proofs.str.Laws.{order}
 use lib.Seq.{drop-cons, drop-drop, set_split, set_comm, get_or-take, take-set-lt, drop-set-lt}
 use base.Logic.{guard, mono_r}
 use types.Kit.{drop as skip, check}
-use denote.Index.{row}
-use Rattle.thin_block.specs.Ownership.{fits_block, slot_owns, slots_own}
-use Rattle.thin_block.specs.Slots.{filled_slots, empty_slots, slot_range, write_slots}
 use Rattle.thin_block.proofs.sizes.SizesLemmas.{fits_tells}
 use Rattle.core.proofs.ptr.Rows as arrays
 

@@ -1,12 +1,11 @@
 -- These lemmas verify a call of the function `resize_array`. They state what the caller owns before
 -- and after the call.
 use Rattle.std.proofs.Common.{ℕ, List, [], ◌∷◌, refl, w64, ◌^◌, ◌<◌}
-use Rattle.thin_block.proofs.WalkPrelude.{Ura, Val, vint, vptr, SProp, ent, sep, ex, emp, never, id⊢, Lft, Share, Fml, ftrue, fsep, flft, ◌⊑◌, Fun, fact, fact_i, Memory, Routine, Logic, sem, ‵, raw, ◌⊛◌, exists, later, pick, updating, await, ◌$◌, ◌∵◌, !, qed, move, keep, drop, use0, use1, use2, split, split3, join, fjoin, feq_i, flt_i, done, block_ptr, nothing, triple_of, number, Al, token, El, R, el_x}
+use Rattle.thin_block.proofs.WalkPrelude.{Ura, Val, vint, vptr, SProp, ent, sep, ex, emp, never, id⊢, Lft, Share, Fml, ftrue, fsep, flft, ◌⊑◌, Fun, fact, fact_i, Memory, Routine, Logic, sem, ‵, raw, ◌⊛◌, exists, later, pick, updating, await, ◌$◌, ◌∵◌, !, qed, move, keep, drop, use0, use1, use2, split, split3, join, fjoin, feq_i, flt_i, done, block_ptr, nothing, triple_of, number, Al, token, El, R, el_x, FitsGap, gapped_items, gapped_if_ok}
 use types.Kit.{now as at_once}
 use denote.Triple.Statement.{Contract}
 use Rattle.core.proofs.alloc.Calls.{seen, Answer}
 use Rattle.core.proofs.alloc.Resizes.{Flagged, by_flag}
-use Rattle.thin_block.specs.InPlace.{FitsGap, gapped_items, gapped_if_ok}
 use Rattle.thin_block.specs.contracts.in_place.resize_array as F
 
 module _ (E : El) (Y : Al) (k : ℕ) {M : Type 1} {𝓤 : Ura M} (𝓛 : Logic 𝓤)

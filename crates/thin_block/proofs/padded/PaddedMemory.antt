@@ -1,17 +1,11 @@
 -- These lemmas convert the memory of an item into memory for the padding and the header of a block,
 -- or for the address of an allocation, and back.
 use Rattle.std.proofs.Common.{◌≡◌, true, ℕ, suc, Some, None, ◌+◌, ◌-◌, ◌*◌, List, [], ◌∷◌, ◌++◌, length, refl, sym, ap, subst, ◌∙◌, arith, append_assoc, Bool, Option}
-use Rattle.thin_block.proofs.WalkPrelude.{length-append, Ura, ent, sep, apply∗, Fml, fsep, froom, feq, Ty, ty_array, size, align, size-raw, Logic, sem, ‵, ◌⊛◌, ◌$◌, ◌∵◌, !, qed, by, move, keep, use1, use2, split, split3, fsplit, fsplit3, fjoin, fjoin3, rewrite, keeps, assume, done, nothing, feq_i, feq_l, lone, Ptr, block_ptr, RattleType, El, R, el_x, elτ, array_of, type_size, type_align}
+use Rattle.thin_block.proofs.WalkPrelude.{length-append, Ura, ent, sep, apply∗, Fml, fsep, froom, feq, Ty, ty_array, size, align, size-raw, Logic, sem, ‵, ◌⊛◌, ◌$◌, ◌∵◌, !, qed, by, move, keep, use1, use2, split, split3, fsplit, fsplit3, fjoin, fjoin3, rewrite, keeps, assume, done, nothing, feq_i, feq_l, lone, Ptr, block_ptr, RattleType, El, R, el_x, elτ, array_of, type_size, type_align, ty_ptr, align-raw, fwand, guard, ex, gapped_items, filled_slots, empty_slots}
 use Rattle.std.proofs.lemmas.List.{length-map, length-replicate, replicate-append-replicate}
-use mir.Syntax.{ty_ptr}
-use prog.RawLaws.{align-raw}
 use prog.Align.{Dv}
-use base.Fml.{fwand}
-use base.Logic.{guard, ex}
 use types.Kit.{fpick, fpack, check, show}
 use Rattle.thin_block.specs.Ownership.{erased_type, words_of, header_room, pads, padded_type, end_of, padded_right_at, dealloc_right, dealloc_right_if, header_owns, slots_own}
-use Rattle.thin_block.specs.InPlace.{gapped_items}
-use Rattle.thin_block.specs.Slots.{filled_slots, empty_slots}
 use Rattle.thin_block.proofs.HeaderMemory.{header_unwritten}
 use Rattle.thin_block.proofs.SlotMemory.{Slot, cut, glue, to_raw, of_raw}
 use Rattle.thin_block.proofs.words.WordRooms.{half, front_out}

@@ -2,13 +2,10 @@
 -- memory of the slots that the move affects from the memory of the other slots. After the move,
 -- they join the memory of all slots again.
 use Rattle.std.proofs.Common.{◌≡◌, ◌⊎◌, Bool, true, false, ℕ, Some, None, ◌+◌, ◌-◌, ◌*◌, ◌<◌, ◌≤◌, List, [], ◌∷◌, ◌++◌, length, refl, sym, ap, ◌∙◌, arith, append_assoc, Option, take}
-use Rattle.thin_block.proofs.WalkPrelude.{length-append, length-take, Ura, full_share, ent, sep, Fml, ftrue, fsep, froom, ty_array, Logic, sem, ‵, ◌⊛◌, ◌$◌, ◌∵◌, !, qed, by, move, keep, nothing, use1, use2, split, split3, rewrite, fsplit, fjoin, done, Array, part_at, block_ptr, El, R, el_x, elτ, add_times, memory_before_copy, memory_after_copy}
+use Rattle.thin_block.proofs.WalkPrelude.{length-append, length-take, Ura, full_share, ent, sep, Fml, ftrue, fsep, froom, ty_array, Logic, sem, ‵, ◌⊛◌, ◌$◌, ◌∵◌, !, qed, by, move, keep, nothing, use1, use2, split, split3, rewrite, fsplit, fjoin, done, Array, part_at, block_ptr, El, R, el_x, elτ, add_times, memory_before_copy, memory_after_copy, inl, inr, ⊎_elim, slots_own, IsShifted}
 use Rattle.std.proofs.lemmas.List.{length-map, length-replicate}
-use mathlib.Core.Logic.{inl, inr, ⊎_elim}
 use Rattle.std.specs.Prelude.{drop}
-use Rattle.thin_block.specs.Ownership.{slots_own}
 use Rattle.thin_block.specs.Slots.{AreEmpty, filled_slots, empty_slots, slot, slot_range, write_slots, move_slots}
-use Rattle.thin_block.specs.Shifts.{IsShifted}
 use Rattle.thin_block.proofs.SlotsLemmas.{empty-run, parted-run, run-split, length-run, moved_left, moved_right, moved_over, moved_back}
 use Rattle.thin_block.proofs.SlotMemory.{Slot, sz, cut, glue, around, run_out, run_in, to_items, of_items, to_room, of_room}
 

@@ -1,11 +1,7 @@
 -- These lemmas verify a call of the function `fill_from`, which copies the items of a slice into a
 -- value of type `Slots`.
 use Rattle.std.proofs.Common.{◌≡◌, refl, sym, ap, ◌∙◌, ℕ, List, [], ◌∷◌, length}
-use Rattle.thin_block.proofs.WalkPrelude.{Ura, named, Val, SProp, ent, sep, ex, emp, id⊢, Lft, Share, Fml, ftrue, fsep, flft, Memory, Routine, Logic, sem, ◌⊑◌, Fun, fact, fact_i, ‵, raw, ◌⊛◌, some, later, ◌$◌, ◌∵◌, !, qed, move, keep, drop, use0, use1, split, split3, join, pick, fjoin, rewrite, await, updating, done, block_ptr, only, heard, nothing, triple_of}
-use mir.Syntax.{Dict}
-use base.Logic.{guard}
-use types.Kit.{show, check, now}
-use denote.Param.{copied}
+use Rattle.thin_block.proofs.WalkPrelude.{Ura, named, Val, SProp, ent, sep, ex, emp, id⊢, Lft, Share, Fml, ftrue, fsep, flft, Memory, Routine, Logic, sem, ◌⊑◌, Fun, fact, fact_i, ‵, raw, ◌⊛◌, some, later, ◌$◌, ◌∵◌, !, qed, move, keep, drop, use0, use1, split, split3, join, pick, fjoin, rewrite, await, updating, done, block_ptr, only, heard, nothing, triple_of, Dict, guard, show, check, now, copied}
 use denote.Ref.{Bor}
 use denote.Slice.{ShrSlice, shr_slice_vals}
 use denote.Triple.Statement.{Contract}

@@ -1,12 +1,9 @@
 -- These lemmas convert uninitialized memory of headers, slots and blocks into memory of words, and
 -- back. Here, a word is a struct of `m` items, which takes 8 or 16 bytes.
 use Rattle.std.proofs.Common.{◌≡◌, ℕ, zero, suc, ◌+◌, ◌-◌, ◌*◌, ◌≤◌, [], ◌∷◌, refl, sym, ap, ◌∙◌, arith, zero-mul, suc-mul, w64}
-use Rattle.thin_block.proofs.WalkPrelude.{Ura, ent, sep, apply∗, Fml, ftrue, fsep, froom, Ty, ty_int, ty_array, size, align, Logic, sem, ‵, ◌⊛◌, ◌$◌, ◌∵◌, !, qed, by, move, keep, drop, use0, use1, use2, use3, split, split3, fsplit, fjoin, rewrite, keeps, assume, done, nothing}
-use native.Mathlib.Nat.{add_comm}
-use base.Fml.{fwand}
+use Rattle.thin_block.proofs.WalkPrelude.{Ura, ent, sep, apply∗, Fml, ftrue, fsep, froom, Ty, ty_int, ty_array, size, align, Logic, sem, ‵, ◌⊛◌, ◌$◌, ◌∵◌, !, qed, by, move, keep, drop, use0, use1, use2, use3, split, split3, fsplit, fjoin, rewrite, keeps, assume, done, nothing, add_comm, fwand, word_of, word_wand, word_wands, header_room, header_wand, slots_wand}
 use denote.Index.{place, place_is}
 use denote.RawPtr.Room.{past, room_cut, room_glue}
-use Rattle.thin_block.specs.Ownership.{word_of, word_wand, word_wands, header_room, header_wand, slots_wand}
 use Rattle.thin_block.proofs.words.WordsLemmas.{InWords}
 use Rattle.thin_block.proofs.padded.PaddedLemmas.{InEights}
 

@@ -1,13 +1,10 @@
 -- These lemmas convert the memory of items into memory of words, and back. Here, a word is a struct
 -- of `m` items, which takes 8 or 16 bytes.
 use Rattle.std.proofs.Common.{◌≡◌, ℕ, zero, suc, Some, ◌+◌, ◌-◌, ◌*◌, ◌≤◌, List, [], ◌∷◌, ◌++◌, length, map, take, drop as rest, refl, sym, ap, subst, ◌∙◌, arith, zero-mul, suc-mul, Option, w64}
-use Rattle.thin_block.proofs.WalkPrelude.{length-take, Ura, full_share, SProp, ent, sep, apply∗, Fml, ftrue, froom, Ty, Width, w8, w16, w32, w128, ty_int, ty_array, bare, bytes, size, align, align_w, align-bytes, size-raw, Logic, sem, ‵, raw, ◌⊛◌, ◌$◌, ◌∵◌, !, qed, by, move, keep, use0, use1, use2, use3, split, split3, join, fsplit, fjoin, rewrite, assume, done, Array, part_at, layout, param, number, ArrayAt, Laws, param_laws, array_at_laws, RattleType, nothing, Struct, El, R, el_x, add_times, type_size}
+use Rattle.thin_block.proofs.WalkPrelude.{length-take, Ura, full_share, SProp, ent, sep, apply∗, Fml, ftrue, froom, Ty, Width, w8, w16, w32, w128, ty_int, ty_array, bare, bytes, size, align, align_w, align-bytes, size-raw, Logic, sem, ‵, raw, ◌⊛◌, ◌$◌, ◌∵◌, !, qed, by, move, keep, use0, use1, use2, use3, split, split3, join, fsplit, fjoin, rewrite, assume, done, Array, part_at, layout, param, number, ArrayAt, Laws, param_laws, array_at_laws, RattleType, nothing, Struct, El, R, el_x, add_times, type_size, mul_assoc, up, u64, slots_own, word_of, word_wand, word_wands, slots_wand, filled_slots, empty_slots, word, runs_at}
 use Rattle.std.proofs.lemmas.List.{take-append-drop, length-drop, length-map, map-append}
-use native.Mathlib.Nat.{mul_assoc}
 use contract.Monad.{conj, conj_r}
-use prog.Memory.{up}
 use denote.Array.{Array-Lawful}
-use denote.Builtin.{u64}
 use denote.RawPtr.Room.{past, room_cut, room_glue}
 use denote.Struct.Declared.{shape}
 use denote.Struct.Laws.{u64-laws}
@@ -15,9 +12,6 @@ use denote.Struct.Members.{Member, parts_at, rooms_for}
 use denote.Struct.Parts.{shape_of, PartsBack, RoomBack, Struct-parts_free}
 use denote.Struct.Recorded.{Recorded-part}
 use Rattle.core.specs.Simd.{first_chunks}
-use Rattle.thin_block.specs.Ownership.{slots_own, word_of, word_wand, word_wands, slots_wand}
-use Rattle.thin_block.specs.Slots.{filled_slots, empty_slots}
-use Rattle.thin_block.specs.Words.{word, runs_at}
 use Rattle.thin_block.specs.contracts.words.Word.{the_row, the_type}
 use Rattle.thin_block.proofs.words.WordRooms.{past_is, ways_in, ways_out}
 use Rattle.thin_block.proofs.SlotMemory.{cut, glue, to_items, of_items, to_raw, of_raw}

@@ -1,18 +1,14 @@
 -- This file proves the contract of `copy_overlapping`, which moves items one by one. The proof is
 -- like core's proof for `ptr::copy`.
 use Rattle.std.proofs.Common.{◌≡◌, refl, sym, subst, Bool, true, false, List, [], ◌∷◌, ℕ, zero, suc, ◌+◌, ◌-◌, ◌*◌, ◌≤◌, ◌<◌, ◌^◌, arith, lit<, length, w64}
-use Rattle.thin_block.proofs.WalkPrelude.{Ura, ltb→lt, nltb→le, full_share, Ty, Fn, Body, Args, a_type, ty_int, ty_array, inst_fn, Val, vunit, vbool, vint, vptr, SProp, ent, sep, never_e, Lft, Share, Fml, ftrue, ffalse, fsep, fat, flft, froom, ◌⊑◌, Memory, Routine, Env, Wp, WpFn, Tables, after_seq, after_block, Logic, sem, Fun, fact, tables, WpFn-mono, Item, Sq, any_q, runs, ‵, raw, ◌⊛◌, some, given, at_ret, ◌$◌, ◌∵◌, !, qed, by, move, keep, drop, use1, use2, join, split, split3, pick, learn, rewrite, fsplit, fjoin, feq_i, suffices, done, stop, look, load, lit, bin, unit_lit, of_opd, init, assigns_last, first, blocks, skips, branches, exec, returns, enter, alloc_all, pass_all, free_all, look_at, get, through, sets, sets_last, is, env, RattleType, owns, yes, usize, Array, part_at, layouts, uint_vals, uint_Tells, Ptr, RawPtr, block_ptr, null_ptr, ptr_val, rawptr_vals, rawptr_Tells, plain, heard, nothing, Ended, Clauses, triple_of, entered, Stays, stay_dropped, walk_of, ends_at, walked, Goes-dropped, walk_Meets, times_below, seq, assign, place, copy, rv_opd, memory_before_copy, memory_after_copy}
-use lib.WfN.{lt-wf_rel}
-use prog.Wp.{Out, at_return, after_turn}
+use Rattle.thin_block.proofs.WalkPrelude.{Ura, ltb→lt, nltb→le, full_share, Ty, Fn, Body, Args, a_type, ty_int, ty_array, inst_fn, Val, vunit, vbool, vint, vptr, SProp, ent, sep, never_e, Lft, Share, Fml, ftrue, ffalse, fsep, fat, flft, froom, ◌⊑◌, Memory, Routine, Env, Wp, WpFn, Tables, after_seq, after_block, Logic, sem, Fun, fact, tables, WpFn-mono, Item, Sq, any_q, runs, ‵, raw, ◌⊛◌, some, given, at_ret, ◌$◌, ◌∵◌, !, qed, by, move, keep, drop, use1, use2, join, split, split3, pick, learn, rewrite, fsplit, fjoin, feq_i, suffices, done, stop, look, load, lit, bin, unit_lit, of_opd, init, assigns_last, first, blocks, skips, branches, exec, returns, enter, alloc_all, pass_all, free_all, look_at, get, through, sets, sets_last, is, env, RattleType, owns, yes, usize, Array, part_at, layouts, uint_vals, uint_Tells, Ptr, RawPtr, block_ptr, null_ptr, ptr_val, rawptr_vals, rawptr_Tells, plain, heard, nothing, Ended, Clauses, triple_of, entered, Stays, stay_dropped, walk_of, ends_at, walked, Goes-dropped, walk_Meets, times_below, seq, assign, place, copy, rv_opd, memory_before_copy, memory_after_copy, Out, at_return, holding, forget_but, take_at, give_at, bool, row, IsShifted}
+use prog.Wp.{after_turn}
 use contract.Running.{tables_of}
+use lib.WfN.{lt-wf_rel}
 use types.Run.{size_lit, jumps, forget, loops, again, Below}
-use types.ByLocal.{holding, forget_but, take_at, give_at}
-use denote.Builtin.{bool}
-use denote.Index.{row}
 use denote.Plain.{bool_vals, bool_Tells}
 use Rattle.core.proofs.ptr.Rows.{El, R, el_x, elτ, el_own, sz, Good, el_out, el_in, apart, whole, one_more, one_below}
 use mir.Syntax.{block, cond, skip, return, deref, opd_unit, op2, mul, add, sub, offset, unsigned, size_of, int}
-use Rattle.thin_block.specs.Shifts.{IsShifted}
 use Rattle.core.proofs.ptr.Plans.{Plan, down_Plan, up_Plan}
 use Rattle.thin_block.specs.contracts.shifts.copy_overlapping.Key.{name as #self}
 use mir.Syntax.{lt, exit}

@@ -1,14 +1,9 @@
 -- This file proves the contract of `item_align`, which returns the alignment of an item in bytes.
 use Rattle.std.proofs.Common.{◌≡◌, refl, arith, List, [], ◌∷◌, ℕ, ◌^◌, w64}
-use Rattle.thin_block.proofs.WalkPrelude.{Ura, Fn, Args, a_type, inst_fn, Val, vint, SProp, ent, via, fst∗, Lft, Share, ftrue, flft, Memory, align, capped, capped_is, Routine, WpFn, Tables, Logic, Fun, tables, WpFn-mono, ‵, ◌⊛◌, ◌$◌, ◌∵◌, !, qed, move, keep, join, fjoin, feq_i, flt_i, suffices, done, of_opd, returns, enter, alloc_all, pass_all, free_all, look_at, sets, RattleType, layout, layouts, nothing, Clauses, triple_of, entered, walk_of, ends_at, walked, walk_Meets}
-use prog.Capped.{capped_fits}
+use Rattle.thin_block.proofs.WalkPrelude.{Ura, Fn, Args, a_type, inst_fn, Val, vint, SProp, ent, via, fst∗, Lft, Share, ftrue, flft, Memory, align, capped, capped_is, Routine, WpFn, Tables, Logic, Fun, tables, WpFn-mono, ‵, ◌⊛◌, ◌$◌, ◌∵◌, !, qed, move, keep, join, fjoin, feq_i, flt_i, suffices, done, of_opd, returns, enter, alloc_all, pass_all, free_all, look_at, sets, RattleType, layout, layouts, nothing, Clauses, triple_of, entered, walk_of, ends_at, walked, walk_Meets, capped_fits, closing, on_entry, Meets, says}
 use contract.Running.{tables_of}
 use types.Run.{align_word}
 use Rattle.thin_block.proofs.sizes.SizesLemmas.{rounded}
-use denote.Triple.Clauses.{closing}
-use denote.Triple.Entry.{on_entry}
-use denote.Triple.Spec.{Meets}
-use denote.Triple.Walked.{says}
 use Rattle.thin_block.specs.contracts.sizes.item_align.Key.{name as #self}
 use Rattle.thin_block.specs.contracts.sizes.item_align as F
 use Rattle.thin_block.proofs.sizes.item_align.Statement as stated

@@ -1,23 +1,17 @@
 -- This file proves the contract of `make_words`. For each word, the function reads the items of the
 -- word, and writes them back as one word at the same address.
 use Rattle.std.proofs.Common.{◌≡◌, refl, sym, ap, ◌∙◌, List, [], ◌∷◌, map, ℕ, suc, ◌+◌, ◌-◌, ◌*◌, ◌<◌, ◌^◌, arith, lit<, length, w64}
-use Rattle.thin_block.proofs.WalkPrelude.{suc-mul, zero-mul, Ura, ltb→lt, nltb→le, full_share, Ty, Fn, Body, Args, a_type, a_number, ty_int, ty_array, bare, inst_fn, Val, vunit, vint, vptr, vstruct, vcons, vnil, WT, has_ty, SProp, ent, emp, sep, wand, never_e, apply∗, Lft, Share, Fml, ftrue, fat, flft, froom, ◌⊑◌, Memory, size, size-raw, Routine, Env, Wp, WpFn, Tables, after_seq, after_block, Holds, Logic, sem, Fun, fact, tables, WpFn-mono, Item, Sq, any_q, runs, ‵, raw, ◌⊛◌, exists, prop, at_ret, ◌$◌, ◌∵◌, !, qed, by, move, keep, drop, use0, use1, use2, join, split, pick, rewrite, fsplit, fjoin, feq_i, assume, suffices, done, agg, stop, look, load, lit, bin, unit_lit, of_opd, no_more, and_then, init, assigns_last, first, blocks, skips, branches, exec, returns, enter, alloc_all, pass_all, free_all, look_at, get, through, sets, sets_last, env, Array, usize, yes, Is, shows, part_at, layout, layouts, number, ArrayAt, param_laws, array_at_laws, uint_vals, uint_Tells, RattleType, owns, Ptr, RawPtr, block_ptr, null_ptr, ptr_val, rawptr_vals, rawptr_Tells, plain, heard, nothing, peeks, Ended, Clauses, triple_of, entered, Stays, stay_dropped, walk_of, ends_at, walked, Goes-dropped, walk_Meets, part_out, part_in, El, R, el_x, times_below, type_size}
+use Rattle.thin_block.proofs.WalkPrelude.{suc-mul, zero-mul, Ura, ltb→lt, nltb→le, full_share, Ty, Fn, Body, Args, a_type, a_number, ty_int, ty_array, bare, inst_fn, Val, vunit, vint, vptr, vstruct, vcons, vnil, WT, has_ty, SProp, ent, emp, sep, wand, never_e, apply∗, Lft, Share, Fml, ftrue, fat, flft, froom, ◌⊑◌, Memory, size, size-raw, Routine, Env, Wp, WpFn, Tables, after_seq, after_block, Holds, Logic, sem, Fun, fact, tables, WpFn-mono, Item, Sq, any_q, runs, ‵, raw, ◌⊛◌, exists, prop, at_ret, ◌$◌, ◌∵◌, !, qed, by, move, keep, drop, use0, use1, use2, join, split, pick, rewrite, fsplit, fjoin, feq_i, assume, suffices, done, agg, stop, look, load, lit, bin, unit_lit, of_opd, no_more, and_then, init, assigns_last, first, blocks, skips, branches, exec, returns, enter, alloc_all, pass_all, free_all, look_at, get, through, sets, sets_last, env, Array, usize, yes, Is, shows, part_at, layout, layouts, number, ArrayAt, param_laws, array_at_laws, uint_vals, uint_Tells, RattleType, owns, Ptr, RawPtr, block_ptr, null_ptr, ptr_val, rawptr_vals, rawptr_Tells, plain, heard, nothing, peeks, Ended, Clauses, triple_of, entered, Stays, stay_dropped, walk_of, ends_at, walked, Goes-dropped, walk_Meets, part_out, part_in, El, R, el_x, times_below, type_size, Out, at_return, size_lit, jumps, loops, again, Below, holding, forget_but, take_at, give_at, u64, one_more, one_below, slots_own, word_of, filled_slots}
+use prog.Wp.{after_turn}
+use contract.Running.{tables_of}
 use lib.WfN.{lt-wf_rel}
 use prog.Align.{both}
-use prog.Wp.{Out, at_return, after_turn}
-use contract.Running.{tables_of}
-use types.Run.{size_lit, jumps, loops, again, Below}
-use types.ByLocal.{holding, forget_but, take_at, give_at}
 use denote.Array.{Array-Makes}
-use denote.Builtin.{u64}
 use denote.Plain.{uint_Makes}
 use denote.Signature.Struct.{makes}
 use denote.Steps.{owned}
 use denote.Struct.Declared.{shape}
-use Rattle.core.proofs.ptr.Rows.{one_more, one_below}
 use Rattle.core.proofs.slots.Bodies.{after, head}
-use Rattle.thin_block.specs.Ownership.{slots_own, word_of}
-use Rattle.thin_block.specs.Slots.{filled_slots}
 use Rattle.thin_block.specs.Words.{word, runs_at, runs_from}
 use Rattle.thin_block.specs.contracts.words.Word.{the_type}
 use Rattle.thin_block.proofs.words.WordsMemory.{word_row, number_of_items}

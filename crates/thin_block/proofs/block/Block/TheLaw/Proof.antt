@@ -1,12 +1,11 @@
 -- This file proves that a shared reference to a block lends what separate references to the
 -- capacity, to the length and to each item would lend.
 use Rattle.std.proofs.Common.{List, [], ◌∷◌, ◌++◌, ℕ, ◌+◌, Bool, true, length, w64, Option, Some, None}
-use Rattle.thin_block.proofs.WalkPrelude.{Ura, full_share, sep, wand, apply∗, Lft, Fml, ftrue, ffalse, fsep, feq, fbor, Logic, sem, ‵, raw, ◌⊛◌, later, ◌$◌, !, qed, move, drop, use1, use2, split, updating, await, done, Ty, RattleType, usize, Ptr, block_ptr, null_ptr, lies_at, Laws, nothing, type_size}
+use Rattle.thin_block.proofs.WalkPrelude.{Ura, full_share, sep, wand, apply∗, Lft, Fml, ftrue, ffalse, fsep, feq, fbor, Logic, sem, ‵, raw, ◌⊛◌, later, ◌$◌, !, qed, move, drop, use1, use2, split, updating, await, done, Ty, RattleType, usize, Ptr, block_ptr, null_ptr, lies_at, Laws, nothing, type_size, fpack, now}
 use mathlib.Core.List.{not-mem-nil}
 use base.Before.{chain}
 use base.Fml.{Incl, Incl-trans}
 use types.Logic.{lfts}
-use types.Kit.{fpack, now}
 use contract.BorrowLft.{meet_⊑_left}
 use denote.RattleType.{RowLaws}
 use denote.Copied.{uint_Copied}

@@ -1,5 +1,4 @@
-use Rattle.thin_block.proofs.WalkPrelude.{RattleType}
-use denote.Param.Send.{IsSend, Frees}
+use Rattle.thin_block.proofs.WalkPrelude.{RattleType, IsSend, Frees}
 use Rattle.core.specs.declared.alloc.Allocator.{Ghosts}
 use Rattle.thin_block.proofs.block.SendLemmas.{block_send}
 use Rattle.thin_block.specs.contracts.block.Block.{the_row}

@@ -1,5 +1,4 @@
-use Rattle.thin_block.proofs.WalkPrelude.{RattleType}
-use denote.Param.Send.{IsSync}
+use Rattle.thin_block.proofs.WalkPrelude.{RattleType, IsSync}
 use Rattle.core.specs.declared.alloc.Allocator.{Ghosts}
 use Rattle.thin_block.proofs.block.SendLemmas.{block_sync}
 use Rattle.thin_block.specs.contracts.block.Block.{the_row}

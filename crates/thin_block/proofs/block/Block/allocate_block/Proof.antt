@@ -1,22 +1,12 @@
 -- This file proves the contract of `allocate_block`, which allocates the memory of a block with
 -- empty slots and writes its header.
 use Rattle.std.proofs.Common.{◌≡◌, ℕ, ◌+◌, ◌<◌, List, [], ◌∷◌, ◌++◌, length, replicate, Bool, true, false, refl, sym, ap, ◌∙◌, arith, lit<, w64, Some, None, Option}
-use Rattle.thin_block.proofs.WalkPrelude.{Ty, Body, ty_int, Val, WT, vint, vptr, vstruct, vcons, vnil, inst_fn, length-replicate, SProp, Lft, Share, froom, flft, size, align, capped, capped_is, Env, ⊑_trans, tables, After, ‵, raw, ◌⊛◌, later, at_ret, ◌$◌, !, move, keep, drop, use0, use1, use2, use3, split, split3, join, rewrite, fsplit, fjoin, await, suffices, done, whole, agg, stop, fld, lit, bin, init, of_opd, no_more, and_then, assigns, assigns_last, first, blocks, exec, returns, alloc_all, pass_all, free_all, look_at, get, get_in, through, sets, sets_last, lands_as, env, RattleType, Ptr, block_ptr, calls_at, walk_of, ends_at, token, fm, proved_at, type_size, type_align, R, slot_at, then_runs, after, head, arm_body, says_all, refused_made}
-use types.Match.{live, vrt, in_variant}
-use types.Run.{switches_on}
-use types.ByLocal.{get_tag}
-use denote.Signature.{type_at}
-use Rattle.core.proofs.alloc.Calls.{Takes, at_takes, Answered, Takes-goes, Takes-gives, answers}
-use Rattle.core.specs.declared.result.Result.TheVariants.{Ok, Err}
-use Rattle.std_alloc.proofs.ResultValues.{ok_of, err_of}
-use Rattle.thin_block.specs.Cost.{add_request}
-use Rattle.thin_block.specs.Capacity.{Fits, block_align, block_bytes}
+use Rattle.thin_block.proofs.WalkPrelude.{Ty, Body, ty_int, Val, WT, vint, vptr, vstruct, vcons, vnil, inst_fn, length-replicate, SProp, Lft, Share, froom, flft, size, align, capped, capped_is, Env, ⊑_trans, tables, After, ‵, raw, ◌⊛◌, later, at_ret, ◌$◌, !, move, keep, drop, use0, use1, use2, use3, split, split3, join, rewrite, fsplit, fjoin, await, suffices, done, whole, agg, stop, fld, lit, bin, init, of_opd, no_more, and_then, assigns, assigns_last, first, blocks, exec, returns, alloc_all, pass_all, free_all, look_at, get, get_in, through, sets, sets_last, lands_as, env, RattleType, Ptr, block_ptr, calls_at, walk_of, ends_at, token, fm, proved_at, type_size, type_align, R, slot_at, then_runs, after, head, arm_body, says_all, refused_made, live, vrt, in_variant, switches_on, get_tag, type_at, Takes, at_takes, Answered, Takes-goes, Takes-gives, answers, Ok, Err, ok_of, err_of, add_request, Fits, block_align, block_bytes}
 use Rattle.thin_block.specs.Ownership.{fits_block, slots_own, header_owns, erased_type, words_of, rejoin_wand, pads, dealloc_right_if, requested_type as whole_block}
 use Rattle.thin_block.proofs.sizes.SizesLemmas.{fits_tells, opened, rounded}
 use Rattle.thin_block.proofs.WordConversionLemmas.{asked_size, asked_align, carve_asked}
-use Rattle.thin_block.proofs.HeaderMemory.{args, Br, any_some, block_val, block_made, header_written, items}
 use Rattle.thin_block.proofs.SlotMemory.{of_raw}
-use Rattle.thin_block.proofs.MethodSignatures.{item, source, others, dropped, all_go, arrives, heard_all, enters, blank, still, word}
+use Rattle.thin_block.proofs.MethodSignatures.{item, source, others, dropped, all_go, arrives, heard_all, enters, blank, still, word, args, Br, any_some, block_val, block_made, header_written, items}
 use Rattle.thin_block.specs.contracts.block.Block.allocate_block.{ended, clauses}
 use Rattle.thin_block.specs.contracts.block.Block.allocate_block.Key.{name as #self}
 use Rattle.thin_block.proofs.block.Block.allocate_block.Statement.{statement}

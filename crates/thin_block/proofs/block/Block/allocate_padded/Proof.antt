@@ -1,26 +1,12 @@
 -- This file proves the contract of `allocate_padded`, which allocates the memory of a padded block
 -- with empty slots, and writes its header and the address of the memory.
 use Rattle.std.proofs.Common.{◌≡◌, ℕ, ◌+◌, ◌*◌, ◌<◌, ◌^◌, List, [], ◌∷◌, ◌++◌, length, replicate, true, refl, sym, ap, ◌∙◌, arith, lit<, w64, Some, None, Option}
-use Rattle.thin_block.proofs.WalkPrelude.{Ty, Body, ty_int, Val, WT, vint, vptr, vstruct, vcons, vnil, inst_fn, length-replicate, SProp, Lft, Share, Fml, froom, flft, size, align, capped, capped_is, Env, ⊑_trans, tables, After, ‵, raw, ◌⊛◌, later, at_ret, ◌$◌, !, move, keep, drop, use0, use1, use2, use3, split, split3, join, rewrite, fsplit, fjoin, await, suffices, done, whole, agg, stop, fld, lit, bin, init, of_opd, no_more, and_then, assigns, first, exec, returns, alloc_all, pass_all, free_all, look_at, get, get_in, through, sets, sets_last, lands_as, env, RattleType, Ptr, block_ptr, calls_at, walk_of, ends_at, token, fm, proved_at, type_size, type_align, R, slot_at, then_runs, after, head, arm_body, says_all, refused_made}
-use mir.Syntax.{ty_ptr}
-use types.Match.{live, vrt, in_variant}
-use types.Run.{switches_on}
-use types.ByLocal.{get_tag}
-use denote.Signature.{type_at}
-use Rattle.core.proofs.alloc.Calls.{Takes, at_takes, Answered, Takes-goes, Takes-gives, answers}
-use Rattle.core.specs.declared.result.Result.TheVariants.{Ok, Err}
-use Rattle.std_alloc.proofs.ResultValues.{ok_of, err_of}
-use Rattle.thin_block.specs.Cost.{add_request}
-use Rattle.thin_block.specs.Capacity.{Fits}
-use Rattle.thin_block.specs.InPlace.{gapped_items}
+use Rattle.thin_block.proofs.WalkPrelude.{Ty, Body, ty_int, Val, WT, vint, vptr, vstruct, vcons, vnil, inst_fn, length-replicate, SProp, Lft, Share, Fml, froom, flft, size, align, capped, capped_is, Env, ⊑_trans, tables, After, ‵, raw, ◌⊛◌, later, at_ret, ◌$◌, !, move, keep, drop, use0, use1, use2, use3, split, split3, join, rewrite, fsplit, fjoin, await, suffices, done, whole, agg, stop, fld, lit, bin, init, of_opd, no_more, and_then, assigns, first, exec, returns, alloc_all, pass_all, free_all, look_at, get, get_in, through, sets, sets_last, lands_as, env, RattleType, Ptr, block_ptr, calls_at, walk_of, ends_at, token, fm, proved_at, type_size, type_align, R, slot_at, then_runs, after, head, arm_body, says_all, refused_made, ty_ptr, live, vrt, in_variant, switches_on, get_tag, type_at, Takes, at_takes, Answered, Takes-goes, Takes-gives, answers, Ok, Err, ok_of, err_of, add_request, Fits, gapped_items}
 use Rattle.thin_block.specs.Ownership.{fits_block, slots_own, header_owns, dealloc_right, erased_type, pads, end_of, padded_type as whole_block}
 use Rattle.thin_block.proofs.sizes.SizesLemmas.{fits_tells, opened, rounded}
 use Rattle.thin_block.proofs.padded.PaddedLemmas.{Padded, padded_tells}
 use Rattle.thin_block.proofs.padded.PaddedMemory.{Kept, padded_size, padded_align, memory_in, array_out, padded_right_in}
-use Rattle.thin_block.proofs.HeaderMemory.{args, Br, any_some, block_val, block_made, header_written}
-use Rattle.thin_block.proofs.SlotMemory.{reach}
-use Rattle.thin_block.proofs.Addresses.{slot_found}
-use Rattle.thin_block.proofs.MethodSignatures.{item, source, others, dropped, all_go, arrives, heard_all, enters, blank, still, word}
+use Rattle.thin_block.proofs.MethodSignatures.{item, source, others, dropped, all_go, arrives, heard_all, enters, blank, still, word, args, Br, any_some, block_val, block_made, header_written, reach, slot_found}
 use Rattle.thin_block.specs.contracts.block.Block.allocate_padded.{ended, clauses}
 use Rattle.thin_block.specs.contracts.block.Block.allocate_padded.Key.{name as #self}
 use Rattle.thin_block.proofs.block.Block.allocate_padded.Statement.{statement}

@@ -1,12 +1,10 @@
 -- This file proves the contract of `cap`, which reads the capacity through a shared reference to
 -- the block.
 use Rattle.std.proofs.Common.{ℕ, ◌+◌, ◌^◌, List, ◌∷◌, [], ◌++◌, length, refl, w64}
-use Rattle.thin_block.proofs.WalkPrelude.{Val, vint, vptr, inst_fn, ◌$◌, !, move, keep, fjoin, feq_i, flt_i, suffices, done, stop, fld, look, load, of_opd, first, blocks, returns, alloc_all, pass_all, free_all, look_at, through, sets, sets_last, get, walk_of, ends_at, proved_at, R, pointer_in, pointer_out, says_all}
-use Rattle.core.proofs.slots.Lent.{word_in, word_out}
-use Rattle.thin_block.proofs.HeaderMemory.{args}
+use Rattle.thin_block.proofs.WalkPrelude.{Val, vint, vptr, inst_fn, ◌$◌, !, move, keep, fjoin, feq_i, flt_i, suffices, done, stop, fld, look, load, of_opd, first, blocks, returns, alloc_all, pass_all, free_all, look_at, through, sets, sets_last, get, walk_of, ends_at, proved_at, R, pointer_in, pointer_out, says_all, word_in, word_out}
 use Rattle.thin_block.proofs.SharedRefLemmas.{block_seen}
 use Rattle.thin_block.proofs.sizes.SizesLemmas.{closed}
-use Rattle.thin_block.proofs.MethodSignatures.{item, source, others, dropped, all_go, seen, enters, leaves, continues}
+use Rattle.thin_block.proofs.MethodSignatures.{item, source, others, dropped, all_go, seen, enters, leaves, continues, args}
 use Rattle.thin_block.specs.contracts.block.Block.cap.{ended, clauses}
 use Rattle.thin_block.specs.contracts.block.Block.cap.Key.{name as #self}
 use Rattle.thin_block.proofs.block.Block.cap.Statement.{statement}

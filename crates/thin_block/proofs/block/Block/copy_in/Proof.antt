@@ -1,25 +1,15 @@
 -- This file proves the contract of `copy_in`, which copies items into adjacent empty slots of a
 -- block.
 use Rattle.std.proofs.Common.{◌≡◌, ℕ, Some, None, false, ◌+◌, ◌*◌, ◌^◌, ◌<◌, ◌≤◌, List, ◌∷◌, [], ◌++◌, length, refl, sym, subst, ◌∙◌, arith, w64, replicate, Option}
-use Rattle.thin_block.proofs.WalkPrelude.{length-map, length-replicate, Fn, Args, ty_array, a_type, dcons, dnil, named, Val, WT, vint, vunit, inst_fn, full_share, Lft, Share, froom, flft, ‵, raw, ◌⊛◌, exists, given, later, learn, pick, await, ◌$◌, !, move, keep, drop, use1, use2, use3, split, split3, join, fsplit, fsplit3, rewrite, suffices, done, whole, sub, stop, fld, unit_lit, of_opd, no_more, and_then, first, blocks, returns, alloc_all, pass_all, free_all, look_at, sets, lands_as, lands_last, get, get_in, Array, part_at, RattleType, block_ptr, layout, param, bounded, plain, slice_val, calls_at, calls_at_last, Stays, stay_ref, walk_of, Goes-ref, ends_at, proved_at, framed, R, slot_at, says_all}
-use denote.Param.{copied}
-use denote.Slice.{ShrSlice}
+use Rattle.thin_block.proofs.WalkPrelude.{length-map, length-replicate, Fn, Args, ty_array, a_type, dcons, dnil, named, Val, WT, vint, vunit, inst_fn, full_share, Lft, Share, froom, flft, ‵, raw, ◌⊛◌, exists, given, later, learn, pick, await, ◌$◌, !, move, keep, drop, use1, use2, use3, split, split3, join, fsplit, fsplit3, rewrite, suffices, done, whole, sub, stop, fld, unit_lit, of_opd, no_more, and_then, first, blocks, returns, alloc_all, pass_all, free_all, look_at, sets, lands_as, lands_last, get, get_in, Array, part_at, RattleType, block_ptr, layout, param, bounded, plain, slice_val, calls_at, calls_at_last, Stays, stay_ref, walk_of, Goes-ref, ends_at, proved_at, framed, R, slot_at, says_all, copied, ShrSlice, add_moves, with_slots, slots_own, filled_slots, empty_slots, slot, write_slots}
 use Rattle.core.specs.Mem.Slots.{slots_items, slots_filled, slots_ptr, slots_len, slots_counts, slots_small}
 use Rattle.core.specs.Mem.Slots.Ownership.{Filled}
 use Rattle.core.proofs.slots.Opens.{row_val}
 use Rattle.core.proofs.slots.Runs.{of_space, to_values}
 use Rattle.std_alloc.proofs.vec.Blocks.{all}
 use Rattle.std_alloc.proofs.vec.Spares.{Row, parts_typed, From, at_from, Made, from_goes, from_gives, Into, at_into, Into-goes, Into-gives}
-use Rattle.thin_block.specs.Cost.{add_moves}
-use Rattle.thin_block.specs.Lends.{with_slots}
-use Rattle.thin_block.specs.Ownership.{slots_own}
-use Rattle.thin_block.specs.Slots.{filled_slots, empty_slots, slot, write_slots}
 use Rattle.thin_block.proofs.slots.CopyCall.{Copied, at_copied, IsCopy, Copied-goes, Copied-gives}
-use Rattle.thin_block.proofs.HeaderMemory.{Br}
-use Rattle.thin_block.proofs.SlotMemory.{sz, around, run_out, run_in, of_items, to_room}
-use Rattle.thin_block.proofs.SlotsLemmas.{empty-run, length-written}
-use Rattle.thin_block.proofs.MethodSignatures.{item, source, others, dropped, all_go, arrives, heard_all, token_out, enters, closes_over, leaves_unit, ptr_of, opens_self, continues, word}
-use Rattle.thin_block.proofs.Addresses.{near, its_ptr, slot_found}
+use Rattle.thin_block.proofs.MethodSignatures.{item, source, others, dropped, all_go, arrives, heard_all, token_out, enters, closes_over, leaves_unit, ptr_of, opens_self, continues, word, Br, sz, around, run_out, run_in, of_items, to_room, empty-run, length-written, near, its_ptr, slot_found}
 use Rattle.thin_block.specs.contracts.block.Block.copy_in.{ended, clauses}
 use Rattle.thin_block.specs.contracts.block.Block.copy_in.Key.{name as #self}
 use Rattle.thin_block.proofs.block.Block.copy_in.Statement.{statement}

@@ -1,17 +1,12 @@
 -- This file proves the contract of `free_block`. The proof joins the parts of the block into one
 -- piece of memory, which the function returns to the allocator.
 use Rattle.std.proofs.Common.{◌≡◌, ℕ, ◌+◌, List, [], ◌∷◌, ◌++◌, length, false, refl, sym, ap, ◌∙◌, arith, w64, Some, Option}
-use Rattle.thin_block.proofs.WalkPrelude.{Ty, place, Val, vint, vptr, vunit, inst_fn, SProp, Lft, Share, froom, flft, size, align, capped, capped_is, Env, ⊑_trans, tables, ‵, raw, ◌⊛◌, given, later, at_ret, ◌$◌, !, by, move, keep, drop, use1, use2, use3, split, join, learn, rewrite, regoal, fsplit, feq_i, await, whole, sub, stop, fld, unit_lit, of_opd, no_more, and_then, first, blocks, exec, returns, alloc_all, pass_all, free_all, look_at, get, get_in, sets, lands_last, env, RattleType, block_ptr, nothing, calls_at_last, walk_of, token, fm, proved_at, leaves, type_size, type_align, R, slot_at, then_runs, out_of_block, after}
-use types.Kit.{settles}
-use Rattle.core.proofs.alloc.Calls.{Goes-blank, Gives, at_gives, Gives-goes, Gives-Gives}
-use Rattle.thin_block.specs.Slots.{empty_slots}
-use Rattle.thin_block.specs.Capacity.{block_align, block_bytes}
+use Rattle.thin_block.proofs.WalkPrelude.{Ty, place, Val, vint, vptr, vunit, inst_fn, SProp, Lft, Share, froom, flft, size, align, capped, capped_is, Env, ⊑_trans, tables, ‵, raw, ◌⊛◌, given, later, at_ret, ◌$◌, !, by, move, keep, drop, use1, use2, use3, split, join, learn, rewrite, regoal, fsplit, feq_i, await, whole, sub, stop, fld, unit_lit, of_opd, no_more, and_then, first, blocks, exec, returns, alloc_all, pass_all, free_all, look_at, get, get_in, sets, lands_last, env, RattleType, block_ptr, nothing, calls_at_last, walk_of, token, fm, proved_at, leaves, type_size, type_align, R, slot_at, then_runs, out_of_block, after, settles, Goes-blank, Gives, at_gives, Gives-goes, Gives-Gives, empty_slots, block_align, block_bytes}
 use Rattle.thin_block.specs.Ownership.{slots_own, pads, requested_type as whole_block}
 use Rattle.thin_block.proofs.sizes.SizesLemmas.{fits_tells, rounded}
 use Rattle.thin_block.proofs.WordConversionLemmas.{asked_size, asked_align, gather}
-use Rattle.thin_block.proofs.HeaderMemory.{args, header, t, block_val, block_had, items}
 use Rattle.thin_block.proofs.SlotMemory.{to_raw}
-use Rattle.thin_block.proofs.MethodSignatures.{item, source, others, dropped, all_go, arrives, heard_all, enters, blank, still, word}
+use Rattle.thin_block.proofs.MethodSignatures.{item, source, others, dropped, all_go, arrives, heard_all, enters, blank, still, word, args, header, t, block_val, block_had, items}
 use Rattle.thin_block.specs.contracts.block.Block.free_block.{ended, clauses}
 use Rattle.thin_block.specs.contracts.block.Block.free_block.Key.{name as #self}
 use Rattle.thin_block.proofs.block.Block.free_block.Statement.{statement}

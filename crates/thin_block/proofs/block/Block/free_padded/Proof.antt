@@ -1,20 +1,12 @@
 -- This file proves the contract of `free_padded`. The proof joins the parts of the padded block
 -- into one piece of memory, which the function returns to the allocator.
 use Rattle.std.proofs.Common.{◌≡◌, ℕ, ◌+◌, List, [], ◌∷◌, ◌++◌, ◌*◌, ◌<◌, ◌^◌, length, true, refl, sym, ap, subst, ◌∙◌, arith, w64, Some, Option}
-use Rattle.thin_block.proofs.WalkPrelude.{Ty, place, Val, vint, vptr, vunit, inst_fn, SProp, Lft, Share, Fml, froom, flft, size, align, capped, capped_is, Env, ⊑_trans, tables, ‵, raw, ◌⊛◌, given, exists, pick, group, later, at_ret, ◌$◌, !, by, move, keep, drop, use1, use3, split, join, learn, rewrite, regoal, fsplit, feq_i, await, whole, sub, stop, fld, load, look, through, unit_lit, of_opd, no_more, and_then, first, blocks, exec, returns, alloc_all, pass_all, free_all, look_at, get, get_in, sets, lands_last, env, RattleType, Ptr, block_ptr, nothing, calls_at_last, walk_of, token, fm, proved_at, leaves, type_size, type_align, R, slot_at, then_runs, out_of_block, after}
-use mir.Syntax.{ty_ptr}
-use types.Kit.{settles}
-use Rattle.core.proofs.alloc.Calls.{Goes-blank, Gives, at_gives, Gives-goes, Gives-Gives}
-use Rattle.thin_block.specs.Slots.{empty_slots}
-use Rattle.thin_block.specs.InPlace.{gapped_items}
+use Rattle.thin_block.proofs.WalkPrelude.{Ty, place, Val, vint, vptr, vunit, inst_fn, SProp, Lft, Share, Fml, froom, flft, size, align, capped, capped_is, Env, ⊑_trans, tables, ‵, raw, ◌⊛◌, given, exists, pick, group, later, at_ret, ◌$◌, !, by, move, keep, drop, use1, use3, split, join, learn, rewrite, regoal, fsplit, feq_i, await, whole, sub, stop, fld, load, look, through, unit_lit, of_opd, no_more, and_then, first, blocks, exec, returns, alloc_all, pass_all, free_all, look_at, get, get_in, sets, lands_last, env, RattleType, Ptr, block_ptr, nothing, calls_at_last, walk_of, token, fm, proved_at, leaves, type_size, type_align, R, slot_at, then_runs, out_of_block, after, ty_ptr, settles, Goes-blank, Gives, at_gives, Gives-goes, Gives-Gives, empty_slots, gapped_items}
 use Rattle.thin_block.specs.Ownership.{fits_block, slots_own, header_owns, pads, erased_type, end_of, padded_type as whole_block}
 use Rattle.thin_block.proofs.sizes.SizesLemmas.{rounded}
 use Rattle.thin_block.proofs.padded.PaddedLemmas.{Padded, padded_tells}
 use Rattle.thin_block.proofs.padded.PaddedMemory.{Opened, padded_apart, array_in, memory_out, padded_size, padded_align}
-use Rattle.thin_block.proofs.HeaderMemory.{args, header, t, block_val, block_had}
-use Rattle.thin_block.proofs.SlotMemory.{reach}
-use Rattle.thin_block.proofs.Addresses.{slot_found}
-use Rattle.thin_block.proofs.MethodSignatures.{item, source, others, dropped, all_go, arrives, heard_all, enters, blank, still, word}
+use Rattle.thin_block.proofs.MethodSignatures.{item, source, others, dropped, all_go, arrives, heard_all, enters, blank, still, word, args, header, t, block_val, block_had, reach, slot_found}
 use Rattle.thin_block.specs.contracts.block.Block.free_padded.{ended, clauses}
 use Rattle.thin_block.specs.contracts.block.Block.free_padded.Key.{name as #self}
 use Rattle.thin_block.proofs.block.Block.free_padded.Statement.{statement}

@@ -1,13 +1,12 @@
 -- This file proves the contract of `none`, which returns a block without slots. Such a block points
 -- to a static header with the capacity 0 and the length 0.
 use Rattle.std.proofs.Common.{[], ◌∷◌, refl, arith, lit<, w64, None}
-use Rattle.thin_block.proofs.WalkPrelude.{Ty, Fn, ty_int, ty_array, w128, Val, vint, vstruct, vcons, vnil, inst_fn, SProp, ftrue, fat, ◌⊑◌, fact, tables, ‵, raw, ◌⊛◌, later, ◌$◌, ◌∵◌, !, qed, move, keep, use1, split, split3, join, fjoin, await, suffices, done, agg, stop, no_more, and_then, returns, enter, alloc_all, pass_all, free_all, look_at, get, through, sets, lands_as, owns, usize, part_at, uint_in, block_ptr, types_at, nothing, Stays, walk_of, ends_at, proved_at, Al, El, says_all}
+use Rattle.thin_block.proofs.WalkPrelude.{Ty, Fn, ty_int, ty_array, w128, Val, vint, vstruct, vcons, vnil, inst_fn, SProp, ftrue, fat, ◌⊑◌, fact, tables, ‵, raw, ◌⊛◌, later, ◌$◌, ◌∵◌, !, qed, move, keep, use1, split, split3, join, fjoin, await, suffices, done, agg, stop, no_more, and_then, returns, enter, alloc_all, pass_all, free_all, look_at, get, through, sets, lands_as, owns, usize, part_at, uint_in, block_ptr, types_at, nothing, Stays, walk_of, ends_at, proved_at, Al, El, says_all, shared_of}
 use mir.Syntax.{Tys, ty_struct, tcons, tnil}
 use mir.Val.{Vals}
 use base.Fml.{flent}
 use types.Run.{addr, statics}
 use denote.Copied.{uint_Copied}
-use denote.Memory.{shared_of}
 use denote.Triple.Entry.{alive}
 use Rattle.thin_block.specs.Cost.{no_cost}
 use Rattle.thin_block.proofs.HeaderMemory.{args, Br, block_val, block_made}

@@ -1,32 +1,13 @@
 -- This file proves the contract of `resize_padded`, which uses a padded block as an array of items,
 -- resizes the array, and uses it as a padded block again.
 use Rattle.std.proofs.Common.{◌≡◌, ℕ, ◌+◌, ◌-◌, ◌*◌, ◌^◌, ◌<◌, ◌≤◌, List, [], ◌∷◌, ◌++◌, length, true, refl, sym, ap, subst, ◌∙◌, arith, lit<, w64, Some, Option}
-use Rattle.thin_block.proofs.WalkPrelude.{Fn, Body, ty_int, Val, WT, vint, vptr, vcons, vnil, inst_fn, SProp, ex, Fml, Lft, Share, ftrue, froom, flft, Env, WpFn, tables, After, ‵, raw, ◌⊛◌, exists, given, pick, learn, later, prop, at_ret, ◌$◌, ◌∵◌, !, qed, move, keep, drop, group, use1, use2, use3, split, split3, join, regoal, rewrite, fsplit, fjoin, await, suffices, done, whole, sub, agg, stop, fld, lit, bin, init, look, load, of_opd, no_more, and_then, assigns, first, blocks, exec, returns, enter, alloc_all, pass_all, free_all, look_at, get, get_in, through, sets, sets_last, lands_as, env, RattleType, owns, Ptr, block_ptr, types_at, calls_at, walk_of, ends_at, token, fm, proved_at, type_align, R, slot_at, then_runs, out_of_block, after, head, inside, arm_body, says_all}
-use mir.Syntax.{Ty, ty_ptr}
-use contract.BorrowLft.{◌⊑◌, ⊑_static}
+use Rattle.thin_block.proofs.WalkPrelude.{Fn, Body, ty_int, Val, WT, vint, vptr, vcons, vnil, inst_fn, SProp, ex, Fml, Lft, Share, ftrue, froom, flft, Env, WpFn, tables, After, ‵, raw, ◌⊛◌, exists, given, pick, learn, later, prop, at_ret, ◌$◌, ◌∵◌, !, qed, move, keep, drop, group, use1, use2, use3, split, split3, join, regoal, rewrite, fsplit, fjoin, await, suffices, done, whole, sub, agg, stop, fld, lit, bin, init, look, load, of_opd, no_more, and_then, assigns, first, blocks, exec, returns, enter, alloc_all, pass_all, free_all, look_at, get, get_in, through, sets, sets_last, lands_as, env, RattleType, owns, Ptr, block_ptr, types_at, calls_at, walk_of, ends_at, token, fm, proved_at, type_align, R, slot_at, then_runs, out_of_block, after, head, inside, arm_body, says_all, Ty, ty_ptr, ◌⊑◌, ⊑_static, live, vrt, in_variant, switches_on, get_tag, type_at, Goes-blank, Flagged, flagged, Ok, Err, ok_of, err_of, add_realloc, items_in, filled_slots, empty_slots, write_slots, slot_range, fits_block, slots_own, header_owns, dealloc_right, pads, end_of, FitsGap, gapped_items, block_view}
 use base.Share as Shares
-use types.Match.{live, vrt, in_variant}
-use types.Run.{switches_on}
-use types.ByLocal.{get_tag}
-use denote.Signature.{type_at}
-use Rattle.core.proofs.alloc.Calls.{Goes-blank}
-use Rattle.core.proofs.alloc.Resizes.{Flagged, flagged}
-use Rattle.core.specs.declared.result.Result.TheVariants.{Ok, Err}
-use Rattle.std_alloc.proofs.ResultValues.{ok_of, err_of}
-use Rattle.thin_block.specs.Cost.{add_realloc}
-use Rattle.thin_block.specs.Slots.{items_in, filled_slots, empty_slots, write_slots, slot_range}
-use Rattle.thin_block.specs.Ownership.{fits_block, slots_own, header_owns, dealloc_right, pads, end_of}
 use Rattle.thin_block.proofs.sizes.SizesLemmas.{fits_tells, opened}
-use Rattle.thin_block.proofs.HeaderMemory.{args, Br, header, t, any_some, block_val, block_had, block_made, header_written}
-use Rattle.thin_block.proofs.SlotMemory.{sz, reach}
-use Rattle.thin_block.proofs.Addresses.{slot_found}
-use Rattle.thin_block.proofs.SlotsLemmas.{packed-carried, packed-le, packed-long, packed-parted}
 use Rattle.thin_block.proofs.padded.PaddedLemmas.{Padded, padded_tells}
 use Rattle.thin_block.proofs.padded.PaddedMemory.{Kept, Opened, padded_apart, padded_right_in, array_in, array_out}
 use Rattle.thin_block.proofs.in_place.ResizedCall.{Resizing, at_resizing, leaves, Resizing-goes, Resizing-gives}
-use Rattle.thin_block.specs.InPlace.{FitsGap, gapped_items}
-use Rattle.thin_block.specs.Block.{block_view}
-use Rattle.thin_block.proofs.MethodSignatures.{item, source, others, dropped, all_go, heard_all, blank, still, word}
+use Rattle.thin_block.proofs.MethodSignatures.{item, source, others, dropped, all_go, heard_all, blank, still, word, args, Br, header, t, any_some, block_val, block_had, block_made, header_written, sz, reach, slot_found, packed-carried, packed-le, packed-long, packed-parted}
 use Rattle.thin_block.specs.contracts.block.Block.resize_padded.{ended, clauses}
 use Rattle.thin_block.specs.contracts.block.Block.resize_padded.Key.{name as #self}
 use Rattle.thin_block.proofs.block.Block.resize_padded.Statement.{statement}

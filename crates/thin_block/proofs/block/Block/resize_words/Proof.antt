@@ -1,37 +1,17 @@
 -- This file proves the contract of `resize_words`, which converts a block into an array of words,
 -- resizes the array, and converts it back into a block.
 use Rattle.std.proofs.Common.{◌≡◌, ℕ, ◌+◌, ◌-◌, ◌*◌, ◌^◌, ◌<◌, ◌≤◌, List, [], ◌∷◌, ◌++◌, length, true, refl, sym, ap, subst, ◌∙◌, arith, lit<, w64, Some, Option}
-use Rattle.thin_block.proofs.WalkPrelude.{div_ceil, Ty, Fn, Body, Args, ty_int, a_type, a_number, dcons, dnil, bare, Val, WT, vint, vptr, vcons, vnil, inst_fn, SProp, ex, emp, id⊢, Fml, Lft, Share, ftrue, fsep, froom, flft, Env, WpFn, ◌⊑◌, fact, fact_i, tables, After, ‵, raw, ◌⊛◌, exists, pick, later, prop, at_ret, ◌$◌, ◌∵◌, !, qed, move, keep, drop, group, use0, use1, use2, use3, split, split3, join, regoal, rewrite, fsplit, await, fjoin3, feq_l, suffices, done, whole, sub, agg, stop, fld, lit, bin, init, of_opd, no_more, and_then, assigns, first, blocks, exec, returns, enter, alloc_all, pass_all, free_all, look_at, get, get_in, through, is, sets, sets_last, lands_as, env, usize, unit, RattleType, owns, yes, layout, param, number, bounded, Ptr, RawPtr, block_ptr, types_at, nothing, only, calls_at, triple_of, walk_of, ends_at, array_of, Al, token, fm, proved_at, type_size, type_align, El, R, slot_at, then_runs, out_of_block, after, head, inside, arm_body, says_all}
-use native.Mathlib.Nat.{mul_assoc}
+use Rattle.thin_block.proofs.WalkPrelude.{div_ceil, Ty, Fn, Body, Args, ty_int, a_type, a_number, dcons, dnil, bare, Val, WT, vint, vptr, vcons, vnil, inst_fn, SProp, ex, emp, id⊢, Fml, Lft, Share, ftrue, fsep, froom, flft, Env, WpFn, ◌⊑◌, fact, fact_i, tables, After, ‵, raw, ◌⊛◌, exists, pick, later, prop, at_ret, ◌$◌, ◌∵◌, !, qed, move, keep, drop, group, use0, use1, use2, use3, split, split3, join, regoal, rewrite, fsplit, await, fjoin3, feq_l, suffices, done, whole, sub, agg, stop, fld, lit, bin, init, of_opd, no_more, and_then, assigns, first, blocks, exec, returns, enter, alloc_all, pass_all, free_all, look_at, get, get_in, through, is, sets, sets_last, lands_as, env, usize, unit, RattleType, owns, yes, layout, param, number, bounded, Ptr, RawPtr, block_ptr, types_at, nothing, only, calls_at, triple_of, walk_of, ends_at, array_of, Al, token, fm, proved_at, type_size, type_align, El, R, slot_at, then_runs, out_of_block, after, head, inside, arm_body, says_all, mul_assoc, live, vrt, in_variant, switches_on, get_tag, pure_i, type_at, Goes-blank, Flagged, flagged, Ok, Err, ok_of, err_of, add_realloc, block_bytes, items_in, filled_slots, empty_slots, write_slots, slot_range, fits_block, slots_own, header_owns, dealloc_right, word_of, slots_wand, runs_at, FitsGap, block_view}
 use contract.BorrowLft.{⊑_meet, ⊑_static}
-use types.Match.{live, vrt, in_variant}
-use types.Run.{switches_on}
-use types.ByLocal.{get_tag}
 use denote.Param.{arg}
 use denote.Param.Laws.{arg_laws}
-use denote.Shadow.{pure_i}
-use denote.Signature.{type_at}
 use Rattle.core.specs.Simd.{first_chunks}
-use Rattle.core.proofs.alloc.Calls.{Goes-blank}
-use Rattle.core.proofs.alloc.Resizes.{Flagged, flagged}
-use Rattle.core.specs.declared.result.Result.TheVariants.{Ok, Err}
-use Rattle.std_alloc.proofs.ResultValues.{ok_of, err_of}
-use Rattle.thin_block.specs.Cost.{add_realloc}
-use Rattle.thin_block.specs.Capacity.{block_bytes}
-use Rattle.thin_block.specs.Slots.{items_in, filled_slots, empty_slots, write_slots, slot_range}
-use Rattle.thin_block.specs.Ownership.{fits_block, slots_own, header_owns, dealloc_right, word_of, slots_wand}
-use Rattle.thin_block.specs.Words.{runs_at}
 use Rattle.thin_block.proofs.sizes.SizesLemmas.{fits_tells, opened}
-use Rattle.thin_block.proofs.HeaderMemory.{Br, header, t, any_some, block_val, block_had, block_made, header_written}
-use Rattle.thin_block.proofs.SlotMemory.{sz, reach}
-use Rattle.thin_block.proofs.SlotsLemmas.{packed-carried, packed-le, packed-long, packed-parted}
 use Rattle.thin_block.proofs.WordConversionLemmas.{Kept, header_apart, right_in, words_apart}
 use Rattle.thin_block.proofs.words.WordsLemmas.{InWords, words_told}
 use Rattle.thin_block.proofs.words.WordsMemory.{word_el, words_made, words_long, chunks_long, words_in, words_joined}
 use Rattle.thin_block.proofs.in_place.ResizedCall.{Resizing, at_resizing, leaves, Resizing-goes, Resizing-gives}
-use Rattle.thin_block.specs.InPlace.{FitsGap}
-use Rattle.thin_block.specs.Block.{block_view}
-use Rattle.thin_block.proofs.MethodSignatures.{others, dropped, all_go, heard_all, blank, still, word}
+use Rattle.thin_block.proofs.MethodSignatures.{others, dropped, all_go, heard_all, blank, still, word, Br, header, t, any_some, block_val, block_had, block_made, header_written, sz, reach, packed-carried, packed-le, packed-long, packed-parted}
 use Rattle.thin_block.specs.contracts.block.Block.resize_words.{ended, clauses}
 use Rattle.thin_block.specs.contracts.block.Block.resize_words.Key.{name as #self}
 use Rattle.thin_block.proofs.block.Block.resize_words.Statement.{statement}

@@ -1,15 +1,8 @@
 -- This file proves the contract of `slice`, which returns the items in adjacent slots as a slice.
 use Rattle.std.proofs.Common.{◌≡◌, ℕ, ◌+◌, ◌*◌, ◌-◌, ◌^◌, ◌<◌, ◌≤◌, List, ◌∷◌, [], ◌++◌, length, Some, refl, sym, ap, subst, ◌∙◌, arith, w64}
-use Rattle.thin_block.proofs.WalkPrelude.{length-map, Val, vint, vptr, inst_fn, Lft, ‵, ◌$◌, !, move, keep, use1, fjoin, feq_i, flt_i, suffices, done, agg, stop, fld, look, load, bin, of_opd, no_more, and_then, first, blocks, returns, alloc_all, pass_all, free_all, look_at, through, sets, sets_last, get, slice_val, walk_of, ends_at, proved_at, R, pointer_in, pointer_out}
-use base.Fml.{fhide}
-use denote.Slice.{elements_shared}
-use denote.Triple.Walked.{says}
-use Rattle.thin_block.proofs.HeaderMemory.{args}
-use Rattle.thin_block.proofs.SlotMemory.{sz, reach}
+use Rattle.thin_block.proofs.WalkPrelude.{length-map, Val, vint, vptr, inst_fn, Lft, ‵, ◌$◌, !, move, keep, use1, fjoin, feq_i, flt_i, suffices, done, agg, stop, fld, look, load, bin, of_opd, no_more, and_then, first, blocks, returns, alloc_all, pass_all, free_all, look_at, through, sets, sets_last, get, slice_val, walk_of, ends_at, proved_at, R, pointer_in, pointer_out, fhide, elements_shared, says}
 use Rattle.thin_block.proofs.SharedRefLemmas.{block_seen, run_seen}
-use Rattle.thin_block.proofs.SlotsLemmas.{full-run, length-run}
-use Rattle.thin_block.proofs.MethodSignatures.{item, source, others, dropped, all_go, heard_all, seen, enters, leaves, continues, word}
-use Rattle.thin_block.proofs.Addresses.{near, slot_found}
+use Rattle.thin_block.proofs.MethodSignatures.{item, source, others, dropped, all_go, heard_all, seen, enters, leaves, continues, word, args, sz, reach, full-run, length-run, near, slot_found}
 use Rattle.thin_block.specs.contracts.block.Block.slice.{ended, clauses}
 use Rattle.thin_block.specs.contracts.block.Block.slice.Key.{name as #self}
 use Rattle.thin_block.proofs.block.Block.slice.Statement.{statement}

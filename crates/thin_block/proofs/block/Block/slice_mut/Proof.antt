@@ -1,20 +1,14 @@
 -- This file proves the contract of `slice_mut`, which returns the items in adjacent slots as a
 -- mutable slice.
 use Rattle.std.proofs.Common.{◌≡◌, ℕ, Some, ◌+◌, ◌-◌, ◌*◌, ◌^◌, ◌<◌, ◌≤◌, List, ◌∷◌, [], ◌++◌, length, refl, sym, ap, subst, ◌∙◌, arith, w64}
-use Rattle.thin_block.proofs.WalkPrelude.{length-map, named, vint, inst_fn, ent, sep, emp, Lft, Share, GName, Fml, fsep, flft, fact, fact_i, sem, ‵, raw, ◌⊛◌, exists, later, pick, await, ◌$◌, !, by, move, use0, use1, split, split3, join, group, fjoin, rewrite, agg, bin, of_opd, no_more, and_then, first, blocks, returns, alloc_all, pass_all, free_all, look_at, sets, sets_last, get, cells, Array, mem, slice_val, walk_of, proved_at, leaves, R}
+use Rattle.thin_block.proofs.WalkPrelude.{length-map, named, vint, inst_fn, ent, sep, emp, Lft, Share, GName, Fml, fsep, flft, fact, fact_i, sem, ‵, raw, ◌⊛◌, exists, later, pick, await, ◌$◌, !, by, move, use0, use1, split, split3, join, group, fjoin, rewrite, agg, bin, of_opd, no_more, and_then, first, blocks, returns, alloc_all, pass_all, free_all, look_at, sets, sets_last, get, cells, Array, mem, slice_val, walk_of, proved_at, leaves, R, set_slots, slots_own, filled_slots}
 use denote.Follow.{follows}
 use denote.FollowSlice.{lends_Elements}
 use denote.Slice.{MutSlice}
 use Rattle.std.specs.Prelude.{slice_range}
-use Rattle.thin_block.specs.Lends.{set_slots}
-use Rattle.thin_block.specs.Ownership.{slots_own}
-use Rattle.thin_block.specs.Slots.{filled_slots}
-use Rattle.thin_block.proofs.SlotsLemmas.{full-run, length-run}
-use Rattle.thin_block.proofs.HeaderMemory.{args, Br}
 use Rattle.thin_block.proofs.SlotMemory.{sz, reach, around, run_out, to_cells}
 use Rattle.thin_block.proofs.BorrowLemmas.{Waiting, items_back}
-use Rattle.thin_block.proofs.MethodSignatures.{blank, item, source, others, dropped, all_go, begins, enters, ptr_of, opens_self, continues, word}
-use Rattle.thin_block.proofs.Addresses.{near, its_ptr, slot_found}
+use Rattle.thin_block.proofs.MethodSignatures.{blank, item, source, others, dropped, all_go, begins, enters, ptr_of, opens_self, continues, word, full-run, length-run, args, Br, near, its_ptr, slot_found}
 use Rattle.thin_block.specs.contracts.block.Block.slice_mut.{ended, clauses}
 use Rattle.thin_block.specs.contracts.block.Block.slice_mut.Key.{name as #self}
 use Rattle.thin_block.proofs.block.Block.slice_mut.Statement.{statement}

@@ -1,17 +1,11 @@
 -- This file proves the contract of `slot_mut`, which returns a mutable reference to the item in a
 -- filled slot.
 use Rattle.std.proofs.Common.{◌≡◌, ℕ, Some, None, ◌+◌, ◌*◌, ◌<◌, ◌∷◌, [], ◌++◌, length, refl, arith, w64}
-use Rattle.thin_block.proofs.WalkPrelude.{get_or, named, vint, vptr, inst_fn, emp, Lft, Share, GName, Fml, fsep, flft, fact, fact_i, sem, ‵, raw, ◌⊛◌, exists, later, pick, await, ◌$◌, !, by, move, use0, use1, split3, join, group, fjoin, stop, of_opd, first, blocks, returns, alloc_all, pass_all, free_all, look_at, through, sets, sets_last, get, walk_of, proved_at, leaves, R}
-use types.Run.{addr}
+use Rattle.thin_block.proofs.WalkPrelude.{get_or, named, vint, vptr, inst_fn, emp, Lft, Share, GName, Fml, fsep, flft, fact, fact_i, sem, ‵, raw, ◌⊛◌, exists, later, pick, await, ◌$◌, !, by, move, use0, use1, split3, join, group, fjoin, stop, of_opd, first, blocks, returns, alloc_all, pass_all, free_all, look_at, through, sets, sets_last, get, walk_of, proved_at, leaves, R, addr, MutRef, set_slot}
 use denote.Follow.{follows, lends_Part}
-use denote.Ref.{MutRef}
-use Rattle.thin_block.specs.Lends.{set_slot}
-use Rattle.thin_block.proofs.SlotsLemmas.{the_item, filled-within}
-use Rattle.thin_block.proofs.HeaderMemory.{args, Br}
 use Rattle.thin_block.proofs.SlotMemory.{sz, besides}
 use Rattle.thin_block.proofs.BorrowLemmas.{Waiting, item_back}
-use Rattle.thin_block.proofs.MethodSignatures.{blank, item, source, others, dropped, all_go, begins, enters, ptr_of, opens_self, continues, word}
-use Rattle.thin_block.proofs.Addresses.{near, its_ptr, slot_found, takes_slot}
+use Rattle.thin_block.proofs.MethodSignatures.{blank, item, source, others, dropped, all_go, begins, enters, ptr_of, opens_self, continues, word, the_item, filled-within, args, Br, near, its_ptr, slot_found, takes_slot}
 use Rattle.thin_block.specs.contracts.block.Block.slot_mut.{ended, clauses}
 use Rattle.thin_block.specs.contracts.block.Block.slot_mut.Key.{name as #self}
 use Rattle.thin_block.proofs.block.Block.slot_mut.Statement.{statement}
