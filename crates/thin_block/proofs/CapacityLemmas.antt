@@ -28,15 +28,12 @@ pub ruled-rule : (rule : GrowthRule) (R : RattleType) (c w : ℕ) → c < w → 
 unfolding grown_capacity
 ruled-rule rule R c w more word = rw (lt-leb w c more) (rw (lt-ltb w (2 ^ 64) word) refl)
 
-none_some : {A B : Type 0} (x : A) → None ≡ Some x → B
-none_some x e = cc
-
 pub ruled-grows : (rule : GrowthRule) (R : RattleType) (c w n : ℕ) → IsLawful rule → c < w
     → grown_capacity rule R c w ≡ Some n → GrowsValidly R c w n
 ruled-grows rule R c w n law more e = elim (dec_lt w (2 ^ 64)) [
   | yes word ↦ law (type_size R) (type_align R) c w n more word
       (sym (ruled-rule rule R c w more word) ∙ e)
-  | no high ↦ none_some n (sym (ruled-overflow rule R c w more (omega arith)) ∙ e)
+  | no high ↦ cc (ruled-overflow rule R c w more (omega arith))
 ]
 
 pub fits-small : (R : RattleType) (c : ℕ) → Fits R c → c < 2 ^ 63
@@ -51,8 +48,6 @@ fits-part R i c e less = times_below i c (type_size R) (2 ^ 63) less (fits-bytes
 pub fits-less : (R : RattleType) (c d : ℕ) → Fits R d → c ≤ d → Fits R c
 fits-less R c d e less =
     let told = fits_tells R d (opened R d e) in
-    let few = told.few in
-    let room = told.room in
     let under : c * type_size R ≤ d * type_size R = mul-le-mul_right (type_size R) less in
     closed R c (fits_yes R c (omega arith) (omega arith))
 

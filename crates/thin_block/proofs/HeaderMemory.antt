@@ -43,30 +43,22 @@ block_own_made 𝓛 p =
       (refl, (refl, ((tt, (refl, tt)), ((tt, (refl, tt)), tt)))),
     )
 
--- Every alignment is `bytes w` for some width `w`.
-by_width : (P : ℕ → Type 0) → ((w : Width) → P (bytes w)) → (τ : Ty) → P (align τ)
-by_width P each τ = subst P (sym (align-bytes τ)) (each (align_w τ))
+-- `Alignment a` is what these lemmas need of an alignment `a`, which is 1, 2, 4, 8 or 16.
+pub record Alignment (a : ℕ) : Type 0 where
+  pub widest : max 8 (max 8 (max a 1)) ≡ max 8 a
+  pub most : max 16 a ≡ 16
+  pub zero_up : up a 0 ≡ 0
+  pub sixteen_up : up a 16 ≡ 16
 
-sixteen_at : (w : Width) → up (bytes w) 16 ≡ 16
-sixteen_at w8 = refl
-sixteen_at w16 = refl
-sixteen_at w32 = refl
-sixteen_at w64 = refl
-sixteen_at w128 = refl
+alignment_at : (w : Width) → Alignment (bytes w)
+alignment_at w8 = record { widest = refl; most = refl; zero_up = refl; sixteen_up = refl }
+alignment_at w16 = record { widest = refl; most = refl; zero_up = refl; sixteen_up = refl }
+alignment_at w32 = record { widest = refl; most = refl; zero_up = refl; sixteen_up = refl }
+alignment_at w64 = record { widest = refl; most = refl; zero_up = refl; sixteen_up = refl }
+alignment_at w128 = record { widest = refl; most = refl; zero_up = refl; sixteen_up = refl }
 
-sixteen : (τ : Ty) → up (align τ) 16 ≡ 16
-sixteen = by_width (λ a. up a 16 ≡ 16) sixteen_at
-
-layouts_at : (w : Width) → (max 8 (max 8 (max (bytes w) 1)) ≡ max 8 (bytes w))
-    × (max 16 (bytes w) ≡ 16)
-layouts_at w8 = (refl, refl)
-layouts_at w16 = (refl, refl)
-layouts_at w32 = (refl, refl)
-layouts_at w64 = (refl, refl)
-layouts_at w128 = (refl, refl)
-
-aligned : (τ : Ty) → (max 8 (max 8 (max (align τ) 1)) ≡ max 8 (align τ)) × (max 16 (align τ) ≡ 16)
-aligned = by_width (λ a. (max 8 (max 8 (max a 1)) ≡ max 8 a) × (max 16 a ≡ 16)) layouts_at
+pub alignment : (τ : Ty) → Alignment (align τ)
+alignment τ = subst Alignment (sym (align-bytes τ)) (alignment_at (align_w τ))
 
 module _ (R : RattleType) (c : ℕ) where
   abbrev τ : Ty
@@ -77,12 +69,12 @@ module _ (R : RattleType) (c : ℕ) where
   items = raw (ty_array τ c)
 
   pub whole_align : align (block_type R c) ≡ block_align (type_align R)
-  whole_align = ap (λ (a : ℕ). max 8 (max 8 (max a 1))) (align-raw τ) ∙ (aligned τ).0
+  whole_align = ap (λ (a : ℕ). max 8 (max 8 (max a 1))) (align-raw τ) ∙ (alignment τ).widest
 
   pub whole_size : size (block_type R c) ≡ block_bytes (type_size R) (type_align R) c
   whole_size =
       let ends : up (align items) 16 + size items ≡ max 16 (align τ) + c * size τ =
-      (λ i. (sixteen items ∙ sym (aligned τ).1) i + c * size-raw τ i) in
+      (λ i. ((alignment items).sixteen_up ∙ sym (alignment τ).most) i + c * size-raw τ i) in
       (λ i. up (whole_align i) (ends i))
 
 module _ {M : Type 1} {𝓤 : Ura M} (𝓛 : Logic 𝓤) (R : RattleType) where
@@ -100,7 +92,7 @@ module _ {M : Type 1} {𝓤 : Ura M} (𝓛 : Logic 𝓤) (R : RattleType) where
       let rooms = rooms_at 𝓤 H τs 0 b o in
       let first : o + 0 ≡ o = omega arith in
       let third : o + up (align (items R c)) 16 ≡ o + 16 =
-      ap (λ (k : ℕ). o + k) (sixteen (items R c)) in
+      ap (λ (k : ℕ). o + k) (alignment (items R c)).sixteen_up in
       qed 𝓛 (‵ (froom (block_type R c) b o) ∷ []) ∵
       use1 𝓛 (given_raw rooms ⊛ given_raw (wand 𝓤 rooms (H.room (block_type R c) b o)))
       (𝓛.laws.room_fields [] τs b o) $ split ! $

@@ -3,20 +3,19 @@
 -- slots of `s` are filled.
 use Rattle.std.proofs.Common.{◌⊎◌, ◌≡◌, ℕ, zero, suc, ◌+◌, ◌-◌, ◌<◌, ◌≤◌, List, [], ◌∷◌, ◌++◌, length, Some, None, refl, sym, ap, subst, ◌∙◌, arith, append_assoc}
 use Rattle.std.proofs.lemmas.List.{take-append-drop, drop-drop, set_at, get_or-append_right, get_or-drop, length-replicate, length-map, length-append, length-take, length-drop, take_at, drop_at, drop-replicate, replicate-append-replicate}
-use mathlib.Core.Logic.{inl, inr, ⊎_elim}
 use lib.ListN.{set, get_or}
 use lib.Seq.{set_split, drop-cons, take-add}
-use Rattle.core.proofs.str.Laws.{order}
+use Rattle.std.proofs.lemmas.Bool.{cases_eq}
 use borrow.Author.Tests.{clash}
-use Rattle.std.specs.Prelude.{Option, IsSome, take, drop, replicate}
+use Rattle.std.specs.Prelude.{Option, IsSome, take, drop}
 use Rattle.thin_block.specs.Lends.{overwrite_items}
 use Rattle.thin_block.specs.Slots.{filled_slots, empty_slots, slot, items_in, IsPacked, slot_range, write_slots, clear_slots, move_slots}
 
 pub same_or_not : (i j : ℕ) → (i ≡ j) ⊎ (i ≡ j → ⊥)
-same_or_not i j =
-    ⊎_elim (λ (p : i < j). inr (λ (e : i ≡ j). absurd (omega arith)))
-    (λ (p : j ≤ i). ⊎_elim (λ (q : j < i). inr (λ (e : i ≡ j). absurd (omega arith)))
-    (λ (q : i ≤ j). inl (let e : i ≡ j = omega arith in e)) (order j i)) (order i j)
+same_or_not i j = cases_eq i j
+
+bare-long : (T : Type 0) (k : ℕ) → length (empty_slots {T = T} k) ≡ k
+bare-long T k = length-replicate k (let o : Option T = None in o)
 
 module _ {T : Type 0} where
   pub the_item : (x : Option T) → IsSome x → (y : T) × (x ≡ Some y)
@@ -32,8 +31,7 @@ module _ {T : Type 0} where
       → ((j : ℕ) → i ≤ j → j < i + k → IsSome (slot s j))
       → (xs : List T) × (slot_range i k s ≡ filled_slots xs)
   full-run [] zero zero le filled = ([], refl)
-  full-run [] (suc i) k le filled = absurd (omega arith)
-  full-run [] zero (suc k) le filled = absurd (omega arith)
+  full-run [] i k le filled = absurd (omega arith)
   full-run (x ∷ s) (suc i) k le filled = full-run s i k (omega arith)
       (λ j p q. filled (suc j) (omega arith) (omega arith))
   full-run (x ∷ s) zero zero le filled = ([], refl)
@@ -46,8 +44,7 @@ module _ {T : Type 0} where
   pub empty-run : (s : List (Option T)) (i k : ℕ) → i + k ≤ length s
       → ((j : ℕ) → i ≤ j → j < i + k → slot s j ≡ None) → slot_range i k s ≡ empty_slots k
   empty-run [] zero zero le bare = refl
-  empty-run [] (suc i) k le bare = absurd (omega arith)
-  empty-run [] zero (suc k) le bare = absurd (omega arith)
+  empty-run [] i k le bare = absurd (omega arith)
   empty-run (x ∷ s) (suc i) k le bare = empty-run s i k (omega arith)
       (λ j p q. bare (suc j) (omega arith) (omega arith))
   empty-run (x ∷ s) zero zero le bare = refl
@@ -74,8 +71,7 @@ module _ {T : Type 0} where
       → ((j : ℕ) → i ≤ j → j < i + length ws → IsSome (slot s j))
       → overwrite_items s i ws ≡ write_slots i (filled_slots ws) s
   over-written [] zero [] le held = refl
-  over-written [] (suc i) ws le held = absurd (omega arith)
-  over-written [] zero (w ∷ ws) le held = absurd (omega arith)
+  over-written [] i ws le held = absurd (omega arith)
   over-written (x ∷ s) (suc i) ws le held =
       let more : suc (i + length (filled_slots ws)) ≡ suc i + length (filled_slots ws) =
       omega arith in
@@ -111,10 +107,7 @@ module _ {T : Type 0} where
       ∙ (ap (λ (l : List (Option T)). set l k y)
       (sym (append_assoc (take i s) ys (get_or s k None ∷ drop (suc k) s)))
       ∙ (set_at (take i s ++ ys) (get_or s k None) (drop (suc k) s) y k at
-      ∙ (append_assoc (take i s) ys (y ∷ drop (suc k) s)
-      ∙ (ap (λ (l : List (Option T)). take i s ++ l)
-      (sym (append_assoc ys (y ∷ []) (drop (suc k) s)))
-      ∙ ap (λ (n : ℕ). take i s ++ ((ys ++ y ∷ []) ++ drop n s)) long))))
+      ∙ rw (← long) (simp append_assoc)))
 
   pub slot-written : (i : ℕ) (ys s : List (Option T)) (k : ℕ) → i ≤ length s → i + length ys ≤ k
       → slot (write_slots i ys s) k ≡ slot s k
@@ -147,9 +140,8 @@ module _ {T : Type 0} where
   pub written-at : (i : ℕ) (pre ys old post : List (Option T)) → i ≡ length pre
       → length ys ≡ length old → write_slots i ys (pre ++ (old ++ post)) ≡ pre ++ (ys ++ post)
   written-at i pre ys old post e n =
-      let Row : Type 0 = List (Option T) in
       let rest : drop (i + length ys) (pre ++ (old ++ post)) ≡ post =
-      ap (λ (l : Row). drop (i + length ys) l) (sym (append_assoc pre old post))
+      ap (λ (l : (List (Option T))). drop (i + length ys) l) (sym (append_assoc pre old post))
       ∙ drop_at (pre ++ old) post (i + length ys) (length-append pre old ∙ omega arith) in
       λ m. take_at pre (old ++ post) i (sym e) m ++ (ys ++ rest m)
 
@@ -169,10 +161,8 @@ module _ {T : Type 0} where
       → length (move_slots from to k s) ≡ length s
   unfolding move_slots
   length-moved from to k s source target =
-      let count : length (empty_slots {T = T} k) ≡ k =
-      length-replicate k (let o : Option T = None in o) in
       let left : length (clear_slots from k s) ≡ length s =
-      length-written from (empty_slots k) s (omega arith) in
+      length-written from (empty_slots k) s (omega (arith, bare-long T k)) in
       length-written to (slot_range from k s) (clear_slots from k s)
       (omega (arith, left, length-run s from k source)) ∙ left
 
@@ -182,7 +172,7 @@ module _ {T : Type 0} where
       let turned : a + k ≡ k + a = omega arith in
       sym (append_assoc (empty_slots a) (empty_slots k) post)
       ∙ (ap (λ (e : List (Option T)). e ++ post) (replicate-append-replicate a k None
-      ∙ (ap (λ (m : ℕ). replicate m None) turned ∙ sym (replicate-append-replicate k a None)))
+      ∙ rw turned (sym (replicate-append-replicate k a None)))
       ∙ append_assoc (empty_slots k) (empty_slots a) post)
 
   module _ (from to k d : ℕ) where
@@ -196,13 +186,8 @@ module _ {T : Type 0} where
         let e : s ≡ (pre ++ empty_slots d) ++ (ys ++ post) =
         sym (append_assoc pre (empty_slots d) (ys ++ post)) in
         let l : from ≡ length (pre ++ empty_slots {T = T} d) =
-        omega (
-          arith,
-          length-append pre (empty_slots d),
-          length-replicate d (let o : Option T = None in o),
-        ) in
-        let m : length (empty_slots {T = T} k) ≡ length ys =
-        length-replicate k (let o : Option T = None in o) ∙ n in
+        omega (arith, length-append pre (empty_slots d), bare-long T d) in
+        let m : length (empty_slots {T = T} k) ≡ length ys = bare-long T k ∙ n in
         moved-by from to k s ys (pre ++ (empty_slots k ++ (empty_slots d ++ post))) _
         (ap (λ (r : Row). slot_range from k r) e ∙ run-at from k (pre ++ empty_slots d) ys post l n)
         (ap (λ (r : Row). clear_slots from k r) e
@@ -220,13 +205,8 @@ module _ {T : Type 0} where
         let Row : Type 0 = List (Option T) in
         let s : Row = pre ++ (ys ++ (empty_slots d ++ post)) in
         let l : to ≡ length (pre ++ empty_slots {T = T} d) =
-        omega (
-          arith,
-          length-append pre (empty_slots d),
-          length-replicate d (let o : Option T = None in o),
-        ) in
-        let m : length (empty_slots {T = T} k) ≡ length ys =
-        length-replicate k (let o : Option T = None in o) ∙ n in
+        omega (arith, length-append pre (empty_slots d), bare-long T d) in
+        let m : length (empty_slots {T = T} k) ≡ length ys = bare-long T k ∙ n in
         moved-by from to k s ys ((pre ++ empty_slots d) ++ (empty_slots k ++ post)) _
         (run-at from k pre ys (empty_slots d ++ post) f n)
         (written-at from pre (empty_slots k) ys (empty_slots d ++ post) f m
@@ -244,10 +224,8 @@ module _ {T : Type 0} where
         let Row : Type 0 = List (Option T) in
         let front : Row = pre ++ (empty_slots k ++ mid) in
         let joined : (r : Row) → front ++ r ≡ pre ++ (empty_slots k ++ (mid ++ r)) =
-        λ r. append_assoc pre (empty_slots k ++ mid) r ∙ ap (λ (l : Row). pre ++ l)
-        (append_assoc (empty_slots k) mid r) in
-        let m : length (empty_slots {T = T} k) ≡ length ys =
-        length-replicate k (let o : Option T = None in o) ∙ n in
+        λ r. simp append_assoc in
+        let m : length (empty_slots {T = T} k) ≡ length ys = bare-long T k ∙ n in
         let l : to ≡ length front =
         omega (
           arith,
@@ -270,10 +248,8 @@ module _ {T : Type 0} where
         let Row : Type 0 = List (Option T) in
         let front : Row = pre ++ (empty_slots k ++ mid) in
         let joined : (r : Row) → front ++ r ≡ pre ++ (empty_slots k ++ (mid ++ r)) =
-        λ r. append_assoc pre (empty_slots k ++ mid) r ∙ ap (λ (l : Row). pre ++ l)
-        (append_assoc (empty_slots k) mid r) in
-        let m : length (empty_slots {T = T} k) ≡ length ys =
-        length-replicate k (let o : Option T = None in o) ∙ n in
+        λ r. simp append_assoc in
+        let m : length (empty_slots {T = T} k) ≡ length ys = bare-long T k ∙ n in
         let l : from ≡ length front =
         omega (
           arith,
@@ -299,9 +275,8 @@ module _ {T : Type 0} where
   tail-split : (xs : List T) (a b c : ℕ) → c ≡ a + b
       → filled_slots xs ++ empty_slots c ≡ (filled_slots xs ++ empty_slots a) ++ empty_slots b
   tail-split xs a b c e =
-      let Row : Type 0 = List (Option T) in
-      ap (λ (k : ℕ). filled_slots xs ++ empty_slots k) e
-      ∙ (ap (λ (l : Row). filled_slots xs ++ l) (sym (replicate-append-replicate a b None))
+      rw e (ap (λ (l : List (Option T)). filled_slots xs ++ l)
+      (sym (replicate-append-replicate a b None))
       ∙ sym (append_assoc (filled_slots xs) (empty_slots a) (empty_slots b)))
 
 module _ {T : Type 0} (s : List (Option T)) (n : ℕ) (packed : IsPacked s n) where
@@ -320,14 +295,11 @@ module _ {T : Type 0} (s : List (Option T)) (n : ℕ) (packed : IsPacked s n) wh
 
   pub packed-le : n ≤ length s
   packed-le =
-      let whole : length s ≡ length (filled_slots xs ++ empty_slots {T = T} (length s - n)) =
-      ap length packed-parted in
-      let long = full-long in
-      omega (arith, length-append (filled_slots xs) (empty_slots {T = T} (length s - n)))
+      let part = length-append (filled_slots xs) (empty_slots {T = T} (length s - n)) in
+      omega (arith, full-long, ap length packed-parted, part)
 
   pub packed-filled : (i : ℕ) → i < n → IsSome (slot s i)
   packed-filled i low =
-      let len = packed.len in
       subst (λ (l : Row). IsSome (slot l i)) (sym packed.row)
       (full-filled xs (empty_slots (length s - length xs)) i (omega arith))
 
@@ -342,8 +314,7 @@ module _ {T : Type 0} (s : List (Option T)) (n : ℕ) (packed : IsPacked s n) wh
   pub packed-emptied : clear_slots 0 n s ≡ empty_slots (length s)
   packed-emptied =
       let le = packed-le in
-      let long : 0 + length (empty_slots {T = T} n) ≡ n =
-      omega (arith, length-replicate n (let o : Option T = None in o)) in
+      let long : 0 + length (empty_slots {T = T} n) ≡ n = omega (arith, bare-long T n) in
       ap (λ (k : ℕ). empty_slots n ++ drop k s) long
       ∙ (ap (λ (l : Row). empty_slots n ++ l) packed-rest
       ∙ (replicate-append-replicate n (length s - n) None
@@ -359,12 +330,8 @@ module _ {T : Type 0} (s : List (Option T)) (n : ℕ) (packed : IsPacked s n) wh
       (drop-replicate n c None))
 
   pub packed-long : (c : ℕ) → n ≤ c → length (filled_slots xs ++ empty_slots {T = T} (c - n)) ≡ c
-  packed-long c enough = omega (
-    arith,
-    full-long,
-    length-append (filled_slots xs) (empty_slots {T = T} (c - n)),
-    length-replicate (c - n) (let o : Option T = None in o),
-  )
+  packed-long c enough = omega
+      (arith, full-long, length-append (filled_slots xs) (empty_slots (c - n)), bare-long T (c - n))
 
   pub packed-grown : (c : ℕ) → length s ≤ c
       → write_slots 0 (slot_range 0 n s) (empty_slots c) ≡ s ++ empty_slots (c - length s)

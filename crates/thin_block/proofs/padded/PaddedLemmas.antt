@@ -14,7 +14,7 @@ use denote.Param.{layout}
 use denote.RattleType.{RattleType}
 use Rattle.thin_block.specs.Capacity.{has_padding, in_words, may_have_padding}
 use Rattle.thin_block.specs.Ownership.{pads}
-use Rattle.thin_block.proofs.sizes.SizesLemmas.{tells_first, tells_second}
+use Rattle.std.proofs.lemmas.Bool.{and_parts}
 use Rattle.thin_block.proofs.words.WordsLemmas.{InWords, words_told}
 
 -- `Padded s a c` collects what holds if a block for `c` items of size `s` and alignment `a` is
@@ -30,16 +30,16 @@ unfolding has_padding
 padded_tells s a c e =
     let few : Bool = nat_lt (c * s) (2 ^ 62) in
     let may : Bool = may_have_padding s a c in
-    let is : may ≡ true = tells_first may few e in
-    let rest : Bool = nat_le 8 a && nat_le 32 c in
-    let after : rest ≡ true = tells_second (nat_lt 16 s) rest is in
-    let enough : 32 ≤ c = leb-true 32 c (tells_second (nat_le 8 a) (nat_le 32 c) after) in
-    let low : c * s < 2 ^ 62 = ltb-true (c * s) (2 ^ 62) (tells_second may few e) in
+    let both = and_parts may few e in
+    let pads = and_parts (nat_lt 16 s) (nat_le 8 a && nat_le 32 c) both.0 in
+    let many = and_parts (nat_le 8 a) (nat_le 32 c) pads.1 in
+    let enough : 32 ≤ c = leb-true 32 c many.1 in
+    let low : c * s < 2 ^ 62 = ltb-true (c * s) (2 ^ 62) both.1 in
     let twice : 32 * s ≤ c * s = mul-le-mul_right s enough in
     let sum : (c + 2) * s ≡ c * s + 2 * s = add_times c 2 s in
     record {
-      wide = ltb-true 16 s (tells_first (nat_lt 16 s) rest is);
-      aligned = leb-true 8 a (tells_first (nat_le 8 a) (nat_le 32 c) after);
+      wide = ltb-true 16 s pads.0;
+      aligned = leb-true 8 a many.0;
       many = enough;
       short = omega arith;
     }
@@ -71,7 +71,6 @@ in_eights R c e =
     (eight_divides (align_w (layout R)) (subst (λ (a : ℕ). 8 ≤ a) known h.aligned)) in
     let whole = dv→ 8 (type_size R)
     (dv_trans 8 (type_align R) (type_size R) eight (align_size (layout R))) in
-    let wide = h.wide in
     record { size = omega arith; align = eight }
 
 -- Blocks whose items form words are not padded.
@@ -83,7 +82,6 @@ words_unpadded R m k c is =
     let s : ℕ = type_size R in
     let one : 1 * s ≤ m * s = mul-le-mul_right s h.counts.some in
     let all : 1 * (m * s) ≤ k * (m * s) = mul-le-mul_right (m * s) h.any in
-    let room = h.room in
     let small : s ≤ 16 = omega arith in
     ap (λ (b : Bool). (b && (nat_le 8 (type_align R) && nat_le 32 c)) && nat_lt (c * s) (2 ^ 62))
     (le-ltb 16 s small)

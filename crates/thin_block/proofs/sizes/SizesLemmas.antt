@@ -1,6 +1,6 @@
 -- These arithmetic lemmas are about the size of a block in bytes, and about the capacities for
 -- which a block is small enough to be allocated.
-use Rattle.std.proofs.Common.{◌≡◌, ℕ, zero, suc, ◌+◌, ◌-◌, ◌*◌, ◌/◌, ◌^◌, ◌<◌, ◌≤◌, Bool, true, false, refl, sym, ap, subst, ◌∙◌, arith, ltb, zero-mul, suc-mul}
+use Rattle.std.proofs.Common.{◌≡◌, ℕ, zero, suc, ◌+◌, ◌-◌, ◌*◌, ◌/◌, ◌^◌, ◌<◌, ◌≤◌, Bool, true, false, refl, sym, ap, subst, ◌∙◌, arith, ltb, zero-mul, suc-mul, inl, inr, eq-zero-or-pos as eq-or-pos}
 use borrow.Author.Tests.{lt-ltb, le-ltb, ltb-true}
 use mathlib.Core.Bool.{◌&&◌}
 use mir.Syntax.{Width, w8, w16, w32, w64, w128}
@@ -12,8 +12,7 @@ use denote.RattleType.{RattleType}
 use denote.Param.{layout}
 use native.Mathlib.Nat.{mul-le-mul_right}
 use Rattle.std.specs.Prelude.{max, min, ◌==◌, if◌then◌else◌}
-use Rattle.std.proofs.Common.{inl, inr, eq-zero-or-pos as eq-or-pos}
-use Rattle.std.proofs.lemmas.Bool.{cases_lt}
+use Rattle.std.proofs.lemmas.Bool.{and_from, and_parts, cases_lt}
 use Rattle.std.specs.declared.option.Option.TheVariants.{Some, None}
 use Rattle.std.specs.Int.{next_multiple_of}
 use Rattle.std.specs.Mem.{type_size}
@@ -38,46 +37,11 @@ pub record Rounded (a x : ℕ) : Type 0 where
       (block_align a) < 2 ^ 63
 
 rounded_to : (w : Width) (x : ℕ) → Rounded (bytes w) x
-rounded_to w8 x = record {
-  least = omega arith;
-  most = omega arith;
-  offset = refl;
-  above = omega arith;
-  tells = λ h. omega arith;
-  short = λ h. omega arith;
-}
-rounded_to w16 x = record {
-  least = omega arith;
-  most = omega arith;
-  offset = refl;
-  above = omega arith;
-  tells = λ h. omega arith;
-  short = λ h. omega arith;
-}
-rounded_to w32 x = record {
-  least = omega arith;
-  most = omega arith;
-  offset = refl;
-  above = omega arith;
-  tells = λ h. omega arith;
-  short = λ h. omega arith;
-}
-rounded_to w64 x = record {
-  least = omega arith;
-  most = omega arith;
-  offset = refl;
-  above = omega arith;
-  tells = λ h. omega arith;
-  short = λ h. omega arith;
-}
-rounded_to w128 x = record {
-  least = omega arith;
-  most = omega arith;
-  offset = refl;
-  above = omega arith;
-  tells = λ h. omega arith;
-  short = λ h. omega arith;
-}
+rounded_to w8 x = omega arith
+rounded_to w16 x = omega arith
+rounded_to w32 x = omega arith
+rounded_to w64 x = omega arith
+rounded_to w128 x = omega arith
 
 -- `IsAlign a` holds if `a` is 1, 2, 4, 8 or 16.
 abbrev pub IsAlign : ℕ → Type 0
@@ -107,18 +71,6 @@ capped_product zero s h = zero-mul (capped s) ∙ sym (zero-mul s)
 capped_product (suc c) s h = let more = suc-mul c s in
     ap (λ (k : ℕ). suc c * k) (capped_is s (omega arith))
 
-both_true : (x y : Bool) → x ≡ true → y ≡ true → (x && y) ≡ true
-both_true true y e f = f
-both_true false y e f = e
-
-pub tells_first : (x y : Bool) → (x && y) ≡ true → x ≡ true
-tells_first true y f = refl
-tells_first false y f = f
-
-pub tells_second : (x y : Bool) → (x && y) ≡ true → y ≡ true
-tells_second true y f = f
-tells_second false y f = cc
-
 pub positive : (n : ℕ) → (n ≡ 0 → ⊥) → 0 < n
 positive zero never = absurd (never refl)
 positive (suc n) never = omega arith
@@ -143,15 +95,14 @@ module _ (s a c : ℕ) (is : IsAlign a) where
   pub small_yes : c < 2 ^ 63 → Small s a c → fits_isize s a c ≡ true
   small_yes few room =
       let whole : block_bytes s a c < 2 ^ 63 = (rounded_at a (c * s) is).short room in
-      both_true (ltb c (2 ^ 63)) (ltb (block_bytes s a c) (2 ^ 63)) (lt-ltb c (2 ^ 63) few)
+      and_from (ltb c (2 ^ 63)) (ltb (block_bytes s a c) (2 ^ 63)) (lt-ltb c (2 ^ 63) few)
       (lt-ltb (block_bytes s a c) (2 ^ 63) whole)
 
   pub small_tells : fits_isize s a c ≡ true → Told s a c
   small_tells e =
-      let few : c < 2 ^ 63 =
-      ltb-true c (2 ^ 63) (tells_first (ltb c (2 ^ 63)) (ltb (block_bytes s a c) (2 ^ 63)) e) in
-      let short : block_bytes s a c < 2 ^ 63 = ltb-true (block_bytes s a c) (2 ^ 63)
-      (tells_second (ltb c (2 ^ 63)) (ltb (block_bytes s a c) (2 ^ 63)) e) in
+      let both = and_parts (ltb c (2 ^ 63)) (ltb (block_bytes s a c) (2 ^ 63)) e in
+      let few : c < 2 ^ 63 = ltb-true c (2 ^ 63) both.0 in
+      let short : block_bytes s a c < 2 ^ 63 = ltb-true (block_bytes s a c) (2 ^ 63) both.1 in
       record { few = few; room = (rounded_at a (c * s) is).tells short; short = short }
 
 -- This module restates the lemmas `small_yes` and `small_tells` for an item type `R`.

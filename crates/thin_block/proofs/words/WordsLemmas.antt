@@ -38,44 +38,16 @@ pub record Counts (m : ℕ) : Type 0 where
   pub few : (c : ℕ) → div_ceil c m ≤ c
 
 counts_1 : Counts 1
-counts_1 = record {
-  some = omega arith;
-  covers = λ c. omega arith;
-  holds = λ n c h. omega arith;
-  more = λ c d h. omega arith;
-  least = λ n. omega arith;
-  few = λ c. omega arith;
-}
+counts_1 = omega arith
 
 counts_2 : Counts 2
-counts_2 = record {
-  some = omega arith;
-  covers = λ c. omega arith;
-  holds = λ n c h. omega arith;
-  more = λ c d h. omega arith;
-  least = λ n. omega arith;
-  few = λ c. omega arith;
-}
+counts_2 = omega arith
 
 counts_4 : Counts 4
-counts_4 = record {
-  some = omega arith;
-  covers = λ c. omega arith;
-  holds = λ n c h. omega arith;
-  more = λ c d h. omega arith;
-  least = λ n. omega arith;
-  few = λ c. omega arith;
-}
+counts_4 = omega arith
 
 counts_8 : Counts 8
-counts_8 = record {
-  some = omega arith;
-  covers = λ c. omega arith;
-  holds = λ n c h. omega arith;
-  more = λ c d h. omega arith;
-  least = λ n. omega arith;
-  few = λ c. omega arith;
-}
+counts_8 = omega arith
 
 -- `Laid s a m k` collects facts about the layout of words of `m` items with the size `s` and the
 -- alignment `a`. The header is as large as `k` words.
@@ -86,24 +58,18 @@ Laid s a m k = (word_size s a m ≡ m * s) × ((word_align a ≡ block_align a)
 
 laid_1 : (w : Width) → Dv (bytes w) 1 → Laid 1 (bytes w) 8 2
 laid_1 w8 d = (refl, (refl, (tt, (tt, λ c. omega arith))))
-laid_1 w16 d = absurd d
-laid_1 w32 d = absurd d
-laid_1 w64 d = absurd d
-laid_1 w128 d = absurd d
+laid_1 w d = absurd d
 
 laid_2 : (w : Width) → Dv (bytes w) 2 → Laid 2 (bytes w) 4 2
 laid_2 w8 d = (refl, (refl, (tt, (tt, λ c. omega arith))))
 laid_2 w16 d = (refl, (refl, (tt, (tt, λ c. omega arith))))
-laid_2 w32 d = absurd d
-laid_2 w64 d = absurd d
-laid_2 w128 d = absurd d
+laid_2 w d = absurd d
 
 laid_4 : (w : Width) → Dv (bytes w) 4 → Laid 4 (bytes w) 2 2
 laid_4 w8 d = (refl, (refl, (tt, (tt, λ c. omega arith))))
 laid_4 w16 d = (refl, (refl, (tt, (tt, λ c. omega arith))))
 laid_4 w32 d = (refl, (refl, (tt, (tt, λ c. omega arith))))
-laid_4 w64 d = absurd d
-laid_4 w128 d = absurd d
+laid_4 w d = absurd d
 
 laid_8 : (w : Width) → Dv (bytes w) 8 → Laid 8 (bytes w) 1 2
 laid_8 w8 d = (refl, (refl, (tt, (tt, λ c. omega arith))))

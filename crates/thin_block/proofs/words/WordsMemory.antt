@@ -1,7 +1,7 @@
 -- These lemmas convert the memory of items into memory of words, and back. Here, a word is a struct
 -- of `m` items, which takes 8 or 16 bytes.
-use Rattle.std.proofs.Common.{◌≡◌, ℕ, zero, suc, Some, ◌+◌, ◌-◌, ◌*◌, ◌≤◌, List, [], ◌∷◌, ◌++◌, length, map, take, drop as rest, refl, sym, ap, subst, ◌∙◌, arith, zero-mul, suc-mul, Option, w64}
-use Rattle.thin_block.proofs.WalkPrelude.{length-take, Ura, full_share, SProp, ent, sep, apply∗, Fml, ftrue, froom, Ty, Width, w8, w16, w32, w128, ty_int, ty_array, bare, bytes, size, align, align_w, align-bytes, size-raw, Logic, sem, ‵, raw, ◌⊛◌, ◌$◌, ◌∵◌, !, qed, by, move, keep, use0, use1, use2, use3, split, split3, join, fsplit, fjoin, rewrite, assume, done, Array, part_at, layout, param, number, ArrayAt, Laws, param_laws, array_at_laws, RattleType, nothing, Struct, El, R, el_x, add_times, type_size, mul_assoc, up, u64, slots_own, word_of, word_wand, word_wands, slots_wand, filled_slots, empty_slots, word, runs_at}
+use Rattle.std.proofs.Common.{◌≡◌, ℕ, zero, suc, Some, ◌+◌, ◌-◌, ◌*◌, ◌≤◌, List, [], ◌∷◌, ◌++◌, length, map, take, drop as rest, refl, sym, ap, ◌∙◌, arith, zero-mul, suc-mul, Option, w64}
+use Rattle.thin_block.proofs.WalkPrelude.{length-take, Ura, full_share, SProp, ent, sep, apply∗, Fml, ftrue, froom, Ty, ty_int, ty_array, bare, size, align, size-raw, Logic, sem, ‵, raw, ◌⊛◌, ◌$◌, ◌∵◌, !, qed, by, move, keep, use0, use1, use2, use3, split, split3, join, fsplit, fjoin, rewrite, assume, done, Array, part_at, layout, param, number, ArrayAt, Laws, param_laws, array_at_laws, RattleType, nothing, Struct, El, R, el_x, add_times, type_size, mul_assoc, up, u64, slots_own, word_of, word_wand, word_wands, slots_wand, filled_slots, empty_slots, word, runs_at}
 use Rattle.std.proofs.lemmas.List.{take-append-drop, length-drop, length-map, map-append}
 use contract.Monad.{conj, conj_r}
 use denote.Array.{Array-Lawful}
@@ -14,6 +14,7 @@ use denote.Struct.Recorded.{Recorded-part}
 use Rattle.core.specs.Simd.{first_chunks}
 use Rattle.thin_block.specs.contracts.words.Word.{the_row, the_type}
 use Rattle.thin_block.proofs.words.WordRooms.{past_is, ways_in, ways_out}
+use Rattle.thin_block.proofs.HeaderMemory.{alignment}
 use Rattle.thin_block.proofs.SlotMemory.{cut, glue, to_items, of_items, to_raw, of_raw}
 use Rattle.thin_block.proofs.words.WordsLemmas.{InWords, nameless}
 use Rattle.thin_block.proofs.words.Word.TheLaws.{the_row_laws}
@@ -32,17 +33,6 @@ word_el T L m = record {
   row = word_row T m;
   laws = the_row_laws (param 0 T) (number_of_items m) (param_laws 0 T L) refl;
 }
-
-zero_at : (w : Width) → up (bytes w) 0 ≡ 0
-zero_at w8 = refl
-zero_at w16 = refl
-zero_at w32 = refl
-zero_at w64 = refl
-zero_at w128 = refl
-
--- The first field of a struct has the offset 0.
-zero_up : (τ : Ty) → up (align τ) 0 ≡ 0
-zero_up τ = subst (λ (a : ℕ). up a 0 ≡ 0) (sym (align-bytes τ)) (zero_at (align_w τ))
 
 -- `words_made T m n xs` is the list of the first `n` words of `m` items that are made from `xs`.
 abbrev pub words_made : (T : RattleType) (m n : ℕ) → List T.Denot → List (word_row T m).Denot
@@ -117,7 +107,7 @@ module _ {M : Type 1} {𝓤 : Ura M} (𝓛 : Logic 𝓤) (T : RattleType) (L : L
     second = o + up 8 (up (align σ) 0 + m * s)
 
     at_start : first ≡ o
-    at_start = let z = zero_up σ in omega arith
+    at_start = let z = (alignment σ).zero_up in omega arith
 
     abbrev Rooms : SProp 𝓤
     Rooms = rooms_for 𝓤 H fields zero b o

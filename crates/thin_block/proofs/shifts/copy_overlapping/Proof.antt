@@ -8,10 +8,9 @@ use lib.WfN.{lt-wf_rel}
 use types.Run.{size_lit, jumps, forget, loops, again, Below}
 use denote.Plain.{bool_vals, bool_Tells}
 use Rattle.core.proofs.ptr.Rows.{El, R, el_x, elτ, el_own, sz, Good, el_out, el_in, apart, whole, one_more, one_below}
-use mir.Syntax.{block, cond, skip, return, deref, opd_unit, op2, mul, add, sub, offset, unsigned, size_of, int}
+use mir.Syntax.{block, cond, skip, return, deref, opd_unit, op2, mul, add, sub, offset, unsigned, size_of, int, lt, exit}
 use Rattle.core.proofs.ptr.Plans.{Plan, down_Plan, up_Plan}
 use Rattle.thin_block.specs.contracts.shifts.copy_overlapping.Key.{name as #self}
-use mir.Syntax.{lt, exit}
 use mathlib.Core.WellFounded.InvImage
 use Rattle.thin_block.specs.contracts.shifts.copy_overlapping as F
 use Rattle.thin_block.proofs.shifts.copy_overlapping.Statement as stated
@@ -318,7 +317,6 @@ pub copy_overlapping_spec : {M : Type 1} → stated.statement M
 unfolding tables_of
 copy_overlapping_spec 𝓤 𝓛 𝓜 𝓡 wired X L =
     let E : El = record { row = X; laws = L } in
-    let A = 𝓛.A in
     let 𝓣 : Tables 𝓤 𝓛.H = tables_of 𝓤 𝓛.H 𝓜 (tables 𝓤 𝓛.H 𝓜 𝓡 𝓡.env) in
     let held' = F.clauses X 𝓛 𝓜.mem 𝓡.returns in
     let gone = λ (Y : RattleType). Goes-dropped 𝓛 1 (plain (λ _. Y)) yes in

@@ -1,6 +1,6 @@
 -- If a block of the given capacity is small enough to be allocated, then no sum or product that
 -- `bytes_of_block` computes exceeds `usize::MAX`.
-use Rattle.std.proofs.Common.{◌≡◌, ℕ, ◌+◌, ◌*◌, ap, ◌∙◌, arith}
+use Rattle.std.proofs.Common.{◌≡◌, ℕ, ◌+◌, ◌*◌, ◌^◌, ◌<◌, ap, ◌∙◌, arith}
 use Rattle.std.specs.Mem.{type_size}
 use Rattle.std.specs.Align.{type_align}
 use Rattle.std.specs.Int.{next_multiple_of}
@@ -20,21 +20,23 @@ summed R c size fits is =
     ∙ capped_product c (type_size R) (omega arith) in
     omega arith
 
+low : (R : RattleType) (c size : ℕ) → Fits R c → size ≡ capped (type_size R)
+    → 16 + c * size < 2 ^ 63
+low R c size fits is =
+    let told = fits_tells R c (opened R c fits) in
+    let start = (rounded R 0).offset in
+    let sum = summed R c size fits is in
+    omega arith
+
 pub overflow_mul-cap : goal.overflow_mul-cap
 overflow_mul-cap g c =
-    let told = fits_tells (param 0 g.row.T) c.args.cap
-    (opened (param 0 g.row.T) c.args.cap c.requires) in
-    let start = (rounded (param 0 g.row.T) 0).offset in
-    let sum = summed (param 0 g.row.T) c.args.cap c.item_size.result c.requires
+    let small = low (param 0 g.row.T) c.args.cap c.item_size.result c.requires
     c.item_size.ensures.value in
     record { fits = omega arith }
 
 pub overflow_add-cap : goal.overflow_add-cap
 overflow_add-cap g c =
-    let told = fits_tells (param 0 g.row.T) c.args.cap
-    (opened (param 0 g.row.T) c.args.cap c.requires) in
-    let start = (rounded (param 0 g.row.T) 0).offset in
-    let sum = summed (param 0 g.row.T) c.args.cap c.item_size.result c.requires
+    let small = low (param 0 g.row.T) c.args.cap c.item_size.result c.requires
     c.item_size.ensures.value in
     record { fits = omega arith }
 

@@ -43,12 +43,10 @@ returns-then-size-eq0 g c =
     }
 
 pub overflow_sub-result : goal.overflow_sub-result
-overflow_sub-result g c = let about = rounded (param 0 g.row.T) 0 in
-    let is = c.align_of_block.ensures.value in omega arith
+overflow_sub-result g c = let about = rounded (param 0 g.row.T) 0 in omega arith
 
 pub overflow_sub-result-2 : goal.overflow_sub-result-2
-overflow_sub-result-2 g c = let about = rounded (param 0 g.row.T) 0 in
-    let is = c.align_of_block.ensures.value in omega arith
+overflow_sub-result-2 g c = let about = rounded (param 0 g.row.T) 0 in omega arith
 
 same_limit : (R : RattleType) (c size align : ℕ) → align ≡ block_align (type_align R)
     → leb c ((2 ^ 63 - align - 16) / size) ≡ leb c

@@ -10,7 +10,6 @@ pub overflow_mul-result : goal.overflow_mul-result
 overflow_mul-result g c =
     let R = param 0 g.row.T in
     let told = fits_tells R c.args.cap (opened R c.args.cap c.requires) in
-    let room = told.room in
     let same : c.args.cap * c.item_size.result ≡ c.args.cap * type_size R =
     ap (λ (k : ℕ). c.args.cap * k) c.item_size.ensures.value
     ∙ capped_product c.args.cap (type_size R) (omega arith) in

@@ -1,57 +1,29 @@
 -- This file proves the contract of `item_align`, which returns the alignment of an item in bytes.
 use Rattle.std.proofs.Common.{◌≡◌, refl, arith, List, [], ◌∷◌, ℕ, ◌^◌, w64}
-use Rattle.thin_block.proofs.WalkPrelude.{Ura, Fn, Args, a_type, inst_fn, Val, vint, SProp, ent, via, fst∗, Lft, Share, ftrue, flft, Memory, align, capped, capped_is, Routine, WpFn, Tables, Logic, Fun, tables, WpFn-mono, ‵, ◌⊛◌, ◌$◌, ◌∵◌, !, qed, move, keep, join, fjoin, feq_i, flt_i, suffices, done, of_opd, returns, enter, alloc_all, pass_all, free_all, look_at, sets, RattleType, layout, layouts, nothing, Clauses, triple_of, entered, walk_of, ends_at, walked, walk_Meets, capped_fits, closing, on_entry, Meets, says}
-use contract.Running.{tables_of}
+use Rattle.thin_block.proofs.WalkPrelude.{Args, a_type, inst_fn, Val, vint, ftrue, flft, align, capped, capped_is, ‵, raw, ◌⊛◌, ◌$◌, ◌∵◌, !, qed, move, keep, split, join, fjoin, feq_i, flt_i, suffices, done, of_opd, returns, alloc_all, pass_all, free_all, look_at, sets, layout, layouts, nothing, ends_at, proved_at, says}
+use prog.Capped.{capped_fits}
 use types.Run.{align_word}
 use Rattle.thin_block.proofs.sizes.SizesLemmas.{rounded}
+use Rattle.thin_block.proofs.MethodSignatures.{enters}
 use Rattle.thin_block.specs.contracts.sizes.item_align.Key.{name as #self}
 use Rattle.thin_block.specs.contracts.sizes.item_align as F
 use Rattle.thin_block.proofs.sizes.item_align.Statement as stated
 use Rattle.thin_block.proofs.sizes.item_align.Code as code
 
-module _ (X : RattleType) where
-  abbrev args : Args
-  args = layouts (a_type ∷ []) (X, tt)
-
-  abbrev fn' : Fn
-  fn' = inst_fn args code.function
-
-  module _ {M : Type 1} {𝓤 : Ura M} (𝓛 : Logic 𝓤) (at_mem : Memory → SProp 𝓤)
-      (run : Routine → Fun 𝓤) (𝓣 : Tables 𝓤 𝓛.H) where
-    open 𝓛 use {H}
-
-    abbrev clauses : Clauses 𝓤 (F.ended X)
-    clauses = F.clauses X 𝓛 at_mem run
-
-    walk : (κ : Lft) (q : Share) → ent 𝓤 (on_entry 𝓛 (F.signature X) (κ, tt) (q, tt) tt tt)
-        (WpFn 𝓤 H 𝓣.C 𝓣.Λ fn' []
-        ((walk_of 𝓛 (F.ended X) tt clauses).post (((κ, tt), (q, tt), tt, tt, tt), tt)))
-    walk κ q =
-        let s : ℕ = capped (align (layout X)) in
-        let same : s ≡ align (layout X) =
-        capped_is (align (layout X)) (let most = (rounded X 0).most in omega (arith, most)) in
-        qed 𝓛 ((‵ (flft κ q) ⊛ ‵ ftrue) ∷ ‵ ftrue ∷ []) ∵ enter ! 𝓣.C 𝓣.Λ fn' [] _ $
-        alloc_all ! (λ l. pass_all ! refl tt $
-        sets ! (of_opd ! (align_word !)) refl
-        (tt, record { fits = capped_fits (align (layout X)) }) $
-        returns ! (look_at ! 0 refl) $ free_all ! refl $
-        suffices ! _ (ends_at 𝓛 (F.ended X) tt clauses (((κ, tt), (q, tt), tt, tt, tt), tt)
-        (vint w64 s) s tt tt) $ says ! same $
-        flt_i ! s (2 ^ 64) (capped_fits (align (layout X))) $ feq_i ! (List Val) (vint w64 s ∷ [])
-        (vint w64 s ∷ []) refl $ fjoin ! $ nothing ! $ join ! $ move ! (1 ∷ 0 ∷ []) $ join ! $
-        keep ! (0 ∷ []) $ done !)
-
-    meets : Meets 𝓛 (F.signature X) (WpFn 𝓤 H 𝓣.C 𝓣.Λ fn') (closing 𝓛 (F.ended X) clauses)
-    meets =
-        walk_Meets 𝓛 (F.ended X) tt tt clauses (WpFn 𝓤 H 𝓣.C 𝓣.Λ fn') (WpFn-mono 𝓤 H 𝓛.laws 𝓣 fn')
-        (walked 𝓛 (F.ended X) tt clauses (WpFn 𝓤 H 𝓣.C 𝓣.Λ fn') (λ κs. tt) (λ κs. tt)
-        (λ κs qs bounds a g are. via 𝓤 _ (fst∗ 𝓤 _ ((clauses κs a).requires g)) (walk κs.0 qs.0)))
-
 pub item_align_spec : {M : Type 1} → stated.statement M
-unfolding tables_of
 item_align_spec 𝓤 𝓛 𝓜 𝓡 wired X L =
-    let A = 𝓛.A in
-    let 𝓣 : Tables 𝓤 𝓛.H = tables_of 𝓤 𝓛.H 𝓜 (tables 𝓤 𝓛.H 𝓜 𝓡 𝓡.env) in
-    entered 𝓤 𝓛.H (triple_of 𝓛 (F.signature X) (F.spec X 𝓛 𝓜.mem 𝓡.returns)) 𝓣.C 𝓣.Λ
-    (#self (args X)) (fn' X) (code.unfolded 𝓤 𝓛.H 𝓜 𝓡 wired (X, tt))
-    (meets X 𝓛 𝓜.mem 𝓡.returns 𝓣)
+    let En₀ = F.ended X in let c = F.clauses X 𝓛 𝓜.mem 𝓡.returns in
+    let args : Args = layouts (a_type ∷ []) (X, tt) in let fn = inst_fn args code.function in
+    let s : ℕ = capped (align (layout X)) in
+    let same : s ≡ align (layout X) = capped_is (align (layout X)) (omega (arith, (rounded X 0).most))
+    in
+    proved_at 𝓛 En₀ tt c 𝓜 𝓡 tt (#self args) fn (code.unfolded 𝓤 𝓛.H 𝓜 𝓡 wired (X, tt)) (λ z are.
+    qed 𝓛 (((‵ (flft z.0.0.0 z.0.1.0) ⊛ ‵ ftrue) ⊛ ‵ ftrue) ∷ raw ((c z.0.0 z.0.3).requires z.1)
+    ∷ []) ∵ keep ! (0 ∷ []) $ split ! $ enters ! fn [] refl $
+    alloc_all ! (λ l. pass_all ! refl tt $
+    sets ! (of_opd ! (align_word !)) refl (tt, record { fits = capped_fits (align (layout X)) }) $
+    returns ! (look_at ! 0 refl) $ free_all ! refl $
+    suffices ! _ (ends_at 𝓛 En₀ tt c z (vint w64 s) s tt tt) $ says ! same $
+    flt_i ! s (2 ^ 64) (capped_fits (align (layout X))) $
+    feq_i ! (List Val) (vint w64 s ∷ []) (vint w64 s ∷ []) refl $ fjoin ! $ nothing ! $ join ! $
+    move ! (1 ∷ 0 ∷ []) $ join ! $ keep ! (0 ∷ []) $ done !))

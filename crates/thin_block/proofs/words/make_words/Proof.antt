@@ -280,7 +280,6 @@ pub make_words_spec : {M : Type 1} → stated.statement M
 unfolding tables_of
 make_words_spec 𝓤 𝓛 𝓜 𝓡 wired X m L fits_m =
     let E : El = record { row = X; laws = L } in
-    let A = 𝓛.A in
     let 𝓣 : Tables 𝓤 𝓛.H = tables_of 𝓤 𝓛.H 𝓜 (tables 𝓤 𝓛.H 𝓜 𝓡 𝓡.env) in
     let held' = F.clauses X (number m) 𝓛 𝓜.mem 𝓡.returns in
     let gone = λ (Y : RattleType). Goes-dropped 𝓛 2 (plain (λ _. Y)) yes in

@@ -85,7 +85,6 @@ allocate_padded_spec 𝓤 𝓛 𝓜 𝓡 wired T A LT LA g d dd met md =
     let header : ℕ = front + o in
     let place : o + s ≡ header + 16 = omega arith in
     let p : Ptr = block_ptr b header in
-    let end : ℕ = end_of s cap header in
     let words : WT (block_val p) = (tt, (tt, (tt, tt))) in
     let tok : Ty → Ptr → Fml = token Y h in
     let here : cap ≡ 0 + cap = omega arith in
@@ -115,7 +114,7 @@ allocate_padded_spec 𝓤 𝓛 𝓜 𝓡 wired T A LT LA g d dd met md =
     (memory_in 𝓛 E b cap tok o) $
     let kept : Fml = Kept 𝓛 E b cap pad tok o header place 0 cap (cap + 2) [] here refl refl in
     use1 𝓛 (‵ (froom (ty_int w64) b header) ⊛ ‵ (froom (ty_int w64) b (8 + header)) ⊛ ‵
-    (froom ty_ptr b end) ⊛ ‵ (slots_own Rt none b (header + 16)) ⊛ ‵ kept)
+    (froom ty_ptr b (end_of s cap header)) ⊛ ‵ (slots_own Rt none b (header + 16)) ⊛ ‵ kept)
     (array_out 𝓛 E b cap pad tok o header place 0 cap (cap + 2) [] here refl refl) $ split3 ! $
     move ! (2 ∷ []) $ split3 ! $ move ! (3 ∷ 4 ∷ 0 ∷ []) $
     -- The context is now: memory for the capacity; memory for the length; memory for the address of

@@ -42,12 +42,10 @@ copy_in_spec 𝓤 𝓛 𝓜 𝓡 wired T A LT LA copies gc dc g d dd metc met md
     let i : ℕ = z.0.3.1.0 in let items = z.0.3.1.1.0 in
     let xs : List T.Denot = items.now in
     let n : ℕ = length xs in
-    let s : ℕ = sz E in
     arrives (slot_at 0 ps) (others ps) 𝓛 z.0 ((c z.0.0 z.0.3).requires z.1) (
     move ! (4 ∷ []) $ heard_all ! (_ ∷ _ ∷ _ ∷ _ ∷ []) (λ said.
     let lives = said.0 in let within : i + n ≤ length x.slots = said.1.1.0 in
     let bare : (k : ℕ) → i ≤ k → k < i + n → slot x.slots k ≡ None = said.1.1.1 in
-    let fi = are.1.0.1 in
     let roomy = are.1.1.0.0.1 in
     let fk : n < 2 ^ 64 = roomy.0 in
     fsplit3 ! $ drop ! $ move ! (4 ∷ []) $ fsplit ! $ drop ! $ fsplit ! $
@@ -58,11 +56,11 @@ copy_in_spec 𝓤 𝓛 𝓜 𝓡 wired T A LT LA copies gc dc g d dd metc met md
     (ptr_of self ∷ vint w64 i ∷ slice_val items.ref_ptr n ∷ [])
     (λ k. are.0.0 k ++ (are.1.0.0 k ++ (are.1.1.0.0.0 k ++ []))) $
     alloc_all ! (λ l. pass_all ! refl
-    ((tt, tt), (word fi, ((tt, (tt, (record { fits = fk }, tt))), tt))) $
+    ((tt, tt), (word are.1.0.1, ((tt, (tt, (record { fits = fk }, tt))), tt))) $
     opens_self E Y ! tt self (λ b o at fits. let fm = near E x.slots i fits (omega arith) in
     sets ! (of_opd ! (its_ptr E Y ! refl)) refl (tt, tt) $ first ! $ blocks ! $
     slot_found E ! b o i fm refl ((tt, tt), (tt, tt)) $
-    let here : ℕ = i * s + (o + 16) in
+    let here : ℕ = i * (sz E) + (o + 16) in
     sets ! (of_opd ! (get_in ! (fld ! refl (stop !)) (sub ! 1 refl (whole !)))) refl
     (tt, record { fits = fk }) $
     move ! (1 ∷ []) $ use1 𝓛

@@ -7,7 +7,6 @@ use Rattle.thin_block.proofs.block.Block.grow.Goals as goal
 
 pub returns-clause-ok : goal.returns-clause-ok
 returns-clause-ok g c =
-    let larger = c.requires.cap_grows in
     on-ok c.resize.result
     (λ e. slots-are e (packed-grown c.args.self.now.slots c.args.self.now.len c.requires.packed
     c.args.cap (omega arith))) c.resize.ensures.changes.ok

@@ -30,12 +30,10 @@ move_disjoint_spec 𝓤 𝓛 𝓜 𝓡 wired T A LT LA g d dd met md =
     let xs : List T.Denot = items.0 in
     let long : length xs ≡ k = sym (length-map xs Some) ∙ ap length (sym items.1)
     ∙ length-run x.slots from k source in
-    let ff = are.1.0.1 in
-    let ft = are.1.1.0.1 in
     let fk = are.1.1.1.0.1 in
     enters ! fn (ptr_of r ∷ vint w64 from ∷ vint w64 to ∷ vint w64 k ∷ [])
     (λ n. are.0.0 n ++ (are.1.0.0 n ++ (are.1.1.0.0 n ++ (are.1.1.1.0.0 n ++ [])))) $
-    alloc_all ! (λ l. pass_all ! refl ((tt, tt), (word ff, (word ft, (word fk, tt)))) $
+    alloc_all ! (λ l. pass_all ! refl ((tt, tt), (word are.1.0.1, (word are.1.1.0.1, (word fk, tt)))) $
     opens_self E Y ! tt r (λ b o at fits.
     let s : ℕ = sz E in
     let src : ℕ = from * s + (o + 16) in

@@ -1,7 +1,7 @@
 -- This file proves the contract of `move_items_to`, which moves adjacent items from one block
 -- to another block.
 use Rattle.std.proofs.Common.{◌≡◌, ℕ, Some, None, ◌+◌, ◌*◌, ◌^◌, ◌<◌, ◌≤◌, List, ◌∷◌, [], ◌++◌, length, refl, sym, ap, subst, ◌∙◌, arith, w64, Bool, Option}
-use Rattle.thin_block.proofs.WalkPrelude.{Holds, length-map, length-replicate, Fn, ty_array, ty_unit, Val, WT, vbool, has_ty, vint, vptr, vunit, inst_fn, full_share, SProp, Lft, Share, ftrue, froom, flft, Env, WpFn, ◌⊑◌, fact, tables, ‵, raw, ◌⊛◌, given, later, prop, at_ret, ◌$◌, ◌∵◌, !, qed, move, keep, drop, use1, use2, use3, split, split3, join, fsplit, fsplit3, fjoin, fjoin3, feq_i, rewrite, regoal, learn, await, suffices, done, whole, sub, look_in, stop, fld, load, unit_lit, of_opd, no_more, and_then, first, blocks, exec, returns, enter, alloc_all, pass_all, free_all, look_at, through, sets, lands_last, env, get, Array, part_at, RattleType, owns, layout, plain, types_at, nothing, heard, calls_at_last, Stays, stay_ref, stay_dropped, walk_of, Goes-dropped, Goes-ref, ends_at, proved_at, Al, framed, El, R, slot_at, after, says_all, IsSome, if◌then◌else◌, with_slots, slots_own, filled_slots, empty_slots, slot, write_slots, clear_slots, block_view}
+use Rattle.thin_block.proofs.WalkPrelude.{Holds, length-map, length-replicate, Fn, ty_array, ty_unit, Val, WT, vbool, has_ty, vint, vptr, vunit, inst_fn, full_share, SProp, Lft, Share, ftrue, froom, flft, Env, WpFn, tables, ‵, raw, ◌⊛◌, given, later, prop, at_ret, ◌$◌, ◌∵◌, !, qed, move, keep, use1, use2, use3, split, split3, join, fsplit, fsplit3, fjoin, fjoin3, feq_i, rewrite, regoal, learn, await, suffices, done, whole, sub, look_in, stop, fld, load, unit_lit, of_opd, no_more, and_then, first, blocks, exec, returns, enter, alloc_all, pass_all, free_all, look_at, through, sets, lands_last, env, get, Array, part_at, RattleType, owns, layout, plain, types_at, nothing, calls_at_last, Stays, stay_ref, stay_dropped, walk_of, Goes-dropped, Goes-ref, ends_at, proved_at, framed, R, slot_at, after, says_all, IsSome, if◌then◌else◌, with_slots, slots_own, filled_slots, empty_slots, slot, write_slots, clear_slots, block_view}
 use Rattle.core.proofs.alloc.Moves.{Copies, at_copies, Copies-goes, Copies-gives}
 use Rattle.thin_block.specs.Cost.{Cost, add_moves, add_copies}
 use Rattle.thin_block.proofs.SlotsLemmas.{full-run, empty-run, length-run, length-written}
@@ -11,33 +11,23 @@ use Rattle.thin_block.proofs.Addresses.{near, slot_found}
 use Rattle.thin_block.specs.contracts.block.Block.move_items_to.{ended, clauses}
 use Rattle.thin_block.specs.contracts.block.Block.move_items_to.Key.{name as #self}
 use Rattle.thin_block.proofs.block.Block.move_items_to.Statement.{statement}
+use Rattle.thin_block.proofs.MethodSignatures.{item, source, others, dropped, all_go, heard_all}
 use Rattle.core.proofs.ptr.copy_nonoverlapping.Met as copy_met
 use Rattle.thin_block.proofs.block.Block.move_items_to.Code as compiled
 
 pub move_items_to_spec : {M : Type 1} → statement M
 move_items_to_spec 𝓤 𝓛 𝓜 𝓡 wired T A LT LA g d dd met md =
     let H = 𝓛.H in
-    let E : El = record { row = T; laws = LT } in
-    let Y : Al = record { row = A; laws = LA; g = g; d = d; drops = dd } in
+    let E = item LT in let Y = source LA g d dd in let En₀ = ended T A g d dd in
     let B : RattleType = Br E Y in
-    let En₀ = ended T A g d dd in
-    let ps = En₀.signature.params in
+    let ps = En₀.signature.params in let ss = others (others (others ps)) in
     let c = clauses T A g d dd 𝓛 𝓜.mem 𝓡.returns in
     let fn : Fn = inst_fn (args E Y) compiled.function in
     let hs : Stays ps En₀.kept = (
       stay_ref (0 ∷ []) tt (plain (λ _. B)),
       (
         stay_dropped (slot_at 1 ps) En₀.kept.1.0,
-        (
-          stay_ref (1 ∷ []) tt (plain (λ _. B)),
-          (
-            stay_dropped (slot_at 3 ps) En₀.kept.1.1.1.0,
-            (
-              stay_dropped (slot_at 4 ps) En₀.kept.1.1.1.1.0,
-              (stay_dropped (slot_at 5 ps) En₀.kept.1.1.1.1.1.0, tt),
-            ),
-          ),
-        ),
+        (stay_ref (1 ∷ []) tt (plain (λ _. B)), dropped ss En₀.kept.1.1.1),
       ),
     ) in
     let 𝓣 = tables 𝓤 H 𝓜 𝓡 𝓡.env in
@@ -47,13 +37,8 @@ move_items_to_spec 𝓤 𝓛 𝓜 𝓡 wired T A LT LA g d dd met md =
         Goes-dropped 𝓛 4 (slot_at 1 ps) En₀.kept.1.0 (λ κs x f. refl),
         (
           Goes-ref 𝓛 4 1 tt (plain (λ _. B)),
-          (
-            Goes-dropped 𝓛 4 (slot_at 3 ps) En₀.kept.1.1.1.0 (λ κs x f. refl),
-            (
-              Goes-dropped 𝓛 4 (slot_at 4 ps) En₀.kept.1.1.1.1.0 (λ κs x f. refl),
-              (Goes-dropped 𝓛 4 (slot_at 5 ps) En₀.kept.1.1.1.1.1.0 (λ κs x f. refl), tt),
-            ),
-          ),
+          all_go 𝓛 ss En₀.kept.1.1.1
+              ((λ κs x f. refl), ((λ κs x f. refl), ((λ κs x f. refl), tt))),
         ),
       ),
     )
@@ -61,14 +46,9 @@ move_items_to_spec 𝓤 𝓛 𝓜 𝓡 wired T A LT LA g d dd met md =
     let Post : Val → SProp 𝓤 = (walk_of 𝓛 En₀ hs c).post z in
     let a = z.0.3 in
     let vss = z.0.4 in
-    let κ₀ : Lft = z.0.0.0 in
-    let κ₁ : Lft = z.0.0.1.0 in
     let κ₂ : Lft = z.0.0.1.1.0 in
     let κ₃ : Lft = z.0.0.1.1.1.0 in
-    let q₀ : Share = z.0.1.0 in
-    let q₁ : Share = z.0.1.1.0 in
     let q₂ : Share = z.0.1.1.1.0 in
-    let q₃ : Share = z.0.1.1.1.1.0 in
     let x = a.0.now in
     let rb : ℕ = a.0.ref_ptr.0 in
     let ro : ℕ = a.0.ref_ptr.1 in
@@ -85,19 +65,16 @@ move_items_to_spec 𝓤 𝓛 𝓜 𝓡 wired T A LT LA g d dd met md =
     let Target : Type 0 = to + k ≤ length y.slots in
     let Filled : Type 0 = (i : ℕ) → from ≤ i → i < from + k → IsSome (slot x.slots i) in
     let Empty : Type 0 = (i : ℕ) → to ≤ i → i < to + k → slot y.slots i ≡ None in
-    qed 𝓛 (((‵ (flft κ₀ q₀) ⊛ ‵ (flft κ₁ q₁) ⊛ ‵ (flft κ₂ q₂) ⊛ ‵ (flft κ₃ q₃) ⊛ ‵ ftrue) ⊛ ‵
+    qed 𝓛 (((‵ (flft z.0.0.0 z.0.1.0) ⊛ ‵ (flft z.0.0.1.0 z.0.1.1.0) ⊛ ‵ (flft κ₂ q₂) ⊛ ‵ (flft κ₃ z.0.1.1.1.1.0) ⊛ ‵ ftrue) ⊛ ‵
     (owns (types_at ps z.0.0) a vss))
-    ∷ (raw (fact 𝓤 (κ₂ ⊑ T.lives)) ⊛ raw (fact 𝓤 (κ₃ ⊑ A.lives)) ⊛ raw (fact 𝓤 Source) ⊛ raw
-    (fact 𝓤 Target) ⊛ raw (fact 𝓤 Filled) ⊛ raw (fact 𝓤 Empty)) ∷ []) ∵
-    move ! (1 ∷ []) $ split3 ! $ heard ! (κ₂ ⊑ T.lives) (λ lives. drop ! $ split3 ! $
-    heard ! Source (λ source. heard ! Target
-    (λ target. split ! $ heard ! Filled (λ filled. heard ! Empty (λ bare.
+    ∷ raw ((c z.0.0 z.0.3).requires z.1) ∷ []) ∵
+    move ! (1 ∷ []) $ heard_all ! (_ ∷ _ ∷ Source ∷ Target ∷ Filled ∷ Empty ∷ []) (λ said.
+    let lives = said.0 in let source = said.1.1.0 in let target = said.1.1.1.0 in
+    let filled = said.1.1.1.1.0 in let bare = said.1.1.1.1.1 in
     let items = full-run x.slots from k source filled in
     let xs : List T.Denot = items.0 in
     let long : length xs ≡ k = sym (length-map xs Some) ∙ ap length (sym items.1)
     ∙ length-run x.slots from k source in
-    let ff = are.1.0.1 in
-    let ft = are.1.1.1.0.1 in
     let fk = are.1.1.1.1.0.1 in
     split ! $ split3 ! $ move ! (3 ∷ []) $ fsplit3 ! $ move ! (2 ∷ []) $ fsplit ! $ fsplit3 ! $
     move ! (4 ∷ []) $ fsplit3 ! $ keep ! (1 ∷ 2 ∷ 8 ∷ 4 ∷ 5 ∷ 9 ∷ 10 ∷ []) $
@@ -111,8 +88,8 @@ move_items_to_spec 𝓤 𝓛 𝓜 𝓡 wired T A LT LA g d dd met md =
     alloc_all ! (λ l. pass_all ! refl (
       (tt, tt),
       (
-        (tt, record { fits = ff }),
-        ((tt, tt), ((tt, record { fits = ft }), ((tt, record { fits = fk }), ((tt, tt), tt)))),
+        (tt, record { fits = are.1.0.1 }),
+        ((tt, tt), ((tt, record { fits = are.1.1.1.0.1 }), ((tt, record { fits = fk }), ((tt, tt), tt)))),
       ),
     ) $
     let En : Env 𝓤 H = env fn.locals l in
@@ -204,4 +181,4 @@ move_items_to_spec 𝓤 𝓛 𝓜 𝓡 wired T A LT LA g d dd met md =
       refl,
       ap (λ (ys : List (Option T.Denot)).
           record (block_view y) { slots = write_slots to ys y.slots; cost = cost }) (sym items.1),
-    ) $ done !)))))))))))
+    ) $ done !)))))))

@@ -35,15 +35,12 @@ move_within_spec 𝓤 𝓛 𝓜 𝓡 wired T A LT LA g d dd met md =
     let xs : List T.Denot = items.0 in
     let long : length xs ≡ k = sym (length-map xs Some) ∙ ap length (sym items.1)
     ∙ length-run x.slots from k source in
-    let fl = are.1.0.1 in
-    let fa = are.1.1.0.1 in
-    let fd = are.1.1.1.0.1 in
     let fk = are.1.1.1.1.0.1 in
     enters ! fn (ptr_of r ∷ vint w64 low ∷ vint w64 a ∷ vint w64 d ∷ vint w64 k ∷ vbool up ∷ [])
     (λ n. are.0.0 n ++ (are.1.0.0 n ++ (are.1.1.0.0 n
     ++ (are.1.1.1.0.0 n ++ (are.1.1.1.1.0.0 n ++ (are.1.1.1.1.1.0 n ++ [])))))) $
     alloc_all ! (λ l. pass_all ! refl
-    ((tt, tt), (word fl, (word fa, (word fd, (word fk, ((tt, tt), tt)))))) $
+    ((tt, tt), (word are.1.0.1, (word are.1.1.0.1, (word are.1.1.1.0.1, (word fk, ((tt, tt), tt)))))) $
     opens_self E Y ! tt r (λ b o at fits.
     let s : ℕ = sz E in
     let src : ℕ = from * s + (o + 16) in

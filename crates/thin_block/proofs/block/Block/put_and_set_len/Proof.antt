@@ -25,7 +25,6 @@ put_and_set_len_spec 𝓤 𝓛 𝓜 𝓡 wired T A LT LA g d dd met md =
     let v : Val = got.0 in let good = got.2 in
     begins_with E Y 𝓛 ss z.0 (_ ∷ _ ∷ _ ∷ _ ∷ _ ∷ []) (λ said.
     let within : i < cap = said.1.1.0 in let counted : n ≤ cap = said.1.1.1.1 in
-    let fi = are.1.0.1 in
     let fl = are.1.1.1.0.1 in
     let alloc = alloc_there x.alloc x.slots x.sound.1 (omega arith) in
     let h : A.Denot = alloc.0 in
@@ -33,7 +32,7 @@ put_and_set_len_spec 𝓤 𝓛 𝓜 𝓡 wired T A LT LA g d dd met md =
     rewrite ! 4 (λ (us : List Val). ‵ (T.own_val value us)) got.1 refl $
     enters ! fn (ptr_of r ∷ vint w64 i ∷ v ∷ vint w64 n ∷ [])
     (λ k. are.0.0 k ++ (are.1.0.0 k ++ (got.1 k ++ (are.1.1.1.0.0 k ++ [])))) $
-    alloc_all ! (λ l. pass_all ! refl ((tt, tt), (word fi, (good, (word fl, tt)))) $
+    alloc_all ! (λ l. pass_all ! refl ((tt, tt), (word are.1.0.1, (good, (word fl, tt)))) $
     opens_self E Y ! tt r (λ b o at fits.
     let here : ℕ = i * sz E + (o + 16) in let fm = near E x.slots i fits (omega arith) in
     sets ! (of_opd ! (its_ptr E Y ! refl)) refl (tt, tt) $ first ! $ blocks ! $

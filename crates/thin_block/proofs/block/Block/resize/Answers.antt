@@ -9,7 +9,6 @@ use Rattle.thin_block.proofs.block.Block.resize.Goals as goal
 
 pub move_items_to-requires-clause-filled : goal.move_items_to-requires-clause-filled
 move_items_to-requires-clause-filled g c =
-    let len = c.requires.len in
     λ i p q. packed-filled c.args.self.now.slots c.args.self.now.len c.requires.packed i
     (omega arith)
 

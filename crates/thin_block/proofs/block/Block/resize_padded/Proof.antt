@@ -178,7 +178,6 @@ resize_padded_spec 𝓤 𝓛 𝓜 𝓡 wired T A LT LA g d dd met md =
     let header' : ℕ = front + o' in
     let place' : o' + s ≡ header' + 16 = omega arith in
     let p : Ptr = block_ptr b' header' in
-    let end' : ℕ = end_of s cap header' in
     let news : List (Option T.Denot) = filled_slots items ++ empty_slots j' in
     let some_more : length news ≡ cap = packed-long x.slots x.len packed cap (omega arith) in
     let few = (fits_tells Rt cap fits_cap).few in
@@ -205,7 +204,7 @@ resize_padded_spec 𝓤 𝓛 𝓜 𝓡 wired T A LT LA g d dd met md =
     let kept' : Fml = Kept 𝓛 E b' cap pad' tok o' header' place' len j' wanted items slots_are'
     (sym all) wanted_is in
     use1 𝓛 (‵ (froom (ty_int w64) b' header') ⊛ ‵ (froom (ty_int w64) b' (8 + header')) ⊛ ‵
-    (froom ty_ptr b' end') ⊛ ‵ (slots_own Rt news b' (header' + 16)) ⊛ ‵ kept')
+    (froom ty_ptr b' (end_of s cap header')) ⊛ ‵ (slots_own Rt news b' (header' + 16)) ⊛ ‵ kept')
     (array_out 𝓛 E b' cap pad' tok o' header' place' len j' wanted items slots_are' (sym all)
     wanted_is) $
     split3 ! $ move ! (2 ∷ []) $ split3 ! $ move ! (3 ∷ 4 ∷ 0 ∷ []) $

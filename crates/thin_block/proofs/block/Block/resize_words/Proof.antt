@@ -57,7 +57,6 @@ resize_words_spec 𝓤 𝓛 𝓜 𝓡 wired T A m k LT LA fits_m fits_k g d dd m
     let vss = z.0.4 in
     let Rt : RattleType = R E in
     let Rw : RattleType = R W in
-    let τ' : Ty = bare (layout T) in
     let s : ℕ = sz W in
     let κ : Lft = z.0.0.0 in
     let q : Share = z.0.1.0 in
@@ -140,7 +139,7 @@ resize_words_spec 𝓤 𝓛 𝓜 𝓡 wired T A m k LT LA fits_m fits_k g d dd m
     rewrite ! 0 (λ (u : Option A.Denot). ‵ (header (t E Y) Rt x.len (length x.slots) u b o)) from
     refl $
     rewrite ! 0 (λ (n : ℕ). ‵ (header_owns tok Rt x.len n b o)) (sym old_is) refl $
-    use1 𝓛 (‵ (froom (array_of Rw k) b o) ⊛ ‵ (slots_wand τ' m w old b (o + 16)) ⊛ ‵
+    use1 𝓛 (‵ (froom (array_of Rw k) b o) ⊛ ‵ (slots_wand (bare (layout T)) m w old b (o + 16)) ⊛ ‵
     (tok (array_of Rw held) here))
     (header_apart 𝓛 T LT b m k in_words o tok x.len old held held_is) $ split3 ! $
     move ! (3 ∷ 1 ∷ []) $

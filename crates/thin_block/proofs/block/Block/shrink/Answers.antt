@@ -11,13 +11,11 @@ use Rattle.thin_block.proofs.block.Block.shrink.Goals as goal
 -- A block of the new capacity fits, because the new capacity is less than the old capacity.
 pub resize-requires-clause-fits : goal.resize-requires-clause-fits
 resize-requires-clause-fits g c =
-    let smaller = c.requires.cap_shrinks in
     fits-less (param 0 g.row.T) c.args.cap (length c.args.self.now.slots)
     c.len-len.ensures.bounds (omega arith)
 
 pub returns-clause-ok : goal.returns-clause-ok
 returns-clause-ok g c =
-    let smaller = c.requires.cap_shrinks in
     on-ok c.resize.result
     (λ e. slots-are e (packed-shrunk c.args.self.now.slots c.args.self.now.len c.requires.packed
     c.args.cap c.requires.len_le_cap (omega arith))) c.resize.ensures.changes.ok

@@ -29,8 +29,6 @@ slice_spec 𝓤 𝓛 𝓜 𝓡 wired T A LT LA g d dd met md =
     let xs : List T.Denot = items.0 in
     let long : length xs ≡ k = sym (length-map xs Some) ∙ ap length (sym items.1)
     ∙ length-run x.slots i k (omega arith) in
-    let fi = are.1.0.1 in
-    let fj = are.1.1.0.1 in
     block_seen E Y ! x rb ro (λ b o at fits. keep ! (0 ∷ 4 ∷ 3 ∷ 5 ∷ []) $ move ! (2 ∷ []) $
     let here : ℕ = i * s + (o + 16) in
     use1 𝓛 (‵ (fhide (elements_shared (R E) xs b here κ)))
@@ -41,7 +39,7 @@ slice_spec 𝓤 𝓛 𝓜 𝓡 wired T A LT LA g d dd met md =
     let few : k * s < 2 ^ 63 = reach (R E) k cap fits (omega arith) in
     enters ! fn (vptr rb ro ∷ vint w64 i ∷ vint w64 j ∷ [])
     (λ k. are.0.0 k ++ (are.1.0.0 k ++ (are.1.1.0.0 k ++ []))) $
-    alloc_all ! (λ l. pass_all ! refl ((tt, tt), (word fi, (word fj, tt))) $
+    alloc_all ! (λ l. pass_all ! refl ((tt, tt), (word are.1.0.1, (word are.1.1.0.1, tt))) $
     pointer_in ! tt x.at b o at rb (ro + 0) (λ q₀.
     sets ! (of_opd ! (load ! (through ! refl (fld ! refl (stop !))) (look ! 0 refl))) refl (tt, tt)
     $

@@ -33,11 +33,9 @@ slice_mut_spec 𝓤 𝓛 𝓜 𝓡 wired T A LT LA g d dd met md =
     let xs : List T.Denot = items.0 in
     let long : length xs ≡ k = sym (length-map xs Some) ∙ ap length (sym items.1)
     ∙ length-run x.slots i k (omega arith) in
-    let fi = are.1.0.1 in
-    let fj = are.1.1.0.1 in
     enters ! fn (ptr_of r ∷ vint w64 i ∷ vint w64 j ∷ [])
     (λ k. are.0.0 k ++ (are.1.0.0 k ++ (are.1.1.0.0 k ++ []))) $
-    alloc_all ! (λ l. pass_all ! refl ((tt, tt), (word fi, (word fj, tt))) $
+    alloc_all ! (λ l. pass_all ! refl ((tt, tt), (word are.1.0.1, (word are.1.1.0.1, tt))) $
     opens_self E Y ! tt r (λ b o at fits.
     let s : ℕ = sz E in
     let here : ℕ = i * s + (o + 16) in

@@ -12,10 +12,9 @@ use Rattle.thin_block.proofs.block.Block.swap.Goals as goal
 pub returns : goal.returns
 returns g c =
     let i = c.args.i in let j = c.args.j in let old = c.args.self.now in
-    let View : Type 0 = BlockView g.row.T.Denot g.row.A.Denot in
     let s = old.slots in let value = c.swap_take-value.result in
     let both = c.put.ensures.changes
-    ∙ ap (λ (v : View).
+    ∙ ap (λ (v : (BlockView g.row.T.Denot g.row.A.Denot)).
     record v { slots = slice_set v.slots j (Some value); cost = add_moves 1 v.cost })
     c.swap_take-value.ensures.changes in
     let filled = slice_set s i (slot s j) in

@@ -27,11 +27,9 @@ swap_take_spec 𝓤 𝓛 𝓜 𝓡 wired T A LT LA g d dd met md =
     let second_filled = said.1.1.1 in let two = the_item (slot x.slots j) second_filled in
     let low : i < length x.slots = filled-within x.slots i first_filled in
     let low' : j < length x.slots = filled-within x.slots j second_filled in
-    let fi = are.1.0.1 in
-    let fj = are.1.1.0.1 in
     enters ! fn (ptr_of r ∷ vint w64 i ∷ vint w64 j ∷ [])
     (λ k. are.0.0 k ++ (are.1.0.0 k ++ (are.1.1.0.0 k ++ []))) $
-    alloc_all ! (λ l. pass_all ! refl ((tt, tt), (word fi, (word fj, tt))) $
+    alloc_all ! (λ l. pass_all ! refl ((tt, tt), (word are.1.0.1, (word are.1.1.0.1, tt))) $
     opens_self E Y ! tt r (λ b o at fits.
     let here : ℕ = i * sz E + (o + 16) in let there : ℕ = j * sz E + (o + 16) in
     let near_i = near E x.slots i fits (omega arith) in

@@ -18,7 +18,6 @@ take_spec 𝓤 𝓛 𝓜 𝓡 wired T A LT LA g d dd met md =
     begins E Y 𝓛 ss z.0 (_ ∷ _ ∷ _ ∷ []) (λ said.
     let filled = said.1.1 in
     let item = the_item (get_or x.slots i None) filled in
-    let value : T.Denot = item.0 in
     let within : i < length x.slots = filled-within x.slots i filled in
     enters ! fn (ptr_of r ∷ vint w64 i ∷ []) (λ k. are.0.0 k ++ (are.1.0.0 k ++ [])) $
     alloc_all ! (λ l. pass_all ! refl ((tt, tt), (word are.1.0.1, tt)) $
@@ -40,5 +39,5 @@ take_spec 𝓤 𝓛 𝓜 𝓡 wired T A LT LA g d dd met md =
     (slot_in E 𝓛 b (o + 16) x.slots i within None) $
     move ! (0 ∷ 2 ∷ 3 ∷ 4 ∷ 5 ∷ 6 ∷ []) $ closes_over E Y ! tt r y b o at long $
     returns ! (look_at ! 0 refl) $ free_all ! refl $ leaves_with E Y ! r y 1 are.0.0 $
-    suffices ! _ (ends_at 𝓛 En₀ hs c z v value (y, (tt, tt)) (tt, (tt, tt))) $
+    suffices ! _ (ends_at 𝓛 En₀ hs c z v item.0 (y, (tt, tt)) (tt, (tt, tt))) $
     says_all ! (_ ∷ _ ∷ []) (item.1, refl) $ done !)))))

@@ -7,9 +7,9 @@ use denote.Param.{param}
 use Rattle.thin_block.proofs.growth.doubling.first_capacity.Goals as goal
 
 pub returns-then-item_size : goal.returns-then-item_size
-returns-then-item_size g c = let is = c.item_size.ensures.value in
+returns-then-item_size g c =
     record { value = first_one (type_size (param 0 g.row.T)) (omega arith) }
 
 pub returns-else-item_size : goal.returns-else-item_size
-returns-else-item_size g c = let is = c.item_size.ensures.value in
+returns-else-item_size g c =
     record { value = first_many (type_size (param 0 g.row.T)) (omega arith) }
