@@ -11,11 +11,11 @@ use std::test::Fail;
 use thin_testing::{Ledger, Numbered};
 use thin_vec::ThinVec;
 
-// The size of each block in bytes, 4 GiB, of which little is written. A process can have 2^47 bytes.
-const LARGE: usize = 1 << 32;
+// The size of each block in bytes, 8 GiB, of which little is written. A process can have 2^47 bytes.
+const LARGE: usize = 1 << 33;
 
 // How often a block is made and freed.
-const ROUNDS: u32 = 35_000;
+const ROUNDS: u32 = 17_500;
 
 // Makes a list with a large block and `len` items, and ends it by one of several calls.
 fn make_and_end<T: Numbered>(
@@ -65,10 +65,7 @@ fn assert_freed<T: Numbered>(rt: &impl Abort, ledger: &'static Ledger, alloc: Gl
 #[test]
 fn blocks_of_the_program_are_freed(rt: HostRuntime) -> Result<(), Fail> {
     let ledger = Ledger::leaked(rt.alloc())?;
-    assert_freed::<u8>(&rt, ledger, rt.alloc(), 0);
     assert_freed::<u8>(&rt, ledger, rt.alloc(), 1);
-    assert_freed::<u64>(&rt, ledger, rt.alloc(), 40);
-    assert_freed::<[u32; 5]>(&rt, ledger, rt.alloc(), 1);
     assert_freed::<[u64; 3]>(&rt, ledger, rt.alloc(), 1);
     Ok(())
 }
