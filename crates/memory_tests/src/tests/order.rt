@@ -8,7 +8,7 @@ use std::alloc::Allocator;
 use std::iter::Iterator;
 use std::process::Abort;
 use std::test::Fail;
-use thin_testing::{Counted, Ledger, Lender, List, Numbered, filled_list, numbered_items};
+use thin_testing::{Counted, Ledger, List, Numbered, filled_list, numbered_items};
 use thin_vec::{Doubling, Splice, SpliceRefused, ThinVec, ThinVecError};
 
 // A call that removes the items of a range.
@@ -133,7 +133,7 @@ fn drops_of<T: Numbered>(
     case: Case,
 ) -> Result<u64, Fail> {
     let list: List<T, Doubling> = filled_list(ledger, case.len, 0)?;
-    let items = numbered_items(ledger, &ledger.alloc, case.len as u64, case.new)?;
+    let items = numbered_items(ledger, ledger.global, case.len as u64, case.new)?;
     ledger.begin(0);
     match case.call {
         Call::Drop => drop(list),
@@ -173,7 +173,7 @@ fn make_call<T: Numbered>(
     ledger: &'static Ledger,
     mut list: List<T, Doubling>,
     case: Case,
-    items: Vec<T, Lender>,
+    items: Vec<T>,
 ) -> Result<(), Fail> {
     match case.call {
         Call::Clear => list.clear(),
@@ -187,7 +187,7 @@ fn make_call<T: Numbered>(
         Call::DedupByKey => list.dedup_by_key(move |_item| key(case, ledger.called())),
         _ => {
             assert!(rt; case.start <= case.end && case.end <= list.len());
-            edit_range(list, ledger, case, items)?;
+            edit_range(list, &ledger.alloc, case, items)?;
         }
     }
     Ok(())
@@ -200,11 +200,11 @@ fn key(case: Case, call: u64) -> bool {
 }
 
 // Makes a call that takes the bounds of the range, and drops the list.
-fn edit_range<T: Numbered>(
-    mut list: List<T, Doubling>,
-    ledger: &'static Ledger,
+fn edit_range<T: Numbered, A: Allocator>(
+    mut list: ThinVec<T, A>,
+    alloc: A,
     case: Case,
-    items: Vec<T, Lender>,
+    items: Vec<T>,
 ) -> Result<(), Fail>
     requires start_le_end { case.start ≤ case.end }
     requires in_bounds { case.end ≤ length list.items }
@@ -225,9 +225,9 @@ fn edit_range<T: Numbered>(
                 drop(extract.next());
             }
         }
-        Call::Splice => splice(&mut list, case, items.into_iter(), &ledger.alloc)?,
+        Call::Splice => splice(&mut list, case, items.into_iter(), alloc)?,
         _ => {
-            let mut other = ThinVec::from_vec(&ledger.alloc, items)?;
+            let mut other = ThinVec::from_vec(alloc, items)?;
             list.replace_range_from_list(case.start, case.end, &mut other)?;
         }
     }
