@@ -18,14 +18,14 @@ use std::alloc::{AllocError, Allocator};
 use std::marker::PhantomData;
 use std::mem::replace;
 
-// The least total size of the items, in words of 8 bytes, for which the allocator resizes the
-// block. For fewer words, it is cheaper to allocate a new block.
+// The least total size, in units of 8 bytes, of items that are resized as words. For fewer, it is
+// cheaper to allocate a new block.
 pub(crate) const LONG: usize = 32;
 
 // Resizes an allocation from `held` to `wanted` values of the type `T`. A gap, which is unused
 // memory for `K` values, precedes its `len` values. While the allocator runs, the last values are
-// stored in the gap, so that the allocation begins with an array. If the allocator fails, the
-// allocation is unchanged.
+// stored in the gap, so that the allocation begins with an array. If the allocator fails, only the
+// gap has changed.
 #[inline(always)]
 pub(crate) unsafe fn resize_array<T, A: Allocator, const K: usize>(
     alloc: &A,
@@ -69,8 +69,7 @@ impl<T, A: Allocator> Block<T, A> {
     // Resizes the block of length `len` to `cap` slots, and may leave it at its address. `M` items
     // form a word, and the header is as large as `K` words.
     //
-    // `resize` is inlined into the callers of `grow`. This function is marked `#[cold]` so that it
-    // is not inlined there, too.
+    // `#[cold]` keeps this function out of the callers of `grow`, into which `resize` is inlined.
     #[cold]
     pub(crate) fn resize_in_place<const M: usize, const K: usize>(
         &mut self,
@@ -95,7 +94,7 @@ impl<T, A: Allocator> Block<T, A> {
         let held = K + old.div_ceil(M);
         let wanted = K + cap.div_ceil(M);
         let block = replace(self, Block::none());
-        let (block, grown) = match block.resize_words::<M, K>(
+        let (block, outcome) = match block.resize_words::<M, K>(
             alloc,
             len,
             old,
@@ -104,18 +103,18 @@ impl<T, A: Allocator> Block<T, A> {
             held,
             wanted,
         ) {
-            Ok(larger) => (larger, Ok(())),
+            Ok(resized) => (resized, Ok(())),
             Err(same) => (same, Err(ThinVecError::OutOfMemory)),
         };
         replace(self, block).forget_unallocated();
-        grown
+        outcome
     }
 
     // Returns this block with `cap` slots and the same items, or the unchanged block if the
     // allocator fails. The function converts the items into `count` words, and resizes the memory
     // of the block from `held` to `wanted` words. The header is the gap.
     //
-    // These numbers are arguments so that the body, whose proof is written by hand, stays short.
+    // The caller computes all numbers, so that the proof by hand follows a short body.
     fn resize_words<const M: usize, const K: usize>(
         self,
         alloc: &A,

@@ -107,7 +107,7 @@ impl<T, A: Allocator> Block<T, A> {
         let old = self.cap();
         let front = item_size::<T>() - HEADER;
         let block = replace(self, Block::none());
-        let (block, grown) = match block.resize_padded(
+        let (block, outcome) = match block.resize_padded(
             alloc,
             len,
             old,
@@ -116,11 +116,11 @@ impl<T, A: Allocator> Block<T, A> {
             cap + 2,
             front,
         ) {
-            Ok(larger) => (larger, Ok(())),
+            Ok(resized) => (resized, Ok(())),
             Err(same) => (same, Err(ThinVecError::OutOfMemory)),
         };
         replace(self, block).forget_unallocated();
-        grown
+        outcome
     }
 
     // Resizes the memory of the block as an array from `held` to `wanted` items. The padding and

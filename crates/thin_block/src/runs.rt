@@ -79,7 +79,7 @@ impl<T, A: Allocator> Block<T, A> {
         ensures capacity { length result.slots ≡ length self.slots }
     {
         let mut block = self;
-        // In each arm whose pattern is a number, LLVM knows the value of `gap`.
+        // In each arm whose pattern is a number, LLVM knows `gap`, and calls `memmove`.
         match gap {
             1 => block.move_down(to, gap, k),
             2 => block.move_down(to, gap, k),
@@ -122,7 +122,7 @@ impl<T, A: Allocator> Block<T, A> {
         block
     }
 
-    /// Moves items up as `move_up` does.
+    /// Moves items up as `move_up` does, in the form of `close_gap`.
     #[inline(never)]
     pub fn open_gap(self, from: usize, gap: usize, k: usize) -> Block<T, A>
         requires in_bounds { from + gap + k ≤ length self.slots }

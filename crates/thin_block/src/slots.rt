@@ -10,9 +10,9 @@ use crate::sizes::HEADER_WORDS;
 use core::slots::Slots;
 use std::alloc::Allocator;
 
-// The greatest number of items that the function `fill_from` copies one by one. For five bytes, this
-// was measured to take two thirds of the instructions of a call to `Slots::copy_in`. For 16 `u64`,
-// both took about the same, and for more, the call took fewer.
+// The greatest number of items that the function `fill_from` copies one by one. For five bytes,
+// this was measured to take two thirds of the instructions of a call to `Slots::copy_in`. For 16
+// `u64`, both took about the same, and for more, the call took fewer.
 const MAX_COPIED_ONE_BY_ONE: usize = 16;
 
 impl<T, A: Allocator> Block<T, A> {
@@ -27,8 +27,8 @@ impl<T, A: Allocator> Block<T, A> {
           cost = add_moves 1 self.old.cost;
         } }
     {
-        // The clause `fits` of `cap` shows that `[value]` takes fewer than `2 ^ 63` bytes, as
-        // `put_array` requires.
+        // The clause `fits` of `cap` shows that `[value]` takes fewer than `2 ^ 63` bytes, as the
+        // type `[T; N]` requires.
         let _cap = self.cap();
         self.put_array(i, [value]);
     }
@@ -140,6 +140,7 @@ impl<T: Copy, A: Allocator> Block<T, A> {
         } }
     {
         let at = self.at;
+        // `copy_nonoverlapping` would move the items out of the borrowed slice; `Slots` copies them.
         unsafe {
             let room = Slots::from_raw_parts((at.add(HEADER_WORDS) as *mut T).add(i), items.len());
             let _copied = fill_from(room, items).into_raw_parts();
@@ -147,8 +148,7 @@ impl<T: Copy, A: Allocator> Block<T, A> {
     }
 }
 
-// Fills `row` with copies of `items`. Few items are copied one by one, which is faster than a call
-// to `Slots::copy_in`.
+// Fills `row` with copies of `items`.
 fn fill_from<T: Copy>(mut row: Slots<T>, items: &[T]) -> Slots<T>
     requires room { slots_len row ≡ length items.now }
     ensures capacity { SamePlaces row result }

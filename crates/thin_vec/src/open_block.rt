@@ -41,8 +41,8 @@ use thin_block::{Block, Growth};
 /// - The *tail* contains the items after the range.
 ///
 /// An `OpenBlock` owns the block and all items in it. It does not implement `Drop`: `close` puts
-/// the block back into the list. Only the proofs of its methods deal with slots. So each step of an
-/// edit is a method, even a step that only one function takes.
+/// the block back into the list. The proofs of edits deal with these parts, and not with slots. So
+/// each step of an edit is a method, even if only one function takes it.
 pub struct OpenBlock<T, A: Allocator> {
     // While the block is open, the length that it stores is not used.
     pub(crate) block: Block<T, A>,
@@ -100,8 +100,8 @@ impl<T, A: Allocator, G: Growth> ThinVec<T, A, G> {
         }
     }
 
-    // Closes the gap of `block`, and puts the block back into the list, which must be empty. Any
-    // block that the list had is freed.
+    // Closes the gap of `block`, and puts the block back into the list. `release` frees nothing:
+    // `open` left no block, but no contract of a `drop` can say so.
     #[inline(always)]
     pub(crate) fn close(&mut self, block: OpenBlock<T, A>)
         requires is_empty { self.old.items ≡ [] }
@@ -163,7 +163,6 @@ impl<T, A: Allocator> OpenBlock<T, A> {
         self.middle_end - self.middle_start
     }
 
-    // Removes and returns the first middle item.
     pub(crate) fn take_first(&mut self) -> T
         requires nonempty { 0 < length self.old.middle }
         ensures middle { self.old.middle ≡ result ∷ self.new.middle }
@@ -216,7 +215,6 @@ impl<T, A: Allocator> OpenBlock<T, A> {
         self.middle_start += k;
     }
 
-    // Moves the first middle item to the end of the front.
     pub(crate) fn move_one_down(&mut self)
         requires nonempty { 0 < length self.old.middle }
         requires gap_before { 0 < self.old.gap_before }
@@ -230,7 +228,7 @@ impl<T, A: Allocator> OpenBlock<T, A> {
         self.append_to_front(value);
     }
 
-    // Moves the first `k` middle items to the end of the front.
+    // Moves the first `k` middle items to the end of the front, a single one without `close_gap`.
     pub(crate) fn move_down(&mut self, k: usize)
         requires in_bounds { k ≤ length self.old.middle }
         requires gap_before { 0 < self.old.gap_before }
@@ -283,7 +281,7 @@ impl<T, A: Allocator> OpenBlock<T, A> {
         self.middle_end = self.tail_start;
     }
 
-    // Moves the items after `gap_before` down to the end of the front, and returns the block.
+    // Moves the items after `gap_before` down to the end of the front, and stores the length.
     #[inline(always)]
     fn close_gap(self) -> Block<T, A>
         requires gap_after { self.gap_after ≡ 0 }
@@ -311,7 +309,6 @@ impl<T, A: Allocator> OpenBlock<T, A> {
         closed
     }
 
-    // Moves the tail up by `count` slots.
     pub(crate) fn shift_tail_up(&mut self, count: usize)
         requires nonzero { 0 < count }
         requires room { tail_end self.old + count ≤ self.old.capacity }
@@ -359,7 +356,7 @@ impl<T, A: Allocator> OpenBlock<T, A> {
 }
 
 impl<T: Drop, A: Allocator> OpenBlock<T, A> {
-    // Drops the middle items.
+    // Drops the middle items, and joins the gaps around them.
     pub(crate) fn drop_middle(&mut self)
         ensures { self.new ≡ record self.old {
           gap_before = self.old.gap_before + length self.old.middle + self.old.gap_after;

@@ -52,8 +52,8 @@ impl<T: Drop, A: Allocator, G: Growth> ThinVec<T, A, G> {
             (λ rejected. (h : ℕ) × IsWithinCount h (I.remaining iter)
             × LacksRoom G.rule T.row self.new h rejected.cause) }
 
-        // Each item from index `at` onward is moved up, and moved down again if the gap was not
-        // filled.
+        // In every case. Each item from index `at` onward moves up at most once, and down again if
+        // the gap is not filled.
         ensures added { AddsFromIter G.rule T.row self.old self.new
             (2 * (length self.old.items - at)) (I.remaining iter) }
         ensures added_full { IfOk result (λ filled. filled.ended ≡ false
@@ -231,7 +231,6 @@ struct Collected<T, I, A: Allocator> {
     /// The item after those in `held`, for which the vector has no room. `None` if the iterator has
     /// ended.
     in_hand: Option<T>,
-    /// The rest of the iterator.
     rest: I,
 }
 
@@ -270,7 +269,7 @@ fn collect_rest<T, A: Allocator, I: Iterator<Item = T>>(
             }
         }
         held.push_reserved(next);
-        // The vector has room, so this loop requests no memory.
+        // Without this loop, `reserve` would be called for each item.
         while held.len() < held.capacity() {
             let Some(item) = rest.next() else {
                 return Collected {

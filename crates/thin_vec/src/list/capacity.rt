@@ -120,15 +120,7 @@ impl<T, A: Allocator, G: Growth> ThinVec<T, A, G> {
     fn grow_for(&mut self, additional: usize) -> Result<(), ThinVecError>
         requires no_room { self.old.capacity < length self.old.items + additional }
 
-        // The cause of a failure.
-        ensures overflow { OverflowsIff
-            (capacity_after_reserve G.rule T.row self.old additional) result }
-
-        // The list after the call.
-        ensures changes { self.new ≡ record self.old {
-          capacity = self.new.capacity;
-          cost = self.new.cost;
-        } }
+        // On success.
         ensures capacity { OnOk result
             (capacity_after_reserve G.rule T.row self.old additional ≡ Some self.new.capacity) }
         ensures at_least { OnOk result
@@ -136,7 +128,17 @@ impl<T, A: Allocator, G: Growth> ThinVec<T, A, G> {
             (length self.old.items + additional) self.new.capacity) }
         ensures cost { OnOk result
             (self.new.cost ≡ add_realloc (length self.old.items) self.old.cost) }
+
+        // On failure.
         ensures err { OnErr result (self.new ≡ self.old) }
+        ensures overflow { OverflowsIff
+            (capacity_after_reserve G.rule T.row self.old additional) result }
+
+        // In every case.
+        ensures changes { self.new ≡ record self.old {
+          capacity = self.new.capacity;
+          cost = self.new.cost;
+        } }
         ensures bounds { IsBounded T.row self.old × IsBounded T.row self.new }
     {
         let Some(want) = self.len().checked_add(additional) else {
@@ -156,11 +158,6 @@ impl<T, A: Allocator, G: Growth> ThinVec<T, A, G> {
         requires fits { Fits T.row cap }
         requires bounds { IsBounded T.row self.old }
 
-        ensures changes { self.new ≡ record self.old {
-          capacity = self.new.capacity;
-          cost = self.new.cost;
-        } }
-
         // On success.
         ensures capacity { OnOk result (self.new.capacity ≡ cap) }
         ensures cost { OnOk result
@@ -171,6 +168,10 @@ impl<T, A: Allocator, G: Growth> ThinVec<T, A, G> {
         ensures cause { IfErr result (λ cause. cause ≡ ThinVecError.OutOfMemory) }
 
         // In every case.
+        ensures changes { self.new ≡ record self.old {
+          capacity = self.new.capacity;
+          cost = self.new.cost;
+        } }
         ensures bounds { IsBounded T.row self.new }
     {
         self.block.grow(&self.alloc, cap)

@@ -67,7 +67,8 @@ impl<T, A: Allocator, G: Growth> ThinVec<T, A, G> {
         self.push_at(self.len(), value);
     }
 
-    // Appends `value` to a list of `len` items that has room for it. So `push` reads the length once.
+    // Appends `value` to a list of `len` items that has room for it. The argument `len` spares
+    // `push` a second load of the length.
     fn push_at(&mut self, len: usize, value: T)
         requires len { len ≡ length self.old.items }
         requires room { HasRoomFor self.old 1 }

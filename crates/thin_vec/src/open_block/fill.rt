@@ -13,8 +13,8 @@ use std::mem;
 use thin_block::{Block, Growth};
 
 impl<T, A: Allocator> OpenBlock<T, A> {
-    // Moves items of `iter` into the gap until it is full or `iter` returns `None`. If this were
-    // not inlined, a short splice would pass its state through memory.
+    // Moves items of `iter` into the gap until it is full or `iter` returns `None`. Always inlined
+    // for the reason that `finish_before_tail` gives.
     #[inline(always)]
     pub(crate) fn fill<I: Iterator<Item = T>>(&mut self, iter: I) -> Filled<I>
         requires can_next { I.can_next iter }
