@@ -1,7 +1,7 @@
 -- A call of `retain` whose closure always returns true changes neither the items nor the cost.
 use Rattle.std.proofs.Common.{◌≡◌, Bool, true, List, [], ◌∷◌, ap, sym, ◌∙◌}
 use Rattle.std.proofs.lemmas.List.{append-nil}
-use Rattle.thin_block.specs.Cost.{add_moves}
+use Rattle.thin_vec.specs.Cost.{add_moves}
 use Rattle.thin_vec.proofs.RetainLemmas.{items_where-stay, moves_of_retain-stay, moving-none}
 use Rattle.thin_vec.specs.Edits.Retain.{IsRetained, ReadsOnly, TestResults, TestsInTurn, all_kept, flags_of, items_where, moves_of_retain}
 use Rattle.thin_vec.specs.ThinVec.{ListView}
