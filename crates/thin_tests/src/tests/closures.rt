@@ -3,6 +3,7 @@
 use crate::tests::support::{assert_items, assert_len, assert_same};
 use std::alloc::Global;
 use std::cell::Cell;
+use std::process::Abort;
 use std::rc::Rc;
 use std::test::Fail;
 use thin_testing::{Counted, Ledger, Refusing, list_of};
@@ -13,37 +14,67 @@ fn is_two(_owned: &Counted<'_>, item: i32) -> bool {
     item == 2
 }
 
-#[test]
-fn filters_drop_their_closures(rt: HostRuntime) -> Result<(), Fail> {
-    let ledger = Ledger::leaked(rt.alloc())?;
-    let mut list = list_of(rt.alloc(), &[1, 2, 3, 4, 5, 6])?;
+// Passes a closure that owns a `Counted` to each filter, for a list of `len` items, and asserts
+// that each drops its closure.
+fn assert_filters_drop(rt: &impl Abort, alloc: Global, len: usize) -> Result<(), Fail> {
+    let ledger = Ledger::leaked(alloc)?;
+    let mut list = ThinVec::new(alloc);
+    list.resize(len, 3)?;
     let owned = Counted::new(ledger, 7, ());
     list.retain(move |item| !is_two(&owned, *item));
-    assert_same(&rt, ledger.live.get(), 0);
+    assert_same(rt, ledger.live.get(), 0);
     let owned = Counted::new(ledger, 7, ());
-    list.retain_mut(move |item| is_two(&owned, 2) && *item != 3);
-    assert_same(&rt, ledger.live.get(), 0);
+    list.retain_mut(move |item| is_two(&owned, 2) && *item == 3);
+    assert_same(rt, ledger.live.get(), 0);
     let owned = Counted::new(ledger, 7, ());
     list.dedup_by(move |later, _kept| is_two(&owned, 2) && *later == 4);
-    assert_same(&rt, ledger.live.get(), 0);
+    assert_same(rt, (ledger.live.get(), list.len()), (0, len));
     let owned = Counted::new(ledger, 7, ());
     list.dedup_by_key(move |item| is_two(&owned, 2) && *item == 1);
-    assert_same(&rt, ledger.live.get(), 0);
-    assert_items(&rt, &list, &[1, 5]);
+    assert_same(rt, (ledger.live.get(), list.len()), (0, len.min(1)));
+    Ok(())
+}
+
+#[test]
+fn filters_drop_their_closures(rt: HostRuntime) -> Result<(), Fail> {
+    for len in [0, 1, 2, 50, 1000] {
+        assert_filters_drop(&rt, rt.alloc(), len)?;
+    }
+    Ok(())
+}
+
+// Passes closures that own a `Counted` to `pop_if` and `resize_with`, for a list of `len` items,
+// and asserts that each call drops its closure.
+fn assert_pop_if_and_resize_with_drop(
+    rt: &impl Abort,
+    alloc: Global,
+    len: usize,
+) -> Result<(), Fail> {
+    let ledger = Ledger::leaked(alloc)?;
+    let mut list = ThinVec::new(alloc);
+    list.resize(len, 2)?;
+    let owned = Counted::new(ledger, 7, ());
+    let popped = list.pop_if(move |item| is_two(&owned, *item)).is_some();
+    assert_same(rt, (popped, ledger.live.get()), (len > 0, 0));
+    let owned = Counted::new(ledger, 7, ());
+    let popped = list.pop_if(move |item| is_two(&owned, 3) && *item == 2).is_some();
+    assert_same(rt, (popped, ledger.live.get()), (false, 0));
+    for new_len in [len, len, len.saturating_add(40), len / 2, 0] {
+        let owned = Counted::new(ledger, 7, ());
+        list.resize_with(new_len, move || if is_two(&owned, 2) { 8 } else { 9 })?;
+        assert_same(rt, (ledger.live.get(), list.len()), (0, new_len));
+    }
+    let owned = Counted::new(ledger, 7, ());
+    let refused = list.resize_with(usize::MAX, move || if is_two(&owned, 2) { 8 } else { 9 });
+    assert_same(rt, (refused.is_err(), ledger.live.get()), (true, 0));
     Ok(())
 }
 
 #[test]
 fn pop_if_and_resize_with_drop_their_closures(rt: HostRuntime) -> Result<(), Fail> {
-    let ledger = Ledger::leaked(rt.alloc())?;
-    let mut list = list_of(rt.alloc(), &[1, 2])?;
-    let owned = Counted::new(ledger, 7, ());
-    assert_same(&rt, list.pop_if(move |item| is_two(&owned, *item)), Some(2));
-    assert_same(&rt, ledger.live.get(), 0);
-    let owned = Counted::new(ledger, 7, ());
-    list.resize_with(3, move || if is_two(&owned, 2) { 8 } else { 9 })?;
-    assert_same(&rt, ledger.live.get(), 0);
-    assert_items(&rt, &list, &[1, 8, 8]);
+    for len in [0, 1, 2, 50] {
+        assert_pop_if_and_resize_with_drop(&rt, rt.alloc(), len)?;
+    }
     Ok(())
 }
 
@@ -51,15 +82,21 @@ fn pop_if_and_resize_with_drop_their_closures(rt: HostRuntime) -> Result<(), Fai
 // `ExtractIf`, and a `Counted` has one.
 #[test]
 fn extract_if_drops_its_closure(rt: HostRuntime) -> Result<(), Fail> {
-    let kept = Rc::new(rt.alloc(), 2)?;
-    let owned = kept.clone()?;
-    let mut list = list_of(rt.alloc(), &[1, 2, 3])?;
-    assert_len(&rt, &list, 3);
-    let mut twos = list.extract_if(0, 3, move |item: &mut i32| *item == *owned.as_ref());
-    assert_same(&rt, (twos.next(), Rc::strong_count(&kept)), (Some(2), 2));
-    drop(twos);
-    assert_same(&rt, Rc::strong_count(&kept), 1);
-    assert_items(&rt, &list, &[1, 3]);
+    for end in 0..=3 {
+        for calls in 0..=4 {
+            let kept = Rc::new(rt.alloc(), 2)?;
+            let owned = kept.clone()?;
+            let mut list = list_of(rt.alloc(), &[1, 2, 3])?;
+            assert_len(&rt, &list, 3);
+            let mut twos = list.extract_if(0, end, move |item: &mut i32| *item == *owned.as_ref());
+            for _ in 0..calls {
+                let _two = twos.next();
+            }
+            assert_same(&rt, Rc::strong_count(&kept), 2);
+            drop(twos);
+            assert_same(&rt, Rc::strong_count(&kept), 1);
+        }
+    }
     Ok(())
 }
 

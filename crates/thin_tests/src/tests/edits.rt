@@ -1,8 +1,9 @@
 //! Tests of what no contract states of a list that another call edits: one that `collect` or
 //! `extend` drains, one whose `Drain` or `ExtractIf` is forgotten, and one over which a loop
 //! iterates.
-use crate::tests::support::{assert_items, assert_len};
+use crate::tests::support::{assert_items, assert_len, assert_list, assert_same};
 use std::mem;
+use std::process::Abort;
 use std::test::Fail;
 use thin_testing::list_of;
 use thin_vec::ThinVec;
@@ -32,26 +33,58 @@ fn extend_removes_the_drained_items(rt: HostRuntime) -> Result<(), Fail> {
     Ok(())
 }
 
-#[test]
-fn list_is_usable_if_its_drain_is_forgotten(rt: HostRuntime) -> Result<(), Fail> {
-    let mut list = list_of(rt.alloc(), &[1, 2, 3])?;
-    assert_len(&rt, &list, 3);
-    mem::forget(list.drain(1, 2));
-    assert_len(&rt, &list, 0);
+// Asserts that the list has no items and no block, and that it can be used.
+fn assert_usable(rt: &impl Abort, list: &mut ThinVec<i32>) -> Result<(), Fail> {
+    assert_list(rt, list, &[], 0);
     list.push(9)?;
-    assert_items(&rt, &list, &[9]);
+    list.insert(0, 8)?;
+    assert_list(rt, list, &[8, 9], 4);
+    assert_same(rt, list.drain(0, 1).next(), Some(8));
+    assert_list(rt, list, &[9], 4);
     Ok(())
 }
 
 #[test]
-fn list_is_empty_if_its_extract_if_is_forgotten(rt: HostRuntime) -> Result<(), Fail> {
-    let mut list = list_of(rt.alloc(), &[1_i32, 2, 3])?;
-    assert_len(&rt, &list, 3);
-    mem::forget(list.extract_if(0, 2, |x: &mut i32| *x == 1));
-    assert_len(&rt, &list, 0);
-    list.push(9)?;
-    assert_items(&rt, &list, &[9]);
+fn list_is_empty_and_usable_if_its_drain_is_forgotten(rt: HostRuntime) -> Result<(), Fail> {
+    for start in 0..=3 {
+        for end in start..=3 {
+            let mut list = list_of(rt.alloc(), &[1, 2, 3])?;
+            assert_len(&rt, &list, 3);
+            mem::forget(list.drain(start, end));
+            assert_usable(&rt, &mut list)?;
+        }
+    }
     Ok(())
+}
+
+#[test]
+fn list_is_empty_and_usable_if_its_extract_if_is_forgotten(rt: HostRuntime) -> Result<(), Fail> {
+    for start in 0..=3 {
+        for end in start..=3 {
+            let mut list = list_of(rt.alloc(), &[1, 2, 3])?;
+            assert_len(&rt, &list, 3);
+            mem::forget(list.extract_if(start, end, |x: &mut i32| *x == 1));
+            assert_usable(&rt, &mut list)?;
+        }
+    }
+    Ok(())
+}
+
+// Forgets the iterators after they have yielded an item.
+#[test]
+fn list_is_empty_and_usable_if_a_begun_edit_is_forgotten(rt: HostRuntime) -> Result<(), Fail> {
+    let mut list = list_of(rt.alloc(), &[1, 2, 3, 4])?;
+    assert_len(&rt, &list, 4);
+    let mut drain = list.drain(1, 4);
+    assert_same(&rt, (drain.next(), drain.next_back()), (Some(2), Some(4)));
+    mem::forget(drain);
+    assert_usable(&rt, &mut list)?;
+    let mut list = list_of(rt.alloc(), &[1, 2, 3, 4])?;
+    assert_len(&rt, &list, 4);
+    let mut extracted = list.extract_if(0, 4, |x: &mut i32| *x % 2 == 0);
+    assert_same(&rt, extracted.next(), Some(2));
+    mem::forget(extracted);
+    assert_usable(&rt, &mut list)
 }
 
 #[test]

@@ -27,12 +27,18 @@ fn evaluates_each_argument_once_and_in_order(rt: HostRuntime) -> Result<(), Fail
 }
 
 #[test]
-fn lists_of_one_and_twelve_items_need_one_request(rt: HostRuntime) -> Result<(), Fail> {
+fn lists_of_one_to_forty_items_need_one_request(rt: HostRuntime) -> Result<(), Fail> {
     assert_list(&rt, &thin_vec![rt.alloc() => 7]?, &[7], 1);
     let items = [1, 2, 3, 4, 5, 6, 7, 8, 9, 10, 11, 12];
     let refusing = Refusing::leaked(rt.alloc(), 2)?;
     let list = thin_vec![refusing => 1, 2, 3, 4, 5, 6, 7, 8, 9, 10, 11, 12]?;
     assert_list(&rt, &list, &items, 12);
+    refusing.refuse(2);
+    let list = thin_vec![in refusing;
+        7, 7, 7, 7, 7, 7, 7, 7, 7, 7, 7, 7, 7, 7, 7, 7, 7, 7, 7, 7, 7, 7, 7, 7, 7, 7, 7, 7, 7, 7,
+        7, 7, 7, 7, 7, 7, 7, 7, 7, 7,
+    ]?;
+    assert_list(&rt, &list, &[7; 40], 40);
     Ok(())
 }
 

@@ -3,11 +3,12 @@
 use crate::tests::support::assert_same;
 use std::alloc::{AllocError, Allocator, Global};
 use std::convert::AsSlice;
+use std::default::{Emptied, MadeWith};
 use std::error::Error;
 use std::fmt::Debug;
 use std::hash::Hash;
 use std::io::Write;
-use std::iter::{ExactSizeIterator, FusedIterator};
+use std::iter::{ExactSizeIterator, Extend, FromIterator, FusedIterator};
 use std::ops::{DerefSlice, DerefSliceMut, Index, IndexMut};
 use std::test::Fail;
 use thin_vec::{
@@ -19,6 +20,7 @@ where
     L: Clone + Eq + Ord + Hash + Debug + Drop,
     L: AsSlice<u8> + DerefSlice<Elem = u8> + DerefSliceMut,
     L: Index<usize, Output = u8> + IndexMut<usize> + IntoIterator<Item = u8> + Write,
+    L: Extend<u8> + FromIterator<u8> + Emptied + MadeWith<Global>,
 {}
 
 fn assert_iterator_traits<I>(_items: &I)
@@ -27,6 +29,8 @@ where
 {}
 
 fn assert_is_extract_if<F>(_items: &ExtractIf<'_, u8, F>) {}
+
+fn assert_is_iterator<I: Iterator<Item = u8> + Drop>(_items: &I) {}
 
 fn assert_error_traits<E>(_cause: &E)
 where
@@ -52,6 +56,7 @@ fn public_iterators_and_their_traits_exist(rt: HostRuntime) {
     let mut bytes = ThinVec::new(rt.alloc());
     assert_iterator_traits(&bytes.drain(0, 0));
     assert_is_extract_if(&bytes.extract_if(0, 0, |_item: &mut u8| true));
+    assert_is_iterator(&bytes.extract_if(0, 0, |_item: &mut u8| true));
     let items: IntoIter<u8, Global, Doubling> = bytes.into_iter();
     assert_iterator_traits(&items);
 }

@@ -5,8 +5,9 @@ use std::alloc::{Allocator, Global};
 use std::io;
 use std::io::{ErrorKind, Write};
 use std::process::Abort;
+use std::test::Fail;
 use thin_testing::Refusing;
-use thin_vec::{ThinVec, ThinVecError};
+use thin_vec::{ThinVec, ThinVecError, thin_vec};
 
 // A writer that appends the written bytes to `text`. The calls to `write` are numbered from 1, and
 // call number `failing` fails, with an error of a kind other than `Interrupted`, after which
@@ -157,48 +158,86 @@ fn report_made_up(numbers: &[u32], text: &mut String, failing: usize) -> (u8, us
 fn assert_reported(rt: &impl Abort, alloc: Global, numbers: &[u32], status: u8, whole: &str) {
     let mut text = String::new(alloc);
     let (found, writes) = report_made_up(numbers, &mut text, 0);
-    assert_eq!(rt; found, status);
-    assert_eq!(rt; text.as_str(), whole);
+    assert_eq!(rt; (found, text.as_str()), (status, whole));
     for failing in 1..=writes {
         let mut text = String::new(alloc);
         let answer = report_made_up(numbers, &mut text, failing);
-        assert_eq!(rt; answer, (3, failing));
-        assert!(rt; whole.starts_with(text.as_str()), "at write {failing}");
+        assert_eq!(rt; (answer, whole.starts_with(text.as_str())), ((3, failing), true));
     }
 }
 
 #[test]
-fn report_counts_failed_rows(rt: HostRuntime) {
+fn report_counts_failed_rows(rt: HostRuntime) -> Result<(), Fail> {
     let alloc = rt.alloc();
-    assert_reported(&rt, alloc, &[1, 1], 0, "row 1 ok\nrow 1 ok\n2 rows ok\n");
-    assert_reported(&rt, alloc, &[2], 1, "row 2 failed\n1 rows failed\n");
-    assert_reported(&rt, alloc, &[3], 1, "row 3 failed\n1 rows failed\n");
-    assert_reported(&rt, alloc, &[0], 1, "row 0 failed\n1 rows failed\n");
-    let text = "row 2 failed\nrow 1 ok\nrow 0 failed\n2 rows failed\n";
-    assert_reported(&rt, alloc, &[2, 1, 0], 1, text);
-    let text = "row 1 ok\nrow 2 failed\nout of memory\n";
-    assert_reported(&rt, alloc, &[1, 2, 4, 1], 2, text);
-}
-
-// Compares two different values, in one of several ways.
-fn compared(list: &ThinVec<u8>, way: u32) -> Checks {
-    let mut checks = Checks::new();
-    match way {
-        0 => checks.is(false),
-        1 => checks.same(1, 2),
-        2 => checks.items(&[1], &[2]),
-        3 => checks.holds(list, &[1], 0),
-        _ => checks.holds(list, &[], 1),
+    assert_reported(&rt, alloc, &[], 0, "0 rows ok\n");
+    for (numbers, status, whole) in [
+        ([1, 1, 99_999], 1, "row 1 ok\nrow 1 ok\nrow 99999 failed\n1 rows failed\n"),
+        ([2, 1, 0], 1, "row 2 failed\nrow 1 ok\nrow 0 failed\n2 rows failed\n"),
+        ([1, 2, 4], 2, "row 1 ok\nrow 2 failed\nout of memory\n"),
+        ([3, 4, 1], 2, "row 3 failed\nout of memory\n"),
+        ([4, 4, 1], 2, "out of memory\n"),
+    ] {
+        assert_reported(&rt, alloc, &numbers, status, whole);
     }
-    checks.is(true);
-    checks
+    for (number, status, told) in [(1, 0, "ok"), (2, 1, "failed"), (3, 1, "failed")] {
+        for count in [1, 2, 9, 10, 11, 260] {
+            let numbers = thin_vec![alloc => number; count]?;
+            let mut whole = String::new(alloc);
+            for _ in 0..count {
+                whole.push_str(format!(in alloc; "row {number} {told}\n")?.as_str())?;
+            }
+            whole.push_str(format!(in alloc; "{count} rows {told}\n")?.as_str())?;
+            assert_reported(&rt, alloc, numbers.as_slice(), status, whole.as_str());
+        }
+    }
+    Ok(())
 }
 
+// Makes a comparison of the given number. Those below 10 find the expected value, and the others
+// find another value.
+fn compare(checks: &mut Checks, list: &ThinVec<u8>, number: u32) {
+    match number {
+        0 => checks.is(true),
+        1 => checks.same(1, 1),
+        2 => checks.items(&[1, 2], &[1, 2]),
+        3 => checks.items::<u8>(&[], &[]),
+        4 => checks.holds(list, &[7, 8], 5),
+        10 => checks.is(false),
+        11 => checks.same(1, 2),
+        12 => checks.same("a", "b"),
+        13 => checks.items(&[1], &[2]),
+        14 => checks.items(&[1, 2], &[1]),
+        15 => checks.items(&[1], &[1, 2]),
+        16 => checks.items(&[], &[1]),
+        17 => checks.items(&[1, 2, 3], &[1, 3, 2]),
+        18 => checks.holds(list, &[7, 8], 2),
+        19 => checks.holds(list, &[7, 8], 6),
+        20 => checks.holds(list, &[7], 5),
+        21 => checks.holds(list, &[7, 9], 5),
+        _ => checks.holds(list, &[], 5),
+    }
+}
+
+// Each comparison is made before and after each other one.
 #[test]
-fn each_comparison_detects_a_wrong_value(rt: HostRuntime) {
-    let list = ThinVec::new(rt.alloc());
-    for way in 0..5 {
-        assert!(rt; !compared(&list, way).is_ok(), "way {way}");
-    }
+fn each_comparison_detects_a_wrong_value(rt: HostRuntime) -> Result<(), Fail> {
+    let mut list = ThinVec::with_capacity(rt.alloc(), 5)?;
+    list.extend_from_copies(&[7, 8])?;
     assert!(rt; !Checks::new().is_ok());
+    let numbers = [0, 1, 2, 3, 4, 10, 11, 12, 13, 14, 15, 16, 17, 18, 19, 20, 21, 22];
+    for number in numbers {
+        for other in numbers {
+            let mut checks = Checks::new();
+            compare(&mut checks, &list, number);
+            let is_ok = checks.is_ok();
+            compare(&mut checks, &list, other);
+            compare(&mut checks, &list, 0);
+            assert_eq!(rt;
+                (is_ok, checks.is_ok()),
+                (number < 10, number < 10 && other < 10),
+                "at {number}, {other}"
+            );
+        }
+    }
+    Ok(())
 }

@@ -1,72 +1,151 @@
-//! Tests of the crate `replay`: the error messages, the exit status, and writes that fail. The files
-//! `stdin` and `stdout` of the program `thin_replay` test the answers.
+//! Tests of the crate `replay`: the error messages, the exit status, and reads and writes that
+//! fail. The files `stdin` and `stdout` of the program `thin_replay` test the answers.
 
 use replay::line::Line;
 use replay::{exit_code, replay};
 use std::alloc::Global;
-use std::io::{self, ErrorKind, Write};
+use std::cell::Cell;
+use std::fmt::Display;
+use std::io::{self, BufReader, ErrorKind, Read, Write};
 use std::process::Abort;
 use std::test::Fail;
 
-// Invalid lines of the input, each with its error message.
-static WRONG: [(&str, &str); 12] = [
-    (
-        "pus 3",
-        "no command has this name (`help` lists the commands)",
-    ),
-    ("push", "the form is `push ITEM`"),
-    ("push 3 4", "the form is `push ITEM`"),
-    ("help me", "the form is `help`"),
-    (
-        "splice 0 1 -",
-        "the form is `splice START END STEPS HINT ITEM ..`",
-    ),
-    (
-        "insert -1 3",
-        "INDEX is not a number from 0 to 18446744073709551615",
-    ),
-    (
-        "extend 1 2 18446744073709551616",
-        "ITEM is not a number from 0 to 18446744073709551615",
-    ),
-    ("retain 0 1 1", "DIVISOR is 0"),
-    (
-        "retain 0 x 1",
-        "STRIDE is not a number from 0 to 18446744073709551615",
-    ),
-    (
-        "retain x 1 1",
-        "DIVISOR is not a number from 0 to 18446744073709551615",
-    ),
-    (
-        "extract_if 0 1 x 1 1 1",
-        "CALLS is not a number from 0 to 18446744073709551615",
-    ),
-    (
-        "drain 0 1 fx",
-        "STEPS is neither `-` nor a word of the letters `f` and `b`",
-    ),
-];
+// Asserts what is said about a line that has no form.
+fn assert_wrong(rt: &impl Abort, alloc: Global, line: &str, told: &str) -> Result<(), Fail> {
+    let error = Line::parse(alloc, line).err().ok_or("parsed")?;
+    assert_eq!(rt; error.to_string(alloc)?.as_str(), told, "of {line}");
+    Ok(())
+}
 
 #[test]
 fn says_what_is_wrong_with_a_line(rt: HostRuntime) -> Result<(), Fail> {
-    for (text, told) in &WRONG {
-        let error = Line::parse(rt.alloc(), text).err().ok_or("parsed")?;
-        assert_eq!(rt; error.to_string(rt.alloc())?.as_str(), *told);
+    let told = "no command has this name (`help` lists the commands)";
+    for line in ["", "pus 3", "PUSH 3", "pushes 3"] {
+        assert_wrong(&rt, rt.alloc(), line, told)?;
+    }
+    for line in [
+        "retain 0 1 1",
+        "retain_mut 0 1 1",
+        "dedup_by 0 1 1",
+        "dedup_by_key 0 1 1",
+        "extract_if 0 1 1 0 1 1",
+    ] {
+        assert_wrong(&rt, rt.alloc(), line, "DIVISOR is 0")?;
     }
     Ok(())
 }
 
-// Where the answers of a test are written. The methods fail once `room` bytes are written.
+// Returns the first `len` words of a line of the form. From the word `from` to the word `to`, all
+// are `wrong`.
+fn spelled(
+    alloc: Global,
+    form: &str,
+    len: usize,
+    (from, to): (usize, usize),
+    wrong: &str,
+) -> Result<String, Fail> {
+    let mut line = String::new(alloc);
+    let mut index = 0_usize;
+    for name in form.split_whitespace() {
+        if index >= len {
+            break;
+        }
+        if from <= index && index <= to {
+            line.push_str(wrong)?;
+        } else if index == 0 {
+            line.push_str(name)?;
+        } else if name == "STEPS" {
+            line.push_str("-")?;
+        } else {
+            line.push_str("1")?;
+        }
+        line.push_str("\t")?;
+        index = index.saturating_add(1);
+    }
+    Ok(line)
+}
+
+// The position behind the last word of each form.
+const END: usize = 100;
+
+// Asserts what is said about a line of the form in which the word `at`, or this word and all after
+// it, are wrong. In the form, this word is `name`.
+fn assert_named(
+    rt: &impl Abort,
+    alloc: Global,
+    form: &str,
+    at: usize,
+    name: &str,
+) -> Result<(), Fail> {
+    let told = match name {
+        "STEPS" => format!(in alloc; "STEPS is neither `-` nor a word of the letters `f` and `b`")?,
+        ".." => format!(in alloc; "ITEM is not a number from 0 to 18446744073709551615")?,
+        _ => format!(in alloc; "{name} is not a number from 0 to 18446744073709551615")?,
+    };
+    for wrong in ["x", "-1", "1x", "1.5", "18446744073709551616", "–", "f-"] {
+        for to in [at, END] {
+            let line = spelled(alloc, form, END, (at, to), wrong)?;
+            assert_wrong(rt, alloc, line.as_str(), told.as_str())?;
+        }
+    }
+    Ok(())
+}
+
+// Asserts that a line of the form is right, and what is said about lines with a wrong word and
+// about lines with too few or too many words.
+fn assert_form(rt: &impl Abort, alloc: Global, form: &str) -> Result<(), Fail> {
+    let right = spelled(alloc, form, END, (END, END), "")?;
+    assert!(rt; Line::parse(alloc, right.as_str()).is_ok(), "{right}");
+    let mut words = 0_usize;
+    for name in form.split_whitespace() {
+        if words > 0 {
+            assert_named(rt, alloc, form, words, name)?;
+        }
+        words = words.saturating_add(1);
+    }
+    let told = format!(in alloc; "the form is `{form}`")?;
+    if form.ends_with(" ..") {
+        words = words.saturating_sub(2);
+    } else {
+        let line = format!(in alloc; "{right}1")?;
+        assert_wrong(rt, alloc, line.as_str(), told.as_str())?;
+    }
+    for len in 1..words {
+        let line = spelled(alloc, form, len, (END, END), "")?;
+        assert_wrong(rt, alloc, line.as_str(), told.as_str())?;
+    }
+    Ok(())
+}
+
+// `help` prints the forms, and an empty line after them.
+#[test]
+fn says_what_is_wrong_with_a_line_of_each_form(rt: HostRuntime) -> Result<(), Fail> {
+    let text = replayed(&rt, rt.alloc(), b"help", (0, 0), "")?;
+    let mut forms = 0_usize;
+    for form in text.as_str().lines() {
+        if form.is_empty() {
+            break;
+        }
+        assert_form(&rt, rt.alloc(), form)?;
+        forms = forms.saturating_add(1);
+    }
+    assert_eq!(rt; forms, 28);
+    Ok(())
+}
+
+// Where the answers of a test are written. The calls to `write` are numbered from 1, and call
+// number `failing` fails. If `failing` is 0, no call fails.
 #[derive(Drop)]
 struct Page<'a> {
     text: &'a mut String,
-    room: usize,
+    calls: usize,
+    failing: usize,
 }
 
 impl Write for Page<'_> {
     fn write(&mut self, buf: &[u8]) -> io::Result<usize> {
-        if self.text.len() >= self.room {
+        self.calls = self.calls.saturating_add(1);
+        if self.calls == self.failing {
             return Err(io::Error::from(ErrorKind::BrokenPipe));
         }
         let text = std::str::from_utf8(buf).unwrap_or("?");
@@ -81,82 +160,269 @@ impl Write for Page<'_> {
     }
 }
 
-// Replays the lines of `input`. Asserts what is written, the error message (which is empty if there
-// is no error), and the exit status.
-fn assert_replayed(
-    rt: &(impl Abort + Eprint),
+// How many bytes a call to `read` reads.
+const CHUNK: usize = 16;
+
+// A reader of `rest`. The calls to `read` are numbered from 1, and call number `failing` fails.
+#[derive(Drop)]
+struct Script<'a> {
+    rest: &'a [u8],
+    calls: usize,
+    failing: usize,
+}
+
+impl Read for Script<'_> {
+    fn read(&mut self, buf: &mut [u8]) -> io::Result<usize> {
+        self.calls = self.calls.saturating_add(1);
+        if self.calls == self.failing {
+            return Err(io::Error::from(ErrorKind::BrokenPipe));
+        }
+        self.rest.read(buf)
+    }
+}
+
+// A standard error that counts the lines that are written to it, and those of them that are `told`.
+// Each call fails.
+#[derive(Drop)]
+struct Messages<'a> {
+    alloc: Global,
+    told: &'a str,
+    lines: Cell<u32>,
+    right: Cell<u32>,
+}
+
+impl Messages<'_> {
+    fn count(&self, line: &str) -> io::Result<()> {
+        self.lines.set(self.lines.get().saturating_add(1));
+        if line == self.told {
+            self.right.set(self.right.get().saturating_add(1));
+        }
+        Err(io::Error::from(ErrorKind::BrokenPipe))
+    }
+}
+
+impl Eprint for Messages<'_> {
+    fn eprint<D: Display + Drop>(&self, _value: D) -> io::Result<()> {
+        self.count("the line does not end")
+    }
+
+    fn eprintln<D: Display + Drop>(&self, value: D) -> io::Result<()> {
+        let line = format!(in self.alloc; "{value}")?;
+        self.count(line.as_str())
+    }
+}
+
+// Replays the lines of `input`, of which the read number `unread` and the write number `unwritten`
+// fail. Returns what is written. Asserts the error message (which is empty if there is no error),
+// that it alone is written to standard error, and the exit status.
+fn replayed(
+    rt: &impl Abort,
     alloc: Global,
     input: &[u8],
-    room: usize,
-    wanted: &str,
+    (unread, unwritten): (usize, usize),
     told: &str,
-) -> Result<(), Fail> {
+) -> Result<String, Fail> {
     let mut text = String::new(alloc);
     let page = Page {
         text: &mut text,
-        room,
+        calls: 0,
+        failing: unwritten,
     };
-    let answered = replay(alloc, input, page);
+    let script = Script {
+        rest: input,
+        calls: 0,
+        failing: unread,
+    };
+    let answered = replay(alloc, BufReader::with_capacity(alloc, CHUNK, script)?, page);
     let message = match &answered {
         Ok(()) => String::new(alloc),
         Err(error) => error.to_string(alloc)?,
     };
-    assert_eq!(rt; (text.as_str(), message.as_str()), (wanted, told));
+    let messages = Messages {
+        alloc,
+        told,
+        lines: Cell::new(0),
+        right: Cell::new(0),
+    };
     // Printing an `ExitCode` is the only way to read its value.
-    let status = format!(in alloc; "{:?}", exit_code(rt, answered))?;
+    let status = format!(in alloc; "{:?}", exit_code(&messages, answered))?;
     let number = if told.is_empty() { 0 } else { 1 };
     let wanted = format!(in alloc; "ExitCode(unix_exit_status({number}))")?;
-    assert_eq!(rt; status.as_str(), wanted.as_str());
+    assert_eq!(rt;
+        (message.as_str(), status.as_str(), messages.lines.get(), messages.right.get()),
+        (told, wanted.as_str(), number, number)
+    );
+    Ok(text)
+}
+
+// Replays the lines of `input`. Asserts what is written, and the error message.
+fn assert_replayed(
+    rt: &impl Abort,
+    alloc: Global,
+    input: &[u8],
+    wanted: &str,
+    told: &str,
+) -> Result<(), Fail> {
+    let text = replayed(rt, alloc, input, (0, 0), told)?;
+    assert_eq!(rt; text.as_str(), wanted);
     Ok(())
 }
 
-const ROOM: usize = 1_000_000;
-
 #[test]
-fn skips_blank_lines(rt: HostRuntime) -> Result<(), Fail> {
+fn skips_blank_lines_and_white_space(rt: HostRuntime) -> Result<(), Fail> {
+    for input in ["", "\n\n"] {
+        assert_replayed(&rt, rt.alloc(), input.as_bytes(), "", "")?;
+    }
     let answers = "done; length 1; capacity 4\nitems [1]\n";
-    assert_replayed(
-        &rt,
-        rt.alloc(),
-        b"\n \t\npush 1\n\nitems",
-        ROOM,
-        answers,
-        "",
-    )?;
-    assert_replayed(&rt, rt.alloc(), b"", ROOM, "", "")
+    for input in [
+        "\n \t\npush 1\n\nitems",
+        "push 1\nitems\n\n",
+        "\r\n  push \t 1\r\nitems \t\r\n",
+        "\u{2003}\npush\u{2003}1\n\titems\n \n",
+    ] {
+        assert_replayed(&rt, rt.alloc(), input.as_bytes(), answers, "")?;
+    }
+    Ok(())
 }
 
 #[test]
 fn carries_out_no_command_if_a_line_is_wrong(rt: HostRuntime) -> Result<(), Fail> {
-    let told = "line 3: the form is `push ITEM`";
-    assert_replayed(&rt, rt.alloc(), b"push 1\n\npush\npop 1\n", ROOM, "", told)?;
     let told = "line 2: the line is not UTF-8";
-    assert_replayed(
-        &rt,
-        rt.alloc(),
-        b"push 1\npush \xff\npop 1\n",
-        ROOM,
-        "",
-        told,
-    )
+    assert_replayed(&rt, rt.alloc(), b"push 1\npush \xff\npop 1\n", "", told)?;
+    let told = "line 1: the line is not UTF-8";
+    assert_replayed(&rt, rt.alloc(), b"\xff", "", told)?;
+    let mut right = String::new(rt.alloc());
+    for number in 1..=300 {
+        let input = format!(in rt.alloc(); "{right}push\njump\n")?;
+        let told = format!(in rt.alloc(); "line {number}: the form is `push ITEM`")?;
+        assert_replayed(&rt, rt.alloc(), input.as_bytes(), "", told.as_str())?;
+        right.push_str(if number % 3 == 0 { "\n" } else { "push 1\n" })?;
+    }
+    Ok(())
 }
 
+// Commands for which there is not enough memory, in a list of one item.
+static TOO_LARGE: [&str; 6] = [
+    "extract_if 0 0 1152921504606846976 1 0 0",
+    "reserve 1152921504606846970",
+    "reserve_exact 1152921504606846970",
+    "resize 1152921504606846970 7",
+    "extend 1152921504606846970 1",
+    "splice 0 1 fb 1152921504606846970 1 2 3",
+];
+
+// In front of the command are a blank line and, in the second round, many lines.
 #[test]
 fn stops_at_a_reply_without_memory(rt: HostRuntime) -> Result<(), Fail> {
-    let input = b"push 1\nextract_if 0 0 1152921504606846976 1 0 0\npop\n";
-    let told = "line 2: out of memory";
-    assert_replayed(
-        &rt,
-        rt.alloc(),
-        input,
-        ROOM,
-        "done; length 1; capacity 4\n",
-        told,
-    )
+    let alloc = rt.alloc();
+    let (mut front, mut answers) = (String::new(alloc), String::new(alloc));
+    for number in [3, 1003] {
+        for command in &TOO_LARGE {
+            let input = format!(in alloc; "{front}push 1\n\n{command}\npop\n")?;
+            let told = format!(in alloc; "line {number}: out of memory")?;
+            let wanted = format!(in alloc; "{answers}done; length 1; capacity 4\n")?;
+            let (wanted, told) = (wanted.as_str(), told.as_str());
+            assert_replayed(&rt, alloc, input.as_bytes(), wanted, told)?;
+        }
+        for _ in 0..1000 {
+            front.push_str("pop\n")?;
+            answers.push_str("item None; length 0; capacity 0\n")?;
+        }
+    }
+    Ok(())
 }
 
-// The last flush writes the answers to a short input.
+#[test]
+fn fails_if_a_read_fails(rt: HostRuntime) -> Result<(), Fail> {
+    let input = "push 1\nitems\n\npop\nextend_from_slice 1 2 3 4 5 6 7\nitems\n";
+    // The last call finds the end.
+    for unread in 1..=input.len().div_ceil(CHUNK).saturating_add(1) {
+        let text = replayed(
+            &rt,
+            rt.alloc(),
+            input.as_bytes(),
+            (unread, 0),
+            "broken pipe",
+        )?;
+        assert_eq!(rt; text.as_str(), "");
+    }
+    Ok(())
+}
+
+// Replays `input`, whose answers take several calls to `write`. Asserts that the program fails at a
+// call that fails, whichever call it is. What is written is then a beginning of the answers: the
+// writer tries once more to write those that it holds, and no more.
+fn assert_fails_at_a_write(rt: &impl Abort, alloc: Global, input: &String) -> Result<(), Fail> {
+    let whole = replayed(rt, alloc, input.as_bytes(), (0, 0), "")?;
+    // The writer has room for 8192 bytes.
+    for unwritten in 1..=whole.len().div_ceil(8192) {
+        let text = replayed(rt, alloc, input.as_bytes(), (0, unwritten), "broken pipe")?;
+        assert!(rt;
+            whole.as_str().starts_with(text.as_str()),
+            "at write {unwritten}"
+        );
+    }
+    Ok(())
+}
+
+// Lines with answers of each kind. So many of them have answers of somewhat more than 8192 bytes,
+// but for the last, whose answer is written by the last flush.
+static REPEATED: [(&str, usize); 12] = [
+    ("clear", 330),
+    ("pop", 280),
+    ("remove 9", 240),
+    ("append", 190),
+    ("reserve 18446744073709551615", 150),
+    ("drain 0 0 ffff", 130),
+    ("clone", 200),
+    ("extend 18446744073709551615 3", 90),
+    ("new", 340),
+    ("items", 900),
+    ("help", 8),
+    ("pop", 1),
+];
+
+// In front of the repeated lines, one answer becomes longer from round to round. So in some round
+// each part of the answers is the one with which the writer is full.
 #[test]
 fn fails_if_a_write_fails(rt: HostRuntime) -> Result<(), Fail> {
-    assert_replayed(&rt, rt.alloc(), b"push 1\n", 0, "", "broken pipe")
+    let alloc = rt.alloc();
+    for (line, times) in &REPEATED {
+        let mut lines = String::new(alloc);
+        for _ in 0..*times {
+            lines.push_str(line)?;
+            lines.push_str("\n")?;
+        }
+        for first in [1, 10_000_000_000_000_000_000_u64] {
+            let mut second = 1_u64;
+            for _ in 0..20 {
+                let input =
+                    format!(in alloc; "push {first}\npush {second}\nitems\nnew\n{lines}")?;
+                assert_fails_at_a_write(&rt, alloc, &input)?;
+                second = second.saturating_mul(10);
+            }
+        }
+    }
+    Ok(())
+}
+
+// Replies that take several calls to `write` each.
+#[test]
+fn fails_if_a_write_of_a_long_reply_fails(rt: HostRuntime) -> Result<(), Fail> {
+    let alloc = rt.alloc();
+    let mut words = String::new(alloc);
+    for item in 10_000..13_000 {
+        words.push_str(format!(in alloc; " {item}")?.as_str())?;
+    }
+    for (command, line) in [
+        ("extend_from_slice", "items"),
+        ("extend_from_slice", "clone"),
+        ("extend_from_slice", "split_off 0"),
+        ("extend_from_slice", "extract_if 0 3000 3000 1 0 0"),
+        ("extend 18446744073709551615", "pop"),
+    ] {
+        let input = format!(in alloc; "{command}{words}\n{line}\n")?;
+        assert_fails_at_a_write(&rt, alloc, &input)?;
+    }
+    Ok(())
 }

@@ -4,7 +4,7 @@
 ghost use Rattle.std.specs.Prelude.{◌≡◌, length};
 
 use std::alloc::{Allocator, Global};
-use std::fmt::Debug;
+use std::fmt::{self, Debug, Write};
 use std::process::Abort;
 use std::test::Fail;
 use thin_testing::Refusing;
@@ -74,5 +74,58 @@ pub fn assert_texts<D: Debug>(
     assert_same(rt, lines.as_str(), texts[1]);
     let wide = format!(in alloc; "{value:04?}")?;
     assert_same(rt, wide.as_str(), texts[2]);
+    Ok(())
+}
+
+// Returns what the value is printed as with each option of `{:?}`.
+fn texts_of<D: Debug>(alloc: Global, value: &D) -> Result<String, Fail> {
+    let mut texts = format!(in alloc; "{value:?} {value:#?} {value:+?} {value:04?} {value:.3?}")?;
+    let more = format!(in alloc; "{value:+8.2?} {value:<5?} {value:*^5?} {value:#06?}")?;
+    texts.push_str(more.as_str())?;
+    Ok(texts)
+}
+
+// A writer whose call number `failing` fails, and no other. The calls are numbered from 1.
+#[derive(Drop)]
+struct Failing {
+    calls: usize,
+    failing: usize,
+}
+
+impl Write for Failing {
+    fn write_str(&mut self, _text: &str) -> fmt::Result {
+        self.calls = self.calls.saturating_add(1);
+        if self.calls == self.failing {
+            return Err(fmt::Error);
+        }
+        Ok(())
+    }
+}
+
+// Prints the value to a writer whose call number `failing` fails. Returns whether printing failed,
+// and the number of calls.
+fn print_to_failing<D: Debug>(value: &D, failing: usize) -> (bool, usize) {
+    let mut out = Failing { calls: 0, failing };
+    let failed = write!(out, "{value:?}").is_err();
+    (failed, out.calls)
+}
+
+/// Asserts that the value is printed as `like`, with each option of `{:?}`. Also asserts that
+/// printing ends with an error at a write that fails, whichever write it is. (Of many writes, those
+/// in the middle are left out.)
+pub fn assert_prints_as<D: Debug, L: Debug>(
+    rt: &impl Abort,
+    alloc: Global,
+    value: &D,
+    like: &L,
+) -> Result<(), Fail> {
+    let (texts, wanted) = (texts_of(alloc, value)?, texts_of(alloc, like)?);
+    let (failed, calls) = print_to_failing(value, 0);
+    assert_same(rt, (texts.as_str(), failed), (wanted.as_str(), false));
+    for failing in 1..=calls {
+        if failing < 60 || calls.saturating_sub(failing) < 10 {
+            assert_same(rt, print_to_failing(value, failing), (true, failing));
+        }
+    }
     Ok(())
 }

@@ -1,12 +1,17 @@
 //! Tests of a list through the traits of std: `clone_from` and `or_default` with the capacities of
 //! their lists, and which calls make no request.
-use crate::tests::support::{assert_counts, assert_items, assert_list, assert_same};
-use std::alloc::Allocator;
+use crate::tests::support::{assert_counts, assert_len, assert_list, assert_same};
+use std::alloc::{Allocator, Global};
+use std::cmp::Ordering;
 use std::collections::HashMap;
 use std::convert::AsSlice;
+use std::fmt::Debug;
+use std::hash::{DefaultHasher, Hash};
+use std::iter::ExactSizeIterator;
+use std::process::Abort;
 use std::test::Fail;
 use thin_testing::{Refusing, list_of};
-use thin_vec::ThinVec;
+use thin_vec::{ThinVec, ThinVecError};
 
 #[test]
 fn clone_from_replaces_the_block(rt: HostRuntime) -> Result<(), Fail> {
@@ -47,35 +52,87 @@ fn or_default_makes_a_list_without_a_block(rt: HostRuntime) -> Result<(), Fail> 
 #[test]
 fn iteration_by_value_makes_no_request(rt: HostRuntime) -> Result<(), Fail> {
     let refusing = Refusing::leaked(rt.alloc(), 0)?;
-    let list = list_of(refusing, &[0, 1, 2])?;
-    refusing.refuse(1);
-    assert_same(&rt, sum(list), 3);
-    assert_counts(&rt, refusing, 0, 0);
+    for len in [0, 1, 3, 1000] {
+        refusing.refuse(0);
+        let mut list = ThinVec::new(refusing);
+        list.resize(len, 1_u32)?;
+        refusing.refuse(1);
+        assert_same(&rt, count(list), len);
+        assert_counts(&rt, refusing, 0, 0);
+    }
     Ok(())
 }
 
-fn sum<A: Allocator>(list: ThinVec<u32, A>) -> u32 {
-    let mut sum = 0_u32;
-    for item in list {
-        sum = sum.saturating_add(item);
+fn count<T: Drop, A: Allocator>(list: ThinVec<T, A>) -> usize {
+    let mut count = 0_usize;
+    for _item in list {
+        count = count.saturating_add(1);
     }
-    sum
+    count
 }
 
-fn len_as_slice<S: AsSlice<i32>>(items: &S) -> usize {
+fn len_as_slice<T, S: AsSlice<T>>(items: &S) -> usize {
     items.as_slice().len()
+}
+
+// Returns the lengths that an iterator tells through its traits.
+fn lens<I: ExactSizeIterator>(items: &I) -> (usize, (usize, Option<usize>)) {
+    (items.len(), items.size_hint())
+}
+
+// Reads and writes a list of `len` items in each way in which a list is a slice, and asserts that
+// no memory is requested.
+fn assert_slice_requests<T: Copy + Ord + Hash + Debug + Drop>(
+    rt: &impl Abort,
+    refusing: &'static Refusing<Global>,
+    item: T,
+    len: usize,
+) -> Result<(), ThinVecError> {
+    refusing.refuse(0);
+    let mut list = ThinVec::new(refusing);
+    list.resize(len, item)?;
+    let mut other = ThinVec::new(refusing);
+    other.resize(len, item)?;
+    refusing.refuse(1);
+    assert_len(rt, &list, len);
+    assert_len(rt, &other, len);
+    if len > 0 {
+        list[len - 1] = other[0];
+    }
+    list.reverse();
+    let mut seen = 0_usize;
+    for _item in &list {
+        seen = seen.saturating_add(1);
+    }
+    for _item in &mut list {
+        seen = seen.saturating_add(1);
+    }
+    let found = (seen, list.iter().count(), len_as_slice::<T, _>(&list));
+    assert_same(rt, found, (len.saturating_mul(2), len, len));
+    let found = (list == other, list.cmp(&other), list.partial_cmp(&other));
+    let equal = Ordering::Equal;
+    assert_same(rt, found, (true, equal, Some(equal)));
+    assert_same(rt, list.first(), other.last());
+    assert_same(rt, list.get_mut(0).is_some(), len > 0);
+    list.hash(&mut DefaultHasher::new());
+    assert_len(rt, &list, len);
+    let mut drain = list.drain(0, len);
+    let _ends = (drain.next(), drain.next_back());
+    let drained = (lens(&drain), drain.rev().count());
+    let mut rest = other.into_iter();
+    let _ends = (rest.next(), rest.next_back());
+    assert_same(rt, drained, (lens(&rest), rest.rev().count()));
+    assert_same(rt, refusing.requests(), 0);
+    Ok(())
 }
 
 #[test]
 fn slice_methods_make_no_request(rt: HostRuntime) -> Result<(), Fail> {
     let refusing = Refusing::leaked(rt.alloc(), 0)?;
-    let mut list = list_of(refusing, &[0, 1, 2])?;
-    refusing.refuse(1);
-    assert_same(&rt, (list.first(), len_as_slice(&list)), (Some(&0), 3));
-    list.reverse();
-    assert_items(&rt, &list, &[2, 1, 0]);
-    let mut items = list.into_iter();
-    assert_same(&rt, items.by_ref().rev().count(), 3);
-    assert_same(&rt, refusing.requests(), 0);
+    for len in [0, 1, 9, 300] {
+        assert_slice_requests(&rt, refusing, 7_u32, len)?;
+        assert_slice_requests(&rt, refusing, (), len)?;
+        assert_slice_requests(&rt, refusing, [7_u64; 40], len)?;
+    }
     Ok(())
 }
