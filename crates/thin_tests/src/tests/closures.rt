@@ -57,7 +57,9 @@ fn assert_pop_if_and_resize_with_drop(
     let popped = list.pop_if(move |item| is_two(&owned, *item)).is_some();
     assert_same(rt, (popped, ledger.live.get()), (len > 0, 0));
     let owned = Counted::new(ledger, 7, ());
-    let popped = list.pop_if(move |item| is_two(&owned, 3) && *item == 2).is_some();
+    let popped = list
+        .pop_if(move |item| is_two(&owned, 3) && *item == 2)
+        .is_some();
     assert_same(rt, (popped, ledger.live.get()), (false, 0));
     for new_len in [len, len, len.saturating_add(40), len / 2, 0] {
         let owned = Counted::new(ledger, 7, ());

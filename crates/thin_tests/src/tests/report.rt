@@ -162,7 +162,10 @@ fn assert_reported(rt: &impl Abort, alloc: Global, numbers: &[u32], status: u8, 
     for failing in 1..=writes {
         let mut text = String::new(alloc);
         let answer = report_made_up(numbers, &mut text, failing);
-        assert_eq!(rt; (answer, whole.starts_with(text.as_str())), ((3, failing), true));
+        assert_eq!(rt;
+            (answer, whole.starts_with(text.as_str())),
+            ((3, failing), true)
+        );
     }
 }
 
@@ -171,8 +174,16 @@ fn report_counts_failed_rows(rt: HostRuntime) -> Result<(), Fail> {
     let alloc = rt.alloc();
     assert_reported(&rt, alloc, &[], 0, "0 rows ok\n");
     for (numbers, status, whole) in [
-        ([1, 1, 99_999], 1, "row 1 ok\nrow 1 ok\nrow 99999 failed\n1 rows failed\n"),
-        ([2, 1, 0], 1, "row 2 failed\nrow 1 ok\nrow 0 failed\n2 rows failed\n"),
+        (
+            [1, 1, 99_999],
+            1,
+            "row 1 ok\nrow 1 ok\nrow 99999 failed\n1 rows failed\n",
+        ),
+        (
+            [2, 1, 0],
+            1,
+            "row 2 failed\nrow 1 ok\nrow 0 failed\n2 rows failed\n",
+        ),
         ([1, 2, 4], 2, "row 1 ok\nrow 2 failed\nout of memory\n"),
         ([3, 4, 1], 2, "row 3 failed\nout of memory\n"),
         ([4, 4, 1], 2, "out of memory\n"),
@@ -224,7 +235,9 @@ fn each_comparison_detects_a_wrong_value(rt: HostRuntime) -> Result<(), Fail> {
     let mut list = ThinVec::with_capacity(rt.alloc(), 5)?;
     list.extend_from_copies(&[7, 8])?;
     assert!(rt; !Checks::new().is_ok());
-    let numbers = [0, 1, 2, 3, 4, 10, 11, 12, 13, 14, 15, 16, 17, 18, 19, 20, 21, 22];
+    let numbers = [
+        0, 1, 2, 3, 4, 10, 11, 12, 13, 14, 15, 16, 17, 18, 19, 20, 21, 22,
+    ];
     for number in numbers {
         for other in numbers {
             let mut checks = Checks::new();

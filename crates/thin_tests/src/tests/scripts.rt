@@ -249,7 +249,12 @@ fn replayed(
     let number = if told.is_empty() { 0 } else { 1 };
     let wanted = format!(in alloc; "ExitCode(unix_exit_status({number}))")?;
     assert_eq!(rt;
-        (message.as_str(), status.as_str(), messages.lines.get(), messages.right.get()),
+        (
+            message.as_str(),
+            status.as_str(),
+            messages.lines.get(),
+            messages.right.get()
+        ),
         (told, wanted.as_str(), number, number)
     );
     Ok(text)
@@ -396,8 +401,7 @@ fn fails_if_a_write_fails(rt: HostRuntime) -> Result<(), Fail> {
         for first in [1, 10_000_000_000_000_000_000_u64] {
             let mut second = 1_u64;
             for _ in 0..20 {
-                let input =
-                    format!(in alloc; "push {first}\npush {second}\nitems\nnew\n{lines}")?;
+                let input = format!(in alloc; "push {first}\npush {second}\nitems\nnew\n{lines}")?;
                 assert_fails_at_a_write(&rt, alloc, &input)?;
                 second = second.saturating_mul(10);
             }

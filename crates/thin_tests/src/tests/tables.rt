@@ -260,7 +260,11 @@ fn assert_row_reads<V: Drop>(
     assert_row(rt, table, 1);
     assert_same(
         rt,
-        (is_there, table.get(1, column).is_some(), table.owns_block(1)),
+        (
+            is_there,
+            table.get(1, column).is_some(),
+            table.owns_block(1),
+        ),
         (true, true, true),
     );
     assert_same(rt, (table.row(1).len(), table.len()), (count, count));
