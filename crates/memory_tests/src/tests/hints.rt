@@ -1,6 +1,9 @@
 //! Tests that no call reserves room for the upper bound of a size hint.
+ghost use Rattle.std.specs.Iterator.{IsFinite};
+
 use crate::tests::support::{assert_len, assert_list};
-use std::iter::Extend;
+use std::alloc::Global;
+use std::iter::{Extend, Iterator};
 use std::test::Fail;
 use thin_testing::{list_of, splice};
 use thin_vec::ThinVec;
@@ -13,38 +16,42 @@ macro_rules! few {
     };
 }
 
+// Makes a list of the items of the iterator by one of four calls. The number `way`, from 0 to 3,
+// selects the call.
+fn list_by_way<I: Iterator<Item = i32>>(
+    way: u32,
+    alloc: Global,
+    iter: I,
+) -> Result<ThinVec<i32>, Fail>
+    requires can_next { I.can_next iter }
+    requires finite { IsFinite (I.remaining iter) }
+{
+    let mut list = ThinVec::new(alloc);
+    match way {
+        0 => list.extend(iter)?,
+        1 => Extend::extend(&mut list, iter)?,
+        2 => return Ok(ThinVec::from_iter(alloc, iter)?),
+        _ => return Ok(iter.collect(alloc)?),
+    }
+    Ok(list)
+}
+
 #[test]
 fn extend_and_from_iter_ignore_the_upper_bound(rt: HostRuntime) -> Result<(), Fail> {
-    let mut list = ThinVec::new(rt.alloc());
-    list.extend(few!(0_i32..1000))?;
-    assert_list(&rt, &list, &[0, 500], 4);
-    let mut list: ThinVec<i32> = ThinVec::new(rt.alloc());
-    Extend::extend(&mut list, few!(0_i32..1000))?;
-    assert_list(&rt, &list, &[0, 500], 4);
-    assert_list(
-        &rt,
-        &ThinVec::from_iter(rt.alloc(), few!(0_i32..1000))?,
-        &[0, 500],
-        4,
-    );
-    let list: ThinVec<i32> = few!(0_i32..1000).collect(rt.alloc())?;
-    assert_list(&rt, &list, &[0, 500], 4);
+    for way in 0..4 {
+        let list = list_by_way(way, rt.alloc(), few!(0_i32..1000))?;
+        assert_list(&rt, &list, &[0, 500], 4);
+    }
     Ok(())
 }
 
 #[test]
 fn extend_and_from_iter_reserve_for_the_lower_bound(rt: HostRuntime) -> Result<(), Fail> {
-    let items = [1, 2, 3, 500];
-    let mut list = ThinVec::new(rt.alloc());
-    list.extend((1_i32..4).chain(few!(4_i32..1000)))?;
-    assert_list(&rt, &list, &items, 4);
-    let mut list: ThinVec<i32> = ThinVec::new(rt.alloc());
-    Extend::extend(&mut list, (1_i32..4).chain(few!(4_i32..1000)))?;
-    assert_list(&rt, &list, &items, 4);
-    let list = ThinVec::from_iter(rt.alloc(), (1_i32..4).chain(few!(4_i32..1000)))?;
-    assert_list(&rt, &list, &items, 6);
-    let list: ThinVec<i32> = (1_i32..4).chain(few!(4_i32..1000)).collect(rt.alloc())?;
-    assert_list(&rt, &list, &items, 6);
+    for (way, capacity) in [(0, 4), (1, 4), (2, 6), (3, 6)] {
+        let items = (1_i32..4).chain(few!(4_i32..1000));
+        let list = list_by_way(way, rt.alloc(), items)?;
+        assert_list(&rt, &list, &[1, 2, 3, 500], capacity);
+    }
     Ok(())
 }
 
