@@ -5,10 +5,10 @@ use thin_vec::{ThinVec, ThinVecError, thin_vec};
 
 /// Returns one list with the items of four lists. Fails if there is not enough memory.
 pub fn made(alloc: Global) -> Result<ThinVec<u32>, ThinVecError> {
-    let mut list = thin_vec![alloc => 1, 2]?; // a list of these items
-    let mut zeros = thin_vec![alloc => 0; 3]?; // a list of three zeros
-    let mut pair = ThinVec::from_array(alloc, [3, 4])?; // a list of the items of an array
-    let mut range = (5..8).collect::<ThinVec<_>>(alloc)?; // a list of what an iterator yields
+    let mut list = thin_vec![alloc => 1, 2]?; // from given items
+    let mut zeros = thin_vec![alloc => 0; 3]?; // three zeros
+    let mut pair = ThinVec::from_array(alloc, [3, 4])?; // from an array
+    let mut range = (5..8).collect::<ThinVec<_>>(alloc)?; // from an iterator
     let mut all = ThinVec::new(alloc); // an empty list
     all.append(&mut list)?;
     all.append(&mut zeros)?;
@@ -22,9 +22,9 @@ pub fn filled(list: &mut ThinVec<u32>, other: &mut ThinVec<u32>) -> Result<(), T
     list.push(7)?; // append an item
     list.insert(0, 8)?; // insert an item at an index, which is at most `list.len()`
     list.append(other)?; // move all items of another list
-    list.extend(5..9)?; // append what an iterator yields
+    list.extend(5..9)?; // append the items of an iterator
     list.extend_from_slice(&[1, 2])?; // append the items of a slice
-    list.reserve(2)?; // reserve room for two items; the next two calls cannot fail
+    list.reserve(2)?; // reserve room for two items, so that these two calls cannot fail
     list.push_reserved(8);
     list.push_reserved(9);
     Ok(())
@@ -34,7 +34,7 @@ pub fn filled(list: &mut ThinVec<u32>, other: &mut ThinVec<u32>) -> Result<(), T
 pub fn replaced(alloc: Global, list: &mut ThinVec<u32>) -> Result<(), ThinVecError> {
     if list.len() >= 3 { // `rt check` rejects an index or a range that may be out of bounds
         list[0] = 9; // write an item
-        list.splice(1, 3, 20..23).finish(alloc)?; // replace the second and the third item
+        list.splice(1, 3, 20..23).finish(alloc)?; // replace two items by 20, 21, 22
     }
     if list.len() >= 3 {
         list.drain(1, 3); // remove the second and the third item
@@ -48,7 +48,7 @@ pub fn replaced(alloc: Global, list: &mut ThinVec<u32>) -> Result<(), ThinVecErr
 
 /// Sorts the list, removes items, and returns the odd ones. Fails if there is no memory for them.
 pub fn sifted(alloc: Global, list: &mut ThinVec<u32>) -> Result<ThinVec<u32>, ThinVecError> {
-    list.sort_unstable(); // sort
+    list.sort_unstable(); // sort; equal items may change places
     list.dedup(); // remove each item that equals the one before it
     list.retain(|x| *x < 22); // keep the items that pass a test
     let mut odd = ThinVec::new(alloc);
