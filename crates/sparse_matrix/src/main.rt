@@ -12,6 +12,8 @@ fn main(rt: HostRuntime) -> io::Result<()> {
     let mut matrix = Matrix::zeros(rt.alloc(), 2, 3)?;
     matrix.set(0, 2, 5)?;
     matrix.set(1, 0, 7)?;
+    matrix.set(1, 1, 9)?;
+    matrix.set(1, 1, 0)?;
     println!(rt; "matrix: {matrix:?}")?;
     let transposed = matrix.transposed(rt.alloc())?;
     println!(rt; "transposed: {transposed:?}")?;

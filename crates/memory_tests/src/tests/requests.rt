@@ -39,6 +39,11 @@ fn refuses_only_the_nth_request(rt: HostRuntime) -> Result<(), Fail> {
             kept.push(one)?;
         }
         assert_counts(&rt, &refusing, 9, 8);
+        let twin = refusing.clone()?;
+        for request in 1..10 {
+            assert_same(&rt, (request, twin.request().is_ok()), (request, true));
+        }
+        assert_counts(&rt, &refusing, 10, 8);
     }
     Ok(())
 }

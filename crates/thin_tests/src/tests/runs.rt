@@ -1,19 +1,21 @@
-//! A test of `run`: without commands, it makes no request.
+//! Tests of `run` and `step`: without commands, `run` makes no request, and a reply uses the
+//! allocator that was passed.
 ghost use Rattle.std.specs.Prelude.{false};
 
 use crate::tests::support::assert_same;
-use std::alloc::Global;
+use std::alloc::{Allocator, Global};
 use std::test::Fail;
+use thin_runner::command::{Command, Step};
 use thin_runner::judge::Judge;
-use thin_runner::runner::run;
-use thin_testing::Refusing;
+use thin_runner::runner::{run, step};
+use thin_testing::{Refusing, list_of};
 use thin_vec::ThinVec;
 
-// A judge that no command asks.
+// A judge that answers `false`.
 #[derive(Clone, Copy)]
-struct Unasked;
+struct Never;
 
-impl<T> Judge<T> for Unasked {
+impl<T> Judge<T> for Never {
     ghost model = { record {
       look = λ j x. (false, j);
       keep = λ j x. (false, x, j);
@@ -51,9 +53,42 @@ fn run_makes_no_request_without_commands(rt: HostRuntime) -> Result<(), Fail> {
     let commands = Vec::new(refusing);
     assert_same(
         &rt,
-        run(refusing, &mut list, commands, &mut replies, &Unasked),
+        run(refusing, &mut list, commands, &mut replies, &Never),
         Ok(()),
     );
     assert_same(&rt, refusing.requests(), 0);
+    Ok(())
+}
+
+// Returns a command on a list of three items. Its reply owns one block.
+fn nth_command<A: Allocator>(
+    number: u32,
+    alloc: A,
+    items: Vec<i32, A>,
+) -> Result<Command<i32, A>, Fail> {
+    let mut steps = Vec::new(alloc);
+    steps.push(Step::Front)?;
+    Ok(match number {
+        0 => Command::Clone,
+        1 => Command::SplitOff(1),
+        2 => Command::Drain(0, 2, steps),
+        3 => Command::ExtractIf(0, 2, 1),
+        _ => Command::Splice(0, 2, steps, items, 0),
+    })
+}
+
+#[test]
+fn a_reply_uses_the_allocator_passed(rt: HostRuntime) -> Result<(), Fail> {
+    let own = Refusing::leaked(rt.alloc(), 0)?;
+    let other = Refusing::leaked(rt.alloc(), 0)?;
+    for number in 0..5 {
+        let mut list = list_of(own, &[1, 2, 3])?;
+        let command = nth_command(number, own, Vec::new(own))?;
+        own.refuse(0);
+        let reply = step(other, &mut list, command, &Never);
+        let found = (number, own.requests(), other.blocks());
+        assert_same(&rt, found, (number, 0, 1));
+        drop(reply);
+    }
     Ok(())
 }
