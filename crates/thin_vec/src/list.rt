@@ -194,18 +194,6 @@ impl<T, A: Allocator, G: Growth> ThinVec<T, A, G> {
         } = self;
         (block, alloc)
     }
-
-    // Frees the block of an empty list.
-    pub(crate) fn release(self)
-        requires is_empty { self.items ≡ [] }
-    {
-        let ThinVec {
-            block,
-            alloc,
-            growth: _,
-        } = self;
-        block.release(&alloc);
-    }
 }
 
 impl<T: Drop, A: Allocator, G: Growth> Drop for ThinVec<T, A, G> {
