@@ -154,18 +154,21 @@ fn report_made_up(numbers: &[u32], text: &mut String, failing: usize) -> (u8, us
 }
 
 // Asserts that the report of the made-up rows `numbers` is `whole`, and that its status is
-// `status`. Also asserts that the report stops at a failed write, whichever write it is.
+// `status`. Also asserts that the report stops at a failed write, whichever write it is. (Of many
+// writes, those in the middle are left out.)
 fn assert_reported(rt: &impl Abort, alloc: Global, numbers: &[u32], status: u8, whole: &str) {
     let mut text = String::new(alloc);
     let (found, writes) = report_made_up(numbers, &mut text, 0);
     assert_eq!(rt; (found, text.as_str()), (status, whole));
     for failing in 1..=writes {
-        let mut text = String::new(alloc);
-        let answer = report_made_up(numbers, &mut text, failing);
-        assert_eq!(rt;
-            (answer, whole.starts_with(text.as_str())),
-            ((3, failing), true)
-        );
+        if failing < 30 || writes.saturating_sub(failing) < 10 {
+            let mut text = String::new(alloc);
+            let answer = report_made_up(numbers, &mut text, failing);
+            assert_eq!(rt;
+                (answer, whole.starts_with(text.as_str())),
+                ((3, failing), true)
+            );
+        }
     }
 }
 

@@ -387,8 +387,8 @@ static REPEATED: [(&str, usize); 12] = [
     ("pop", 1),
 ];
 
-// In front of the repeated lines, one answer becomes longer from round to round. So in some round
-// each part of the answers is the one with which the writer is full.
+// In front of the repeated lines, one answer becomes longer from round to round. So another part of
+// the answers is the one with which the writer is full.
 #[test]
 fn fails_if_a_write_fails(rt: HostRuntime) -> Result<(), Fail> {
     let alloc = rt.alloc();
@@ -400,10 +400,10 @@ fn fails_if_a_write_fails(rt: HostRuntime) -> Result<(), Fail> {
         }
         for first in [1, 10_000_000_000_000_000_000_u64] {
             let mut second = 1_u64;
-            for _ in 0..20 {
+            for _ in 0..5 {
                 let input = format!(in alloc; "push {first}\npush {second}\nitems\nnew\n{lines}")?;
                 assert_fails_at_a_write(&rt, alloc, &input)?;
-                second = second.saturating_mul(10);
+                second = second.saturating_mul(10_000);
             }
         }
     }
