@@ -10,30 +10,28 @@ use Rattle.std.specs.Mem.{type_size}
 use Rattle.std.specs.Align.{type_align}
 use Rattle.core.proofs.ptr.Rows.{times_below}
 use Rattle.thin_block.specs.Capacity.{fits, Fits}
-use Rattle.thin_block.specs.Growth.{GrowsValidly, GrowthRule, IsLawful, exact_capacity, checked_capacity, grown_capacity}
+use Rattle.thin_block.specs.Growth.{GrowthRule, IsLawful, IsValidGrowth, exact_capacity, checked_capacity, grown_capacity}
 use Rattle.thin_block.proofs.sizes.SizesLemmas.{opened, closed, fits_none, fits_tells, fits_yes, rounded}
 
-pub ruled-same : (rule : GrowthRule) (R : RattleType) (c w : ℕ) → w ≤ c
-    → grown_capacity rule R c w ≡ Some c
+pub ruled-same : (rule : GrowthRule) (s a c w : ℕ) → w ≤ c → grown_capacity rule s a c w ≡ Some c
 unfolding grown_capacity
-ruled-same rule R c w enough = rw (le-leb w c enough) refl
+ruled-same rule s a c w enough = rw (le-leb w c enough) refl
 
-pub ruled-overflow : (rule : GrowthRule) (R : RattleType) (c w : ℕ) → c < w → 2 ^ 64 ≤ w
-    → grown_capacity rule R c w ≡ None
+pub ruled-overflow : (rule : GrowthRule) (s a c w : ℕ) → c < w → 2 ^ 64 ≤ w
+    → grown_capacity rule s a c w ≡ None
 unfolding grown_capacity
-ruled-overflow rule R c w more high = rw (lt-leb w c more) (rw (le-ltb w (2 ^ 64) high) refl)
+ruled-overflow rule s a c w more high = rw (lt-leb w c more) (rw (le-ltb w (2 ^ 64) high) refl)
 
-pub ruled-rule : (rule : GrowthRule) (R : RattleType) (c w : ℕ) → c < w → w < 2 ^ 64
-    → grown_capacity rule R c w ≡ rule (type_size R) (type_align R) c w
+pub ruled-rule : (rule : GrowthRule) (s a c w : ℕ) → c < w → w < 2 ^ 64
+    → grown_capacity rule s a c w ≡ rule s a c w
 unfolding grown_capacity
-ruled-rule rule R c w more word = rw (lt-leb w c more) (rw (lt-ltb w (2 ^ 64) word) refl)
+ruled-rule rule s a c w more word = rw (lt-leb w c more) (rw (lt-ltb w (2 ^ 64) word) refl)
 
-pub ruled-grows : (rule : GrowthRule) (R : RattleType) (c w n : ℕ) → IsLawful rule → c < w
-    → grown_capacity rule R c w ≡ Some n → GrowsValidly R c w n
-ruled-grows rule R c w n law more e = elim (dec_lt w (2 ^ 64)) [
-  | yes word ↦ law (type_size R) (type_align R) c w n more word
-      (sym (ruled-rule rule R c w more word) ∙ e)
-  | no high ↦ cc (ruled-overflow rule R c w more (omega arith))
+pub ruled-grows : (rule : GrowthRule) (s a c w n : ℕ) → IsLawful rule → c < w
+    → grown_capacity rule s a c w ≡ Some n → IsValidGrowth s a c w n
+ruled-grows rule s a c w n law more e = elim (dec_lt w (2 ^ 64)) [
+  | yes word ↦ law s a c w n more word (sym (ruled-rule rule s a c w more word) ∙ e)
+  | no high ↦ cc (ruled-overflow rule s a c w more (omega arith))
 ]
 
 pub fits-small : (R : RattleType) (c : ℕ) → Fits R c → c < 2 ^ 63
@@ -69,11 +67,12 @@ small_fits R c few small =
     let about = rounded R 0 in
     closed R c (fits_yes R c (omega arith) (omega (arith, about.most)))
 
-pub exact-same : (R : RattleType) (c w : ℕ) → w ≤ c → exact_capacity R c w ≡ Some c
+pub exact-same : (s a c w : ℕ) → w ≤ c → exact_capacity s a c w ≡ Some c
 unfolding exact_capacity
-exact-same R c w enough = rw (le-leb w c enough) refl
+exact-same s a c w enough = rw (le-leb w c enough) refl
 
-pub exact-fits : (R : RattleType) (c w : ℕ) → c < w → Fits R w → exact_capacity R c w ≡ Some w
+pub exact-fits : (R : RattleType) (c w : ℕ) → c < w → Fits R w
+    → exact_capacity (type_size R) (type_align R) c w ≡ Some w
 unfolding exact_capacity checked_capacity
 exact-fits R c w more fit = rw (lt-leb w c more, fit) refl
 
@@ -87,27 +86,19 @@ unfolding checked_capacity
 fitting_none R n never = no_answer (fits (type_size R) (type_align R) n) n never
 
 pub exact-overflow : (R : RattleType) (c w : ℕ) → c < w → (Fits R w → ⊥)
-    → exact_capacity R c w ≡ None
+    → exact_capacity (type_size R) (type_align R) c w ≡ None
 unfolding exact_capacity
 exact-overflow R c w more never = rw (lt-leb w c more) (fitting_none R w never)
 
-pub exact-none : (R : RattleType) (w : ℕ) → (Fits R w → ⊥) → exact_capacity R 0 w ≡ None
+pub exact-none : (R : RattleType) (w : ℕ) → (Fits R w → ⊥)
+    → exact_capacity (type_size R) (type_align R) 0 w ≡ None
 exact-none R zero never = absurd (never (fits-none R))
 exact-none R (suc w) never = exact-overflow R 0 (suc w) (omega arith) never
 
-pub exact-past : (R : RattleType) (c w : ℕ) → c < w → 2 ^ 64 ≤ w → exact_capacity R c w ≡ None
+pub exact-past : (R : RattleType) (c w : ℕ) → c < w → 2 ^ 64 ≤ w
+    → exact_capacity (type_size R) (type_align R) c w ≡ None
 exact-past R c w more high =
     exact-overflow R c w more (λ fit. let small = fits-small R w fit in absurd (omega arith))
-
-module _ (R S : RattleType) (c w : ℕ) (size : type_size R ≡ type_size S)
-    (align : type_align R ≡ type_align S) where
-  pub exact-at : exact_capacity R c w ≡ exact_capacity S c w
-  unfolding exact_capacity checked_capacity
-  exact-at = rw (size, align) refl
-
-  pub ruled-at : (rule : GrowthRule) → grown_capacity rule R c w ≡ grown_capacity rule S c w
-  unfolding grown_capacity
-  ruled-at rule = rw (size, align) refl
 
 pub ruleset ruled = (ruled-same, ruled-overflow, ruled-rule)
 

@@ -69,16 +69,15 @@ pub record FillsPowerOfTwo (s a c : ℕ) : Type 0 where
   pub holds : items_offset a + c * s ≤ power
   pub is_full : power < items_offset a + (c + 1) * s
 
--- `grown_capacity rule R c want` is the capacity of a block for items of the type `R` after
--- reserving room for `want` items in total under the growth rule `rule`. The old capacity is `c`.
--- If the new capacity would be too large, the result is `None`.
-unfoldable pub grown_capacity : GrowthRule → RattleType → ℕ → ℕ → Option ℕ
-grown_capacity rule R c want = if nat_le want c then Some c else
-    (if nat_lt want (2 ^ 64) then rule (type_size R) (type_align R) c want else None)
+-- `grown_capacity rule s a c want` is the capacity of a block for items of size `s` and alignment
+-- `a` after reserving room for `want` items in total under the growth rule `rule`. The old capacity
+-- is `c`. If the new capacity would be too large, the result is `None`.
+unfoldable pub grown_capacity : GrowthRule → ℕ → ℕ → ℕ → ℕ → Option ℕ
+grown_capacity rule s a c want = if nat_le want c then Some c else
+    (if nat_lt want (2 ^ 64) then rule s a c want else None)
 
--- `exact_capacity R c want` is the capacity of a block for items of the type `R` after reserving
--- room for exactly `want` items in total. The old capacity is `c`. If the new block would be too
--- large, the result is `None`.
-unfoldable pub exact_capacity : RattleType → ℕ → ℕ → Option ℕ
-exact_capacity R c want =
-    if nat_le want c then Some c else checked_capacity (type_size R) (type_align R) want
+-- `exact_capacity s a c want` is the capacity of a block for items of size `s` and alignment `a`
+-- after reserving room for exactly `want` items in total. The old capacity is `c`. If the new block
+-- would be too large, the result is `None`.
+unfoldable pub exact_capacity : ℕ → ℕ → ℕ → ℕ → Option ℕ
+exact_capacity s a c want = if nat_le want c then Some c else checked_capacity s a want

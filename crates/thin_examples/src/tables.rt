@@ -2,9 +2,8 @@
 ghost use Rattle.std.specs.FinMap as columns;
 ghost use Rattle.std.specs.Option.{unwrap_or};
 ghost use Rattle.std.specs.Prelude.{◌≡◌, ◌↔◌, ◌+◌, ◌-◌, ◌^◌, ◌<◌, ◌/◌, IfErr, IfOk, IfSome, IsNone, IsOk, IsSome, IsTrue, OnErr, OnOk, Some, length, min, replicate};
-ghost use Rattle.thin_rows.specs.EntryType.{entry_type};
+ghost use Rattle.thin_rows.specs.EntryType.{capacity_after_insert};
 ghost use Rattle.thin_rows.specs.Table.{row_at, value_at, with_empty_row, with_value, without_value};
-ghost use Rattle.thin_vec.specs.Growth.{doubling, grown_capacity};
 ghost use Rattle.thin_vec.specs.List.Capacity.{OverflowsIff, map_cause};
 
 use std::alloc::{AllocError, Allocator, Global};
@@ -84,8 +83,8 @@ pub fn set_or_return<V: Drop, A: Allocator>(
     requires in_bounds { row < length table.old }
     ensures table { OnOk result (table.new ≡ with_value table.old row column value) }
     ensures err { OnErr result (table.new ≡ table.old) }
-    ensures overflow { OnErr result (OverflowsIff (grown_capacity doubling (entry_type V.row)
-        (columns.len (row_at table.old row)) (columns.len (row_at table.old row) + 1))
+    ensures overflow { OnErr result (OverflowsIff
+        (capacity_after_insert V.row (columns.len (row_at table.old row)))
         (map_cause result)) }
     ensures value_returned { IfErr result (λ refused. refused.value ≡ value) }
 {

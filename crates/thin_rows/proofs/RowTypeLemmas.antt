@@ -9,16 +9,15 @@ use Rattle.thin_vec.specs.declared.ThinVecError.TheVariants.{CapacityOverflow}
 use Rattle.thin_vec.specs.List.Capacity.{OverflowsIff, OverflowsIffTooLarge}
 use Rattle.thin_vec.specs.Growth.{GrowthRule, exact_capacity, grown_capacity}
 
-pub exact_of_same : (R S : RattleType) (c w : ℕ) → type_size R ≡ type_size S
-    → type_align R ≡ type_align S → exact_capacity R c w ≡ exact_capacity S c w
-unfolding exact_capacity
-exact_of_same R S c w size align = rw (size, align) refl
+exact_of_same : (R S : RattleType) (c w : ℕ) → type_size R ≡ type_size S
+    → type_align R ≡ type_align S
+    → exact_capacity (type_size R) (type_align R) c w
+    ≡ exact_capacity (type_size S) (type_align S) c w
+exact_of_same R S c w size align = λ i. exact_capacity (size i) (align i) c w
 
-pub ruled_of_same : (rule : GrowthRule) (R S : RattleType) (c d v w : ℕ) → type_size R ≡ type_size S
-    → type_align R ≡ type_align S → c ≡ d → v ≡ w
-    → grown_capacity rule R c v ≡ grown_capacity rule S d w
-unfolding grown_capacity
-ruled_of_same rule R S c d v w size align capacity want = rw (size, align, capacity, want) refl
+pub ruled_of_same : (rule : GrowthRule) (s a : ℕ) {c d v w : ℕ} → c ≡ d → v ≡ w
+    → grown_capacity rule s a c v ≡ grown_capacity rule s a d w
+ruled_of_same rule s a capacity want = λ i. grown_capacity rule s a (capacity i) (want i)
 
 no_error : {X E P : Type 0} {x : X} {e : E} → IsErrOf (Ok x) e → P
 no_error same = cc

@@ -35,9 +35,8 @@ impl<V, A: Allocator> Model for Row<V, A> {
 impl<V, A: Allocator> Row<V, A> {
     ghost use types.Logic.{sem};
     ghost use Rattle.std.specs.Option.{option_copied_mut};
-    ghost use Rattle.thin_vec.specs.Growth.{doubling, grown_capacity};
     ghost use Rattle.thin_vec.specs.List.Capacity.{OverflowsIff, map_cause};
-    ghost use Rattle.thin_rows.specs.EntryType.{entry_type};
+    ghost use Rattle.thin_rows.specs.EntryType.{capacity_after_insert};
     ghost use Rattle.thin_rows.specs.Lends.{LendsColumn, LendsColumnIfSome};
 
     pub(crate) fn new(alloc: A) -> Row<V, A>
@@ -107,8 +106,8 @@ impl<V, A: Allocator> Row<V, A> {
         ensures succeeds { IsSome (map.get self.old column) → IsOk result }
         ensures value { IfOk result (λ old. old ≡ map.get self.old column) }
         ensures entries { OnOk result (self.new ≡ map.insert self.old column value) }
-        ensures overflow { OnErr result (OverflowsIff (grown_capacity doubling (entry_type V.row)
-            (map.len self.old) (map.len self.old + 1)) (map_cause result)) }
+        ensures overflow { OnErr result (OverflowsIff
+            (capacity_after_insert V.row (map.len self.old)) (map_cause result)) }
         ensures err { OnErr result (self.new ≡ self.old) }
         ensures value_returned { IfErr result (λ refused. refused.value ≡ value) }
     {

@@ -62,9 +62,8 @@ impl<V, A: Allocator + Copy> Rows<V, A> {
 impl<V, A: Allocator> Rows<V, A> {
     ghost use types.Logic.{sem};
     ghost use Rattle.std.specs.Option.{option_copied_mut};
-    ghost use Rattle.thin_vec.specs.Growth.{doubling, grown_capacity};
     ghost use Rattle.thin_vec.specs.List.Capacity.{OverflowsIff, map_cause};
-    ghost use Rattle.thin_rows.specs.EntryType.{entry_type};
+    ghost use Rattle.thin_rows.specs.EntryType.{capacity_after_insert};
     ghost use Rattle.thin_rows.specs.Lends.{LendsValue};
 
     /// Returns the number of rows.
@@ -121,8 +120,8 @@ impl<V, A: Allocator> Rows<V, A> {
         ensures succeeds { IsSome (value_at self.old row column) → IsOk result }
 
         // On failure.
-        ensures overflow { OnErr result (OverflowsIff (grown_capacity doubling (entry_type V.row)
-            (columns.len (row_at self.old row)) (columns.len (row_at self.old row) + 1))
+        ensures overflow { OnErr result (OverflowsIff
+            (capacity_after_insert V.row (columns.len (row_at self.old row)))
             (map_cause result)) }
         ensures err { OnErr result (self.new ≡ self.old) }
         ensures value_returned { IfErr result (λ refused. refused.value ≡ value) }

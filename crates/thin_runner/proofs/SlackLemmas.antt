@@ -4,8 +4,8 @@ use Rattle.std.proofs.Common.{◌≡◌, ℕ, ◌+◌, ◌*◌, ◌≤◌, max, 
 use Rattle.std.proofs.lemmas.Bool.{cases_lt}
 use Rattle.std.proofs.lemmas.List.{length_push}
 use Rattle.std.proofs.lemmas.List.Elements.{All-head, All-tail}
-use Rattle.thin_vec.specs.Growth.{IsLawful, GrowthRule, doubling, grown_capacity}
-use Rattle.thin_vec.specs.ThinVec.{ListView}
+use Rattle.thin_vec.specs.Growth.{IsLawful, GrowthRule, doubling}
+use Rattle.thin_vec.specs.ThinVec.{ListView, capacity_after_reserve}
 use Rattle.thin_vec.proofs.CallerLemmas.{doubling-most}
 use Rattle.thin_vec.proofs.ThinVecLemmas.{cap-kept}
 use Rattle.thin_runner.specs.Env.{Env}
@@ -29,13 +29,13 @@ module _ {T A G J : Type 0} (here : Env T A J) (law : IsLawful here.rule)
       → w.capacity ≤ max v.capacity (max 4 (2 * length w.items))
   step-slack v w (Push x) Done only s =
       let want : ℕ = length v.items + 1 in
-      let next : grown_capacity doubling here.R v.capacity want ≡ Some w.capacity =
-      subst (λ (r : GrowthRule). grown_capacity r here.R v.capacity want ≡ Some w.capacity) doubles
+      let next : capacity_after_reserve doubling here.R v 1 ≡ Some w.capacity =
+      subst (λ (r : GrowthRule). capacity_after_reserve r here.R v 1 ≡ Some w.capacity) doubles
       s.1.0 in
       let items : length w.items ≡ want = ap (λ z. length z.items) s.1.1 ∙ length_push v.items x in
       elim (cases_lt v.capacity want) [
         | inl full ↦
-            let most = doubling-most here.R v.capacity want w.capacity full next in
+            let most = doubling-most _ _ v.capacity want w.capacity full next in
             omega (arith, most, items)
         | inr spare ↦
             let same = cap-kept here.rule here.R law v 1 w.capacity spare s.1.0 in

@@ -35,8 +35,8 @@ use Rattle.thin_vec.specs.declared.errors.SpliceRefused.{SpliceRefused}
 pub use Rattle.thin_block.specs.GrowthLaws.{doubling_law}
 
 pub exact-few : (R : RattleType) (n : ℕ) → n < 2 ^ 31 → type_size R < 2 ^ 31
-    → exact_capacity R 0 n ≡ Some n
-exact-few R zero few small = exact-same R 0 0 (omega arith)
+    → exact_capacity (type_size R) (type_align R) 0 n ≡ Some n
+exact-few R zero few small = exact-same _ _ 0 0 (omega arith)
 exact-few R (suc n) few small =
     exact-fits R 0 (suc n) (omega arith) (small_fits R (suc n) few small)
 
@@ -51,7 +51,7 @@ pub few_items : {X : Type 0} (R : RattleType) (n : ℕ) (result : Result X ThinV
     → IfErr result (λ cause. cause ≡ OutOfMemory)
 few_items R n (Ok made) few small told = tt
 few_items R n (Err cause) few small told =
-    cause-named (exact_capacity R 0 n) n cause (exact-few R n few small)
+    cause-named (exact_capacity (type_size R) (type_align R) 0 n) n cause (exact-few R n few small)
     (λ over. told.overflow.0 (ap Err over))
 
 either_few : (b : Bool) (m n : ℕ) → m < 2 ^ 31 → n < 2 ^ 31 → (if b then m else n) < 2 ^ 31
@@ -63,7 +63,7 @@ unfolding min_non_zero_cap
 first_few s = either_few (nat_lt (2 ^ 61 - 1) s) 1 4 (omega arith) (omega arith)
 
 pub doubling-few : (R : RattleType) (c w : ℕ) → w < 2 ^ 30 → type_size R < 2 ^ 31
-    → (n : ℕ) × (grown_capacity doubling R c w ≡ Some n)
+    → (n : ℕ) × (grown_capacity doubling (type_size R) (type_align R) c w ≡ Some n)
 unfolding doubling checked_capacity
 doubling-few R c w few small = elim (cases_lt c w) [
   | inl more ↦ (let s : ℕ = type_size R in
@@ -73,8 +73,8 @@ doubling-few R c w few small = elim (cases_lt c w) [
       let fit : fits s (type_align R) (max w (if c == 0 then min_non_zero_cap s else 2 * c))
       ≡ true =
       small_fits R (max w twice) (omega (arith, less)) small in
-      (max w twice, ruled-rule doubling R c w more (omega arith) ∙ rw fit refl))
-  | inr enough ↦ (c, ruled-same doubling R c w enough)
+      (max w twice, ruled-rule doubling _ _ c w more (omega arith) ∙ rw fit refl))
+  | inr enough ↦ (c, ruled-same doubling _ _ c w enough)
 ]
 
 pub few_more : {X T A : Type 0} (R : RattleType) (k : ℕ) (v w : ListView T A)
@@ -83,7 +83,7 @@ pub few_more : {X T A : Type 0} (R : RattleType) (k : ℕ) (v w : ListView T A)
 few_more R k v w (Ok made) few small told = tt
 few_more R k v w (Err cause) few small told =
     let named = doubling-few R v.capacity (length v.items + k) few small in
-    cause-named (grown_capacity doubling R v.capacity (length v.items + k)) named.0 cause named.1
+    cause-named (capacity_after_reserve doubling R v k) named.0 cause named.1
     (λ over. told.overflow.0 (ap Err over))
 
 module _ {T A X E : Type 0} {rule : GrowthRule} {R : RattleType} {k : ℕ} {v w : ListView T A}
@@ -191,18 +191,17 @@ twice-most : (b : Bool) (s c w : ℕ) → c < w
 twice-most true s c w more = omega (arith, first_most s)
 twice-most false s c w more = omega (arith, more)
 
-pub doubling-most : (R : RattleType) (c w n : ℕ) → c < w → grown_capacity doubling R c w ≡ Some n
+pub doubling-most : (s a c w n : ℕ) → c < w → grown_capacity doubling s a c w ≡ Some n
     → n ≤ max 4 (2 * w)
 unfolding doubling checked_capacity
-doubling-most R c w n more e = elim (cases_lt w (2 ^ 64)) [
-  | inl word ↦ (let s : ℕ = type_size R in
-      let twice : ℕ = if c == 0 then min_non_zero_cap s else 2 * c in
+doubling-most s a c w n more e = elim (cases_lt w (2 ^ 64)) [
+  | inl word ↦ (let twice : ℕ = if c == 0 then min_non_zero_cap s else 2 * c in
       let named : max w twice ≡ n =
-      named-by (fits s (type_align R) (max w twice)) (max w twice) n
-      (sym (ruled-rule doubling R c w more word) ∙ e) in
+      named-by (fits s a (max w twice)) (max w twice) n
+      (sym (ruled-rule doubling _ _ c w more word) ∙ e) in
       let few : twice ≤ max 4 (2 * w) = twice-most (c == 0) s c w more in
       omega (arith, named, few))
-  | inr high ↦ cc (ruled-overflow doubling R c w more high)
+  | inr high ↦ cc (ruled-overflow doubling _ _ c w more high)
 ]
 
 pub refill_all : {T : Type 0} (xs ws : List T) → length ws ≡ length xs

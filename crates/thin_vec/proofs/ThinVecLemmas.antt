@@ -125,7 +125,7 @@ module _ {T A : Type 0} (rule : GrowthRule) (R : RattleType) (law : IsLawful rul
     (v : ListView T A) (k c : ℕ) where
   pub cap-kept : length v.items + k ≤ v.capacity → capacity_after_reserve rule R v k ≡ Some c
       → c ≡ v.capacity
-  cap-kept room e = some-same (sym e ∙ ruled-same rule R v.capacity (length v.items + k) room)
+  cap-kept room e = some-same (sym e ∙ ruled-same rule _ _ v.capacity (length v.items + k) room)
 
   pub cost_after_resize-kept : length v.items + k ≤ v.capacity
       → capacity_after_reserve rule R v k ≡ Some c → cost_after_resize v c ≡ v.cost
@@ -133,7 +133,7 @@ module _ {T A : Type 0} (rule : GrowthRule) (R : RattleType) (law : IsLawful rul
 
   pub cap-grown : v.capacity < length v.items + k → capacity_after_reserve rule R v k ≡ Some c
       → (length v.items + k ≤ c) × (2 * v.capacity ≤ c)
-  cap-grown more e = let g = ruled-grows rule R v.capacity (length v.items + k) c law more e in
+  cap-grown more e = let g = ruled-grows rule _ _ v.capacity (length v.items + k) c law more e in
       (g.enough, g.doubled)
 
   pub cost_after_resize-grown : v.capacity < length v.items + k

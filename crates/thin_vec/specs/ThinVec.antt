@@ -88,12 +88,14 @@ module _ {T A : Type 0} where
   -- the growth rule `rule`, for items of the type `R`. It is `None` if the capacity would be too
   -- large.
   abbrev pub capacity_after_reserve : GrowthRule → RattleType → ListView T A → ℕ → Option ℕ
-  capacity_after_reserve rule R v k = grown_capacity rule R v.capacity (length v.items + k)
+  capacity_after_reserve rule R v k =
+      grown_capacity rule (type_size R) (type_align R) v.capacity (length v.items + k)
 
   -- `capacity_after_reserve_exact R v k` is the capacity of the list `v` after `reserve_exact(k)`,
   -- for items of the type `R`. It is `None` if a block of this capacity would be too large.
   abbrev pub capacity_after_reserve_exact : RattleType → ListView T A → ℕ → Option ℕ
-  capacity_after_reserve_exact R v k = exact_capacity R v.capacity (length v.items + k)
+  capacity_after_reserve_exact R v k =
+      exact_capacity (type_size R) (type_align R) v.capacity (length v.items + k)
 
   -- `cost_after_resize v c` is the recorded cost of the list `v` after its capacity was set to `c`.
   -- If the capacity changes, this counts as one request for memory and a copy of each item.

@@ -1,4 +1,6 @@
 //! The macro `thin_vec!`, which makes a list of its arguments.
+ghost use Rattle.std.specs.Align.{type_align};
+ghost use Rattle.std.specs.Mem.{type_size};
 ghost use Rattle.std.specs.Prelude.{◌≡◌, [], IfOk, IsOk, Some, replicate};
 ghost use Rattle.thin_block.specs.Cost.{add_moves};
 ghost use Rattle.thin_block.specs.Growth.{doubling, grown_capacity};
@@ -83,7 +85,8 @@ pub fn repeated<T: Clone, A: Allocator>(
     ensures items_if_clones_equal { IfOk result (λ list. CloneEquals T.is_clone value
         → list.items ≡ replicate count value) }
     ensures capacity { IfOk result
-        (λ list. grown_capacity doubling T.row 0 count ≡ Some list.capacity) }
+        (λ list. grown_capacity doubling (type_size T.row) (type_align T.row) 0 count
+        ≡ Some list.capacity) }
     ensures cost { IfOk result (λ list. list.cost ≡ add_moves count (cost_of_new list.capacity)) }
     ensures new { IfOk result (IsFreshList T.row alloc) }
 
@@ -91,7 +94,8 @@ pub fn repeated<T: Clone, A: Allocator>(
     ensures succeeds { count ≡ 0 → IsOk result }
 
     // On failure.
-    ensures overflow { OverflowsIff (grown_capacity doubling T.row 0 count) result }
+    ensures overflow { OverflowsIff
+        (grown_capacity doubling (type_size T.row) (type_align T.row) 0 count) result }
 {
     let mut list = ThinVec::new(alloc);
     list.resize(count, value)?;

@@ -1,5 +1,6 @@
 //! Defines the default growth rule `Doubling`, which doubles the capacity.
 ghost use Rattle.std.specs.Prelude.{◌≡◌};
+ghost use Rattle.std.specs.Align.{type_align};
 ghost use Rattle.std.specs.Mem.{type_size};
 ghost use Rattle.thin_block.specs.Capacity.{min_non_zero_cap};
 ghost use Rattle.thin_block.specs.Growth.{doubling, grown_capacity};
@@ -45,7 +46,7 @@ pub fn first_capacity<T>() -> usize
 /// `want` items in total. Returns `cap` if `want <= cap`, and `None` if the new capacity would be
 /// too large.
 pub fn next_capacity<T>(cap: usize, want: usize) -> Option<usize>
-    ensures value { result ≡ grown_capacity doubling T.row cap want }
+    ensures value { result ≡ grown_capacity doubling (type_size T.row) (type_align T.row) cap want }
 {
     if want <= cap {
         return Some(cap);

@@ -14,8 +14,8 @@ use crate::sizes::{HEADER, item_size};
 /// size.
 ///
 /// An allocator that rounds requests up to powers of two wastes less than the size of one item per
-/// block, unless the block has padding, as a large block of items above 16 bytes has. For items of
-/// size 0, the rule is the same as `Doubling`.
+/// block, unless the block has padding. A large block has padding if its items take more than 16
+/// bytes and are aligned to 8 or 16. For items of size 0, the rule is the same as `Doubling`.
 pub struct PowerBytes {}
 
 impl Growth for PowerBytes {

@@ -2,6 +2,8 @@
 -- after each step of `finish`, and how these steps combine.
 use Rattle.std.proofs.Common.{if◌then◌else◌, inl, inr, Option, drop, take, subst, ◌≡◌, ℕ, ◌+◌, ◌-◌, ◌*◌, ◌<◌, ◌≤◌, true, false, eqb, List, [], ◌++◌, ap, arith, length, length-append, refl, sym, ◌∙◌}
 use Rattle.std.proofs.lemmas.List.{length-drop, length-take-le}
+use Rattle.std.specs.Align.{type_align}
+use Rattle.std.specs.Mem.{type_size}
 use Rattle.std.specs.Borrow.{RattleType}
 use Rattle.std.specs.Prelude.{IfErr, IsOk, OnErr, OnOk}
 use Rattle.std.specs.declared.result.Result.{Result}
@@ -180,7 +182,7 @@ module _ {S T A : Type 0} {steps : S → Option T → S → Type 0} {can : S →
         inr (
           length xs + e.0,
           (λ _. omega (arith, p.nearer, within)),
-          (λ i. grown_capacity rule R (sym same i)
+          (λ i. grown_capacity rule (type_size R) (type_align R) (sym same i)
               ((ap (λ n. n + (length xs + e.0)) (length-append v.front v.tail) ∙ want) i)) ∙ e.2,
         )
 

@@ -21,7 +21,7 @@ pub too-many : {T A : Type 0} (rule : GrowthRule) (R : RattleType) (v : ListView
 too-many rule R v k n law bounded never some =
     elim (cases_lt v.capacity (length v.items + k)) [
       | inl more ↦ never-some (capacity_after_reserve rule R v k)
-          (λ c is. let grown = ruled-grows rule R v.capacity (length v.items + k) c law more is in
+          (λ c is. let grown = ruled-grows rule _ _ v.capacity (length v.items + k) c law more is in
           never (fits-less R n c grown.fits (omega (arith, grown.enough, some))))
       | inr spare ↦ absurd
           (never (fits-less R n v.capacity (fits_allocatable R v.capacity bounded.allocatable)

@@ -5,6 +5,8 @@ use Rattle.std.proofs.lemmas.List.{get_or-drop, get_or-take, get_or_append_left,
 use Rattle.std.proofs.lemmas.List.Elements.{All-from_recursion, all_zip_more, length_all_zip, recursion_from_All}
 use Rattle.std.proofs.Math.Seq.{take-append_seam}
 use Rattle.std.specs.List.{AllByRecursion, AllZip}
+use Rattle.std.specs.Align.{type_align}
+use Rattle.std.specs.Mem.{type_size}
 use Rattle.std.specs.Borrow.{RattleType}
 use Rattle.std.specs.Prelude.{All, HoldsAt, replicate, slice_range}
 use lib.ListN.{set}
@@ -69,10 +71,12 @@ module _ {T : Type 0} (clones : T → T → Type 0) where
 
 pub capacity-new : {T A : Type 0} (rule : GrowthRule) (R : RattleType) (v : ListView T A) (a : A)
     (k : ℕ)
-    → IsNew v a → capacity_after_reserve rule R v (k - length v.items) ≡ grown_capacity rule R 0 k
+    → IsNew v a → capacity_after_reserve rule R v (k - length v.items)
+    ≡ grown_capacity rule (type_size R) (type_align R) 0 k
 capacity-new rule R v a k new =
-    ap (λ c. grown_capacity rule R c (length v.items + (k - length v.items))) new.capacity
-    ∙ ap (λ n. grown_capacity rule R 0 n)
+    ap (λ c. grown_capacity rule (type_size R) (type_align R) c
+    (length v.items + (k - length v.items))) new.capacity
+    ∙ ap (λ n. grown_capacity rule (type_size R) (type_align R) 0 n)
     (let e : length v.items + (k - length v.items) ≡ k = omega (arith, ap length new.items) in
     e)
 

@@ -2,6 +2,8 @@
 use Rattle.std.proofs.Common.{true, ◌≡◌, ℕ, ◌+◌, ◌-◌, ◌<◌, ◌≤◌, List, [], ◌∷◌, ◌++◌, inl, inr, length, length-append, Option, None, Some, refl, sym, ap, subst, ◌∙◌, arith, false}
 use Rattle.std.proofs.lemmas.Bool.{cases_lt, false≢true}
 use Rattle.std.proofs.lemmas.List.{map-append}
+use Rattle.std.specs.Align.{type_align}
+use Rattle.std.specs.Mem.{type_size}
 use Rattle.std.specs.Borrow.{RattleType}
 use Rattle.std.proofs.iter.runs.Made.{run, to_end}
 use Rattle.std.specs.Iterator.{Count, Drains, Yields}
@@ -132,7 +134,7 @@ spare-kept v w xs is =
 module _ (rule : GrowthRule) (R : RattleType) (law : IsLawful rule) where
   pub at_least-le : (c d : ℕ) → IsKeptOrGrown rule R c d → c ≤ d
   at_least-le c d (inl e) = omega arith
-  at_least-le c d (inr p) = let g = ruled-grows rule R c p.0 p.1 law p.2 p.3 in
+  at_least-le c d (inr p) = let g = ruled-grows rule _ _ c p.0 p.1 law p.2 p.3 in
       omega (arith, g.doubled, p.4)
 
   pub at_least-join : (c d e : ℕ) → IsKeptOrGrown rule R c d → IsKeptOrGrown rule R d e
@@ -161,13 +163,13 @@ module _ (rule : GrowthRule) (R : RattleType) (law : IsLawful rule) where
   ruled-reserved v d n left room (inl (inl same)) = inr (
     0,
     (λ _. omega arith),
-    ruled-same rule R v.capacity (length v.items + 0) (omega (arith, room)) ∙ ap Some (sym same),
+    ruled-same rule _ _ v.capacity (length v.items + 0) (omega (arith, room)) ∙ ap Some (sym same),
   )
   ruled-reserved v d n left room (inl (inr p)) = inl p
   ruled-reserved v d n left room (inr q) = inr q
 
   pub collected-after : {c d : ℕ} (n h : ℕ) (left : Count) → IsWithinCount h left
-      → exact_capacity R 0 h ≡ Some c → IsKeptOrChosen rule R c d n
+      → exact_capacity (type_size R) (type_align R) 0 h ≡ Some c → IsKeptOrChosen rule R c d n
       → IsCapacityAfterCollect rule R d n left
   collected-after n h left hint e (inl same) = inr (h, hint, e ∙ ap Some (sym same))
   collected-after n h left hint e (inr p) = inl p
@@ -182,11 +184,11 @@ module _ (rule : GrowthRule) (R : RattleType) (law : IsLawful rule) where
       ]
 
 pub exact-new : {T A : Type 0} (R : RattleType) (v : ListView T A) (a : A) (h : ℕ) → IsNew v a
-    → capacity_after_reserve_exact R v h ≡ exact_capacity R 0 h
+    → capacity_after_reserve_exact R v h ≡ exact_capacity (type_size R) (type_align R) 0 h
 exact-new R v a h new =
     let all : length v.items + h ≡ h = omega (arith, ap length new.items) in
-    ap (λ (n : ℕ). exact_capacity R n (length v.items + h)) new.capacity
-    ∙ ap (λ (n : ℕ). exact_capacity R 0 n) all
+    ap (λ (n : ℕ). exact_capacity (type_size R) (type_align R) n (length v.items + h)) new.capacity
+    ∙ ap (λ (n : ℕ). exact_capacity (type_size R) (type_align R) 0 n) all
 
 module _ {T A : Type 0} where
   pub filled-at : (v w : ListView T A) (k : ℕ)

@@ -1,6 +1,8 @@
 -- These lemmas prove that calls satisfy `PreservesList`, `Reserves` and `OverflowsIff`. These three
 -- definitions say how a call may change the capacity of a list, and which error the call returns.
 use Rattle.std.proofs.Common.{◌≡◌, ℕ, ◌+◌, Err, List, None, Ok, Option, Result, Some, ap, arith, inl, inr, length, sym, ◌∙◌}
+use Rattle.std.specs.Align.{type_align}
+use Rattle.std.specs.Mem.{type_size}
 use Rattle.std.specs.Borrow.{RattleType}
 use Rattle.std.specs.Prelude.{◌↔◌, IfErr, IsErrOf}
 use Rattle.thin_block.specs.declared.errors.ThinVecError.{ThinVecError}
@@ -24,7 +26,8 @@ tells-ok x named n is = record {
 }
 
 pub tells-made : {X : Type 0} {x y : X} (R S : RattleType) (m n : ℕ)
-    → exact_capacity R 0 m ≡ exact_capacity S 0 n
+    → exact_capacity (type_size R) (type_align R) 0 m
+    ≡ exact_capacity (type_size S) (type_align S) 0 n
     → OverflowsIffTooLarge R m (let r : Result X ThinVecError = Ok x in r)
     → OverflowsIffTooLarge S n (let r : Result X ThinVecError = Ok y in r)
 tells-made {x = x} {y} R S m n e told = record {
@@ -35,7 +38,8 @@ tells-made {x = x} {y} R S m n e told = record {
 }
 
 pub tells-same : {X : Type 0} {r : Result X ThinVecError} (R S : RattleType) (m n : ℕ)
-    → exact_capacity R 0 m ≡ exact_capacity S 0 n → OverflowsIffTooLarge R m r
+    → exact_capacity (type_size R) (type_align R) 0 m
+    ≡ exact_capacity (type_size S) (type_align S) 0 n → OverflowsIffTooLarge R m r
     → OverflowsIffTooLarge S n r
 tells-same R S m n e told = record {
   overflow = (λ over. sym e ∙ told.overflow.0 over, λ none. told.overflow.1 (e ∙ none));
@@ -106,7 +110,7 @@ module _ {T A : Type 0} (R : RattleType) (v : ListView T A) where
         → Grows rule R k v w (let r : Result X E = Ok x in r)
     grows-room k w room alloc capacity within = record {
       had_room = λ _. capacity;
-      ok = ruled-same rule R v.capacity (length v.items + k) room ∙ ap Some (sym capacity);
+      ok = ruled-same rule _ _ v.capacity (length v.items + k) room ∙ ap Some (sym capacity);
       alloc = alloc;
       never_less = omega (arith, capacity);
       was_room = within.0.room;
@@ -118,7 +122,7 @@ module _ {T A : Type 0} (R : RattleType) (v : ListView T A) where
     pub reserves-room : {X : Type 0} {x : X} (k : ℕ) (w : ListView T A) → HasRoomFor v k
         → w.capacity ≡ v.capacity → Reserves rule R k v w (Ok x)
     reserves-room {x = x} k w room capacity =
-        let named = ruled-same rule R v.capacity (length v.items + k) room
+        let named = ruled-same rule _ _ v.capacity (length v.items + k) room
         ∙ ap Some (sym capacity) in
         record {
           had_room = λ _. capacity;

@@ -16,7 +16,7 @@ use Rattle.thin_vec.specs.ThinVec.{IsListBlock}
 use Rattle.thin_vec.specs.declared.open_block.OpenBlock.TheInside.{Inside}
 use Rattle.thin_vec.proofs.list.InsertRemoveLemmas.{full-append}
 use Rattle.thin_vec.proofs.ListLemmas.{length-empty, length-full, thin-room}
-use Rattle.thin_vec.proofs.OpenBlockLemmas.{Found, at_middle, at_tail, by_tail, empty-more, found, past_after, past_middle, past_tail, reached, slot-in-empty, slot-in-full, to_after, to_middle, to_tail}
+use Rattle.thin_vec.proofs.OpenBlockLemmas.{Found, at_middle, at_tail, by_tail, empty-more, found, past_middle, past_tail, reached, slot-in-empty, slot-in-full, to_tail}
 
 pub set-written : {T : Type 0} (s : List (Option T)) (i : ℕ) (y : Option T) → i < length s
     → set s i y ≡ write_slots i (y ∷ []) s

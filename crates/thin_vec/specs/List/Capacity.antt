@@ -35,7 +35,8 @@ pub record OverflowsIff {X : Type 0} (wanted : Option ℕ) (r : Result X ThinVec
 pub record OverflowsIffTooLarge {X : Type 0} (R : RattleType) (n : ℕ)
     (r : Result X ThinVecError) : Type 0
   where
-    pub overflow : IsErrOf r CapacityOverflow ↔ (exact_capacity R 0 n ≡ None)
+    pub overflow : IsErrOf r CapacityOverflow
+        ↔ (exact_capacity (type_size R) (type_align R) 0 n ≡ None)
 
 -- `MovesAtMost n before after` states that the recorded cost `after` is the cost `before` plus at
 -- most `n` moves. No request was made, and nothing was copied.

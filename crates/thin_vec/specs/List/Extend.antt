@@ -7,7 +7,9 @@ use Rattle.std.specs.Prelude.{◌≡◌, ◌↔◌, ◌⊎◌, ℕ, ◌+◌, ◌
 use Rattle.std.specs.Iterator.{Count, IsFinite, Yields, size}
 use Rattle.std.specs.Iterator.SizeHint.{IsWithinCount}
 use Rattle.std.specs.declared.option.Option.TheVariants.{None, Some}
+use Rattle.std.specs.Align.{type_align}
 use Rattle.std.specs.Borrow.{RattleType}
+use Rattle.std.specs.Mem.{type_size}
 use Rattle.thin_block.specs.declared.errors.ThinVecError.TheVariants.{CapacityOverflow}
 use Rattle.thin_block.specs.Growth.{GrowthRule, exact_capacity, grown_capacity}
 use Rattle.thin_vec.specs.Cheap.{IsCheap}
@@ -33,8 +35,8 @@ pub record YieldsAndCanContinue {S X : Type 0} (steps : S → Option X → S →
 -- capacity `c` must hold `want` items, for some `want` above `c`. The item type is `R`.
 abbrev pub IsKeptOrGrown : GrowthRule → RattleType → ℕ → ℕ → Type 0
 IsKeptOrGrown rule R c d =
-    (d ≡ c) ⊎ ((want : ℕ) × (n : ℕ) × (c < want) × (grown_capacity rule R c want ≡ Some n)
-    × (n ≤ d))
+    (d ≡ c) ⊎ ((want : ℕ) × (n : ℕ) × (c < want)
+    × (grown_capacity rule (type_size R) (type_align R) c want ≡ Some n) × (n ≤ d))
 
 -- `IsChosenByRule rule R d n` says where a new capacity `d` comes from, and so bounds `d` from
 -- above. The growth rule `rule` chooses `d` when a block of some capacity `e` must hold `want`
@@ -45,7 +47,8 @@ IsKeptOrGrown rule R c d =
 -- capacity.
 abbrev pub IsChosenByRule : GrowthRule → RattleType → ℕ → ℕ → Type 0
 IsChosenByRule rule R d n =
-    (e want : ℕ) × (e < want) × (want ≤ n) × (grown_capacity rule R e want ≡ Some d)
+    (e want : ℕ) × (e < want) × (want ≤ n)
+    × (grown_capacity rule (type_size R) (type_align R) e want ≡ Some d)
 
 -- `IsKeptOrChosen rule R c d n` is an upper bound of a new capacity `d`. Either `d` is the old
 -- capacity `c`, or the growth rule `rule` chooses `d` for at most `n` items of the type `R`
@@ -58,7 +61,8 @@ IsKeptOrChosen rule R c d n = (d ≡ c) ⊎ IsChosenByRule rule R d n
 -- and `R` is its item type. At the start, the iterator could yield at most `limit` items.
 abbrev pub IsCapacityAfterCollect : GrowthRule → RattleType → ℕ → ℕ → Count → Type 0
 IsCapacityAfterCollect rule R d n limit =
-    IsChosenByRule rule R d n ⊎ ((h : ℕ) × IsWithinCount h limit × (exact_capacity R 0 h ≡ Some d))
+    IsChosenByRule rule R d n ⊎ ((h : ℕ) × IsWithinCount h limit
+    × (exact_capacity (type_size R) (type_align R) 0 h ≡ Some d))
 
 module _ {T A : Type 0} where
   -- `ExtendsCapacity rule R v w limit` restricts the capacity of the list `w`, which is the list
@@ -162,4 +166,5 @@ module _ {T A : Type 0} where
     -- The call could not allocate a block of capacity `h`, a possible lower bound in the size hint.
     pub by_hint : error.in_hand ≡ None
         → (h : ℕ) × IsWithinCount h limit × (0 < h)
-        × ((error.cause ≡ CapacityOverflow) ↔ (exact_capacity R 0 h ≡ None))
+        × ((error.cause ≡ CapacityOverflow)
+        ↔ (exact_capacity (type_size R) (type_align R) 0 h ≡ None))

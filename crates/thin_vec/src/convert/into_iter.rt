@@ -68,8 +68,8 @@ impl<T: Drop, A: Allocator, G: Growth> IntoIterator for ThinVec<T, A, G> {
 
     type IntoIter = IntoIter<T, A, G>;
 
-    ghost into_iter_gives = { λ list it. (it ≡ list) × (length it.items < 2 ^ 64)
-        × IntoIterYieldsInOrder T A × IntoIterYieldsInReverse T A };
+    ghost into_iter_gives = { λ list it. (it.items ≡ list.items) × (it ≡ list)
+        × (length it.items < 2 ^ 64) × IntoIterYieldsInOrder T A × IntoIterYieldsInReverse T A };
 
     fn into_iter(self) -> IntoIter<T, A, G> {
         ThinVec::into_iter(self)

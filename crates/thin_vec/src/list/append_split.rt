@@ -11,8 +11,8 @@ use thin_block::{Growth, ThinVecError};
 impl<T, A: Allocator, G: Growth> ThinVec<T, A, G> {
     ghost use Rattle.thin_vec.specs.ThinVec.{HasRoomFor, IsBounded, cost_of_new};
 
-    /// Moves all items of `other` to the end of this list, in order. After the call, `other` is
-    /// empty, and keeps its capacity.
+    /// Moves all items of `other` to the end of this list, in order. On success, `other` is empty,
+    /// and keeps its capacity. On failure, neither list changes.
     ///
     /// # Errors
     ///

@@ -70,8 +70,7 @@ returns-in-Err-insert-clause-overflow g c =
       | inl few ↦ omega (arith, few, many, c.insert.ensures.grows.was_room)
       | inr spare ↦ absurd (false≢true (c.in-Err-insert.ensures.succeeds spare))
     ] in
-    failure_tells (ruled_of_same doubling _ _ (len c.args.self.now) row.capacity
-    (len c.args.self.now + 1) (length row.items + 1) refl refl full (ap (λ k. k + 1) many))
+    failure_tells (ruled_of_same doubling _ _ full (ap (λ k. k + 1) many))
     c.in-Err-insert.ensures.cause.1
 
 pub returns-in_default-clause-value : goal.returns-in_default-clause-value

@@ -4,9 +4,8 @@ use Rattle.std.proofs.lemmas.List.{set-get_or}
 use Rattle.std.proofs.lemmas.Option.{get_or_from_slice_get}
 use denote.Param.{param}
 use Rattle.std.specs.FinMap as map
-use Rattle.thin_vec.specs.Growth.{doubling, grown_capacity}
 use Rattle.thin_vec.specs.List.Capacity.{OverflowsIff, map_cause}
-use Rattle.thin_rows.specs.EntryType.{entry_type}
+use Rattle.thin_rows.specs.EntryType.{capacity_after_insert}
 use Rattle.thin_rows.specs.Table.{row_at}
 use Rattle.thin_rows.proofs.table.Rows.set.Goals as goal
 
@@ -29,6 +28,6 @@ returns-clause-overflow g c =
     get_or_from_slice_get table c.args.row c.index_mut.result.now map.empty
     c.index_mut.ensures.found in
     rw (← c.self.view_is)
-    (subst (λ row. OnErr c.set.result (OverflowsIff (grown_capacity doubling
-    (entry_type (param 0 g.row.V)) (map.len row) (map.len row + 1)) (map_cause c.set.result)))
+    (subst (λ row. OnErr c.set.result (OverflowsIff
+    (capacity_after_insert (param 0 g.row.V) (map.len row)) (map_cause c.set.result)))
     (sym there) c.set.ensures.overflow)

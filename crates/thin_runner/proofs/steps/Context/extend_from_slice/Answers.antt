@@ -1,6 +1,7 @@
 -- The slice that is passed to `extend_from_slice` contains all items of the vector that the command
 -- holds.
 use Rattle.std.proofs.Common.{Err, ap, arith, length}
+use denote.Param.{param}
 use Rattle.thin_vec.specs.ThinVec.{HasRoomFor}
 use Rattle.thin_runner.proofs.CommandLemmas.{refuses-clone, some-items}
 use Rattle.thin_runner.proofs.steps.Context.extend_from_slice.Goals as goal
@@ -9,7 +10,7 @@ pub returns : goal.returns
 returns g c =
     let e = c.in-Err.ensures in
     let same = c.as_slice.ensures.value in
-    let stopped = refuses-clone g.G.Growth.rule _ _ e.grows.alloc e.err in
+    let stopped = refuses-clone g.G.Growth.rule (param 0 g.row.T) _ e.grows.alloc e.err in
     let overflow = rw same at e.overflow.overflow in
     let succeeds = rw same at e.succeeds in
     record {

@@ -22,6 +22,8 @@ returns g c =
         λ w _. record {
           items = ap (λ l. set l i w) put ∙ set_at (take i xs) v (drop i xs) w i at;
           capacity = c.in_ok-insert.ensures.grows.ok;
+          had_room = c.insert.ensures.grows.had_room;
+          never_less = c.insert.ensures.grows.never_less;
           alloc = c.insert.ensures.grows.alloc;
           cost = c.in_ok-insert.ensures.cost;
           cheap = grows-cheap g.met.G.Growth.law _ _ c.insert.ensures.grows c.insert.ensures.cost

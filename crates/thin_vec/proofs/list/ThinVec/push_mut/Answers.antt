@@ -22,6 +22,8 @@ returns g c =
         λ w _. record {
           items = ap (λ l. set l i w) put ∙ set_at xs v [] w i at;
           capacity = c.in_ok-push.ensures.grows.ok;
+          had_room = c.push.ensures.grows.had_room;
+          never_less = c.push.ensures.grows.never_less;
           alloc = c.push.ensures.grows.alloc;
           cost = c.in_ok-push.ensures.cost;
           cheap = grows-cheap g.met.G.Growth.law _ _ c.push.ensures.grows c.push.ensures.cost

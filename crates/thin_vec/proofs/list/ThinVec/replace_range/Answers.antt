@@ -1,5 +1,5 @@
 -- There are as many clones as items.
-use Rattle.std.proofs.Common.{◌≡◌, ◌-◌, None, Some, ap, arith, length, refl, subst, sym, ◌∙◌}
+use Rattle.std.proofs.Common.{◌≡◌, ◌-◌, Some, ap, arith, length, refl, subst, sym, ◌∙◌}
 use Rattle.std.proofs.lemmas.List.Elements.{length_all_zip}
 use Rattle.std.specs.Prelude.{OnOk}
 use denote.Param.{param}

@@ -1,17 +1,13 @@
 -- `write_all` calls `reserve_run`. The contracts of both functions name the same capacity, because
 -- the item type has the size and the alignment of `u8`.
-use Rattle.std.proofs.Common.{◌+◌, ◌∙◌, Some, ap, length, refl, sym}
-use Rattle.std.specs.Borrow.{u8}
-use Rattle.thin_block.proofs.CapacityLemmas.{ruled-at}
+use Rattle.std.proofs.Common.{◌∙◌, Some, ap, sym}
 use Rattle.thin_block.proofs.ResultLemmas.{none-some}
 use Rattle.thin_vec.proofs.write.ThinVecU8Write.write_all.Goals as goal
 
 pub returns-clause-capacity : goal.returns-clause-capacity
 returns-clause-capacity g c =
-    ruled-at u8 _ c.args.self.now.capacity (length c.args.self.now.items + length c.args.buf.now)
-    refl refl g.G.Growth.rule
-    ∙ (c.in-Ok.ensures.capacity.ok
-    ∙ ap (λ n. Some n) (sym c.extend_from_copies_reserved.ensures.capacity))
+    c.in-Ok.ensures.capacity.ok
+    ∙ ap (λ n. Some n) (sym c.extend_from_copies_reserved.ensures.capacity)
 
 pub returns-clause-overflow : goal.returns-clause-overflow
 returns-clause-overflow g c = λ none. absurd (none-some none (returns-clause-capacity g c))

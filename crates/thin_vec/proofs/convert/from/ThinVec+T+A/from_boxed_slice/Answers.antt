@@ -1,6 +1,5 @@
 -- `from_boxed_slice` requests a block for exactly the items of the boxed slice.
 use Rattle.std.proofs.Common.{arith, ◌∙◌, ap}
-use denote.Param.{param}
 use Rattle.thin_block.specs.Growth.{exact_capacity}
 use Rattle.thin_vec.proofs.list.ReservesLemmas.{tells-made, tells-same}
 use Rattle.thin_vec.proofs.convert.from.ThinVec+T+A.from_boxed_slice.Goals as goal
@@ -8,13 +7,13 @@ use Rattle.thin_vec.proofs.convert.from.ThinVec+T+A.from_boxed_slice.Goals as go
 pub returns-in-Err-clause-overflow : goal.returns-in-Err-clause-overflow
 returns-in-Err-clause-overflow g c =
     tells-same _ _ _ _
-    (ap (λ n. exact_capacity (param 0 g.row.T) 0 n) (c.len.ensures ∙ c.args.items.items.ok.0))
+    (ap (λ n. exact_capacity _ _ 0 n) (c.len.ensures ∙ c.args.items.items.ok.0))
     c.in-Err.ensures.overflow
 
 pub returns-in-Ok-clause-overflow : goal.returns-in-Ok-clause-overflow
 returns-in-Ok-clause-overflow g c =
     tells-made _ _ _ _
-    (ap (λ n. exact_capacity (param 0 g.row.T) 0 n) (c.len.ensures ∙ c.args.items.items.ok.0))
+    (ap (λ n. exact_capacity _ _ 0 n) (c.len.ensures ∙ c.args.items.items.ok.0))
     c.in-Ok.ensures.overflow
 
 pub returns-in-Ok-clause-capacity : goal.returns-in-Ok-clause-capacity

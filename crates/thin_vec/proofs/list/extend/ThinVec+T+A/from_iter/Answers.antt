@@ -33,7 +33,7 @@ collected g c =
           ∙ c.new-list.ensures.new.capacity);
       ruled = collected-after doubling (param 0 g.row.T) doubling_law _ _ _
           c.size_hint.ensures.lower
-          (sym (exact-new _ _ _ _ c.new-list.ensures.new) ∙ c.in-Ok.ensures.capacity) e.capacity;
+          (sym (exact-new (param 0 g.row.T) _ _ _ c.new-list.ensures.new) ∙ c.in-Ok.ensures.capacity) e.capacity;
       moves = search (arith, ◌∙◌);
       requests = omega (
         arith,
@@ -59,7 +59,7 @@ returns-in-Err-extend_unhinted-clause-err g c =
 pub returns-in-Err-clause-err : goal.returns-in-Err-clause-err
 returns-in-Err-clause-err g c =
     let none = ap (λ v. v.capacity) c.in-Err.ensures.err ∙ c.new-list.ensures.new.capacity in
-    let least = exact-same (param 0 g.row.T) 0 0 (omega arith) in
+    let least = exact-same _ _ 0 0 (omega arith) in
     record {
       none = λ _. none;
       ruled = inr (0, (λ _. omega arith), least ∙ ap Some (sym none));
