@@ -108,12 +108,12 @@ impl Dice {
         Ok(steps)
     }
 
-    // Returns new items.
+    // Returns new items, perhaps none, in a vector that may have a block even then.
     fn items<T: Numbered>(
         &mut self,
         ledger: &'static Ledger,
     ) -> Result<Vec<T, Lender>, AllocError> {
-        let mut items = Vec::new(&ledger.alloc);
+        let mut items = Vec::with_capacity(&ledger.alloc, self.below(3))?;
         for number in 0..self.size() {
             put(&mut items, T::numbered(ledger, number as u64 / 2))?;
         }
