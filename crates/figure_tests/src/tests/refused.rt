@@ -1,7 +1,7 @@
 //! Tests of calls of which a clone or the one request for memory is refused.
 use crate::tests::support::assert_same;
 use std::alloc::Global;
-use std::io::{ErrorKind, Write};
+use std::io::{ErrorKind, IoSlice, Write};
 use std::process::Abort;
 use std::test::Fail;
 use thin_testing::{Counted, Ledger, Refusing, counted_list, list_of};
@@ -95,4 +95,14 @@ fn assert_write_refused(rt: &impl Abort, alloc: Global, bytes: &[u8]) -> Result<
 fn write_fails_with_the_kind_out_of_memory(rt: HostRuntime) -> Result<(), Fail> {
     assert_write_refused(&rt, rt.alloc(), &[])?;
     assert_write_refused(&rt, rt.alloc(), &[1, 2])
+}
+
+#[test]
+fn write_macro_and_write_vectored_append_their_bytes(rt: HostRuntime) -> Result<(), Fail> {
+    let mut list: ThinVec<u8> = ThinVec::new(rt.alloc());
+    write!(list, "{}-{:?}", 7, "x")?;
+    let slices = [IoSlice::new(b"ab"), IoSlice::new(b""), IoSlice::new(b"cd")];
+    assert_same(&rt, list.write_vectored(&slices)?, 4);
+    assert_same(&rt, list.as_slice() == b"7-\"x\"abcd".as_slice(), true);
+    Ok(())
 }
