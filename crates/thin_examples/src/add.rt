@@ -177,7 +177,6 @@ pub fn push_set<A: Allocator, G: Growth>(
 ///
 /// Fails only if the allocator fails: by the lemma `few_more`, the capacity of so short a list
 /// cannot overflow. On failure, the list is unchanged.
-#[tactic(auto, using(thin_vec::proofs::CallerLemmas::few_more))]
 pub fn reserve_eight<A: Allocator>(list: &mut ThinVec<u64, A>) -> Result<(), ThinVecError>
     requires few { length list.old.items < 1000 }
     ensures room { OnOk result (HasRoomFor list.new 8) }
