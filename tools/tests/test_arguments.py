@@ -67,6 +67,7 @@ class Arguments(ToolTest):
             ("evidence", (), "tools/mutants.d", "there is no folder tools/mutants.d"),
             ("index", ("--check",), "crates/bench/src", "there is no folder crates/bench/src"),
             ("mutants", ("--check",), "tools/mutants.d", "there is no folder tools/mutants.d"),
+            ("mutants", ("--check",), "crates", "crates: No such file or directory"),
             ("pages", (), "crates/thin_examples", "no folder crates/thin_examples/src"),
             ("reference", (), "crates/thin_rows/src", "there is no folder crates/thin_rows/src"),
             (
