@@ -54,8 +54,8 @@ impl<T: Drop, A: Allocator, G: Growth> ThinVec<T, A, G> {
     ///
     /// Until the iterator is dropped, the list is empty and has capacity 0. Dropping the iterator
     /// drops the items that were not yielded, and returns the items outside the range to the list,
-    /// in the same allocation. If the iterator is leaked, the list stays empty, and the items that
-    /// were not yielded are leaked.
+    /// in the same allocation. If the iterator is leaked, the list stays empty, and the allocation
+    /// is leaked with all items in it, also those outside the range.
     #[tactic(auto, unfolding(crate::specs::Edits::Drain::left_by_drain))]
     pub fn drain(&mut self, start: usize, end: usize) -> Drain<'_, T, A, G>
         requires start_le_end { start ≤ end }

@@ -55,7 +55,11 @@ impl<T, A: Allocator, G: Growth> ThinVec<T, A, G> {
     ///
     /// # Errors
     ///
-    /// Fails only if there is not enough room. The possible causes are those of `reserve`.
+    /// Fails only if there is not enough room.
+    ///
+    /// - `CapacityOverflow`: the new capacity would exceed `isize::MAX`, or its block would take
+    ///   more than `isize::MAX` bytes.
+    /// - `OutOfMemory`: the allocator failed.
     #[tactic(auto, using(thin_block::proofs::CapacityLemmas::exact))]
     pub fn reserve_exact(&mut self, additional: usize) -> Result<(), ThinVecError>
         // On success.
