@@ -66,6 +66,22 @@ class Audit(ToolTest):
             self.assertIn(f"  + {crate}/src/lib.rt: use std::{{ mem, io, }};\n", said)
             self.assertIn(f"  + {crate}/src/lib.rt:planted: mem::swap(1);\n", said)
 
+    def test_lines_that_write_to_an_item(self):
+        top = self.copy("mutants.d", "docs")
+        path = top / "crates" / "thin_vec" / "src" / "lib.rt"
+        planted = {
+            "lent": ("swap(&mut list[len], at);", "for place in &mut *self {", "self[at].set(1);"),
+            "exchanged": ("self[index] = value;", "list[starts[at]] = item;"),
+        }
+        lines = "".join(f"    {line}\n" for some in planted.values() for line in some)
+        text = f"{path.read_text(encoding='utf-8')}\nfn planted() {{\n{lines}}}\n"
+        path.write_text(text, encoding="utf-8")
+        for name, some in planted.items():
+            said = self.finds("audit", "--only", name, top=top)
+            self.assertIn(f"{len(some)} new, 0 gone", said)
+            for line in some:
+                self.assertIn(f"  + thin_vec/src/lib.rt:planted: {line}\n", said)
+
     def test_no_file_of_expected_lines(self):
         top = self.copy("mutants.d", "proofs", "specs")
         path = top / "tools" / "audit.expected"

@@ -1,12 +1,11 @@
-//! Tests of what no contract states of a list that another call edits: one that `collect` or
-//! `extend` drains, one whose `Drain` or `ExtractIf` is forgotten, and one over which a loop
-//! iterates.
+//! Tests of what no contract states of a list that another call edits: one whose `Drain` or
+//! `ExtractIf` is passed to a call or forgotten, and one over which a loop iterates.
 use crate::tests::support::{assert_items, assert_len, assert_list, assert_same};
 use std::mem;
 use std::process::Abort;
 use std::test::Fail;
-use thin_testing::list_of;
-use thin_vec::ThinVec;
+use thin_testing::{Refusing, list_of};
+use thin_vec::{ExtendRefused, ThinVec};
 
 #[test]
 fn collect_removes_the_drained_items(rt: HostRuntime) -> Result<(), Fail> {
@@ -30,6 +29,47 @@ fn extend_removes_the_drained_items(rt: HostRuntime) -> Result<(), Fail> {
     other.extend(list.drain(1, 3))?;
     assert_items(&rt, &list, &[1, 4]);
     assert_items(&rt, &other, &[9, 2, 3]);
+    Ok(())
+}
+
+#[test]
+fn from_iter_removes_the_drained_items(rt: HostRuntime) -> Result<(), Fail> {
+    let mut list = list_of(rt.alloc(), &[1, 2, 3, 4])?;
+    assert_len(&rt, &list, 4);
+    let made = ThinVec::from_iter(rt.alloc(), list.drain(1, 3))?;
+    assert_items(&rt, &list, &[1, 4]);
+    assert_items(&rt, &made, &[2, 3]);
+    Ok(())
+}
+
+#[test]
+fn extend_and_from_iter_remove_the_extracted_items(rt: HostRuntime) -> Result<(), Fail> {
+    let mut list = list_of(rt.alloc(), &[1, 2, 3, 4, 5, 6])?;
+    assert_len(&rt, &list, 6);
+    let mut other = list_of(rt.alloc(), &[9])?;
+    other.extend(list.extract_if(1, 5, |x: &mut i32| *x % 2 == 0))?;
+    assert_items(&rt, &list, &[1, 3, 5, 6]);
+    assert_items(&rt, &other, &[9, 2, 4]);
+    assert_len(&rt, &list, 4);
+    let made = ThinVec::from_iter(rt.alloc(), list.extract_if(0, 4, |x: &mut i32| *x > 4))?;
+    assert_items(&rt, &list, &[1, 3]);
+    assert_items(&rt, &made, &[5, 6]);
+    Ok(())
+}
+
+#[test]
+fn a_refused_extend_leaves_what_was_not_extracted(rt: HostRuntime) -> Result<(), Fail> {
+    let mut list = list_of(rt.alloc(), &[1, 2, 3, 4])?;
+    assert_len(&rt, &list, 4);
+    let mut other = ThinVec::new(Refusing::leaked(rt.alloc(), 1)?);
+    let refused = other
+        .extend(list.extract_if(0, 4, |x: &mut i32| *x % 2 == 0))
+        .err()
+        .ok_or("extended")?;
+    let ExtendRefused { in_hand, rest, .. } = refused;
+    drop(rest);
+    assert_same(&rt, in_hand, Some(2));
+    assert_items(&rt, &list, &[1, 3, 4]);
     Ok(())
 }
 
@@ -94,5 +134,16 @@ fn a_loop_writes_to_each_item(rt: HostRuntime) -> Result<(), Fail> {
         *item = item.saturating_add(1);
     }
     assert_items(&rt, &list, &[2, 3, 4]);
+    Ok(())
+}
+
+#[test]
+fn a_loop_over_extracted_items_removes_them(rt: HostRuntime) -> Result<(), Fail> {
+    let mut list = list_of(rt.alloc(), &[1, 2, 3])?;
+    assert_len(&rt, &list, 3);
+    for item in list.extract_if(0, 3, |x: &mut i32| *x == 2) {
+        assert_same(&rt, item, 2);
+    }
+    assert_items(&rt, &list, &[1, 3]);
     Ok(())
 }
