@@ -129,3 +129,36 @@ fn retain_mut_numbers_the_items(rt: HostRuntime) -> Result<(), Fail> {
     assert_same(&rt, number, 4);
     Ok(())
 }
+
+#[test]
+fn closures_count_their_calls_in_a_variable(rt: HostRuntime) -> Result<(), Fail> {
+    let mut list = list_of(rt.alloc(), &[1, 2, 2, 3])?;
+    let mut calls: u32 = 0;
+    list.retain(|item| {
+        calls = calls.wrapping_add(1);
+        *item < 9
+    });
+    assert_same(&rt, calls, 4);
+    list.dedup_by(|later, kept| {
+        calls = calls.wrapping_add(1);
+        *later == *kept
+    });
+    assert_same(&rt, calls, 7);
+    list.dedup_by_key(|item| {
+        calls = calls.wrapping_add(1);
+        *item
+    });
+    assert_same(&rt, calls, 11);
+    let last = list.pop_if(|item| {
+        calls = calls.wrapping_add(1);
+        *item == 3
+    });
+    assert_same(&rt, (last, calls), (Some(3), 12));
+    list.resize_with(4, || {
+        calls = calls.wrapping_add(1);
+        9
+    })?;
+    assert_same(&rt, calls, 14);
+    assert_items(&rt, &list, &[1, 2, 9, 9]);
+    Ok(())
+}

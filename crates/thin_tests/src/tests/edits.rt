@@ -5,7 +5,7 @@ use std::mem;
 use std::process::Abort;
 use std::test::Fail;
 use thin_testing::{Refusing, list_of};
-use thin_vec::{ExtendRefused, ThinVec};
+use thin_vec::ThinVec;
 
 #[test]
 fn collect_removes_the_drained_items(rt: HostRuntime) -> Result<(), Fail> {
@@ -18,6 +18,22 @@ fn collect_removes_the_drained_items(rt: HostRuntime) -> Result<(), Fail> {
     let back: Vec<i32> = list.drain(0, 2).rev().collect(rt.alloc())?;
     assert_items(&rt, &back, &[4, 1]);
     assert_items(&rt, &list, &[5, 6]);
+    assert_len(&rt, &list, 2);
+    let last: ThinVec<i32> = list.drain(1, 2).collect(rt.alloc())?;
+    assert_items(&rt, &last, &[6]);
+    assert_items(&rt, &list, &[5]);
+    Ok(())
+}
+
+#[test]
+fn collect_removes_the_extracted_items(rt: HostRuntime) -> Result<(), Fail> {
+    let mut list = list_of(rt.alloc(), &[1, 2, 3, 4])?;
+    assert_len(&rt, &list, 4);
+    let even: ThinVec<i32> = list
+        .extract_if(0, 4, |x: &mut i32| *x % 2 == 0)
+        .collect(rt.alloc())?;
+    assert_items(&rt, &even, &[2, 4]);
+    assert_items(&rt, &list, &[1, 3]);
     Ok(())
 }
 
@@ -58,16 +74,25 @@ fn extend_and_from_iter_remove_the_extracted_items(rt: HostRuntime) -> Result<()
 }
 
 #[test]
+fn a_refused_extend_removes_the_drained_items(rt: HostRuntime) -> Result<(), Fail> {
+    let mut list = list_of(rt.alloc(), &[1, 2, 3, 4])?;
+    assert_len(&rt, &list, 4);
+    let mut other = ThinVec::new(Refusing::leaked(rt.alloc(), 1)?);
+    let refused = other.extend(list.drain(1, 3)).is_err();
+    assert_same(&rt, (refused, other.len()), (true, 0));
+    assert_items(&rt, &list, &[1, 4]);
+    Ok(())
+}
+
+#[test]
 fn a_refused_extend_leaves_what_was_not_extracted(rt: HostRuntime) -> Result<(), Fail> {
     let mut list = list_of(rt.alloc(), &[1, 2, 3, 4])?;
     assert_len(&rt, &list, 4);
     let mut other = ThinVec::new(Refusing::leaked(rt.alloc(), 1)?);
-    let refused = other
-        .extend(list.extract_if(0, 4, |x: &mut i32| *x % 2 == 0))
-        .err()
-        .ok_or("extended")?;
-    let ExtendRefused { in_hand, rest, .. } = refused;
-    drop(rest);
+    let in_hand = match other.extend(list.extract_if(0, 4, |x: &mut i32| *x % 2 == 0)) {
+        Ok(()) => None,
+        Err(refused) => refused.in_hand,
+    };
     assert_same(&rt, in_hand, Some(2));
     assert_items(&rt, &list, &[1, 3, 4]);
     Ok(())
