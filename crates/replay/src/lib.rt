@@ -36,8 +36,8 @@ pub fn exit_code(rt: &impl Eprint, answered: Result<(), ReplayError>) -> ExitCod
     }
 }
 
-/// Reads all lines of `input`, and then carries out the commands in order, and writes the answers to
-/// `out`.
+/// Reads all lines of `input`, and then carries out the commands in order, and writes the answers
+/// to `out`.
 ///
 /// # Errors
 ///

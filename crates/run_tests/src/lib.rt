@@ -1,6 +1,9 @@
 //! Tests of commands: what `run` and `step` answer and leave if a request is refused, and after
-//! each number of steps over a range. Tables in the tests state the replies as texts.
+//! each number of steps over a range. Tables in the tests state the replies as texts. `sweep` has
+//! random commands, and long lists of commands.
 #![tactic(auto)]
 
+#[cfg(test)]
+mod sweep;
 #[cfg(test)]
 mod tests;

@@ -1,7 +1,7 @@
 //! One file for each topic, and files for what they share: judges, lists and commands, and texts.
 mod commands;
 mod given_up;
-mod judges;
-mod made;
+pub mod judges;
+pub mod made;
 mod shown;
 mod worked;

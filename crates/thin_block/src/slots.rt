@@ -140,7 +140,8 @@ impl<T: Copy, A: Allocator> Block<T, A> {
         } }
     {
         let at = self.at;
-        // `copy_nonoverlapping` would move the items out of the borrowed slice; `Slots` copies them.
+        // `copy_nonoverlapping` would move the items out of the borrowed slice; `Slots` copies
+        // them.
         unsafe {
             let room = Slots::from_raw_parts((at.add(HEADER_WORDS) as *mut T).add(i), items.len());
             let _copied = fill_from(room, items).into_raw_parts();

@@ -133,8 +133,8 @@ pub fn extend_below<A: Allocator, G: Growth>(
     }
 }
 
-/// Appends the items of `numbers`, and returns how many were appended, also if there was no room for
-/// all of them. The old items are kept.
+/// Appends the items of `numbers`, and returns how many were appended, also if there was no room
+/// for all of them. The old items are kept.
 pub fn extend_by_number<A: Allocator, G: Growth>(
     list: &mut ThinVec<u32, A, G>,
     numbers: &[u32],

@@ -82,9 +82,9 @@ pub fn halves<A: Allocator>(alloc: A, numbers: &[u32]) -> Option<ThinVec<u32, A>
     }
 }
 
-/// Collects what `iter` yields. The capacity is a lower bound that its size hint may have, or one that
-/// the growth rule chooses. If memory ends, nothing is lost: `result.0` has the items for which there
-/// was room, `result.1` is the item that came next, and `result.2` yields all others.
+/// Collects what `iter` yields. The capacity is a lower bound that its size hint may have, or one
+/// that the growth rule chooses. If memory ends, nothing is lost: `result.0` has the items for
+/// which there was room, `result.1` is the item that came next, and `result.2` yields all others.
 pub fn collect_or_keep<T, A: Allocator, I: Iterator<Item = T>>(
     alloc: A,
     iter: I,

@@ -99,8 +99,8 @@ pub trait Source<T: Drop> {
     fn item(alloc: Global, number: usize) -> Result<T, AllocError>;
 }
 
-/// A `Source` that makes the items 0, 1, 2 and so on. A number is truncated to the width of the item
-/// type. Each word of a `Wide` has the same number, and all strings have the same text.
+/// A `Source` that makes the items 0, 1, 2 and so on. A number is truncated to the width of the
+/// item type. Each word of a `Wide` has the same number, and all strings have the same text.
 pub struct InTurn;
 
 impl Source<u8> for InTurn {

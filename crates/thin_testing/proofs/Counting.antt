@@ -30,11 +30,11 @@ module _ {M : Type 1} {𝓤 : Ura M} (𝓛 : Logic 𝓤) (at_mem : Memory → SP
   abbrev pub Returned : Contract 𝓤
   Returned = triple_of 𝓛 RE.signature (RE.spec 𝓛 at_mem run)
 
-  -- `at_granted κ q c k n y v` contains the ghost arguments for a call to `granted`. Ghost arguments
-  -- exist only in the proof. Here, `κ` is the lifetime of the shared reference to the counts, `c`
-  -- is the address of the counts, and `k` is their value. `n` is the size of the block, `y` is the
-  -- answer of the inner allocator, and `v` is the machine value of this answer. The caller has a
-  -- share `q` of a token, which proves that `κ` has not ended.
+  -- `at_granted κ q c k n y v` contains the ghost arguments for a call to `granted`. Ghost
+  -- arguments exist only in the proof. Here, `κ` is the lifetime of the shared reference to the
+  -- counts, `c` is the address of the counts, and `k` is their value. `n` is the size of the block,
+  -- `y` is the answer of the inner allocator, and `v` is the machine value of this answer. The
+  -- caller has a share `q` of a token, which proves that `κ` has not ended.
   abbrev pub at_granted : Lft → Share → ℕ × ℕ → Row.Denot → ℕ → Answer.Denot → Val → Granted.Ghost
   at_granted κ q c k n y v = (
     (
@@ -48,9 +48,9 @@ module _ {M : Type 1} {𝓤 : Ura M} (𝓛 : Logic 𝓤) (at_mem : Memory → SP
   )
 
   -- `at_returned κ q c k n` contains the ghost arguments for a call to `returned`. Ghost arguments
-  -- exist only in the proof. The call passes a shared reference to the counts, and the size `n` of a
-  -- block. Here, `κ` is the lifetime of the reference, `c` is the address of the counts, and `k` is
-  -- their value. The caller has a share `q` of a token, which proves that `κ` has not ended.
+  -- exist only in the proof. The call passes a shared reference to the counts, and the size `n` of
+  -- a block. Here, `κ` is the lifetime of the reference, `c` is the address of the counts, and `k`
+  -- is their value. The caller has a share `q` of a token, which proves that `κ` has not ended.
   abbrev pub at_returned : Lft → Share → ℕ × ℕ → Row.Denot → ℕ → Returned.Ghost
   at_returned κ q c k n = (
     (

@@ -27,7 +27,8 @@ pub struct At {
 }
 
 impl At {
-    /// Returns a random case of lists of `T`: the length, the spare capacity, and what `Case` chooses.
+    /// Returns a random case of lists of `T`: the length, the spare capacity, and what `Case`
+    /// chooses.
     pub fn random<T: Numbered>(round: usize, call: usize) -> At {
         let seed = round.wrapping_mul(4096).wrapping_add(T::SIZE);
         let seed = seed.wrapping_mul(64).wrapping_add(call);
@@ -169,8 +170,8 @@ impl Due {
         }
     }
 
-    /// The call makes one request for a block of `capacity` items, other than that of the list, unless
-    /// `capacity` is 0.
+    /// The call makes one request for a block of `capacity` items, other than that of the list,
+    /// unless `capacity` is 0.
     pub fn block_of(capacity: usize) -> Due {
         Due {
             room: capacity,
@@ -286,8 +287,8 @@ impl<T: Numbered, G: Growth> Case<T, G> {
         }
     }
 
-    /// Returns a range that the argument chooses. On a list of at most 4 items, each range is chosen
-    /// by some of the arguments below 25.
+    /// Returns a range that the argument chooses. On a list of at most 4 items, each range is
+    /// chosen by some of the arguments below 25.
     pub fn range(&self) -> (usize, usize) {
         let length = self.at.length;
         if self.at.is_random() {
@@ -308,8 +309,8 @@ impl<T: Numbered, G: Growth> Case<T, G> {
         }
     }
 
-    /// Returns a number that the argument chooses besides a range. With 25 times as many arguments, or
-    /// 5 times as many on a list of more than 4 items, each number is chosen with each range.
+    /// Returns a number that the argument chooses besides a range. With 25 times as many arguments,
+    /// or 5 times as many on a list of more than 4 items, each number is chosen with each range.
     pub fn choice(&self) -> usize {
         if self.at.length <= SHORT {
             self.at.argument / 25
@@ -420,8 +421,8 @@ impl<T: Numbered, G: Growth> Case<T, G> {
         self.same("comparisons", ledger.comparisons.get(), comparisons as u64)
     }
 
-    // Checks that the requests were for no more bytes than the block of the list takes, if it is new,
-    // and another block for `room` items.
+    // Checks that the requests were for no more bytes than the block of the list takes, if it is
+    // new, and another block for `room` items.
     fn check_lent(&self, is_new: bool, room: usize) -> Result<(), Wrong> {
         let new = if is_new { self.list.capacity() } else { 0 };
         let most = block_bytes::<T>(new).saturating_add(block_bytes::<T>(room));

@@ -8,8 +8,8 @@ use std::alloc::Global;
 use std::vec::IntoIter;
 
 /// An iterator that yields its items in order. The lower bound of its size hint is always `lower`.
-/// The upper bound is `lower` plus the number of the remaining items, or `None`. But if the iterator is
-/// made by `exact`, both bounds are the number of the remaining items.
+/// The upper bound is `lower` plus the number of the remaining items, or `None`. But if the
+/// iterator is made by `exact`, both bounds are the number of the remaining items.
 ///
 /// The ledger counts the iterator until it is dropped, and the calls to `next` and `size_hint`.
 #[derive(Drop)]

@@ -1,4 +1,5 @@
-//! Defines `Ledger`, the counts of a test, and `Counted`, an item type whose values a ledger counts.
+//! Defines `Ledger`, the counts of a test, and `Counted`, an item type whose values a ledger
+//! counts.
 ghost use Rattle.std.proofs.Common.{rules};
 ghost use Rattle.std.specs.Cmp.{partial_order_from_own_ties};
 ghost use Rattle.std.specs.Cmp.Rules.{comparing};
@@ -209,8 +210,8 @@ impl<P> PartialOrd for Counted<'_, P> {
     }
 }
 
-/// An item of 8 bytes that its ledger counts until it is dropped. All these items are equal. A clone
-/// is a request, as that of a `Counted` is.
+/// An item of 8 bytes that its ledger counts until it is dropped. All these items are equal. A
+/// clone is a request, as that of a `Counted` is.
 pub struct CountedWord<'a> {
     ledger: &'a Ledger,
 }

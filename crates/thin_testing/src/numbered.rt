@@ -22,10 +22,10 @@ pub trait Numbered: Clone + Eq + Drop {
     fn numbered(ledger: &'static Ledger, number: u64) -> Self;
 }
 
-/// Returns the size in bytes of the block of a list of `capacity` items: a header of 16 bytes and the
-/// items, rounded up to the alignment of the block. From 32 slots on, items of more than 16 bytes
-/// that are aligned to 8 or 16 have a padded block, which takes the place of two more items. A list
-/// of capacity 0 has no block.
+/// Returns the size in bytes of the block of a list of `capacity` items: a header of 16 bytes and
+/// the items, rounded up to the alignment of the block. From 32 slots on, items of more than 16
+/// bytes that are aligned to 8 or 16 have a padded block, which takes the place of two more items.
+/// A list of capacity 0 has no block.
 pub fn block_bytes<T: Numbered>(capacity: usize) -> u64 {
     if capacity == 0 {
         return 0;

@@ -124,8 +124,8 @@ module _ {T A : Type 0} (rule : GrowthRule) (R : RattleType) (law : IsLawful rul
         ap (λ (c : Cost). c.grown) cost,
       )
 
--- Every growth rule has the law `IsLawful`: in an answer, it is `g.met.G.Growth.law`. For lists with
--- the rule `Doubling`, it is `doubling_law`.
+-- Every growth rule has the law `IsLawful`: in an answer, it is `g.met.G.Growth.law`. For lists
+-- with the rule `Doubling`, it is `doubling_law`.
 module _ {T A : Type 0} {rule : GrowthRule} (law : IsLawful rule) {R : RattleType} {k : ℕ}
     {v w : ListView T A} where
   module _ {X E : Type 0} (r : Result X E) (n : ℕ) where

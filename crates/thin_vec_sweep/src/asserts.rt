@@ -1,4 +1,7 @@
-//! Assertions about a case. Their messages name it.
+//! Assertions about a case, whose messages name it, and about numbers, which the prover knows
+//! afterwards.
+ghost use Rattle.std.specs.Prelude.{◌<◌, ◌≤◌};
+
 use std::fmt::Debug;
 use std::process::Abort;
 use thin_testing::{At, Wrong};
@@ -27,4 +30,26 @@ pub fn assert_same<D: PartialEq + Debug + Drop, R: Abort>(
     due: D,
 ) {
     assert_eq!(rt; found, due, "{what}, {at:?}");
+}
+
+/// Asserts that the range from `start` to `end` is within a list of `len` items.
+pub fn assert_range<R: Abort>(rt: &R, start: usize, end: usize, len: usize)
+    ensures start_le_end { start ≤ end }
+    ensures in_bounds { end ≤ len }
+{
+    assert!(rt; start <= end && end <= len);
+}
+
+/// Asserts that the number is at most `most`.
+pub fn assert_at_most<R: Abort>(rt: &R, number: usize, most: usize)
+    ensures at_most { number ≤ most }
+{
+    assert!(rt; number <= most);
+}
+
+/// Asserts that the number is below `end`.
+pub fn assert_below<R: Abort>(rt: &R, number: usize, end: usize)
+    ensures below { number < end }
+{
+    assert!(rt; number < end);
 }

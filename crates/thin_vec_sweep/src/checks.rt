@@ -1,4 +1,5 @@
-//! Tests of the sweeps themselves: they make the calls that they should make, and see what is wrong.
+//! Tests of the sweeps themselves: they make the calls that they should make, and see what is
+//! wrong.
 use crate::asserts::{assert_right, assert_same};
 use crate::sweep::{Calls, sweep, sweep_at_random};
 use std::alloc::Global;
@@ -27,8 +28,9 @@ impl<G: Growth> Calls<Item16, G> for Requests {
     }
 }
 
-// Each list has calls of 0, 1 and 2 requests, so there are 3 cases without and 3 with a refusal. The
-// list of 3 items has two arguments, and the list of 8 items has one. Each has two spare capacities.
+// Each list has calls of 0, 1 and 2 requests, so there are 3 cases without and 3 with a refusal.
+// The list of 3 items has two arguments, and the list of 8 items has one. Each has two spare
+// capacities.
 #[test]
 fn sweep_makes_each_call_and_refuses_each_request(rt: HostRuntime) {
     let ledger = Ledger::leaked(rt.alloc()).expect(&rt, "memory");
@@ -36,7 +38,8 @@ fn sweep_makes_each_call_and_refuses_each_request(rt: HostRuntime) {
     assert_eq!(rt; swept, (36, 18));
 }
 
-// Each of the three calls is made in 60 rounds, which is three cases without and three with a refusal.
+// Each of the three calls is made in 60 rounds, which is three cases without and three with a
+// refusal.
 #[test]
 fn random_sweep_makes_each_call_and_refuses_each_request(rt: HostRuntime) {
     let ledger = Ledger::leaked(rt.alloc()).expect(&rt, "memory");
@@ -96,7 +99,8 @@ fn arguments_choose_each_index_range_number_and_pattern(rt: HostRuntime) {
     assert_eq!(rt; counts, 0x2000_0002_022f);
 }
 
-// Random cases have lists of none to more than 500 items, up to as many spare slots, and wide ranges.
+// Random cases have lists of none to more than 500 items, up to as many spare slots, and wide
+// ranges.
 #[test]
 fn random_cases_differ(rt: HostRuntime) {
     let (mut longest, mut roomiest, mut widest, mut empty) = (0_usize, 0_usize, 0_usize, 0_usize);

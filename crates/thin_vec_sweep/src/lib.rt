@@ -13,12 +13,12 @@
 //! - As many items exist as the list has, and one block if the list has a capacity.
 //! - Nothing is left once the list is dropped.
 //!
-//! Items, capacities and returned values are proved, so a sweep does not compare them. The crate
-//! `fill_sweep` has the calls that take an iterator, and `run_sweep` has lists of commands.
+//! Items, capacities and returned values are proved, so a sweep does not compare them. `filling`
+//! has the calls that take an iterator, and the crate `run_tests` sweeps lists of commands.
 //!
 //! To add a call, add an arm to the `match` of a file in `calls/`, and count it in `CALLS`. An arm
-//! makes the arguments, calls `begin` with the name of the call, makes the call, and returns a `Due`.
-//! To add an item type, implement `Numbered` (`thin_testing`), and add a test to `tests.rt`.
+//! makes the arguments, calls `begin` with the name of the call, makes the call, and returns a
+//! `Due`. To add an item type, implement `Numbered` (`thin_testing`), and add a test to `tests.rt`.
 #![tactic(auto)]
 
 #[cfg(test)]
@@ -29,6 +29,8 @@ mod asserts;
 mod calls;
 #[cfg(test)]
 mod checks;
+#[cfg(test)]
+mod filling;
 #[cfg(test)]
 mod no_size;
 #[cfg(test)]

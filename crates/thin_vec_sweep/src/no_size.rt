@@ -1,6 +1,6 @@
-//! Items of no size and of one byte, whose drops no counter can count. The drop of an item of no size,
-//! and of the last item of one byte, panics. So each of these tests passes only if the call drops an
-//! item, or the last one.
+//! Items of no size and of one byte, whose drops no counter can count. The drop of an item of no
+//! size, and of the last item of one byte, panics. So each of these tests passes only if the call
+//! drops an item, or the last one.
 use std::alloc::{AllocError, Global};
 use std::iter::empty;
 use std::mem;

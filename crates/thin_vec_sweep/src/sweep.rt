@@ -10,8 +10,8 @@ pub trait Calls<T: Numbered, G: Growth> {
     /// The number of calls in the group.
     const CALLS: usize;
 
-    /// Returns the number of arguments with which the call is tried. `is_short` says whether the list
-    /// has at most 4 items.
+    /// Returns the number of arguments with which the call is tried. `is_short` says whether the
+    /// list has at most 4 items.
     fn arguments(call: usize, is_short: bool) -> usize;
 
     /// Makes one of the calls on the list of `case`, with the argument that `case` chooses. Drops
@@ -89,8 +89,8 @@ fn each_refusal<C: Calls<T, G>, T: Numbered, G: Growth, R: Abort>(
     refusals
 }
 
-// Returns whether a request is refused. `earlier` is the number of requests before it, and `left` the
-// number of requests from it on. In a random case, some of the requests are chosen at random.
+// Returns whether a request is refused. `earlier` is the number of requests before it, and `left`
+// the number of requests from it on. In a random case, some of the requests are chosen at random.
 fn is_refused(at: At, earlier: u64, left: u64) -> bool {
     if at.is_random() {
         return earlier < 2 || left < 2 || at.drawn(earlier.wrapping_add(60), 64) < 2;

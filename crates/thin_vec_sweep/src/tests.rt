@@ -17,8 +17,8 @@ use std::process::Abort;
 use thin_testing::{Counted, CountedWord, Fourfold, Ledger, Numbered, Ruled, Threefold};
 use thin_vec::{Doubling, PowerBytes};
 
-// The lengths of lists on which each call is tried with several spare capacities and arguments.
-const SHORT: [usize; 7] = [0, 1, 2, 3, 4, 8, 33];
+/// The lengths of lists on which each call is tried with several spare capacities and arguments.
+pub const SHORT: [usize; 7] = [0, 1, 2, 3, 4, 8, 33];
 
 // The lengths of longer lists. Lists of `u8` fill whole words at 256 and 264 items, and not at 257.
 const LONG: [usize; 5] = [100, 256, 257, 264, 1000];
@@ -28,18 +28,18 @@ const LONGER: [usize; 2] = [50, 300];
 // More arguments than any call has.
 const ALL: usize = usize::MAX;
 
-// Counted items of 16, 24, 32, 64, 128 and 512 bytes.
-type Small = Counted<'static>;
+/// A counted item of 16 bytes. The next types have 24, 32, 64, 128 and 512 bytes.
+pub type Small = Counted<'static>;
 
-type ThreeWords = Counted<'static, u64>;
+pub type ThreeWords = Counted<'static, u64>;
 
-type Aligned = Counted<'static, u128>;
+pub type Aligned = Counted<'static, u128>;
 
-type EightWords = Counted<'static, [u64; 6]>;
+pub type EightWords = Counted<'static, [u64; 6]>;
 
-type SixteenWords = Counted<'static, [u64; 14]>;
+pub type SixteenWords = Counted<'static, [u64; 14]>;
 
-type Large = Counted<'static, [u64; 62]>;
+pub type Large = Counted<'static, [u64; 62]>;
 
 // Makes the calls that exist for every item type, on lists of the given lengths.
 fn sweeps<T: Numbered, G: Ruled, R: Abort>(

@@ -95,7 +95,8 @@ fn owning_list<T: Numbered>(
 // `finish`.
 const CALLS: [u32; 5] = [7, 8, 5, 7, 16];
 
-// Ends the list by a call of one of the five functions. Drops the result, and the allocator `alloc`.
+// Ends the list by a call of one of the five functions. Drops the result, and the allocator
+// `alloc`.
 fn end<T: Numbered, A: Allocator>(
     function: usize,
     call: u32,
@@ -240,8 +241,8 @@ fn finish<T: Numbered, A: Allocator>(
 // number is 0, none is.
 const REFUSED: [(u64, u64); 6] = [(0, 0), (1, 0), (2, 0), (0, 1), (0, 2), (0, 3)];
 
-// Returns how many requests the call makes, and for how many bytes, if the lists only refer to their
-// allocator.
+// Returns how many requests the call makes, and for how many bytes, if the lists only refer to
+// their allocator.
 fn requested<T: Numbered>(
     ledger: &'static Ledger,
     function: usize,
@@ -259,8 +260,8 @@ fn requested<T: Numbered>(
     Ok((ledger.alloc.requests(), ledger.alloc.lent()))
 }
 
-// Makes each call on lists of several lengths. Asserts that all allocators are dropped, and that the
-// requests are those of a list that owns no allocator.
+// Makes each call on lists of several lengths. Asserts that all allocators are dropped, and that
+// the requests are those of a list that owns no allocator.
 fn assert_dropped<T: Numbered>(rt: &impl Abort, ledger: &'static Ledger) -> Result<(), Fail>
     requires small { 40 * type_size T.row < 2 ^ 63 }
 {

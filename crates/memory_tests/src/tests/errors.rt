@@ -26,8 +26,8 @@ fn assert_dropped<E: From<R> + Drop, R: Error>(
     assert_same(rt, ledger.live.get(), 0);
 }
 
-// Converts an error of each of the four types, for each cause, with and without an item in hand, and
-// with lists of several lengths, to the type `E`.
+// Converts an error of each of the four types, for each cause, with and without an item in hand,
+// and with lists of several lengths, to the type `E`.
 fn assert_all_dropped<'a, E>(rt: &impl Abort, alloc: Global, ledger: &'a Ledger) -> Result<(), Fail>
 where
     E: From<Rejected<Counted<'a>>>

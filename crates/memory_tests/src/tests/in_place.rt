@@ -1,6 +1,6 @@
 //! Tests of lists whose blocks grow and shrink. A block whose items take 256 bytes or more can do
-//! so in place if an item takes 1, 2, 4, 8 or 16 bytes, and a block of 32 slots or more if its items
-//! are larger and aligned to 8. Each request is refused once and then granted.
+//! so in place if an item takes 1, 2, 4, 8 or 16 bytes, and a block of 32 slots or more if its
+//! items are larger and aligned to 8. Each request is refused once and then granted.
 use crate::tests::support::assert_same;
 use std::alloc::{Allocator, Global};
 use std::process::Abort;

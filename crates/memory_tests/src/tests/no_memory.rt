@@ -5,10 +5,12 @@ ghost use Rattle.std.specs.Prelude.{◌≡◌, IfOk, length};
 use crate::tests::support::{assert_len, assert_list, assert_same};
 use std::alloc::{Allocator, Global};
 use std::cmp::Ordering;
+use std::fmt::Debug;
 use std::hash::{DefaultHasher, Hash};
 use std::io::Write;
 use std::iter::empty;
 use std::ops::Bound;
+use std::panic::Expect;
 use std::process::Abort;
 use std::test::Fail;
 use thin_rows::Rows;
@@ -30,12 +32,18 @@ fn roomy(lender: Lender) -> Result<List, Fail>
     Ok(list)
 }
 
+// Asserts that the call made a list without items and without an allocation.
+fn assert_empty<E: Debug>(rt: &impl Abort, made: Result<List, E>) {
+    let list = made.expect(rt, "no list");
+    assert_list(rt, &list, &[], 0);
+}
+
 #[test]
 fn lists_without_items_take_no_memory(rt: HostRuntime) -> Result<(), Fail> {
     let lender = Refusing::leaked(rt.alloc(), 0)?;
     lender.refuse_all();
-    let list: List = ThinVec::new(lender);
-    assert_list(&rt, &list.clone(lender)?, &[], 0);
+    let list = List::new(lender);
+    assert_empty(&rt, list.clone(lender));
     assert_same(&rt, list.into_iter().clone(lender)?.len(), 0);
     assert_list(&rt, &ThinVec::default_in(lender), &[], 0);
     assert_list(
@@ -44,18 +52,23 @@ fn lists_without_items_take_no_memory(rt: HostRuntime) -> Result<(), Fail> {
         &[],
         0,
     );
-    assert_list(&rt, &ThinVec::with_capacity(lender, 0)?, &[], 0);
-    assert_list(&rt, &thin_vec![lender =>]?, &[], 0);
-    assert_list(&rt, &ThinVec::from_slice(lender, &[])?, &[], 0);
-    assert_list(&rt, &ThinVec::from_array(lender, [])?, &[], 0);
-    assert_list(&rt, &ThinVec::from_vec(lender, Vec::new(lender))?, &[], 0);
+    assert_empty(&rt, ThinVec::with_capacity(lender, 0));
+    assert_empty(&rt, thin_vec![lender =>]);
+    assert_empty(&rt, ThinVec::from_slice(lender, &[]));
+    assert_empty(&rt, ThinVec::from_array(lender, []));
+    assert_empty(&rt, ThinVec::from_vec(lender, Vec::new(lender)));
     let boxed = List::new(lender).into_boxed_slice(lender)?;
-    assert_list(&rt, &ThinVec::from_boxed_slice(lender, boxed)?, &[], 0);
+    assert_empty(&rt, ThinVec::from_boxed_slice(lender, boxed));
     let vec = List::new(lender).into_vec(lender)?;
     let bytes = ThinVec::from_str(lender, "")?;
     assert_same(&rt, (vec.capacity(), bytes.capacity()), (0, 0));
     assert_same(&rt, lender.requests(), 0);
     Ok(())
+}
+
+// Asserts that the call succeeded.
+fn assert_ok<E: Debug>(rt: &impl Abort, answer: Result<(), E>) {
+    answer.expect(rt, "refused");
 }
 
 #[test]
@@ -64,28 +77,28 @@ fn calls_that_fit_the_capacity_take_no_memory(rt: HostRuntime) -> Result<(), Fai
     let mut other = roomy(lender)?;
     other.truncate(2);
     let mut list = roomy(lender)?;
-    list.reserve(2)?;
-    list.reserve_exact(2)?;
-    list.append(&mut other)?;
+    assert_ok(&rt, list.reserve(2));
+    assert_ok(&rt, list.reserve_exact(2));
+    assert_ok(&rt, list.append(&mut other));
     assert_list(&rt, &list, &[1, 2, 3, 1, 2], 5);
-    list.shrink_to_fit()?;
-    list.resize(5, 7)?;
-    list.resize(2, 7)?;
-    list.resize(3, 7)?;
-    list.extend_from_slice(&[])?;
-    list.push(8)?;
-    list.insert(0, 9)?;
+    assert_ok(&rt, list.shrink_to_fit());
+    assert_ok(&rt, list.resize(5, 7));
+    assert_ok(&rt, list.resize(2, 7));
+    assert_ok(&rt, list.resize(3, 7));
+    assert_ok(&rt, list.extend_from_slice(&[]));
+    assert_ok(&rt, list.push(8));
+    assert_ok(&rt, list.insert(0, 9));
     assert_list(&rt, &list, &[9, 1, 2, 7, 8], 5);
-    assert_list(&rt, &list.split_off(lender, 5)?, &[], 0);
+    assert_empty(&rt, list.split_off(lender, 5));
     list.clear();
-    list.extend(1..6)?;
+    assert_ok(&rt, list.extend(1..6));
     assert_list(&rt, &list, &[1, 2, 3, 4, 5], 5);
-    splice(&mut list, (1, 4), 7..9, lender)?;
+    assert_ok(&rt, splice(&mut list, (1, 4), 7..9, lender));
     assert_list(&rt, &list, &[1, 7, 8, 5], 5);
-    splice(&mut list, (3, 4), 3..5, lender)?;
+    assert_ok(&rt, splice(&mut list, (3, 4), 3..5, lender));
     assert_list(&rt, &list, &[1, 7, 8, 3, 4], 5);
     list.clear();
-    list.shrink_to_fit()?;
+    assert_ok(&rt, list.shrink_to_fit());
     assert_list(&rt, &list, &[], 0);
     assert_same(&rt, lender.requests(), 0);
     Ok(())

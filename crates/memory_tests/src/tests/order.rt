@@ -89,8 +89,8 @@ impl Case {
         self.start as u64 <= index && index < self.end as u64
     }
 
-    // Returns the sum over all drops, as the ledger computes it: those by the call, and then those of
-    // the items that are left in the list.
+    // Returns the sum over all drops, as the ledger computes it: those by the call, and then those
+    // of the items that are left in the list.
     fn dropped(self) -> u64 {
         let first = self.start.saturating_add(self.fronts).min(self.end);
         let last = self.end.saturating_sub(self.backs).max(first);
@@ -193,8 +193,8 @@ fn make_call<T: Numbered>(
     Ok(())
 }
 
-// Returns the key of an item. Two calls compare a later item, whose call is the first, with the item
-// that was kept before it. The keys are equal if the later item is in the range.
+// Returns the key of an item. Two calls compare a later item, whose call is the first, with the
+// item that was kept before it. The keys are equal if the later item is in the range.
 fn key(case: Case, call: u64) -> bool {
     call % 2 == 0 && !case.holds((call / 2).saturating_add(1))
 }

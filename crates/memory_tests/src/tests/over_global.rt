@@ -11,7 +11,8 @@ use std::test::Fail;
 use thin_testing::{Ledger, Numbered};
 use thin_vec::ThinVec;
 
-// The size of each block in bytes, 8 GiB, of which little is written. A process can have 2^47 bytes.
+// The size of each block in bytes, 8 GiB, of which little is written. A process can have 2^47
+// bytes.
 const LARGE: usize = 1 << 33;
 
 // How often a block is made and freed.

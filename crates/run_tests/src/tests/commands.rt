@@ -1,7 +1,7 @@
 //! Tests each command with each of its requests refused in turn.
 use crate::tests::judges::Evens;
 use crate::tests::made::{
-    Asked, Item, List, Ran, assert_clean, assert_text, items, leaked_ledger, list_of, run_single,
+    Asked, Item, List, Ran, assert_clean, assert_same, items, leaked_ledger, list_of, run_single,
     steps,
 };
 use crate::tests::shown::{command_text, list_text, reply_text};
@@ -91,6 +91,26 @@ static OUTCOMES: [&str; 57] = [
 // More requests than any command makes.
 const MOST: u64 = 20;
 
+// Makes a splice over a range, with `walk.0` steps. Step number `i` is from the back if bit `i` of
+// `walk.1` is 1.
+fn splice<T: Numbered, R: Abort>(
+    rt: &R,
+    ledger: &'static Ledger,
+    range: (usize, usize),
+    walk: (usize, u64),
+    numbers: &[u64],
+    lower: usize,
+) -> Asked<T> {
+    let steps = steps(rt, ledger, walk.0, walk.1);
+    let items = items(rt, ledger, numbers);
+    Command::Splice(range.0, range.1, steps, items, lower)
+}
+
+// Makes the list that `append` empties.
+fn other<T: Numbered, R: Abort>(rt: &R, ledger: &'static Ledger) -> List<T> {
+    list_of(rt, ledger, items(rt, ledger, &[7, 8]), 1)
+}
+
 // Returns the command of a line of `OUTCOMES`, after the spare capacity of the list. Each call
 // makes the command anew, because `run` takes it.
 fn nth_command<T: Numbered, R: Abort>(
@@ -98,33 +118,19 @@ fn nth_command<T: Numbered, R: Abort>(
     ledger: &'static Ledger,
     number: usize,
 ) -> (usize, Asked<T>) {
-    let nine = T::numbered(ledger, 9);
-    let (none, one, two) = (
-        items(rt, ledger, &[]),
-        items(rt, ledger, &[7]),
-        items(rt, ledger, &[7, 8]),
-    );
-    let (three, five) = (
-        items(rt, ledger, &[7, 8, 9]),
-        items(rt, ledger, &[4, 5, 6, 7, 8]),
-    );
-    let other = list_of(rt, ledger, items(rt, ledger, &[7, 8]), 1);
-    let stay = steps(rt, ledger, 0, 0);
-    let (back, back_front) = (steps(rt, ledger, 1, 1), steps(rt, ledger, 2, 1));
-    let back_front_back = steps(rt, ledger, 3, 5);
     match number {
-        0 => (0, Command::Push(nine)),
-        1 => (2, Command::Push(nine)),
+        0 => (0, Command::Push(T::numbered(ledger, 9))),
+        1 => (2, Command::Push(T::numbered(ledger, 9))),
         2 => (0, Command::Pop),
-        3 => (0, Command::Insert(1, nine)),
-        4 => (2, Command::Insert(1, nine)),
-        5 => (0, Command::Insert(5, nine)),
+        3 => (0, Command::Insert(1, T::numbered(ledger, 9))),
+        4 => (2, Command::Insert(1, T::numbered(ledger, 9))),
+        5 => (0, Command::Insert(5, T::numbered(ledger, 9))),
         6 => (0, Command::Remove(1)),
         7 => (0, Command::Remove(4)),
         8 => (0, Command::SwapRemove(0)),
         9 => (0, Command::SwapRemove(4)),
-        10 => (0, Command::Set(3, nine)),
-        11 => (0, Command::Set(4, nine)),
+        10 => (0, Command::Set(3, T::numbered(ledger, 9))),
+        11 => (0, Command::Set(4, T::numbered(ledger, 9))),
         12 => (0, Command::Truncate(1)),
         13 => (0, Command::Truncate(5)),
         14 => (0, Command::Clear),
@@ -134,19 +140,19 @@ fn nth_command<T: Numbered, R: Abort>(
         18 => (0, Command::ReserveExact(1 << 63)),
         19 => (0, Command::ShrinkToFit),
         20 => (2, Command::ShrinkToFit),
-        21 => (0, Command::Resize(6, nine)),
-        22 => (2, Command::Resize(5, nine)),
-        23 => (0, Command::Resize(2, nine)),
-        24 => (0, Command::Resize(usize::MAX, nine)),
-        25 => (0, Command::ExtendFromSlice(two)),
-        26 => (0, Command::ExtendFromSlice(none)),
-        27 => (0, Command::Extend(two, 0)),
-        28 => (0, Command::Extend(two, 2)),
-        29 => (0, Command::Extend(five, 1)),
-        30 => (2, Command::Extend(two, 2)),
-        31 => (0, Command::Extend(one, 1 << 63)),
-        32 => (0, Command::Append(other)),
-        33 => (2, Command::Append(other)),
+        21 => (0, Command::Resize(6, T::numbered(ledger, 9))),
+        22 => (2, Command::Resize(5, T::numbered(ledger, 9))),
+        23 => (0, Command::Resize(2, T::numbered(ledger, 9))),
+        24 => (0, Command::Resize(usize::MAX, T::numbered(ledger, 9))),
+        25 => (0, Command::ExtendFromSlice(items(rt, ledger, &[7, 8]))),
+        26 => (0, Command::ExtendFromSlice(items(rt, ledger, &[]))),
+        27 => (0, Command::Extend(items(rt, ledger, &[7, 8]), 0)),
+        28 => (0, Command::Extend(items(rt, ledger, &[7, 8]), 2)),
+        29 => (0, Command::Extend(items(rt, ledger, &[4, 5, 6, 7, 8]), 1)),
+        30 => (2, Command::Extend(items(rt, ledger, &[7, 8]), 2)),
+        31 => (0, Command::Extend(items(rt, ledger, &[7]), 1 << 63)),
+        32 => (0, Command::Append(other(rt, ledger))),
+        33 => (2, Command::Append(other(rt, ledger))),
         34 => (0, Command::SplitOff(1)),
         35 => (0, Command::SplitOff(4)),
         36 => (0, Command::SplitOff(5)),
@@ -156,20 +162,20 @@ fn nth_command<T: Numbered, R: Abort>(
         40 => (0, Command::Dedup),
         41 => (0, Command::DedupBy),
         42 => (0, Command::DedupByKey),
-        43 => (0, Command::Drain(1, 4, back_front)),
-        44 => (0, Command::Drain(1, 3, back_front_back)),
-        45 => (0, Command::Drain(1, 3, stay)),
-        46 => (0, Command::Drain(3, 1, back_front)),
-        47 => (0, Command::Drain(3, 5, stay)),
+        43 => (0, Command::Drain(1, 4, steps(rt, ledger, 2, 1))),
+        44 => (0, Command::Drain(1, 3, steps(rt, ledger, 3, 5))),
+        45 => (0, Command::Drain(1, 3, steps(rt, ledger, 0, 0))),
+        46 => (0, Command::Drain(3, 1, steps(rt, ledger, 2, 1))),
+        47 => (0, Command::Drain(3, 5, steps(rt, ledger, 0, 0))),
         48 => (0, Command::ExtractIf(0, 4, 3)),
         49 => (0, Command::ExtractIf(0, 4, 0)),
         50 => (0, Command::ExtractIf(0, 5, 1)),
-        51 => (0, Command::Splice(1, 3, back, three, 1)),
-        52 => (0, Command::Splice(1, 3, stay, three, 0)),
-        53 => (0, Command::Splice(1, 4, back, five, 0)),
-        54 => (0, Command::Splice(1, 3, stay, one, 5)),
-        55 => (0, Command::Splice(1, 3, stay, two, 1 << 63)),
-        _ => (0, Command::Splice(3, 1, back_front, one, 1)),
+        51 => (0, splice(rt, ledger, (1, 3), (1, 1), &[7, 8, 9], 1)),
+        52 => (0, splice(rt, ledger, (1, 3), (0, 0), &[7, 8, 9], 0)),
+        53 => (0, splice(rt, ledger, (1, 4), (1, 1), &[4, 5, 6, 7, 8], 0)),
+        54 => (0, splice(rt, ledger, (1, 3), (0, 0), &[7], 5)),
+        55 => (0, splice(rt, ledger, (1, 3), (0, 0), &[7, 8], 1 << 63)),
+        _ => (0, splice(rt, ledger, (3, 1), (2, 1), &[7], 1)),
     }
 }
 
@@ -199,11 +205,7 @@ fn outcome<R: Abort>(
     let ran = run_single(rt, ledger, &mut list, command, &Evens { ledger }, refused);
     let requests = ran.requests;
     let asked = if requests < refused { asked(number) } else { 0 };
-    assert_eq!(rt;
-        ledger.calls.get(),
-        asked,
-        "calls of the judge, line {number}"
-    );
+    assert_same(rt, (number, ledger.calls.get()), (number, asked));
     let reply = last_text(rt, ledger.global, ran)?;
     let after = list_text(ledger.global, &list)?;
     assert_clean(rt, ledger, list);
@@ -240,7 +242,7 @@ fn outcomes<R: Abort>(
     number: usize,
 ) -> Result<String, AllocError> {
     let (no_room, _requests) = outcome(rt, ledger, number, 1)?;
-    assert_text(rt, no_room.as_str(), "no room: OutOfMemory =");
+    assert_same(rt, no_room.as_str(), "no room: OutOfMemory =");
     let mut line = title(rt, ledger, number)?;
     let mut last = String::new(ledger.global);
     for granted in 0..MOST {
@@ -265,7 +267,7 @@ fn outcomes<R: Abort>(
 fn title<R: Abort>(rt: &R, ledger: &'static Ledger, number: usize) -> Result<String, AllocError> {
     ledger.begin(0);
     let (spare, command): (usize, Asked<Item>) = nth_command(rt, ledger, number);
-    let command = command_text(ledger.global, command)?;
+    let command = command_text(ledger.global, &command)?;
     format!(in ledger.global; "{}, {}", spare.saturating_add(4), command.as_str())
 }
 
@@ -275,7 +277,7 @@ fn each_command_with_each_request_refused(rt: HostRuntime) -> Result<(), Fail> {
     let mut number: usize = 0;
     for wanted in &OUTCOMES {
         let line = outcomes(&rt, ledger, number)?;
-        assert_text(&rt, line.as_str(), wanted);
+        assert_same(&rt, line.as_str(), *wanted);
         number = number.saturating_add(1);
     }
     Ok(())

@@ -2,8 +2,8 @@
 //! steps, in each order of ends, one step past the range among them.
 use crate::tests::judges::Digits;
 use crate::tests::made::{
-    Asked, Item, List, Told, assert_clean, is_one, leaked_ledger, list_of, room, run_of_items,
-    steps,
+    Asked, Item, List, Told, assert_clean, assert_same, is_one, leaked_ledger, list_of, room,
+    run_of_items, steps,
 };
 use std::alloc::Global;
 use std::process::Abort;
@@ -22,9 +22,9 @@ enum Kind {
     Extend,
 }
 
-// An edit of a range of a list, whose items have their indices as numbers. If the answers are checked,
-// the list has at most 64 items.
-#[derive(Clone, Copy, Debug)]
+// An edit of a range of a list, whose items have their indices as numbers. If the answers are
+// checked, the list has at most 64 items.
+#[derive(Clone, Copy, PartialEq, Debug)]
 struct Edit {
     kind: Kind,
     len: usize,
@@ -128,7 +128,7 @@ fn assert_edit<T: Numbered, R: Abort>(rt: &R, ledger: &'static Ledger, edit: Edi
     let reply = step(&ledger.alloc, &mut list, command, &judge);
     let removed = assert_answers(rt, ledger, edit, reply);
     if edit.new == 0 {
-        assert_eq!(rt; list.capacity(), edit.len, "{edit:?}");
+        assert_same(rt, (edit, list.capacity()), (edit, edit.len));
     }
     assert_left(rt, ledger, edit, removed, &list);
     assert_clean(rt, ledger, list);
@@ -147,14 +147,14 @@ fn assert_answers<T: Numbered, R: Abort>(
         Reply::Done => room(rt, &ledger.alloc, 0),
         _ => panic!(rt; "{edit:?} failed"),
     };
-    assert_eq!(rt; answers.len(), edit.steps, "{edit:?}");
+    assert_same(rt, (edit, answers.len()), (edit, edit.steps));
     // A `Vec` has no room, or room for 8 small items.
     let most = if edit.steps == 0 {
         0
     } else {
         edit.steps.max(8)
     };
-    assert!(rt; answers.capacity() <= most, "{edit:?}");
+    assert_same(rt, (edit, answers.capacity() <= most), (edit, true));
     let is_extract = edit.kind == Kind::ExtractIf;
     let mut rest = Rest {
         first: edit.start,
@@ -172,7 +172,7 @@ fn assert_answers<T: Numbered, R: Abort>(
             removed |= 1 << (number % 64);
         }
         let wanted = wanted.map(|number| T::numbered(ledger, number as u64));
-        assert!(rt; answer == wanted, "{edit:?}, step {step}");
+        assert_same(rt, (edit, step, answer == wanted), (edit, step, true));
         step = step.saturating_add(1);
     }
     if !is_extract {
@@ -206,7 +206,7 @@ fn assert_left<T: Numbered, R: Abort>(
             index = index.saturating_add(1);
         }
     }
-    assert_eq!(rt; list.len(), index, "{edit:?}");
+    assert_same(rt, (edit, list.len()), (edit, index));
 }
 
 // Asserts that the item has the given number.
@@ -217,10 +217,8 @@ fn assert_item<T: Numbered, R: Abort>(
     item: Option<&T>,
     number: u64,
 ) {
-    assert!(rt;
-        item == Some(&T::numbered(ledger, number)),
-        "{edit:?}, item {number}"
-    );
+    let is_right = item == Some(&T::numbered(ledger, number));
+    assert_same(rt, (edit, number, is_right), (edit, number, true));
 }
 
 // Executes the edit with each number of steps up to `most`, and each order of ends.

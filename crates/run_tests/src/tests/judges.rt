@@ -2,10 +2,12 @@
 ghost use Rattle.std.specs.Prelude.{◌≡◌, ◌==◌, ◌/◌, ◌%◌, false};
 
 use crate::tests::made::Item;
+use std::mem;
 use thin_runner::judge::Judge;
 use thin_testing::Ledger;
 
-/// A judge that takes its answers from the binary digits of a number. A 1 means `true`.
+/// A judge that takes its answers from the binary digits of a number. A 1 means `true`. The method
+/// `same` swaps its items.
 #[derive(Clone, Copy)]
 pub struct Digits {
     pub digits: u64,
@@ -31,7 +33,7 @@ impl<T> Judge<T> for Digits {
     ghost model = { record {
       look = λ j x. (j.digits % 2 == 1, record { digits = j.digits / 2 });
       keep = λ j x. (j.digits % 2 == 1, x, record { digits = j.digits / 2 });
-      same = λ j x y. (j.digits % 2 == 1, x, y, record { digits = j.digits / 2 });
+      same = λ j x y. (j.digits % 2 == 1, y, x, record { digits = j.digits / 2 });
       key = λ j x. (j.digits % 2, x, record { digits = j.digits / 2 });
       take = λ j x. (j.digits % 2 == 1, x, record { digits = j.digits / 2 });
     } };
@@ -44,7 +46,8 @@ impl<T> Judge<T> for Digits {
         self.next_digit() == 1
     }
 
-    fn same(&mut self, _later: &mut T, _kept: &mut T) -> bool {
+    fn same(&mut self, later: &mut T, kept: &mut T) -> bool {
+        mem::swap(later, kept);
         self.next_digit() == 1
     }
 

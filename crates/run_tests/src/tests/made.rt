@@ -1,5 +1,6 @@
 //! Makes the lists, vectors and steps of the tests. The test ends if there is no memory for them.
 use std::alloc::{Allocator, Global};
+use std::fmt::Debug;
 use std::process::Abort;
 use thin_runner::command::{Command, Reply, Step};
 use thin_runner::judge::Judge;
@@ -116,8 +117,8 @@ pub struct Ran<T: Drop> {
 }
 
 /// Executes the commands by one call to `run`, with request number `refused` refused. Before, the
-/// replies are one `Item(None)`, and there is no room for another one. Afterwards, there is room for
-/// no more replies than needed, or for 4.
+/// replies are one `Item(None)`, and there is no room for another one. Afterwards, there is room
+/// for no more replies than needed, or for 4.
 pub fn run_all<T: Numbered, J: Judge<T>, R: Abort>(
     rt: &R,
     ledger: &'static Ledger,
@@ -157,9 +158,9 @@ pub fn run_single<T: Numbered, J: Judge<T>, R: Abort>(
     run_all(rt, ledger, list, commands, judge, refused)
 }
 
-/// Asserts that the two texts are equal.
-pub fn assert_text<R: Abort>(rt: &R, text: &str, wanted: &str) {
-    assert_eq!(rt; text, wanted);
+/// Asserts that the two values are equal.
+pub fn assert_same<T: PartialEq + Debug + Drop, R: Abort>(rt: &R, value: T, wanted: T) {
+    assert_eq!(rt; value, wanted);
 }
 
 /// Asserts that exactly the items of the list exist, and one block if it has a capacity. Then drops

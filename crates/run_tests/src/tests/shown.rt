@@ -32,14 +32,14 @@ pub fn reply_text(alloc: Global, reply: Told<Item>) -> Result<String, AllocError
             format!(in alloc; "Stopped({answers:?}, {cause:?}, {held:?}, {in_hand:?}, {rest:?})")
         }
         Reply::OutOfRange(command) => {
-            let command = command_text(alloc, command)?;
+            let command = command_text(alloc, &command)?;
             format!(in alloc; "OutOfRange({})", command.as_str())
         }
     }
 }
 
-/// Prints the command with all that it owns, and drops it.
-pub fn command_text(alloc: Global, command: Asked<Item>) -> Result<String, AllocError> {
+/// Prints the command with all that it owns.
+pub fn command_text(alloc: Global, command: &Asked<Item>) -> Result<String, AllocError> {
     match command {
         Command::Push(item) => format!(in alloc; "Push({item:?})"),
         Command::Pop => format!(in alloc; "Pop"),

@@ -1,7 +1,7 @@
 //! Tests of one run of six commands, and of the commands that ask a judge.
 use crate::tests::judges::{Evens, TURNS};
 use crate::tests::made::{
-    Asked, Item, Lender, List, Told, assert_clean, assert_text, items, leaked_ledger, list_of, put,
+    Asked, Item, Lender, List, Told, assert_clean, assert_same, items, leaked_ledger, list_of, put,
     room, run_all, run_of_items, run_single, steps,
 };
 use crate::tests::shown::{list_text, reply_text};
@@ -94,7 +94,11 @@ fn six_commands<T: Numbered, R: Abort>(rt: &R, ledger: &'static Ledger) -> Vec<A
 
 // Asserts that the text is number `number` of the texts.
 fn assert_nth<R: Abort>(rt: &R, texts: &[&str], number: usize, text: &str) {
-    assert_eq!(rt; Some(text), texts.get(number).copied(), "text {number}");
+    assert_same(
+        rt,
+        (number, Some(text)),
+        (number, texts.get(number).copied()),
+    );
 }
 
 // Executes the six commands by one call to `run`, with request number `refused` refused. Asserts
@@ -116,7 +120,7 @@ fn assert_run<R: Abort>(
         refused,
     );
     let is_refused = 0 < refused && refused <= ran.requests;
-    assert_eq!(rt; ran.cause.is_some(), refused == 1);
+    assert_same(rt, ran.cause.is_some(), refused == 1);
     let mut number: usize = 0;
     for reply in ran.replies {
         let is_short = reply.refusal() == Some(ThinVecError::OutOfMemory);
@@ -130,7 +134,7 @@ fn assert_run<R: Abort>(
         number = number.saturating_add(1);
     }
     assert_nth(rt, texts, number, list_text(ledger.global, &list)?.as_str());
-    assert_eq!(rt; number.saturating_add(1), texts.len());
+    assert_same(rt, number.saturating_add(1), texts.len());
     assert_clean(rt, ledger, list);
     Ok(is_refused)
 }
@@ -149,7 +153,7 @@ fn six_commands_with_each_request_refused(rt: HostRuntime) -> Result<(), Fail> {
     for texts in &REFUSED {
         refused = refused.saturating_add(1);
         let is_refused = assert_run(&rt, ledger, refused, texts)?;
-        assert_eq!(rt; is_refused, refused < 5, "request {refused}");
+        assert_same(&rt, (refused, is_refused), (refused, refused < 5));
     }
     Ok(())
 }
@@ -183,8 +187,8 @@ fn assert_single<J: Judge<Item>, R: Abort>(
     let reply = single(rt, ledger, list, command, judge, is_step).expect(rt, "a reply");
     let reply = reply_text(ledger.global, reply)?;
     let left = list_text(ledger.global, list)?;
-    assert_text(rt, reply.as_str(), texts.0);
-    assert_text(rt, left.as_str(), texts.1);
+    assert_same(rt, reply.as_str(), texts.0);
+    assert_same(rt, left.as_str(), texts.1);
     Ok(())
 }
 
@@ -231,7 +235,7 @@ fn a_judge_that_counts_its_calls(rt: HostRuntime) -> Result<(), Fail> {
     let ledger = leaked_ledger(&rt, rt.alloc());
     let extracted = ("Answers([Some(1), Some(3)])", "[2, 4, 5, 6] 6");
     assert_turned(&rt, ledger, Command::Retain, ("Done", "[1, 3, 5] 6"))?;
-    assert_turned(&rt, ledger, Command::DedupBy, ("Done", "[1, 3, 5] 6"))?;
+    assert_turned(&rt, ledger, Command::DedupBy, ("Done", "[3, 5, 6] 6"))?;
     assert_turned(&rt, ledger, Command::ExtractIf(0, 6, 2), extracted)?;
     Ok(())
 }
@@ -248,7 +252,7 @@ fn assert_asked<R: Abort>(
     let mut list = list_of(rt, ledger, run_of_items(rt, ledger, 1, len), 0);
     ledger.begin(0);
     drop(step(&ledger.alloc, &mut list, command, &Evens { ledger }));
-    assert_eq!(rt; ledger.calls.get(), asked as u64, "{len} items");
+    assert_same(rt, (len, ledger.calls.get()), (len, asked as u64));
     assert_clean(rt, ledger, list);
 }
 

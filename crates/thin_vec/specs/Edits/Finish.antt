@@ -30,10 +30,10 @@ module _ {T A : Type 0} where
   abbrev pub with_replacement : OpenView T A → List T → List T
   with_replacement v xs = (v.front ++ xs) ++ v.tail
 
-  -- `IsCapacityAfterExtend rule R v d n limit` holds if the list `v` may have capacity `d` and length
-  -- `n` after items of an iterator were added to it. The iterator could yield at most `limit` items.
-  -- If the length of `v` is at most its capacity, the field `ruled` of `ExtendsCapacity` follows:
-  -- there, the old capacity is the one after `reserve(0)`.
+  -- `IsCapacityAfterExtend rule R v d n limit` holds if the list `v` may have capacity `d` and
+  -- length `n` after items of an iterator were added to it. The iterator could yield at most
+  -- `limit` items. If the length of `v` is at most its capacity, the field `ruled` of
+  -- `ExtendsCapacity` follows: there, the old capacity is the one after `reserve(0)`.
   abbrev pub IsCapacityAfterExtend : GrowthRule → RattleType → ListView T A → ℕ → ℕ → Count → Type 0
   IsCapacityAfterExtend rule R v d n limit =
       IsKeptOrChosen rule R v.capacity d n

@@ -22,9 +22,9 @@ impl<T, A: Allocator, G: Growth> ThinVec<T, A, G> {
     ///
     /// Fails only if there is not enough room.
     ///
-    /// - `CapacityOverflow`: the growth rule chooses no capacity. `Doubling` and `PowerBytes` choose
-    ///   none if the new capacity would exceed `isize::MAX`, or its block would take more than
-    ///   `isize::MAX` bytes.
+    /// - `CapacityOverflow`: the growth rule chooses no capacity. `Doubling` and `PowerBytes`
+    ///   choose none if the new capacity would exceed `isize::MAX`, or its block would take more
+    ///   than `isize::MAX` bytes.
     /// - `OutOfMemory`: the allocator failed.
     pub fn reserve(&mut self, additional: usize) -> Result<(), ThinVecError>
         // On success.

@@ -1,5 +1,5 @@
 //! Calls that add items, or that change only the capacity.
-use crate::asserts::assert_same;
+use crate::asserts::{assert_at_most, assert_range, assert_same};
 use crate::sweep::Calls;
 use std::mem;
 use std::process::Abort;
@@ -61,7 +61,7 @@ fn push_mut<T: Numbered, G: Growth>(case: &mut Case<T, G>) -> Answer {
 fn insert<T: Numbered, G: Growth, R: Abort>(rt: &R, case: &mut Case<T, G>) -> Answer {
     let (index, item) = (case.index(), case.item());
     case.begin("insert");
-    assert!(rt; index <= case.list.len());
+    assert_at_most(rt, index, case.list.len());
     case.list.insert(index, item)?;
     Ok(Due::NOTHING)
 }
@@ -69,7 +69,7 @@ fn insert<T: Numbered, G: Growth, R: Abort>(rt: &R, case: &mut Case<T, G>) -> An
 fn insert_mut<T: Numbered, G: Growth, R: Abort>(rt: &R, case: &mut Case<T, G>) -> Answer {
     let (index, item, mut other) = (case.index(), case.item(), case.item());
     case.begin("insert_mut");
-    assert!(rt; index <= case.list.len());
+    assert_at_most(rt, index, case.list.len());
     mem::swap(case.list.insert_mut(index, item)?, &mut other);
     Ok(Due::NOTHING)
 }
@@ -123,7 +123,7 @@ fn extend_from_slice<T: Numbered, G: Growth>(case: &mut Case<T, G>) -> Answer {
 fn extend_from_within<T: Numbered, G: Growth, R: Abort>(rt: &R, case: &mut Case<T, G>) -> Answer {
     let (start, end) = case.range();
     case.begin("extend_from_within");
-    assert!(rt; start <= end && end <= case.list.len());
+    assert_range(rt, start, end, case.list.len());
     case.list.extend_from_within(start, end)?;
     Ok(Due::NOTHING.clones(end - start))
 }
@@ -153,7 +153,7 @@ fn shrink_to_fit<T: Numbered, G: Growth>(case: &mut Case<T, G>) -> Answer {
 fn split_off<T: Numbered, G: Growth, R: Abort>(rt: &R, case: &mut Case<T, G>) -> Answer {
     let at = case.index();
     case.begin("split_off");
-    assert!(rt; at <= case.list.len());
+    assert_at_most(rt, at, case.list.len());
     let tail = case.list.split_off(&case.ledger.alloc, at)?;
     Ok(Due::block_of(tail.len()))
 }

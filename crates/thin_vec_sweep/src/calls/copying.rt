@@ -1,4 +1,5 @@
 //! Calls that copy items, and do not clone them.
+use crate::asserts::{assert_at_most, assert_range};
 use crate::sweep::Calls;
 use std::process::Abort;
 use thin_testing::{Answer, Case, Due, Numbered};
@@ -45,7 +46,7 @@ fn extend_from_copies_reserved<T: Numbered + Copy, G: Growth, R: Abort>(
 ) -> Answer {
     let items = case.items(case.spare())?;
     case.begin("extend_from_copies_reserved");
-    assert!(rt; items.len() <= case.list.capacity() - case.list.len());
+    assert_at_most(rt, items.len(), case.list.capacity() - case.list.len());
     case.list.extend_from_copies_reserved(items.as_slice());
     Ok(Due::NOTHING)
 }
@@ -57,7 +58,7 @@ fn replace_range_from_copies<T: Numbered + Copy, G: Growth, R: Abort>(
     let (start, end) = case.range();
     let items = case.items(case.replacements())?;
     case.begin("replace_range_from_copies");
-    assert!(rt; start <= end && end <= case.list.len());
+    assert_range(rt, start, end, case.list.len());
     case.list
         .replace_range_from_copies(start, end, items.as_slice())?;
     Ok(Due::NOTHING)

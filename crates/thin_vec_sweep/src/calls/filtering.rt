@@ -3,7 +3,7 @@ ghost use Rattle.std.proofs.Common.{rules};
 ghost use Rattle.std.specs.Cmp.Rules.{comparing};
 ghost use Rattle.std.specs.Prelude.{◌==◌, ◌≤◌, length};
 
-use crate::asserts::assert_same;
+use crate::asserts::{assert_range, assert_same};
 use crate::sweep::Calls;
 use std::alloc::Allocator;
 use std::cell::Cell;
@@ -105,8 +105,8 @@ fn dedup_by<T: Numbered, G: Growth>(case: &mut Case<T, G>) -> Answer {
     Ok(Due::calls(case.at.length.saturating_sub(1)))
 }
 
-// The key of an item. Two keys are equal if their numbers are. The key owns the counter of the calls
-// of the closure, which counts comparisons, too, and shows whether the key is dropped.
+// The key of an item. Two keys are equal if their numbers are. The key owns the counter of the
+// calls of the closure, which counts comparisons, too, and shows whether the key is dropped.
 #[derive(Drop)]
 struct Key {
     number: u64,
@@ -167,9 +167,9 @@ fn next_call(counter: &Rc<Cell<u64>>) -> u64 {
     call
 }
 
-// The closure picks the items that the pattern does not keep. Some calls to `next` are made, and then
-// the `ExtractIf` is dropped. The closure owns a counter of its calls, which shows whether the closure
-// is dropped.
+// The closure picks the items that the pattern does not keep. Some calls to `next` are made, and
+// then the `ExtractIf` is dropped. The closure owns a counter of its calls, which shows whether the
+// closure is dropped.
 fn extract_if<T: Numbered, G: Growth, R: Abort>(rt: &R, case: &mut Case<T, G>) -> Answer {
     let (start, end) = case.range();
     let pattern = case.at.pattern();
@@ -181,7 +181,7 @@ fn extract_if<T: Numbered, G: Growth, R: Abort>(rt: &R, case: &mut Case<T, G>) -
         .expect(rt, "memory");
     let counter = calls.clone().expect(rt, "memory");
     case.begin("extract_if");
-    assert!(rt; start <= end && end <= case.list.len());
+    assert_range(rt, start, end, case.list.len());
     extract(&mut case.list, (start, end, wanted), pattern, counter);
     assert_same(
         rt,
@@ -195,8 +195,8 @@ fn extract_if<T: Numbered, G: Growth, R: Abort>(rt: &R, case: &mut Case<T, G>) -
     Ok(Due::NOTHING)
 }
 
-// Makes an `ExtractIf` of a range, which is the first two numbers of `plan`. Calls `next` as often as
-// the third number says.
+// Makes an `ExtractIf` of a range, which is the first two numbers of `plan`. Calls `next` as often
+// as the third number says.
 fn extract<T: Numbered, A: Allocator, G: Growth>(
     list: &mut ThinVec<T, A, G>,
     plan: (usize, usize, usize),

@@ -1,5 +1,5 @@
 //! Calls that read or overwrite items, and calls that clone a list.
-use crate::asserts::assert_same;
+use crate::asserts::{assert_below, assert_same};
 use crate::sweep::Calls;
 use std::cmp::Ordering;
 use std::mem;
@@ -114,7 +114,7 @@ fn write<T: Numbered, G: Growth, R: Abort>(rt: &R, case: &mut Case<T, G>) -> Opt
     }
     let item = case.item();
     case.begin("list[index] = item");
-    assert!(rt; index < case.list.len());
+    assert_below(rt, index, case.list.len());
     case.list[index] = item;
     Some(Ok(Due::NOTHING))
 }

@@ -1,8 +1,8 @@
-//! Calls that remove items, and calls that consume a list. Those that consume it make no request, or
-//! one for the `Vec` that they return.
+//! Calls that remove items, and calls that consume a list. Those that consume it make no request,
+//! or one for the `Vec` that they return.
 ghost use Rattle.std.specs.Prelude.{◌≤◌, length};
 
-use crate::asserts::assert_same;
+use crate::asserts::{assert_at_most, assert_below, assert_range, assert_same};
 use crate::sweep::Calls;
 use std::alloc::Allocator;
 use std::mem;
@@ -60,7 +60,7 @@ fn remove<T: Numbered, G: Growth, R: Abort>(rt: &R, case: &mut Case<T, G>) -> Op
     if index == case.list.len() {
         return None;
     }
-    assert!(rt; index < case.list.len());
+    assert_below(rt, index, case.list.len());
     drop(case.list.remove(index));
     Some(Ok(Due::NOTHING))
 }
@@ -71,7 +71,7 @@ fn swap_remove<T: Numbered, G: Growth, R: Abort>(rt: &R, case: &mut Case<T, G>) 
     if index == case.list.len() {
         return None;
     }
-    assert!(rt; index < case.list.len());
+    assert_below(rt, index, case.list.len());
     drop(case.list.swap_remove(index));
     Some(Ok(Due::NOTHING))
 }
@@ -98,7 +98,7 @@ fn push_reserved<T: Numbered, G: Growth, R: Abort>(
     }
     let item = case.item();
     case.begin("push_reserved");
-    assert!(rt; case.list.len() < case.list.capacity());
+    assert_below(rt, case.list.len(), case.list.capacity());
     case.list.push_reserved(item);
     Some(Ok(Due::NOTHING))
 }
@@ -113,13 +113,14 @@ fn insert_reserved<T: Numbered, G: Growth, R: Abort>(
     }
     let item = case.item();
     case.begin("insert_reserved");
-    assert!(rt; index <= case.list.len() && case.list.len() < case.list.capacity());
+    assert_at_most(rt, index, case.list.len());
+    assert_below(rt, case.list.len(), case.list.capacity());
     case.list.insert_reserved(index, item);
     Some(Ok(Due::NOTHING))
 }
 
-// A sequence of calls to `next` and `next_back`. On a range of at most 4 items, the arguments choose
-// up to 5 calls, each from the front or from the back.
+// A sequence of calls to `next` and `next_back`. On a range of at most 4 items, the arguments
+// choose up to 5 calls, each from the front or from the back.
 #[derive(Clone, Copy)]
 struct Walk {
     steps: usize,
@@ -152,7 +153,7 @@ fn drain<T: Numbered, G: Growth, R: Abort>(rt: &R, case: &mut Case<T, G>) -> Ans
     let (start, end) = case.range();
     let walk = Walk::new(case.choice(), case.at.argument, end.saturating_sub(start));
     case.begin("drain");
-    assert!(rt; start <= end && end <= case.list.len());
+    assert_range(rt, start, end, case.list.len());
     drain_some(&mut case.list, start, end, walk);
     Ok(Due::NOTHING)
 }
@@ -182,7 +183,7 @@ fn drain_some<T: Numbered, A: Allocator, G: Growth>(
 fn drain_for<T: Numbered, G: Growth, R: Abort>(rt: &R, case: &mut Case<T, G>) -> Answer {
     let (start, end) = case.range();
     case.begin("for loop over drain");
-    assert!(rt; start <= end && end <= case.list.len());
+    assert_range(rt, start, end, case.list.len());
     drain_all(&mut case.list, start, end);
     Ok(Due::NOTHING)
 }

@@ -1,4 +1,5 @@
 //! Calls that replace a range, or that append to the spare capacity.
+use crate::asserts::{assert_at_most, assert_range};
 use crate::sweep::Calls;
 use std::process::Abort;
 use thin_testing::{Answer, Case, Due, Numbered};
@@ -33,7 +34,7 @@ fn replace_range<T: Numbered, G: Growth, R: Abort>(rt: &R, case: &mut Case<T, G>
     let (start, end) = case.range();
     let items = case.items(case.replacements())?;
     case.begin("replace_range");
-    assert!(rt; start <= end && end <= case.list.len());
+    assert_range(rt, start, end, case.list.len());
     let alloc = &case.ledger.alloc;
     let answer = case.list.replace_range(alloc, start, end, items.as_slice());
     let count = items.len();
@@ -50,7 +51,7 @@ fn replace_range_from_list<T: Numbered, G: Growth, R: Abort>(
     let (start, end) = case.range();
     let mut other = case.other(case.replacements(), case.other_spare())?;
     case.begin("replace_range_from_list");
-    assert!(rt; start <= end && end <= case.list.len());
+    assert_range(rt, start, end, case.list.len());
     case.list.replace_range_from_list(start, end, &mut other)?;
     Ok(Due::NOTHING)
 }
@@ -59,7 +60,7 @@ fn append_reserved<T: Numbered, G: Growth, R: Abort>(rt: &R, case: &mut Case<T, 
     let count = case.spare();
     let mut other = case.other(count, case.other_spare())?;
     case.begin("append_reserved");
-    assert!(rt; other.len() <= case.list.capacity() - case.list.len());
+    assert_at_most(rt, other.len(), case.list.capacity() - case.list.len());
     case.list.append_reserved(&mut other);
     Ok(Due::NOTHING)
 }
@@ -71,7 +72,7 @@ fn extend_from_slice_reserved<T: Numbered, G: Growth, R: Abort>(
     let count = case.spare();
     let items = case.items(count)?;
     case.begin("extend_from_slice_reserved");
-    assert!(rt; items.len() <= case.list.capacity() - case.list.len());
+    assert_at_most(rt, items.len(), case.list.capacity() - case.list.len());
     let answer = case.list.extend_from_slice_reserved(items.as_slice());
     drop(items);
     answer?;

@@ -1,6 +1,7 @@
--- Each iteration of the outer loop reserves room for the item `next` in the vector `held`, which may
--- allocate memory, and pushes the item. Then the inner loop fills the spare capacity of `held` with items of the iterator. If the
--- iterator has not ended then, it yields the item `next` of the following iteration.
+-- Each iteration of the outer loop reserves room for the item `next` in the vector `held`, which
+-- may allocate memory, and pushes the item. Then the inner loop fills the spare capacity of `held`
+-- with items of the iterator. If the iterator has not ended then, it yields the item `next` of the
+-- following iteration.
 use Rattle.std.proofs.Common.{[], ◌++◌, ◌∷◌, ◌∙◌, ap, arith, length, refl}
 use Rattle.std.proofs.lemmas.List.{length_push}
 use Rattle.thin_vec.proofs.list.ExtendLemmas.{yields-more}

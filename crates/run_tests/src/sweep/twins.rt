@@ -1,5 +1,5 @@
-//! Makes each call on a list of `u64` and on the kit's `Vec`, and compares the items and the returned
-//! values. The items are proved, so only a wrongly compiled loop makes a difference.
+//! Makes each call on a list of `u64` and on the kit's `Vec`, and compares the items and the
+//! returned values. The items are proved, so only a wrongly compiled loop makes a difference.
 use std::alloc::{AllocError, Global};
 use std::mem;
 use std::process::Abort;

@@ -1,7 +1,9 @@
 //! The sweeps of commands for several item types, and the comparison with the kit's `Vec`. Each
 //! test finishes within seconds.
-use crate::runs::{assert_long_commands_right, assert_long_run_right, assert_runs_right, is_right};
-use crate::twins::assert_twins_agree;
+use crate::sweep::runs::{
+    assert_long_commands_right, assert_long_run_right, assert_runs_right, is_right,
+};
+use crate::sweep::twins::assert_twins_agree;
 use thin_runner::command::Command;
 use thin_testing::{At, Case, Counted, Fourfold, Ledger, Numbered, Threefold};
 use thin_vec::{Doubling, Growth, PowerBytes};

@@ -1,28 +1,13 @@
 //! The sweeps of the calls that take an iterator, for all item types, and of large capacities. Each
 //! test finishes within seconds.
-use crate::fill::{Collect, Extend, ExtendOfTrait, FromIter, fill_lists};
-use crate::limits::{limits, powers};
-use crate::splices::splices;
+use crate::filling::fill::{Collect, Extend, ExtendOfTrait, FromIter, fill_lists};
+use crate::filling::limits::{limits, powers};
+use crate::filling::splices::splices;
+use crate::tests::{Aligned, EightWords, Large, SHORT, SixteenWords, Small, ThreeWords};
 use std::alloc::Global;
 use std::process::Abort;
 use thin_testing::{Counted, CountedWord, Fourfold, Ledger, Numbered, Ruled, Threefold};
 use thin_vec::{Doubling, PowerBytes};
-
-// The lengths of short lists.
-const SHORT: [usize; 7] = [0, 1, 2, 3, 4, 8, 33];
-
-// Counted items of 16, 24, 32, 64, 128 and 512 bytes.
-type Small = Counted<'static>;
-
-type ThreeWords = Counted<'static, u64>;
-
-type Aligned = Counted<'static, u128>;
-
-type EightWords = Counted<'static, [u64; 6]>;
-
-type SixteenWords = Counted<'static, [u64; 14]>;
-
-type Large = Counted<'static, [u64; 62]>;
 
 // Fills random lists of `T` from random iterators.
 fn fill_at_random<T: Numbered, G: Ruled, R: Abort>(rt: &R, alloc: Global) {

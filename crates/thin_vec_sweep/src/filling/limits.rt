@@ -7,8 +7,8 @@ use thin_vec::{Doubling, ThinVec, ThinVecError};
 // The calls that are tried.
 const CALLS: usize = 5;
 
-/// Asserts that calls which need a power of two, or the capacity `T::LIMIT`, make one request, and that
-/// calls which need a greater capacity fail without a request.
+/// Asserts that calls which need a power of two, or the capacity `T::LIMIT`, make one request, and
+/// that calls which need a greater capacity fail without a request.
 pub fn limits<T: Numbered, G: Ruled, R: Abort>(rt: &R, ledger: &'static Ledger) {
     for length in 0..3 {
         for call in 0..CALLS {

@@ -1,63 +1,13 @@
 //! Random commands, which `run` of `thin_runner` executes. As in a sweep, the list itself says what
 //! is right.
-ghost use Rattle.std.specs.Prelude.{◌≡◌, ◌==◌, ◌/◌, ◌%◌};
-
+use crate::tests::judges::Digits;
+use crate::tests::made::assert_same;
 use std::alloc::{AllocError, Allocator};
-use std::mem;
 use std::process::Abort;
 use thin_runner::command::{Command, Reply, Step};
-use thin_runner::judge::Judge;
 use thin_runner::runner::run;
 use thin_testing::{Ledger, Lender, List, Numbered, filled_list};
 use thin_vec::{Growth, ThinVec, ThinVecError};
-
-/// A judge that takes its answers from the binary digits of a number. A 1 means `true`.
-#[derive(Clone, Copy)]
-pub struct Digits {
-    pub digits: u64,
-}
-
-impl Digits {
-    fn next_digit(&mut self) -> u64
-        ensures value { result ≡ self.old.digits % 2 }
-        ensures digits { self.new.digits ≡ self.old.digits / 2 }
-    {
-        let digit = self.digits % 2;
-        self.digits /= 2;
-        digit
-    }
-}
-
-impl<T> Judge<T> for Digits {
-    ghost model = { record {
-      look = λ j x. (j.digits % 2 == 1, record { digits = j.digits / 2 });
-      keep = λ j x. (j.digits % 2 == 1, x, record { digits = j.digits / 2 });
-      same = λ j x y. (j.digits % 2 == 1, y, x, record { digits = j.digits / 2 });
-      key = λ j x. (j.digits % 2, x, record { digits = j.digits / 2 });
-      take = λ j x. (j.digits % 2 == 1, x, record { digits = j.digits / 2 });
-    } };
-
-    fn look(&mut self, _item: &T) -> bool {
-        self.next_digit() == 1
-    }
-
-    fn keep(&mut self, _item: &mut T) -> bool {
-        self.next_digit() == 1
-    }
-
-    fn same(&mut self, later: &mut T, kept: &mut T) -> bool {
-        mem::swap(later, kept);
-        self.next_digit() == 1
-    }
-
-    fn key(&mut self, _item: &mut T) -> u64 {
-        self.next_digit()
-    }
-
-    fn take(&mut self, _item: &mut T) -> bool {
-        self.next_digit() == 1
-    }
-}
 
 // A generator of pseudorandom numbers.
 #[derive(Drop)]
@@ -130,20 +80,19 @@ impl Dice {
         let near = if self.below(3) == 0 { len } else { len.min(12) };
         let near = near.saturating_add(2);
         let (at, to) = (self.below(near), self.below(near));
-        let item = T::numbered(ledger, 7);
         Ok(match self.below(25) {
-            0 => Command::Push(item),
+            0 => Command::Push(T::numbered(ledger, 7)),
             1 => Command::Pop,
-            2 => Command::Insert(at, item),
+            2 => Command::Insert(at, T::numbered(ledger, 7)),
             3 => Command::Remove(at),
             4 => Command::SwapRemove(at),
-            5 => Command::Set(at, item),
+            5 => Command::Set(at, T::numbered(ledger, 7)),
             6 => Command::Truncate(at),
             7 => Command::Clear,
             8 => Command::Reserve(self.lower()),
             9 => Command::ReserveExact(self.lower()),
             10 => Command::ShrinkToFit,
-            11 => Command::Resize(self.lower(), item),
+            11 => Command::Resize(self.lower(), T::numbered(ledger, 7)),
             12 => Command::ExtendFromSlice(self.items(ledger)?),
             13 => Command::Extend(self.items(ledger)?, self.lower()),
             14 => Command::Append(filled_list(ledger, self.size(), self.below(2))?),
@@ -186,7 +135,7 @@ fn blocks_in<T: Drop, G: Growth>(reply: &Reply<T, Lender, G>) -> u64 {
 }
 
 // Whether a command makes as many requests as its iterator's hint and items need, which contracts
-// and the crate `fill_sweep` say.
+// and `thin_vec_sweep` say.
 fn is_filling<T: Drop, G: Growth>(command: &Command<T, Lender, G>) -> bool {
     matches!(command, Command::Extend(..) | Command::Splice(..))
 }
@@ -293,16 +242,17 @@ pub fn assert_runs_right<T: Numbered, G: Growth, R: Abort>(rt: &R, ledger: &'sta
     assert_eq!(rt; (shortest, longest, refusals > 1000), (0, 30, true));
 }
 
-// Returns a command that needs memory for a list of 3,000 items without spare capacity.
-fn long_command<T: Numbered, G: Growth>(
-    ledger: &'static Ledger,
-    number: usize,
-) -> Result<Command<T, Lender, G>, AllocError> {
-    let item = T::numbered(ledger, 7);
-    let mut many = Vec::new(&ledger.alloc);
+// Makes 3000 items.
+fn many_items<T: Numbered>(ledger: &'static Ledger) -> Result<Vec<T, Lender>, AllocError> {
+    let mut items = Vec::new(&ledger.alloc);
     for _ in 0..3000 {
-        put(&mut many, T::numbered(ledger, 7))?;
+        put(&mut items, T::numbered(ledger, 7))?;
     }
+    Ok(items)
+}
+
+// Makes 1500 steps, of which each fourth is from the back.
+fn many_steps(ledger: &'static Ledger) -> Result<Vec<Step, Lender>, AllocError> {
     let mut steps = Vec::new(&ledger.alloc);
     for index in 0..1500 {
         let step = if index % 4 == 0 {
@@ -312,21 +262,29 @@ fn long_command<T: Numbered, G: Growth>(
         };
         put(&mut steps, step)?;
     }
+    Ok(steps)
+}
+
+// Returns a command that needs memory for a list of 3,000 items without spare capacity.
+fn long_command<T: Numbered, G: Growth>(
+    ledger: &'static Ledger,
+    number: usize,
+) -> Result<Command<T, Lender, G>, AllocError> {
     Ok(match number {
-        0 => Command::Push(item),
-        1 => Command::Insert(1500, item),
+        0 => Command::Push(T::numbered(ledger, 7)),
+        1 => Command::Insert(1500, T::numbered(ledger, 7)),
         2 => Command::Reserve(9000),
         3 => Command::ReserveExact(9000),
-        4 => Command::Resize(6000, item),
-        5 => Command::ExtendFromSlice(many),
-        6 => Command::Extend(many, 0),
-        7 => Command::Extend(many, 3000),
+        4 => Command::Resize(6000, T::numbered(ledger, 7)),
+        5 => Command::ExtendFromSlice(many_items(ledger)?),
+        6 => Command::Extend(many_items(ledger)?, 0),
+        7 => Command::Extend(many_items(ledger)?, 3000),
         8 => Command::Append(filled_list(ledger, 3000, 0)?),
         9 => Command::SplitOff(1500),
         10 => Command::Clone,
-        11 => Command::Drain(0, 1500, steps),
+        11 => Command::Drain(0, 1500, many_steps(ledger)?),
         12 => Command::ExtractIf(0, 3000, 1500),
-        _ => Command::Splice(1, 1500, steps, many, 0),
+        _ => Command::Splice(1, 1500, many_steps(ledger)?, many_items(ledger)?, 0),
     })
 }
 
@@ -371,19 +329,24 @@ pub fn assert_long_run_right<T: Numbered, G: Growth, R: Abort>(rt: &R, ledger: &
     let commands = pushes(ledger, 5000).ok().expect(rt, "memory");
     ledger.begin(0);
     let ran = run(alloc, &mut list, commands, &mut replies, &judge);
-    assert_eq!(rt; (alloc.requests(), replies.capacity()), (13, 5000));
+    assert_same(rt, (alloc.requests(), replies.capacity()), (13, 5000));
     let done = replies
         .as_slice()
         .iter()
         .filter(|reply| matches!(reply, Reply::Done));
-    assert_eq!(rt; (ran.is_ok(), list.len(), done.count()), (true, 5000, 5000));
+    assert_same(
+        rt,
+        (ran.is_ok(), list.len(), done.count()),
+        (true, 5000, 5000),
+    );
     let commands = pushes(ledger, 9000).ok().expect(rt, "memory");
     ledger.begin(1);
     let ran = run(alloc, &mut list, commands, &mut replies, &judge);
-    assert!(rt; ran == Err(ThinVecError::OutOfMemory));
-    assert_eq!(rt;
+    assert_same(rt, ran, Err(ThinVecError::OutOfMemory));
+    assert_same(
+        rt,
         (alloc.requests(), list.len(), replies.len()),
-        (1, 5000, 5000)
+        (1, 5000, 5000),
     );
     drop(replies);
     assert!(rt; is_clean::<T>(ledger, list.len(), list.capacity()));

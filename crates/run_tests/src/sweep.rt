@@ -3,11 +3,6 @@
 //!
 //! `twins.rt` makes each call on lists of `u64` and on the kit's `Vec`, and compares the items, so
 //! that a wrongly compiled loop is seen.
-#![tactic(auto)]
-
-#[cfg(test)]
 mod runs;
-#[cfg(test)]
 mod tests;
-#[cfg(test)]
 mod twins;

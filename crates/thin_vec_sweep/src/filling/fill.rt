@@ -1,5 +1,6 @@
-//! Calls that fill a list from an iterator: `extend`, `from_iter` and `collect`. Contracts only bound
-//! the capacity afterwards, so the tests compute the exact one, and how often the iterator is asked.
+//! Calls that fill a list from an iterator: `extend`, `from_iter` and `collect`. Contracts only
+//! bound the capacity afterwards, so the tests compute the exact one, and how often the iterator is
+//! asked.
 use crate::asserts::{assert_right, assert_same};
 use std::iter;
 use std::process::Abort;
@@ -50,7 +51,8 @@ impl Filling {
         true
     }
 
-    /// Grows the list to `capacity`, which is `None` if it overflows. Returns whether this succeeds.
+    /// Grows the list to `capacity`, which is `None` if it overflows. Returns whether this
+    /// succeeds.
     pub fn grow<T: Numbered>(&mut self, capacity: Option<usize>) -> bool {
         let Some(capacity) = capacity else {
             self.cause = Some(ThinVecError::CapacityOverflow);
@@ -100,8 +102,8 @@ impl Filling {
         self.nexts = self.nexts.saturating_add(1);
     }
 
-    /// Returns whether the list has room for more than 1,000,000 items, so that only a test with the
-    /// request refused can be made.
+    /// Returns whether the list has room for more than 1,000,000 items, so that only a test with
+    /// the request refused can be made.
     pub fn is_too_much<T: Numbered>(&self) -> bool {
         self.capacity > 1_000_000 && T::SIZE > 0
     }
@@ -116,8 +118,8 @@ pub fn fitting<T: Numbered>(capacity: usize) -> Option<usize> {
     }
 }
 
-/// An iterator that is passed to the call: the number of its items, and its size hint. If the hint is
-/// exact, `lower` is the number of the items.
+/// An iterator that is passed to the call: the number of its items, and its size hint. If the hint
+/// is exact, `lower` is the number of the items.
 #[derive(Clone, Copy)]
 pub struct Source {
     pub count: usize,
@@ -388,8 +390,8 @@ fn each_refusal<F: Fills<T, G>, T: Numbered, G: Ruled, R: Abort>(
     }
 }
 
-// Makes the call once, and checks what it did. Returns the number of its requests. A call that needs
-// too much memory is not made, and 1 is returned, unless its first request is refused.
+// Makes the call once, and checks what it did. Returns the number of its requests. A call that
+// needs too much memory is not made, and 1 is returned, unless its first request is refused.
 #[inline(never)]
 fn fill<F: Fills<T, G>, T: Numbered, G: Ruled, R: Abort>(
     rt: &R,

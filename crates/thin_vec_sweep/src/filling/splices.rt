@@ -4,7 +4,7 @@ ghost use Rattle.std.specs.Prelude.{◌≤◌, length};
 ghost use Rattle.thin_vec.specs.Edits.Splice.{SpliceKeeps};
 
 use crate::asserts::{assert_right, assert_same};
-use crate::fill::{Filling, HINTS, Source, check_filling, nth_source};
+use crate::filling::fill::{Filling, HINTS, Source, check_filling, nth_source};
 use std::alloc::Allocator;
 use std::iter::Iterator;
 use std::process::Abort;
@@ -46,8 +46,8 @@ fn due<T: Numbered, G: Ruled>(case: &Case<T, G>, range: (usize, usize), source: 
     due
 }
 
-// Computes what `finish` has to do if there are items after the range. `width` items are replaced in
-// a list of `length` items.
+// Computes what `finish` has to do if there are items after the range. `width` items are replaced
+// in a list of `length` items.
 fn due_before_tail<T: Numbered, G: Ruled>(
     due: &mut Filling,
     length: usize,
