@@ -21,8 +21,8 @@ DEFINITION = re.compile(
     r"^ *(?:(?:pub|abbrev|unfoldable|opaque) )*(?:(record|data) )?(?:pub )?"
     r"([A-Za-z_◌][^\s:({]*)\s*(?:[({].*)?(?::|$)"
 )
-# A definition, and not a lemma or a field. An opaque one has no word beside `pub`, but its type ends
-# with `Type 0`.
+# A definition, and not a lemma or a field. An opaque one has no word beside `pub`, but its type
+# ends with `Type 0`.
 KIND = re.compile(
     r"^ *(?:pub (?:record|data)\b|(?:abbrev|unfoldable|opaque) pub\b|pub \w+ :.*\bType 0$)"
 )

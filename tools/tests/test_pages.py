@@ -52,6 +52,12 @@ class Pages(ToolTest):
                 "README.md:11: this code is in no source file",
             ),
             ("README.md", "\nThere are 12 tests.\n", 'README.md:11: "12 tests" is a count'),
+            ("README.md", f"\n{101 * 'a'}\n", "README.md:11: this line has 101 columns"),
+            (
+                "crates/thin_examples/src/main.rt",
+                f"    // {94 * 'a'}\n",
+                "crates/thin_examples/src/main.rt:3: this line has 101 columns",
+            ),
             ("README.md", "\nSee `src/no.rt`.\n", "README.md:11: there is no file src/no.rt"),
             ("README.md", "\nRun `tools/no`.\n", "README.md:11: there is no tool no"),
             (
