@@ -1,7 +1,7 @@
 //! Random commands, which `run` of `thin_runner` executes. As in a sweep, the list itself says what
 //! is right.
 use crate::tests::judges::Digits;
-use crate::tests::made::assert_same;
+use crate::tests::made::{assert_same, items, steps};
 use std::alloc::{AllocError, Allocator};
 use std::process::Abort;
 use thin_runner::command::{Command, Reply, Step};
@@ -242,31 +242,12 @@ pub fn assert_runs_right<T: Numbered, G: Growth, R: Abort>(rt: &R, ledger: &'sta
     assert_eq!(rt; (shortest, longest, refusals > 1000), (0, 30, true));
 }
 
-// Makes 3000 items.
-fn many_items<T: Numbered>(ledger: &'static Ledger) -> Result<Vec<T, Lender>, AllocError> {
-    let mut items = Vec::new(&ledger.alloc);
-    for _ in 0..3000 {
-        put(&mut items, T::numbered(ledger, 7))?;
-    }
-    Ok(items)
-}
-
-// Makes 1500 steps, of which each fourth is from the back.
-fn many_steps(ledger: &'static Ledger) -> Result<Vec<Step, Lender>, AllocError> {
-    let mut steps = Vec::new(&ledger.alloc);
-    for index in 0..1500 {
-        let step = if index % 4 == 0 {
-            Step::Back
-        } else {
-            Step::Front
-        };
-        put(&mut steps, step)?;
-    }
-    Ok(steps)
-}
+// The steps of long commands: each fourth step is from the back.
+const FOURTHS: u64 = 0x1111_1111_1111_1111;
 
 // Returns a command that needs memory for a list of 3,000 items without spare capacity.
-fn long_command<T: Numbered, G: Growth>(
+fn long_command<T: Numbered, G: Growth, R: Abort>(
+    rt: &R,
     ledger: &'static Ledger,
     number: usize,
 ) -> Result<Command<T, Lender, G>, AllocError> {
@@ -276,15 +257,18 @@ fn long_command<T: Numbered, G: Growth>(
         2 => Command::Reserve(9000),
         3 => Command::ReserveExact(9000),
         4 => Command::Resize(6000, T::numbered(ledger, 7)),
-        5 => Command::ExtendFromSlice(many_items(ledger)?),
-        6 => Command::Extend(many_items(ledger)?, 0),
-        7 => Command::Extend(many_items(ledger)?, 3000),
+        5 => Command::ExtendFromSlice(items(rt, ledger, &[7; 3000])),
+        6 => Command::Extend(items(rt, ledger, &[7; 3000]), 0),
+        7 => Command::Extend(items(rt, ledger, &[7; 3000]), 3000),
         8 => Command::Append(filled_list(ledger, 3000, 0)?),
         9 => Command::SplitOff(1500),
         10 => Command::Clone,
-        11 => Command::Drain(0, 1500, many_steps(ledger)?),
+        11 => Command::Drain(0, 1500, steps(rt, ledger, 1500, FOURTHS)),
         12 => Command::ExtractIf(0, 3000, 1500),
-        _ => Command::Splice(1, 1500, many_steps(ledger)?, many_items(ledger)?, 0),
+        _ => {
+            let steps = steps(rt, ledger, 1500, FOURTHS);
+            Command::Splice(1, 1500, steps, items(rt, ledger, &[7; 3000]), 0)
+        }
     })
 }
 
@@ -297,7 +281,7 @@ pub fn assert_long_commands_right<T: Numbered, G: Growth, R: Abort>(
         for refused in 0..4 {
             ledger.begin(0);
             let mut list: List<T, G> = filled_list(ledger, 3000, 0).expect(rt, "memory");
-            let command = long_command(ledger, number).ok().expect(rt, "memory");
+            let command = long_command(rt, ledger, number).ok().expect(rt, "memory");
             let right = is_right(ledger, &mut list, command, 0, refused);
             assert!(rt;
                 right.unwrap_or(false),

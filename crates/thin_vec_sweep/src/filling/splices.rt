@@ -3,7 +3,7 @@ ghost use Rattle.std.specs.Iterator.{IsFinite};
 ghost use Rattle.std.specs.Prelude.{◌≤◌, length};
 ghost use Rattle.thin_vec.specs.Edits.Splice.{SpliceKeeps};
 
-use crate::asserts::{assert_right, assert_same};
+use crate::asserts::{assert_range, assert_right, assert_same};
 use crate::filling::fill::{Filling, HINTS, Source, check_filling, nth_source};
 use std::alloc::Allocator;
 use std::iter::Iterator;
@@ -157,7 +157,7 @@ fn splice_case<T: Numbered, G: Ruled, R: Abort>(rt: &R, ledger: &'static Ledger,
     }
     let claims = source.claims(rt, ledger);
     case.begin("splice");
-    assert!(rt; start <= end && end <= case.list.len());
+    assert_range(rt, start, end, case.list.len());
     let answer = splice(
         &mut case.list,
         (start, end),
