@@ -6,6 +6,7 @@ mod SlotMemory
 mod MethodSignatures
 mod Addresses
 mod WordConversionLemmas
+mod BlockMemory
 mod SharedRefLemmas
 mod BorrowLemmas
 pub mod BlockLemmas

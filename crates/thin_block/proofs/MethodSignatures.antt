@@ -55,6 +55,23 @@ module _ {M : Type 1} {𝓤 : Ura M} {𝓛 : Logic 𝓤} {K : Type 0} {Γ : List
       use1 𝓛 (raw (fact 𝓤 φ) ⊛ raw (Facts 𝓤 (ψ ∷ φs))) (id⊢ 𝓤 _) $ split k $
       heard k φ (λ x. heard_all k (ψ ∷ φs) (λ xs. next (x, xs)))
 
+-- `Each φs X` is the type of functions that take a proof of each fact in the list `φs`, and return
+-- an `X`.
+abbrev pub Each : List (Type 0) → Type 1 → Type 1
+Each [] X = X
+Each (φ ∷ φs) X = φ → Each φs X
+
+module _ {M : Type 1} {𝓤 : Ura M} {𝓛 : Logic 𝓤} {K : Type 0} {Γ : List (Item 𝓤)}
+    {G : Goal 𝓤 𝓛.H} where
+  -- Does the same as `heard_all`, but names each fact.
+  pub heard_each : K → (φs : List (Type 0)) → Each φs (Seq K 𝓛 Γ G)
+      → Seq K 𝓛 (raw (Facts 𝓤 φs) ∷ Γ) G
+  heard_each k [] next = drop k $ next
+  heard_each k (φ ∷ []) next = heard k φ next
+  heard_each k (φ ∷ ψ ∷ φs) next =
+      use1 𝓛 (raw (fact 𝓤 φ) ⊛ raw (Facts 𝓤 (ψ ∷ φs))) (id⊢ 𝓤 _) $ split k $
+      heard k φ (λ x. heard_each k (ψ ∷ φs) (next x))
+
 -- A contract says nothing about a number after the call.
 pub still : {M : Type 1} {𝓤 : Ura M} (𝓛 : Logic 𝓤) (n : ℕ) → Silent 𝓛 n (plain (λ _. usize)) yes
 still 𝓛 n κs x f = refl

@@ -59,3 +59,13 @@ may_have_padding s a c = nat_lt 16 s && (nat_le 8 a && nat_le 32 c)
 -- header. The prover unfolds this definition only on request.
 unfoldable pub has_padding : ℕ → ℕ → ℕ → Bool
 has_padding s a c = may_have_padding s a c && nat_lt (c * s) (2 ^ 62)
+
+-- `front_bytes s a c` is the number of bytes before the header of a block for `c` items of size `s`
+-- and alignment `a`. Together with the header, they take as many bytes as an item.
+abbrev pub front_bytes : ℕ → ℕ → ℕ → ℕ
+front_bytes s a c = if has_padding s a c then s - 16 else 0
+
+-- `memory_bytes s a c` is the number of bytes that a block for `c` items of size `s` and alignment
+-- `a` requests.
+abbrev pub memory_bytes : ℕ → ℕ → ℕ → ℕ
+memory_bytes s a c = if has_padding s a c then (c + 2) * s else block_bytes s a c

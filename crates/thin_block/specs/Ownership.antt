@@ -152,6 +152,17 @@ pads R c = has_padding (type_size R) (type_align R) c
 abbrev pub padded_type : Ty → ℕ → Ty
 padded_type τ c = ty_array τ (c + 2)
 
+-- `memory_type_if p w τ c` is the type of the memory that a block of `c` slots for items of the type
+-- `τ` requests. `p` says whether the block is padded. `w` says how its items form words if it is
+-- not.
+abbrev pub memory_type_if : Bool → Option (ℕ × ℕ) → Ty → ℕ → Ty
+memory_type_if true w τ c = padded_type τ c
+memory_type_if false w τ c = requested_type_of w τ c
+
+-- `memory_type R c` is `memory_type_if` for items of the type `R`.
+abbrev pub memory_type : RattleType → ℕ → Ty
+memory_type R c = memory_type_if (pads R c) (words_of R) (erased_type R) c
+
 -- `end_of s c o` is the offset directly after the `c` slots of a block at the offset `o`. Each slot
 -- takes `s` bytes.
 abbrev pub end_of : ℕ → ℕ → ℕ → ℕ

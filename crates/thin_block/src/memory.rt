@@ -1,9 +1,9 @@
 //! Methods that allocate, grow, shrink and free whole blocks.
-ghost use Rattle.std.specs.Prelude.{◌≡◌, ◌-◌, ◌++◌, ◌<◌, ◌≤◌, [], false, take, IfErr, IfOk, OnErr, OnOk, length};
+ghost use Rattle.std.specs.Prelude.{◌≡◌, ◌-◌, ◌++◌, ◌<◌, ◌≤◌, [], take, IfErr, IfOk, OnErr, OnOk, length};
 ghost use Rattle.std.specs.declared.option.Option.TheVariants.{Some};
 ghost use Rattle.std.specs.Mem.{type_size};
 ghost use Rattle.std.specs.Align.{type_align};
-ghost use Rattle.thin_block.specs.Capacity.{Fits, block_align, block_bytes, has_padding};
+ghost use Rattle.thin_block.specs.Capacity.{Fits, block_align, front_bytes, memory_bytes};
 ghost use Rattle.thin_block.specs.Cost.{add_realloc, no_cost, add_request};
 ghost use Rattle.thin_block.specs.Slots.{IsPacked, empty_slots};
 
@@ -11,7 +11,7 @@ use crate::block::Block;
 use crate::errors::ThinVecError;
 use crate::in_place::LONG;
 use crate::sizes::{
-    HEADER, align_of_block, bytes_of_block, bytes_of_padded, is_padded, item_align, item_size,
+    HEADER, HEADER_WORDS, align_of_block, bytes_of_block, bytes_of_padded, is_padded, item_size,
     may_be_padded,
 };
 use std::alloc::{AllocError, Allocator};
@@ -61,13 +61,12 @@ impl<T, A: Allocator> Block<T, A> {
         }) }
         ensures cause { IfErr result (λ cause. cause ≡ ThinVecError.OutOfMemory) }
     {
+        let align = align_of_block::<T>();
         let block = if is_padded::<T>(cap) {
-            let bytes = bytes_of_padded::<T>(cap);
             let front = item_size::<T>() - HEADER;
-            Block::allocate_padded(alloc, cap, bytes, item_align::<T>(), front, self)
+            Block::allocate_sized(alloc, cap, bytes_of_padded::<T>(cap), align, front, self)
         } else {
-            let bytes = bytes_of_block::<T>(cap);
-            Block::allocate_block(alloc, cap, bytes, align_of_block::<T>(), self)
+            Block::allocate_sized(alloc, cap, bytes_of_block::<T>(cap), align, 0, self)
         };
         match block {
             Ok(block) => Ok(block),
@@ -195,7 +194,7 @@ impl<T, A: Allocator> Block<T, A> {
         if may_be_padded::<T>(cap) {
             self.free_large(alloc, cap);
         } else {
-            self.free_block(alloc, bytes_of_block::<T>(cap), align_of_block::<T>());
+            self.free_sized(alloc, cap, bytes_of_block::<T>(cap), align_of_block::<T>(), 0);
         }
     }
 
@@ -203,6 +202,7 @@ impl<T, A: Allocator> Block<T, A> {
     // has no code for padded blocks.
     #[cold]
     #[inline(never)]
+    #[tactic(auto, unfolding(crate::specs::Capacity::has_padding))]
     fn free_large(self, alloc: &A, cap: usize)
         requires same_allocator { IsAllocatedBy self.alloc alloc.now }
         requires nonzero { 0 < cap }
@@ -210,10 +210,12 @@ impl<T, A: Allocator> Block<T, A> {
         requires empty { self.slots ≡ empty_slots (length self.slots) }
         requires fits { Fits T.row cap }
     {
+        let align = align_of_block::<T>();
         if is_padded::<T>(cap) {
-            self.free_padded(alloc, cap, bytes_of_padded::<T>(cap), item_align::<T>());
+            let front = item_size::<T>() - HEADER;
+            self.free_sized(alloc, cap, bytes_of_padded::<T>(cap), align, front);
         } else {
-            self.free_block(alloc, bytes_of_block::<T>(cap), align_of_block::<T>());
+            self.free_sized(alloc, cap, bytes_of_block::<T>(cap), align, 0);
         }
     }
 
@@ -225,22 +227,25 @@ impl<T, A: Allocator> Block<T, A> {
         let _none = unsafe { ManuallyDrop::new_unchecked(self) };
     }
 
-    // Allocates a block that is not padded and is to replace the block `old`, as `replacement`
-    // does. At run time, `old` is not used: it names the counters that the new block continues. The
-    // caller computes `bytes` and `align`, so that the proof by hand has no other call to follow
-    // than that of the allocator.
-    fn allocate_block(
+    // Allocates a block that is to replace the block `old`, as `replacement` does. At run time,
+    // `old` is not used: it names the counters that the new block continues. `front` is the number
+    // of bytes before the header: it is 0 unless the block is padded. The caller computes `bytes`,
+    // `align` and `front`, so that the proof by hand has no other call to follow than that of the
+    // allocator.
+    #[inline(always)]
+    fn allocate_sized(
         alloc: &A,
         cap: usize,
         bytes: usize,
         align: usize,
+        front: usize,
         _old: &Block<T, A>,
     ) -> Result<Block<T, A>, AllocError>
         requires nonzero { 0 < cap }
         requires fits { Fits T.row cap }
-        requires unpadded { has_padding (type_size T.row) (type_align T.row) cap ≡ false }
-        requires bytes { bytes ≡ block_bytes (type_size T.row) (type_align T.row) cap }
+        requires bytes { bytes ≡ memory_bytes (type_size T.row) (type_align T.row) cap }
         requires align { align ≡ block_align (type_align T.row) }
+        requires front { front ≡ front_bytes (type_size T.row) (type_align T.row) cap }
         ensures ok { IfOk result (λ block. block_view block ≡ record {
           slots = empty_slots cap;
           len = 0;
@@ -249,38 +254,46 @@ impl<T, A: Allocator> Block<T, A> {
         }) }
     {
         match alloc.allocate(bytes, align) {
-            Ok(start) => {
-                let at = start as *mut usize;
-                unsafe {
-                    *at = cap;
-                    *at.add(1) = 0;
+            Ok(start) => unsafe {
+                let at = start.add(front) as *mut usize;
+                if front > 0 {
+                    let end = (at.add(HEADER_WORDS) as *mut T).add(cap) as *mut *mut u8;
+                    *end = start;
                 }
+                *at = cap;
+                *at.add(1) = 0;
                 Ok(Block {
                     at,
                     item: PhantomData,
                     handle: PhantomData,
                 })
-            }
+            },
             Err(refused) => Err(refused),
         }
     }
 
-    // Frees the allocation of the block, which is not padded. `bytes` and `align` are arguments for
-    // the reason that `allocate_block` gives.
-    fn free_block(self, alloc: &A, bytes: usize, align: usize)
+    // Frees the allocation of the block. `bytes`, `align` and `front` are arguments for the reason
+    // that `allocate_sized` gives.
+    fn free_sized(self, alloc: &A, cap: usize, bytes: usize, align: usize, front: usize)
         requires same_allocator { self.alloc ≡ Some alloc.now }
+        requires capacity { cap ≡ length self.slots }
         requires empty { self.slots ≡ empty_slots (length self.slots) }
-        requires unpadded { has_padding (type_size T.row) (type_align T.row)
-            (length self.slots) ≡ false }
-        requires bytes { bytes ≡ block_bytes (type_size T.row) (type_align T.row)
-            (length self.slots) }
+        requires bytes { bytes ≡ memory_bytes (type_size T.row) (type_align T.row) cap }
         requires align { align ≡ block_align (type_align T.row) }
+        requires front { front ≡ front_bytes (type_size T.row) (type_align T.row) cap }
     {
         let Block {
             at,
             item: _,
             handle: _,
         } = self;
-        unsafe { alloc.deallocate(at as *mut u8, bytes, align) }
+        unsafe {
+            let start = if front > 0 {
+                *((at.add(HEADER_WORDS) as *mut T).add(cap) as *mut *mut u8)
+            } else {
+                at as *mut u8
+            };
+            alloc.deallocate(start, bytes, align)
+        }
     }
 }

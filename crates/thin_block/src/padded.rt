@@ -21,66 +21,6 @@ use std::mem::replace;
 impl<T, A: Allocator> Block<T, A> {
     ghost use Rattle.thin_block.specs.Block.{IsAllocatedBy, Reallocates, block_view};
 
-    // Allocates a padded block that is to replace the block `old`, as `allocate_block` does.
-    // `front` is the number of bytes before its header.
-    pub(crate) fn allocate_padded(
-        alloc: &A,
-        cap: usize,
-        bytes: usize,
-        align: usize,
-        front: usize,
-        _old: &Block<T, A>,
-    ) -> Result<Block<T, A>, AllocError>
-        requires nonzero { 0 < cap }
-        requires fits { Fits T.row cap }
-        requires padded { has_padding (type_size T.row) (type_align T.row) cap ≡ true }
-        requires bytes { bytes ≡ (cap + 2) * type_size T.row }
-        requires align { align ≡ type_align T.row }
-        requires front { front + 16 ≡ type_size T.row }
-        ensures ok { IfOk result (λ block. block_view block ≡ record {
-          slots = empty_slots cap;
-          len = 0;
-          alloc = Some alloc.now;
-          cost = add_request _old.now.cost;
-        }) }
-    {
-        match alloc.allocate(bytes, align) {
-            Ok(start) => unsafe {
-                let at = start.add(front) as *mut usize;
-                let end = (at.add(HEADER_WORDS) as *mut T).add(cap) as *mut *mut u8;
-                *end = start;
-                *at = cap;
-                *at.add(1) = 0;
-                Ok(Block {
-                    at,
-                    item: PhantomData,
-                    handle: PhantomData,
-                })
-            },
-            Err(refused) => Err(refused),
-        }
-    }
-
-    // Frees the allocation of the padded block.
-    pub(crate) fn free_padded(self, alloc: &A, cap: usize, bytes: usize, align: usize)
-        requires same_allocator { self.alloc ≡ Some alloc.now }
-        requires capacity { cap ≡ length self.slots }
-        requires empty { self.slots ≡ empty_slots (length self.slots) }
-        requires padded { has_padding (type_size T.row) (type_align T.row) cap ≡ true }
-        requires bytes { bytes ≡ (cap + 2) * type_size T.row }
-        requires align { align ≡ type_align T.row }
-    {
-        let Block {
-            at,
-            item: _,
-            handle: _,
-        } = self;
-        unsafe {
-            let end = (at.add(HEADER_WORDS) as *mut T).add(cap) as *mut *mut u8;
-            alloc.deallocate(*end, bytes, align)
-        }
-    }
-
     // Resizes the padded block of length `len` to `cap` slots, and may leave it at its address.
     // This function is cold for the same reason as `resize_in_place`.
     #[cold]

@@ -1,0 +1,151 @@
+-- This file proves the contract of `free_sized`. The proof joins the parts of the block into one
+-- piece of memory, which the function returns to the allocator.
+use Rattle.std.proofs.Common.{◌≡◌, ℕ, ◌+◌, List, [], ◌∷◌, ◌++◌, ◌*◌, ◌<◌, ◌^◌, Bool, length, true, false, refl, sym, ap, subst, ◌∙◌, arith, w64, Some, Option}
+use Rattle.thin_block.proofs.WalkPrelude.{Ty, Body, place, Val, vint, vptr, vunit, inst_fn, SProp, Lft, Share, Fml, froom, flft, size, align, capped, capped_is, Env, ⊑_trans, tables, After, Item, Sq, prop, ‵, raw, ◌⊛◌, given, exists, pick, group, later, at_ret, ◌$◌, !, by, move, keep, drop, use1, use2, use3, split, join, learn, rewrite, regoal, fsplit, feq_i, await, whole, sub, stop, fld, load, look, lit, bin, through, unit_lit, of_opd, no_more, and_then, first, blocks, branches, exec, returns, alloc_all, pass_all, free_all, look_at, get, get_in, sets, sets_last, lands_last, env, holding, forget_but, ltb→lt, nltb→le, Wp, RattleType, Ptr, block_ptr, nothing, calls_at_last, walk_of, token, fm, proved_at, leaves, type_size, type_align, R, slot_at, then_runs, out_of_block, after, head, inside, ty_ptr, settles, Goes-blank, Gives, at_gives, Gives-goes, Gives-Gives, empty_slots, gapped_items}
+use types.Kit.{post}
+use contract.Lifetimes.{toks}
+use Rattle.core.proofs.alloc.Calls.{seen}
+use Rattle.thin_block.specs.Ownership.{fits_block, slots_own, header_owns, pads, words_of, erased_type, end_of, memory_type, memory_type_if}
+use Rattle.thin_block.proofs.sizes.SizesLemmas.{rounded}
+use Rattle.thin_block.proofs.BlockMemory.{front_tells, memory_size, memory_align, memory_short}
+use Rattle.thin_block.proofs.SlotMemory.{to_raw}
+use Rattle.thin_block.proofs.WordConversionLemmas.{gather}
+use Rattle.thin_block.proofs.padded.PaddedMemory.{Opened, padded_apart, array_in, memory_out}
+use Rattle.thin_block.proofs.MethodSignatures.{item, source, others, dropped, all_go, arrives, heard_each, enters, blank, still, word, args, header, t, block_val, block_had, items, reach, slot_found}
+use Rattle.thin_block.specs.contracts.block.Block.free_sized.{ended, clauses}
+use Rattle.thin_block.specs.contracts.block.Block.free_sized.Key.{name as #self}
+use Rattle.thin_block.proofs.block.Block.free_sized.Statement.{statement}
+use Rattle.thin_block.proofs.block.Block.free_sized.Code as compiled
+
+pub free_sized_spec : {M : Type 1} → statement M
+free_sized_spec 𝓤 𝓛 𝓜 𝓡 wired T A LT LA g d dd met md =
+    let E = item LT in let Y = source LA g d dd in let En₀ = ended T A g d dd in
+    let c = clauses T A g d dd 𝓛 𝓜.mem 𝓡.returns in let ps = En₀.signature.params in
+    let hs = dropped ps En₀.kept in let fn = inst_fn (args E Y) compiled.function in
+    let 𝓣 = tables 𝓤 𝓛.H 𝓜 𝓡 𝓡.env in let C = 𝓣.C in let Λ = 𝓣.Λ in
+    let q = still 𝓛 3 in
+    proved_at 𝓛 En₀ hs c 𝓜 𝓡 (
+      Goes-blank 𝓛 3 (slot_at 0 ps) En₀.kept.0 (λ κs x f. tt),
+      all_go 𝓛 (others ps) En₀.kept.1 ((λ κs x f. refl), (q, (q, (q, (q, tt))))),
+    )
+    (#self (args E Y)) fn (compiled.unfolded 𝓤 𝓛.H 𝓜 𝓡 wired (T, (A, tt)) d dd) (λ z are.
+    let Post : Val → SProp 𝓤 = (walk_of 𝓛 En₀ hs c).post z in
+    let a = z.0.3 in
+    let Rt : RattleType = R E in
+    let κ : Lft = z.0.0.0 in
+    let q : Share = z.0.1.0 in
+    let x = a.0 in
+    let h = a.1.0.now in
+    let handle_at = a.1.0.ref_ptr in
+    let cap : ℕ = a.1.1.0 in
+    let bytes : ℕ = a.1.1.1.0 in
+    let al : ℕ = a.1.1.1.1.0 in
+    let front : ℕ = a.1.1.1.1.1.0 in
+    let xs : List (Option T.Denot) = x.slots in
+    let s : ℕ = type_size Rt in
+    let τ : Ty = memory_type Rt cap in
+    let tok : Ty → Ptr → Fml = token Y h in
+    let Tokens : Item 𝓤 = raw (toks 𝓛 2 z.0.0.1 z.0.1.1) in
+    arrives (slot_at 0 ps) (others ps) 𝓛 z.0 ((c z.0.0 z.0.3).requires z.1) (
+    move ! (4 ∷ []) $ heard_each ! (_ ∷ _ ∷ _ ∷ _ ∷ _ ∷ _ ∷ _ ∷ _ ∷ [])
+    (λ leT le from cap_is bare bytes_are align_is front_is.
+    move ! (0 ∷ 3 ∷ []) $ block_had E Y ! x z.0.4.0 (λ b o at told fits.
+    -- The context is now: the header; the slots; what the other arguments own; the lifetime token
+    -- of the shared reference to the allocator; the other lifetime tokens.
+    let fits' : fits_block Rt cap ≡ true =
+    subst (λ (n : ℕ). fits_block Rt n ≡ true) (sym cap_is) fits in
+    let near : cap * s < 2 ^ 64 = (let low = reach Rt cap cap fits' (omega arith) in omega arith) in
+    let about = front_tells Rt cap front front_is in
+    let short = memory_short Rt cap fits' in
+    let sized : capped (size τ) ≡ bytes = ap capped (memory_size Rt cap ∙ sym bytes_are)
+    ∙ capped_is bytes (omega arith) in
+    let laid : capped (align τ) ≡ al = ap capped (memory_align Rt cap ∙ sym align_is)
+    ∙ capped_is al (let most = (rounded Rt 0).most in omega arith) in
+    rewrite ! 0 (λ (u : Option A.Denot). ‵ (header (t E Y) Rt x.len (length xs) u b o))
+    from refl $
+    rewrite ! 0 (λ (n : ℕ). ‵ (header_owns tok Rt x.len n b o)) (sym cap_is) refl $
+    rewrite ! 1 (λ (ys : List (Option T.Denot)). ‵ (slots_own Rt ys b (o + 16)))
+    (bare ∙ ap (λ (n : ℕ). empty_slots n) (sym cap_is)) refl $
+    move ! (2 ∷ []) $ fsplit ! $ fsplit ! $ drop ! $ keep ! (2 ∷ 3 ∷ 0 ∷ 4 ∷ 5 ∷ []) $
+    -- The context is now: the header; the slots; the reference to the allocator; its lifetime
+    -- token; the other lifetime tokens.
+    enters ! fn (block_val (block_ptr b o) ∷ vptr handle_at.0 handle_at.1 ∷ vint w64
+    cap ∷ vint w64 bytes ∷ vint w64 al ∷ vint w64 front ∷ [])
+    (λ i. told i ++ (are.1.0.0 i ++ (are.1.1.0.0 i ++ (are.1.1.1.0.0 i ++ (are.1.1.1.1.0.0 i
+    ++ (are.1.1.1.1.1.0.0 i ++ [])))))) $
+    let w₁ = word are.1.1.0.1 in let w₂ = word are.1.1.1.0.1 in let w₃ = word are.1.1.1.1.0.1 in
+    let w₄ = word are.1.1.1.1.1.0.1 in
+    alloc_all ! (λ l. pass_all ! refl
+    ((tt, (tt, (tt, (tt, tt)))), ((tt, tt), (w₁, (w₂, (w₃, (w₄, tt)))))) $
+    let En : Env 𝓤 𝓛.H = env fn.locals l in
+    let inner : Body = inside (head (after 1 fn.body)) in
+    let Last : After 𝓤 𝓛.H = out_of_block 𝓛
+    (then_runs 𝓛 C Λ En (after 2 fn.body) (at_ret En Post)) in
+    -- Frees the memory, which begins at the offset `start`.
+    let freed : (start : ℕ) → Sq 𝓛 (‵ (froom τ b start) ∷ ‵ (tok τ (block_ptr b start))
+    ∷ ‵ (seen Y κ handle_at h) ∷ ‵ (flft κ q) ∷ Tokens
+    ∷ holding 𝓛 En ((10, vptr b start) ∷ (2, vptr handle_at.0 handle_at.1) ∷ (4, vint w64 bytes)
+    ∷ (5, vint w64 al) ∷ [])) (prop (Wp 𝓤 𝓛.H C Λ En (after 2 inner) (post 𝓤 𝓛.H Last))) = λ start.
+    let y = at_gives Y 𝓛 𝓜.mem 𝓡.returns κ q handle_at h b start bytes al τ in
+    exec ! C Λ En (after 2 inner) Last $
+    sets ! (of_opd ! (get ! refl)) refl (tt, tt) $
+    move ! (2 ∷ 3 ∷ []) $ join ! $ move ! (1 ∷ 2 ∷ 0 ∷ []) $
+    use3 𝓛 (raw ((Gives Y 𝓛 𝓜.mem 𝓡.returns).pre y))
+    (Gives-goes Y 𝓛 𝓜.mem 𝓡.returns κ q handle_at h (⊑_trans κ z.0.0.1.1.0 A.lives z.0.2.0 le)
+    b start bytes al τ sized laid are.1.1.1.0.1 are.1.1.1.1.0.1) $
+    calls_at_last ! (fm 𝓛 𝓜 𝓡) (Gives Y 𝓛 𝓜.mem 𝓡.returns) (met.deallocate dd) y
+    (and_then ! (get ! refl)
+    (and_then ! (get ! refl) (and_then ! (get ! refl) (and_then ! (get ! refl) (no_more !)))))
+    (λ v.
+    use1 𝓛 (later (given (v ≡ vunit) (‵ (flft κ q))))
+    (Gives-Gives Y 𝓛 𝓜.mem 𝓡.returns κ q handle_at h b start bytes al τ v) $ await ! tt $
+    learn ! (λ e. join ! $
+    regoal ! (λ (u : Val). settles En (place 16 []) u Last) e refl $
+    lands_last ! refl (tt, tt) $
+    exec ! C Λ En (after 2 fn.body) (at_ret En Post) $
+    sets ! (of_opd ! (unit_lit !)) refl (tt, tt) $
+    returns ! (look_at ! 0 refl) $ free_all ! refl $
+    feq_i ! (List Val) (vunit ∷ []) (vunit ∷ []) refl $ nothing ! $ blank ! 6 $
+    move ! (3 ∷ 0 ∷ 2 ∷ 1 ∷ []) $
+    by ! (leaves 𝓛 En₀ hs c z vunit tt (tt, (tt, (tt, (tt, (tt, (tt, tt))))))
+    (tt, (tt, (tt, (tt, (tt, (tt, tt))))))))) in
+    sets ! (of_opd ! (get_in ! (fld ! refl (stop !)) (sub ! 0 refl (whole !)))) refl (tt, tt) $
+    first ! $ blocks ! $
+    sets ! (bin ! (lit ! tt) (get ! refl) tt) refl (tt, tt) $
+    first ! $ branches ! (get ! refl)
+    (λ more.
+    let pad : pads Rt cap ≡ true = about.padded (ltb→lt 0 front more) in
+    let end : ℕ = end_of s cap o in
+    let here : cap ≡ 0 + cap = omega arith in
+    use1 𝓛 (exists (λ (start : ℕ). given (start + s ≡ o + 16)
+    (‵ (Opened 𝓛 E b cap pad tok x.len o start))))
+    (padded_apart 𝓛 E b cap pad tok x.len o) $ pick ! (λ start. learn ! (λ place.
+    fsplit ! $ move ! (1 ∷ []) $ fsplit ! $
+    slot_found E ! b o cap near refl ((tt, tt), (tt, tt)) $
+    sets ! (of_opd ! (get ! refl)) refl (tt, tt) $
+    sets_last ! (of_opd ! (load ! (through ! refl (stop !)) (look ! 0 refl))) refl (tt, tt) $
+    use1 𝓛 (‵ (froom ty_ptr b end)) (𝓛.laws.at_room ty_ptr b end (vptr b start)) $
+    move ! (2 ∷ 0 ∷ 3 ∷ 1 ∷ []) $ group ! 4 $
+    use1 𝓛 (‵ (gapped_items tok Rt (block_ptr b start) 1 0 (cap + 2) []))
+    (array_in 𝓛 E b cap pad tok start o place 0 cap (cap + 2) [] here refl refl) $
+    use1 𝓛 (‵ (froom (memory_type_if true (words_of Rt) (erased_type Rt) cap) b start) ⊛ ‵
+    (tok (memory_type_if true (words_of Rt) (erased_type Rt) cap) (block_ptr b start)))
+    (memory_out 𝓛 E b cap tok start) $ split ! $
+    rewrite ! 0 (λ (p : Bool). ‵ (froom (memory_type_if p (words_of Rt) (erased_type Rt) cap) b
+    start)) (sym pad) refl $
+    rewrite ! 1 (λ (p : Bool). ‵ (tok (memory_type_if p (words_of Rt) (erased_type Rt) cap)
+    (block_ptr b start))) (sym pad) refl $
+    forget_but ! En (10 ∷ 2 ∷ 4 ∷ 5 ∷ []) refl $ freed start)))
+    (λ other.
+    let unpadded = about.ordinary (let none = nltb→le 0 front other in omega arith) in
+    sets_last ! (of_opd ! (get ! refl)) refl (tt, tt) $ move ! (1 ∷ []) $
+    use1 𝓛 (‵ (froom (items Rt cap) b (o + 16))) (to_raw E 𝓛 b cap (o + 16)) $
+    move ! (1 ∷ 0 ∷ []) $
+    use2 𝓛 (‵ (froom (memory_type_if false (words_of Rt) (erased_type Rt) cap) b o) ⊛ ‵
+    (tok (memory_type_if false (words_of Rt) (erased_type Rt) cap) (block_ptr b o)))
+    (gather 𝓛 E b cap o unpadded tok x.len) $ split ! $
+    rewrite ! 0 (λ (p : Bool). ‵ (froom (memory_type_if p (words_of Rt) (erased_type Rt) cap) b
+    o)) (sym unpadded) refl $
+    rewrite ! 1 (λ (p : Bool). ‵ (tok (memory_type_if p (words_of Rt) (erased_type Rt) cap)
+    (block_ptr b o))) (sym unpadded) refl $
+    forget_but ! En (10 ∷ 2 ∷ 4 ∷ 5 ∷ []) refl $ freed o))))))
