@@ -1,8 +1,8 @@
 -- These lemmas begin and end the proofs of methods that take `&mut self` or `&self`. They also say
 -- which arguments a method gives back to its caller.
 -- `pub use` lines export lemmas of other files that several of these proofs cite.
-use Rattle.std.proofs.Common.{◌≡◌, true, ℕ, zero, suc, ◌+◌, ◌^◌, ◌<◌, List, [], ◌∷◌, length, refl, sym, w64, T}
-use Rattle.thin_block.proofs.WalkPrelude.{Ura, Fn, ty_int, Args, a_type, a_number, dcons, dnil, named, Val, vint, vptr, vunit, WT, has_ty, full_share, SProp, ent, sep, id⊢, Fml, Lft, Share, ftrue, fsep, feq, flft, fbor, Calls, Loops, Wp, WpFn, fact, tables, Logic, sem, Item, Goal, Seq, Sq, Step, step, ‵, raw, ◌⊛◌, prop, runs, at_ret, keep, ◌$◌, ◌∵◌, !, qed, move, use1, split, join, fsplit, fsplit3, fjoin, fjoin3, feq_i, rewrite, regoal, drop, enter, exec, env, yes, cell_at, mem, bounded, number, Laws, RattleType, owns, usize, block_ptr, Slot, plain, types_at, nothing, heard, Stays, stay_ref, stay_dropped, Goes-ref, Goes-dropped, Al, El, R, Facts, Shown, after, Dict, fobs, fauth, fobor, hidden_shr, fits_block, slots_own}
+use Rattle.std.proofs.Common.{◌≡◌, true, ℕ, zero, suc, ◌+◌, ◌^◌, ◌<◌, List, [], ◌∷◌, length, refl, sym, w64, T, Some, Option}
+use Rattle.thin_block.proofs.WalkPrelude.{Ura, Fn, ty_int, Args, a_type, a_number, dcons, dnil, named, Val, vint, vptr, vunit, WT, has_ty, full_share, SProp, ent, sep, id⊢, Fml, Lft, Share, ftrue, fsep, feq, flft, fbor, Calls, Loops, Wp, WpFn, fact, tables, Logic, sem, Item, Goal, Seq, Sq, Step, step, ‵, raw, ◌⊛◌, prop, runs, at_ret, keep, ◌$◌, ◌∵◌, !, qed, move, use1, use3, split, join, fat, header_owns, dealloc_right, fsplit, fsplit3, fjoin, fjoin3, feq_i, rewrite, regoal, drop, enter, exec, env, yes, cell_at, mem, bounded, number, Laws, RattleType, owns, usize, block_ptr, Slot, plain, types_at, nothing, heard, Stays, stay_ref, stay_dropped, Goes-ref, Goes-dropped, Al, El, R, Facts, Shown, after, Dict, fobs, fauth, fobor, hidden_shr, fits_block, slots_own}
 use base.Stored.{Gv}
 use prog.Model.{Model}
 use contract.Lifetimes.{Lfts, Shares, toks}
@@ -259,6 +259,28 @@ module _ (E : El) (Y : Al) {M : Type 1} {𝓤 : Ura M} {𝓛 : Logic 𝓤} {K : 
   closes_over k z r y b o at long = step (λ s.
       rewrite k 1 (λ (c : ℕ). ‵ (header (t E Y) (R E) y.len c y.alloc b o)) (sym long) refl $
       move k (1 ∷ 0 ∷ []) $ block_closes E Y k z y b o r.ref_ptr.0 r.ref_ptr.1 at $ s)
+
+  -- Puts the block behind `r` back together as `closes_over` does, after the code has written the
+  -- capacity `n` and the length `m`.
+  pub header_closes : K → Soaks G → {Γ : List (Item 𝓤)} {κ : Lft} {q : Share} {u v : Gv}
+      (r : MutBor (Br E Y).Denot) (y : (Br E Y).Denot) (a : Y.row.Denot) (b o n m : ℕ)
+      → y.at ≡ block_ptr b o → y.alloc ≡ Some a → length y.slots ≡ n → y.len ≡ m
+      → fits_block (R E) n ≡ true
+      → Step K 𝓛 (‵ (fobs r.ghost_name ((Br E Y).coded.code y)) ∷ ‵
+      (fbor κ (Body (mem (Br E Y)) r.ref_ptr.0 r.ref_ptr.1 r.ghost_name)) ∷ ‵ (flft κ q) ∷ Γ) G
+      (‵ (fat full_share (ty_int w64) b o (vint w64 n)) ∷ ‵
+      (fat full_share (ty_int w64) b (8 + o) (vint w64 m)) ∷ ‵
+      (dealloc_right (t E Y a) (R E) n b o) ∷ ‵ (slots_own (R E) y.slots b (o + 16)) ∷ ‵
+      (cell_at full_share (Br E Y).mir (block_val (block_ptr b o) ∷ []) r.ref_ptr.0 r.ref_ptr.1)
+      ∷ ‵ (fobor κ q (Body (mem (Br E Y)) r.ref_ptr.0 r.ref_ptr.1 r.ghost_name)) ∷ ‵
+      (fobs r.ghost_name u) ∷ ‵ (fauth r.ghost_name v) ∷ Γ) G
+  header_closes k z r y a b o n m at from long counted fits = step (λ s.
+      use3 𝓛 (‵ (header_owns (t E Y a) (R E) m n b o))
+      (header_written 𝓛 (t E Y a) (R E) m n b o fits) $
+      rewrite k 0 (λ (i : ℕ). ‵ (header_owns (t E Y a) (R E) i n b o)) (sym counted) refl $
+      rewrite k 0 (λ (d : Option Y.row.Denot). ‵ (header (t E Y) (R E) y.len n d b o)) (sym from)
+      refl $
+      move k (1 ∷ 0 ∷ []) $ closes_over k z r y b o at long $ s)
 
   -- Ends the proof of a method that takes `&mut self` and `m` further parameters.
   pub leaves_with : K → {κ : Lft} {q : Share} {us : List Val} {F : Fml} {T : Item 𝓤}

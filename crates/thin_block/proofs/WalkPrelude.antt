@@ -44,7 +44,7 @@ pub use sound.WpLaws.{WpFn-mono}
 pub use types.ByLocal.{alloc_all, pass_all, free_all, look_at, get, get_in, through, sets, sets_last, lands_as, env, lands_last, is, forget_but, get_tag, give_at, holding, take_at}
 pub use types.Kit.{‵, raw, ◌⊛◌, later, ◌$◌, !, qed, move, drop, use1, use2, split, updating, await, done, Post as After, at_ret, keep, use0, split3, join, rewrite, fsplit, fjoin, feq_i, suffices, flt_i, some as exists, given, learn, pick, use3, fsplit3, by, regoal, prop, ◌∵◌, fjoin3, group, feq_l, Item, Sq, any_q, runs, some, Step, step, assume, frame as keeps, Goal, Seq, check, fpack, now, settles, show}
 pub use types.Logic.{Logic, sem}
-pub use types.Part.{whole, agg, sub, look_in}
+pub use types.Part.{whole, agg, sub, look_in, store_in}
 pub use types.Run.{stop, fld, lit, bin, init, of_opd, no_more, and_then, assigns, assigns_last, first, blocks, exec, returns, look, load, unit_lit, enter, store, size_word, skips, branches, Below, addr, again, jumps, loops, size_lit, switches_on}
 pub use types.SemTy.{cells}
 pub use Rattle.core.proofs.alloc.Calls.{token, Al, Answered, Gives, Gives-Gives, Gives-goes, Goes-blank, Takes, Takes-gives, Takes-goes, answers, at_gives, at_takes}

@@ -1,6 +1,6 @@
 //! Functions that resize a block with the allocator's methods `grow` and `shrink`, which may leave
 //! the block at its address.
-ghost use Rattle.std.specs.Prelude.{◌≡◌, ◌+◌, ◌*◌, ◌/◌, ◌<◌, ◌≤◌, IfErr, IfOk, List, length};
+ghost use Rattle.std.specs.Prelude.{◌≡◌, ◌+◌, ◌*◌, ◌/◌, ◌<◌, ◌≤◌, OnErr, OnOk, List, length};
 ghost use Rattle.std.specs.declared.option.Option.TheVariants.{Some};
 ghost use Rattle.std.specs.Int.{div_ceil};
 ghost use Rattle.std.specs.Mem.{type_size};
@@ -15,8 +15,6 @@ use crate::errors::ThinVecError;
 use crate::sizes::HEADER_WORDS;
 use crate::words::{Word, make_words};
 use std::alloc::{AllocError, Allocator};
-use std::marker::PhantomData;
-use std::mem::replace;
 
 // The least total size, in units of 8 bytes, of items that are resized as words. For fewer, it is
 // cheaper to allocate a new block.
@@ -93,30 +91,19 @@ impl<T, A: Allocator> Block<T, A> {
         let old = self.cap();
         let held = K + old.div_ceil(M);
         let wanted = K + cap.div_ceil(M);
-        let block = replace(self, Block::none());
-        let (block, outcome) = match block.resize_words::<M, K>(
-            alloc,
-            len,
-            old,
-            cap,
-            len / M,
-            held,
-            wanted,
-        ) {
-            Ok(resized) => (resized, Ok(())),
-            Err(same) => (same, Err(ThinVecError::OutOfMemory)),
-        };
-        replace(self, block).forget_unallocated();
-        outcome
+        match self.resize_words::<M, K>(alloc, len, old, cap, len / M, held, wanted) {
+            Ok(()) => Ok(()),
+            Err(_refused) => Err(ThinVecError::OutOfMemory),
+        }
     }
 
-    // Returns this block with `cap` slots and the same items, or the unchanged block if the
-    // allocator fails. The function converts the items into `count` words, and resizes the memory
-    // of the block from `held` to `wanted` words. The header is the gap.
+    // Changes the number of slots of the block from `old` to `cap`. The function converts the items
+    // into `count` words, and resizes the memory of the block from `held` to `wanted` words. The
+    // header is the gap. If the allocator fails, the block is unchanged.
     //
     // The caller computes all numbers, so that the proof by hand follows a short body.
     fn resize_words<const M: usize, const K: usize>(
-        self,
+        &mut self,
         alloc: &A,
         len: usize,
         old: usize,
@@ -124,12 +111,12 @@ impl<T, A: Allocator> Block<T, A> {
         count: usize,
         held: usize,
         wanted: usize,
-    ) -> Result<Block<T, A>, Block<T, A>>
-        requires same_allocator { self.alloc ≡ Some alloc.now }
+    ) -> Result<(), AllocError>
+        requires same_allocator { self.old.alloc ≡ Some alloc.now }
         requires in_words { in_words (type_size T.row) ≡ Some (M, K) }
-        requires packed { IsPacked self.slots self.len }
-        requires len { len ≡ self.len }
-        requires capacity { old ≡ length self.slots }
+        requires packed { IsPacked self.old.slots self.old.len }
+        requires len { len ≡ self.old.len }
+        requires capacity { old ≡ length self.old.slots }
         requires len_le_cap { len ≤ cap }
         requires fits { Fits T.row cap }
         requires count { count * M ≡ len }
@@ -138,20 +125,16 @@ impl<T, A: Allocator> Block<T, A> {
         requires room { K ≤ count }
 
         // On success.
-        ensures ok { IfOk result (λ block. block_view block ≡ record (block_view self) {
-          slots = write_slots 0 (slot_range 0 self.len self.slots) (empty_slots cap);
+        ensures ok { OnOk result (block_view self.new ≡ record (block_view self.old) {
+          slots = write_slots 0 (slot_range 0 self.old.len self.old.slots) (empty_slots cap);
           alloc = Some alloc.now;
-          cost = add_realloc self.len self.cost;
+          cost = add_realloc self.old.len self.old.cost;
         }) }
 
         // On failure.
-        ensures err { IfErr result (λ block. block ≡ self) }
+        ensures err { OnErr result (self.new ≡ self.old) }
     {
-        let Block {
-            at,
-            item: _,
-            handle: _,
-        } = self;
+        let at = self.at;
         unsafe {
             make_words(at.add(HEADER_WORDS) as *mut [T; M], count);
             let words = at as *mut Word<T, M>;
@@ -160,20 +143,13 @@ impl<T, A: Allocator> Block<T, A> {
                     let at = start as *mut usize;
                     *at = cap;
                     *at.add(1) = len;
-                    Ok(Block {
-                        at,
-                        item: PhantomData,
-                        handle: PhantomData,
-                    })
+                    self.at = at;
+                    Ok(())
                 }
-                Err(_refused) => {
+                Err(refused) => {
                     *at = old;
                     *at.add(1) = len;
-                    Err(Block {
-                        at,
-                        item: PhantomData,
-                        handle: PhantomData,
-                    })
+                    Err(refused)
                 }
             }
         }

@@ -1,13 +1,13 @@
-//! Functions that allocate, resize and free padded blocks. In a padded block, the header and the
+//! Functions that resize padded blocks. In a padded block, the header and the
 //! unused memory before it take as many bytes as an item. So the allocator's methods `grow` and
 //! `shrink`, which resize only arrays, can resize the block as an array of items. The address of
 //! the allocation is stored directly after the slots, since a pointer can be moved up but not down.
-ghost use Rattle.std.specs.Prelude.{◌≡◌, ◌+◌, ◌-◌, ◌*◌, ◌<◌, ◌≤◌, IfErr, IfOk, length, true};
+ghost use Rattle.std.specs.Prelude.{◌≡◌, ◌+◌, ◌<◌, ◌≤◌, OnErr, OnOk, length, true};
 ghost use Rattle.std.specs.declared.option.Option.TheVariants.{Some};
 ghost use Rattle.std.specs.Mem.{type_size};
 ghost use Rattle.std.specs.Align.{type_align};
 ghost use Rattle.thin_block.specs.Capacity.{Fits, has_padding};
-ghost use Rattle.thin_block.specs.Cost.{add_realloc, add_request};
+ghost use Rattle.thin_block.specs.Cost.{add_realloc};
 ghost use Rattle.thin_block.specs.Slots.{IsPacked, empty_slots, write_slots, slot_range};
 
 use crate::block::Block;
@@ -15,8 +15,6 @@ use crate::errors::ThinVecError;
 use crate::in_place::resize_array;
 use crate::sizes::{HEADER, HEADER_WORDS, item_size};
 use std::alloc::{AllocError, Allocator};
-use std::marker::PhantomData;
-use std::mem::replace;
 
 impl<T, A: Allocator> Block<T, A> {
     ghost use Rattle.thin_block.specs.Block.{IsAllocatedBy, Reallocates, block_view};
@@ -46,27 +44,16 @@ impl<T, A: Allocator> Block<T, A> {
     {
         let old = self.cap();
         let front = item_size::<T>() - HEADER;
-        let block = replace(self, Block::none());
-        let (block, outcome) = match block.resize_padded(
-            alloc,
-            len,
-            old,
-            cap,
-            old + 2,
-            cap + 2,
-            front,
-        ) {
-            Ok(resized) => (resized, Ok(())),
-            Err(same) => (same, Err(ThinVecError::OutOfMemory)),
-        };
-        replace(self, block).forget_unallocated();
-        outcome
+        match self.resize_padded(alloc, len, old, cap, old + 2, cap + 2, front) {
+            Ok(()) => Ok(()),
+            Err(_refused) => Err(ThinVecError::OutOfMemory),
+        }
     }
 
     // Resizes the memory of the block as an array from `held` to `wanted` items. The padding and
-    // the header are the gap.
+    // the header are the gap. If the allocator fails, the block is unchanged.
     fn resize_padded(
-        self,
+        &mut self,
         alloc: &A,
         len: usize,
         old: usize,
@@ -74,13 +61,13 @@ impl<T, A: Allocator> Block<T, A> {
         held: usize,
         wanted: usize,
         front: usize,
-    ) -> Result<Block<T, A>, Block<T, A>>
-        requires same_allocator { self.alloc ≡ Some alloc.now }
+    ) -> Result<(), AllocError>
+        requires same_allocator { self.old.alloc ≡ Some alloc.now }
         requires padded { has_padding (type_size T.row) (type_align T.row) old ≡ true }
         requires padded_new { has_padding (type_size T.row) (type_align T.row) cap ≡ true }
-        requires packed { IsPacked self.slots self.len }
-        requires len { len ≡ self.len }
-        requires capacity { old ≡ length self.slots }
+        requires packed { IsPacked self.old.slots self.old.len }
+        requires len { len ≡ self.old.len }
+        requires capacity { old ≡ length self.old.slots }
         requires len_le_cap { len ≤ cap }
         requires fits { Fits T.row cap }
         requires nonempty { 0 < len }
@@ -89,20 +76,16 @@ impl<T, A: Allocator> Block<T, A> {
         requires front { front + 16 ≡ type_size T.row }
 
         // On success.
-        ensures ok { IfOk result (λ block. block_view block ≡ record (block_view self) {
-          slots = write_slots 0 (slot_range 0 self.len self.slots) (empty_slots cap);
+        ensures ok { OnOk result (block_view self.new ≡ record (block_view self.old) {
+          slots = write_slots 0 (slot_range 0 self.old.len self.old.slots) (empty_slots cap);
           alloc = Some alloc.now;
-          cost = add_realloc self.len self.cost;
+          cost = add_realloc self.old.len self.old.cost;
         }) }
 
         // On failure.
-        ensures err { IfErr result (λ block. block ≡ self) }
+        ensures err { OnErr result (self.new ≡ self.old) }
     {
-        let Block {
-            at,
-            item: _,
-            handle: _,
-        } = self;
+        let at = self.at;
         unsafe {
             let end = (at.add(HEADER_WORDS) as *mut T).add(old) as *mut *mut T;
             let start = *end;
@@ -113,21 +96,14 @@ impl<T, A: Allocator> Block<T, A> {
                     *at.add(1) = len;
                     let end = (at.add(HEADER_WORDS) as *mut T).add(cap) as *mut *mut T;
                     *end = start;
-                    Ok(Block {
-                        at,
-                        item: PhantomData,
-                        handle: PhantomData,
-                    })
+                    self.at = at;
+                    Ok(())
                 }
-                Err(_refused) => {
+                Err(refused) => {
                     *at = old;
                     *at.add(1) = len;
                     *end = start;
-                    Err(Block {
-                        at,
-                        item: PhantomData,
-                        handle: PhantomData,
-                    })
+                    Err(refused)
                 }
             }
         }
