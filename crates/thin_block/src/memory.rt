@@ -11,7 +11,7 @@ use crate::block::Block;
 use crate::errors::ThinVecError;
 use crate::in_place::LONG;
 use crate::sizes::{
-    HEADER, HEADER_WORDS, align_of_block, bytes_of_block, bytes_of_padded, is_padded, item_size,
+    HEADER_WORDS, Layout, align_of_block, bytes_of_block, is_padded, item_size, layout_of,
     may_be_padded,
 };
 use std::alloc::{AllocError, Allocator};
@@ -49,7 +49,6 @@ impl<T, A: Allocator> Block<T, A> {
 
     // Allocates a block of `cap` empty slots with one request for memory. The new block is meant to
     // replace this block, so it continues the counters of this block, which does not change.
-    #[tactic(auto, unfolding(crate::specs::Capacity::has_padding))]
     fn replacement(&self, alloc: &A, cap: usize) -> Result<Block<T, A>, ThinVecError>
         requires nonzero { 0 < cap }
         requires fits { Fits T.row cap }
@@ -61,14 +60,8 @@ impl<T, A: Allocator> Block<T, A> {
         }) }
         ensures cause { IfErr result (λ cause. cause ≡ ThinVecError.OutOfMemory) }
     {
-        let align = align_of_block::<T>();
-        let block = if is_padded::<T>(cap) {
-            let front = item_size::<T>() - HEADER;
-            Block::allocate_sized(alloc, cap, bytes_of_padded::<T>(cap), align, front, self)
-        } else {
-            Block::allocate_sized(alloc, cap, bytes_of_block::<T>(cap), align, 0, self)
-        };
-        match block {
+        let Layout { bytes, front } = layout_of::<T>(cap);
+        match Block::allocate_sized(alloc, cap, bytes, align_of_block::<T>(), front, self) {
             Ok(block) => Ok(block),
             Err(_refused) => Err(ThinVecError::OutOfMemory),
         }
@@ -202,7 +195,6 @@ impl<T, A: Allocator> Block<T, A> {
     // has no code for padded blocks.
     #[cold]
     #[inline(never)]
-    #[tactic(auto, unfolding(crate::specs::Capacity::has_padding))]
     fn free_large(self, alloc: &A, cap: usize)
         requires same_allocator { IsAllocatedBy self.alloc alloc.now }
         requires nonzero { 0 < cap }
@@ -210,13 +202,8 @@ impl<T, A: Allocator> Block<T, A> {
         requires empty { self.slots ≡ empty_slots (length self.slots) }
         requires fits { Fits T.row cap }
     {
-        let align = align_of_block::<T>();
-        if is_padded::<T>(cap) {
-            let front = item_size::<T>() - HEADER;
-            self.free_sized(alloc, cap, bytes_of_padded::<T>(cap), align, front);
-        } else {
-            self.free_sized(alloc, cap, bytes_of_block::<T>(cap), align, 0);
-        }
+        let Layout { bytes, front } = layout_of::<T>(cap);
+        self.free_sized(alloc, cap, bytes, align_of_block::<T>(), front);
     }
 
     /// Consumes a block without slots. Unlike `release`, this function does not test whether the

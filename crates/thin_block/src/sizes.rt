@@ -1,10 +1,10 @@
 //! Computes the size of a block in bytes, and tests whether a block of a given capacity is small
 //! enough to be allocated.
-ghost use Rattle.std.specs.Prelude.{◌≡◌, ◌↔◌, ◌+◌, ◌*◌, ◌^◌, IsTrue, nat_lt, true};
+ghost use Rattle.std.specs.Prelude.{◌≡◌, ◌↔◌, ◌*◌, ◌^◌, IsTrue, nat_lt};
 ghost use Rattle.std.specs.Mem.{type_size};
 ghost use Rattle.std.specs.Align.{type_align};
 ghost use prog.Memory.{capped};
-ghost use Rattle.thin_block.specs.Capacity.{block_align, block_bytes, Fits, has_padding, may_have_padding};
+ghost use Rattle.thin_block.specs.Capacity.{block_align, block_bytes, Fits, front_bytes, has_padding, may_have_padding, memory_bytes};
 
 use std::mem::{align_of, size_of};
 
@@ -76,14 +76,34 @@ fn has_room_for_padding<T>(cap: usize) -> bool
     cap * item_size::<T>() < 1 << 62
 }
 
-// Returns the size in bytes of a padded block for `cap` items.
+// The memory that a block requests.
+pub(crate) struct Layout {
+    // The size in bytes.
+    pub(crate) bytes: usize,
+    // The number of bytes before the header. It is 0 unless the block is padded.
+    pub(crate) front: usize,
+}
+
+// Returns the layout of a block for `cap` items.
+#[inline(always)]
 #[tactic(auto, unfolding(crate::specs::Capacity::has_padding))]
-pub(crate) fn bytes_of_padded<T>(cap: usize) -> usize
-    requires fits { Fits T.row cap }
-    requires padded { has_padding (type_size T.row) (type_align T.row) cap ≡ true }
-    ensures value { result ≡ (cap + 2) * type_size T.row }
+pub(crate) fn layout_of<T>(cap: usize) -> Layout
+    requires { Fits T.row cap }
+    ensures bytes { result.bytes ≡ memory_bytes (type_size T.row) (type_align T.row) cap }
+    ensures front { result.front ≡ front_bytes (type_size T.row) (type_align T.row) cap }
 {
-    (cap + 2) * item_size::<T>()
+    if is_padded::<T>(cap) {
+        let size = item_size::<T>();
+        Layout {
+            bytes: (cap + 2) * size,
+            front: size - HEADER,
+        }
+    } else {
+        Layout {
+            bytes: bytes_of_block::<T>(cap),
+            front: 0,
+        }
+    }
 }
 
 /// Returns whether a block for `cap` items is small enough to be allocated. This is the case if
