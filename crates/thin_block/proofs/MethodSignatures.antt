@@ -44,26 +44,19 @@ module _ {M : Type 1} {𝓤 : Ura M} (𝓛 : Logic 𝓤) {n : ℕ} where
   all_go (s ∷ ss) ks silent =
       (Goes-dropped 𝓛 n s ks.0 silent.0, all_go ss ks.1 silent.1)
 
-module _ {M : Type 1} {𝓤 : Ura M} {𝓛 : Logic 𝓤} {K : Type 0} {Γ : List (Item 𝓤)}
-    {G : Goal 𝓤 𝓛.H} where
-  -- Removes the facts `φs` from the proof context, and lets the rest of the proof use them.
-  pub heard_all : K → (φs : List (Type 0)) → (Shown φs → Seq K 𝓛 Γ G)
-      → Seq K 𝓛 (raw (Facts 𝓤 φs) ∷ Γ) G
-  heard_all k [] next = drop k $ next tt
-  heard_all k (φ ∷ []) next = heard k φ next
-  heard_all k (φ ∷ ψ ∷ φs) next =
-      use1 𝓛 (raw (fact 𝓤 φ) ⊛ raw (Facts 𝓤 (ψ ∷ φs))) (id⊢ 𝓤 _) $ split k $
-      heard k φ (λ x. heard_all k (ψ ∷ φs) (λ xs. next (x, xs)))
-
 -- `Each φs X` is the type of functions that take a proof of each fact in the list `φs`, and return
 -- an `X`.
 abbrev pub Each : List (Type 0) → Type 1 → Type 1
 Each [] X = X
 Each (φ ∷ φs) X = φ → Each φs X
 
+each : {X Y : Type 1} (φs : List (Type 0)) → (X → Y) → Each φs X → Each φs Y
+each [] f x = f x
+each (φ ∷ φs) f g = λ p. each φs f (g p)
+
 module _ {M : Type 1} {𝓤 : Ura M} {𝓛 : Logic 𝓤} {K : Type 0} {Γ : List (Item 𝓤)}
     {G : Goal 𝓤 𝓛.H} where
-  -- Does the same as `heard_all`, but names each fact.
+  -- Removes the facts `φs` from the proof context, and gives a name to each.
   pub heard_each : K → (φs : List (Type 0)) → Each φs (Seq K 𝓛 Γ G)
       → Seq K 𝓛 (raw (Facts 𝓤 φs) ∷ Γ) G
   heard_each k [] next = drop k $ next
@@ -178,20 +171,21 @@ module _ (E : El) (Y : Al) {M : Type 1} {𝓤 : Ura M} (𝓛 : Logic 𝓤) {n : 
   -- Begins the proof of a method that takes `&mut self` and requires the facts `φs`. The rest of
   -- the proof may use these facts.
   pub begins_with : {Bd : Lfts (suc n) → Type 0} {P : SProp 𝓤} (x : Passed lent ss Bd)
-      (φs : List (Type 0)) → (Shown φs → Sq 𝓛 (Entered x []) (prop P))
+      (φs : List (Type 0)) → Each φs (Sq 𝓛 (Entered x []) (prop P))
       → ent 𝓤 (sep 𝓤 (Entry lent ss 𝓛 x) (Facts 𝓤 φs)) P
   begins_with x φs next = starts x (Facts 𝓤 φs)
-      (move ! (5 ∷ []) $ heard_all ! φs (λ said. next said))
+      (move ! (5 ∷ []) $ heard_each ! φs next)
 
   -- Does the same as `begins_with`, but for a method that does not need what its other arguments
   -- own.
   pub begins : {Bd : Lfts (suc n) → Type 0} {P : SProp 𝓤} (x : Passed lent ss Bd)
       (φs : List (Type 0))
-      → (Shown φs → Sq 𝓛 (‵ (fobs x.3.0.ghost_name ((Br E Y).coded.code x.3.0.now)) ∷ ‵
+      → Each φs (Sq 𝓛 (‵ (fobs x.3.0.ghost_name ((Br E Y).coded.code x.3.0.now)) ∷ ‵
       (fbor x.0.0 (Body (mem (Br E Y)) x.3.0.ref_ptr.0 x.3.0.ref_ptr.1 x.3.0.ghost_name))
       ∷ ‵ (flft x.0.0 x.1.0) ∷ raw (toks 𝓛 n x.0.1 x.1.1) ∷ []) (prop P))
       → ent 𝓤 (sep 𝓤 (Entry lent ss 𝓛 x) (Facts 𝓤 φs)) P
-  begins x φs next = begins_with x φs (λ said. keep ! (0 ∷ 1 ∷ 2 ∷ 3 ∷ []) $ next said)
+  begins x φs next =
+      begins_with x φs (each φs (λ s. keep ! (0 ∷ 1 ∷ 2 ∷ 3 ∷ []) $ s) next)
 
   -- Begins the proof of a method that takes `&self`.
   pub seen : {Bd : Lfts (suc n) → Type 0} {P : SProp 𝓤} (x : Passed shared ss Bd) (Q : SProp 𝓤)

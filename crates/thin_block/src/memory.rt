@@ -187,7 +187,13 @@ impl<T, A: Allocator> Block<T, A> {
         if may_be_padded::<T>(cap) {
             self.free_large(alloc, cap);
         } else {
-            self.free_sized(alloc, cap, bytes_of_block::<T>(cap), align_of_block::<T>(), 0);
+            self.free_sized(
+                alloc,
+                cap,
+                bytes_of_block::<T>(cap),
+                align_of_block::<T>(),
+                0,
+            );
         }
     }
 

@@ -9,7 +9,7 @@ use Rattle.core.proofs.slots.Runs.{of_space, to_values}
 use Rattle.std_alloc.proofs.vec.Blocks.{all}
 use Rattle.std_alloc.proofs.vec.Spares.{Row, parts_typed, From, at_from, Made, from_goes, from_gives, Into, at_into, Into-goes, Into-gives}
 use Rattle.thin_block.proofs.slots.CopyCall.{Copied, at_copied, IsCopy, Copied-goes, Copied-gives}
-use Rattle.thin_block.proofs.MethodSignatures.{item, source, others, dropped, all_go, arrives, heard_all, token_out, enters, closes_over, leaves_unit, ptr_of, opens_self, continues, word, Br, sz, around, run_out, run_in, of_items, to_room, empty-run, length-written, near, its_ptr, slot_found}
+use Rattle.thin_block.proofs.MethodSignatures.{item, source, others, dropped, all_go, arrives, heard_each, token_out, enters, closes_over, leaves_unit, ptr_of, opens_self, continues, word, Br, sz, around, run_out, run_in, of_items, to_room, empty-run, length-written, near, its_ptr, slot_found}
 use Rattle.thin_block.specs.contracts.block.Block.copy_in.{ended, clauses}
 use Rattle.thin_block.specs.contracts.block.Block.copy_in.Key.{name as #self}
 use Rattle.thin_block.proofs.block.Block.copy_in.Statement.{statement}
@@ -43,9 +43,7 @@ copy_in_spec 𝓤 𝓛 𝓜 𝓡 wired T A LT LA copies gc dc g d dd metc met md
     let xs : List T.Denot = items.now in
     let n : ℕ = length xs in
     arrives (slot_at 0 ps) (others ps) 𝓛 z.0 ((c z.0.0 z.0.3).requires z.1) (
-    move ! (4 ∷ []) $ heard_all ! (_ ∷ _ ∷ _ ∷ _ ∷ []) (λ said.
-    let lives = said.0 in let within : i + n ≤ length x.slots = said.1.1.0 in
-    let bare : (k : ℕ) → i ≤ k → k < i + n → slot x.slots k ≡ None = said.1.1.1 in
+    move ! (4 ∷ []) $ heard_each ! (_ ∷ _ ∷ _ ∷ _ ∷ []) (λ lives _ within bare.
     let roomy = are.1.1.0.0.1 in
     let fk : n < 2 ^ 64 = roomy.0 in
     fsplit3 ! $ drop ! $ move ! (4 ∷ []) $ fsplit ! $ drop ! $ fsplit ! $

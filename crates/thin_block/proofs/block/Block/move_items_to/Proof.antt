@@ -11,7 +11,7 @@ use Rattle.thin_block.proofs.Addresses.{near, slot_found}
 use Rattle.thin_block.specs.contracts.block.Block.move_items_to.{ended, clauses}
 use Rattle.thin_block.specs.contracts.block.Block.move_items_to.Key.{name as #self}
 use Rattle.thin_block.proofs.block.Block.move_items_to.Statement.{statement}
-use Rattle.thin_block.proofs.MethodSignatures.{item, source, others, dropped, all_go, heard_all}
+use Rattle.thin_block.proofs.MethodSignatures.{item, source, others, dropped, all_go, heard_each}
 use Rattle.core.proofs.ptr.copy_nonoverlapping.Met as copy_met
 use Rattle.thin_block.proofs.block.Block.move_items_to.Code as compiled
 
@@ -68,9 +68,7 @@ move_items_to_spec 𝓤 𝓛 𝓜 𝓡 wired T A LT LA g d dd met md =
     qed 𝓛 (((‵ (flft z.0.0.0 z.0.1.0) ⊛ ‵ (flft z.0.0.1.0 z.0.1.1.0) ⊛ ‵ (flft κ₂ q₂) ⊛ ‵ (flft κ₃ z.0.1.1.1.1.0) ⊛ ‵ ftrue) ⊛ ‵
     (owns (types_at ps z.0.0) a vss))
     ∷ raw ((c z.0.0 z.0.3).requires z.1) ∷ []) ∵
-    move ! (1 ∷ []) $ heard_all ! (_ ∷ _ ∷ Source ∷ Target ∷ Filled ∷ Empty ∷ []) (λ said.
-    let lives = said.0 in let source = said.1.1.0 in let target = said.1.1.1.0 in
-    let filled = said.1.1.1.1.0 in let bare = said.1.1.1.1.1 in
+    move ! (1 ∷ []) $ heard_each ! (_ ∷ _ ∷ Source ∷ Target ∷ Filled ∷ Empty ∷ []) (λ lives _ source target filled bare.
     let items = full-run x.slots from k source filled in
     let xs : List T.Denot = items.0 in
     let long : length xs ≡ k = sym (length-map xs Some) ∙ ap length (sym items.1)

@@ -27,10 +27,7 @@ move_within_spec 𝓤 𝓛 𝓜 𝓡 wired T A LT LA g d dd met md =
     let k : ℕ = z.0.3.1.1.1.1.0 in let up : Bool = z.0.3.1.1.1.1.1.0 in
     let from : ℕ = low + a in let to : ℕ = low + d in
     let κ₁ : Lft = z.0.0.1.0 in let q₁ : Share = z.0.1.1.0 in
-    begins E Y 𝓛 ss z.0 (_ ∷ _ ∷ _ ∷ _ ∷ _ ∷ _ ∷ _ ∷ []) (λ said.
-    let lives = said.0 in let source : from + k ≤ cap = said.1.1.0 in
-    let target : to + k ≤ cap = said.1.1.1.0 in let filled = said.1.1.1.1.0 in
-    let above = said.1.1.1.1.1.0 in let below = said.1.1.1.1.1.1 in
+    begins E Y 𝓛 ss z.0 (_ ∷ _ ∷ _ ∷ _ ∷ _ ∷ _ ∷ _ ∷ []) (λ lives _ source target filled above below.
     let items = full-run x.slots from k source filled in
     let xs : List T.Denot = items.0 in
     let long : length xs ≡ k = sym (length-map xs Some) ∙ ap length (sym items.1)

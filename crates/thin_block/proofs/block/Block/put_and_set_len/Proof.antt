@@ -23,8 +23,7 @@ put_and_set_len_spec 𝓤 𝓛 𝓜 𝓡 wired T A LT LA g d dd met md =
     let cap : ℕ = length x.slots in
     let got = one E z.0.4.1.1.0 ((lawful E 𝓛).typed value z.0.4.1.1.0 are.1.1.0) in
     let v : Val = got.0 in let good = got.2 in
-    begins_with E Y 𝓛 ss z.0 (_ ∷ _ ∷ _ ∷ _ ∷ _ ∷ []) (λ said.
-    let within : i < cap = said.1.1.0 in let counted : n ≤ cap = said.1.1.1.1 in
+    begins_with E Y 𝓛 ss z.0 (_ ∷ _ ∷ _ ∷ _ ∷ _ ∷ []) (λ _ _ within bare counted.
     let fl = are.1.1.1.0.1 in
     let alloc = alloc_there x.alloc x.slots x.sound.1 (omega arith) in
     let h : A.Denot = alloc.0 in
@@ -37,7 +36,7 @@ put_and_set_len_spec 𝓤 𝓛 𝓜 𝓡 wired T A LT LA g d dd met md =
     let here : ℕ = i * sz E + (o + 16) in let fm = near E x.slots i fits (omega arith) in
     sets ! (of_opd ! (its_ptr E Y ! refl)) refl (tt, tt) $ first ! $ blocks ! $
     slot_found E ! b o i fm refl ((tt, tt), (tt, tt)) $
-    takes_slot E ! b (o + 16) x.slots i within said.1.1.1.0 $
+    takes_slot E ! b (o + 16) x.slots i within bare $
     use1 𝓛 (‵ (froom (layout T) b here)) (𝓛.laws.raw-room (layout T) b here) $
     -- The context is now: memory for the item; the other slots; the header; the open borrow (4
     -- entries); the other lifetime tokens; the resources that the item owns.

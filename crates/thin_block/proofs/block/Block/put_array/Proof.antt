@@ -28,8 +28,7 @@ put_array_spec 𝓤 𝓛 𝓜 𝓡 wired T A N LT LA fits_N g d dd met md =
     let r = z.0.3.0 in let x = r.now in let i : ℕ = z.0.3.1.0 in
     let values : List T.Denot = z.0.3.1.1.0 in
     let Arr : RattleType = ArrayAt (R E) (param 2 (number N)) in
-    begins_with E Y 𝓛 ss z.0 (_ ∷ _ ∷ _ ∷ _ ∷ _ ∷ _ ∷ []) (λ said.
-    let within : i + N ≤ length x.slots = said.1.1.1.1.0 in let bare = said.1.1.1.1.1 in
+    begins_with E Y 𝓛 ss z.0 (_ ∷ _ ∷ _ ∷ _ ∷ _ ∷ _ ∷ []) (λ _ _ _ _ within bare.
     let got = alone (ty_array (layout T) N) z.0.4.1.1.0
     (((array_at_laws 2 (R E) (param_laws 0 T LT) N).lawful 𝓛).typed values z.0.4.1.1.0 are.1.1.0)
     in

@@ -77,8 +77,22 @@ resize_padded_spec 𝓤 𝓛 𝓜 𝓡 wired T A LT LA g d dd met md =
     (λ i. are.0.0 i ++ (are.1.0.0 i ++ (are.1.1.0.0 i ++ (are.1.1.1.0.0 i ++ (are.1.1.1.1.0.0 i
     ++ (are.1.1.1.1.1.0.0 i ++ (are.1.1.1.1.1.1.0.0 i ++ (are.1.1.1.1.1.1.1.0.0 i ++ []))))))))
     $
-    alloc_all ! (λ l. pass_all ! refl ((tt, tt), ((tt, tt), (word fl, (word fo, (word fc,
-    (word fh, (word fw, (word are.1.1.1.1.1.1.1.0.1, tt)))))))) $
+    alloc_all ! (λ l. pass_all ! refl (
+      (tt, tt),
+      (
+        (tt, tt),
+        (
+          word fl,
+          (
+            word fo,
+            (
+              word fc,
+              (word fh, (word fw, (word are.1.1.1.1.1.1.1.0.1, tt))),
+            ),
+          ),
+        ),
+      ),
+    ) $
     let En : Env 𝓤 H = env fn.locals l in
     opens_self E Y ! tt r (λ b o at fits.
     let wide : Padded s (type_align Rt) old = padded_tells s (type_align Rt) old pad in

@@ -126,8 +126,22 @@ resize_words_spec 𝓤 𝓛 𝓜 𝓡 wired T A m k LT LA fits_m fits_k g d dd m
     (λ i. are.0.0 i ++ (are.1.0.0 i ++ (are.1.1.0.0 i ++ (are.1.1.1.0.0 i ++ (are.1.1.1.1.0.0 i
     ++ (are.1.1.1.1.1.0.0 i ++ (are.1.1.1.1.1.1.0.0 i ++ (are.1.1.1.1.1.1.1.0.0 i ++ []))))))))
     $
-    alloc_all ! (λ l. pass_all ! refl ((tt, tt), ((tt, tt), (word fl, (word fo, (word fc,
-    (word fn_, (word fh, (word fw, tt)))))))) $
+    alloc_all ! (λ l. pass_all ! refl (
+      (tt, tt),
+      (
+        (tt, tt),
+        (
+          word fl,
+          (
+            word fo,
+            (
+              word fc,
+              (word fn_, (word fh, (word fw, tt))),
+            ),
+          ),
+        ),
+      ),
+    ) $
     let En : Env 𝓤 H = env fn.locals l in
     opens_self E Y ! tt r (λ b o at fits.
     let here : Ptr = block_ptr b o in

@@ -2,7 +2,7 @@
 use Rattle.std.proofs.Common.{◌≡◌, ℕ, ◌+◌, ◌*◌, ◌-◌, ◌^◌, ◌<◌, ◌≤◌, List, ◌∷◌, [], ◌++◌, length, Some, refl, sym, ap, subst, ◌∙◌, arith, w64}
 use Rattle.thin_block.proofs.WalkPrelude.{length-map, Val, vint, vptr, inst_fn, Lft, ‵, ◌$◌, !, move, keep, use1, fjoin, feq_i, flt_i, suffices, done, agg, stop, fld, look, load, bin, of_opd, no_more, and_then, first, blocks, returns, alloc_all, pass_all, free_all, look_at, through, sets, sets_last, get, slice_val, walk_of, ends_at, proved_at, R, pointer_in, pointer_out, fhide, elements_shared, says}
 use Rattle.thin_block.proofs.SharedRefLemmas.{block_seen, run_seen}
-use Rattle.thin_block.proofs.MethodSignatures.{item, source, others, dropped, all_go, heard_all, seen, enters, leaves, continues, word, args, sz, reach, full-run, length-run, near, slot_found}
+use Rattle.thin_block.proofs.MethodSignatures.{item, source, others, dropped, all_go, heard_each, seen, enters, leaves, continues, word, args, sz, reach, full-run, length-run, near, slot_found}
 use Rattle.thin_block.specs.contracts.block.Block.slice.{ended, clauses}
 use Rattle.thin_block.specs.contracts.block.Block.slice.Key.{name as #self}
 use Rattle.thin_block.proofs.block.Block.slice.Statement.{statement}
@@ -21,9 +21,7 @@ slice_spec 𝓤 𝓛 𝓜 𝓡 wired T A LT LA g d dd met md =
     let κ : Lft = z.0.0.0 in let s : ℕ = sz E in
     let rb : ℕ = r.ref_ptr.0 in let ro : ℕ = r.ref_ptr.1 in
     seen E Y 𝓛 (others ps) z.0 ((c z.0.0 z.0.3).requires z.1) (
-    move ! (4 ∷ []) $ heard_all ! (_ ∷ _ ∷ _ ∷ _ ∷ _ ∷ []) (λ said.
-    let ordered : i ≤ j = said.1.1.0 in let within : j ≤ cap = said.1.1.1.0 in
-    let filled = said.1.1.1.1 in
+    move ! (4 ∷ []) $ heard_each ! (_ ∷ _ ∷ _ ∷ _ ∷ _ ∷ []) (λ _ _ ordered within filled.
     let k : ℕ = j - i in
     let items = full-run x.slots i k (omega arith) (λ n p q. filled n p (omega arith)) in
     let xs : List T.Denot = items.0 in

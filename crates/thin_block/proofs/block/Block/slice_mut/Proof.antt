@@ -25,9 +25,7 @@ slice_mut_spec 𝓤 𝓛 𝓜 𝓡 wired T A LT LA g d dd met md =
     let r = z.0.3.0 in let x = r.now in let i : ℕ = z.0.3.1.0 in
     let j : ℕ = z.0.3.1.1.0 in let cap : ℕ = length x.slots in
     let γ : GName = r.ghost_name in let κ : Lft = z.0.0.0 in let q : Share = z.0.1.0 in
-    begins E Y 𝓛 (others ps) z.0 (_ ∷ _ ∷ _ ∷ _ ∷ _ ∷ []) (λ said.
-    let ordered : i ≤ j = said.1.1.0 in let within : j ≤ cap = said.1.1.1.0 in
-    let filled = said.1.1.1.1 in
+    begins E Y 𝓛 (others ps) z.0 (_ ∷ _ ∷ _ ∷ _ ∷ _ ∷ []) (λ _ _ ordered within filled.
     let k : ℕ = j - i in
     let items = full-run x.slots i k (omega arith) (λ n p q. filled n p (omega arith)) in
     let xs : List T.Denot = items.0 in

@@ -20,8 +20,8 @@ slot_mut_spec 𝓤 𝓛 𝓜 𝓡 wired T A LT LA g d dd met md =
     (#self (args E Y)) fn (compiled.unfolded 𝓤 𝓛.H 𝓜 𝓡 wired (T, (A, tt)) d dd) (λ z are.
     let r = z.0.3.0 in let x = r.now in let i : ℕ = z.0.3.1.0 in
     let γ : GName = r.ghost_name in let κ : Lft = z.0.0.0 in let q : Share = z.0.1.0 in
-    begins E Y 𝓛 (others ps) z.0 (_ ∷ _ ∷ _ ∷ []) (λ said.
-    let filled = said.1.1 in let item = the_item (get_or x.slots i None) filled in
+    begins E Y 𝓛 (others ps) z.0 (_ ∷ _ ∷ _ ∷ []) (λ _ _ filled.
+    let item = the_item (get_or x.slots i None) filled in
     let value : T.Denot = item.0 in
     let within : i < length x.slots = filled-within x.slots i filled in
     enters ! fn (ptr_of r ∷ vint w64 i ∷ []) (λ k. are.0.0 k ++ (are.1.0.0 k ++ [])) $

@@ -16,9 +16,9 @@ store_len_spec 𝓤 𝓛 𝓜 𝓡 wired T A LT LA g d dd met md =
     proved_at 𝓛 En₀ hs c 𝓜 𝓡 (goes E Y ss 𝓛 En₀.kept.1 ((λ κs x f. refl), tt))
     (#self (args E Y)) fn (compiled.unfolded 𝓤 𝓛.H 𝓜 𝓡 wired (T, (A, tt)) d dd) (λ z are.
     let r = z.0.3.0 in let x = r.now in let n : ℕ = z.0.3.1.0 in
-    begins E Y 𝓛 ss z.0 (_ ∷ _ ∷ _ ∷ _ ∷ []) (λ said.
-    let cap : ℕ = length x.slots in let within : n ≤ cap = said.1.1.1 in
-    let alloc = alloc_there x.alloc x.slots x.sound.1 said.1.1.0 in
+    begins E Y 𝓛 ss z.0 (_ ∷ _ ∷ _ ∷ _ ∷ []) (λ _ _ some within.
+    let cap : ℕ = length x.slots in
+    let alloc = alloc_there x.alloc x.slots x.sound.1 some in
     let h : A.Denot = alloc.0 in
     let fi = are.1.0.1 in
     enters ! fn (ptr_of r ∷ vint w64 n ∷ []) (λ k. are.0.0 k ++ (are.1.0.0 k ++ [])) $

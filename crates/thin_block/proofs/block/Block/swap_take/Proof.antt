@@ -22,9 +22,9 @@ swap_take_spec 𝓤 𝓛 𝓜 𝓡 wired T A LT LA g d dd met md =
     proved_at 𝓛 En₀ hs c 𝓜 𝓡 (goes E Y ss 𝓛 En₀.kept.1 ((λ κs x f. refl), ((λ κs x f. refl), tt)))
     (#self (args E Y)) fn (compiled.unfolded 𝓤 𝓛.H 𝓜 𝓡 wired (T, (A, tt)) d dd) (λ z are.
     let r = z.0.3.0 in let x = r.now in let i : ℕ = z.0.3.1.0 in let j : ℕ = z.0.3.1.1.0 in
-    begins E Y 𝓛 ss z.0 (_ ∷ _ ∷ _ ∷ _ ∷ []) (λ said.
-    let first_filled = said.1.1.0 in let one = the_item (slot x.slots i) first_filled in
-    let second_filled = said.1.1.1 in let two = the_item (slot x.slots j) second_filled in
+    begins E Y 𝓛 ss z.0 (_ ∷ _ ∷ _ ∷ _ ∷ []) (λ _ _ first_filled second_filled.
+    let one = the_item (slot x.slots i) first_filled in
+    let two = the_item (slot x.slots j) second_filled in
     let low : i < length x.slots = filled-within x.slots i first_filled in
     let low' : j < length x.slots = filled-within x.slots j second_filled in
     enters ! fn (ptr_of r ∷ vint w64 i ∷ vint w64 j ∷ [])

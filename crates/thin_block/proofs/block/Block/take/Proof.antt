@@ -15,8 +15,7 @@ take_spec 𝓤 𝓛 𝓜 𝓡 wired T A LT LA g d dd met md =
     proved_at 𝓛 En₀ hs c 𝓜 𝓡 (goes E Y ss 𝓛 En₀.kept.1 ((λ κs x f. refl), tt))
     (#self (args E Y)) fn (compiled.unfolded 𝓤 𝓛.H 𝓜 𝓡 wired (T, (A, tt)) d dd) (λ z are.
     let r = z.0.3.0 in let x = r.now in let i : ℕ = z.0.3.1.0 in
-    begins E Y 𝓛 ss z.0 (_ ∷ _ ∷ _ ∷ []) (λ said.
-    let filled = said.1.1 in
+    begins E Y 𝓛 ss z.0 (_ ∷ _ ∷ _ ∷ []) (λ _ _ filled.
     let item = the_item (get_or x.slots i None) filled in
     let within : i < length x.slots = filled-within x.slots i filled in
     enters ! fn (ptr_of r ∷ vint w64 i ∷ []) (λ k. are.0.0 k ++ (are.1.0.0 k ++ [])) $

@@ -19,9 +19,8 @@ take_array_spec 𝓤 𝓛 𝓜 𝓡 wired T A N LT LA fits_N g d dd met md =
     (#self (args_at E Y N)) fn
     (compiled.unfolded 𝓤 𝓛.H 𝓜 𝓡 wired (T, (A, (number N, tt))) d dd) (λ z are.
     let r = z.0.3.0 in let x = r.now in let i : ℕ = z.0.3.1.0 in
-    begins E Y 𝓛 ss z.0 (_ ∷ _ ∷ _ ∷ _ ∷ _ ∷ _ ∷ []) (λ said.
+    begins E Y 𝓛 ss z.0 (_ ∷ _ ∷ _ ∷ _ ∷ _ ∷ _ ∷ []) (λ _ _ _ _ within filled.
     let Arr : RattleType = ArrayAt (R E) (param 2 (number N)) in
-    let within : i + N ≤ length x.slots = said.1.1.1.1.0 in let filled = said.1.1.1.1.1 in
     let items = full-run x.slots i N within filled in
     let xs : List T.Denot = items.0 in
     let count : length xs ≡ N = sym (length-map xs Some) ∙ ap length (sym items.1)
