@@ -1,17 +1,22 @@
 -- These lemmas are about the memory that a block requests, whether or not the block is padded. They
--- give its size and alignment, and split it into the header, the slots and the right to free it.
-use Rattle.std.proofs.Common.{◌≡◌, ℕ, ◌+◌, ◌-◌, ◌*◌, ◌^◌, ◌<◌, [], ◌∷◌, Bool, true, false, refl, sym, ap, ◌∙◌, arith}
-use Rattle.thin_block.proofs.WalkPrelude.{Ura, ent, sep, Fml, fsep, froom, fwand, Ty, ty_ptr, size, align, Logic, sem, ‵, ◌⊛◌, ◌$◌, ◌∵◌, !, qed, move, use1, use2, split, split3, fjoin, rewrite, done, RattleType, Ptr, block_ptr, El, R, type_size, type_align, block_align, block_bytes, array_of, gapped_items, if◌then◌else◌}
+-- give its size and alignment, split it into the header, the slots and the right to free it, and
+-- join it again.
+use Rattle.std.proofs.Common.{◌≡◌, ℕ, ◌+◌, ◌-◌, ◌*◌, ◌^◌, ◌<◌, [], ◌∷◌, Bool, true, false, Option, Some, None, refl, sym, ap, ◌∙◌, arith, zero-mul}
+use Rattle.thin_block.proofs.WalkPrelude.{Ura, SProp, ent, sep, apply∗, Fml, ftrue, fsep, froom, fwand, Ty, ty_ptr, size, align, Logic, sem, ‵, ◌⊛◌, ◌$◌, ◌∵◌, !, qed, by, move, drop, use1, use2, split, split3, fsplit, fsplit3, fjoin, fjoin3, rewrite, done, RattleType, Ptr, block_ptr, El, R, div_ceil, type_size, type_align, block_align, block_bytes, array_of, gapped_items, if◌then◌else◌}
 use borrow.Author.Tests.{clash}
-use Rattle.thin_block.specs.Capacity.{front_bytes, memory_bytes}
-use Rattle.thin_block.specs.Ownership.{erased_type, fits_block, header_room, words_of, pads, end_of, padded_type, memory_type_if, memory_type, dealloc_right_of, rejoin_wand, requested_type, slots_own}
+use Rattle.thin_block.specs.Capacity.{front_bytes, in_words, memory_bytes}
+use Rattle.thin_block.specs.Ownership.{block_type, dealloc_right, dealloc_right_if, dealloc_right_of, end_of, erased_type, fits_block, header_owns, header_room, memory_type, memory_type_if, padded_type, pads, rejoin_wand, requested_type_of, slots_own, slots_wand, unjoined_room, words_of}
 use Rattle.thin_block.specs.Slots.{empty_slots}
+use Rattle.thin_block.proofs.HeaderMemory.{carve, header_unwritten}
 use Rattle.thin_block.proofs.sizes.SizesLemmas.{fits_tells}
-use Rattle.thin_block.proofs.SlotMemory.{of_raw}
+use Rattle.thin_block.proofs.SlotMemory.{of_raw, to_raw}
 use Rattle.thin_block.proofs.words.WordRooms.{half}
-use Rattle.thin_block.proofs.WordConversionLemmas.{asked_size, asked_align, carve_asked}
+use Rattle.thin_block.proofs.words.WordsLemmas.{words_told}
+use Rattle.thin_block.proofs.words.WordsMemory.{word_el, words_in}
+use Rattle.thin_block.proofs.WordConversionLemmas.{same_words, asked_size, asked_align, Kept, header_apart, words_apart}
+use Rattle.thin_block.proofs.in_place.ArrayMemory.{memory_in, memory_out}
 use Rattle.thin_block.proofs.padded.PaddedLemmas.{padded_tells}
-use Rattle.thin_block.proofs.padded.PaddedMemory.{padded_size, padded_align, memory_in, array_out}
+use Rattle.thin_block.proofs.padded.PaddedMemory.{padded_size, padded_align, array_out}
 
 -- `Front p s n` collects what holds if `n` bytes precede the header of a block for items of size
 -- `s`. `p` says whether the block is padded.
@@ -97,17 +102,106 @@ module _ {M : Type 1} {𝓤 : Ura M} (𝓛 : Logic 𝓤) (E : El) (b c : ℕ) (t
   abbrev Memory : Bool → Ty
   Memory p = memory_type_if p (words_of (R E)) τ c
 
+  -- The parts of a new block. `right` is the right to free the block.
+  abbrev Split : Fml → SProp 𝓤
+  Split right = sep 𝓤 (H.room half b o) (sep 𝓤 (H.room half b (8 + o))
+      (sep 𝓤 (sem 𝓛 (slots_own (R E) (empty_slots c) b (o + 16))) (sem 𝓛 right)))
+
+  words_known : (w : ℕ × ℕ) → words_of (R E) ≡ Some w → in_words (type_size (R E)) ≡ Some w
+  words_known w e = sym (same_words (R E) c) ∙ e
+
+  -- Splits the memory of a block that is not padded.
+  ordinary_apart : (w : Option (ℕ × ℕ)) → words_of (R E) ≡ w
+      → ent 𝓤 (sep 𝓤 (H.room (requested_type_of w τ c) b o)
+      (sem 𝓛 (t (requested_type_of w τ c) (block_ptr b o))))
+      (Split (dealloc_right_of t w τ c b o))
+  ordinary_apart None e =
+      qed 𝓛 (‵ (froom (block_type (R E) c) b o) ∷ ‵ (t (block_type (R E) c) (block_ptr b o)) ∷ [])
+      ∵ use1 𝓛 (‵ (froom half b o) ⊛ ‵ (froom half b (o + 8)) ⊛ ‵
+      (froom (array_of (R E) c) b (o + 16)) ⊛ ‵ (rejoin_wand None τ c b o))
+      (carve 𝓛 (R E) c b o) $ split3 ! $ move ! (2 ∷ []) $ split ! $
+      use1 𝓛 (‵ (slots_own (R E) (empty_slots c) b (o + 16))) (of_raw E 𝓛 b c (o + 16)) $
+      move ! (1 ∷ 4 ∷ []) $ fjoin ! $
+      rewrite ! 3 (λ (k : ℕ). ‵ (froom half b k))
+      (let turned : o + 8 ≡ 8 + o = omega arith in turned) refl $ move ! (2 ∷ 3 ∷ 1 ∷ 0 ∷ []) $
+      done !
+  ordinary_apart (Some w) e =
+      let W : El = word_el E.row E.laws w.0 in
+      let n : ℕ = w.1 + div_ceil c w.0 in
+      let is = words_known w e in
+      let slots : c ≡ 0 + c = omega arith in
+      qed 𝓛 (‵ (froom (array_of (R W) n) b o) ∷ ‵ (t (array_of (R W) n) (block_ptr b o)) ∷ []) ∵
+      use2 𝓛 (‵ (gapped_items t (R W) (block_ptr b o) w.1 0 n []))
+      (memory_in 𝓛 W t b o w.1 n (omega arith)) $
+      use1 𝓛 (‵ (froom half b o) ⊛ ‵ (froom half b (8 + o)) ⊛ ‵
+      (slots_own (R E) (empty_slots c) b (o + 16)) ⊛ ‵
+      (Kept 𝓛 E.row E.laws b w.0 w.1 is o t 0 c n refl))
+      (words_apart 𝓛 E.row E.laws b w.0 w.1 is o t 0 c n refl [] 0 c (sym (zero-mul w.0)) slots
+      (omega arith)) $
+      split3 ! $ move ! (2 ∷ []) $ split ! $ move ! (1 ∷ []) $ fsplit3 ! $ fjoin ! $ fjoin ! $
+      move ! (2 ∷ 3 ∷ 1 ∷ 0 ∷ []) $ done !
+
+  joined_if : (w : Option (ℕ × ℕ)) → words_of (R E) ≡ w → pads (R E) c ≡ false → (n : ℕ)
+      → ent 𝓤 (sep 𝓤 (sem 𝓛 (header_owns t (R E) n c b o))
+      (sem 𝓛 (slots_own (R E) (empty_slots c) b (o + 16))))
+      (sep 𝓤 (H.room (requested_type_of w τ c) b o)
+      (sem 𝓛 (t (requested_type_of w τ c) (block_ptr b o))))
+  joined_if None e bare n =
+      qed 𝓛 (‵ (header_owns t (R E) n c b o) ∷ ‵ (slots_own (R E) (empty_slots c) b (o + 16)) ∷ [])
+      ∵ use1 𝓛 (‵ (header_room b o) ⊛ ‵ (dealloc_right t (R E) c b o))
+      (header_unwritten 𝓛 t (R E) n c b o) $ split ! $ move ! (1 ∷ []) $
+      rewrite ! 0 (λ (p : Bool).
+      ‵ (dealloc_right_if p t (words_of (R E)) τ (type_size (R E)) c b o)) bare refl $
+      rewrite ! 0 (λ (w : Option (ℕ × ℕ)). ‵ (dealloc_right_of t w τ c b o)) e refl $ fsplit ! $
+      move ! (3 ∷ []) $ use1 𝓛 (‵ (froom (array_of (R E) c) b (o + 16)))
+      (to_raw E 𝓛 b c (o + 16)) $
+      -- The context is now: memory for the slots; the right to join the parts of the block; the
+      -- right to free the block; memory for the header.
+      move ! (3 ∷ []) $ fsplit ! $ move ! (1 ∷ 2 ∷ []) $ fjoin ! $ move ! (1 ∷ 0 ∷ []) $ fjoin ! $
+      use2 𝓛 (‵ (froom (block_type (R E) c) b o))
+      (apply∗ 𝓤 (sem 𝓛 (unjoined_room (R E) c b o)) (H.room (block_type (R E) c) b o)) $ done !
+  joined_if (Some w) e bare n =
+      let W : El = word_el E.row E.laws w.0 in
+      let all : ℕ = w.1 + div_ceil c w.0 in
+      let v : ℕ = all - (w.1 + 0) in
+      let is = words_known w e in
+      let told = words_told (R E) w.0 w.1 is in
+      let slots : c ≡ 0 + c = omega arith in
+      let fill : div_ceil c w.0 ≡ v + 0 = omega arith in
+      let front : w.1 * type_size (R W) ≡ 16 = ap (λ (i : ℕ). w.1 * i) told.size ∙ told.room in
+      let place : 0 * type_size (R W) + (o + 16) ≡ o + w.1 * type_size (R W) =
+      omega (arith, zero-mul (type_size (R W))) in
+      qed 𝓛 (‵ (header_owns t (R E) n c b o) ∷ ‵ (slots_own (R E) (empty_slots c) b (o + 16)) ∷ [])
+      ∵ use1 𝓛 (‵ (froom (array_of (R W) w.1) b o) ⊛ ‵
+      (slots_wand τ w.0 (div_ceil c w.0) c b (o + 16)) ⊛ ‵
+      (t (array_of (R W) all) (block_ptr b o)))
+      (header_apart 𝓛 E.row E.laws b w.0 w.1 is o t n c all refl) $ split3 ! $
+      move ! (3 ∷ 1 ∷ []) $
+      use2 𝓛 (‵ ftrue ⊛ ‵ (slots_own (R W) (empty_slots v) b (0 * type_size (R W) + (o + 16))))
+      (words_in 𝓛 E.row E.laws w.0 w.1 b told [] 0 c v (div_ceil c w.0) c (o + 16)
+      (sym (zero-mul w.0)) slots fill (told.counts.covers c)) $ split ! $ drop ! $
+      rewrite ! 0 (λ (i : ℕ). ‵ (slots_own (R W) (empty_slots v) b i)) place refl $
+      move ! (1 ∷ 0 ∷ 2 ∷ []) $ fjoin3 ! $
+      by ! (memory_out 𝓛 W t b o w.1 all (omega arith))
+
+  -- Joins all that a block with empty slots owns into its memory and the right to free it, if the
+  -- block is not padded.
+  pub ordinary_joined : pads (R E) c ≡ false → (n : ℕ)
+      → ent 𝓤 (sep 𝓤 (sem 𝓛 (header_owns t (R E) n c b o))
+      (sem 𝓛 (slots_own (R E) (empty_slots c) b (o + 16))))
+      (sep 𝓤 (H.room (Memory false) b o) (sem 𝓛 (t (Memory false) (block_ptr b o))))
+  ordinary_joined bare n = joined_if (words_of (R E)) refl bare n
+
   apart_if : (p : Bool) → pads (R E) c ≡ p → (n : ℕ) → Front p (type_size (R E)) n → o ≡ n + start
       → ent 𝓤 (sep 𝓤 (H.room (Memory p) b start) (sem 𝓛 (t (Memory p) (block_ptr b start))))
-      (sep 𝓤 (H.room half b o) (sep 𝓤 (H.room half b (8 + o))
-      (sep 𝓤 (sem 𝓛 (slots_own (R E) (empty_slots c) b (o + 16))) (sem 𝓛 (Unaddressed p)))))
+      (Split (Unaddressed p))
   apart_if true pad n front place =
       let same = front.whole refl in
       let at : start + type_size (R E) ≡ o + 16 = omega arith in
       let slots : c ≡ 0 + c = omega arith in
       qed 𝓛 (‵ (froom (Memory true) b start) ∷ ‵ (t (Memory true) (block_ptr b start)) ∷ []) ∵
       use2 𝓛 (‵ (gapped_items t (R E) (block_ptr b start) 1 0 (c + 2) []))
-      (memory_in 𝓛 E b c t start) $
+      (memory_in 𝓛 E t b start 1 (c + 2) (omega arith)) $
       use1 𝓛 (‵ (froom half b o) ⊛ ‵ (froom half b (8 + o)) ⊛ ‵ (froom ty_ptr b end) ⊛ ‵
       (slots_own (R E) (empty_slots c) b (o + 16)) ⊛ ‵
       (fsep (fwand (header_room b o) (froom τ b start)) (fsep (fwand (froom ty_ptr b end)
@@ -120,14 +214,7 @@ module _ {M : Type 1} {𝓤 : Ura M} (𝓛 : Logic 𝓤) (E : El) (b c : ℕ) (t
       qed 𝓛 (‵ (froom (Memory false) b start) ∷ ‵ (t (Memory false) (block_ptr b start)) ∷ []) ∵
       rewrite ! 0 (λ (k : ℕ). ‵ (froom (Memory false) b k)) same refl $
       rewrite ! 1 (λ (k : ℕ). ‵ (t (Memory false) (block_ptr b k))) same refl $
-      use1 𝓛 (‵ (froom half b o) ⊛ ‵ (froom half b (o + 8)) ⊛ ‵
-      (froom (array_of (R E) c) b (o + 16)) ⊛ ‵ (rejoin_wand (words_of (R E)) τ c b o))
-      (carve_asked 𝓛 E b c o) $ split3 ! $ move ! (2 ∷ []) $ split ! $
-      use1 𝓛 (‵ (slots_own (R E) (empty_slots c) b (o + 16))) (of_raw E 𝓛 b c (o + 16)) $
-      move ! (1 ∷ 4 ∷ []) $ fjoin ! $
-      rewrite ! 3 (λ (k : ℕ). ‵ (froom half b k))
-      (let turned : o + 8 ≡ 8 + o = omega arith in turned) refl $ move ! (2 ∷ 3 ∷ 1 ∷ 0 ∷ []) $
-      done !
+      by ! (ordinary_apart (words_of (R E)) refl)
 
   -- Splits the memory of a new block into memory for the capacity and for the length, the slots,
   -- and the right to free the block.

@@ -6,7 +6,7 @@ use Rattle.thin_block.specs.Capacity.{in_words, block_align, block_bytes}
 use Rattle.thin_block.specs.Ownership.{slots_own, unjoined_room, header_owns, erased_type, words_of, block_type_of, requested_type_of, requested_type, header_room, header_wand, slots_wand, rejoin_wand, dealloc_right, dealloc_right_of, dealloc_right_if, pads}
 use Rattle.thin_block.proofs.HeaderMemory.{carve, whole_size, whole_align, header_unwritten}
 use Rattle.thin_block.proofs.words.WordsLemmas.{InWords, word_align, word_size, words_told, nameless}
-use Rattle.thin_block.proofs.words.WordRooms.{half, header_out, header_in, block_out, block_in}
+use Rattle.thin_block.proofs.words.WordRooms.{half, header_out, header_in}
 use Rattle.thin_block.proofs.words.WordsMemory.{word_el, words_made, words_back}
 use Rattle.thin_block.proofs.padded.PaddedLemmas.{words_unpadded}
 
@@ -41,62 +41,6 @@ module _ (Rw : RattleType) (c : ℕ) where
 
   pub asked_align : align (requested_type Rw c) ≡ block_align a₀
   asked_align = align_for (words_of Rw) (sym same_words)
-
--- In this module, a block has `c` slots, and begins at the offset `o` of the allocation `b`.
-module _ {M : Type 1} {𝓤 : Ura M} (𝓛 : Logic 𝓤) (E : El) (b c o : ℕ) where
-  open 𝓛 use {H}
-
-  -- `Parts w` is the memory of a block in parts, with the right to join them again. `w` is the
-  -- result of `in_words` for the item size.
-  abbrev Parts : Option (ℕ × ℕ) → SProp 𝓤
-  Parts w = sep 𝓤 (H.room half b o) (sep 𝓤 (H.room half b (o + 8))
-      (sep 𝓤 (H.room (array_of (R E) c) b (o + 16))
-      (sem 𝓛 (rejoin_wand w (erased_type (R E)) c b o))))
-
-  known : (w : ℕ × ℕ) → in_words (type_size (R E)) ≡ Some w
-      → InWords (size (erased_type (R E))) (align (erased_type (R E))) w.0 w.1
-  known w e = nameless (elτ E) w.0 w.1 (words_told (R E) w.0 w.1 e)
-
-  carve_for : (w : Option (ℕ × ℕ)) → in_words (type_size (R E)) ≡ w
-      → ent 𝓤 (H.room (requested_type_of w (erased_type (R E)) c) b o) (Parts w)
-  carve_for None e = carve 𝓛 (R E) c b o
-  carve_for (Some w) e =
-      let h = known w e in
-      block_out 𝓛 (erased_type (R E)) w.0 w.1 b h (div_ceil c w.0) c o (h.counts.covers c)
-
-  gather_for : (w : Option (ℕ × ℕ)) → in_words (type_size (R E)) ≡ w
-      → ent 𝓤 (Parts w) (H.room (requested_type_of w (erased_type (R E)) c) b o)
-  gather_for None e =
-      qed 𝓛 (‵ (froom half b o) ∷ ‵ (froom half b (o + 8)) ∷ ‵
-      (froom (array_of (R E) c) b (o + 16)) ∷ ‵ (rejoin_wand None (erased_type (R E)) c b o) ∷ []) ∵
-      move ! (1 ∷ 2 ∷ []) $ fjoin ! $ move ! (1 ∷ 0 ∷ []) $ fjoin ! $
-      by ! (apply∗ 𝓤 (sem 𝓛 (unjoined_room (R E) c b o))
-      (H.room (block_type_of (erased_type (R E)) c) b o))
-  gather_for (Some w) e =
-      let h = known w e in
-      block_in 𝓛 (erased_type (R E)) w.0 w.1 b h (div_ceil c w.0) c o (h.counts.covers c)
-
-  -- Splits the memory of a block into its parts.
-  pub carve_asked : ent 𝓤 (H.room (requested_type (R E) c) b o) (Parts (words_of (R E)))
-  carve_asked = carve_for (words_of (R E)) (sym (same_words (R E) c))
-
-  -- Joins all that a block with uninitialized slots owns into its memory and the right to free it.
-  pub gather : pads (R E) c ≡ false → (t : Ty → Ptr → Fml) (n : ℕ)
-      → ent 𝓤 (sep 𝓤 (sem 𝓛 (header_owns t (R E) n c b o)) (H.room (array_of (R E) c) b (o + 16)))
-      (sep 𝓤 (H.room (requested_type (R E) c) b o)
-      (sem 𝓛 (t (requested_type (R E) c) (block_ptr b o))))
-  gather bare t n =
-      qed 𝓛 (‵ (header_owns t (R E) n c b o) ∷ ‵ (froom (array_of (R E) c) b (o + 16)) ∷ []) ∵
-      use1 𝓛 (‵ (header_room b o) ⊛ ‵ (dealloc_right t (R E) c b o))
-      (header_unwritten 𝓛 t (R E) n c b o) $ split ! $ move ! (1 ∷ []) $
-      rewrite ! 0 (λ (p : Bool).
-      ‵ (dealloc_right_if p t (words_of (R E)) (erased_type (R E)) (type_size (R E)) c b o)) bare
-      refl $ fsplit ! $ move ! (2 ∷ []) $ fsplit ! $
-      -- The context is now: memory for the capacity; memory for the length; the right to join the
-      -- parts of the block; the right to free the block; memory for the slots.
-      move ! (0 ∷ 1 ∷ 4 ∷ 2 ∷ []) $ group ! 4 $
-      use1 𝓛 (‵ (froom (requested_type (R E) c) b o))
-      (gather_for (words_of (R E)) (sym (same_words (R E) c))) $ done !
 
 -- In this module, `m` items of the type `T` make a word, which is a struct of 8 or 16 bytes. The
 -- header takes as many bytes as `k` words.

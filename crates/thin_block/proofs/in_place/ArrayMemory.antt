@@ -170,3 +170,50 @@ module _ {M : Type 1} {𝓤 : Ura M} (𝓛 : Logic 𝓤) (E : El) (t : Ty → Pt
       -- The context is now: the gap; the empty slots; the last values; the other values; the right
       -- to free the allocation.
       move ! (3 ∷ 1 ∷ 4 ∷ []) $ fjoin3 ! $ move ! (2 ∷ 1 ∷ 0 ∷ []) $ done !
+
+-- In this module, the memory for `n` values is used as an allocation with a gap of `k` values and no
+-- value.
+module _ {M : Type 1} {𝓤 : Ura M} (𝓛 : Logic 𝓤) (E : El) (t : Ty → Ptr → Fml) (b o k n : ℕ)
+    (enough : k ≤ n) where
+  open 𝓛 use {H}
+
+  abbrev bytes : ℕ
+  bytes = type_size (R E)
+
+  abbrev Free : ℕ → ℕ → Fml
+  Free at i = slots_own (R E) (empty_slots i) b at
+
+  abbrev spare' : ℕ
+  spare' = n - (k + 0)
+
+  parted' : empty_slots {T = el_x E} n ≡ empty_slots k ++ empty_slots spare'
+  parted' = sym (replicate-append-replicate k spare' None
+      ∙ ap (λ (i : ℕ). empty_slots i) (let e : k + spare' ≡ n = omega arith in e))
+
+  at_spare' : o + k * bytes ≡ length (empty_slots {T = el_x E} k) * bytes + o
+  at_spare' = add_comm o (k * bytes)
+      ∙ ap (λ (i : ℕ). i * bytes + o) (sym (length-replicate k None))
+
+  abbrev Token : Fml
+  Token = t (array_of (R E) n) (block_ptr b o)
+
+  abbrev Empty : Fml
+  Empty = gapped_items t (R E) (block_ptr b o) k 0 n []
+
+  pub memory_in : ent 𝓤 (sep 𝓤 (H.room (array_of (R E) n) b o) (sem 𝓛 Token)) (sem 𝓛 Empty)
+  memory_in =
+      qed 𝓛 (‵ (froom (array_of (R E) n) b o) ∷ ‵ Token ∷ []) ∵
+      use1 𝓛 (‵ (Free o n)) (of_raw E 𝓛 b n o) $
+      rewrite ! 0 (λ (l : List (Option (el_x E))). ‵ (slots_own (R E) l b o)) parted' refl $
+      use1 𝓛 (‵ (Free o k) ⊛ ‵ (Free (o + k * bytes) spare'))
+      (cut E 𝓛 b (empty_slots k) (empty_slots spare') o (o + k * bytes) at_spare') $ split ! $
+      use1 𝓛 (‵ (froom (array_of (R E) k) b o)) (to_raw E 𝓛 b k o) $ fjoin3 ! $ done !
+
+  -- Undoes `memory_in`.
+  pub memory_out : ent 𝓤 (sem 𝓛 Empty) (sep 𝓤 (H.room (array_of (R E) n) b o) (sem 𝓛 Token))
+  memory_out =
+      qed 𝓛 (‵ Empty ∷ []) ∵ fsplit3 ! $ use1 𝓛 (‵ (Free o k)) (of_raw E 𝓛 b k o) $
+      use2 𝓛 (‵ (slots_own (R E) (empty_slots k ++ empty_slots spare') b o))
+      (glue E 𝓛 b (empty_slots k) (empty_slots spare') o (o + k * bytes) at_spare') $
+      rewrite ! 0 (λ (l : List (Option (el_x E))). ‵ (slots_own (R E) l b o)) (sym parted') refl $
+      use1 𝓛 (‵ (froom (array_of (R E) n) b o)) (to_raw E 𝓛 b n o) $ done !

@@ -7,10 +7,9 @@ use contract.Lifetimes.{toks}
 use Rattle.core.proofs.alloc.Calls.{seen}
 use Rattle.thin_block.specs.Ownership.{fits_block, slots_own, header_owns, pads, words_of, erased_type, end_of, memory_type, memory_type_if}
 use Rattle.thin_block.proofs.sizes.SizesLemmas.{rounded}
-use Rattle.thin_block.proofs.BlockMemory.{front_tells, memory_size, memory_align, memory_short}
-use Rattle.thin_block.proofs.SlotMemory.{to_raw}
-use Rattle.thin_block.proofs.WordConversionLemmas.{gather}
-use Rattle.thin_block.proofs.padded.PaddedMemory.{Opened, padded_apart, array_in, memory_out}
+use Rattle.thin_block.proofs.BlockMemory.{ordinary_joined, front_tells, memory_size, memory_align, memory_short}
+use Rattle.thin_block.proofs.in_place.ArrayMemory.{memory_out}
+use Rattle.thin_block.proofs.padded.PaddedMemory.{Opened, padded_apart, array_in}
 use Rattle.thin_block.proofs.MethodSignatures.{item, source, others, dropped, all_go, arrives, heard_each, enters, blank, still, word, args, header, t, block_val, block_had, items, reach, slot_found}
 use Rattle.thin_block.specs.contracts.block.Block.free_sized.{ended, clauses}
 use Rattle.thin_block.specs.contracts.block.Block.free_sized.Key.{name as #self}
@@ -130,7 +129,7 @@ free_sized_spec 𝓤 𝓛 𝓜 𝓡 wired T A LT LA g d dd met md =
     (array_in 𝓛 E b cap pad tok start o place 0 cap (cap + 2) [] here refl refl) $
     use1 𝓛 (‵ (froom (memory_type_if true (words_of Rt) (erased_type Rt) cap) b start) ⊛ ‵
     (tok (memory_type_if true (words_of Rt) (erased_type Rt) cap) (block_ptr b start)))
-    (memory_out 𝓛 E b cap tok start) $ split ! $
+    (memory_out 𝓛 E tok b start 1 (cap + 2) (omega arith)) $ split ! $
     rewrite ! 0 (λ (p : Bool). ‵ (froom (memory_type_if p (words_of Rt) (erased_type Rt) cap) b
     start)) (sym pad) refl $
     rewrite ! 1 (λ (p : Bool). ‵ (tok (memory_type_if p (words_of Rt) (erased_type Rt) cap)
@@ -138,12 +137,10 @@ free_sized_spec 𝓤 𝓛 𝓜 𝓡 wired T A LT LA g d dd met md =
     forget_but ! En (10 ∷ 2 ∷ 4 ∷ 5 ∷ []) refl $ freed start)))
     (λ other.
     let unpadded = about.ordinary (let none = nltb→le 0 front other in omega arith) in
-    sets_last ! (of_opd ! (get ! refl)) refl (tt, tt) $ move ! (1 ∷ []) $
-    use1 𝓛 (‵ (froom (items Rt cap) b (o + 16))) (to_raw E 𝓛 b cap (o + 16)) $
-    move ! (1 ∷ 0 ∷ []) $
+    sets_last ! (of_opd ! (get ! refl)) refl (tt, tt) $
     use2 𝓛 (‵ (froom (memory_type_if false (words_of Rt) (erased_type Rt) cap) b o) ⊛ ‵
     (tok (memory_type_if false (words_of Rt) (erased_type Rt) cap) (block_ptr b o)))
-    (gather 𝓛 E b cap o unpadded tok x.len) $ split ! $
+    (ordinary_joined 𝓛 E b cap tok o o unpadded x.len) $ split ! $
     rewrite ! 0 (λ (p : Bool). ‵ (froom (memory_type_if p (words_of Rt) (erased_type Rt) cap) b
     o)) (sym unpadded) refl $
     rewrite ! 1 (λ (p : Bool). ‵ (tok (memory_type_if p (words_of Rt) (erased_type Rt) cap)
