@@ -27,19 +27,16 @@ allocate_sized_spec 𝓤 𝓛 𝓜 𝓡 wired T A LT LA g d dd met md =
     (all_go 𝓛 ps En₀.kept ((λ κs x f. refl), (q, (q, (q, (q, ((λ κs x f. refl), tt)))))))
     (#self (args E Y)) fn (compiled.unfolded 𝓤 𝓛.H 𝓜 𝓡 wired (T, (A, tt)) d dd) (λ z are.
     let Post : Val → SProp 𝓤 = (walk_of 𝓛 En₀ hs c).post z in
-    let a = z.0.3 in
+    let (κ, (_, (_, (κA, _)))) = z.0.0 in
+    let (q, _) = z.0.1 in
+    let (alloc, (cap, (bytes, (al, (front, (replaced, _)))))) = z.0.3 in
+    let ((is₀, _), ((is₁, fc), ((is₂, fb), ((is₃, fa), ((is₄, ff), ((is₅, _), _)))))) = are in
     let B : RattleType = Br E Y in
     let Rt : RattleType = R E in
-    let κ : Lft = z.0.0.0 in
-    let q : Share = z.0.1.0 in
-    let h = a.0.now in
-    let at = a.0.ref_ptr in
-    let cap : ℕ = a.1.0 in
-    let bytes : ℕ = a.1.1.0 in
-    let al : ℕ = a.1.1.1.0 in
-    let front : ℕ = a.1.1.1.1.0 in
-    let old = a.1.1.1.1.1.0.now in
-    let old_at = a.1.1.1.1.1.0.ref_ptr in
+    let h = alloc.now in
+    let at = alloc.ref_ptr in
+    let old = replaced.now in
+    let old_at = replaced.ref_ptr in
     let s : ℕ = type_size Rt in
     let τ : Ty = memory_type Rt cap in
     let tok : Ty → Ptr → Fml = token Y h in
@@ -63,16 +60,13 @@ allocate_sized_spec 𝓤 𝓛 𝓜 𝓡 wired T A LT LA g d dd met md =
     enters ! fn
     (vptr at.0 at.1 ∷ vint w64 cap ∷ vint w64 bytes ∷ vint w64 al ∷ vint w64 front
     ∷ vptr old_at.0 old_at.1 ∷ [])
-    (λ i. are.0.0 i ++ (are.1.0.0 i ++ (are.1.1.0.0 i ++ (are.1.1.1.0.0 i
-    ++ (are.1.1.1.1.0.0 i ++ (are.1.1.1.1.1.0.0 i ++ [])))))) $
-    let w₁ = word are.1.0.1 in let w₂ = word are.1.1.0.1 in let w₃ = word are.1.1.1.0.1 in
-    let w₄ = word are.1.1.1.1.0.1 in
+    (λ i. is₀ i ++ (is₁ i ++ (is₂ i ++ (is₃ i ++ (is₄ i ++ (is₅ i ++ [])))))) $
     alloc_all ! (λ l. pass_all ! refl
-    ((tt, tt), (w₁, (w₂, (w₃, (w₄, ((tt, tt), tt)))))) $
+    ((tt, tt), (word fc, (word fb, (word fa, (word ff, ((tt, tt), tt)))))) $
     let En : Env 𝓤 𝓛.H = env fn.locals l in
     use2 𝓛 (raw ((Takes Y 𝓛 𝓜.mem 𝓡.returns).pre y))
-    (Takes-goes Y 𝓛 𝓜.mem 𝓡.returns κ q at h (⊑_trans κ z.0.0.1.1.1.0 A.lives z.0.2.0 le)
-    bytes al τ sized laid are.1.1.0.1 are.1.1.1.0.1) $
+    (Takes-goes Y 𝓛 𝓜.mem 𝓡.returns κ q at h (⊑_trans κ κA A.lives z.0.2.0 le)
+    bytes al τ sized laid fb fa) $
     calls_at ! (fm 𝓛 𝓜 𝓡) (Takes Y 𝓛 𝓜.mem 𝓡.returns) (met.allocate dd) y
     (and_then ! (get ! refl) (and_then ! (get ! refl) (and_then ! (get ! refl) (no_more !))))
     (λ v.
@@ -108,7 +102,7 @@ allocate_sized_spec 𝓤 𝓛 𝓜 𝓡 wired T A LT LA g d dd met md =
     } in
     exec ! C Λ En (after 5 made) Then $
     assigns ! (of_opd ! (get ! refl)) (through ! refl (stop !))
-    (init ! 0 refl (tt, record { fits = are.1.0.1 })) $
+    (init ! 0 refl (tt, record { fits = fc })) $
     sets ! (bin ! (get ! refl) (lit ! tt) tt) refl (tt, tt) $
     assigns ! (of_opd ! (lit ! tt)) (through ! refl (stop !))
     (init ! 1 refl (tt, record { fits = lit< tt })) $

@@ -29,17 +29,13 @@ free_sized_spec 𝓤 𝓛 𝓜 𝓡 wired T A LT LA g d dd met md =
     )
     (#self (args E Y)) fn (compiled.unfolded 𝓤 𝓛.H 𝓜 𝓡 wired (T, (A, tt)) d dd) (λ z are.
     let Post : Val → SProp 𝓤 = (walk_of 𝓛 En₀ hs c).post z in
-    let a = z.0.3 in
+    let (κ, (_, (κA, _))) = z.0.0 in
+    let (q, _) = z.0.1 in
+    let (x, (alloc, (cap, (bytes, (al, (front, _)))))) = z.0.3 in
+    let (_, ((is₁, _), ((is₂, fc), ((is₃, fb), ((is₄, fa), ((is₅, ff), _)))))) = are in
     let Rt : RattleType = R E in
-    let κ : Lft = z.0.0.0 in
-    let q : Share = z.0.1.0 in
-    let x = a.0 in
-    let h = a.1.0.now in
-    let handle_at = a.1.0.ref_ptr in
-    let cap : ℕ = a.1.1.0 in
-    let bytes : ℕ = a.1.1.1.0 in
-    let al : ℕ = a.1.1.1.1.0 in
-    let front : ℕ = a.1.1.1.1.1.0 in
+    let h = alloc.now in
+    let handle_at = alloc.ref_ptr in
     let xs : List (Option T.Denot) = x.slots in
     let s : ℕ = type_size Rt in
     let τ : Ty = memory_type Rt cap in
@@ -70,12 +66,9 @@ free_sized_spec 𝓤 𝓛 𝓜 𝓡 wired T A LT LA g d dd met md =
     -- token; the other lifetime tokens.
     enters ! fn (block_val (block_ptr b o) ∷ vptr handle_at.0 handle_at.1 ∷ vint w64
     cap ∷ vint w64 bytes ∷ vint w64 al ∷ vint w64 front ∷ [])
-    (λ i. told i ++ (are.1.0.0 i ++ (are.1.1.0.0 i ++ (are.1.1.1.0.0 i ++ (are.1.1.1.1.0.0 i
-    ++ (are.1.1.1.1.1.0.0 i ++ [])))))) $
-    let w₁ = word are.1.1.0.1 in let w₂ = word are.1.1.1.0.1 in let w₃ = word are.1.1.1.1.0.1 in
-    let w₄ = word are.1.1.1.1.1.0.1 in
+    (λ i. told i ++ (is₁ i ++ (is₂ i ++ (is₃ i ++ (is₄ i ++ (is₅ i ++ [])))))) $
     alloc_all ! (λ l. pass_all ! refl
-    ((tt, (tt, (tt, (tt, tt)))), ((tt, tt), (w₁, (w₂, (w₃, (w₄, tt)))))) $
+    ((tt, (tt, (tt, (tt, tt)))), ((tt, tt), (word fc, (word fb, (word fa, (word ff, tt)))))) $
     let En : Env 𝓤 𝓛.H = env fn.locals l in
     let inner : Body = inside (head (after 1 fn.body)) in
     let Last : After 𝓤 𝓛.H = out_of_block 𝓛
@@ -90,8 +83,8 @@ free_sized_spec 𝓤 𝓛 𝓜 𝓡 wired T A LT LA g d dd met md =
     sets ! (of_opd ! (get ! refl)) refl (tt, tt) $
     move ! (2 ∷ 3 ∷ []) $ join ! $ move ! (1 ∷ 2 ∷ 0 ∷ []) $
     use3 𝓛 (raw ((Gives Y 𝓛 𝓜.mem 𝓡.returns).pre y))
-    (Gives-goes Y 𝓛 𝓜.mem 𝓡.returns κ q handle_at h (⊑_trans κ z.0.0.1.1.0 A.lives z.0.2.0 le)
-    b start bytes al τ sized laid are.1.1.1.0.1 are.1.1.1.1.0.1) $
+    (Gives-goes Y 𝓛 𝓜.mem 𝓡.returns κ q handle_at h (⊑_trans κ κA A.lives z.0.2.0 le)
+    b start bytes al τ sized laid fb fa) $
     calls_at_last ! (fm 𝓛 𝓜 𝓡) (Gives Y 𝓛 𝓜.mem 𝓡.returns) (met.deallocate dd) y
     (and_then ! (get ! refl)
     (and_then ! (get ! refl) (and_then ! (get ! refl) (and_then ! (get ! refl) (no_more !)))))

@@ -1,14 +1,13 @@
 -- This file proves the contract of `resize_padded`, which uses a padded block as an array of items,
 -- resizes the array, and uses it as a padded block again.
 use Rattle.std.proofs.Common.{◌≡◌, ℕ, ◌+◌, ◌-◌, ◌*◌, ◌^◌, ◌<◌, ◌≤◌, List, [], ◌∷◌, ◌++◌, length, true, refl, sym, ap, subst, ◌∙◌, arith, lit<, w64, Some, Option}
-use Rattle.thin_block.proofs.WalkPrelude.{Body, ty_int, Val, WT, vint, vptr, vstruct, vcons, vnil, vunit, inst_fn, SProp, ex, Fml, Lft, Share, froom, flft, Env, tables, After, Item, Sq, prop, ‵, raw, ◌⊛◌, exists, given, pick, learn, later, at_ret, ◌$◌, !, move, keep, drop, group, use0, use1, use2, split, split3, join, rewrite, fsplit, fjoin, feq_i, await, suffices, done, whole, sub, agg, stop, fld, lit, bin, init, store_in, look, load, unit_lit, of_opd, no_more, and_then, assigns, first, blocks, exec, returns, alloc_all, pass_all, free_all, look_at, get, get_in, through, sets, sets_last, lands_as, env, unit, RattleType, Ptr, block_ptr, calls_at, walk_of, ends_at, token, fm, proved_at, type_align, R, then_runs, out_of_block, after, head, inside, arm_body, says_all, refused_made, Ty, ty_ptr, ⊑_static, live, vrt, in_variant, switches_on, get_tag, type_at, Flagged, flagged, Ok, Err, ok_of, err_of, add_realloc, items_in, filled_slots, empty_slots, write_slots, slot_range, fits_block, slots_own, header_owns, dealloc_right, pads, end_of, FitsGap, gapped_items, block_view}
+use Rattle.thin_block.proofs.WalkPrelude.{Body, id⊢, ftrue, ty_int, Val, WT, vint, vptr, vstruct, vcons, vnil, vunit, inst_fn, SProp, ex, Fml, Lft, Share, froom, flft, Env, tables, After, Item, Sq, prop, ‵, raw, ◌⊛◌, exists, given, pick, learn, later, at_ret, ◌$◌, !, move, keep, drop, group, use0, use1, use2, split, split3, join, rewrite, fsplit, fjoin, feq_i, await, suffices, done, whole, sub, agg, stop, fld, lit, bin, init, store_in, look, load, unit_lit, of_opd, no_more, and_then, assigns, first, blocks, exec, returns, alloc_all, pass_all, free_all, look_at, get, get_in, through, sets, sets_last, lands_as, env, unit, RattleType, Ptr, block_ptr, calls_at, walk_of, ends_at, token, fm, proved_at, type_align, R, then_runs, out_of_block, after, head, inside, arm_body, says_all, refused_made, Ty, ty_ptr, ⊑_static, live, vrt, in_variant, switches_on, get_tag, type_at, Flagged, flagged, Ok, Err, ok_of, err_of, add_realloc, items_in, filled_slots, empty_slots, write_slots, slot_range, fits_block, slots_own, header_owns, dealloc_right, pads, end_of, FitsGap, gapped_items, block_view}
 use base.Share as Shares
-use contract.Lifetimes.{toks}
 use Rattle.thin_block.proofs.sizes.SizesLemmas.{fits_tells, opened}
 use Rattle.thin_block.proofs.padded.PaddedLemmas.{Padded, padded_tells}
 use Rattle.thin_block.proofs.padded.PaddedMemory.{Kept, Opened, padded_apart, padded_right_in, array_in, array_out}
 use Rattle.thin_block.proofs.in_place.ResizedCall.{Resizing, at_resizing, leaves, Resizing-goes, Resizing-gives}
-use Rattle.thin_block.proofs.MethodSignatures.{item, source, others, block_stays, goes, starts, enters, token_out, heard_each, still, word, ptr_of, args, Br, header, t, any_some, block_val, its_ptr, opens_self, header_closes, leaves_with, sz, reach, slot_found, packed-carried, packed-le, packed-long, packed-parted}
+use Rattle.thin_block.proofs.MethodSignatures.{item, source, others, block_stays, goes, starts, enters, heard_each, still, word, ptr_of, args, Br, header, t, any_some, block_val, its_ptr, opens_self, header_closes, leaves_with, sz, reach, slot_found, packed-carried, packed-le, packed-long, packed-parted}
 use Rattle.thin_block.specs.contracts.block.Block.resize_padded.{ended, clauses}
 use Rattle.thin_block.specs.contracts.block.Block.resize_padded.Key.{name as #self}
 use Rattle.thin_block.proofs.block.Block.resize_padded.Statement.{statement}
@@ -31,27 +30,18 @@ resize_padded_spec 𝓤 𝓛 𝓜 𝓡 wired T A LT LA g d dd met md =
     let B : RattleType = Br E Y in
     let Rt : RattleType = R E in
     let s : ℕ = sz E in
-    let κ : Lft = z.0.0.1.0 in
-    let q : Share = z.0.1.1.0 in
-    let κT : Lft = z.0.0.1.1.0 in
-    let qT : Share = z.0.1.1.1.0 in
-    let κA : Lft = z.0.0.1.1.1.0 in
-    let qA : Share = z.0.1.1.1.1.0 in
-    let r = z.0.3.0 in
-    let a = z.0.3.1 in
+    let (_, (κ, (κT, (κA, _)))) = z.0.0 in
+    let (_, (q, (qT, (qA, _)))) = z.0.1 in
+    let (_, (_, (out, _))) = z.0.2 in
+    let (r, (a, (len, (old, (cap, (held, (wanted, (front, _)))))))) = z.0.3 in
+    let ((is₀, _), ((is₁, _), ((is₂, fl), ((is₃, fo), ((is₄, fc), ((is₅, fh), ((is₆, fw), ((is₇, ff),
+    _)))))))) = are in
     let x = r.now in
-    let h = a.0.now in
-    let handle_at = a.0.ref_ptr in
-    let len : ℕ = a.1.0 in
-    let old : ℕ = a.1.1.0 in
-    let cap : ℕ = a.1.1.1.0 in
-    let held : ℕ = a.1.1.1.1.0 in
-    let wanted : ℕ = a.1.1.1.1.1.0 in
-    let front : ℕ = a.1.1.1.1.1.1.0 in
+    let h = a.now in
+    let handle_at = a.ref_ptr in
     let Out : RattleType = type_at En₀.signature.result z.0.0 in
     let V = Resizing E Y 1 𝓛 𝓜.mem 𝓡.returns in
-    let Tokens : Item 𝓤 = ‵ (flft κ q) ⊛ ‵ (flft κT qT) ⊛ ‵ (flft κA qA) ⊛
-    raw (toks 𝓛 0 z.0.0.1.1.1.1 z.0.1.1.1.1.1) in
+    let Tokens : Item 𝓤 = ‵ (flft κ q) ⊛ ‵ (flft κT qT) ⊛ ‵ (flft κA qA) ⊛ ‵ ftrue in
     starts E Y 𝓛 ss z.0 ((c z.0.0 z.0.3).requires z.1) (move ! (5 ∷ []) $
     heard_each ! (_ ∷ _ ∷ _ ∷ _ ∷ _ ∷ _ ∷ _ ∷ _ ∷ _ ∷ _ ∷ _ ∷ _ ∷ _ ∷ _ ∷ [])
     (λ leT leA from pad pad' packed len_is old_is enough small any held_is wanted_is front_is.
@@ -64,18 +54,14 @@ resize_padded_spec 𝓤 𝓛 𝓜 𝓡 wired T A LT LA g d dd met md =
     let slots_are : old ≡ length items + j = omega arith in
     let slots_are' : cap ≡ length items + j' = omega arith in
     let row : x.slots ≡ filled_slots items ++ empty_slots j = packed-parted x.slots x.len packed in
-    let fl = are.1.1.0.1 in let fo = are.1.1.1.0.1 in let fc = are.1.1.1.1.0.1 in
-    let fh = are.1.1.1.1.1.0.1 in let fw = are.1.1.1.1.1.1.0.1 in
     move ! (4 ∷ []) $ fsplit ! $ fsplit ! $ drop ! $ keep ! (5 ∷ 2 ∷ 3 ∷ 4 ∷ 0 ∷ []) $
-    token_out ! 2 z.0.0.1 z.0.1.1 $ move ! (1 ∷ []) $
-    token_out ! 1 z.0.0.1.1 z.0.1.1.1 $ move ! (1 ∷ []) $
-    token_out ! 0 z.0.0.1.1.1 z.0.1.1.1.1 $ move ! (4 ∷ 5 ∷ 6 ∷ 7 ∷ 3 ∷ 2 ∷ 0 ∷ []) $
+    use1 𝓛 Tokens (id⊢ 𝓤 _) $ split3 ! $ move ! (2 ∷ []) $ split ! $
+    move ! (4 ∷ 5 ∷ 6 ∷ 7 ∷ 2 ∷ 3 ∷ 0 ∷ []) $
     -- The context is now: the borrow of the block (3 entries); the shared reference to the
     -- allocator; the lifetime tokens of this reference, of `T` and of `A`; the other tokens.
     enters ! fn (ptr_of r ∷ vptr handle_at.0 handle_at.1 ∷ vint w64 len ∷ vint w64 old ∷ vint w64
     cap ∷ vint w64 held ∷ vint w64 wanted ∷ vint w64 front ∷ [])
-    (λ i. are.0.0 i ++ (are.1.0.0 i ++ (are.1.1.0.0 i ++ (are.1.1.1.0.0 i ++ (are.1.1.1.1.0.0 i
-    ++ (are.1.1.1.1.1.0.0 i ++ (are.1.1.1.1.1.1.0.0 i ++ (are.1.1.1.1.1.1.1.0.0 i ++ []))))))))
+    (λ i. is₀ i ++ (is₁ i ++ (is₂ i ++ (is₃ i ++ (is₄ i ++ (is₅ i ++ (is₆ i ++ (is₇ i ++ []))))))))
     $
     alloc_all ! (λ l. pass_all ! refl (
       (tt, tt),
@@ -87,7 +73,7 @@ resize_padded_spec 𝓤 𝓛 𝓜 𝓡 wired T A LT LA g d dd met md =
             word fo,
             (
               word fc,
-              (word fh, (word fw, (word are.1.1.1.1.1.1.1.0.1, tt))),
+              (word fh, (word fw, (word ff, tt))),
             ),
           ),
         ),
@@ -126,9 +112,9 @@ resize_padded_spec 𝓤 𝓛 𝓜 𝓡 wired T A LT LA g d dd met md =
     (array_in 𝓛 E b old pad tok start o place len j held items slots_are (sym all) held_is) $
     let qL : Share = Shares.left qT in
     let qR : Share = Shares.right qT in
-    let y = at_resizing E Y 1 𝓛 𝓜.mem 𝓡.returns κ κT κA κT q qL qA qR z.0.2.1.1.0 handle_at h b
+    let y = at_resizing E Y 1 𝓛 𝓜.mem 𝓡.returns κ κT κA κT q qL qA qR out handle_at h b
     start len held wanted items in
-    let left = leaves E Y 1 𝓛 𝓜.mem 𝓡.returns κ κT κA κT q qL qA qR z.0.2.1.1.0 handle_at h b start
+    let left = leaves E Y 1 𝓛 𝓜.mem 𝓡.returns κ κT κA κT q qL qA qR out handle_at h b start
     len held wanted items in
     let sizes : FitsGap Rt 1 len held wanted items =
     record {
@@ -144,7 +130,7 @@ resize_padded_spec 𝓤 𝓛 𝓜 𝓡 wired T A LT LA g d dd met md =
     move ! (7 ∷ []) $ use1 𝓛 (‵ (flft κT qL) ⊛ ‵ (flft κT qR)) (𝓛.lfts.lft_split κT qT) $ split ! $
     move ! (2 ∷ 7 ∷ 8 ∷ 0 ∷ 9 ∷ 1 ∷ []) $ group ! 6 $
     use1 𝓛 (raw (V.pre y))
-    (Resizing-goes E Y 1 𝓛 𝓜.mem 𝓡.returns κ κT κA κT q qL qA qR z.0.2.1.1.0 handle_at h b start len
+    (Resizing-goes E Y 1 𝓛 𝓜.mem 𝓡.returns κ κT κA κT q qL qA qR out handle_at h b start len
     held wanted items leT leA (⊑_static κT) sizes fl fh fw) $
     calls_at ! (fm 𝓛 𝓜 𝓡) V
     (resize_array_met.met 𝓤 𝓛 𝓜 𝓡
@@ -154,7 +140,7 @@ resize_padded_spec 𝓤 𝓛 𝓜 𝓡 wired T A LT LA g d dd met md =
     (and_then ! (get ! refl) (and_then ! (get ! refl) (no_more !)))))) (λ u.
     use1 𝓛 (later (raw (ex 𝓤 (Flagged 𝓛 left u)) ⊛ ‵ (flft κ q) ⊛ ‵ (flft κT qL) ⊛ ‵ (flft κA qA)
     ⊛ ‵ (flft κT qR)))
-    (Resizing-gives E Y 1 𝓛 𝓜.mem 𝓡.returns κ κT κA κT q qL qA qR z.0.2.1.1.0 handle_at h b start
+    (Resizing-gives E Y 1 𝓛 𝓜.mem 𝓡.returns κ κT κA κT q qL qA qR out handle_at h b start
     len held wanted items u) $ await ! tt $ split ! $ move ! (1 ∷ []) $ split3 ! $ move ! (2 ∷ [])
     $ split ! $ move ! (3 ∷ 1 ∷ []) $ use2 𝓛 (‵ (flft κT qT)) (𝓛.lfts.lft_join κT qT) $
     move ! (1 ∷ 8 ∷ []) $ join ! $ move ! (1 ∷ 0 ∷ []) $ join ! $ move ! (1 ∷ 0 ∷ []) $ join ! $
@@ -231,7 +217,7 @@ resize_padded_spec 𝓤 𝓛 𝓜 𝓡 wired T A LT LA g d dd met md =
     feq_i ! (List Val) (vunit ∷ []) (vunit ∷ []) refl $
     use1 𝓛 (‵ (Out.own_val (Ok tt) (live 0 (vcons vunit vnil) ∷ [])))
     (ok_of 𝓛 unit AE.the_row tt vunit) $
-    move ! (1 ∷ 2 ∷ 3 ∷ 0 ∷ []) $ leaves_with E Y ! r y' 7 are.0.0 $
+    move ! (1 ∷ 2 ∷ 3 ∷ 0 ∷ []) $ leaves_with E Y ! r y' 7 is₀ $
     suffices ! _ (ends_at 𝓛 En₀ hs c z (live 0 (vcons vunit vnil)) (Ok tt)
     (y', (tt, (tt, (tt, (tt, (tt, (tt, (tt, tt))))))))
     (tt, (tt, (tt, (tt, (tt, (tt, (tt, (tt, tt))))))))) $
@@ -273,7 +259,7 @@ resize_padded_spec 𝓤 𝓛 𝓜 𝓡 wired T A LT LA g d dd met md =
     use0 𝓛 (‵ (AE.the_row.own_val (record {}) (vstruct vnil ∷ []))) (refused_made 𝓛) $
     use1 𝓛 (‵ (Out.own_val (Err (record {})) (live 1 (vcons (vstruct vnil) vnil) ∷ [])))
     (err_of 𝓛 unit AE.the_row (record {}) (vstruct vnil)) $
-    move ! (1 ∷ 2 ∷ 3 ∷ 0 ∷ []) $ leaves_with E Y ! r x 7 are.0.0 $
+    move ! (1 ∷ 2 ∷ 3 ∷ 0 ∷ []) $ leaves_with E Y ! r x 7 is₀ $
     suffices ! _ (ends_at 𝓛 En₀ hs c z (live 1 (vcons (vstruct vnil) vnil)) (Err (record {}))
     (x, (tt, (tt, (tt, (tt, (tt, (tt, (tt, tt))))))))
     (tt, (tt, (tt, (tt, (tt, (tt, (tt, (tt, tt))))))))) $

@@ -3,7 +3,6 @@
 use Rattle.std.proofs.Common.{◌≡◌, ℕ, ◌+◌, ◌-◌, ◌*◌, ◌^◌, ◌<◌, ◌≤◌, List, [], ◌∷◌, ◌++◌, length, true, refl, sym, ap, subst, ◌∙◌, arith, lit<, w64, Some, Option}
 use Rattle.thin_block.proofs.WalkPrelude.{div_ceil, Ty, Body, Args, ty_int, a_type, a_number, dcons, dnil, bare, Val, WT, vint, vptr, vstruct, vcons, vnil, vunit, inst_fn, SProp, ex, emp, id⊢, Fml, Lft, Share, ftrue, fsep, froom, flft, Env, ◌⊑◌, fact, fact_i, tables, After, Item, Sq, prop, ‵, raw, ◌⊛◌, exists, pick, later, at_ret, ◌$◌, !, move, keep, drop, group, use0, use1, use2, split, split3, join, rewrite, fsplit, await, fjoin3, feq_i, feq_l, suffices, done, whole, sub, agg, stop, fld, lit, bin, init, store_in, unit_lit, of_opd, no_more, and_then, assigns, first, blocks, exec, returns, alloc_all, pass_all, free_all, look_at, get, get_in, through, is, sets, sets_last, lands_as, env, usize, unit, RattleType, owns, yes, layout, param, number, bounded, Ptr, RawPtr, block_ptr, nothing, only, calls_at, triple_of, walk_of, ends_at, array_of, Al, token, fm, proved_at, type_size, type_align, El, R, then_runs, out_of_block, after, head, inside, arm_body, says_all, refused_made, mul_assoc, live, vrt, in_variant, switches_on, get_tag, pure_i, type_at, Flagged, flagged, Ok, Err, ok_of, err_of, add_realloc, block_bytes, items_in, filled_slots, empty_slots, write_slots, slot_range, fits_block, slots_own, header_owns, dealloc_right, word_of, slots_wand, runs_at, FitsGap, block_view}
 use contract.BorrowLft.{⊑_meet, ⊑_static}
-use contract.Lifetimes.{toks}
 use denote.Param.{arg}
 use denote.Param.Laws.{arg_laws}
 use Rattle.core.specs.Simd.{first_chunks}
@@ -12,7 +11,7 @@ use Rattle.thin_block.proofs.WordConversionLemmas.{Kept, header_apart, right_in,
 use Rattle.thin_block.proofs.words.WordsLemmas.{InWords, words_told}
 use Rattle.thin_block.proofs.words.WordsMemory.{word_el, words_made, words_long, chunks_long, words_in, words_joined}
 use Rattle.thin_block.proofs.in_place.ResizedCall.{Resizing, at_resizing, leaves, Resizing-goes, Resizing-gives}
-use Rattle.thin_block.proofs.MethodSignatures.{others, block_stays, goes, starts, enters, token_out, heard_each, still, word, ptr_of, Br, header, t, any_some, its_ptr, opens_self, header_closes, leaves_with, sz, reach, packed-carried, packed-le, packed-long, packed-parted}
+use Rattle.thin_block.proofs.MethodSignatures.{others, block_stays, goes, starts, enters, heard_each, still, word, ptr_of, Br, header, t, any_some, its_ptr, opens_self, header_closes, leaves_with, sz, reach, packed-carried, packed-le, packed-long, packed-parted}
 use Rattle.thin_block.specs.contracts.block.Block.resize_words.{ended, clauses}
 use Rattle.thin_block.specs.contracts.block.Block.resize_words.Key.{name as #self}
 use Rattle.thin_block.proofs.block.Block.resize_words.Statement.{statement}
@@ -52,32 +51,19 @@ resize_words_spec 𝓤 𝓛 𝓜 𝓡 wired T A m k LT LA fits_m fits_k g d dd m
     let Rt : RattleType = R E in
     let Rw : RattleType = R W in
     let s : ℕ = sz W in
-    let κ : Lft = z.0.0.1.0 in
-    let q : Share = z.0.1.1.0 in
-    let κT : Lft = z.0.0.1.1.0 in
-    let qT : Share = z.0.1.1.1.0 in
-    let κA : Lft = z.0.0.1.1.1.0 in
-    let qA : Share = z.0.1.1.1.1.0 in
-    let κM : Lft = z.0.0.1.1.1.1.0 in
-    let qM : Share = z.0.1.1.1.1.1.0 in
-    let κK : Lft = z.0.0.1.1.1.1.1.0 in
-    let qK : Share = z.0.1.1.1.1.1.1.0 in
-    let r = z.0.3.0 in
-    let a = z.0.3.1 in
+    let (_, (κ, (κT, (κA, (κM, (κK, _)))))) = z.0.0 in
+    let (_, (q, (qT, (qA, (qM, (qK, _)))))) = z.0.1 in
+    let (_, (_, (out, _))) = z.0.2 in
+    let (r, (a, (len, (old, (cap, (count, (held, (wanted, _)))))))) = z.0.3 in
+    let ((is₀, _), ((is₁, _), ((is₂, fl), ((is₃, fo), ((is₄, fc), ((is₅, fn_), ((is₆, fh),
+    ((is₇, fw), _)))))))) = are in
     let x = r.now in
-    let h = a.0.now in
-    let handle_at = a.0.ref_ptr in
-    let len : ℕ = a.1.0 in
-    let old : ℕ = a.1.1.0 in
-    let cap : ℕ = a.1.1.1.0 in
-    let count : ℕ = a.1.1.1.1.0 in
-    let held : ℕ = a.1.1.1.1.1.0 in
-    let wanted : ℕ = a.1.1.1.1.1.1.0 in
-    let out : κ ⊑ κA = z.0.2.1.1.0 in
+    let h = a.now in
+    let handle_at = a.ref_ptr in
     let Out : RattleType = type_at En₀.signature.result z.0.0 in
     let V = Resizing EX Y k 𝓛 𝓜.mem 𝓡.returns in
     let Tokens : Item 𝓤 = ‵ (flft κ q) ⊛ ‵ (flft κT qT) ⊛ ‵ (flft κA qA) ⊛ ‵ (flft κM qM) ⊛ ‵
-    (flft κK qK) ⊛ raw (toks 𝓛 0 z.0.0.1.1.1.1.1.1 z.0.1.1.1.1.1.1.1) in
+    (flft κK qK) ⊛ ‵ ftrue in
     starts E Y 𝓛 ss z.0 ((c z.0.0 z.0.3).requires z.1) (move ! (5 ∷ []) $
     heard_each ! (_ ∷ _ ∷ _ ∷ _ ∷ _ ∷ _ ∷ _ ∷ _ ∷ _ ∷ _ ∷ _ ∷ _ ∷ _ ∷ _ ∷ _ ∷ [])
     (λ leT leA leM leK from in_words packed len_is old_is enough small count_is held_is wanted_is
@@ -109,22 +95,14 @@ resize_words_spec 𝓤 𝓛 𝓜 𝓡 wired T A m k LT LA fits_m fits_k g d dd m
     -- The items form `count` words, `ws`, and `xss` lists the items of each.
     let xss : List (List T.Denot) = first_chunks m count items in
     let ws : List W.row.Denot = words_made T m count items in
-    let fl = are.1.1.0.1 in let fo = are.1.1.1.0.1 in let fc = are.1.1.1.1.0.1 in
-    let fn_ = are.1.1.1.1.1.0.1 in let fh = are.1.1.1.1.1.1.0.1 in
-    let fw = are.1.1.1.1.1.1.1.0.1 in
     move ! (4 ∷ []) $ fsplit ! $ fsplit ! $ drop ! $ keep ! (5 ∷ 2 ∷ 3 ∷ 4 ∷ 0 ∷ []) $
-    token_out ! 4 z.0.0.1 z.0.1.1 $ move ! (1 ∷ []) $
-    token_out ! 3 z.0.0.1.1 z.0.1.1.1 $ move ! (1 ∷ []) $
-    token_out ! 2 z.0.0.1.1.1 z.0.1.1.1.1 $ move ! (1 ∷ []) $
-    token_out ! 1 z.0.0.1.1.1.1 z.0.1.1.1.1.1 $ move ! (1 ∷ []) $
-    token_out ! 0 z.0.0.1.1.1.1.1 z.0.1.1.1.1.1.1 $
-    move ! (6 ∷ 7 ∷ 8 ∷ 9 ∷ 5 ∷ 4 ∷ 3 ∷ 2 ∷ 0 ∷ []) $
+    use1 𝓛 Tokens (id⊢ 𝓤 _) $ split3 ! $ move ! (2 ∷ []) $ split3 ! $ move ! (2 ∷ []) $ split ! $
+    move ! (6 ∷ 7 ∷ 8 ∷ 9 ∷ 4 ∷ 5 ∷ 2 ∷ 3 ∷ 0 ∷ []) $
     -- The context is now: the borrow of the block (3 entries); the shared reference to the
     -- allocator; the lifetime tokens of this reference, of `T`, `A`, `M` and `K`; the other tokens.
     enters ! fn (ptr_of r ∷ vptr handle_at.0 handle_at.1 ∷ vint w64 len ∷ vint w64 old ∷ vint w64
     cap ∷ vint w64 count ∷ vint w64 held ∷ vint w64 wanted ∷ [])
-    (λ i. are.0.0 i ++ (are.1.0.0 i ++ (are.1.1.0.0 i ++ (are.1.1.1.0.0 i ++ (are.1.1.1.1.0.0 i
-    ++ (are.1.1.1.1.1.0.0 i ++ (are.1.1.1.1.1.1.0.0 i ++ (are.1.1.1.1.1.1.1.0.0 i ++ []))))))))
+    (λ i. is₀ i ++ (is₁ i ++ (is₂ i ++ (is₃ i ++ (is₄ i ++ (is₅ i ++ (is₆ i ++ (is₇ i ++ []))))))))
     $
     alloc_all ! (λ l. pass_all ! refl (
       (tt, tt),
@@ -323,7 +301,7 @@ resize_words_spec 𝓤 𝓛 𝓜 𝓡 wired T A m k LT LA fits_m fits_k g d dd m
     feq_i ! (List Val) (vunit ∷ []) (vunit ∷ []) refl $
     use1 𝓛 (‵ (Out.own_val (Ok tt) (live 0 (vcons vunit vnil) ∷ [])))
     (ok_of 𝓛 unit AE.the_row tt vunit) $
-    move ! (1 ∷ 2 ∷ 3 ∷ 0 ∷ []) $ leaves_with E Y ! r y' 7 are.0.0 $
+    move ! (1 ∷ 2 ∷ 3 ∷ 0 ∷ []) $ leaves_with E Y ! r y' 7 is₀ $
     suffices ! _ (ends_at 𝓛 En₀ hs c z (live 0 (vcons vunit vnil)) (Ok tt)
     (y', (tt, (tt, (tt, (tt, (tt, (tt, (tt, tt))))))))
     (tt, (tt, (tt, (tt, (tt, (tt, (tt, (tt, tt))))))))) $
@@ -361,7 +339,7 @@ resize_words_spec 𝓤 𝓛 𝓜 𝓡 wired T A m k LT LA fits_m fits_k g d dd m
     use0 𝓛 (‵ (AE.the_row.own_val (record {}) (vstruct vnil ∷ []))) (refused_made 𝓛) $
     use1 𝓛 (‵ (Out.own_val (Err (record {})) (live 1 (vcons (vstruct vnil) vnil) ∷ [])))
     (err_of 𝓛 unit AE.the_row (record {}) (vstruct vnil)) $
-    move ! (1 ∷ 2 ∷ 3 ∷ 0 ∷ []) $ leaves_with E Y ! r x 7 are.0.0 $
+    move ! (1 ∷ 2 ∷ 3 ∷ 0 ∷ []) $ leaves_with E Y ! r x 7 is₀ $
     suffices ! _ (ends_at 𝓛 En₀ hs c z (live 1 (vcons (vstruct vnil) vnil)) (Err (record {}))
     (x, (tt, (tt, (tt, (tt, (tt, (tt, (tt, tt))))))))
     (tt, (tt, (tt, (tt, (tt, (tt, (tt, (tt, tt))))))))) $
