@@ -25,22 +25,17 @@ resize_array_spec 𝓤 𝓛 𝓜 𝓡 wired T A k LT LA fits_k g d dd met md =
     (#self (args_at E Y k)) fn
     (compiled.unfolded 𝓤 𝓛.H 𝓜 𝓡 wired (T, (A, (number k, tt))) d dd) (λ z are.
     let Post : Val → SProp 𝓤 = (walk_of 𝓛 En₀ hs c).post z in
-    let a = z.0.3 in
+    let (alloc, (start, (len, (held, (wanted, _))))) = z.0.3 in
+    let ((is₀, _), (is₁, ((is₂, fl), ((is₃, fh), ((is₄, fw), _))))) = are in
+    let (κ, (κT, (κA, (κK, _)))) = z.0.0 in
+    let (q, (qT, _)) = z.0.1 in
     let items : List T.Denot = z.1 in
     let Rt : RattleType = R E in
     let s : ℕ = sz E in
-    let κ : Lft = z.0.0.0 in
-    let q : Share = z.0.1.0 in
-    let κT : Lft = z.0.0.1.0 in
-    let qT : Share = z.0.1.1.0 in
-    let h = a.0.now in
-    let handle_at = a.0.ref_ptr in
-    let len : ℕ = a.1.1.0 in
-    let held : ℕ = a.1.1.1.0 in
-    let wanted : ℕ = a.1.1.1.1.0 in
-    let fl = are.1.1.0.1 in let fh = are.1.1.1.0.1 in let fw = are.1.1.1.1.0.1 in
+    let h = alloc.now in
+    let handle_at = alloc.ref_ptr in
     let tok : Ty → Ptr → Fml = token Y h in
-    let left : Answer.Denot → Fml = gapped_if_ok tok Rt a.1.0 k len held wanted items in
+    let left : Answer.Denot → Fml = gapped_if_ok tok Rt start k len held wanted items in
     -- `back` are the last values, which are in the gap while the allocator runs.
     let back : List T.Denot = rest (len - k) items in
     let turned : List T.Denot = back ++ take (len - k) items in
@@ -53,24 +48,24 @@ resize_array_spec 𝓤 𝓛 𝓜 𝓡 wired T A k LT LA fits_k g d dd met md =
     $ blank ! 5 $ join ! $ move ! (3 ∷ 4 ∷ []) $ join ! $ move ! (3 ∷ 0 ∷ []) $ join ! $ join ! $
     done ! in
     arrives (slot_at 0 ps) (others ps) 𝓛 z.0 ((c z.0.0 z.0.3).requires z.1) (move ! (4 ∷ []) $
-    use1 𝓛 (raw (fact 𝓤 (κT ⊑ T.lives)) ⊛ raw (fact 𝓤 (z.0.0.1.1.0 ⊑ A.lives)) ⊛
-    raw (fact 𝓤 (z.0.0.1.1.1.0 ⊑ [])) ⊛ raw (fact 𝓤 (FitsGap Rt k len held wanted items)) ⊛ ‵
-    (gapped_items tok Rt a.1.0 k len held items)) (id⊢ 𝓤 _) $ split ! $ heard ! _ (λ leT.
+    use1 𝓛 (raw (fact 𝓤 (κT ⊑ T.lives)) ⊛ raw (fact 𝓤 (κA ⊑ A.lives)) ⊛
+    raw (fact 𝓤 (κK ⊑ [])) ⊛ raw (fact 𝓤 (FitsGap Rt k len held wanted items)) ⊛ ‵
+    (gapped_items tok Rt start k len held items)) (id⊢ 𝓤 _) $ split ! $ heard ! _ (λ leT.
     split ! $ heard ! _ (λ leA. split ! $ heard ! _ (λ leK. split ! $ heard ! _ (λ fits.
-    let live : κ ⊑ A.lives = ⊑_trans κ z.0.0.1.1.0 A.lives z.0.2.0 leA in
+    let live : κ ⊑ A.lives = ⊑_trans κ κA A.lives z.0.2.0 leA in
     let room : k + len ≤ held = fits.room in
     let new_room : k + len ≤ wanted = fits.new_room in
     let near : len * s < 2 ^ 63 = times_below len held s (2 ^ 63) (omega arith) fits.fits in
     let short : len * s < 2 ^ 64 = omega arith in
-    in_a_block ! a.1.0 (λ p. gapped_items tok Rt p k len held items) (id⊢ 𝓤 _) (λ b o at.
+    in_a_block ! start (λ p. gapped_items tok Rt p k len held items) (id⊢ 𝓤 _) (λ b o at.
     move ! (1 ∷ []) $ fsplit ! $ drop ! $ keep ! (1 ∷ 0 ∷ 2 ∷ 3 ∷ []) $ move ! (3 ∷ []) $
     token_out ! 2 z.0.0.1 z.0.1.1 $ move ! (2 ∷ 3 ∷ 4 ∷ 0 ∷ []) $
     -- The context is now: the allocation; the shared reference to the allocator; the lifetime
     -- tokens of this reference and of `T`; the other lifetime tokens.
     enters ! fn (vptr handle_at.0 handle_at.1 ∷ vptr b o ∷ vint w64 len ∷ vint w64 held ∷ vint w64
     wanted ∷ [])
-    (λ i. are.0.0 i ++ ((are.1.0 ∙ ap (λ (p : Ptr). ptr_val p ∷ []) at) i ++ (are.1.1.0.0 i
-    ++ (are.1.1.1.0.0 i ++ (are.1.1.1.1.0.0 i ++ []))))) $
+    (λ i. is₀ i ++ ((is₁ ∙ ap (λ (p : Ptr). ptr_val p ∷ []) at) i ++ (is₂ i ++ (is₃ i
+    ++ (is₄ i ++ []))))) $
     alloc_all ! (λ l. pass_all ! refl ((tt, tt), ((tt, tt), (word fl, (word fh, (word fw, tt))))) $
     let En : Env 𝓤 𝓛.H = env fn.locals l in
     let inner : Body = inside (head fn.body) in

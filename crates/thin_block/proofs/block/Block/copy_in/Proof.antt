@@ -36,25 +36,24 @@ copy_in_spec 𝓤 𝓛 𝓜 𝓡 wired T A LT LA copies gc dc g d dd metc met md
       all_go 𝓛 (others ps) En₀.kept.1 ((λ κs x f. refl), ((λ κs x f. refl), tt)),
     )
     (#self args) fn (compiled.unfolded 𝓤 𝓛.H 𝓜 𝓡 wired (T, (A, tt)) dc d dd) (λ z are.
-    let self = z.0.3.0 in let x = self.now in
-    let κ₁ : Lft = z.0.0.1.0 in let q₁ : Share = z.0.1.1.0 in
-    let κ₂ : Lft = z.0.0.1.1.0 in let q₂ : Share = z.0.1.1.1.0 in
-    let i : ℕ = z.0.3.1.0 in let items = z.0.3.1.1.0 in
+    let (self, (i, (items, _))) = z.0.3 in let x = self.now in
+    let ((is₀, _), ((is₁, fi), (((is₂, roomy), _), _))) = are in
+    let (_, (κ₁, (κ₂, _))) = z.0.0 in let (_, (q₁, (q₂, _))) = z.0.1 in
+    let (_, (_, (out, _))) = z.0.2 in
     let xs : List T.Denot = items.now in
     let n : ℕ = length xs in
     arrives (slot_at 0 ps) (others ps) 𝓛 z.0 ((c z.0.0 z.0.3).requires z.1) (
     move ! (4 ∷ []) $ heard_each ! (_ ∷ _ ∷ _ ∷ _ ∷ []) (λ lives _ within bare.
-    let roomy = are.1.1.0.0.1 in
     let fk : n < 2 ^ 64 = roomy.0 in
     fsplit3 ! $ drop ! $ move ! (4 ∷ []) $ fsplit ! $ drop ! $ fsplit ! $
     keep ! (2 ∷ 3 ∷ 4 ∷ 5 ∷ 0 ∷ []) $
     rewrite ! 4 (λ (us : List Val). ‵ ((ShrSlice (named 1) κ₁ (copied 0 T)).own_val items us))
-    are.1.1.0.0.0 refl $
+    is₂ refl $
     enters ! fn
     (ptr_of self ∷ vint w64 i ∷ slice_val items.ref_ptr n ∷ [])
-    (λ k. are.0.0 k ++ (are.1.0.0 k ++ (are.1.1.0.0.0 k ++ []))) $
+    (λ k. is₀ k ++ (is₁ k ++ (is₂ k ++ []))) $
     alloc_all ! (λ l. pass_all ! refl
-    ((tt, tt), (word are.1.0.1, ((tt, (tt, (record { fits = fk }, tt))), tt))) $
+    ((tt, tt), (word fi, ((tt, (tt, (record { fits = fk }, tt))), tt))) $
     opens_self E Y ! tt self (λ b o at fits. let fm = near E x.slots i fits (omega arith) in
     sets ! (of_opd ! (its_ptr E Y ! refl)) refl (tt, tt) $ first ! $ blocks ! $
     slot_found E ! b o i fm refl ((tt, tt), (tt, tt)) $
@@ -92,9 +91,9 @@ copy_in_spec 𝓤 𝓛 𝓜 𝓡 wired T A LT LA copies gc dc g d dd metc met md
     move ! (2 ∷ 1 ∷ []) $ join ! $ move ! (1 ∷ 9 ∷ 0 ∷ []) $
     let Cp = Copied V gc dc 𝓛 𝓜.mem 𝓡.returns in
     let y₂ : Cp.Ghost = at_copied V gc dc 𝓛 𝓜.mem 𝓡.returns κ₁ κ₂ q₁ q₂
-    z.0.2.1.1.0 r b here n items in
+    out r b here n items in
     use3 𝓛 (raw (Cp.pre y₂))
-    (Copied-goes V gc dc 𝓛 𝓜.mem 𝓡.returns κ₁ κ₂ q₁ q₂ z.0.2.1.1.0 r b here n
+    (Copied-goes V gc dc 𝓛 𝓜.mem 𝓡.returns κ₁ κ₂ q₁ q₂ out r b here n
     items lives made.1.1) $
     calls_at ! (framed 𝓛 𝓜 𝓡) Cp
     (fill_from_met.met 𝓤 𝓛 𝓜 𝓡 (compiled.calls-thin_block::slots::fill_from 𝓡.env wired)
@@ -103,9 +102,9 @@ copy_in_spec 𝓤 𝓛 𝓜 𝓡 wired T A LT LA copies gc dc g d dd metc met md
     use1 𝓛 (later (exists
     (λ (f : (Row V).Denot). given
     ((v₂ ≡ row_val b here (slots_len f)) × (slots_ptr f ≡ block_ptr b here)
-    × IsCopy V gc dc 𝓛 𝓜.mem 𝓡.returns κ₁ κ₂ q₁ q₂ z.0.2.1.1.0 r b here n items f)
+    × IsCopy V gc dc 𝓛 𝓜.mem 𝓡.returns κ₁ κ₂ q₁ q₂ out r b here n items f)
     (‵ ((Row V).own_val f (row_val b here (slots_len f) ∷ [])) ⊛ ‵ (flft κ₁ q₁) ⊛ ‵ (flft κ₂ q₂)))))
-    (Copied-gives V gc dc 𝓛 𝓜.mem 𝓡.returns κ₁ κ₂ q₁ q₂ z.0.2.1.1.0 r b here n items v₂ made.1.0) $
+    (Copied-gives V gc dc 𝓛 𝓜.mem 𝓡.returns κ₁ κ₂ q₁ q₂ out r b here n items v₂ made.1.0) $
     await ! tt $ pick ! (λ f. learn ! (λ is_copy. split3 ! $
     let copy = is_copy.2 in
     let fz : slots_len f < 2 ^ 64 = slots_small f in
@@ -152,6 +151,6 @@ copy_in_spec 𝓤 𝓛 𝓜 𝓡 wired T A LT LA copies gc dc g d dd metc met md
     -- of the block; the lifetime tokens of this borrow, of `T`, of `items` and of `A`.
     returns ! (look_at ! 0 refl) $ free_all ! refl $
     move ! (3 ∷ 5 ∷ []) $ join ! $ move ! (4 ∷ 0 ∷ []) $ join ! $
-    move ! (1 ∷ 2 ∷ 3 ∷ 0 ∷ []) $ leaves_unit E Y ! self y 2 are.0.0 $
+    move ! (1 ∷ 2 ∷ 3 ∷ 0 ∷ []) $ leaves_unit E Y ! self y 2 is₀ $
     suffices ! _ (ends_at 𝓛 En₀ hs c z vunit tt (y, (tt, (tt, tt))) (tt, (tt, (tt, tt)))) $
     says_all ! (_ ∷ []) refl $ done !)))))))))))))

@@ -19,18 +19,18 @@ move_disjoint_spec 𝓤 𝓛 𝓜 𝓡 wired T A LT LA g d dd met md =
     proved_at 𝓛 En₀ hs c 𝓜 𝓡
     (goes E Y ss 𝓛 En₀.kept.1 ((λ κs x f. refl), ((λ κs x f. refl), ((λ κs x f. refl), tt))))
     (#self (args E Y)) fn (compiled.unfolded 𝓤 𝓛.H 𝓜 𝓡 wired (T, (A, tt)) d dd) (λ z are.
-    let r = z.0.3.0 in let x = r.now in let cap : ℕ = length x.slots in
-    let from : ℕ = z.0.3.1.0 in let to : ℕ = z.0.3.1.1.0 in let k : ℕ = z.0.3.1.1.1.0 in
+    let (r, (from, (to, (k, _)))) = z.0.3 in
+    let ((is₀, _), ((is₁, f₁), ((is₂, f₂), ((is₃, fk), _)))) = are in
+    let x = r.now in let cap : ℕ = length x.slots in
     let κ₁ : Lft = z.0.0.1.0 in let q₁ : Share = z.0.1.1.0 in
     begins E Y 𝓛 ss z.0 (_ ∷ _ ∷ _ ∷ _ ∷ _ ∷ _ ∷ _ ∷ []) (λ lives _ source target filled bare far.
     let items = full-run x.slots from k source filled in
     let xs : List T.Denot = items.0 in
     let long : length xs ≡ k = sym (length-map xs Some) ∙ ap length (sym items.1)
     ∙ length-run x.slots from k source in
-    let fk = are.1.1.1.0.1 in
     enters ! fn (ptr_of r ∷ vint w64 from ∷ vint w64 to ∷ vint w64 k ∷ [])
-    (λ n. are.0.0 n ++ (are.1.0.0 n ++ (are.1.1.0.0 n ++ (are.1.1.1.0.0 n ++ [])))) $
-    alloc_all ! (λ l. pass_all ! refl ((tt, tt), (word are.1.0.1, (word are.1.1.0.1, (word fk, tt)))) $
+    (λ n. is₀ n ++ (is₁ n ++ (is₂ n ++ (is₃ n ++ [])))) $
+    alloc_all ! (λ l. pass_all ! refl ((tt, tt), (word f₁, (word f₂, (word fk, tt)))) $
     opens_self E Y ! tt r (λ b o at fits.
     let s : ℕ = sz E in
     let src : ℕ = from * s + (o + 16) in
@@ -69,6 +69,6 @@ move_disjoint_spec 𝓤 𝓛 𝓜 𝓡 wired T A LT LA g d dd met md =
     use2 𝓛 (‵ (slots_own (R E) gone b (o + 16))) p.back $ move ! (0 ∷ 3 ∷ 4 ∷ 5 ∷ 6 ∷ 7 ∷ []) $
     closes_over E Y ! tt r y b o at same $
     returns ! (look_at ! 0 refl) $ free_all ! refl $ move ! (3 ∷ 4 ∷ []) $ join ! $
-    move ! (1 ∷ 2 ∷ 3 ∷ 0 ∷ []) $ leaves_unit E Y ! r y 3 are.0.0 $
+    move ! (1 ∷ 2 ∷ 3 ∷ 0 ∷ []) $ leaves_unit E Y ! r y 3 is₀ $
     suffices ! _ (ends_at 𝓛 En₀ hs c z vunit tt (y, (tt, (tt, (tt, tt))))
     (tt, (tt, (tt, (tt, tt))))) $ says_all ! (_ ∷ []) refl $ done !))))))

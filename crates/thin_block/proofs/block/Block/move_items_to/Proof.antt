@@ -46,26 +46,21 @@ move_items_to_spec 𝓤 𝓛 𝓜 𝓡 wired T A LT LA g d dd met md =
     let Post : Val → SProp 𝓤 = (walk_of 𝓛 En₀ hs c).post z in
     let a = z.0.3 in
     let vss = z.0.4 in
-    let κ₂ : Lft = z.0.0.1.1.0 in
-    let κ₃ : Lft = z.0.0.1.1.1.0 in
-    let q₂ : Share = z.0.1.1.1.0 in
-    let x = a.0.now in
-    let rb : ℕ = a.0.ref_ptr.0 in
-    let ro : ℕ = a.0.ref_ptr.1 in
-    let from : ℕ = a.1.0 in
-    let y = a.1.1.0.now in
-    let sb : ℕ = a.1.1.0.ref_ptr.0 in
-    let so : ℕ = a.1.1.0.ref_ptr.1 in
-    let to : ℕ = a.1.1.1.0 in
-    let k : ℕ = a.1.1.1.1.0 in
-    let relocates : Bool = a.1.1.1.1.1.0 in
+    let (κ₀, (κ₁, (κ₂, (κ₃, _)))) = z.0.0 in
+    let (q₀, (q₁, (q₂, (q₃, _)))) = z.0.1 in
+    let (from_block, (from, (to_block, (to, (k, (relocates, _)))))) = a in
+    let ((is₀, _), ((is₁, f₁), ((is₂, _), ((is₃, f₃), ((is₄, fk), (is₅, _)))))) = are in
+    let x = from_block.now in
+    let (rb, ro) = from_block.ref_ptr in
+    let y = to_block.now in
+    let (sb, so) = to_block.ref_ptr in
     let cost : Cost = if relocates then add_copies k y.cost else add_moves k y.cost in
     let s : ℕ = sz E in
     let Source : Type 0 = from + k ≤ length x.slots in
     let Target : Type 0 = to + k ≤ length y.slots in
     let Filled : Type 0 = (i : ℕ) → from ≤ i → i < from + k → IsSome (slot x.slots i) in
     let Empty : Type 0 = (i : ℕ) → to ≤ i → i < to + k → slot y.slots i ≡ None in
-    qed 𝓛 (((‵ (flft z.0.0.0 z.0.1.0) ⊛ ‵ (flft z.0.0.1.0 z.0.1.1.0) ⊛ ‵ (flft κ₂ q₂) ⊛ ‵ (flft κ₃ z.0.1.1.1.1.0) ⊛ ‵ ftrue) ⊛ ‵
+    qed 𝓛 (((‵ (flft κ₀ q₀) ⊛ ‵ (flft κ₁ q₁) ⊛ ‵ (flft κ₂ q₂) ⊛ ‵ (flft κ₃ q₃) ⊛ ‵ ftrue) ⊛ ‵
     (owns (types_at ps z.0.0) a vss))
     ∷ raw ((c z.0.0 z.0.3).requires z.1) ∷ []) ∵
     move ! (1 ∷ []) $ heard_each ! (_ ∷ _ ∷ Source ∷ Target ∷ Filled ∷ Empty ∷ []) (λ lives _ source target filled bare.
@@ -73,21 +68,18 @@ move_items_to_spec 𝓤 𝓛 𝓜 𝓡 wired T A LT LA g d dd met md =
     let xs : List T.Denot = items.0 in
     let long : length xs ≡ k = sym (length-map xs Some) ∙ ap length (sym items.1)
     ∙ length-run x.slots from k source in
-    let fk = are.1.1.1.1.0.1 in
     split ! $ split3 ! $ move ! (3 ∷ []) $ fsplit3 ! $ move ! (2 ∷ []) $ fsplit ! $ fsplit3 ! $
     move ! (4 ∷ []) $ fsplit3 ! $ keep ! (1 ∷ 2 ∷ 8 ∷ 4 ∷ 5 ∷ 9 ∷ 10 ∷ []) $
     regoal ! (λ (us : List Val). prop (WpFn 𝓤 H 𝓣.C 𝓣.Λ fn us Post))
-    (λ n. are.0.0 n ++ (are.1.0.0 n
-    ++ (are.1.1.0.0 n ++ (are.1.1.1.0.0 n
-    ++ (are.1.1.1.1.0.0 n ++ (are.1.1.1.1.1.0 n ++ [])))))) refl $
+    (λ n. is₀ n ++ (is₁ n ++ (is₂ n ++ (is₃ n ++ (is₄ n ++ (is₅ n ++ [])))))) refl $
     enter ! 𝓣.C 𝓣.Λ fn
     (vptr rb ro ∷ vint w64 from ∷ vptr sb so ∷ vint w64 to ∷ vint w64 k ∷ vbool relocates ∷ [])
     Post $
     alloc_all ! (λ l. pass_all ! refl (
       (tt, tt),
       (
-        (tt, record { fits = are.1.0.1 }),
-        ((tt, tt), ((tt, record { fits = are.1.1.1.0.1 }), ((tt, record { fits = fk }), ((tt, tt), tt)))),
+        (tt, record { fits = f₁ }),
+        ((tt, tt), ((tt, record { fits = f₃ }), ((tt, record { fits = fk }), ((tt, tt), tt)))),
       ),
     ) $
     let En : Env 𝓤 H = env fn.locals l in
@@ -165,8 +157,8 @@ move_items_to_spec 𝓤 𝓛 𝓜 𝓡 wired T A LT LA g d dd met md =
     -- and its lifetime token; the same three entries for `other`; the lifetime tokens of `T` and
     -- `A`.
     returns ! (look_at ! 0 refl) $ free_all ! refl $
-    feq_i ! (List Val) vss.0 (vptr rb ro ∷ []) are.0.0 $ fjoin3 ! $ move ! (2 ∷ 3 ∷ []) $
-    feq_i ! (List Val) vss.1.1.0 (vptr sb so ∷ []) are.1.1.0.0 $ fjoin3 ! $
+    feq_i ! (List Val) vss.0 (vptr rb ro ∷ []) is₀ $ fjoin3 ! $ move ! (2 ∷ 3 ∷ []) $
+    feq_i ! (List Val) vss.1.1.0 (vptr sb so ∷ []) is₂ $ fjoin3 ! $
     nothing ! $ nothing ! $ fjoin ! $ nothing ! $ fjoin ! $ nothing ! $ fjoin ! $
     move ! (1 ∷ 0 ∷ []) $ fjoin ! $
     nothing ! $ fjoin ! $ move ! (1 ∷ 0 ∷ []) $ fjoin ! $

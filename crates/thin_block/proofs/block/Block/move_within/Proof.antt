@@ -22,9 +22,9 @@ move_within_spec 𝓤 𝓛 𝓜 𝓡 wired T A LT LA g d dd met md =
       ((λ κs x f. refl), ((λ κs x f. refl), ((λ κs x f. refl), ((λ κs x f. refl), tt)))),
     ))
     (#self (args E Y)) fn (compiled.unfolded 𝓤 𝓛.H 𝓜 𝓡 wired (T, (A, tt)) d dd) (λ z are.
-    let r = z.0.3.0 in let x = r.now in let cap : ℕ = length x.slots in
-    let low : ℕ = z.0.3.1.0 in let a : ℕ = z.0.3.1.1.0 in let d : ℕ = z.0.3.1.1.1.0 in
-    let k : ℕ = z.0.3.1.1.1.1.0 in let up : Bool = z.0.3.1.1.1.1.1.0 in
+    let (r, (low, (a, (d, (k, (up, _)))))) = z.0.3 in
+    let ((is₀, _), ((is₁, f₁), ((is₂, f₂), ((is₃, f₃), ((is₄, fk), (is₅, _)))))) = are in
+    let x = r.now in let cap : ℕ = length x.slots in
     let from : ℕ = low + a in let to : ℕ = low + d in
     let κ₁ : Lft = z.0.0.1.0 in let q₁ : Share = z.0.1.1.0 in
     begins E Y 𝓛 ss z.0 (_ ∷ _ ∷ _ ∷ _ ∷ _ ∷ _ ∷ _ ∷ []) (λ lives _ source target filled above below.
@@ -32,12 +32,10 @@ move_within_spec 𝓤 𝓛 𝓜 𝓡 wired T A LT LA g d dd met md =
     let xs : List T.Denot = items.0 in
     let long : length xs ≡ k = sym (length-map xs Some) ∙ ap length (sym items.1)
     ∙ length-run x.slots from k source in
-    let fk = are.1.1.1.1.0.1 in
     enters ! fn (ptr_of r ∷ vint w64 low ∷ vint w64 a ∷ vint w64 d ∷ vint w64 k ∷ vbool up ∷ [])
-    (λ n. are.0.0 n ++ (are.1.0.0 n ++ (are.1.1.0.0 n
-    ++ (are.1.1.1.0.0 n ++ (are.1.1.1.1.0.0 n ++ (are.1.1.1.1.1.0 n ++ [])))))) $
+    (λ n. is₀ n ++ (is₁ n ++ (is₂ n ++ (is₃ n ++ (is₄ n ++ (is₅ n ++ [])))))) $
     alloc_all ! (λ l. pass_all ! refl
-    ((tt, tt), (word are.1.0.1, (word are.1.1.0.1, (word are.1.1.1.0.1, (word fk, ((tt, tt), tt)))))) $
+    ((tt, tt), (word f₁, (word f₂, (word f₃, (word fk, ((tt, tt), tt)))))) $
     opens_self E Y ! tt r (λ b o at fits.
     let s : ℕ = sz E in
     let src : ℕ = from * s + (o + 16) in
@@ -117,6 +115,6 @@ move_within_spec 𝓤 𝓛 𝓜 𝓡 wired T A LT LA g d dd met md =
     use2 𝓛 (‵ (slots_own (R E) gone b (o + 16))) p.back $ move ! (0 ∷ 3 ∷ 4 ∷ 5 ∷ 6 ∷ 7 ∷ []) $
     closes_over E Y ! tt r y b o at same $
     returns ! (look_at ! 0 refl) $ free_all ! refl $ move ! (3 ∷ 4 ∷ []) $ join ! $
-    move ! (1 ∷ 2 ∷ 3 ∷ 0 ∷ []) $ leaves_unit E Y ! r y 5 are.0.0 $
+    move ! (1 ∷ 2 ∷ 3 ∷ 0 ∷ []) $ leaves_unit E Y ! r y 5 is₀ $
     suffices ! _ (ends_at 𝓛 En₀ hs c z vunit tt (y, (tt, (tt, (tt, (tt, (tt, tt))))))
     (tt, (tt, (tt, (tt, (tt, (tt, tt))))))) $ says_all ! (_ ∷ _ ∷ []) (refl, same) $ done !))))))))

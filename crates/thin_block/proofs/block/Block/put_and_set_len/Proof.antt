@@ -18,20 +18,20 @@ put_and_set_len_spec 𝓤 𝓛 𝓜 𝓡 wired T A LT LA g d dd met md =
     proved_at 𝓛 En₀ hs c 𝓜 𝓡
     (goes E Y ss 𝓛 En₀.kept.1 ((λ κs x f. refl), ((λ κs x f. refl), ((λ κs x f. refl), tt))))
     (#self (args E Y)) fn (compiled.unfolded 𝓤 𝓛.H 𝓜 𝓡 wired (T, (A, tt)) d dd) (λ z are.
-    let r = z.0.3.0 in let x = r.now in let i : ℕ = z.0.3.1.0 in
-    let value : T.Denot = z.0.3.1.1.0 in let n : ℕ = z.0.3.1.1.1.0 in
+    let (r, (i, (value, (n, _)))) = z.0.3 in let (_, (_, (vs, _))) = z.0.4 in
+    let ((is₀, _), ((is₁, fi), (shown, ((is₃, fl), _)))) = are in
+    let x = r.now in
     let cap : ℕ = length x.slots in
-    let got = one E z.0.4.1.1.0 ((lawful E 𝓛).typed value z.0.4.1.1.0 are.1.1.0) in
+    let got = one E vs ((lawful E 𝓛).typed value vs shown) in
     let v : Val = got.0 in let good = got.2 in
     begins_with E Y 𝓛 ss z.0 (_ ∷ _ ∷ _ ∷ _ ∷ _ ∷ []) (λ _ _ within bare counted.
-    let fl = are.1.1.1.0.1 in
     let alloc = alloc_there x.alloc x.slots x.sound.1 (omega arith) in
     let h : A.Denot = alloc.0 in
     move ! (4 ∷ []) $ fsplit ! $ drop ! $ fsplit ! $ keep ! (2 ∷ 3 ∷ 4 ∷ 5 ∷ 0 ∷ []) $
     rewrite ! 4 (λ (us : List Val). ‵ (T.own_val value us)) got.1 refl $
     enters ! fn (ptr_of r ∷ vint w64 i ∷ v ∷ vint w64 n ∷ [])
-    (λ k. are.0.0 k ++ (are.1.0.0 k ++ (got.1 k ++ (are.1.1.1.0.0 k ++ [])))) $
-    alloc_all ! (λ l. pass_all ! refl ((tt, tt), (word are.1.0.1, (good, (word fl, tt)))) $
+    (λ k. is₀ k ++ (is₁ k ++ (got.1 k ++ (is₃ k ++ [])))) $
+    alloc_all ! (λ l. pass_all ! refl ((tt, tt), (word fi, (good, (word fl, tt)))) $
     opens_self E Y ! tt r (λ b o at fits.
     let here : ℕ = i * sz E + (o + 16) in let fm = near E x.slots i fits (omega arith) in
     sets ! (of_opd ! (its_ptr E Y ! refl)) refl (tt, tt) $ first ! $ blocks ! $
@@ -73,6 +73,6 @@ put_and_set_len_spec 𝓤 𝓛 𝓜 𝓡 wired T A LT LA g d dd met md =
       sound = (subst (λ (k : ℕ). n ≤ k) (sym long) counted, z₀.sound.1, z₀.sound.2);
     } in
     move ! (1 ∷ 0 ∷ []) $ closes_over E Y ! tt r y b o at long $
-    returns ! (look_at ! 0 refl) $ free_all ! refl $ leaves_unit E Y ! r y 3 are.0.0 $
+    returns ! (look_at ! 0 refl) $ free_all ! refl $ leaves_unit E Y ! r y 3 is₀ $
     suffices ! _ (ends_at 𝓛 En₀ hs c z vunit tt (y, (tt, (tt, (tt, tt))))
     (tt, (tt, (tt, (tt, tt))))) $ says_all ! (_ ∷ []) refl $ done !))))

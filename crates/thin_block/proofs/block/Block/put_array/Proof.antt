@@ -25,21 +25,22 @@ put_array_spec 𝓤 𝓛 𝓜 𝓡 wired T A N LT LA fits_N g d dd met md =
     )
     (#self (args_at E Y N)) fn
     (compiled.unfolded 𝓤 𝓛.H 𝓜 𝓡 wired (T, (A, (number N, tt))) d dd) (λ z are.
-    let r = z.0.3.0 in let x = r.now in let i : ℕ = z.0.3.1.0 in
-    let values : List T.Denot = z.0.3.1.1.0 in
+    let (r, (i, (values, _))) = z.0.3 in let (_, (_, (vs, _))) = z.0.4 in
+    let ((is₀, _), ((is₁, fi), (shown, _))) = are in
+    let x = r.now in
     let Arr : RattleType = ArrayAt (R E) (param 2 (number N)) in
     begins_with E Y 𝓛 ss z.0 (_ ∷ _ ∷ _ ∷ _ ∷ _ ∷ _ ∷ []) (λ _ _ _ _ within bare.
-    let got = alone (ty_array (layout T) N) z.0.4.1.1.0
-    (((array_at_laws 2 (R E) (param_laws 0 T LT) N).lawful 𝓛).typed values z.0.4.1.1.0 are.1.1.0)
+    let got = alone (ty_array (layout T) N) vs
+    (((array_at_laws 2 (R E) (param_laws 0 T LT) N).lawful 𝓛).typed values vs shown)
     in
     let v : Val = got.0 in
-    let is_v : z.0.4.1.1.0 ≡ v ∷ [] = got.1.0 in
+    let is_v : vs ≡ v ∷ [] = got.1.0 in
     let good = got.1.1 in
     move ! (4 ∷ []) $ fsplit ! $ drop ! $ fsplit ! $ keep ! (2 ∷ 3 ∷ 4 ∷ 5 ∷ 0 ∷ []) $
     rewrite ! 4 (λ (us : List Val). ‵ (Arr.own_val values us)) is_v refl $
     enters ! fn (ptr_of r ∷ vint w64 i ∷ v ∷ [])
-    (λ k. are.0.0 k ++ (are.1.0.0 k ++ (is_v k ++ []))) $
-    alloc_all ! (λ l. pass_all ! refl ((tt, tt), (word are.1.0.1, (good, tt))) $
+    (λ k. is₀ k ++ (is₁ k ++ (is_v k ++ []))) $
+    alloc_all ! (λ l. pass_all ! refl ((tt, tt), (word fi, (good, tt))) $
     opens_self E Y ! tt r (λ b o at fits. let fm = near E x.slots i fits (omega arith) in
     sets ! (of_opd ! (its_ptr E Y ! refl)) refl (tt, tt) $ first ! $ blocks ! $
     slot_found E ! b o i fm refl ((tt, tt), (tt, tt)) $
@@ -70,7 +71,7 @@ put_array_spec 𝓤 𝓛 𝓜 𝓡 wired T A N LT LA fits_N g d dd met md =
     use2 𝓛 (‵ (slots_own (R E) written_in b (o + 16)))
     (run_in E 𝓛 b (o + 16) x.slots i N within (filled_slots values) long_full) $
     closes_over E Y ! tt r y b o at long $
-    returns ! (look_at ! 0 refl) $ free_all ! refl $ leaves_unit E Y ! r y 2 are.0.0 $
+    returns ! (look_at ! 0 refl) $ free_all ! refl $ leaves_unit E Y ! r y 2 is₀ $
     suffices ! _ (ends_at 𝓛 En₀ hs c z vunit tt
     (y, (tt, (all_rest (λ _. Unit {0}) (λ _. tt) values, tt))) (tt, (tt, (tt, tt)))) $
     says_all ! (_ ∷ []) refl $ done !)))))

@@ -16,8 +16,8 @@ slice_spec 𝓤 𝓛 𝓜 𝓡 wired T A LT LA g d dd met md =
     proved_at 𝓛 En₀ hs c 𝓜 𝓡
     (all_go 𝓛 ps En₀.kept ((λ κs x f. refl), ((λ κs x f. refl), ((λ κs x f. refl), tt))))
     (#self (args E Y)) fn (compiled.unfolded 𝓤 𝓛.H 𝓜 𝓡 wired (T, (A, tt)) d dd) (λ z are.
-    let r = z.0.3.0 in let x = r.now in let i : ℕ = z.0.3.1.0 in
-    let j : ℕ = z.0.3.1.1.0 in let cap : ℕ = length x.slots in
+    let (r, (i, (j, _))) = z.0.3 in let x = r.now in
+    let ((is₀, _), ((is₁, fi), ((is₂, fj), _))) = are in let cap : ℕ = length x.slots in
     let κ : Lft = z.0.0.0 in let s : ℕ = sz E in
     let rb : ℕ = r.ref_ptr.0 in let ro : ℕ = r.ref_ptr.1 in
     seen E Y 𝓛 (others ps) z.0 ((c z.0.0 z.0.3).requires z.1) (
@@ -36,8 +36,8 @@ slice_spec 𝓤 𝓛 𝓜 𝓡 wired T A LT LA g d dd met md =
     let fm = near E x.slots i fits (omega arith) in
     let few : k * s < 2 ^ 63 = reach (R E) k cap fits (omega arith) in
     enters ! fn (vptr rb ro ∷ vint w64 i ∷ vint w64 j ∷ [])
-    (λ k. are.0.0 k ++ (are.1.0.0 k ++ (are.1.1.0.0 k ++ []))) $
-    alloc_all ! (λ l. pass_all ! refl ((tt, tt), (word are.1.0.1, (word are.1.1.0.1, tt))) $
+    (λ k. is₀ k ++ (is₁ k ++ (is₂ k ++ []))) $
+    alloc_all ! (λ l. pass_all ! refl ((tt, tt), (word fi, (word fj, tt))) $
     pointer_in ! tt x.at b o at rb (ro + 0) (λ q₀.
     sets ! (of_opd ! (load ! (through ! refl (fld ! refl (stop !))) (look ! 0 refl))) refl (tt, tt)
     $

@@ -22,8 +22,8 @@ slice_mut_spec 𝓤 𝓛 𝓜 𝓡 wired T A LT LA g d dd met md =
     proved_at 𝓛 En₀ hs c 𝓜 𝓡
     (all_go 𝓛 ps En₀.kept ((λ κs x f. refl), ((λ κs x f. refl), ((λ κs x f. refl), tt))))
     (#self (args E Y)) fn (compiled.unfolded 𝓤 𝓛.H 𝓜 𝓡 wired (T, (A, tt)) d dd) (λ z are.
-    let r = z.0.3.0 in let x = r.now in let i : ℕ = z.0.3.1.0 in
-    let j : ℕ = z.0.3.1.1.0 in let cap : ℕ = length x.slots in
+    let (r, (i, (j, _))) = z.0.3 in let x = r.now in
+    let ((is₀, _), ((is₁, fi), ((is₂, fj), _))) = are in let cap : ℕ = length x.slots in
     let γ : GName = r.ghost_name in let κ : Lft = z.0.0.0 in let q : Share = z.0.1.0 in
     begins E Y 𝓛 (others ps) z.0 (_ ∷ _ ∷ _ ∷ _ ∷ _ ∷ []) (λ _ _ ordered within filled.
     let k : ℕ = j - i in
@@ -32,8 +32,8 @@ slice_mut_spec 𝓤 𝓛 𝓜 𝓡 wired T A LT LA g d dd met md =
     let long : length xs ≡ k = sym (length-map xs Some) ∙ ap length (sym items.1)
     ∙ length-run x.slots i k (omega arith) in
     enters ! fn (ptr_of r ∷ vint w64 i ∷ vint w64 j ∷ [])
-    (λ k. are.0.0 k ++ (are.1.0.0 k ++ (are.1.1.0.0 k ++ []))) $
-    alloc_all ! (λ l. pass_all ! refl ((tt, tt), (word are.1.0.1, (word are.1.1.0.1, tt))) $
+    (λ k. is₀ k ++ (is₁ k ++ (is₂ k ++ []))) $
+    alloc_all ! (λ l. pass_all ! refl ((tt, tt), (word fi, (word fj, tt))) $
     opens_self E Y ! tt r (λ b o at fits.
     let s : ℕ = sz E in
     let here : ℕ = i * s + (o + 16) in

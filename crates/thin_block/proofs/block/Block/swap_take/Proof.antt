@@ -21,15 +21,16 @@ swap_take_spec 𝓤 𝓛 𝓜 𝓡 wired T A LT LA g d dd met md =
     let hs = block_stays E Y ss En₀.kept.1 in let fn = inst_fn (args E Y) compiled.function in
     proved_at 𝓛 En₀ hs c 𝓜 𝓡 (goes E Y ss 𝓛 En₀.kept.1 ((λ κs x f. refl), ((λ κs x f. refl), tt)))
     (#self (args E Y)) fn (compiled.unfolded 𝓤 𝓛.H 𝓜 𝓡 wired (T, (A, tt)) d dd) (λ z are.
-    let r = z.0.3.0 in let x = r.now in let i : ℕ = z.0.3.1.0 in let j : ℕ = z.0.3.1.1.0 in
+    let (r, (i, (j, _))) = z.0.3 in let x = r.now in
+    let ((is₀, _), ((is₁, fi), ((is₂, fj), _))) = are in
     begins E Y 𝓛 ss z.0 (_ ∷ _ ∷ _ ∷ _ ∷ []) (λ _ _ first_filled second_filled.
     let one = the_item (slot x.slots i) first_filled in
     let two = the_item (slot x.slots j) second_filled in
     let low : i < length x.slots = filled-within x.slots i first_filled in
     let low' : j < length x.slots = filled-within x.slots j second_filled in
     enters ! fn (ptr_of r ∷ vint w64 i ∷ vint w64 j ∷ [])
-    (λ k. are.0.0 k ++ (are.1.0.0 k ++ (are.1.1.0.0 k ++ []))) $
-    alloc_all ! (λ l. pass_all ! refl ((tt, tt), (word are.1.0.1, (word are.1.1.0.1, tt))) $
+    (λ k. is₀ k ++ (is₁ k ++ (is₂ k ++ []))) $
+    alloc_all ! (λ l. pass_all ! refl ((tt, tt), (word fi, (word fj, tt))) $
     opens_self E Y ! tt r (λ b o at fits.
     let here : ℕ = i * sz E + (o + 16) in let there : ℕ = j * sz E + (o + 16) in
     let near_i = near E x.slots i fits (omega arith) in
@@ -67,7 +68,7 @@ swap_take_spec 𝓤 𝓛 𝓜 𝓡 wired T A LT LA g d dd met md =
           (p.back (slot x.slots j) None) $
           move ! (0 ∷ 2 ∷ 3 ∷ 4 ∷ 5 ∷ 6 ∷ []) $
           closes_over E Y ! tt r y b o at long $
-          returns ! (look_at ! 0 refl) $ free_all ! refl $ leaves_with E Y ! r y 2 are.0.0 $
+          returns ! (look_at ! 0 refl) $ free_all ! refl $ leaves_with E Y ! r y 2 is₀ $
           suffices ! _ (ends_at 𝓛 En₀ hs c z v one.0 (y, (tt, (tt, tt))) (tt, (tt, (tt, tt)))) $
           says_all ! (_ ∷ _ ∷ []) (one.1, refl) $ done !)
       | inl same ↦
@@ -92,7 +93,7 @@ swap_take_spec 𝓤 𝓛 𝓜 𝓡 wired T A LT LA g d dd met md =
           ∙ set-set x.slots i (slot x.slots j) None)) refl $
           move ! (0 ∷ 2 ∷ 3 ∷ 4 ∷ 5 ∷ 6 ∷ []) $
           closes_over E Y ! tt r y b o at long $
-          returns ! (look_at ! 0 refl) $ free_all ! refl $ leaves_with E Y ! r y 2 are.0.0 $
+          returns ! (look_at ! 0 refl) $ free_all ! refl $ leaves_with E Y ! r y 2 is₀ $
           suffices ! _ (ends_at 𝓛 En₀ hs c z v one.0 (y, (tt, (tt, tt))) (tt, (tt, (tt, tt)))) $
           says_all ! (_ ∷ _ ∷ []) (one.1, refl) $ done !)
     ]))))
