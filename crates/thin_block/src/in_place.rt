@@ -91,10 +91,7 @@ impl<T, A: Allocator> Block<T, A> {
         let old = self.cap();
         let held = K + old.div_ceil(M);
         let wanted = K + cap.div_ceil(M);
-        match self.resize_words::<M, K>(alloc, len, old, cap, len / M, held, wanted) {
-            Ok(()) => Ok(()),
-            Err(_refused) => Err(ThinVecError::OutOfMemory),
-        }
+        Ok(self.resize_words::<M, K>(alloc, len, old, cap, len / M, held, wanted)?)
     }
 
     // Changes the number of slots of the block from `old` to `cap`. The function converts the items

@@ -61,10 +61,8 @@ impl<T, A: Allocator> Block<T, A> {
         ensures cause { IfErr result (λ cause. cause ≡ ThinVecError.OutOfMemory) }
     {
         let Layout { bytes, front } = layout_of::<T>(cap);
-        match Block::allocate_sized(alloc, cap, bytes, align_of_block::<T>(), front, self) {
-            Ok(block) => Ok(block),
-            Err(_refused) => Err(ThinVecError::OutOfMemory),
-        }
+        let align = align_of_block::<T>();
+        Ok(Block::allocate_sized(alloc, cap, bytes, align, front, self)?)
     }
 
     /// Grows the block to `cap` slots with one request for memory.
@@ -187,13 +185,8 @@ impl<T, A: Allocator> Block<T, A> {
         if may_be_padded::<T>(cap) {
             self.free_large(alloc, cap);
         } else {
-            self.free_sized(
-                alloc,
-                cap,
-                bytes_of_block::<T>(cap),
-                align_of_block::<T>(),
-                0,
-            );
+            let bytes = bytes_of_block::<T>(cap);
+            self.free_sized(alloc, cap, bytes, align_of_block::<T>(), 0);
         }
     }
 
@@ -225,7 +218,6 @@ impl<T, A: Allocator> Block<T, A> {
     // of bytes before the header: it is 0 unless the block is padded. The caller computes `bytes`,
     // `align` and `front`, so that the proof by hand has no other call to follow than that of the
     // allocator.
-    #[inline(always)]
     fn allocate_sized(
         alloc: &A,
         cap: usize,

@@ -1,7 +1,7 @@
-//! Functions that resize padded blocks. In a padded block, the header and the
-//! unused memory before it take as many bytes as an item. So the allocator's methods `grow` and
-//! `shrink`, which resize only arrays, can resize the block as an array of items. The address of
-//! the allocation is stored directly after the slots, since a pointer can be moved up but not down.
+//! Functions that resize padded blocks. In a padded block, the header and the unused memory before
+//! it take as many bytes as an item. So the allocator's methods `grow` and `shrink`, which resize
+//! only arrays, can resize the block as an array of items. The address of the allocation is stored
+//! directly after the slots, since a pointer can be moved up but not down.
 ghost use Rattle.std.specs.Prelude.{◌≡◌, ◌+◌, ◌<◌, ◌≤◌, OnErr, OnOk, length, true};
 ghost use Rattle.std.specs.declared.option.Option.TheVariants.{Some};
 ghost use Rattle.std.specs.Mem.{type_size};
@@ -44,10 +44,7 @@ impl<T, A: Allocator> Block<T, A> {
     {
         let old = self.cap();
         let front = item_size::<T>() - HEADER;
-        match self.resize_padded(alloc, len, old, cap, old + 2, cap + 2, front) {
-            Ok(()) => Ok(()),
-            Err(_refused) => Err(ThinVecError::OutOfMemory),
-        }
+        Ok(self.resize_padded(alloc, len, old, cap, old + 2, cap + 2, front)?)
     }
 
     // Resizes the memory of the block as an array from `held` to `wanted` items. The padding and

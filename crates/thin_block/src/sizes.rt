@@ -85,7 +85,6 @@ pub(crate) struct Layout {
 }
 
 // Returns the layout of a block for `cap` items.
-#[inline(always)]
 #[tactic(auto, unfolding(crate::specs::Capacity::has_padding))]
 pub(crate) fn layout_of<T>(cap: usize) -> Layout
     requires { Fits T.row cap }

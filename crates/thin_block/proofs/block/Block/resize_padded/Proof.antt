@@ -34,8 +34,31 @@ resize_padded_spec 𝓤 𝓛 𝓜 𝓡 wired T A LT LA g d dd met md =
     let (_, (q, (qT, (qA, _)))) = z.0.1 in
     let (_, (_, (out, _))) = z.0.2 in
     let (r, (a, (len, (old, (cap, (held, (wanted, (front, _)))))))) = z.0.3 in
-    let ((is₀, _), ((is₁, _), ((is₂, fl), ((is₃, fo), ((is₄, fc), ((is₅, fh), ((is₆, fw), ((is₇, ff),
-    _)))))))) = are in
+    let (
+      (is₀, _),
+      (
+        (is₁, _),
+        (
+          (is₂, fl),
+          (
+            (is₃, fo),
+            (
+              (is₄, fc),
+              (
+                (is₅, fh),
+                (
+                  (is₆, fw),
+                  (
+                    (is₇, ff),
+                    _,
+                  ),
+                ),
+              ),
+            ),
+          ),
+        ),
+      ),
+    ) = are in
     let x = r.now in
     let h = a.now in
     let handle_at = a.ref_ptr in

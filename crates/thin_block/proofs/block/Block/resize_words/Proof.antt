@@ -55,8 +55,28 @@ resize_words_spec 𝓤 𝓛 𝓜 𝓡 wired T A m k LT LA fits_m fits_k g d dd m
     let (_, (q, (qT, (qA, (qM, (qK, _)))))) = z.0.1 in
     let (_, (_, (out, _))) = z.0.2 in
     let (r, (a, (len, (old, (cap, (count, (held, (wanted, _)))))))) = z.0.3 in
-    let ((is₀, _), ((is₁, _), ((is₂, fl), ((is₃, fo), ((is₄, fc), ((is₅, fn_), ((is₆, fh),
-    ((is₇, fw), _)))))))) = are in
+    let (
+      (is₀, _),
+      (
+        (is₁, _),
+        (
+          (is₂, fl),
+          (
+            (is₃, fo),
+            (
+              (is₄, fc),
+              (
+                (is₅, fn_),
+                (
+                  (is₆, fh),
+                  ((is₇, fw), _),
+                ),
+              ),
+            ),
+          ),
+        ),
+      ),
+    ) = are in
     let x = r.now in
     let h = a.now in
     let handle_at = a.ref_ptr in
