@@ -11,7 +11,7 @@ use crate::block::Block;
 use crate::errors::ThinVecError;
 use crate::in_place::LONG;
 use crate::sizes::{
-    HEADER_WORDS, Layout, align_of_block, bytes_of_block, is_padded, item_size, layout_of,
+    HEADER, HEADER_WORDS, Layout, align_of_block, bytes_of_block, is_padded, item_size, layout_of,
     may_be_padded,
 };
 use std::alloc::{AllocError, Allocator};
@@ -127,6 +127,7 @@ impl<T, A: Allocator> Block<T, A> {
     // words and take at least `LONG * 8` bytes, or if the block is padded, remains so and has an
     // item, the allocator resizes the block, possibly in place.
     #[inline(always)]
+    #[tactic(auto, unfolding(crate::specs::Capacity::has_padding))]
     fn resize(&mut self, alloc: &A, len: usize, cap: usize) -> Result<(), ThinVecError>
         requires same_allocator { IsAllocatedBy self.old.alloc alloc.now }
         requires nonempty { 0 < length self.old.slots }
@@ -146,7 +147,9 @@ impl<T, A: Allocator> Block<T, A> {
             8 if len >= LONG => self.resize_in_place::<1, 2>(alloc, len, cap),
             16 if len >= LONG / 2 => self.resize_in_place::<1, 1>(alloc, len, cap),
             _ if is_padded::<T>(self.cap()) && is_padded::<T>(cap) && len > 0 => {
-                self.resize_padded_in_place(alloc, len, cap)
+                let old = self.cap();
+                let front = item_size::<T>() - HEADER;
+                Ok(self.resize_padded(alloc, len, old, cap, old + 2, cap + 2, front)?)
             }
             _ => {
                 let mut other = self.replacement(alloc, cap)?;

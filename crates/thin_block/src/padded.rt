@@ -11,45 +11,21 @@ ghost use Rattle.thin_block.specs.Cost.{add_realloc};
 ghost use Rattle.thin_block.specs.Slots.{IsPacked, empty_slots, write_slots, slot_range};
 
 use crate::block::Block;
-use crate::errors::ThinVecError;
 use crate::in_place::resize_array;
-use crate::sizes::{HEADER, HEADER_WORDS, item_size};
+use crate::sizes::HEADER_WORDS;
 use std::alloc::{AllocError, Allocator};
 
 impl<T, A: Allocator> Block<T, A> {
-    ghost use Rattle.thin_block.specs.Block.{IsAllocatedBy, Reallocates, block_view};
+    ghost use Rattle.thin_block.specs.Block.{block_view};
 
-    // Resizes the padded block of length `len` to `cap` slots, and may leave it at its address.
+    // Changes the number of slots of the padded block from `old` to `cap`, and may leave it at its
+    // address. The function resizes the memory of the block as an array from `held` to `wanted`
+    // items. The padding, which takes `front` bytes, and the header are the gap. If the allocator
+    // fails, the block is unchanged.
+    //
     // This function is cold for the same reason as `resize_in_place`.
     #[cold]
-    #[tactic(auto, unfolding(crate::specs::Capacity::has_padding))]
-    pub(crate) fn resize_padded_in_place(
-        &mut self,
-        alloc: &A,
-        len: usize,
-        cap: usize,
-    ) -> Result<(), ThinVecError>
-        requires same_allocator { IsAllocatedBy self.old.alloc alloc.now }
-        requires padded { has_padding (type_size T.row) (type_align T.row)
-            (length self.old.slots) ≡ true }
-        requires padded_new { has_padding (type_size T.row) (type_align T.row) cap ≡ true }
-        requires fits { Fits T.row cap }
-        requires packed { IsPacked self.old.slots self.old.len }
-        requires len_le_cap { self.old.len ≤ cap }
-        requires len { len ≡ self.old.len }
-        requires nonempty { 0 < len }
-
-        // In every case.
-        ensures changes { Reallocates self.old self.new alloc.now cap result }
-    {
-        let old = self.cap();
-        let front = item_size::<T>() - HEADER;
-        Ok(self.resize_padded(alloc, len, old, cap, old + 2, cap + 2, front)?)
-    }
-
-    // Resizes the memory of the block as an array from `held` to `wanted` items. The padding and
-    // the header are the gap. If the allocator fails, the block is unchanged.
-    fn resize_padded(
+    pub(crate) fn resize_padded(
         &mut self,
         alloc: &A,
         len: usize,
