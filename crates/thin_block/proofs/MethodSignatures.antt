@@ -2,7 +2,7 @@
 -- which arguments a method gives back to its caller.
 -- `pub use` lines export lemmas of other files that several of these proofs cite.
 use Rattle.std.proofs.Common.{◌≡◌, true, ℕ, zero, suc, ◌+◌, ◌^◌, ◌<◌, List, [], ◌∷◌, length, refl, sym, w64, T, Some, Option}
-use Rattle.thin_block.proofs.WalkPrelude.{Ura, Fn, ty_int, Args, a_type, a_number, dcons, dnil, named, Val, vint, vptr, vunit, WT, has_ty, full_share, SProp, ent, sep, id⊢, Fml, Lft, Share, ftrue, fsep, feq, flft, fbor, Calls, Loops, Wp, WpFn, fact, tables, Logic, sem, Item, Goal, Seq, Sq, Step, step, ‵, raw, ◌⊛◌, prop, runs, at_ret, keep, ◌$◌, ◌∵◌, !, qed, move, use1, use3, split, join, fat, header_owns, dealloc_right, fsplit, fsplit3, fjoin, fjoin3, feq_i, rewrite, regoal, drop, enter, exec, env, yes, cell_at, mem, bounded, number, Laws, RattleType, owns, usize, block_ptr, Slot, plain, types_at, nothing, heard, Stays, stay_ref, stay_dropped, Goes-ref, Goes-dropped, Al, El, R, Facts, Shown, after, Dict, fobs, fauth, fobor, hidden_shr, fits_block, slots_own}
+use Rattle.thin_block.proofs.WalkPrelude.{Ura, Fn, ty_int, Args, a_type, a_number, dcons, dnil, named, Val, vint, vptr, vunit, WT, has_ty, full_share, SProp, ent, sep, id⊢, Fml, Lft, Share, ftrue, fsep, feq, flft, fbor, Calls, Loops, Wp, WpFn, fact, tables, Logic, sem, Item, Goal, Seq, Sq, Step, step, ‵, raw, ◌⊛◌, prop, runs, at_ret, keep, ◌$◌, ◌∵◌, !, qed, move, use1, use3, split, join, fat, header_owns, dealloc_right, fsplit, fsplit3, fjoin, fjoin3, feq_i, rewrite, regoal, drop, enter, exec, env, yes, cell_at, mem, bounded, number, Laws, RattleType, owns, usize, block_ptr, Slot, plain, types_at, nothing, heard, Stays, stay_ref, stay_dropped, Goes-ref, Goes-dropped, Al, El, R, Facts, after, Dict, fobs, fauth, fobor, hidden_shr, fits_block, slots_own}
 use base.Stored.{Gv}
 use prog.Model.{Model}
 use contract.Lifetimes.{Lfts, Shares, toks}

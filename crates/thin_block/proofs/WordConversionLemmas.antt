@@ -1,10 +1,10 @@
 -- These lemmas convert a block into one array of words, which an allocator can grow or shrink, and
 -- back. A word is a struct of whole items that takes 8 or 16 bytes.
 use Rattle.std.proofs.Common.{◌≡◌, false, ℕ, Some, None, ◌+◌, ◌-◌, ◌*◌, ◌≤◌, List, [], ◌∷◌, ◌++◌, length, refl, sym, ap, ◌∙◌, arith, Bool, Option}
-use Rattle.thin_block.proofs.WalkPrelude.{Ura, Ty, size, align, size-raw, SProp, ent, sep, apply∗, Fml, fsep, froom, Logic, sem, ‵, ◌⊛◌, ◌$◌, ◌∵◌, !, qed, by, move, use1, use3, split, split3, fsplit, fsplit3, fjoin, group, rewrite, done, lone, param, Laws, RattleType, Ptr, block_ptr, El, R, elτ, array_of, div_ceil, type_size, type_align, align-raw, gapped_items, filled_slots, empty_slots}
+use Rattle.thin_block.proofs.WalkPrelude.{Ura, Ty, size, align, size-raw, ent, sep, Fml, fsep, froom, Logic, sem, ‵, ◌⊛◌, ◌$◌, ◌∵◌, !, qed, move, use1, use3, split, split3, fsplit, fsplit3, fjoin, rewrite, done, lone, param, Laws, RattleType, Ptr, block_ptr, El, R, elτ, array_of, div_ceil, type_size, type_align, align-raw, gapped_items, filled_slots, empty_slots}
 use Rattle.thin_block.specs.Capacity.{in_words, block_align, block_bytes}
-use Rattle.thin_block.specs.Ownership.{slots_own, unjoined_room, header_owns, erased_type, words_of, block_type_of, requested_type_of, requested_type, header_room, header_wand, slots_wand, rejoin_wand, dealloc_right, dealloc_right_of, dealloc_right_if, pads}
-use Rattle.thin_block.proofs.HeaderMemory.{carve, whole_size, whole_align, header_unwritten}
+use Rattle.thin_block.specs.Ownership.{slots_own, header_owns, erased_type, words_of, requested_type_of, requested_type, header_room, header_wand, slots_wand, dealloc_right, dealloc_right_of, dealloc_right_if, pads}
+use Rattle.thin_block.proofs.HeaderMemory.{whole_size, whole_align, header_unwritten}
 use Rattle.thin_block.proofs.words.WordsLemmas.{InWords, word_align, word_size, words_told, nameless}
 use Rattle.thin_block.proofs.words.WordRooms.{half, header_out, header_in}
 use Rattle.thin_block.proofs.words.WordsMemory.{word_el, words_made, words_back}

@@ -1,7 +1,7 @@
 -- These lemmas convert uninitialized memory of headers, slots and blocks into memory of words, and
 -- back. Here, a word is a struct of `m` items, which takes 8 or 16 bytes.
-use Rattle.std.proofs.Common.{◌≡◌, ℕ, zero, suc, ◌+◌, ◌-◌, ◌*◌, ◌≤◌, [], ◌∷◌, refl, sym, ap, ◌∙◌, arith, zero-mul, suc-mul, w64}
-use Rattle.thin_block.proofs.WalkPrelude.{Ura, ent, sep, apply∗, Fml, ftrue, fsep, froom, Ty, ty_int, ty_array, size, align, Logic, sem, ‵, ◌⊛◌, ◌$◌, ◌∵◌, !, qed, by, move, keep, drop, use0, use1, use2, use3, split, split3, fsplit, fjoin, rewrite, keeps, assume, done, nothing, add_comm, fwand, word_of, word_wand, word_wands, header_room, header_wand, slots_wand}
+use Rattle.std.proofs.Common.{◌≡◌, ℕ, zero, suc, ◌+◌, ◌*◌, [], ◌∷◌, refl, sym, ap, ◌∙◌, arith, zero-mul, suc-mul, w64}
+use Rattle.thin_block.proofs.WalkPrelude.{Ura, ent, sep, apply∗, Fml, ftrue, froom, Ty, ty_int, ty_array, size, align, Logic, sem, ‵, ◌⊛◌, ◌$◌, ◌∵◌, !, qed, by, move, keep, drop, use0, use1, use2, split, fsplit, fjoin, rewrite, keeps, assume, done, nothing, add_comm, fwand, word_of, word_wand, word_wands, header_room, header_wand}
 use denote.Index.{place, place_is}
 use denote.RawPtr.Room.{past, room_cut, room_glue}
 use Rattle.thin_block.proofs.words.WordsLemmas.{InWords}
@@ -136,9 +136,6 @@ module _ {M : Type 1} {𝓤 : Ura M} (𝓛 : Logic 𝓤) (τ : Ty) (m k b : ℕ)
 
   header_bytes : k * u ≡ 16
   header_bytes = ap (λ (n : ℕ). k * n) hd.size ∙ hd.room
-
-  after_header : (o : ℕ) → past ω k o ≡ o + 16
-  after_header o = past_is ω k o ∙ ap (λ (n : ℕ). o + n) header_bytes
 
   eights : InEights (size units) (align units) 0
   eights = record { size = sym header_bytes; align = hd.eight }

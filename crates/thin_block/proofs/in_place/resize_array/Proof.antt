@@ -1,7 +1,7 @@
 -- This file proves the contract of `resize_array`, which moves the last values into the gap, calls
 -- the method `grow` or `shrink` of the allocator, and moves the values back.
 use Rattle.std.proofs.Common.{refl, sym, ap, ◌∙◌, Bool, true, false, List, [], ◌∷◌, ◌++◌, ℕ, ◌+◌, ◌-◌, ◌*◌, ◌<◌, ◌≤◌, ◌^◌, arith, w64, take, drop as rest}
-use Rattle.thin_block.proofs.WalkPrelude.{ltb→lt, nltb→le, Body, Ty, place, ty_array, inst_fn, Val, vint, vptr, SProp, ex, id⊢, Lft, Share, Fml, fat, froom, flft, full_share, ◌⊑◌, ⊑_trans, tables, Env, Item, After, Sq, prop, ‵, raw, ◌⊛◌, exists, pick, later, at_ret, ◌$◌, !, move, keep, drop, group, use0, use1, use2, use3, split, split3, join, rewrite, regoal, fsplit, suffices, await, done, bin, lit, agg, load, look, init, assigns, through, heard, peeks, fact, Is, shows, part_in, part_out, param, param_laws, array_at_laws, ArrayAt, number, no_more, and_then, of_opd, first, blocks, branches, exec, returns, alloc_all, pass_all, free_all, look_at, get, get_in, sets, sets_last, lands_last, env, stop, fld, whole, RattleType, Array, part_at, layout, Ptr, block_ptr, ptr_val, calls_at_last, walk_of, ends_at, proved_at, block_with_items, token, fm, R, slot_at, after, head, inside, arm_body, then_runs, out_of_block, times_below, holding, forget_but, get_tag, settles, vrt, in_variant, switches_on, in_a_block, FitsGap, gapped_items, gapped_if_ok}
+use Rattle.thin_block.proofs.WalkPrelude.{ltb→lt, nltb→le, Body, Ty, place, ty_array, inst_fn, Val, vint, vptr, SProp, ex, id⊢, Fml, fat, froom, flft, full_share, ◌⊑◌, ⊑_trans, tables, Env, Item, After, Sq, prop, ‵, raw, ◌⊛◌, exists, pick, later, at_ret, ◌$◌, !, move, keep, drop, group, use0, use1, use2, use3, split, split3, join, rewrite, regoal, fsplit, suffices, await, done, bin, lit, agg, load, look, init, assigns, through, heard, peeks, fact, Is, shows, part_in, part_out, param, param_laws, array_at_laws, ArrayAt, number, no_more, and_then, of_opd, first, blocks, branches, exec, returns, alloc_all, pass_all, free_all, look_at, get, get_in, sets, sets_last, lands_last, env, stop, fld, whole, RattleType, Array, part_at, layout, Ptr, block_ptr, ptr_val, calls_at_last, walk_of, ends_at, proved_at, block_with_items, token, fm, R, slot_at, after, head, inside, arm_body, then_runs, out_of_block, times_below, holding, forget_but, get_tag, settles, vrt, in_variant, switches_on, in_a_block, FitsGap, gapped_items, gapped_if_ok}
 use contract.Lifetimes.{toks}
 use Rattle.core.specs.Allocator.{resized_if_ok}
 use Rattle.core.proofs.alloc.Calls.{Answer, answer_val, Answer-typed}

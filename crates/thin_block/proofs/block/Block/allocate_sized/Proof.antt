@@ -1,11 +1,10 @@
 -- This file proves the contract of `allocate_sized`, which allocates the memory of a block with
 -- empty slots, and writes its header and, if the block is padded, the address of the memory.
 use Rattle.std.proofs.Common.{◌≡◌, ℕ, ◌+◌, ◌*◌, ◌<◌, ◌^◌, List, [], ◌∷◌, ◌++◌, length, replicate, Bool, true, refl, sym, ap, ◌∙◌, arith, lit<, w64, Some, None, Option}
-use Rattle.thin_block.proofs.WalkPrelude.{Ty, Body, ty_int, Val, WT, vint, vptr, vstruct, vcons, vnil, inst_fn, length-replicate, SProp, Lft, Share, Fml, froom, flft, size, align, capped, capped_is, Env, ⊑_trans, tables, After, Item, Sq, prop, ‵, raw, ◌⊛◌, later, at_ret, ◌$◌, !, move, keep, drop, use0, use1, use2, use3, split, split3, join, rewrite, fsplit, fjoin, await, suffices, done, whole, agg, stop, fld, lit, bin, init, of_opd, no_more, and_then, assigns, assigns_last, first, exec, branches, skips, returns, alloc_all, pass_all, free_all, look_at, get, get_in, through, sets, sets_last, lands_as, env, holding, forget_but, ltb→lt, nltb→le, Wp, RattleType, Ptr, block_ptr, calls_at, walk_of, ends_at, token, fm, proved_at, type_size, type_align, R, slot_at, then_runs, after, head, arm_body, says_all, refused_made, ty_ptr, live, vrt, in_variant, switches_on, get_tag, type_at, Takes, at_takes, Answered, Takes-goes, Takes-gives, answers, Ok, Err, ok_of, err_of, add_request, Fits, block_align}
+use Rattle.thin_block.proofs.WalkPrelude.{Ty, Body, ty_int, Val, WT, vint, vptr, vstruct, vcons, vnil, inst_fn, length-replicate, SProp, Fml, froom, flft, size, align, capped, capped_is, Env, ⊑_trans, tables, After, Item, Sq, prop, ‵, raw, ◌⊛◌, later, at_ret, ◌$◌, !, move, keep, drop, use0, use1, use2, use3, split, split3, join, rewrite, fsplit, fjoin, await, suffices, done, whole, agg, stop, fld, lit, bin, init, of_opd, no_more, and_then, assigns, assigns_last, first, exec, branches, skips, returns, alloc_all, pass_all, free_all, look_at, get, get_in, through, sets, sets_last, lands_as, env, holding, forget_but, ltb→lt, nltb→le, Wp, RattleType, Ptr, block_ptr, calls_at, walk_of, ends_at, token, fm, proved_at, type_size, R, slot_at, then_runs, after, head, arm_body, says_all, refused_made, live, vrt, in_variant, switches_on, get_tag, type_at, Takes, at_takes, Answered, Takes-goes, Takes-gives, answers, Ok, Err, ok_of, err_of, add_request}
 use types.Kit.{post}
 use contract.Lifetimes.{toks}
-use Rattle.thin_block.specs.Capacity.{front_bytes, memory_bytes}
-use Rattle.thin_block.specs.Ownership.{fits_block, slots_own, header_owns, dealloc_right, dealloc_right_if, words_of, erased_type, pads, end_of, memory_type}
+use Rattle.thin_block.specs.Ownership.{fits_block, slots_own, header_owns, dealloc_right, dealloc_right_if, words_of, erased_type, pads, memory_type}
 use Rattle.thin_block.proofs.sizes.SizesLemmas.{fits_tells, opened, rounded}
 use Rattle.thin_block.proofs.BlockMemory.{Unaddressed, front_tells, memory_size, memory_align, memory_short, memory_apart}
 use Rattle.thin_block.proofs.padded.PaddedMemory.{padded_right_in}

@@ -1,7 +1,7 @@
 -- This file proves the contract of `copy_in`, which copies items into adjacent empty slots of a
 -- block.
-use Rattle.std.proofs.Common.{◌≡◌, ℕ, Some, None, false, ◌+◌, ◌*◌, ◌^◌, ◌<◌, ◌≤◌, List, ◌∷◌, [], ◌++◌, length, refl, sym, subst, ◌∙◌, arith, w64, replicate, Option}
-use Rattle.thin_block.proofs.WalkPrelude.{length-map, length-replicate, Fn, Args, ty_array, a_type, dcons, dnil, named, Val, WT, vint, vunit, inst_fn, full_share, Lft, Share, froom, flft, ‵, raw, ◌⊛◌, exists, given, later, learn, pick, await, ◌$◌, !, move, keep, drop, use1, use2, use3, split, split3, join, fsplit, fsplit3, rewrite, suffices, done, whole, sub, stop, fld, unit_lit, of_opd, no_more, and_then, first, blocks, returns, alloc_all, pass_all, free_all, look_at, sets, lands_as, lands_last, get, get_in, Array, part_at, RattleType, block_ptr, layout, param, bounded, plain, slice_val, calls_at, calls_at_last, Stays, stay_ref, walk_of, Goes-ref, ends_at, proved_at, framed, R, slot_at, says_all, copied, ShrSlice, add_moves, with_slots, slots_own, filled_slots, empty_slots, slot, write_slots}
+use Rattle.std.proofs.Common.{◌≡◌, ℕ, Some, false, ◌+◌, ◌*◌, ◌^◌, ◌<◌, List, ◌∷◌, [], ◌++◌, length, refl, sym, subst, ◌∙◌, arith, w64, replicate, Option}
+use Rattle.thin_block.proofs.WalkPrelude.{length-map, length-replicate, Fn, Args, ty_array, a_type, dcons, dnil, named, Val, WT, vint, vunit, inst_fn, full_share, froom, flft, ‵, raw, ◌⊛◌, exists, given, later, learn, pick, await, ◌$◌, !, move, keep, drop, use1, use2, use3, split, split3, join, fsplit, fsplit3, rewrite, suffices, done, whole, sub, stop, fld, unit_lit, of_opd, no_more, and_then, first, blocks, returns, alloc_all, pass_all, free_all, look_at, sets, lands_as, lands_last, get, get_in, Array, part_at, RattleType, block_ptr, layout, param, bounded, plain, slice_val, calls_at, calls_at_last, Stays, stay_ref, walk_of, Goes-ref, ends_at, proved_at, framed, R, slot_at, says_all, copied, ShrSlice, add_moves, with_slots, slots_own, filled_slots, empty_slots, write_slots}
 use Rattle.core.specs.Mem.Slots.{slots_items, slots_filled, slots_ptr, slots_len, slots_counts, slots_small}
 use Rattle.core.specs.Mem.Slots.Ownership.{Filled}
 use Rattle.core.proofs.slots.Opens.{row_val}

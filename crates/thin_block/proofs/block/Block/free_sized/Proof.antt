@@ -1,7 +1,7 @@
 -- This file proves the contract of `free_sized`. The proof joins the parts of the block into one
 -- piece of memory, which the function returns to the allocator.
-use Rattle.std.proofs.Common.{◌≡◌, ℕ, ◌+◌, List, [], ◌∷◌, ◌++◌, ◌*◌, ◌<◌, ◌^◌, Bool, length, true, false, refl, sym, ap, subst, ◌∙◌, arith, w64, Some, Option}
-use Rattle.thin_block.proofs.WalkPrelude.{Ty, Body, place, Val, vint, vptr, vunit, inst_fn, SProp, Lft, Share, Fml, froom, flft, size, align, capped, capped_is, Env, ⊑_trans, tables, After, Item, Sq, prop, ‵, raw, ◌⊛◌, given, exists, pick, group, later, at_ret, ◌$◌, !, by, move, keep, drop, use1, use2, use3, split, join, learn, rewrite, regoal, fsplit, feq_i, await, whole, sub, stop, fld, load, look, lit, bin, through, unit_lit, of_opd, no_more, and_then, first, blocks, branches, exec, returns, alloc_all, pass_all, free_all, look_at, get, get_in, sets, sets_last, lands_last, env, holding, forget_but, ltb→lt, nltb→le, Wp, RattleType, Ptr, block_ptr, nothing, calls_at_last, walk_of, token, fm, proved_at, leaves, type_size, type_align, R, slot_at, then_runs, out_of_block, after, head, inside, ty_ptr, settles, Goes-blank, Gives, at_gives, Gives-goes, Gives-Gives, empty_slots, gapped_items}
+use Rattle.std.proofs.Common.{◌≡◌, ℕ, ◌+◌, List, [], ◌∷◌, ◌++◌, ◌*◌, ◌<◌, ◌^◌, Bool, length, true, false, refl, sym, ap, subst, ◌∙◌, arith, w64, Option}
+use Rattle.thin_block.proofs.WalkPrelude.{Ty, Body, place, Val, vint, vptr, vunit, inst_fn, SProp, Fml, froom, flft, size, align, capped, capped_is, Env, ⊑_trans, tables, After, Item, Sq, prop, ‵, raw, ◌⊛◌, given, exists, pick, group, later, at_ret, ◌$◌, !, by, move, keep, drop, use1, use2, use3, split, join, learn, rewrite, regoal, fsplit, feq_i, await, whole, sub, stop, fld, load, look, lit, bin, through, unit_lit, of_opd, no_more, and_then, first, blocks, branches, exec, returns, alloc_all, pass_all, free_all, look_at, get, get_in, sets, sets_last, lands_last, env, holding, forget_but, ltb→lt, nltb→le, Wp, RattleType, Ptr, block_ptr, nothing, calls_at_last, walk_of, token, fm, proved_at, leaves, type_size, R, slot_at, then_runs, out_of_block, after, head, inside, ty_ptr, settles, Goes-blank, Gives, at_gives, Gives-goes, Gives-Gives, empty_slots, gapped_items}
 use types.Kit.{post}
 use contract.Lifetimes.{toks}
 use Rattle.core.proofs.alloc.Calls.{seen}
@@ -10,7 +10,7 @@ use Rattle.thin_block.proofs.sizes.SizesLemmas.{rounded}
 use Rattle.thin_block.proofs.BlockMemory.{ordinary_joined, front_tells, memory_size, memory_align, memory_short}
 use Rattle.thin_block.proofs.in_place.ArrayMemory.{memory_out}
 use Rattle.thin_block.proofs.padded.PaddedMemory.{Opened, padded_apart, array_in}
-use Rattle.thin_block.proofs.MethodSignatures.{item, source, others, dropped, all_go, arrives, heard_each, enters, blank, still, word, args, header, t, block_val, block_had, items, reach, slot_found}
+use Rattle.thin_block.proofs.MethodSignatures.{item, source, others, dropped, all_go, arrives, heard_each, enters, blank, still, word, args, header, t, block_val, block_had, reach, slot_found}
 use Rattle.thin_block.specs.contracts.block.Block.free_sized.{ended, clauses}
 use Rattle.thin_block.specs.contracts.block.Block.free_sized.Key.{name as #self}
 use Rattle.thin_block.proofs.block.Block.free_sized.Statement.{statement}

@@ -1,6 +1,6 @@
 -- This file proves the contract of `move_disjoint`, which moves items to slots that do not overlap
 -- with their old slots.
-use Rattle.std.proofs.Common.{◌≡◌, ℕ, Some, ◌+◌, ◌*◌, ◌^◌, ◌<◌, ◌≤◌, List, ◌∷◌, [], ◌++◌, length, refl, sym, ap, subst, ◌∙◌, arith, w64, Option}
+use Rattle.std.proofs.Common.{◌≡◌, ℕ, Some, ◌+◌, ◌*◌, ◌^◌, ◌<◌, List, ◌∷◌, [], ◌++◌, length, refl, sym, ap, subst, ◌∙◌, arith, w64, Option}
 use Rattle.thin_block.proofs.WalkPrelude.{length-map, Holds, ty_array, ty_unit, Val, WT, has_ty, vint, vunit, inst_fn, full_share, Lft, Share, Fml, froom, flft, ‵, raw, ◌⊛◌, given, later, learn, await, ◌$◌, !, move, use1, use2, use3, split, split3, join, fsplit, fjoin, suffices, done, unit_lit, of_opd, no_more, and_then, first, blocks, returns, alloc_all, pass_all, free_all, look_at, sets, lands_last, get, Array, part_at, layout, calls_at_last, walk_of, ends_at, proved_at, framed, R, says_all, add_moves, with_slots, slots_own, move_slots}
 use Rattle.core.proofs.alloc.Moves.{Copies, at_copies, Copies-goes, Copies-gives}
 use Rattle.thin_block.proofs.shifts.ShiftMemory.{Was, apart}

@@ -1,7 +1,7 @@
 -- This file proves the contract of `move_items_to`, which moves adjacent items from one block
 -- to another block.
-use Rattle.std.proofs.Common.{◌≡◌, ℕ, Some, None, ◌+◌, ◌*◌, ◌^◌, ◌<◌, ◌≤◌, List, ◌∷◌, [], ◌++◌, length, refl, sym, ap, subst, ◌∙◌, arith, w64, Bool, Option}
-use Rattle.thin_block.proofs.WalkPrelude.{Holds, length-map, length-replicate, Fn, ty_array, ty_unit, Val, WT, vbool, has_ty, vint, vptr, vunit, inst_fn, full_share, SProp, Lft, Share, ftrue, froom, flft, Env, WpFn, tables, ‵, raw, ◌⊛◌, given, later, prop, at_ret, ◌$◌, ◌∵◌, !, qed, move, keep, use1, use2, use3, split, split3, join, fsplit, fsplit3, fjoin, fjoin3, feq_i, rewrite, regoal, learn, await, suffices, done, whole, sub, look_in, stop, fld, load, unit_lit, of_opd, no_more, and_then, first, blocks, exec, returns, enter, alloc_all, pass_all, free_all, look_at, through, sets, lands_last, env, get, Array, part_at, RattleType, owns, layout, plain, types_at, nothing, calls_at_last, Stays, stay_ref, stay_dropped, walk_of, Goes-dropped, Goes-ref, ends_at, proved_at, framed, R, slot_at, after, says_all, IsSome, if◌then◌else◌, with_slots, slots_own, filled_slots, empty_slots, slot, write_slots, clear_slots, block_view}
+use Rattle.std.proofs.Common.{◌≡◌, ℕ, Some, None, ◌+◌, ◌*◌, ◌^◌, ◌<◌, ◌≤◌, List, ◌∷◌, [], ◌++◌, length, refl, sym, ap, subst, ◌∙◌, arith, w64, Option}
+use Rattle.thin_block.proofs.WalkPrelude.{Holds, length-map, length-replicate, Fn, ty_array, ty_unit, Val, WT, vbool, has_ty, vint, vptr, vunit, inst_fn, full_share, SProp, ftrue, froom, flft, Env, WpFn, tables, ‵, raw, ◌⊛◌, given, later, prop, at_ret, ◌$◌, ◌∵◌, !, qed, move, keep, use1, use2, use3, split, split3, join, fsplit, fsplit3, fjoin, fjoin3, feq_i, rewrite, regoal, learn, await, suffices, done, whole, sub, look_in, stop, fld, load, unit_lit, of_opd, no_more, and_then, first, blocks, exec, returns, enter, alloc_all, pass_all, free_all, look_at, through, sets, lands_last, env, get, Array, part_at, RattleType, owns, layout, plain, types_at, nothing, calls_at_last, Stays, stay_ref, stay_dropped, walk_of, Goes-dropped, Goes-ref, ends_at, proved_at, framed, R, slot_at, after, says_all, IsSome, if◌then◌else◌, with_slots, slots_own, filled_slots, empty_slots, slot, write_slots, clear_slots, block_view}
 use Rattle.core.proofs.alloc.Moves.{Copies, at_copies, Copies-goes, Copies-gives}
 use Rattle.thin_block.specs.Cost.{Cost, add_moves, add_copies}
 use Rattle.thin_block.proofs.SlotsLemmas.{full-run, empty-run, length-run, length-written}

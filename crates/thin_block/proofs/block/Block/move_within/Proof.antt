@@ -1,6 +1,6 @@
 -- This file proves the contract of `move_within`, which moves adjacent items up or down by `d`
 -- slots.
-use Rattle.std.proofs.Common.{◌≡◌, ℕ, Some, ◌+◌, ◌*◌, ◌^◌, ◌<◌, ◌≤◌, List, ◌∷◌, [], ◌++◌, length, refl, sym, ap, subst, ◌∙◌, arith, w64, Option, Bool}
+use Rattle.std.proofs.Common.{◌≡◌, ℕ, Some, ◌+◌, ◌*◌, ◌^◌, ◌<◌, List, ◌∷◌, [], ◌++◌, length, refl, sym, ap, subst, ◌∙◌, arith, w64, Option}
 use Rattle.thin_block.proofs.WalkPrelude.{length-map, Holds, ty_unit, Val, WT, has_ty, vint, vptr, vunit, inst_fn, emp, Lft, Share, Fml, ftrue, fsep, flft, ◌⊑◌, fact, fact_i, ‵, raw, ◌⊛◌, exists, later, pick, await, ◌$◌, !, move, drop, use0, use1, use2, split, join, suffices, done, bin, size_word, unit_lit, of_opd, no_more, and_then, first, blocks, returns, alloc_all, pass_all, free_all, look_at, is, sets, lands_last, get, usize, owns, RawPtr, block_ptr, nothing, calls_at_last, walk_of, ends_at, proved_at, framed, R, uncapped, says_all, feq_l, id⊢, unit, only, triple_of, vbool, memory_before_copy, memory_after_copy, add_moves, with_slots, slots_own, move_slots, bool, pure_i, IsShifted}
 use Rattle.thin_block.proofs.shifts.ShiftMemory.{further, slides, distance, shifted}
 use Rattle.thin_block.proofs.MethodSignatures.{item, source, others, block_stays, goes, begins, enters, closes_over, token_out, leaves_unit, ptr_of, opens_self, continues, word, full-run, length-run, args, Br, sz, reach, length-moved, near, its_ptr, slot_found}

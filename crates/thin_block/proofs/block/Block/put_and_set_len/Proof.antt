@@ -1,6 +1,6 @@
 -- This file proves the contract of `put_and_set_len`, which puts an item into an empty slot and
 -- then writes the length of the block.
-use Rattle.std.proofs.Common.{◌≡◌, ℕ, Some, ◌+◌, ◌*◌, ◌<◌, ◌≤◌, List, ◌∷◌, [], ◌++◌, length, refl, sym, subst, arith, w64, Option}
+use Rattle.std.proofs.Common.{◌≡◌, ℕ, Some, ◌+◌, ◌*◌, ◌≤◌, List, ◌∷◌, [], ◌++◌, length, refl, sym, subst, arith, w64, Option}
 use Rattle.thin_block.proofs.WalkPrelude.{set, length-set, ty_int, Val, vint, vunit, inst_fn, full_share, fat, froom, ‵, ◌$◌, !, move, keep, drop, use1, use2, fsplit, fjoin, rewrite, suffices, done, stop, lit, bin, init, store, unit_lit, of_opd, assigns, assigns_last, first, blocks, returns, alloc_all, pass_all, free_all, look_at, through, sets, get, usize, uint_in, uint_out, block_ptr, lies_at, layout, walk_of, ends_at, proved_at, R, says_all, add_moves, with_slots, slot_owns, slots_own}
 use Rattle.core.proofs.mem.Param.{lawful, one}
 use Rattle.core.proofs.slice.Rows.{el_in}

@@ -1,6 +1,6 @@
 -- This file proves the contract of `put_array`, which moves the items of an array into adjacent
 -- empty slots.
-use Rattle.std.proofs.Common.{◌≡◌, ℕ, Some, ◌+◌, ◌*◌, ◌≤◌, List, ◌∷◌, [], ◌++◌, length, refl, ◌∙◌, arith, w64, Option}
+use Rattle.std.proofs.Common.{◌≡◌, ℕ, Some, ◌+◌, ◌*◌, List, ◌∷◌, [], ◌++◌, length, refl, ◌∙◌, arith, w64, Option}
 use Rattle.thin_block.proofs.WalkPrelude.{length-map, ty_array, Val, vint, vunit, inst_fn, full_share, froom, ‵, ◌⊛◌, given, learn, ◌$◌, !, move, keep, drop, use1, use2, split, fsplit, rewrite, suffices, done, stop, init, unit_lit, of_opd, assigns_last, first, blocks, returns, alloc_all, pass_all, free_all, look_at, through, sets, get, Array, part_at, RattleType, layout, param, number, plain, walk_of, Goes-dropped, Goes-ref, ends_at, proved_at, R, slot_at, says_all, ArrayAt, param_laws, array_at_laws, via, part_in, alone, nothing_left, add_moves, with_slots, slots_own, filled_slots, empty_slots, write_slots}
 use denote.Exit.{all_rest}
 use Rattle.thin_block.proofs.SlotMemory.{counted}

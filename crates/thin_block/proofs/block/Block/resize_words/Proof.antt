@@ -1,7 +1,7 @@
 -- This file proves the contract of `resize_words`, which converts a block into an array of words,
 -- resizes the array, and converts it back into a block.
 use Rattle.std.proofs.Common.{◌≡◌, ℕ, ◌+◌, ◌-◌, ◌*◌, ◌^◌, ◌<◌, ◌≤◌, List, [], ◌∷◌, ◌++◌, length, true, refl, sym, ap, subst, ◌∙◌, arith, lit<, w64, Some, Option}
-use Rattle.thin_block.proofs.WalkPrelude.{div_ceil, Ty, Body, Args, ty_int, a_type, a_number, dcons, dnil, bare, Val, WT, vint, vptr, vstruct, vcons, vnil, vunit, inst_fn, SProp, ex, emp, id⊢, Fml, Lft, Share, ftrue, fsep, froom, flft, Env, ◌⊑◌, fact, fact_i, tables, After, Item, Sq, prop, ‵, raw, ◌⊛◌, exists, pick, later, at_ret, ◌$◌, !, move, keep, drop, group, use0, use1, use2, split, split3, join, rewrite, fsplit, await, fjoin3, feq_i, feq_l, suffices, done, whole, sub, agg, stop, fld, lit, bin, init, store_in, unit_lit, of_opd, no_more, and_then, assigns, first, blocks, exec, returns, alloc_all, pass_all, free_all, look_at, get, get_in, through, is, sets, sets_last, lands_as, env, usize, unit, RattleType, owns, yes, layout, param, number, bounded, Ptr, RawPtr, block_ptr, nothing, only, calls_at, triple_of, walk_of, ends_at, array_of, Al, token, fm, proved_at, type_size, type_align, El, R, then_runs, out_of_block, after, head, inside, arm_body, says_all, refused_made, mul_assoc, live, vrt, in_variant, switches_on, get_tag, pure_i, type_at, Flagged, flagged, Ok, Err, ok_of, err_of, add_realloc, block_bytes, items_in, filled_slots, empty_slots, write_slots, slot_range, fits_block, slots_own, header_owns, dealloc_right, word_of, slots_wand, runs_at, FitsGap, block_view}
+use Rattle.thin_block.proofs.WalkPrelude.{div_ceil, Ty, Body, Args, ty_int, a_type, a_number, dcons, dnil, bare, Val, WT, vint, vptr, vstruct, vcons, vnil, vunit, inst_fn, SProp, ex, emp, id⊢, Fml, ftrue, fsep, froom, flft, Env, ◌⊑◌, fact, fact_i, tables, After, Item, ‵, raw, ◌⊛◌, exists, pick, later, at_ret, ◌$◌, !, move, keep, drop, group, use0, use1, use2, split, split3, join, rewrite, fsplit, await, fjoin3, feq_i, feq_l, suffices, done, whole, sub, agg, stop, fld, lit, bin, init, store_in, unit_lit, of_opd, no_more, and_then, assigns, first, blocks, exec, returns, alloc_all, pass_all, free_all, look_at, get, get_in, through, is, sets, sets_last, lands_as, env, usize, unit, RattleType, owns, yes, layout, param, number, bounded, Ptr, RawPtr, block_ptr, nothing, only, calls_at, triple_of, walk_of, ends_at, array_of, Al, token, fm, proved_at, type_size, type_align, El, R, then_runs, out_of_block, after, head, inside, arm_body, says_all, refused_made, mul_assoc, live, vrt, in_variant, switches_on, get_tag, pure_i, type_at, Flagged, flagged, Ok, Err, ok_of, err_of, add_realloc, block_bytes, items_in, filled_slots, empty_slots, write_slots, slot_range, fits_block, slots_own, header_owns, dealloc_right, word_of, slots_wand, runs_at, FitsGap, block_view}
 use contract.BorrowLft.{⊑_meet, ⊑_static}
 use denote.Param.{arg}
 use denote.Param.Laws.{arg_laws}

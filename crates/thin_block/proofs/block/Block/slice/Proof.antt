@@ -1,5 +1,5 @@
 -- This file proves the contract of `slice`, which returns the items in adjacent slots as a slice.
-use Rattle.std.proofs.Common.{◌≡◌, ℕ, ◌+◌, ◌*◌, ◌-◌, ◌^◌, ◌<◌, ◌≤◌, List, ◌∷◌, [], ◌++◌, length, Some, refl, sym, ap, subst, ◌∙◌, arith, w64}
+use Rattle.std.proofs.Common.{◌≡◌, ℕ, ◌+◌, ◌*◌, ◌-◌, ◌^◌, ◌<◌, List, ◌∷◌, [], ◌++◌, length, Some, refl, sym, ap, subst, ◌∙◌, arith, w64}
 use Rattle.thin_block.proofs.WalkPrelude.{length-map, Val, vint, vptr, inst_fn, Lft, ‵, ◌$◌, !, move, keep, use1, fjoin, feq_i, flt_i, suffices, done, agg, stop, fld, look, load, bin, of_opd, no_more, and_then, first, blocks, returns, alloc_all, pass_all, free_all, look_at, through, sets, sets_last, get, slice_val, walk_of, ends_at, proved_at, R, pointer_in, pointer_out, fhide, elements_shared, says}
 use Rattle.thin_block.proofs.SharedRefLemmas.{block_seen, run_seen}
 use Rattle.thin_block.proofs.MethodSignatures.{item, source, others, dropped, all_go, heard_each, seen, enters, leaves, continues, word, args, sz, reach, full-run, length-run, near, slot_found}

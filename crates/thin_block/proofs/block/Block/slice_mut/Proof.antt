@@ -1,6 +1,6 @@
 -- This file proves the contract of `slice_mut`, which returns the items in adjacent slots as a
 -- mutable slice.
-use Rattle.std.proofs.Common.{◌≡◌, ℕ, Some, ◌+◌, ◌-◌, ◌*◌, ◌^◌, ◌<◌, ◌≤◌, List, ◌∷◌, [], ◌++◌, length, refl, sym, ap, subst, ◌∙◌, arith, w64}
+use Rattle.std.proofs.Common.{◌≡◌, ℕ, Some, ◌+◌, ◌-◌, ◌*◌, ◌^◌, ◌<◌, List, ◌∷◌, [], ◌++◌, length, refl, sym, ap, subst, ◌∙◌, arith, w64}
 use Rattle.thin_block.proofs.WalkPrelude.{length-map, named, vint, inst_fn, ent, sep, emp, Lft, Share, GName, Fml, fsep, flft, fact, fact_i, sem, ‵, raw, ◌⊛◌, exists, later, pick, await, ◌$◌, !, by, move, use0, use1, split, split3, join, group, fjoin, rewrite, agg, bin, of_opd, no_more, and_then, first, blocks, returns, alloc_all, pass_all, free_all, look_at, sets, sets_last, get, cells, Array, mem, slice_val, walk_of, proved_at, leaves, R, set_slots, slots_own, filled_slots}
 use denote.Follow.{follows}
 use denote.FollowSlice.{lends_Elements}

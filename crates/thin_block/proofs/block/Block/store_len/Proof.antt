@@ -1,5 +1,5 @@
 -- This file proves the contract of `store_len`, which writes the length to the header of the block.
-use Rattle.std.proofs.Common.{◌≡◌, ℕ, ◌+◌, ◌≤◌, ◌∷◌, [], ◌++◌, length, refl, sym, arith, w64, Option}
+use Rattle.std.proofs.Common.{◌≡◌, ℕ, ◌+◌, ◌∷◌, [], ◌++◌, length, refl, sym, arith, w64, Option}
 use Rattle.thin_block.proofs.WalkPrelude.{ty_int, vint, vunit, inst_fn, full_share, fat, ‵, ◌$◌, !, move, use1, fsplit, fjoin, rewrite, suffices, done, whole, sub, look_in, stop, fld, load, lit, bin, store, unit_lit, of_opd, assigns_last, first, blocks, returns, alloc_all, pass_all, free_all, look_at, through, sets, get, usize, uint_in, uint_out, block_ptr, lies_at, walk_of, ends_at, proved_at, R, says_all}
 use Rattle.thin_block.proofs.HeaderMemory.{alloc_there, args, Br, header, t, block_closes}
 use Rattle.thin_block.proofs.MethodSignatures.{item, source, others, block_stays, goes, begins, enters, leaves_unit, ptr_of, opens_self, continues, word}

@@ -1,6 +1,6 @@
 -- This file proves the contract of `take_array`, which moves the items out of adjacent slots and
 -- returns them as an array.
-use Rattle.std.proofs.Common.{◌≡◌, ℕ, Some, None, ◌+◌, ◌*◌, ◌≤◌, List, ◌∷◌, [], ◌++◌, length, refl, sym, ap, ◌∙◌, arith, w64, Option}
+use Rattle.std.proofs.Common.{◌≡◌, ℕ, Some, None, ◌+◌, ◌*◌, List, ◌∷◌, [], ◌++◌, length, refl, sym, ap, ◌∙◌, arith, w64, Option}
 use Rattle.thin_block.proofs.WalkPrelude.{length-map, length-replicate, ty_array, Val, vint, inst_fn, full_share, fat, froom, ‵, ◌⊛◌, exists, pick, ◌$◌, !, move, use1, use2, split, suffices, done, stop, look, load, of_opd, first, blocks, returns, alloc_all, pass_all, free_all, look_at, through, sets, sets_last, get, Array, part_at, RattleType, layout, param, number, walk_of, ends_at, proved_at, R, says_all, Is, shows, ArrayAt, param_laws, array_at_laws, peeks, part_out, with_slots, slots_own, filled_slots, empty_slots, clear_slots}
 use Rattle.thin_block.proofs.SlotMemory.{sz, around, run_out, run_in, to_items, of_room}
 use Rattle.thin_block.proofs.MethodSignatures.{item, source, others, block_stays, goes, begins, enters, closes_over, args_at, leaves_with, ptr_of, opens_self, continues, word, full-run, length-run, length-written, Br, near, its_ptr, slot_found}
