@@ -3,7 +3,7 @@
 use Rattle.std.proofs.Common.{◌≡◌, false, ℕ, Some, None, ◌+◌, ◌-◌, ◌*◌, ◌≤◌, List, [], ◌∷◌, ◌++◌, length, refl, sym, ap, ◌∙◌, arith, Bool, Option}
 use Rattle.thin_block.proofs.WalkPrelude.{Ura, Ty, size, align, size-raw, ent, sep, Fml, fsep, froom, Logic, sem, ‵, ◌⊛◌, ◌$◌, ◌∵◌, !, qed, move, use1, use3, split, split3, fsplit, fsplit3, fjoin, rewrite, done, lone, param, Laws, RattleType, Ptr, block_ptr, El, R, elτ, array_of, div_ceil, type_size, type_align, align-raw, gapped_items, filled_slots, empty_slots}
 use Rattle.thin_block.specs.Capacity.{in_words, block_align, block_bytes}
-use Rattle.thin_block.specs.Ownership.{slots_own, header_owns, erased_type, words_of, requested_type_of, requested_type, header_room, header_wand, slots_wand, dealloc_right, dealloc_right_of, dealloc_right_if, pads}
+use Rattle.thin_block.specs.Ownership.{slots_own, header_owns, erased_type, words_of, requested_type_of, header_room, header_wand, slots_wand, dealloc_right, dealloc_right_of, dealloc_right_if, pads}
 use Rattle.thin_block.proofs.HeaderMemory.{whole_size, whole_align, header_unwritten}
 use Rattle.thin_block.proofs.words.WordsLemmas.{InWords, word_align, word_size, words_told, nameless}
 use Rattle.thin_block.proofs.words.WordRooms.{half, header_out, header_in}
@@ -36,10 +36,10 @@ module _ (Rw : RattleType) (c : ℕ) where
   align_for None e = whole_align Rw c
   align_for (Some w) e = ap word_align (align-raw τ₀) ∙ (words_told Rw w.0 w.1 e).align
 
-  pub asked_size : size (requested_type Rw c) ≡ block_bytes s₀ a₀ c
+  pub asked_size : size (requested_type_of (words_of Rw) (erased_type Rw) c) ≡ block_bytes s₀ a₀ c
   asked_size = size_for (words_of Rw) (sym same_words)
 
-  pub asked_align : align (requested_type Rw c) ≡ block_align a₀
+  pub asked_align : align (requested_type_of (words_of Rw) (erased_type Rw) c) ≡ block_align a₀
   asked_align = align_for (words_of Rw) (sym same_words)
 
 -- In this module, `m` items of the type `T` make a word, which is a struct of 8 or 16 bytes. The

@@ -74,16 +74,12 @@ word_of τ m = ty_struct [] (tcons (ty_array τ m) (tcons (ty_array (ty_int w64)
 abbrev pub words_of : RattleType → Option (ℕ × ℕ)
 words_of R = in_words (size (erased_type R))
 
--- A block of `c` slots for items of the type `τ` requests memory for one value of the type
--- `requested_type_of w τ c`. This type is an array of words if `w` is `Some`, and the type of the
--- whole block if `w` is `None`.
+-- A block of `c` slots for items of the type `τ` that is not padded requests memory for one value
+-- of the type `requested_type_of w τ c`. This type is an array of words if `w` is `Some`, and the
+-- type of the whole block if `w` is `None`.
 abbrev pub requested_type_of : Option (ℕ × ℕ) → Ty → ℕ → Ty
 requested_type_of None τ c = block_type_of τ c
 requested_type_of (Some w) τ c = ty_array (word_of τ w.0) (w.1 + div_ceil c w.0)
-
--- `requested_type R c` is `requested_type_of` for items of the type `R`.
-abbrev pub requested_type : RattleType → ℕ → Ty
-requested_type R c = requested_type_of (words_of R) (erased_type R) c
 
 -- `header_room b o` is uninitialized memory for the capacity and the length, at the offset `o` of
 -- the allocation `b`.
@@ -152,9 +148,9 @@ pads R c = has_padding (type_size R) (type_align R) c
 abbrev pub padded_type : Ty → ℕ → Ty
 padded_type τ c = ty_array τ (c + 2)
 
--- `memory_type_if p w τ c` is the type of the memory that a block of `c` slots for items of the type
--- `τ` requests. `p` says whether the block is padded. `w` says how its items form words if it is
--- not.
+-- A block of `c` slots for items of the type `τ` requests memory for one value of the type
+-- `memory_type_if p w τ c`. `p` says whether the block is padded. `w` says how its items form words
+-- if it is not.
 abbrev pub memory_type_if : Bool → Option (ℕ × ℕ) → Ty → ℕ → Ty
 memory_type_if true w τ c = padded_type τ c
 memory_type_if false w τ c = requested_type_of w τ c

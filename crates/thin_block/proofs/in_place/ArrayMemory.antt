@@ -171,8 +171,8 @@ module _ {M : Type 1} {𝓤 : Ura M} (𝓛 : Logic 𝓤) (E : El) (t : Ty → Pt
       -- to free the allocation.
       move ! (3 ∷ 1 ∷ 4 ∷ []) $ fjoin3 ! $ move ! (2 ∷ 1 ∷ 0 ∷ []) $ done !
 
--- In this module, the memory for `n` values is used as an allocation with a gap of `k` values and no
--- value.
+-- In this module, the memory for `n` values is used as an allocation with a gap of `k` values, and
+-- no value.
 module _ {M : Type 1} {𝓤 : Ura M} (𝓛 : Logic 𝓤) (E : El) (t : Ty → Ptr → Fml) (b o k n : ℕ)
     (enough : k ≤ n) where
   open 𝓛 use {H}
