@@ -34,31 +34,8 @@ resize_padded_spec 𝓤 𝓛 𝓜 𝓡 wired T A LT LA g d dd met md =
     let (_, (q, (qT, (qA, _)))) = z.0.1 in
     let (_, (_, (out, _))) = z.0.2 in
     let (r, (a, (len, (old, (cap, (held, (wanted, (front, _)))))))) = z.0.3 in
-    let (
-      (is₀, _),
-      (
-        (is₁, _),
-        (
-          (is₂, fl),
-          (
-            (is₃, fo),
-            (
-              (is₄, fc),
-              (
-                (is₅, fh),
-                (
-                  (is₆, fw),
-                  (
-                    (is₇, ff),
-                    _,
-                  ),
-                ),
-              ),
-            ),
-          ),
-        ),
-      ),
-    ) = are in
+    let ((is₀, _), ((is₁, _), ((is₂, fl), ((is₃, fo), are')))) = are in
+    let ((is₄, fc), ((is₅, fh), ((is₆, fw), ((is₇, ff), _)))) = are' in
     let x = r.now in
     let h = a.now in
     let handle_at = a.ref_ptr in
@@ -84,24 +61,11 @@ resize_padded_spec 𝓤 𝓛 𝓜 𝓡 wired T A LT LA g d dd met md =
     -- allocator; the lifetime tokens of this reference, of `T` and of `A`; the other tokens.
     enters ! fn (ptr_of r ∷ vptr handle_at.0 handle_at.1 ∷ vint w64 len ∷ vint w64 old ∷ vint w64
     cap ∷ vint w64 held ∷ vint w64 wanted ∷ vint w64 front ∷ [])
-    (λ i. is₀ i ++ (is₁ i ++ (is₂ i ++ (is₃ i ++ (is₄ i ++ (is₅ i ++ (is₆ i ++ (is₇ i ++ []))))))))
-    $
-    alloc_all ! (λ l. pass_all ! refl (
-      (tt, tt),
-      (
-        (tt, tt),
-        (
-          word fl,
-          (
-            word fo,
-            (
-              word fc,
-              (word fh, (word fw, (word ff, tt))),
-            ),
-          ),
-        ),
-      ),
-    ) $
+    (λ i. is₀ i ++ (is₁ i ++ (is₂ i ++ (is₃ i ++ (is₄ i ++ (is₅ i ++ (is₆ i ++ (is₇ i ++ [])))))))) $
+    let w₂ = word fl in let w₃ = word fo in let w₄ = word fc in let w₅ = word fh in
+    let w₆ = word fw in let w₇ = word ff in
+    alloc_all ! (λ l. pass_all ! refl
+    ((tt, tt), ((tt, tt), (w₂, (w₃, (w₄, (w₅, (w₆, (w₇, tt)))))))) $
     let En : Env 𝓤 H = env fn.locals l in
     opens_self E Y ! tt r (λ b o at fits.
     let wide : Padded s (type_align Rt) old = padded_tells s (type_align Rt) old pad in
