@@ -1,6 +1,6 @@
 -- This file computes the size of a block in bytes, and defines when a block is small enough to be
--- allocated.
-use Rattle.std.specs.Prelude.{ℕ, ◌+◌, ◌*◌, ◌-◌, ◌^◌, ◌&&◌, ◌==◌, Bool, IsTrue, Option, if◌then◌else◌, max, nat_le, nat_lt}
+-- allocated, and when it is padded.
+use Rattle.std.specs.Prelude.{ℕ, zero, suc, ◌+◌, ◌*◌, ◌-◌, ◌^◌, ◌&&◌, ◌==◌, Bool, IsTrue, Option, if◌then◌else◌, max, nat_le, nat_lt}
 use Rattle.std.specs.declared.option.Option.TheVariants.{Some, None}
 use Rattle.std.specs.Int.{next_multiple_of}
 use Rattle.std.specs.Mem.{type_size}
@@ -49,16 +49,33 @@ in_words s = if s == 1 then Some (8, 2) else (if s == 2 then Some (4, 2) else
     (if s == 4 then Some (2, 2) else (if s == 8 then Some (1, 2) else
     (if s == 16 then Some (1, 1) else None))))
 
+-- `double_to k n p` doubles `p` until the result is at least `n`, but at most `k` times.
+abbrev pub double_to : ℕ → ℕ → ℕ → ℕ
+double_to zero n p = p
+double_to (suc more) n p = if nat_le n p then p else double_to more n (2 * p)
+
+-- `least_power n` is the least power of two that is at least `n`. std's `usize::next_power_of_two`
+-- returns the same number if the number fits into a `usize`.
+unfoldable pub least_power : ℕ → ℕ
+least_power n = double_to n n 1
+
 -- `may_have_padding s a c` is true if a block for `c` items of size `s` and alignment `a` is padded
--- unless the items take `2 ^ 62` bytes or more.
+-- unless `has_room_for_padding s a c` is false.
 abbrev pub may_have_padding : ℕ → ℕ → ℕ → Bool
 may_have_padding s a c = nat_lt 16 s && (nat_le 8 a && nat_le 32 c)
+
+-- `has_room_for_padding s a c` is true if `c` items of size `s` and alignment `a` take less than
+-- `2 ^ 62` bytes, and the least power of two that is enough for the header and `c` items is also
+-- enough for the header and `c + 1` items.
+abbrev pub has_room_for_padding : ℕ → ℕ → ℕ → Bool
+has_room_for_padding s a c = nat_lt (c * s) (2 ^ 62)
+    && nat_le (items_offset a + (c + 1) * s) (least_power (items_offset a + c * s))
 
 -- `has_padding s a c` is true if a block for `c` items of size `s` and alignment `a` is padded: in
 -- front of the header is unused memory, which takes as many bytes as an item together with the
 -- header. The prover unfolds this definition only on request.
 unfoldable pub has_padding : ℕ → ℕ → ℕ → Bool
-has_padding s a c = may_have_padding s a c && nat_lt (c * s) (2 ^ 62)
+has_padding s a c = may_have_padding s a c && has_room_for_padding s a c
 
 -- `front_bytes s a c` is the number of bytes before the header of a block for `c` items of size `s`
 -- and alignment `a`. Together with the header, they take as many bytes as an item.

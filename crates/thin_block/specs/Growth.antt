@@ -1,12 +1,12 @@
 -- This file defines growth rules, which choose the new capacity of a list, and the law that every
 -- growth rule must satisfy.
-use Rattle.std.specs.Prelude.{◌≡◌, ℕ, zero, suc, ◌+◌, ◌-◌, ◌*◌, ◌/◌, ◌^◌, ◌<◌, ◌≤◌, ◌==◌, IsTrue, Option, if◌then◌else◌, max, nat_le, nat_lt}
+use Rattle.std.specs.Prelude.{◌≡◌, ℕ, ◌+◌, ◌-◌, ◌*◌, ◌/◌, ◌^◌, ◌<◌, ◌≤◌, ◌==◌, IsTrue, Option, if◌then◌else◌, max, nat_le, nat_lt}
 use Rattle.std.specs.declared.option.Option.TheVariants.{Some, None}
 use Rattle.std.specs.Mem.{type_size}
 use Rattle.std.specs.Align.{type_align}
 use denote.RattleType.{RattleType}
 use Rattle.std.specs.Int.{IsPowerOfTwo}
-use Rattle.thin_block.specs.Capacity.{fits, min_non_zero_cap, items_offset}
+use Rattle.thin_block.specs.Capacity.{fits, min_non_zero_cap, items_offset, least_power}
 
 -- `GrowthRule` is the type of growth rules. A rule maps the size of an item, its alignment, the old
 -- capacity and the required capacity to the new capacity. It returns `None` if this capacity is too
@@ -42,16 +42,6 @@ checked_capacity s a n = if fits s a n then Some n else None
 unfoldable pub doubling : GrowthRule
 doubling s a c want =
     checked_capacity s a (max want (if c == 0 then min_non_zero_cap s else 2 * c))
-
--- `double_to k n p` doubles `p` until the result is at least `n`, but at most `k` times.
-abbrev pub double_to : ℕ → ℕ → ℕ → ℕ
-double_to zero n p = p
-double_to (suc more) n p = if nat_le n p then p else double_to more n (2 * p)
-
--- `least_power n` is the least power of two that is at least `n`. std's `usize::next_power_of_two`
--- returns the same number if the number fits into a `usize`.
-unfoldable pub least_power : ℕ → ℕ
-least_power n = double_to n n 1
 
 -- `power_bytes` is the growth rule `PowerBytes`. It rounds the size of a block up to a power of
 -- two, and chooses the greatest capacity for which a block fits into the rounded size. For items of

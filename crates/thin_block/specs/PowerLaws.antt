@@ -11,8 +11,8 @@ use Rattle.std.proofs.lemmas.Bool.Decides.{nat_tests}
 use Rattle.std.proofs.lemmas.Grind.{pow_more}
 use Rattle.std.proofs.lemmas.Nat.{div-add-mod', le-div}
 use borrow.Author.Tests.{leb-true, leb-false}
-use Rattle.thin_block.specs.Capacity.{fits, items_offset}
-use Rattle.thin_block.specs.Growth.{FillsPowerOfTwo, IsValidGrowth, IsLawful, double_to, doubling, checked_capacity, least_power, power_bytes}
+use Rattle.thin_block.specs.Capacity.{fits, items_offset, double_to, least_power}
+use Rattle.thin_block.specs.Growth.{FillsPowerOfTwo, IsValidGrowth, IsLawful, doubling, checked_capacity, power_bytes}
 use Rattle.thin_block.specs.GrowthLaws.{doubling_law, fitting_is}
 
 -- The next lemmas are about the least power of two that is at least a given number.
@@ -42,7 +42,7 @@ pub least_power_is : (n : ℕ) → IsNextPowerOfTwo n (least_power n)
 unfolding least_power
 least_power_is n = doubled_is n n 1 (0, refl) (omega arith) (omega (arith, below_power n))
 
-not_more : (n j k : ℕ) → n ≤ 2 ^ k → 2 ^ j / 2 < max 1 n → 2 ^ j ≤ 2 ^ k
+pub not_more : (n j k : ℕ) → n ≤ 2 ^ k → 2 ^ j / 2 < max 1 n → 2 ^ j ≤ 2 ^ k
 not_more n zero k enough half = pow_pos k
 not_more n (suc j) k enough half = elim (cases_lt j k) [
   | inl less ↦ pow_mono less

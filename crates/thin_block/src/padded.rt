@@ -1,7 +1,8 @@
 //! Functions that resize padded blocks. In a padded block, the header and the unused memory before
 //! it take as many bytes as an item. So the allocator's methods `grow` and `shrink`, which resize
 //! only arrays, can resize the block as an array of items. The address of the allocation is stored
-//! directly after the slots, since a pointer can be moved up but not down.
+//! directly after the slots, since a pointer can be moved up but not down. A block that just fits
+//! into a power of two of bytes is never padded.
 ghost use Rattle.std.specs.Prelude.{◌≡◌, ◌+◌, ◌<◌, ◌≤◌, OnErr, OnOk, length, true};
 ghost use Rattle.std.specs.declared.option.Option.TheVariants.{Some};
 ghost use Rattle.std.specs.Mem.{type_size};

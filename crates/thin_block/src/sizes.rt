@@ -1,10 +1,10 @@
 //! Computes the size of a block in bytes, and tests whether a block of a given capacity is small
 //! enough to be allocated.
-ghost use Rattle.std.specs.Prelude.{◌≡◌, ◌↔◌, ◌*◌, ◌^◌, IsTrue, nat_lt};
+ghost use Rattle.std.specs.Prelude.{◌≡◌, ◌↔◌, ◌*◌, IsTrue};
 ghost use Rattle.std.specs.Mem.{type_size};
 ghost use Rattle.std.specs.Align.{type_align};
 ghost use prog.Memory.{capped};
-ghost use Rattle.thin_block.specs.Capacity.{block_align, block_bytes, Fits, front_bytes, has_padding, may_have_padding, memory_bytes};
+ghost use Rattle.thin_block.specs.Capacity.{block_align, block_bytes, Fits, front_bytes, has_padding, has_room_for_padding, may_have_padding, memory_bytes};
 
 use std::mem::{align_of, size_of};
 
@@ -49,7 +49,7 @@ pub(crate) fn bytes_of_block<T>(cap: usize) -> usize
 // The least capacity of a padded block. So the padding is at most a sixteenth of the items.
 const PADDED: usize = 32;
 
-// Returns whether a block for `cap` items is padded unless the items take `2^62` bytes or more.
+// Returns whether a block for `cap` items is padded unless `has_room_for_padding` returns `false`.
 pub(crate) fn may_be_padded<T>(cap: usize) -> bool
     ensures value { result ≡ may_have_padding (type_size T.row) (type_align T.row) cap }
 {
@@ -65,15 +65,23 @@ pub(crate) fn is_padded<T>(cap: usize) -> bool
 }
 
 // Returns whether `cap` items take less than `2^62` bytes, so that a padded block for them takes at
-// most `isize::MAX` bytes. This function is not inlined, so that it adds no code where blocks with
-// fewer slots are allocated and freed.
+// most `isize::MAX` bytes, and whether the least power of two that holds the header and these items
+// also holds one item more. If it does not, the block just fits into this power of two, as under
+// the growth rule `PowerBytes`, and padding would make it larger. This function is not inlined, so
+// that it adds no code where blocks with fewer slots are allocated and freed.
 #[cold]
 #[inline(never)]
 fn has_room_for_padding<T>(cap: usize) -> bool
     requires { Fits T.row cap }
-    ensures value { result ≡ nat_lt (cap * type_size T.row) (2 ^ 62) }
+    ensures value { result ≡ has_room_for_padding (type_size T.row) (type_align T.row) cap }
 {
-    cap * item_size::<T>() < 1 << 62
+    let size = item_size::<T>();
+    let items = cap * size;
+    if items >= 1 << 62 {
+        return false;
+    }
+    let bytes = HEADER + items;
+    bytes.next_power_of_two() - bytes >= size
 }
 
 // The memory that a block requests.

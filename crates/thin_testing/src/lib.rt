@@ -22,4 +22,4 @@ pub use lists::{counted_list, list_of, splice};
 pub use multiples::{Fourfold, Threefold};
 pub use numbered::{Numbered, block_bytes};
 pub use refusing::Refusing;
-pub use ruled::Ruled;
+pub use ruled::{Ruled, least_power};

@@ -1,5 +1,6 @@
 //! Defines the types of items that tests make from numbers.
 use crate::ledger::{Counted, CountedWord, Ledger};
+use crate::ruled::least_power;
 
 /// A type of items that a test makes from numbers. Numbers below 251 make different items, except
 /// that all items of 0 bytes are equal, and all of the type `CountedWord`.
@@ -24,16 +25,17 @@ pub trait Numbered: Clone + Eq + Drop {
 
 /// Returns the size in bytes of the block of a list of `capacity` items: a header of 16 bytes and
 /// the items, rounded up to the alignment of the block. From 32 slots on, items of more than 16
-/// bytes that are aligned to 8 or 16 have a padded block, which takes the place of two more items.
-/// A list of capacity 0 has no block.
+/// bytes that are aligned to 8 or 16 have a padded block, which takes the place of two more items,
+/// unless the header and the items just fit into a power of two. A list of capacity 0 has no block.
 pub fn block_bytes<T: Numbered>(capacity: usize) -> u64 {
     if capacity == 0 {
         return 0;
     }
-    if T::SIZE > 16 && T::ALIGN >= 8 && capacity >= 32 {
+    let bytes = capacity.saturating_mul(T::SIZE).saturating_add(16);
+    let is_large = T::SIZE > 16 && T::ALIGN >= 8 && capacity >= 32;
+    if is_large && bytes.saturating_add(T::SIZE) <= least_power(bytes) {
         return capacity.saturating_add(2).saturating_mul(T::SIZE) as u64;
     }
-    let bytes = capacity.saturating_mul(T::SIZE).saturating_add(16);
     let rounded = if T::ALIGN > 8 {
         bytes.div_ceil(16).saturating_mul(16)
     } else {

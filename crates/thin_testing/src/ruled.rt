@@ -4,6 +4,18 @@
 use crate::multiples::{Fourfold, Threefold};
 use thin_vec::{Doubling, Growth, PowerBytes};
 
+/// Returns the smallest power of two that is at least `bytes` and at least 32, or `usize::MAX` if
+/// this power exceeds `usize::MAX`.
+pub fn least_power(bytes: usize) -> usize {
+    let mut power: usize = 32;
+    for _ in 5..64 {
+        if power < bytes {
+            power = power.saturating_mul(2);
+        }
+    }
+    power
+}
+
 /// A growth rule, together with a function that computes the expected capacities.
 pub trait Ruled: Growth {
     /// Returns the capacity to which a list of capacity `capacity` grows if it needs room for
@@ -31,13 +43,7 @@ impl Ruled for PowerBytes {
         }
         let items = want.max(capacity.saturating_mul(2));
         let bytes = items.saturating_mul(size).saturating_add(16);
-        let mut power: usize = 32;
-        for _ in 5..64 {
-            if power < bytes {
-                power = power.saturating_mul(2);
-            }
-        }
-        power.saturating_sub(16) / size
+        least_power(bytes).saturating_sub(16) / size
     }
 }
 

@@ -1,14 +1,14 @@
 //! Tests of lists whose blocks are padded, which they are from 32 slots on if an item takes more
-//! than 16 bytes and is aligned to 8. The tests compare the number of allocated bytes, so they see
-//! which blocks are padded, and that each block is freed with its size. Each request is refused
-//! once and then granted.
+//! than 16 bytes and is aligned to 8, unless a block just fits into a power of two of bytes. The
+//! tests compare the number of allocated bytes, so they see which blocks are padded, and that each
+//! block is freed with its size. Each request for a padded block is refused once and then granted.
 use crate::tests::in_place::make_capacity;
 use crate::tests::support::assert_same;
 use std::alloc::{Allocator, Global};
 use std::process::Abort;
 use std::test::Fail;
-use thin_testing::{Counted, Ledger, Numbered, Refusing};
-use thin_vec::{ThinVec, ThinVecError};
+use thin_testing::{Counted, Ledger, Numbered, Refusing, least_power};
+use thin_vec::{PowerBytes, ThinVec, ThinVecError};
 
 // The lists of these tests.
 type List<T> = ThinVec<T, &'static Refusing<Global>>;
@@ -16,12 +16,24 @@ type List<T> = ThinVec<T, &'static Refusing<Global>>;
 // The least capacity of a padded block, if items of a type have one.
 const PADDED: Option<usize> = Some(32);
 
+// Of the capacities in these tests, the one for which blocks of items of 24 and of 48 bytes just
+// fit into a power of two: they take 1024 and 2032 bytes.
+const FULL: usize = 42;
+
+// Returns whether a block for `FULL` items of this type just fits into a power of two.
+fn fills_power<T: Numbered>() -> bool {
+    T::SIZE == 24 || T::SIZE == 48
+}
+
 // Returns the size in bytes of a block for `capacity` items. The block is padded if `capacity` is
-// at least `least`. No block has 0 slots.
+// at least `least`, unless the block just fits into a power of two. No block has 0 slots.
 fn bytes_of<T: Numbered>(capacity: usize, least: Option<usize>) -> usize {
+    let is_full = capacity == FULL && fills_power::<T>();
     match (capacity, least) {
         (0, _) => 0,
-        (_, Some(least)) if capacity >= least => capacity.saturating_add(2).saturating_mul(T::SIZE),
+        (_, Some(least)) if capacity >= least && !is_full => {
+            capacity.saturating_add(2).saturating_mul(T::SIZE)
+        }
         _ => {
             let bytes = capacity.saturating_mul(T::SIZE).saturating_add(16);
             bytes.div_ceil(8).saturating_mul(8)
@@ -115,14 +127,15 @@ fn assert_resized_in_place<T: Numbered>(
     Ok(())
 }
 
-// Resizes lists from and to capacities below 32, and from 32 on.
+// Resizes lists from and to capacities below 32, and from 32 on. Of these, a block of `FULL` items
+// may be one that is not padded.
 fn assert_border<T: Numbered>(
     rt: &impl Abort,
     ledger: &'static Ledger,
     least: Option<usize>,
 ) -> Result<(), ThinVecError> {
-    for from in [1, 30, 31, 32, 33, 64, 500] {
-        for to in [1, 30, 31, 32, 33, 64, 500] {
+    for from in [1, 30, 31, 32, 33, FULL, 64, 500] {
+        for to in [1, 30, 31, 32, 33, FULL, 64, 500] {
             for len in [0, 1, 31, 32] {
                 if len <= from && len <= to && from != to {
                     assert_resized::<T>(rt, ledger, least, len, from, to)?;
@@ -242,5 +255,74 @@ fn calls_make_and_free_padded_blocks(rt: HostRuntime) -> Result<(), Fail> {
     assert_calls::<[u64; 6]>(&rt, ledger)?;
     assert_calls::<[u128; 3]>(&rt, ledger)?;
     assert_calls::<[u64; 40]>(&rt, ledger)?;
+    Ok(())
+}
+
+// The number of items that a list gets in the next two tests.
+const PUSHES: u64 = 1000;
+
+// Pushes items under the rule `PowerBytes`. Asserts that each block takes at most the next power of
+// two of bytes, and that this power has no room for one item more.
+fn assert_powers<T: Numbered>(
+    rt: &impl Abort,
+    ledger: &'static Ledger,
+) -> Result<(), ThinVecError> {
+    let mut list = ThinVec::<T, &'static Refusing<Global>, PowerBytes>::ruled(&ledger.alloc);
+    for number in 0..PUSHES {
+        ledger.begin(0);
+        list.push(T::numbered(ledger, number))?;
+        if ledger.alloc.requests() > 0 {
+            let bytes = ledger.alloc.lent() as usize;
+            let unused = least_power(bytes).saturating_sub(bytes);
+            let found = (list.capacity(), bytes, unused < T::SIZE);
+            assert_same(rt, found, (list.capacity(), bytes, true));
+        }
+    }
+    drop(list);
+    assert_nothing(rt, ledger);
+    Ok(())
+}
+
+#[test]
+fn blocks_of_power_bytes_just_fit_into_powers_of_two(rt: HostRuntime) -> Result<(), Fail> {
+    let ledger = Ledger::leaked(rt.alloc())?;
+    assert_powers::<[u64; 3]>(&rt, ledger)?;
+    assert_powers::<Counted<'static, u64>>(&rt, ledger)?;
+    assert_powers::<Counted<'static, u128>>(&rt, ledger)?;
+    assert_powers::<[u64; 6]>(&rt, ledger)?;
+    assert_powers::<[u128; 3]>(&rt, ledger)?;
+    assert_powers::<[u64; 40]>(&rt, ledger)?;
+    Ok(())
+}
+
+// Pushes items under the rule `Doubling`. Asserts that each block from 32 slots on is padded.
+fn assert_doubled<T: Numbered>(
+    rt: &impl Abort,
+    ledger: &'static Ledger,
+) -> Result<(), ThinVecError> {
+    let mut list = List::<T>::new(&ledger.alloc);
+    for number in 0..PUSHES {
+        ledger.begin(0);
+        list.push(T::numbered(ledger, number))?;
+        if ledger.alloc.requests() > 0 {
+            let found = (list.capacity(), ledger.alloc.lent());
+            let bytes = bytes_of::<T>(list.capacity(), PADDED) as u64;
+            assert_same(rt, found, (list.capacity(), bytes));
+        }
+    }
+    drop(list);
+    assert_nothing(rt, ledger);
+    Ok(())
+}
+
+#[test]
+fn blocks_of_doubling_are_padded_from_32_slots_on(rt: HostRuntime) -> Result<(), Fail> {
+    let ledger = Ledger::leaked(rt.alloc())?;
+    assert_doubled::<[u64; 3]>(&rt, ledger)?;
+    assert_doubled::<Counted<'static, u64>>(&rt, ledger)?;
+    assert_doubled::<Counted<'static, u128>>(&rt, ledger)?;
+    assert_doubled::<[u64; 6]>(&rt, ledger)?;
+    assert_doubled::<[u128; 3]>(&rt, ledger)?;
+    assert_doubled::<[u64; 40]>(&rt, ledger)?;
     Ok(())
 }

@@ -1,32 +1,26 @@
 -- These lemmas prove that the code of the growth rule `PowerBytes` computes the same capacity as
--- the function `power_bytes` in specs/Growth.antt.
-use Rattle.std.proofs.Common.{◌≡◌, ℕ, ◌+◌, ◌-◌, ◌*◌, ◌/◌, ◌^◌, ◌<◌, ◌≤◌, Option, IfSome, inl, inr, max, min, sym, ap, ◌∙◌, arith}
+-- the function `power_bytes` in specs/Growth.antt, and that a block of this capacity is not padded.
+use Rattle.std.proofs.Common.{◌≡◌, ℕ, ◌+◌, ◌-◌, ◌*◌, ◌/◌, ◌^◌, ◌<◌, ◌≤◌, Option, IfSome, false, inl, inr, max, min, sym, ap, ◌∙◌, arith, eq-zero-or-pos}
 use Rattle.std.specs.declared.option.Option.TheVariants.{Some, None}
 use Rattle.std.specs.Mem.{type_size}
 use Rattle.std.specs.Align.{type_align}
 use prog.Memory.{capped}
-use prog.Capped.{capped_fits, capped_is, capped_small}
+use prog.Capped.{capped_is, capped_small}
 use denote.RattleType.{RattleType}
 use native.Mathlib.Nat.{mul-le-mul_left, mul-le-mul_right}
 use Rattle.std.proofs.lemmas.Nat.{le-div}
-use Rattle.std.proofs.lemmas.Bool.{cases_lt}
-use Rattle.thin_block.specs.Capacity.{Fits, items_offset}
-use Rattle.thin_block.specs.Growth.{FillsPowerOfTwo, checked_capacity, least_power, power_bytes}
+use Rattle.thin_block.specs.Capacity.{Fits, has_padding, items_offset, least_power}
+use Rattle.thin_block.specs.Growth.{FillsPowerOfTwo, checked_capacity, power_bytes}
 use Rattle.thin_block.specs.PowerLaws.{least_power_is, powers_filled, powers_of_some}
 use Rattle.thin_block.proofs.CapacityLemmas.{fitting_none}
-use Rattle.thin_block.proofs.sizes.SizesLemmas.{fits_tells, opened, rounded}
+use Rattle.thin_block.proofs.padded.PaddedLemmas.{full_unpadded, small_unpadded}
+use Rattle.thin_block.proofs.sizes.SizesLemmas.{capped_le, fits_tells, opened, rounded}
 
 -- The code uses the item size `size`, which is `s` capped at `usize::MAX`.
 pub takes_none : (s size : ℕ) → size ≡ capped s → size ≡ 0 → s ≡ 0
 takes_none s size is none =
     let low : s < 2 ^ 63 = capped_small s (omega (arith, is, none)) in
     omega (arith, capped_is s (omega (arith, low)), is, none)
-
-capped_le : (s : ℕ) → capped s ≤ s
-capped_le s = elim (cases_lt s (2 ^ 64)) [
-  | inl low ↦ omega (arith, capped_is s low)
-  | inr high ↦ omega (arith, capped_fits s, high)
-]
 
 takes_some : (s size : ℕ) → size ≡ capped s → 0 < size → 0 < s
 takes_some s size is some = omega (arith, is, some, capped_le s)
@@ -35,6 +29,14 @@ pub each_fills : (s a c w : ℕ) (r : Option ℕ) → r ≡ power_bytes s a c w 
     → IfSome r (FillsPowerOfTwo s a)
 each_fills s a c w None e some = tt
 each_fills s a c w (Some n) e some = powers_filled s a c w n some (sym e)
+
+pub each_unpadded : (s a c w : ℕ) (r : Option ℕ) → r ≡ power_bytes s a c w
+    → IfSome r (λ n. has_padding s a n ≡ false)
+each_unpadded s a c w None e = tt
+each_unpadded s a c w (Some n) e = elim (eq-zero-or-pos s) [
+  | inl none ↦ small_unpadded s a n (omega (arith, none))
+  | inr some ↦ full_unpadded s a n (powers_filled s a c w n some (sym e))
+]
 
 module _ (R : RattleType) (c w size : ℕ) (is : size ≡ capped (type_size R))
     (some : 0 < size) (more : c < w) where

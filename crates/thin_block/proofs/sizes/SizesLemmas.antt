@@ -7,7 +7,7 @@ use mir.Syntax.{Width, w8, w16, w32, w64, w128}
 use mir.Val.{bytes}
 use prog.Memory.{capped}
 use prog.Align.{align_w, align-bytes}
-use prog.Capped.{capped_is, capped_small}
+use prog.Capped.{capped_fits, capped_is, capped_small}
 use denote.RattleType.{RattleType}
 use denote.Param.{layout}
 use native.Mathlib.Nat.{mul-le-mul_right}
@@ -70,6 +70,12 @@ pub capped_product : (c s : ℕ) → c * s < 2 ^ 63 → c * capped s ≡ c * s
 capped_product zero s h = zero-mul (capped s) ∙ sym (zero-mul s)
 capped_product (suc c) s h = let more = suc-mul c s in
     ap (λ (k : ℕ). suc c * k) (capped_is s (omega arith))
+
+pub capped_le : (s : ℕ) → capped s ≤ s
+capped_le s = elim (cases_lt s (2 ^ 64)) [
+  | inl low ↦ omega (arith, capped_is s low)
+  | inr high ↦ omega (arith, capped_fits s, high)
+]
 
 pub positive : (n : ℕ) → (n ≡ 0 → ⊥) → 0 < n
 positive zero never = absurd (never refl)

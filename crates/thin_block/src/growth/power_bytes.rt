@@ -1,7 +1,8 @@
 //! Defines the growth rule `PowerBytes`, which fills allocations whose size is a power of two.
-ghost use Rattle.std.specs.Prelude.{◌≡◌, ◌<◌, IfSome};
+ghost use Rattle.std.specs.Prelude.{◌≡◌, ◌<◌, IfSome, false};
 ghost use Rattle.std.specs.Mem.{type_size};
 ghost use Rattle.std.specs.Align.{type_align};
+ghost use Rattle.thin_block.specs.Capacity.{has_padding};
 ghost use Rattle.thin_block.specs.Growth.{FillsPowerOfTwo, power_bytes};
 
 use crate::growth::doubling::Doubling;
@@ -14,8 +15,9 @@ use crate::sizes::{HEADER, item_size};
 /// size.
 ///
 /// An allocator that rounds requests up to powers of two wastes less than the size of one item per
-/// block, unless the block has padding. A large block has padding if its items take more than 16
-/// bytes and are aligned to 8 or 16. For items of size 0, the rule is the same as `Doubling`.
+/// block. So that this holds for all items, blocks of these capacities have no padding. Therefore,
+/// a list of items of more than 16 bytes moves them to a new allocation whenever it grows, while it
+/// might grow in place under `Doubling`. For items of size 0, the rule is the same as `Doubling`.
 pub struct PowerBytes {}
 
 impl Growth for PowerBytes {
@@ -29,6 +31,8 @@ impl Growth for PowerBytes {
         ensures value { result ≡ power_bytes (type_size T.row) (type_align T.row) cap want }
         ensures capacity { 0 < type_size T.row
             → IfSome result (FillsPowerOfTwo (type_size T.row) (type_align T.row)) }
+        ensures unpadded { IfSome result
+            (λ cap. has_padding (type_size T.row) (type_align T.row) cap ≡ false) }
     {
         let size = item_size::<T>();
         if size == 0 {

@@ -1,22 +1,28 @@
 -- This file proves that `next_capacity` returns the capacity that the rule `power_bytes` chooses,
--- although the code caps sizes and capacities at `usize::MAX`.
+-- although the code caps sizes and capacities at `usize::MAX`, and that blocks of this capacity are
+-- not padded.
 use Rattle.std.proofs.Common.{◌≡◌, ◌+◌, ◌*◌, ◌^◌, ◌<◌, ◌≤◌, ◌∙◌, ap, arith, max, subst, sym}
 use Rattle.std.specs.Mem.{type_size}
 use Rattle.std.specs.Align.{type_align}
-use Rattle.thin_block.specs.Growth.{least_power}
+use Rattle.thin_block.specs.Capacity.{least_power}
 use Rattle.thin_block.specs.PowerLaws.{least_power_is, one_least_power, powers_of_none}
-use Rattle.thin_block.proofs.growth.PowersLemmas.{each_fills, power_is, power_past, takes_none}
+use Rattle.thin_block.proofs.growth.PowersLemmas.{each_fills, each_unpadded, power_is, power_past, takes_none}
 use Rattle.thin_block.proofs.sizes.SizesLemmas.{positive}
 use denote.Param.{param}
 use Rattle.thin_block.proofs.growth.power_bytes.PowerBytesGrowth.next_capacity.Goals as goal
 
-pub returns-then-size-eq0-clause-value : goal.returns-then-size-eq0-clause-value
-returns-then-size-eq0-clause-value g c =
-    let none = takes_none (type_size (param 0 g.row.T))
-    _ c.item_size-size.ensures.value c.if-size-eq0.true in
-    c.next_capacity.ensures.value
-    ∙ sym (powers_of_none (type_size (param 0 g.row.T)) (type_align (param 0 g.row.T))
-    c.args.cap c.args.want none)
+pub returns-then-size-eq0 : goal.returns-then-size-eq0
+returns-then-size-eq0 g c =
+    let R = param 0 g.row.T in
+    let none = takes_none (type_size R) _ c.item_size-size.ensures.value c.if-size-eq0.true in
+    let value = c.next_capacity.ensures.value
+    ∙ sym (powers_of_none (type_size R) (type_align R) c.args.cap c.args.want none) in
+    record {
+      value = value;
+      capacity = λ some. absurd (omega (arith, some, none));
+      unpadded = each_unpadded (type_size R) (type_align R) c.args.cap c.args.want
+          c.next_capacity.result value;
+    }
 
 pub returns-then-bytes-clause-value : goal.returns-then-bytes-clause-value
 returns-then-bytes-clause-value g c =
@@ -50,5 +56,7 @@ returns g c =
     record {
       value = value;
       capacity = each_fills (type_size R) (type_align R) c.args.cap c.args.want
+          c.checked_capacity.result value;
+      unpadded = each_unpadded (type_size R) (type_align R) c.args.cap c.args.want
           c.checked_capacity.result value;
     }
