@@ -8,9 +8,9 @@ use Rattle.std.specs.Borrow.{RattleType}
 use Rattle.std.specs.declared.iter.Iterator.{can_next-default}
 use Rattle.std.specs.Option.{option_to_list}
 use Rattle.std.specs.Prelude.{◌⊎◌, IsSome, MatchOption}
-use Rattle.thin_vec.specs.List.Extend.{CostsInserting, ExtendsCapacity}
+use Rattle.thin_vec.specs.List.Extend.{CostsInserting}
 use Rattle.thin_vec.specs.List.Capacity.{PreservesList}
-use Rattle.thin_vec.specs.Edits.Splice.{SpliceErrorAccountsFor}
+use Rattle.thin_vec.specs.Edits.Splice.{SpliceErrorAccountsFor, SplicesCapacity}
 use Rattle.thin_vec.specs.declared.SpliceRefused.{SpliceRefused}
 use Rattle.thin_vec.specs.Growth.{GrowthRule}
 use Rattle.thin_vec.specs.ThinVec.{HasRoomFor, ListView}
@@ -87,17 +87,21 @@ module _ {T : Type 0} (xs tail : List T) (b : ℕ) (is : tail ≡ drop b xs) whe
 module _ {T A : Type 0} {rule : GrowthRule} {R : RattleType} {old : ListView T A} {a b : ℕ} where
   -- The clauses of `extend` and `finish` speak of a list `v` that is `old` without the range
   -- `a..b`.
-  pub replaces : {new v : ListView T A} {placed : List T} {left : Count} {most extra : ℕ}
+  pub replaces : {new v : ListView T A} {placed tail : List T} {left : Count} {most extra : ℕ}
       → new.items ≡ (take a old.items ++ placed) ++ drop b old.items
-      → ExtendsCapacity rule R v new left
+      → SplicesCapacity rule R tail v new left
       → CostsInserting extra v new → PreservesList R v new → v ≡ without_range old a b
       → left ≡ at_most most
-      → extra ≡ 2 * (length old.items - b) → Replaces rule R old a b placed most new
-  replaces {new} {v} {placed} {left} {most} {extra} items grows cost keeps same count double =
+      → extra ≡ 2 * (length old.items - b) → tail ≡ drop b old.items
+      → Replaces rule R old a b placed most new
+  replaces {new} {v} {placed} {tail} {left} {most} {extra} items grows cost keeps same count double
+      after =
       record {
         items = items;
-        capacity = subst (λ (u : ListView T A). ExtendsCapacity rule R u new (at_most most)) same
-            (subst (λ (n : Count). ExtendsCapacity rule R v new n) count grows);
+        capacity = subst (λ (l : List T). SplicesCapacity rule R l (without_range old a b) new
+            (at_most most)) after
+            (subst (λ (u : ListView T A). SplicesCapacity rule R tail u new (at_most most)) same
+            (subst (λ (n : Count). SplicesCapacity rule R tail v new n) count grows));
         cost = subst (λ (u : ListView T A). CostsInserting (2 * (length old.items - b)) u new) same
             (subst (λ (n : ℕ). CostsInserting n v new) double cost);
         keeps = subst (λ (u : ListView T A). PreservesList R u new) same keeps;

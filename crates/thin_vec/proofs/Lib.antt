@@ -3,6 +3,7 @@
 mod ListLemmas
 pub mod ThinVecLemmas
 pub mod CallerLemmas
+pub mod PushesLemmas
 pub mod EditLemmas
 mod LendsLemmas
 mod PutLemmas

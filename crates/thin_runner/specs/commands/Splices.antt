@@ -7,7 +7,8 @@ use Rattle.std.specs.Iterator.SizeHint.{IsWithinCount}
 use Rattle.std.specs.List.{remove_range}
 use Rattle.std.specs.Option.{option_to_list}
 use Rattle.std.specs.Vec.Iter.{into_iter_items}
-use Rattle.thin_vec.specs.List.Extend.{CostsInserting, ExtendsCapacity}
+use Rattle.thin_vec.specs.Edits.Splice.{SplicesCapacity}
+use Rattle.thin_vec.specs.List.Extend.{CostsInserting}
 use Rattle.thin_vec.specs.List.Capacity.{LacksRoom, PreservesList}
 use Rattle.thin_vec.specs.Growth.{GrowthRule}
 use Rattle.thin_vec.specs.ThinVec.{HasRoomFor, ListView, capacity_after_reserve}
@@ -28,7 +29,8 @@ module _ {T A : Type 0} (rule : GrowthRule) (R : RattleType) (old : ListView T A
   -- Each placed item counts as one move, and each item after the range as at most two.
   pub record Replaces (placed : List T) (most : ℕ) (new : ListView T A) : Type 0 where
     pub items : new.items ≡ (take a old.items ++ placed) ++ drop b old.items
-    pub capacity : ExtendsCapacity rule R (without_range old a b) new (at_most most)
+    pub capacity : SplicesCapacity rule R (drop b old.items) (without_range old a b) new
+        (at_most most)
     pub cost : CostsInserting (2 * (length old.items - b)) (without_range old a b) new
     pub keeps : PreservesList R (without_range old a b) new
 

@@ -1,6 +1,6 @@
 -- These lemmas are about `finish`, which completes a splice. They state what the list contains
 -- after each step of `finish`, and how these steps combine.
-use Rattle.std.proofs.Common.{if◌then◌else◌, inl, inr, Option, drop, take, subst, ◌≡◌, ℕ, ◌+◌, ◌-◌, ◌*◌, ◌<◌, ◌≤◌, true, false, eqb, List, [], ◌++◌, ap, arith, length, length-append, refl, sym, ◌∙◌}
+use Rattle.std.proofs.Common.{if◌then◌else◌, Option, Some, drop, take, subst, ◌≡◌, ℕ, ◌+◌, ◌-◌, ◌*◌, ◌<◌, ◌≤◌, true, false, eqb, List, [], ◌++◌, ap, arith, length, length-append, refl, sym, ◌∙◌}
 use Rattle.std.proofs.lemmas.List.{length-drop, length-take-le}
 use Rattle.std.specs.Align.{type_align}
 use Rattle.std.specs.Mem.{type_size}
@@ -9,17 +9,18 @@ use Rattle.std.specs.Prelude.{IfErr, IsOk, OnErr, OnOk}
 use Rattle.std.specs.declared.result.Result.{Result}
 use Rattle.std.specs.declared.result.Result.TheVariants.{Ok, Err}
 use Rattle.std.specs.Iterator.{Count, Drains, IsFinite, Yields, size}
+use Rattle.std.specs.Iterator.SizeHint.{IsWithinCount}
 use Rattle.thin_block.specs.Cost.{add_moves}
 use Rattle.thin_block.specs.Growth.{IsLawful, GrowthRule, grown_capacity}
-use Rattle.thin_vec.specs.List.Extend.{IsKeptOrChosen}
 use Rattle.thin_vec.specs.Put.{YieldsThenMayEnd, IsFilledBy}
 use Rattle.thin_vec.specs.declared.put.Filled.{Filled}
-use Rattle.thin_vec.specs.Edits.Splice.{IsSpliceCause, SpliceErrorAccountsFor}
-use Rattle.thin_vec.specs.Edits.Finish.{AddsFromIter, FinishesSplice, IsCapacityAfterExtend, without_middle, with_replacement}
+use Rattle.thin_vec.specs.Edits.Splice.{IsSpliceCause, SpliceErrorAccountsFor, SplicesCapacity, capacity_after_splice}
+use Rattle.thin_vec.specs.Edits.Finish.{AddsFromIter, FinishesSplice, without_middle, with_replacement}
 use Rattle.thin_vec.specs.OpenView.{OpenView, cost_closed, items_of}
-use Rattle.thin_vec.specs.ThinVec.{ListView}
+use Rattle.thin_vec.specs.ThinVec.{ListView, capacity_after_reserve}
 use Rattle.thin_vec.specs.declared.errors.SpliceRefused.{SpliceRefused}
 use Rattle.thin_vec.proofs.list.ExtendLemmas.{yields-join}
+use Rattle.thin_vec.proofs.PushesLemmas.{spliced-by, splices-before}
 use Rattle.thin_vec.proofs.PutLemmas.{filled-fits}
 use Rattle.thin_vec.proofs.edits.SpliceLemmas.{between-length, between-more, closed-moves, drains-more, run-moves, stopped-more, taken-join, taken-spare}
 
@@ -170,20 +171,23 @@ module _ {S T A : Type 0} {steps : S → Option T → S → Type 0} {can : S →
         (λ fit same. omega (arith, fit, same, ap length p.items, long, left, p.nearer))
         before now
 
-    pub reached-extended : (rule : GrowthRule) (R : RattleType) (a : A) (d n : ℕ)
-        → u.capacity ≡ v.capacity → IsCapacityAfterExtend rule R u d n (remaining t)
-        → IsCapacityAfterExtend rule R (without_middle v a) d n (remaining s)
-    reached-extended rule R a d n same (inl e) =
-        inl (subst (λ c. IsKeptOrChosen rule R c d n) same e)
-    reached-extended rule R a d n same (inr e) =
-        let within : e.0 ≤ size (remaining t) = e.1 p.finite in
-        let want : length v.front + length v.tail + (length xs + e.0) ≡ length u.items + e.0 =
-        omega (arith, ap length p.items, between-length v xs) in
-        inr (
-          length xs + e.0,
+    -- Reserving room for `h` items now is like reserving it for `length xs + h` items at the start.
+    pub reached-spliced : (rule : GrowthRule) (R : RattleType) (a : A) (h c d n : ℕ)
+        → u.capacity ≡ v.capacity → IsWithinCount h (remaining t)
+        → capacity_after_reserve rule R u h ≡ Some c
+        → grown_capacity rule (type_size R) (type_align R) c n ≡ Some d
+        → (k : ℕ) × IsWithinCount k (remaining s)
+        × (capacity_after_splice rule R (without_middle v a) k n ≡ Some d)
+    reached-spliced rule R a h c d n same hint reserved grew =
+        let within : h ≤ size (remaining t) = hint p.finite in
+        let want : length v.front + length v.tail + (length xs + h) ≡ length u.items + h =
+        omega (arith, ap length p.items, between-length v xs) in (
+          length xs + h,
           (λ _. omega (arith, p.nearer, within)),
-          (λ i. grown_capacity rule (type_size R) (type_align R) (sym same i)
-              ((ap (λ n. n + (length xs + e.0)) (length-append v.front v.tail) ∙ want) i)) ∙ e.2,
+          spliced-by rule R (without_middle v a) (length xs + h) c n d
+              ((λ i. grown_capacity rule (type_size R) (type_align R) (sym same i)
+              ((ap (λ n. n + (length xs + h)) (length-append v.front v.tail) ∙ want) i)) ∙ reserved)
+              grew,
         )
 
     pub reached-more : {w : ListView T A} {room : ℕ} {f : Filled S}
@@ -210,18 +214,17 @@ module _ {S T A : Type 0} {steps : S → Option T → S → Type 0} {can : S →
     pub finished-ok : (x : Unit {0})
         → (xs : List T) × Drains steps s xs × (w.items ≡ with_replacement v xs)
         → AddsFromIter rule R (without_middle v a) w (2 * length v.tail) (remaining s)
-        → IsCapacityAfterExtend rule R (without_middle v a) w.capacity (length w.items)
-        (remaining s)
+        → SplicesCapacity rule R v.tail (without_middle v a) w (remaining s)
         → (0 < length v.tail → w.cost.blocks ≤ v.cost.blocks + 2)
         → (v.tail ≡ [] → w.cost.blocks
         ≤ v.cost.blocks + 1 + (length w.items - length (v.front ++ v.tail)))
         → FinishesSplice steps can remaining rule R v a s w (Ok x)
-    finished-ok x items taken ruled blocks requests = record {
+    finished-ok x items taken capacity blocks requests = record {
       succeeds = λ _. refl;
       succeeds_at_end = λ _ _. refl;
       items = items;
       taken = taken;
-      ruled = ruled;
+      capacity = capacity;
       blocks = blocks;
       requests = requests;
       placed = tt;
@@ -241,24 +244,24 @@ module _ {S T A : Type 0} {steps : S → Option T → S → Type 0} {can : S →
         → IfErr r (λ error. IsSpliceCause rule R w v.tail (remaining error.rest) error)
         → OnErr r (w ≡ u)
         → AddsFromIter rule R (without_middle v a) w (2 * length v.tail) (remaining s)
-        → IsCapacityAfterExtend rule R (without_middle v a) w.capacity (length w.items)
-        (remaining s)
+        → (h : ℕ) × IsWithinCount h (remaining s)
+        × (capacity_after_splice rule R (without_middle v a) h (length w.items) ≡ Some w.capacity)
         → (0 < length v.tail → w.cost.blocks ≤ v.cost.blocks + 2)
         → FinishesSplice steps can remaining rule R v a s w r
-    finished-from {t} {u} {xs} {end} (Ok x) p some ends items placed cause err taken ruled blocks =
+    finished-from {t} {u} {xs} {end} (Ok x) p some ends items placed cause err taken grew blocks =
         finished-ok x (
           xs ++ items.0,
           drains-more steps s t xs items.0 p.gave items.1,
           items.2 ∙ between-more v u.items xs items.0 end p.items p.ends,
         )
-        taken ruled blocks (λ none. absurd (omega (arith, some, ap length none)))
-    finished-from {t} {u} {xs} (Err e) p some ends items placed cause err taken ruled blocks =
+        taken (splices-before some taken.had_room grew) blocks (λ none. absurd (omega (arith, some, ap length none)))
+    finished-from {t} {u} {xs} (Err e) p some ends items placed cause err taken grew blocks =
         record {
           succeeds = λ few. ends (omega (arith, few, p.full, p.nearer));
           succeeds_at_end = λ none _. absurd (omega (arith, some, ap length none));
           items = tt;
           taken = taken;
-          ruled = ruled;
+          capacity = splices-before some taken.had_room grew;
           blocks = blocks;
           requests = λ none. absurd (omega (arith, some, ap length none));
           placed = (

@@ -10,12 +10,12 @@ use Rattle.std.specs.declared.result.Result.TheVariants.{Ok, Err}
 use Rattle.std.specs.Iterator.{Count, Drains, Yields, YieldsThen, size}
 use Rattle.std.specs.Iterator.SizeHint.{IsWithinCount}
 use Rattle.thin_vec.specs.Cheap.{IsCheap}
-use Rattle.thin_vec.specs.List.Extend.{IsExtendCause, CostsInserting, IsKeptOrChosen, YieldsAndCanContinue}
+use Rattle.thin_vec.specs.List.Extend.{IsExtendCause, CostsInserting, YieldsAndCanContinue}
 use Rattle.std.proofs.lemmas.Bool.Decides.{nat_tests}
 use Rattle.thin_block.specs.declared.errors.ThinVecError.TheVariants.{OutOfMemory}
 use Rattle.thin_block.specs.Cost.{Cost, add_realloc, add_moves}
 use Rattle.thin_block.specs.Growth.{IsLawful, GrowthRule}
-use Rattle.std.proofs.lemmas.Bool.{cases_lt, false≢true}
+use Rattle.std.proofs.lemmas.Bool.{false≢true}
 use Rattle.thin_vec.specs.OpenView.{OpenView, cost_closed, items_of}
 use Rattle.thin_vec.specs.Edits.Splice.{IsSpliceCause, SpliceErrorAccountsFor}
 use Rattle.thin_vec.specs.Edits.Finish.{AddsFromIter, without_middle, with_replacement}
@@ -23,7 +23,8 @@ use Rattle.thin_vec.specs.List.Capacity.{LacksRoom}
 use Rattle.thin_vec.specs.ThinVec.{HasRoomFor, ListView, capacity_after_reserve, cost_after_resize}
 use Rattle.thin_vec.specs.declared.errors.ExtendRefused.{ExtendRefused}
 use Rattle.thin_vec.specs.declared.errors.SpliceRefused.{SpliceRefused}
-use Rattle.thin_vec.proofs.list.ExtendLemmas.{inserting-join, filled-reserved, at_least-join, at_least-le, at_least-ruled, yields-join}
+use Rattle.thin_vec.proofs.list.ExtendLemmas.{inserting-join, filled-reserved, yields-join}
+use Rattle.thin_vec.proofs.PushesLemmas.{grown-le}
 use Rattle.thin_vec.proofs.RetainLemmas.{moving-more, moving-none}
 use Rattle.thin_vec.proofs.list.ReservesLemmas.{cheap-kept}
 use Rattle.thin_vec.proofs.ThinVecLemmas.{cap-kept, cost_after_resize-copied}
@@ -214,16 +215,6 @@ module _ {S T A : Type 0} (rule : GrowthRule) (R : RattleType) (v : ListView T A
         (full some, (λ is. push.1.0 (sym same ∙ is), λ now. same ∙ push.1.1 now));
   }
 
-module _ (rule : GrowthRule) (R : RattleType) where
-  pub kept-or-ruled : IsLawful rule → {T A : Type 0} (v : ListView T A) (k d n : ℕ)
-      → capacity_after_reserve rule R v k ≡ Some d → length v.items + k ≤ n
-      → IsKeptOrChosen rule R v.capacity d n
-  kept-or-ruled law v k d n e less =
-      elim (cases_lt v.capacity (length v.items + k)) [
-        | inl more ↦ inr (v.capacity, length v.items + k, more, less, e)
-        | inr spare ↦ inl (cap-kept rule R law v k d spare e)
-      ]
-
 unmoved : (b : Bool) (c : Cost) (n : ℕ) → n ≡ 0 → (if b then c else add_moves n c) ≡ c
 unmoved true c n none = refl
 unmoved false c n none = ap (λ k. add_moves k c) none ∙ moving-none c
@@ -266,7 +257,7 @@ module _ (rule : GrowthRule) (R : RattleType) {T A : Type 0} where
       → w.capacity ≡ v.capacity → length w.items ≡ length v.items + k → m ≤ n → w.alloc ≡ v.alloc
       → AddsFromIter rule R v w n left
   taken-spare v w k m n left paid same long few from = record {
-    capacity = inl same;
+    never_less = omega (arith, same);
     had_room = λ _. same;
     cost = inserting-run v w k m n paid same long few;
     alloc = from;
@@ -287,7 +278,7 @@ module _ (rule : GrowthRule) (R : RattleType) {T A : Type 0} where
         → w.cost ≡ cost_after_resize v w.capacity → (IsCheap v → IsCheap w) → h ≤ size left
         → length v.items ≤ v.capacity → AddsFromIter rule R v w 0 left
     taken-reserved v w h left named same from paid cheap allowed room = record {
-      capacity = at_least-ruled rule R law v h w.capacity named;
+      never_less = grown-le rule R law v.capacity (length v.items + h) w.capacity named;
       had_room = λ fit. cap-kept rule R law v h w.capacity (omega (arith, fit, allowed)) named;
       cost = filled-reserved v w paid same
           (cost_after_resize-copied rule R law v h w.capacity room named);
@@ -302,11 +293,9 @@ module _ (rule : GrowthRule) (R : RattleType) {T A : Type 0} where
         → AddsFromIter rule R v u m left → AddsFromIter rule R u w n more
         → AddsFromIter rule R v w k left
     taken-join v u w m n k left more few long room p q = record {
-      capacity = at_least-join rule R law v.capacity u.capacity w.capacity p.capacity q.capacity;
+      never_less = omega (arith, p.never_less, q.never_less);
       had_room = λ fit. let same = p.had_room fit in q.had_room (room fit same) ∙ same;
-      cost = inserting-join m n k few p.cost q.cost
-          (at_least-le rule R law v.capacity u.capacity p.capacity)
-          (at_least-le rule R law u.capacity w.capacity q.capacity) long;
+      cost = inserting-join m n k few p.cost q.cost p.never_less q.never_less long;
       alloc = q.alloc ∙ p.alloc;
       cheap = λ c. q.cheap (p.cheap c);
     }

@@ -7,25 +7,23 @@ use Rattle.std.specs.Mem.{type_size}
 use Rattle.std.specs.Borrow.{RattleType}
 use Rattle.std.proofs.iter.runs.Made.{run, to_end}
 use Rattle.std.specs.Iterator.{Count, Drains, Yields}
-use Rattle.std.specs.Iterator.SizeHint.{IsWithinCount}
 use Rattle.std.specs.Iterator.Runs.{SomeRun, WholeRun}
 use Rattle.std.specs.declared.result.Result.{Result}
 use Rattle.std.specs.declared.result.Result.TheVariants.{Ok, Err}
-use Rattle.std.specs.Prelude.{◌⊎◌, OnErr, OnOk, IfErr, IsSome, MatchOption}
+use Rattle.std.specs.Prelude.{OnErr, OnOk, IfErr, IsSome, MatchOption}
 use Rattle.std.specs.Option.{option_to_list}
 use lib.ListN.{set}
 use Rattle.thin_block.specs.Block.{BlockView}
 use Rattle.thin_block.specs.Cost.{add_moves}
-use Rattle.thin_block.specs.Growth.{GrowthRule, IsLawful, exact_capacity}
+use Rattle.thin_block.specs.Growth.{exact_capacity}
 use Rattle.thin_block.specs.Slots.{filled_slots, write_slots}
-use Rattle.thin_block.proofs.CapacityLemmas.{ruled-grows, ruled-same}
 use Rattle.thin_block.proofs.SlotsLemmas.{written-one}
-use Rattle.thin_vec.specs.List.Extend.{IsCapacityAfterCollect, IsChosenByRule, CostsInserting, IsKeptOrChosen, IsKeptOrGrown, YieldsAndCanContinue}
-use Rattle.thin_vec.specs.ThinVec.{IsNew, ListView, capacity_after_reserve, cost_after_resize, capacity_after_reserve_exact}
+use Rattle.thin_vec.specs.List.Extend.{CostsInserting, YieldsAndCanContinue}
+use Rattle.thin_vec.specs.ThinVec.{IsNew, ListView, cost_after_resize, capacity_after_reserve_exact}
 use Rattle.thin_vec.specs.declared.errors.ExtendRefused.{ExtendRefused}
 use Rattle.thin_vec.proofs.RetainLemmas.{moving-more, moving-none}
 use Rattle.thin_vec.proofs.ListLemmas.{length-full}
-use Rattle.thin_vec.proofs.ThinVecLemmas.{cap-kept, cost_after_resize-more, cost_after_resize-moves, cost_after_resize-same}
+use Rattle.thin_vec.proofs.ThinVecLemmas.{cost_after_resize-more, cost_after_resize-moves, cost_after_resize-same}
 
 module _ {S X : Type 0} (steps : S → Option X → S → Type 0) where
   pub yields-more : (s t u : S) (xs : List X) (x : X) → Yields steps s xs t → steps t (Some x) u
@@ -128,60 +126,6 @@ spare-kept v w xs is =
     let many : length xs ≡ length w.items - length v.items =
     omega (arith, ap (λ z. length z.items) is, length-append v.items xs) in
     cc
-
--- The following lemmas are about how the capacity of a list grows over several calls.
-
-module _ (rule : GrowthRule) (R : RattleType) (law : IsLawful rule) where
-  pub at_least-le : (c d : ℕ) → IsKeptOrGrown rule R c d → c ≤ d
-  at_least-le c d (inl e) = omega arith
-  at_least-le c d (inr p) = let g = ruled-grows rule _ _ c p.0 p.1 law p.2 p.3 in
-      omega (arith, g.doubled, p.4)
-
-  pub at_least-join : (c d e : ℕ) → IsKeptOrGrown rule R c d → IsKeptOrGrown rule R d e
-      → IsKeptOrGrown rule R c e
-  at_least-join c d e (inl p) q = subst (λ n. IsKeptOrGrown rule R n e) p q
-  at_least-join c d e (inr p) q = inr (p.0, p.1, p.2, p.3, omega (arith, p.4, at_least-le d e q))
-
-  pub ruled-more : (c n m : ℕ) {d d' : ℕ} → d' ≡ d → n ≤ m → IsKeptOrChosen rule R c d n
-      → IsKeptOrChosen rule R c d' m
-  ruled-more c n m same more (inl e) = inl (same ∙ e)
-  ruled-more c n m same more (inr p) =
-      inr (p.0, p.1, p.2, omega (arith, p.3, more), p.4 ∙ ap Some (sym same))
-
-  pub ruled-after : (c d e n : ℕ) (P : Type 0) → IsKeptOrChosen rule R d e n → (e ≡ d → P)
-      → IsKeptOrChosen rule R c e n ⊎ P
-  ruled-after c d e n P (inl same) f = inr (f same)
-  ruled-after c d e n P (inr p) f = inl (inr p)
-
-  -- The old capacity is the one after `reserve(0)`.
-  pub ruled-reserved : {T A : Type 0} (v : ListView T A) (d n : ℕ) (left : Count)
-      → length v.items ≤ v.capacity
-      → IsKeptOrChosen rule R v.capacity d n
-      ⊎ ((h : ℕ) × IsWithinCount h left × (capacity_after_reserve rule R v h ≡ Some d))
-      → IsChosenByRule rule R d n
-      ⊎ ((h : ℕ) × IsWithinCount h left × (capacity_after_reserve rule R v h ≡ Some d))
-  ruled-reserved v d n left room (inl (inl same)) = inr (
-    0,
-    (λ _. omega arith),
-    ruled-same rule _ _ v.capacity (length v.items + 0) (omega (arith, room)) ∙ ap Some (sym same),
-  )
-  ruled-reserved v d n left room (inl (inr p)) = inl p
-  ruled-reserved v d n left room (inr q) = inr q
-
-  pub collected-after : {c d : ℕ} (n h : ℕ) (left : Count) → IsWithinCount h left
-      → exact_capacity (type_size R) (type_align R) 0 h ≡ Some c → IsKeptOrChosen rule R c d n
-      → IsCapacityAfterCollect rule R d n left
-  collected-after n h left hint e (inl same) = inr (h, hint, e ∙ ap Some (sym same))
-  collected-after n h left hint e (inr p) = inl p
-
-  pub at_least-ruled : {T A : Type 0} (v : ListView T A) (k d : ℕ)
-      → capacity_after_reserve rule R v k ≡ Some d
-      → IsKeptOrGrown rule R v.capacity d
-  at_least-ruled v k d e =
-      elim (cases_lt v.capacity (length v.items + k)) [
-        | inl more ↦ inr (length v.items + k, d, more, e, omega arith)
-        | inr spare ↦ inl (cap-kept rule R law v k d spare e)
-      ]
 
 pub exact-new : {T A : Type 0} (R : RattleType) (v : ListView T A) (a : A) (h : ℕ) → IsNew v a
     → capacity_after_reserve_exact R v h ≡ exact_capacity (type_size R) (type_align R) 0 h

@@ -1,17 +1,15 @@
 -- These definitions are for the private functions that `Splice::finish` calls. No public contract
 -- uses these definitions.
-use Rattle.std.specs.Prelude.{◌≡◌, ◌⊎◌, ℕ, ◌+◌, ◌-◌, ◌*◌, ◌<◌, ◌≤◌, List, [], ◌++◌, IfErr, IsOk, MatchOption, OnErr, OnOk, Option, length}
+use Rattle.std.specs.Prelude.{◌≡◌, ℕ, ◌+◌, ◌-◌, ◌*◌, ◌<◌, ◌≤◌, List, [], ◌++◌, IfErr, IsOk, MatchOption, OnErr, OnOk, Option, length}
 use Rattle.std.specs.Iterator.{Count, Drains, size}
-use Rattle.std.specs.Iterator.SizeHint.{IsWithinCount}
-use Rattle.std.specs.declared.option.Option.TheVariants.{Some}
 use Rattle.std.specs.declared.result.Result.{Result}
 use Rattle.std.specs.Borrow.{RattleType}
 use Rattle.thin_block.specs.Growth.{GrowthRule}
 use Rattle.thin_vec.specs.Cheap.{IsCheap}
-use Rattle.thin_vec.specs.List.Extend.{CostsInserting, IsKeptOrChosen, IsKeptOrGrown}
-use Rattle.thin_vec.specs.Edits.Splice.{IsSpliceCause, SpliceErrorAccountsFor}
+use Rattle.thin_vec.specs.List.Extend.{CostsInserting}
+use Rattle.thin_vec.specs.Edits.Splice.{IsSpliceCause, SpliceErrorAccountsFor, SplicesCapacity}
 use Rattle.thin_vec.specs.OpenView.{OpenView}
-use Rattle.thin_vec.specs.ThinVec.{HasRoomFor, ListView, capacity_after_reserve}
+use Rattle.thin_vec.specs.ThinVec.{HasRoomFor, ListView}
 use Rattle.thin_vec.specs.declared.errors.SpliceRefused.{SpliceRefused}
 
 module _ {T A : Type 0} where
@@ -30,22 +28,13 @@ module _ {T A : Type 0} where
   abbrev pub with_replacement : OpenView T A → List T → List T
   with_replacement v xs = (v.front ++ xs) ++ v.tail
 
-  -- `IsCapacityAfterExtend rule R v d n limit` holds if the list `v` may have capacity `d` and
-  -- length `n` after items of an iterator were added to it. The iterator could yield at most
-  -- `limit` items. If the length of `v` is at most its capacity, the field `ruled` of
-  -- `ExtendsCapacity` follows: there, the old capacity is the one after `reserve(0)`.
-  abbrev pub IsCapacityAfterExtend : GrowthRule → RattleType → ListView T A → ℕ → ℕ → Count → Type 0
-  IsCapacityAfterExtend rule R v d n limit =
-      IsKeptOrChosen rule R v.capacity d n
-      ⊎ ((h : ℕ) × IsWithinCount h limit × (capacity_after_reserve rule R v h ≡ Some d))
-
   -- `AddsFromIter rule R v w n limit` describes how adding items of an iterator turned the list `v`
   -- into `w`. `rule` is the growth rule of the list, and `R` is the type of the items. The iterator
   -- could yield at most `limit` items, and the old items of `v` were moved at most `n` times in
   -- total.
   pub record AddsFromIter (rule : GrowthRule) (R : RattleType) (v w : ListView T A) (n : ℕ)
       (limit : Count) : Type 0 where
-    pub capacity : IsKeptOrGrown rule R v.capacity w.capacity
+    pub never_less : v.capacity ≤ w.capacity
     pub had_room : HasRoomFor v (size limit) → w.capacity ≡ v.capacity
     pub cost : CostsInserting n v w
     pub alloc : w.alloc ≡ v.alloc
@@ -63,8 +52,7 @@ module _ {S T A : Type 0} (steps : S → Option T → S → Type 0) (can : S →
         → IsOk result
     pub items : OnOk result ((xs : List T) × Drains steps s xs × (w.items ≡ with_replacement v xs))
     pub taken : AddsFromIter rule R (without_middle v a) w (2 * length v.tail) (remaining s)
-    pub ruled : IsCapacityAfterExtend rule R (without_middle v a) w.capacity (length w.items)
-        (remaining s)
+    pub capacity : SplicesCapacity rule R v.tail (without_middle v a) w (remaining s)
     pub blocks : 0 < length v.tail → w.cost.blocks ≤ v.cost.blocks + 2
     pub requests : v.tail ≡ [] → w.cost.blocks
         ≤ v.cost.blocks + 1 + (length w.items - length (v.front ++ v.tail))

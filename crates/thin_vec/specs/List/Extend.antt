@@ -3,7 +3,7 @@
 -- call, and `R` is the type of the items. The number `limit` is an upper bound on the number of
 -- items that the iterator may still yield. `IsWithinCount h limit` is std's: `h` is at most
 -- `limit`, if `limit` is finite.
-use Rattle.std.specs.Prelude.{◌≡◌, ◌↔◌, ◌⊎◌, ℕ, ◌+◌, ◌-◌, ◌<◌, ◌≤◌, IsSome, List, ◌++◌, Option, length}
+use Rattle.std.specs.Prelude.{◌≡◌, ◌↔◌, ℕ, zero, suc, ◌+◌, ◌-◌, ◌<◌, ◌≤◌, IsSome, List, ◌++◌, Option, length, option_and_then}
 use Rattle.std.specs.Iterator.{Count, IsFinite, Yields, size}
 use Rattle.std.specs.Iterator.SizeHint.{IsWithinCount}
 use Rattle.std.specs.declared.option.Option.TheVariants.{None, Some}
@@ -30,60 +30,34 @@ pub record YieldsAndCanContinue {S X : Type 0} (steps : S → Option X → S →
   pub can_next : can t
   pub finite : IsFinite (remaining t)
 
--- `IsKeptOrGrown rule R c d` is a lower bound of a new capacity `d`. Either `d` is the old capacity
--- `c`, or `d` is at least the capacity `n` that the growth rule `rule` chooses if a block of
--- capacity `c` must hold `want` items, for some `want` above `c`. The item type is `R`.
-abbrev pub IsKeptOrGrown : GrowthRule → RattleType → ℕ → ℕ → Type 0
-IsKeptOrGrown rule R c d =
-    (d ≡ c) ⊎ ((want : ℕ) × (n : ℕ) × (c < want)
-    × (grown_capacity rule (type_size R) (type_align R) c want ≡ Some n) × (n ≤ d))
-
--- `IsChosenByRule rule R d n` says where a new capacity `d` comes from, and so bounds `d` from
--- above. The growth rule `rule` chooses `d` when a block of some capacity `e` must hold `want`
--- items, for some `want` above `e` that is at most `n`. The item type is `R`.
---
--- When a call grows a list several times, `e` is the capacity before the last growth. But the
--- statement holds if there is any such `e`, so it does not say that the growth began at the old
--- capacity.
-abbrev pub IsChosenByRule : GrowthRule → RattleType → ℕ → ℕ → Type 0
-IsChosenByRule rule R d n =
-    (e want : ℕ) × (e < want) × (want ≤ n)
-    × (grown_capacity rule (type_size R) (type_align R) e want ≡ Some d)
-
--- `IsKeptOrChosen rule R c d n` is an upper bound of a new capacity `d`. Either `d` is the old
--- capacity `c`, or the growth rule `rule` chooses `d` for at most `n` items of the type `R`
--- (`IsChosenByRule`).
-abbrev pub IsKeptOrChosen : GrowthRule → RattleType → ℕ → ℕ → ℕ → Type 0
-IsKeptOrChosen rule R c d n = (d ≡ c) ⊎ IsChosenByRule rule R d n
-
--- `IsCapacityAfterCollect rule R d n limit` holds if `d` is a possible capacity of a new list that
--- has been filled from an iterator. Here, `n` is the length of the list, `rule` is its growth rule,
--- and `R` is its item type. At the start, the iterator could yield at most `limit` items.
-abbrev pub IsCapacityAfterCollect : GrowthRule → RattleType → ℕ → ℕ → Count → Type 0
-IsCapacityAfterCollect rule R d n limit =
-    IsChosenByRule rule R d n ⊎ ((h : ℕ) × IsWithinCount h limit
-    × (exact_capacity (type_size R) (type_align R) 0 h ≡ Some d))
+-- `capacity_after_pushes rule R c n` is the capacity of a list that had the capacity `c`, after
+-- items of the type `R` were pushed one by one until its length was `n`. Only a push onto a full
+-- list changes the capacity: the growth rule `rule` chooses it for one item more. It is `None` if a
+-- capacity on the way would be too large.
+unfoldable pub capacity_after_pushes : GrowthRule → RattleType → ℕ → ℕ → Option ℕ
+capacity_after_pushes rule R c zero = Some c
+capacity_after_pushes rule R c (suc n) =
+    option_and_then (λ d. grown_capacity rule (type_size R) (type_align R) d (suc n))
+    (capacity_after_pushes rule R c n)
 
 module _ {T A : Type 0} where
-  -- `ExtendsCapacity rule R v w limit` restricts the capacity of the list `w`, which is the list
-  -- `v` after items of an iterator were added: `at_least` is a lower bound, and `ruled` says how
-  -- the growth rule chose it. The growth rule is `rule`, the item type is `R`, and the iterator
-  -- could yield at most `limit` items.
+  -- `capacity_after_extend rule R v h n` is the capacity of the list `v` after `reserve(h)`, and
+  -- then pushes until its length is `n`.
+  abbrev pub capacity_after_extend : GrowthRule → RattleType → ListView T A → ℕ → ℕ → Option ℕ
+  capacity_after_extend rule R v h n =
+      option_and_then (λ c. capacity_after_pushes rule R c n) (capacity_after_reserve rule R v h)
+
+  -- `ExtendsCapacity rule R v w limit` says which capacity the list `w` has, which is the list `v`
+  -- after `extend`. The growth rule is `rule`, the item type is `R`, and the iterator could yield
+  -- at most `limit` items.
   pub record ExtendsCapacity (rule : GrowthRule) (R : RattleType) (v w : ListView T A)
       (limit : Count) : Type 0 where
     -- If `v` has room for all items that the iterator could yield, the capacity is unchanged. In
     -- particular, it is unchanged if the iterator cannot yield any item.
     pub had_room : HasRoomFor v (size limit) → w.capacity ≡ v.capacity
-    -- If the capacity changed, it is at least one that the growth rule chooses for more items than
-    -- the old capacity.
-    pub at_least : IsKeptOrGrown rule R v.capacity w.capacity
-    -- The new capacity is one that the growth rule chooses for at most `length w.items` items, or
-    -- the one after `reserve(h)` on `v`, where `h` is at most `limit`. If `h` is 0, this is the old
-    -- capacity. For `extend`, `h` may be a possible lower bound in the size hint. For `finish` of a
-    -- `Splice` with items after the range, it may be the number of slots of the range plus a
-    -- possible lower bound for the items that did not fit there.
-    pub ruled : IsChosenByRule rule R w.capacity (length w.items)
-        ⊎ ((h : ℕ) × IsWithinCount h limit × (capacity_after_reserve rule R v h ≡ Some w.capacity))
+    -- The number `h` stands for the lower bound in the size hint. If nothing was reserved, it is 0.
+    pub pushed : (h : ℕ) × IsWithinCount h limit
+        × (capacity_after_extend rule R v h (length w.items) ≡ Some w.capacity)
 
   -- `CostsInserting n v w` bounds the recorded cost of a call that added items to a list, and
   -- changed the list from `v` to `w`. Each added item costs one move, and moving the items that
@@ -118,9 +92,10 @@ module _ {T A : Type 0} where
       : Type 0 where
     -- In this case, nothing was allocated.
     pub none : size limit ≡ 0 → w.capacity ≡ 0
-    -- The capacity of `w` is either one that the growth rule may choose for at most
-    -- `length w.items` items, or a possible lower bound in the size hint of the iterator.
-    pub ruled : IsCapacityAfterCollect rule R w.capacity (length w.items) limit
+    -- The list was made with the capacity `h`, which stands for the lower bound in the size hint,
+    -- and then the items were pushed. If nothing was allocated before the pushes, `h` is 0.
+    pub pushed : (h : ℕ) × IsWithinCount h limit
+        × (capacity_after_pushes rule R h (length w.items) ≡ Some w.capacity)
     pub moves : w.cost.moves ≡ length w.items
     -- There was at most one request for memory, and one more for each item.
     pub requests : w.cost.blocks ≤ 1 + length w.items
@@ -132,7 +107,8 @@ module _ {T A : Type 0} where
   abbrev pub ExtendsList : GrowthRule → RattleType → ListView T A → List T → ListView T A → Type 0
   ExtendsList rule R v xs w =
       (w.items ≡ v.items ++ xs) × (length w.items ≡ length v.items + length xs)
-      × (v.capacity ≤ w.capacity) × IsKeptOrGrown rule R v.capacity w.capacity
+      × (v.capacity ≤ w.capacity)
+      × ((h : ℕ) × (capacity_after_extend rule R v h (length w.items) ≡ Some w.capacity))
       × CostsInserting 0 v w
       × (w.alloc ≡ v.alloc) × (IsCheap v → IsCheap w) × IsBounded R w
 

@@ -5,7 +5,9 @@ ghost use Rattle.std.specs.Iterator.{Drains, IsFinite, Yields, YieldsThen, size}
 ghost use Rattle.std.specs.Iterator.SizeHint.{IsWithinCount};
 ghost use Rattle.std.specs.Option.{option_len, option_to_list};
 ghost use Rattle.thin_vec.specs.List.Capacity.{LacksRoom};
-ghost use Rattle.thin_vec.specs.List.Extend.{IsKeptOrChosen};
+ghost use Rattle.std.specs.Align.{type_align};
+ghost use Rattle.std.specs.Mem.{type_size};
+ghost use Rattle.thin_block.specs.Growth.{grown_capacity};
 ghost use Rattle.thin_block.specs.Block.{IsAllocatedBy};
 ghost use Rattle.thin_vec.specs.OpenView.{tail_end};
 ghost use Rattle.thin_vec.specs.Edits.Splice.{IsSpliceCause, SpliceErrorAccountsFor};
@@ -60,6 +62,7 @@ impl<T: Drop, A: Allocator, G: Growth> ThinVec<T, A, G> {
             → AddsFromIter G.rule T.row self.old self.new (length self.old.items - at)
             (I.remaining iter)) }
         ensures blocks { self.new.cost.blocks ≤ self.old.cost.blocks + 1 }
+        ensures room { OnOk result (length self.new.items ≤ self.new.capacity) }
     {
         let hint = iter.size_hint().0;
         if let Err(cause) = self.reserve(hint) {
@@ -81,6 +84,7 @@ impl<T: Drop, A: Allocator, G: Growth> ThinVec<T, A, G> {
         alloc: A,
     ) -> Result<(), SpliceRefused<T, I, A>>
         requires in_bounds { at ≤ length self.old.items }
+        requires room { length self.old.items ≤ self.old.capacity }
         requires can_next { I.can_next iter }
         requires finite { IsFinite (I.remaining iter) }
 
@@ -99,8 +103,8 @@ impl<T: Drop, A: Allocator, G: Growth> ThinVec<T, A, G> {
             → IsSpliceCause G.rule T.row self.new tail (I.remaining error.rest) error) }
 
         // In every case.
-        ensures capacity { IsKeptOrChosen G.rule T.row self.old.capacity self.new.capacity
-            (length self.new.items) }
+        ensures capacity { grown_capacity G.rule (type_size T.row) (type_align T.row)
+            self.old.capacity (length self.new.items) ≡ Some self.new.capacity }
         ensures added { AddsFromIter G.rule T.row self.old self.new (length self.old.items - at)
             (I.remaining iter) }
         ensures blocks { self.new.cost.blocks ≤ self.old.cost.blocks + 1 }

@@ -4,7 +4,7 @@ ghost use Rattle.std.specs.Iterator.{Drains, IsFinite, size};
 ghost use Rattle.std.specs.Iterator.Runs.{WholeRun};
 ghost use Rattle.std.specs.List.{remove_range};
 ghost use Rattle.thin_vec.specs.List.Capacity.{PreservesList};
-ghost use Rattle.thin_vec.specs.List.Extend.{CostsInserting, ExtendsCapacity};
+ghost use Rattle.thin_vec.specs.List.Extend.{CostsInserting};
 ghost use Rattle.thin_vec.specs.ThinVec.{HasRoomFor, IsBounded};
 ghost use Rattle.thin_block.specs.Block.{IsAllocatedBy};
 ghost use Rattle.thin_block.specs.Cost.{no_cost};
@@ -124,7 +124,7 @@ impl<
     G: Growth,
     H: IntoInner<Inner = OpenBlock<T, A>>,
 > Splice<'a, I, T, A, G, H> {
-    ghost use Rattle.thin_vec.specs.Edits.Splice.{HasSlotsFor, IsSpliceCause, SpliceErrorAccountsFor, left_by_splice, splice_front, splice_iter, splice_range_len, splice_tail};
+    ghost use Rattle.thin_vec.specs.Edits.Splice.{HasSlotsFor, IsSpliceCause, SpliceErrorAccountsFor, SplicesCapacity, left_by_splice, splice_front, splice_iter, splice_range_len, splice_tail};
 
     /// Drops the items of the range that were not yielded, and puts the items of the iterator in
     /// their place, up to its first `None`.
@@ -183,8 +183,8 @@ impl<
             (λ _. length self.exit.0.now.items ≡ self.exit.0.now.capacity)) }
 
         // In every case.
-        ensures capacity { ExtendsCapacity G.rule T.row (left_by_splice self.entry) self.exit.0.now
-            (I.remaining (splice_iter self.entry)) }
+        ensures capacity { SplicesCapacity G.rule T.row (splice_tail self.entry)
+            (left_by_splice self.entry) self.exit.0.now (I.remaining (splice_iter self.entry)) }
 
         ensures cost { CostsInserting (2 * length (splice_tail self.entry))
             (left_by_splice self.entry) self.exit.0.now }

@@ -1,5 +1,5 @@
 //! The methods `extend` and `from_iter`, which move the items of an iterator into a list.
-ghost use Rattle.std.specs.Prelude.{◌≡◌, ◌+◌, ◌-◌, ◌<◌, ◌≤◌, List, ◌++◌, IfErr, IfOk, IsOk, IsSome, MatchOption, None, OnErr, OnOk, length};
+ghost use Rattle.std.specs.Prelude.{◌≡◌, ◌+◌, ◌-◌, ◌<◌, ◌≤◌, List, ◌++◌, IfErr, IfOk, IsOk, IsSome, MatchOption, None, OnErr, OnOk, Some, length};
 ghost use Rattle.std.specs.Iterator.Runs.{SomeRun, WholeRun};
 ghost use Rattle.std.specs.Iterator.{Drains, IsFinite, size};
 ghost use Rattle.std.specs.Option.{option_to_list};
@@ -7,7 +7,7 @@ ghost use Rattle.thin_block.specs.Cost.{add_moves};
 ghost use Rattle.thin_block.specs.Growth.{doubling};
 ghost use Rattle.thin_vec.specs.Cheap.{IsCheap};
 ghost use Rattle.thin_vec.specs.List.Capacity.{PreservesList};
-ghost use Rattle.thin_vec.specs.List.Extend.{ExtendsList, ExtendsCapacity, IsCollectCause, IsCollectedList, IsExtendCause, CostsInserting, CostsExtending, IsKeptOrChosen, IsKeptOrGrown, IsCollectedFrom, YieldsAndCanContinue};
+ghost use Rattle.thin_vec.specs.List.Extend.{ExtendsList, ExtendsCapacity, IsCollectCause, IsCollectedList, IsExtendCause, CostsInserting, CostsExtending, IsCollectedFrom, YieldsAndCanContinue, capacity_after_pushes};
 ghost use Rattle.thin_vec.specs.Put.{IsFilledBy};
 ghost use Rattle.thin_vec.specs.ThinVec.{HasRoomFor, IsNew, IsBounded};
 
@@ -100,9 +100,8 @@ impl<T, A: Allocator, G: Growth> ThinVec<T, A, G> {
         // In every case.
         ensures had_room { HasRoomFor self.old (size (I.remaining iter))
             → self.new.capacity ≡ self.old.capacity }
-        ensures at_least { IsKeptOrGrown G.rule T.row self.old.capacity self.new.capacity }
-        ensures capacity { IsKeptOrChosen G.rule T.row self.old.capacity self.new.capacity
-            (length self.new.items) }
+        ensures capacity { capacity_after_pushes G.rule T.row self.old.capacity
+            (length self.new.items) ≡ Some self.new.capacity }
         ensures cost { CostsInserting 0 self.old self.new }
         ensures blocks { self.new.cost.blocks
             ≤ self.old.cost.blocks + (length self.new.items - self.old.capacity) }

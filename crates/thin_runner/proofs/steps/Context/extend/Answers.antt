@@ -1,11 +1,13 @@
 -- If `extend` fails, each item of the iterator is in the list, in `in_hand` or in `rest`.
-use Rattle.std.proofs.Common.{rules, ◌≡◌, ◌++◌, ◌+◌, ap, arith, length, sym, ◌∙◌, append_assoc}
+use Rattle.std.proofs.Common.{rules, ◌≡◌, ◌++◌, ◌+◌, ap, arith, length, refl, sym, ◌∙◌, append_assoc}
+use Rattle.std.proofs.Math.Seq.{drop-length}
 use Rattle.std.proofs.lemmas.Bool.{false≢true}
 use Rattle.std.specs.Iterator.{at_most, size}
 use Rattle.std.specs.Option.{option_to_list}
 use Rattle.thin_runner.specs.Hinted.{hinted_count, hinted_items}
 use Rattle.thin_runner.proofs.HintedLemmas.{drains-items, yields-claim, yields-items}
 use Rattle.thin_runner.proofs.SplicesLemmas.{at-end, at-no-in-hand, at-some-in-hand, places-end, replaces, without_range-end}
+use Rattle.thin_vec.proofs.PushesLemmas.{extends-splices}
 use Rattle.thin_vec.specs.ThinVec.{HasRoomFor}
 use Rattle.thin_runner.proofs.steps.Context.extend.Goals as goal
 
@@ -20,8 +22,8 @@ returns-in-Ok g c =
       allowed = (
         tt,
         replaces ((e.items.2 ∙ ap (λ l. old.items ++ l) items) ∙ sym (at-end old.items _))
-            e.capacity e.cost.inserting e.preserved (sym (without_range-end old)) count
-            (omega arith),
+            (extends-splices (drop-length old.items) e.capacity) e.cost.inserting e.preserved
+            (sym (without_range-end old)) count (omega arith) refl,
       );
     }
 
@@ -51,8 +53,9 @@ returns-in-Err g c =
                 ∙ (all ∙ (append_assoc e.placed.0 one (hinted_items rest)
                 ∙ sym (ap (λ h. e.placed.0 ++ (h ++ (one ++ hinted_items rest))) none)));
             claim = claim ∙ c.new.ensures.lower;
-            filled = replaces (e.placed.1 ∙ sym (at-end old.items e.placed.0)) e.capacity
-                e.cost.inserting e.preserved (sym (without_range-end old)) count (omega arith);
+            filled = replaces (e.placed.1 ∙ sym (at-end old.items e.placed.0))
+                (extends-splices (drop-length old.items) e.capacity) e.cost.inserting e.preserved
+                (sym (without_range-end old)) count (omega arith) refl;
             no_room = places-end old ⊥ may
                 (λ nothing. false≢true
                 (e.succeeds (omega (arith, nothing, most, e.preserved.within.0.room)))) full;

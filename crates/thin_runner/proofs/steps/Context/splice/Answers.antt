@@ -59,7 +59,8 @@ returns-in-Ok-finish g c =
           search rules,
           replaces-of written
               (replaces (e.items.2 ∙ (λ i. (front g at i ++ all i) ++ tail g at i))
-              e.capacity e.cost e.preserved (left g at) (count g at) (moved g at)),
+              e.capacity e.cost e.preserved (left g at) (count g at) (moved g at)
+              (tail g at)),
         ),
       );
     }
@@ -94,7 +95,8 @@ returns-in-Err-finish g c =
             all = sym (items g at) ∙ stopped-items drawn placed refused e.placed.2;
             claim = stopped-claim drawn placed refused e.placed.2 ∙ claim g at;
             filled = replaces (e.placed.1 ∙ (λ i. (front g at i ++ placed) ++ tail g at i))
-                e.capacity e.cost e.preserved (left g at) (count g at) (moved g at);
+                e.capacity e.cost e.preserved (left g at) (count g at) (moved g at)
+                (tail g at);
             no_room = λ places. false≢true (⊎_elim
                 (λ (few : may ≤ end - start). e.succeeds (inl (omega (arith, few, most, width))))
                 (λ (room : (end ≡ length xs)

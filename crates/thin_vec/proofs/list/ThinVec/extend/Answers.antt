@@ -1,6 +1,6 @@
 -- `extend` reserves room for the lower bound of the size hint, and then calls `extend_unhinted`.
 use Rattle.std.proofs.lemmas.Grind.{common_steps}
-use Rattle.std.proofs.Common.{◌≡◌, ◌++◌, ◌∙◌, List, None, Some, [], ap, arith, inl, inr, length, refl, subst, sym}
+use Rattle.std.proofs.Common.{◌≡◌, ◌++◌, ◌∙◌, List, None, [], ap, arith, length, refl, subst, sym}
 use Rattle.std.proofs.lemmas.List.{append-nil}
 use Rattle.std.specs.Iterator.Runs.{SomeRun, WholeRun}
 use Rattle.std.specs.Option.{option_to_list}
@@ -9,13 +9,14 @@ use denote.Param.{param}
 use Rattle.thin_vec.proofs.ThinVecLemmas.{cost_after_resize-blocks, cost_after_resize-copied}
 use Rattle.std.proofs.lemmas.Bool.{false≢true}
 use Rattle.thin_vec.specs.List.Capacity.{LacksRoom}
-use Rattle.thin_vec.proofs.list.ExtendLemmas.{full-in-hand, ruled-reserved, run_of_ok, inserting-join, filled-reserved, at_least-join, at_least-le, at_least-ruled, run_given, run_given_err}
+use Rattle.thin_vec.proofs.list.ExtendLemmas.{full-in-hand, run_of_ok, inserting-join, filled-reserved, run_given, run_given_err}
+use Rattle.thin_vec.proofs.PushesLemmas.{extended-by, extended-none}
 use Rattle.thin_vec.proofs.list.ReservesLemmas.{lacks-room}
 use Rattle.thin_vec.proofs.list.ThinVec.extend.Goals as goal
 
 pub returns-in-Ok-clause-capacity : goal.returns-in-Ok-clause-capacity
 returns-in-Ok-clause-capacity g c =
-    let rule = g.G.Growth.rule in let T = param 0 g.row.T in let law = g.met.G.Growth.law in
+    let rule = g.G.Growth.rule in let T = param 0 g.row.T in
     let v = c.args.self.now in let u = c.reserve.new.self in let w = c.extend_unhinted.new.self in
     let e = c.extend_unhinted.ensures in let reserves = c.in-Ok.ensures.capacity in
     let hint = c.size_hint.result.0 in
@@ -25,12 +26,11 @@ returns-in-Ok-clause-capacity g c =
         c.size_hint.ensures.lower c.requires.finite,
       )) in
           e.had_room (omega (arith, room, same, ap length c.reserve.ensures.items)) ∙ same;
-      at_least = at_least-join rule T law v.capacity u.capacity w.capacity
-          (at_least-ruled rule T law v hint u.capacity reserves.ok) e.at_least;
-      ruled = elim e.capacity [
-        | inl same ↦ inr (hint, c.size_hint.ensures.lower, reserves.ok ∙ ap Some (sym same))
-        | inr chosen ↦ inl chosen
-      ];
+      pushed = (
+        hint,
+        c.size_hint.ensures.lower,
+        extended-by rule T v hint u.capacity (length w.items) w.capacity reserves.ok e.capacity,
+      );
     }
 
 pub returns-in-Ok-clause-cost : goal.returns-in-Ok-clause-cost
@@ -45,9 +45,7 @@ returns-in-Ok-clause-cost g c =
           c.reserve.ensures.preserved.within.0.room
           c.in-Ok.ensures.capacity.ok))
           e.cost
-          (at_least-le rule T law v.capacity u.capacity
-          (at_least-ruled rule T law v hint u.capacity c.in-Ok.ensures.capacity.ok))
-          (at_least-le rule T law u.capacity w.capacity e.at_least)
+          c.reserve.ensures.preserved.never_less e.preserved.never_less
           (omega (arith, ap length c.reserve.ensures.items));
       requests = omega (
         arith,
@@ -64,10 +62,14 @@ returns-in-Err-clause-capacity g c =
     let same = ap (λ v. v.capacity) c.in-Err.ensures.err in
     record {
       had_room = λ _. same;
-      at_least = inl same;
-      ruled = ruled-reserved g.G.Growth.rule (param 0 g.row.T) g.met.G.Growth.law v w.capacity
-          (length w.items) (g.I.Iterator.remaining c.args.iter)
-          c.reserve.ensures.preserved.within.0.room (inl (inl same));
+      pushed = extended-none g.G.Growth.rule (param 0 g.row.T) v (length w.items) w.capacity
+          (g.I.Iterator.remaining c.args.iter) c.reserve.ensures.preserved.within.0.room
+          (omega (
+            arith,
+            ap length c.reserve.ensures.items,
+            c.reserve.ensures.preserved.within.0.room,
+          ))
+          same;
     }
 
 pub returns-in-Err-clause-cause : goal.returns-in-Err-clause-cause

@@ -1,15 +1,16 @@
 -- In each iteration of the loop, `fill_spare` moves items of the iterator into the empty slots of
 -- the list. If the iterator has not ended, one more item is pushed.
-use Rattle.std.proofs.Common.{◌≡◌, ◌++◌, ◌∷◌, [], ◌+◌, ◌-◌, ◌≤◌, ◌∙◌, ap, arith, append_assoc, length, length-append, refl, subst, sym, inr}
-use Rattle.std.proofs.lemmas.List.{length_push}
+use Rattle.std.proofs.Common.{◌≡◌, ◌++◌, ◌∷◌, [], ◌+◌, ◌-◌, ◌≤◌, ◌∙◌, ap, arith, append_assoc, length, length-append, refl, subst, sym, Some}
+use Rattle.std.proofs.lemmas.List.{append-nil, length_push}
 use Rattle.std.specs.Iterator.{Yields}
 use denote.Param.{param}
 use Rattle.thin_block.specs.Cost.{add_moves}
 use Rattle.thin_vec.specs.Cheap.{IsCheap}
 use Rattle.thin_vec.specs.List.Capacity.{LacksRoom, PreservesList}
-use Rattle.thin_vec.specs.List.Extend.{CostsInserting, IsKeptOrChosen, IsKeptOrGrown}
+use Rattle.thin_vec.specs.List.Extend.{CostsInserting, capacity_after_pushes}
 use Rattle.thin_vec.specs.Put.{YieldsThenMayEnd}
-use Rattle.thin_vec.proofs.list.ExtendLemmas.{ruled-more, filled-at, inserting-join, filled-spare, at_least-join, at_least-le, at_least-ruled, spare-kept, yields-join, yields-more}
+use Rattle.thin_vec.proofs.list.ExtendLemmas.{filled-at, inserting-join, filled-spare, spare-kept, yields-join, yields-more}
+use Rattle.thin_vec.proofs.PushesLemmas.{pushes-grew, pushes-kept, pushes-none}
 use Rattle.thin_vec.proofs.CallerLemmas.{grows-cheap, grows-preserved}
 use Rattle.thin_vec.proofs.list.ReservesLemmas.{keeps-join}
 use Rattle.thin_vec.proofs.ThinVecLemmas.{cost_after_resize-blocks, cost_after_resize-copied}
@@ -40,14 +41,16 @@ longer g c =
     let filled = c.fill_spare-left.ensures.filled_by in
     ap (λ v. length v.items) filled.1 ∙ length-append c.loop-rest.self.items filled.0.items
 
--- The capacity is still the one that the growth rule chose last.
-ruled : (g : _) (c : After-fill_spare-left g) → IsKeptOrChosen g.G.Growth.rule (param 0 g.row.T)
-    c.args.self.now.capacity c.fill_spare-left.new.self.capacity
-    (length c.fill_spare-left.new.self.items)
-ruled g c =
-    ruled-more g.G.Growth.rule (param 0 g.row.T) g.met.G.Growth.law c.args.self.now.capacity
+-- `fill_spare` moves items into empty slots only.
+pushed : (g : _) (c : After-fill_spare-left g)
+    → capacity_after_pushes g.G.Growth.rule (param 0 g.row.T) c.args.self.now.capacity
+    (length c.fill_spare-left.new.self.items) ≡ Some c.fill_spare-left.new.self.capacity
+pushed g c =
+    pushes-kept g.G.Growth.rule (param 0 g.row.T) c.args.self.now.capacity
     (length c.loop-rest.self.items) (length c.fill_spare-left.new.self.items)
-    (ap (λ z. z.capacity) (changed g c)) (omega (arith, longer g c)) c.loop-rest.invariant.ruled
+    c.fill_spare-left.new.self.capacity
+    (c.loop-rest.invariant.pushed ∙ ap Some (sym (ap (λ z. z.capacity) (changed g c))))
+    (omega (arith, longer g c)) c.fill_spare-left.ensures.bounds.1.room
 
 spent : (g : _) (c : After-fill_spare-left g)
     → CostsInserting 0 c.args.self.now c.fill_spare-left.new.self
@@ -57,8 +60,7 @@ spent g c =
     inserting-join 0 0 0 (omega arith) held.cost
     (filled-spare u w (length w.items - length u.items) (changed g c)
     (omega (arith, longer g c)))
-    (at_least-le g.G.Growth.rule (param 0 g.row.T) g.met.G.Growth.law v.capacity u.capacity
-    held.at_least)
+    held.never_less
     (omega (arith, ap (λ z. z.capacity) (changed g c)))
     (omega (arith, ap length held.placed.1, length-append v.items held.placed.0))
 
@@ -85,6 +87,24 @@ full g c =
       length-append c.loop-rest.self.items filled.0.items,
       ap (λ v. v.capacity) filled.1,
     )
+
+pub loop-rest-init : goal.loop-rest-init
+loop-rest-init g c =
+    let v = c.args.self.now in
+    record {
+      can = c.requires.can_next;
+      finite = c.requires.finite;
+      placed = ([], sym (append-nil v.items), refl);
+      nearer = omega arith;
+      never_less = omega arith;
+      had_room = λ _. refl;
+      cost = omega arith;
+      requests = omega arith;
+      pushed = pushes-none g.G.Growth.rule (param 0 g.row.T) v.capacity (length v.items)
+          c.requires.bounds.room;
+      alloc = refl;
+      cheap = λ cheap. cheap;
+    }
 
 pub next-requires : goal.next-requires
 next-requires g c = (c.fill_spare-left.ensures.filled_by.0.asked c.if-ended.false).0
@@ -138,16 +158,16 @@ returns-in-Err-clause-placed g c =
 
 pub returns-then-ended-clause-capacity : goal.returns-then-ended-clause-capacity
 returns-then-ended-clause-capacity g c =
-    ruled g (goal.at.returns-then-ended-clause-capacity g c).After-fill_spare-left
+    pushed g (goal.at.returns-then-ended-clause-capacity g c).After-fill_spare-left
 
 pub returns-in_default-clause-capacity : goal.returns-in_default-clause-capacity
 returns-in_default-clause-capacity g c =
-    ruled g (goal.at.returns-in_default-clause-capacity g c).After-fill_spare-left
+    pushed g (goal.at.returns-in_default-clause-capacity g c).After-fill_spare-left
 
 pub returns-in-Err-clause-capacity : goal.returns-in-Err-clause-capacity
 returns-in-Err-clause-capacity g c =
     rw c.in-Err.ensures.err
-    (ruled g (goal.at.returns-in-Err-clause-capacity g c).After-fill_spare-left)
+    (pushed g (goal.at.returns-in-Err-clause-capacity g c).After-fill_spare-left)
 
 pub loop-rest-preserved : goal.loop-rest-preserved
 loop-rest-preserved g c =
@@ -160,54 +180,44 @@ loop-rest-preserved g c =
     let nearer = by.nearer c.if-ended.false in
     let v = c.args.self.now in let u = c.loop-rest.self in
     let w = c.fill_spare-left.new.self in let z = c.push.new.self in
-    let pushed = c.in-Ok.ensures in
+    let put = c.in-Ok.ensures in
     let kept = ap (λ y. y.capacity) (changed g filled) in
-    let long = ap length pushed.items ∙ length_push w.items c.in-Some.item in
+    let long = ap length put.items ∙ length_push w.items c.in-Some.item in
     let more = longer g filled in
-    let grown = at_least-ruled rule T law w 1 z.capacity pushed.grows.ok in
-    let push = filled-at w z 1 pushed.cost long
+    let push = filled-at w z 1 put.cost long
     (cost_after_resize-copied rule T law w 1 z.capacity c.fill_spare-left.ensures.bounds.1.room
-    pushed.grows.ok) in
-    let high = at_least-le rule T law w.capacity z.capacity grown in
-    let low = at_least-le rule T law v.capacity u.capacity held.at_least in
+    put.grows.ok) in
     let all = full g here.Else-ended in
     record {
       can = goes.0;
       finite = goes.1;
       placed = (
         xs ++ c.in-Some.item ∷ [],
-        pushed.items ∙ (ap (λ l. l ++ c.in-Some.item ∷ []) (appended g filled)
+        put.items ∙ (ap (λ l. l ++ c.in-Some.item ∷ []) (appended g filled)
             ∙ append_assoc v.items xs (c.in-Some.item ∷ [])),
         yields-more g.I.Iterator.next_gives c.args.iter c.fill_spare-left.result.rest
             c.next.new.self xs c.in-Some.item (yielded g here.Else-ended)
             c.in-Some.ensures.steps,
       );
       nearer = omega (arith, held.nearer, nearer, goes.2, more, long);
-      at_least = at_least-join rule T law v.capacity u.capacity z.capacity held.at_least
-          (subst (λ n. IsKeptOrGrown rule T n z.capacity) kept grown);
-      never_less = omega (arith, held.never_less, pushed.grows.never_less, kept);
+      never_less = omega (arith, held.never_less, put.grows.never_less, kept);
       had_room = λ fit. let same = held.had_room fit in
-          pushed.grows.had_room (omega (arith, fit, held.nearer, nearer, goes.2, more, same, kept))
+          put.grows.had_room (omega (arith, fit, held.nearer, nearer, goes.2, more, same, kept))
           ∙ (kept ∙ same);
-      cost = inserting-join 0 0 0 (omega arith) (spent g filled) push (omega (arith, low, kept))
-          high
+      cost = inserting-join 0 0 0 (omega arith) (spent g filled) push
+          (omega (arith, held.never_less, kept)) put.grows.never_less
           (omega (arith, ap length held.placed.1, length-append v.items held.placed.0, more));
       requests = omega (
         arith,
         ap (λ y. y.cost.blocks) (changed g filled),
-        ap (λ k. k.blocks) pushed.cost,
+        ap (λ k. k.blocks) put.cost,
         cost_after_resize-blocks w z.capacity,
         kept,
       );
-      ruled = inr (
-        w.capacity,
-        length w.items + 1,
-        omega (arith, all),
-        omega (arith, long),
-        pushed.grows.ok,
-      );
-      alloc = pushed.grows.alloc ∙ (ap (λ y. y.alloc) (changed g filled) ∙ held.alloc);
-      cheap = λ first. grows-cheap law _ 1 pushed.grows pushed.cost pushed.err
+      pushed = pushes-grew rule T v.capacity (length w.items) (length z.items) w.capacity z.capacity
+          (pushed g filled) long put.grows.ok;
+      alloc = put.grows.alloc ∙ (ap (λ y. y.alloc) (changed g filled) ∙ held.alloc);
+      cheap = λ first. grows-cheap law _ 1 put.grows put.cost put.err
           (c.fill_spare-left.ensures.cheap (held.cheap first));
     }
 
@@ -217,12 +227,10 @@ returns-in-Err-clause-succeeds g c = λ fit.
     let held = c.loop-rest.invariant in
     let by = c.fill_spare-left.ensures.filled_by.0 in
     let goes = c.in-Some.ensures.goes.on (by.asked c.if-ended.false).1 in
-    let low = at_least-le g.G.Growth.rule (param 0 g.row.T) g.met.G.Growth.law
-    c.args.self.now.capacity
-    c.loop-rest.self.capacity held.at_least in
     c.in-Err.ensures.succeeds
     (omega (
       arith,
+      held.never_less,
       by.nearer c.if-ended.false,
       longer g filled,
       ap (λ z. z.capacity) (changed g filled),
@@ -258,25 +266,6 @@ pub returns-in-Err-clause-blocks : goal.returns-in-Err-clause-blocks
 returns-in-Err-clause-blocks g c =
     rw c.in-Err.ensures.err
     (requested g (goal.at.returns-in-Err-clause-blocks g c).After-fill_spare-left)
-
-grown : (g : _) (c : After-fill_spare-left g) → IsKeptOrGrown g.G.Growth.rule (param 0 g.row.T)
-    c.args.self.now.capacity c.fill_spare-left.new.self.capacity
-grown g c =
-    subst (λ n. IsKeptOrGrown g.G.Growth.rule (param 0 g.row.T) c.args.self.now.capacity n)
-    (sym (ap (λ z. z.capacity) (changed g c))) c.loop-rest.invariant.at_least
-
-pub returns-then-ended-clause-at_least : goal.returns-then-ended-clause-at_least
-returns-then-ended-clause-at_least g c =
-    grown g (goal.at.returns-then-ended-clause-at_least g c).After-fill_spare-left
-
-pub returns-in_default-clause-at_least : goal.returns-in_default-clause-at_least
-returns-in_default-clause-at_least g c =
-    grown g (goal.at.returns-in_default-clause-at_least g c).After-fill_spare-left
-
-pub returns-in-Err-clause-at_least : goal.returns-in-Err-clause-at_least
-returns-in-Err-clause-at_least g c =
-    rw c.in-Err.ensures.err
-    (grown g (goal.at.returns-in-Err-clause-at_least g c).After-fill_spare-left)
 
 pub returns-in-Err-clause-cause : goal.returns-in-Err-clause-cause
 returns-in-Err-clause-cause g c =

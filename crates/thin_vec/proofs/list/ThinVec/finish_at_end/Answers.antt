@@ -1,12 +1,15 @@
 -- `close` leaves only the items before the range, and `extend` appends the items of the iterator.
-use Rattle.std.proofs.Common.{inl, inr, ◌≡◌, ◌+◌, ◌-◌, ◌*◌, ◌≤◌, ◌++◌, ◌∙◌, ap, arith, length, length-append, refl, subst, sym}
+use Rattle.std.proofs.Common.{◌≡◌, ◌+◌, ◌-◌, ◌*◌, ◌≤◌, ◌++◌, ◌∙◌, ap, arith, length, length-append, refl, subst, sym}
 use Rattle.std.specs.Iterator.{size}
 use Rattle.std.specs.Prelude.{MatchOption}
 use denote.Param.{param}
-use Rattle.thin_vec.specs.Edits.Finish.{AddsFromIter, IsCapacityAfterExtend, without_middle}
+use Rattle.thin_vec.specs.Edits.Finish.{AddsFromIter, without_middle}
+use Rattle.thin_vec.specs.Edits.Splice.{SplicesCapacity}
+use Rattle.thin_vec.specs.List.Extend.{ExtendsCapacity}
 use Rattle.thin_vec.specs.ThinVec.{HasRoomFor}
 use Rattle.thin_vec.proofs.edits.SpliceLemmas.{after-items, closed-left, stop-at-end, stopped-now, when-some}
 use Rattle.thin_vec.proofs.list.ExtendLemmas.{inserting-more}
+use Rattle.thin_vec.proofs.PushesLemmas.{extends-splices}
 use Rattle.thin_vec.proofs.edits.FinishLemmas.{finished-ok}
 use Rattle.thin_vec.specs.declared.errors.SpliceRefused.{SpliceRefused}
 use Rattle.thin_vec.proofs.list.ThinVec.finish_at_end.Goals.{After-extend}
@@ -26,7 +29,7 @@ taken g c =
     let n = 2 * length c.args.block.tail in
     let w = c.extend.new.self in let more = g.I.Iterator.remaining c.args.iter in
     let now : AddsFromIter g.G.Growth.rule (param 0 g.row.T) c.close.new.self w n more = record {
-      capacity = c.extend.ensures.capacity.at_least;
+      never_less = c.extend.ensures.preserved.never_less;
       had_room = c.extend.ensures.capacity.had_room;
       cost = inserting-more c.close.new.self w n c.extend.ensures.cost.inserting;
       alloc = c.extend.ensures.preserved.alloc;
@@ -34,20 +37,14 @@ taken g c =
     } in
     subst (λ z. AddsFromIter g.G.Growth.rule (param 0 g.row.T) z w n more) (left g c) now
 
-ruled : (g : _) (c : After-extend g)
-    → IsCapacityAfterExtend g.G.Growth.rule (param 0 g.row.T)
-    (without_middle c.args.block c.args.self.now.alloc)
-    c.extend.new.self.capacity (length c.extend.new.self.items)
+capacity : (g : _) (c : After-extend g)
+    → SplicesCapacity g.G.Growth.rule (param 0 g.row.T) c.args.block.tail
+    (without_middle c.args.block c.args.self.now.alloc) c.extend.new.self
     (g.I.Iterator.remaining c.args.iter)
-ruled g c =
-    let w = c.extend.new.self in
-    subst (λ z. IsCapacityAfterExtend g.G.Growth.rule (param 0 g.row.T) z w.capacity
-    (length w.items)
-    (g.I.Iterator.remaining c.args.iter)) (left g c)
-    (elim c.extend.ensures.capacity.ruled [
-      | inl chosen ↦ inl (inr chosen)
-      | inr reserved ↦ inr reserved
-    ])
+capacity g c =
+    extends-splices c.requires.no_tail
+    (subst (λ z. ExtendsCapacity g.G.Growth.rule (param 0 g.row.T) z c.extend.new.self
+    (g.I.Iterator.remaining c.args.iter)) (left g c) c.extend.ensures.capacity)
 
 requests : (g : _) (c : After-extend g) → c.extend.new.self.cost.blocks
     ≤ c.args.block.cost.blocks + 1
@@ -67,7 +64,7 @@ returns-in-Ok g c =
       gave.2 ∙ (ap (λ z. z.items ++ gave.0) (left g at)
           ∙ after-items v gave.0 c.requires.no_tail),
     )
-    (taken g at) (ruled g at) (λ some. absurd (omega (arith, some, ap length c.requires.no_tail)))
+    (taken g at) (capacity g at) (λ some. absurd (omega (arith, some, ap length c.requires.no_tail)))
     (λ _. requests g at)
 
 pub returns-in-Err : goal.returns-in-Err
@@ -94,7 +91,7 @@ returns-in-Err g c =
           (subst (λ z. HasRoomFor z (size (g.I.Iterator.remaining c.args.iter))) (sym is) fit);
       items = tt;
       taken = taken g at;
-      ruled = ruled g at;
+      capacity = capacity g at;
       blocks = λ some. absurd (omega (arith, some, ap length c.requires.no_tail));
       requests = λ _. requests g at;
       placed = (

@@ -1,16 +1,18 @@
 -- The items of the iterator are inserted in up to three steps. First, `fill` fills the empty
 -- slots of the replaced range. Then `insert_hinted` fills a new gap, whose size is the lower bound
 -- of the size hint. Finally, `insert_held` inserts the remaining items.
-use Rattle.std.proofs.Common.{[], Err, None, Ok, Some, inl, inr, ℕ, ◌-◌, ◌*◌, ◌∙◌, ap, arith, length, refl, subst, sym}
+use Rattle.std.proofs.Common.{[], Err, None, Ok, Some, ◌≡◌, ℕ, ◌-◌, ◌*◌, ap, arith, length, length-append, refl, subst, sym}
 use denote.Param.{param}
 use Rattle.thin_vec.specs.Edits.Finish.{AddsFromIter, without_middle}
 use Rattle.std.specs.Iterator.SizeHint.{IsWithinCount}
 use Rattle.thin_vec.specs.List.Capacity.{LacksRoom}
 use Rattle.thin_vec.specs.List.Extend.{YieldsAndCanContinue}
 use Rattle.thin_vec.specs.Put.{YieldsThenMayEnd}
-use Rattle.thin_vec.proofs.list.ExtendLemmas.{ruled-after}
+use Rattle.thin_block.proofs.CapacityLemmas.{ruled-same}
+use Rattle.thin_vec.proofs.PushesLemmas.{spliced-none, splices-before}
+use Rattle.thin_vec.specs.Edits.Splice.{capacity_after_splice}
 use Rattle.thin_vec.proofs.edits.SpliceLemmas.{if-err, stop-at-hint, stopped-now}
-use Rattle.thin_vec.proofs.edits.FinishLemmas.{FillsGap, IsReached, filled-drains, filled-reached, filled-taken, finished-from, finished-ok, gap-filled, reached-extended, reached-long, reached-more, reached-taken}
+use Rattle.thin_vec.proofs.edits.FinishLemmas.{FillsGap, IsReached, filled-drains, filled-long, filled-reached, filled-taken, finished-from, finished-ok, gap-filled, reached-spliced, reached-long, reached-more, reached-taken}
 use Rattle.thin_vec.specs.declared.errors.SpliceRefused.{SpliceRefused}
 use Rattle.thin_vec.proofs.list.ThinVec.finish_before_tail.Goals.{After-close}
 use Rattle.thin_vec.proofs.list.ThinVec.finish_before_tail.Goals as goal
@@ -22,15 +24,37 @@ filled g c =
     gap-filled c.args.block c.fill-rest.new.self c.args.iter c.args.self.now c.close.new.self
     c.fill-rest.result c.fill-rest.ensures.filled_by c.requires.no_middle c.close.ensures.changes
 
+-- The items that fit into the slots of the range do not change the capacity.
+kept : (g : _) (c : After-close g) → (h : ℕ)
+    × IsWithinCount h (g.I.Iterator.remaining c.args.iter)
+    × (capacity_after_splice g.G.Growth.rule (param 0 g.row.T)
+    (without_middle c.args.block c.args.self.now.alloc) h (length c.close.new.self.items)
+    ≡ Some c.close.new.self.capacity)
+kept g c =
+    let v = c.args.block in let w = c.close.new.self in let p = filled g c in
+    spliced-none g.G.Growth.rule (param 0 g.row.T) (without_middle v c.args.self.now.alloc)
+    (length w.items) w.capacity (g.I.Iterator.remaining c.args.iter)
+    (omega (
+      arith,
+      c.close.ensures.room,
+      p.1.capacity,
+      filled-long p,
+      length-append v.front v.tail,
+    ))
+    (omega (arith, c.close.ensures.room, p.1.capacity)) p.1.capacity
+
 pub returns-then-ended : goal.returns-then-ended
 returns-then-ended g c =
     let v = c.args.block in
-    let p = filled g (goal.at.returns-then-ended g c).After-close in
-    finished-ok v c.args.self.now.alloc c.args.iter c.close.new.self tt
-    (p.0.items, filled-drains p c.if-ended.true, p.1.items)
-    (filled-taken p g.G.Growth.rule (param 0 g.row.T) (2 * length v.tail)
-    (g.I.Iterator.remaining c.args.iter) (omega (arith, p.1.cost.2)))
-    (inl (inl p.1.capacity)) (λ _. omega (arith, ap (λ z. z.blocks) p.1.cost.1))
+    let rule = g.G.Growth.rule in let T = param 0 g.row.T in
+    let a = c.args.self.now.alloc in let w = c.close.new.self in
+    let left = g.I.Iterator.remaining c.args.iter in
+    let here = (goal.at.returns-then-ended g c).After-close in
+    let p = filled g here in
+    let taken = filled-taken p rule T (2 * length v.tail) left (omega (arith, p.1.cost.2)) in
+    finished-ok v a c.args.iter w tt
+    (p.0.items, filled-drains p c.if-ended.true, p.1.items) taken
+    (splices-before c.requires.nonempty taken.had_room (kept g here)) (λ _. omega (arith, ap (λ z. z.blocks) p.1.cost.1))
     (λ none. absurd (omega (arith, c.requires.nonempty, ap length none)))
 
 pub returns-in-Err : goal.returns-in-Err
@@ -40,7 +64,8 @@ returns-in-Err g c =
     let can = g.I.Iterator.can_next in let left = g.I.Iterator.remaining in
     let v = c.args.block in let a = c.args.self.now.alloc in
     let w = c.insert_hinted.new.self in let t = c.fill-rest.result.rest in
-    let p = filled g (goal.at.returns-in-Err g c).After-close in
+    let at = (goal.at.returns-in-Err g c).After-close in
+    let p = filled g at in
     let rejected = c.in-Err.rejected in
     let same = c.in-Err.ensures.err.0 in let rest = c.in-Err.ensures.err.1 in
     let here = subst
@@ -70,7 +95,9 @@ returns-in-Err g c =
     (sym same)
     (filled-taken p rule T (2 * length v.tail) (left c.args.iter)
     (omega (arith, p.1.cost.3 (p.0.full c.if-ended.false)))))
-    (inl (inl (ap (λ z. z.capacity) same ∙ p.1.capacity)))
+    (subst (λ z. (h : ℕ) × IsWithinCount h (left c.args.iter)
+    × (capacity_after_splice rule T (without_middle v a) h (length z.items) ≡ Some z.capacity))
+    (sym same) (kept g at))
     (λ _. omega (arith, ap (λ z. z.blocks) p.1.cost.1, ap (λ z. z.cost.blocks) same))
 
 pub returns-then-ended-2 : goal.returns-then-ended-2
@@ -95,8 +122,9 @@ returns-then-ended-2 g c =
     (filled-taken p rule T 0 (g.I.Iterator.remaining c.args.iter)
     (omega (arith, p.1.cost.3 (p.0.full c.if-ended.false))))
     c.insert_hinted.ensures.added)
-    (reached-extended first rule T a w.capacity (length w.items) p.1.capacity
-    (inr c.in-Ok.ensures.capacity))
+    (reached-spliced first rule T a c.in-Ok.ensures.capacity.0 w.capacity w.capacity
+    (length w.items) p.1.capacity c.in-Ok.ensures.capacity.1 c.in-Ok.ensures.capacity.2
+    (ruled-same rule _ _ w.capacity (length w.items) c.in-Ok.ensures.room))
     (λ _. omega (arith, ap (λ z. z.blocks) p.1.cost.1, c.insert_hinted.ensures.blocks))
 
 pub returns-else-ended-2 : goal.returns-else-ended-2
@@ -124,8 +152,6 @@ returns-else-ended-2 g c =
     (omega (arith, p.1.cost.3 (p.0.full c.if-ended.false))))
     (c.in-Ok.ensures.added_full c.if-ended-2.false))
     c.insert_held.ensures.added)
-    (reached-extended first rule T a w.capacity (length w.items) p.1.capacity
-    (ruled-after rule T law u.capacity y.capacity w.capacity (length w.items) _
-    c.insert_held.ensures.capacity
-    (λ same. (hint.0, hint.1, hint.2 ∙ ap Some (sym same)))))
+    (reached-spliced first rule T a hint.0 y.capacity w.capacity (length w.items) p.1.capacity
+    hint.1 hint.2 c.insert_held.ensures.capacity)
     (λ _. omega (arith, ap (λ z. z.blocks) p.1.cost.1))

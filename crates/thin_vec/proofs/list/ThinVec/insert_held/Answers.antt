@@ -1,15 +1,18 @@
 -- `collect_rest` collects the items of the iterator in a vector. `open_with_gap` makes a gap with
 -- one slot for each of these items, and `fill_from_vec` moves the items into the gap. If memory
 -- runs out, the error contains the vector, and the item that did not fit into it, if there is one.
-use Rattle.std.proofs.Common.{Err, ◌++◌, drop, take, inl, inr, ◌≡◌, ℕ, ◌+◌, ◌-◌, ◌<◌, ◌≤◌, ◌∙◌, ap, arith, length, refl, subst, sym}
+use Rattle.std.proofs.Common.{Err, Some, ◌++◌, drop, take, inl, inr, ◌≡◌, ℕ, ◌+◌, ◌-◌, ◌<◌, ◌≤◌, ◌∙◌, ap, arith, length, refl, subst, sym}
 use Rattle.std.proofs.lemmas.Bool.{cases_lt, false≢true}
 use Rattle.std.specs.Option.{option_len}
 use Rattle.std.specs.Prelude.{IsSome}
 use denote.Param.{param}
 use Rattle.thin_block.specs.Cost.{add_moves}
-use Rattle.thin_vec.specs.List.Extend.{IsKeptOrChosen}
+use Rattle.std.specs.Align.{type_align}
+use Rattle.std.specs.Mem.{type_size}
+use Rattle.thin_block.specs.Growth.{grown_capacity}
 use Rattle.thin_vec.specs.ThinVec.{capacity_after_reserve}
-use Rattle.thin_vec.proofs.edits.SpliceLemmas.{blocks-if, closed-moves, drawn-after, inserted-long, kept-or-ruled, run-moves, stop-at-held, taken-join, taken-none, taken-reserved, taken-spare}
+use Rattle.thin_vec.proofs.edits.SpliceLemmas.{blocks-if, closed-moves, drawn-after, inserted-long, run-moves, stop-at-held, taken-join, taken-none, taken-reserved, taken-spare}
+use Rattle.thin_block.proofs.CapacityLemmas.{ruled-same}
 use Rattle.thin_block.proofs.ResultLemmas.{err-same}
 use Rattle.thin_vec.proofs.list.ThinVec.insert_held.Goals.{After-close, In-Err}
 use Rattle.thin_vec.proofs.list.ThinVec.insert_held.Goals as goal
@@ -165,6 +168,23 @@ returns-clause-blocks g c = omega (
 pub returns-in-Err-clause-err : goal.returns-in-Err-clause-err
 returns-in-Err-clause-err g c = search (arith, ◌∙◌)
 
+-- The list is unchanged, and its items fit into its capacity.
+pub returns-in_default-clause-capacity : goal.returns-in_default-clause-capacity
+returns-in_default-clause-capacity g c =
+    ruled-same g.G.Growth.rule _ _ c.args.self.now.capacity (length c.args.self.now.items)
+    c.requires.room
+
+pub returns-in-Some-in_hand-clause-capacity : goal.returns-in-Some-in_hand-clause-capacity
+returns-in-Some-in_hand-clause-capacity g c =
+    ruled-same g.G.Growth.rule _ _ c.args.self.now.capacity (length c.args.self.now.items)
+    c.requires.room
+
+pub returns-in-Err-clause-capacity : goal.returns-in-Err-clause-capacity
+returns-in-Err-clause-capacity g c =
+    rw c.in-Err.ensures.err
+    (ruled-same g.G.Growth.rule _ _ c.args.self.now.capacity (length c.args.self.now.items)
+    c.requires.room)
+
 pub returns-clause-capacity : goal.returns-clause-capacity
 returns-clause-capacity g c =
     let rule = g.G.Growth.rule in let T = param 0 g.row.T in
@@ -173,14 +193,15 @@ returns-clause-capacity g c =
     let long = ap length (items g here)
     ∙ inserted-long c.reserve.new.self.items c.collect_rest-held.result.held.items c.args.at
     (omega (arith, ap length c.reserve.ensures.items, c.requires.in_bounds)) in
-    subst (λ d. IsKeptOrChosen rule T v.capacity d (length w.items)) (sym (capacity g here))
-    (kept-or-ruled rule T g.met.G.Growth.law v c.len-count.result u.capacity (length w.items)
-    c.in_default-reserve.ensures.capacity.ok
-    (omega (
+    let all : length v.items + c.len-count.result ≡ length w.items =
+    omega (
       arith,
+      long,
       c.len-count.ensures ∙ c.collect_rest-held.result.held.ok.0,
       ap length c.reserve.ensures.items,
-    )))
+    ) in
+    subst (λ n. grown_capacity rule (type_size T) (type_align T) v.capacity n ≡ Some w.capacity) all
+    (c.in_default-reserve.ensures.capacity.ok ∙ ap Some (sym (capacity g here)))
 
 pub returns-clause-added : goal.returns-clause-added
 returns-clause-added g c =

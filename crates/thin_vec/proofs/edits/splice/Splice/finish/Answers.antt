@@ -5,7 +5,7 @@ use Rattle.thin_vec.specs.Edits.Finish.{FinishesSplice}
 use Rattle.thin_vec.specs.OpenView.{tail_end}
 use Rattle.thin_vec.specs.Edits.Splice.{left_by_splice, splice_front, splice_iter, splice_list, splice_tail}
 use Rattle.thin_vec.proofs.ThinVecLemmas.{allocatable-less}
-use Rattle.thin_vec.proofs.list.ExtendLemmas.{at_least-le, ruled-reserved, run_of_ok}
+use Rattle.thin_vec.proofs.list.ExtendLemmas.{run_of_ok}
 use Rattle.thin_vec.proofs.edits.SpliceLemmas.{if-err}
 use Rattle.thin_vec.proofs.edits.splice.Splice.finish.Goals.{else-has_tail, then-has_tail}
 use Rattle.thin_vec.proofs.edits.splice.Splice.finish.Goals as goal
@@ -38,7 +38,7 @@ returns g c =
     (subst
     (λ o. FinishesSplice steps g.I.Iterator.can_next g.I.Iterator.remaining rule T
     c.drop_middle.new.self o s w r) (ap (λ v. v.alloc) c.clear.ensures.changes) said) in
-    let le = at_least-le rule T g.met.G.Growth.law v.capacity w.capacity f.taken.capacity in
+    let le = f.taken.never_less in
     let within = c.len-len.ensures.bounds in
     let left = left_by_splice c.args.self in
     let room : length left.items + (v.gap_before + length v.middle + v.gap_after) ≤ left.capacity =
@@ -65,12 +65,7 @@ returns g c =
       held = f.held;
       in_hand = f.in_hand;
       cause = f.cause;
-      capacity = record {
-        had_room = f.taken.had_room;
-        at_least = f.taken.capacity;
-        ruled = ruled-reserved rule T g.met.G.Growth.law left w.capacity (length w.items)
-            (g.I.Iterator.remaining s) (omega (arith, room)) f.ruled;
-      };
+      capacity = f.capacity;
       cost = f.taken.cost;
       blocks = (f.blocks, f.requests);
       preserved = record {

@@ -6,11 +6,10 @@ use Rattle.std.proofs.lemmas.Bool.{cases_lt, false≢true}
 use denote.Param.{param}
 use Rattle.thin_block.proofs.ResultLemmas.{err-same}
 use Rattle.thin_block.specs.Growth.{doubling}
-use Rattle.thin_block.specs.GrowthLaws.{doubling_law}
-use Rattle.thin_block.proofs.CapacityLemmas.{exact-same}
 use Rattle.thin_vec.proofs.ThinVecLemmas.{cost_after_resize-blocks}
-use Rattle.thin_vec.proofs.list.ExtendLemmas.{collected-after, exact-new, hand-empty, match-some, run_given, run_of}
-use Rattle.thin_vec.specs.List.Extend.{IsCollectedList}
+use Rattle.thin_vec.proofs.list.ExtendLemmas.{exact-new, hand-empty, match-some, run_given, run_of}
+use Rattle.thin_vec.proofs.PushesLemmas.{exact-is, pushes-none}
+use Rattle.thin_vec.specs.List.Extend.{IsCollectedList, capacity_after_pushes}
 use Rattle.thin_vec.proofs.list.extend.ThinVec+T+A.from_iter.Goals.{After-extend_unhinted}
 use Rattle.thin_vec.proofs.list.extend.ThinVec+T+A.from_iter.Goals as goal
 
@@ -31,9 +30,16 @@ collected g c =
             ap length c.new-list.ensures.new.items,
           ))
           ∙ c.new-list.ensures.new.capacity);
-      ruled = collected-after doubling (param 0 g.row.T) doubling_law _ _ _
-          c.size_hint.ensures.lower
-          (sym (exact-new (param 0 g.row.T) _ _ _ c.new-list.ensures.new) ∙ c.in-Ok.ensures.capacity) e.capacity;
+      pushed = (
+        c.size_hint.result.0,
+        c.size_hint.ensures.lower,
+        subst (λ k. capacity_after_pushes doubling (param 0 g.row.T) k (length w.items)
+            ≡ Some w.capacity)
+            (exact-is _ _ c.size_hint.result.0 u.capacity
+            (sym (exact-new (param 0 g.row.T) _ _ _ c.new-list.ensures.new)
+            ∙ c.in-Ok.ensures.capacity))
+            e.capacity,
+      );
       moves = search (arith, ◌∙◌);
       requests = omega (
         arith,
@@ -59,10 +65,19 @@ returns-in-Err-extend_unhinted-clause-err g c =
 pub returns-in-Err-clause-err : goal.returns-in-Err-clause-err
 returns-in-Err-clause-err g c =
     let none = ap (λ v. v.capacity) c.in-Err.ensures.err ∙ c.new-list.ensures.new.capacity in
-    let least = exact-same _ _ 0 0 (omega arith) in
+    let w = c.reserve_exact.new.self in
     record {
       none = λ _. none;
-      ruled = inr (0, (λ _. omega arith), least ∙ ap Some (sym none));
+      pushed = (
+        0,
+        (λ _. omega arith),
+        pushes-none doubling (param 0 g.row.T) 0 (length w.items) (omega (
+          arith,
+          ap length c.reserve_exact.ensures.items,
+          ap length c.new-list.ensures.new.items,
+        ))
+            ∙ ap Some (sym none),
+      );
       moves = search (arith, ◌∙◌);
       requests = omega (
         arith,
