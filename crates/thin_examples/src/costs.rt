@@ -1,5 +1,5 @@
 //! Examples whose contracts say how often a list grows, and how many items are moved.
-ghost use Rattle.std.specs.Prelude.{◌≡◌, ◌+◌, ◌*◌, ◌≤◌, ◌++◌, [], ◌∷◌, IfOk, OnOk, insert, length, remove};
+ghost use Rattle.std.specs.Prelude.{◌≡◌, ◌+◌, ◌*◌, ◌<◌, ◌≤◌, ◌++◌, [], ◌∷◌, IfOk, IsTrue, OnOk, insert, length, remove};
 ghost use Rattle.thin_vec.specs.Cheap.{IsCheap};
 
 use crate::commands::{Evens, add, all_granted};
@@ -275,4 +275,22 @@ pub fn push_each<A: Allocator, G: Growth>(
         list.push(*number)?;
     }
     Ok(())
+}
+
+/// Appends the numbers of a slice to a full list that has at least as many. Whatever the size hint
+/// of the iterator, the capacity doubles, by one request, which copies the old numbers.
+pub fn fill_twice<A: Allocator>(list: &mut ThinVec<u32, A>, numbers: &[u32]) -> bool
+    requires full { length list.old.items ≡ list.old.capacity }
+    requires some { 0 < length numbers.now }
+    requires few { length numbers.now ≤ list.old.capacity }
+    ensures items { IsTrue result → list.new.items ≡ list.old.items ++ numbers.now }
+    ensures capacity { IsTrue result → list.new.capacity ≡ 2 * list.old.capacity }
+    ensures blocks { IsTrue result → list.new.cost.blocks ≡ list.old.cost.blocks + 1 }
+    ensures grown { IsTrue result
+        → list.new.cost.grown ≡ list.old.cost.grown + list.old.capacity }
+{
+    match list.extend(numbers.iter().copied()) {
+        Ok(()) => true,
+        Err(_refused) => false,
+    }
 }

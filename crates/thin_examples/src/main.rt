@@ -343,6 +343,9 @@ fn show_costs(rt: &impl Print, alloc: Global) -> io::Result<()> {
     let mut list = ThinVec::new(alloc);
     costs::push_each(&mut list, &[1, 2, 3])?;
     println!(rt; "push_each: {list:?}")?;
+    let mut list = ThinVec::from_array(alloc, [1, 2, 3, 4])?;
+    let filled = costs::fill_twice(&mut list, &[5, 6, 7]);
+    println!(rt; "fill_twice: {filled}, capacity {}", list.capacity())?;
     let mut list = ThinVec::new(alloc);
     costs::edited_by_run(alloc, &mut list)?;
     println!(rt; "edited_by_run: {list:?}")

@@ -87,21 +87,23 @@ module _ {T : Type 0} (xs tail : List T) (b : ℕ) (is : tail ≡ drop b xs) whe
 module _ {T A : Type 0} {rule : GrowthRule} {R : RattleType} {old : ListView T A} {a b : ℕ} where
   -- The clauses of `extend` and `finish` speak of a list `v` that is `old` without the range
   -- `a..b`.
-  pub replaces : {new v : ListView T A} {placed tail : List T} {left : Count} {most extra : ℕ}
+  pub replaces : {new v : ListView T A} {placed tail : List T} {left : Count} {most extra k : ℕ}
       → new.items ≡ (take a old.items ++ placed) ++ drop b old.items
-      → SplicesCapacity rule R tail v new left
+      → SplicesCapacity rule R tail k v new left
       → CostsInserting extra v new → PreservesList R v new → v ≡ without_range old a b
       → left ≡ at_most most
-      → extra ≡ 2 * (length old.items - b) → tail ≡ drop b old.items
+      → extra ≡ 2 * (length old.items - b) → tail ≡ drop b old.items → k ≡ b - a
       → Replaces rule R old a b placed most new
-  replaces {new} {v} {placed} {tail} {left} {most} {extra} items grows cost keeps same count double
-      after =
+  replaces {new} {v} {placed} {tail} {left} {most} {extra} {k} items grows cost keeps same count double
+      after width =
       record {
         items = items;
-        capacity = subst (λ (l : List T). SplicesCapacity rule R l (without_range old a b) new
+        capacity = subst (λ (q : ℕ). SplicesCapacity rule R (drop b old.items) q
+            (without_range old a b) new (at_most most)) width
+            (subst (λ (l : List T). SplicesCapacity rule R l k (without_range old a b) new
             (at_most most)) after
-            (subst (λ (u : ListView T A). SplicesCapacity rule R tail u new (at_most most)) same
-            (subst (λ (n : Count). SplicesCapacity rule R tail v new n) count grows));
+            (subst (λ (u : ListView T A). SplicesCapacity rule R tail k u new (at_most most)) same
+            (subst (λ (n : Count). SplicesCapacity rule R tail k v new n) count grows)));
         cost = subst (λ (u : ListView T A). CostsInserting (2 * (length old.items - b)) u new) same
             (subst (λ (n : ℕ). CostsInserting n v new) double cost);
         keeps = subst (λ (u : ListView T A). PreservesList R u new) same keeps;

@@ -1,12 +1,13 @@
 -- These lemmas are for the proofs of other crates. They say which capacities are small enough, and
 -- which items a list contains after a write through a slice, an `insert` and a `remove`, or a
 -- `collect`, what a call that grows costs, and where the items of an iterator are.
-use Rattle.std.proofs.Common.{if◌then◌else◌, Bool, true, false, ◌≡◌, ℕ, zero, suc, ◌+◌, ◌-◌, ◌*◌, ◌^◌, ◌<◌, ◌≤◌, ap, arith, length, IfErr, OnErr, ◌⊎◌, Option, Result, Ok, Err, Some, None, inl, inr, refl, subst, sym, ◌∙◌, List, ◌++◌, append_assoc, drop, take, [], ◌∷◌, IfOk, OnOk}
+use Rattle.std.proofs.Common.{if◌then◌else◌, eqb, Bool, true, false, ◌≡◌, ℕ, zero, suc, ◌+◌, ◌-◌, ◌*◌, ◌^◌, ◌<◌, ◌≤◌, ap, arith, length, IfErr, OnErr, ◌⊎◌, Option, Result, Ok, Err, Some, None, inl, inr, refl, subst, sym, ◌∙◌, List, ◌++◌, append_assoc, drop, take, [], ◌∷◌, IfOk, OnOk}
 use Rattle.std.specs.Borrow.{RattleType}
 use Rattle.std.specs.Align.{type_align}
 use Rattle.std.specs.Mem.{type_size}
 use Rattle.std.specs.Prelude.{◌==◌, IsPermutation, max, nat_lt, insert, remove, slice_get, ⊤}
 use Rattle.std.proofs.lemmas.Bool.{cases_lt}
+use Rattle.std.proofs.lemmas.Bool.Decides.{nat_tests}
 use Rattle.thin_block.specs.declared.errors.ThinVecError.{ThinVecError}
 use Rattle.thin_block.specs.declared.errors.ThinVecError.TheVariants.{CapacityOverflow, OutOfMemory}
 use Rattle.thin_block.specs.Capacity.{min_non_zero_cap, fits}
@@ -201,6 +202,21 @@ doubling-most s a c w n more e = elim (cases_lt w (2 ^ 64)) [
       (sym (ruled-rule doubling _ _ c w more word) ∙ e) in
       let few : twice ≤ max 4 (2 * w) = twice-most (c == 0) s c w more in
       omega (arith, named, few))
+  | inr high ↦ cc (ruled-overflow doubling _ _ c w more high)
+]
+
+-- `doubling` chooses exactly twice the capacity if this is enough.
+pub doubling-twice : (s a c w n : ℕ) → 0 < c → c < w → w ≤ 2 * c
+    → grown_capacity doubling s a c w ≡ Some n → n ≡ 2 * c
+unfolding doubling checked_capacity
+doubling-twice s a c w n some more few e = elim (cases_lt w (2 ^ 64)) [
+  | inl word ↦ (let twice : ℕ = if c == 0 then min_non_zero_cap s else 2 * c in
+      let named : max w twice ≡ n =
+      named-by (fits s a (max w twice)) (max w twice) n
+      (sym (ruled-rule doubling _ _ c w more word) ∙ e) in
+      let is : twice ≡ 2 * c = (let has : eqb c 0 ≡ false = grind (arith, nat_tests) in rw has refl)
+      in
+      omega (arith, named, is))
   | inr high ↦ cc (ruled-overflow doubling _ _ c w more high)
 ]
 

@@ -1,8 +1,11 @@
 -- These lemmas are about the capacity of a list after pushes (`capacity_after_pushes`), after
 -- `extend` and after `finish` of a `Splice`. They are also meant for other crates.
-use Rattle.std.proofs.Common.{if◌then◌else◌, Bool, true, false, ◌≡◌, ℕ, zero, suc, ◌+◌, ◌<◌, ◌≤◌, List, [], Option, None, Some, ap, arith, inl, inr, length, refl, subst, sym, ◌∙◌}
+use Rattle.std.proofs.Common.{if◌then◌else◌, Bool, true, false, ◌≡◌, ℕ, zero, suc, ◌+◌, ◌-◌, ◌*◌, eqb, ◌<◌, ◌≤◌, List, [], Option, None, Some, ap, arith, inl, inr, length, refl, subst, sym, ◌∙◌}
 use borrow.Author.Tests.{lt-leb}
 use Rattle.std.proofs.lemmas.Bool.{cases_lt}
+use Rattle.std.proofs.lemmas.Bool.Decides.{nat_tests}
+use Rattle.std.specs.Option.{option_map_or}
+use Rattle.thin_block.specs.Cost.{Cost, add_moves, add_realloc, no_cost}
 use Rattle.std.proofs.lemmas.Option.{option_and_then_some}
 use Rattle.std.specs.Align.{type_align}
 use Rattle.std.specs.Borrow.{RattleType}
@@ -10,13 +13,43 @@ use Rattle.std.specs.Iterator.{Count, size}
 use Rattle.std.specs.Iterator.SizeHint.{IsWithinCount}
 use Rattle.std.specs.Mem.{type_size}
 use Rattle.std.specs.Prelude.{◌⊎◌, option_and_then}
-use Rattle.thin_block.proofs.CapacityLemmas.{exact-same, ruled-grows, ruled-same}
+use Rattle.thin_block.proofs.CapacityLemmas.{exact-fits, exact-same, ruled-grows, ruled-same}
 use Rattle.thin_block.proofs.ResultLemmas.{none-some, some-same}
-use Rattle.thin_block.specs.Capacity.{fits}
-use Rattle.thin_block.specs.Growth.{GrowthRule, IsLawful, checked_capacity, exact_capacity, grown_capacity}
-use Rattle.thin_vec.specs.Edits.Splice.{SplicesCapacity, capacity_after_splice}
-use Rattle.thin_vec.specs.List.Extend.{ExtendsCapacity, capacity_after_extend, capacity_after_pushes}
-use Rattle.thin_vec.specs.ThinVec.{HasRoomFor, ListView, capacity_after_reserve}
+use Rattle.thin_block.specs.Capacity.{Fits, fits}
+use Rattle.thin_block.specs.Growth.{GrowthRule, IsLawful, checked_capacity, doubling, exact_capacity, grown_capacity}
+use Rattle.thin_vec.specs.Edits.Splice.{IsAfterSplice, SplicesCapacity, cost_after_growth}
+use Rattle.thin_vec.specs.List.Extend.{CostsExtending, ExtendsCapacity, IsAfterCollect, IsAfterExtend, IsAfterPushes, capacity_after_pushes, cost_after_pushes}
+use Rattle.thin_vec.specs.ThinVec.{HasRoomFor, IsBounded, ListView, fits_allocatable, capacity_after_reserve, cost_after_resize, cost_of_new}
+use Rattle.thin_block.specs.GrowthLaws.{doubling_law}
+use Rattle.thin_vec.proofs.CallerLemmas.{doubling-twice}
+use Rattle.thin_vec.proofs.RetainLemmas.{moving-more, moving-none}
+use Rattle.thin_vec.proofs.ThinVecLemmas.{cap-kept, cost_after_resize-blocks, cost_after_resize-copied, cost_after_resize-more, cost_after_resize-moves, cost_after_resize-same}
+
+pub growth-same : (n c d : ℕ) (cost : Cost) → d ≡ c → cost_after_growth n c d cost ≡ cost
+growth-same n c d cost same = let t : eqb d c ≡ true = grind (arith, nat_tests) in rw t refl
+
+-- A list that does not change has the cost after a change of its capacity to the same.
+pub resized-none : {T A : Type 0} (v : ListView T A)
+    → (m : ℕ) × (v.cost ≡ add_moves m (cost_after_resize v v.capacity))
+resized-none v = (
+  0,
+  sym (moving-none (cost_after_resize v v.capacity) ∙ cost_after_resize-same v v.capacity refl),
+)
+
+-- A list of `n` items with the capacity `c` and the cost `add_moves a k` grows, and moves are made.
+pub growth-once : {T A : Type 0} (u w : ListView T A) (a b n c : ℕ) (k : Cost)
+    → u.cost ≡ add_moves a k → u.capacity ≡ c → length u.items ≡ n
+    → w.cost ≡ add_moves b (cost_after_resize u w.capacity)
+    → w.cost ≡ add_moves (a + b) (cost_after_growth n c w.capacity k)
+growth-once u w a b n c k cost cap long paid =
+    paid
+    ∙ ((λ i. add_moves b (if eqb w.capacity (cap i) then cost i else add_realloc (long i) (cost i)))
+    ∙ (ap (add_moves b) (go (eqb w.capacity c)) ∙ moving-more b a _))
+  where
+    go : (t : Bool) → (if t then add_moves a k else add_realloc n (add_moves a k))
+        ≡ add_moves a (if t then k else add_realloc n k)
+    go true = refl
+    go false = refl
 
 module _ (rule : GrowthRule) (R : RattleType) where
   -- `grown rule R c n` is the capacity of a block for items of the type `R` after the capacity `c`
@@ -52,50 +85,175 @@ module _ (rule : GrowthRule) (R : RattleType) where
             (let same : n ≡ suc m = omega arith in same) was
       ]
 
+  -- If the pushes up to the length `m` had room, so had those up to a smaller length.
+  pub pushes-before : (c n m d : ℕ) → capacity_after_pushes rule R c m ≡ Some d → n ≤ m
+      → (e : ℕ) × (capacity_after_pushes rule R c n ≡ Some e)
+  unfolding capacity_after_pushes
+  pushes-before c n zero d e less = (
+    d,
+    subst (λ (k : ℕ). capacity_after_pushes rule R c k ≡ Some d)
+        (let none : 0 ≡ n = omega arith in none) e,
+  )
+  pushes-before c n (suc m) d e less =
+      elim (cases_lt n (suc m)) [
+        | inl more ↦
+            option_and_then_some (λ (u : ℕ). grown u (suc m)) (capacity_after_pushes rule R c m) d e
+            (λ u was grew. pushes-before c n m u was (omega arith))
+        | inr all ↦ (
+          d,
+          subst (λ (k : ℕ). capacity_after_pushes rule R c k ≡ Some d)
+              (let same : suc m ≡ n = omega arith in same) e,
+        )
+      ]
+
   pub pushes-none : (c n : ℕ) → n ≤ c → capacity_after_pushes rule R c n ≡ Some c
   unfolding capacity_after_pushes
   pushes-none c n room = pushes-kept c 0 n c refl (omega arith) room
 
+  -- A push onto a full list copies its items.
+  pub paid-full : (c n : ℕ) (k : Cost) → capacity_after_pushes rule R c n ≡ Some n
+      → cost_after_pushes rule R c (suc n) k ≡ add_realloc n (cost_after_pushes rule R c n k)
+  unfolding cost_after_pushes
+  paid-full c n k full =
+      let at : eqb n n ≡ true = grind (arith, nat_tests) in
+      let t : option_map_or (λ (d : ℕ). eqb d n) (capacity_after_pushes rule R c n) false ≡ true =
+      ap (λ o. option_map_or (λ (d : ℕ). eqb d n) o false) full ∙ at in
+      rw t refl
+
+  paid-spare : (c n d : ℕ) (k : Cost) → capacity_after_pushes rule R c n ≡ Some d → n < d
+      → cost_after_pushes rule R c (suc n) k ≡ cost_after_pushes rule R c n k
+  unfolding cost_after_pushes
+  paid-spare c n d k was room =
+      let at : eqb d n ≡ false = grind (arith, nat_tests) in
+      let t : option_map_or (λ (d : ℕ). eqb d n) (capacity_after_pushes rule R c n) false ≡ false =
+      ap (λ o. option_map_or (λ (d : ℕ). eqb d n) o false) was ∙ at in
+      rw t refl
+
+  -- Pushes into empty slots cost only moves.
+  pub paid-kept : (c n m d : ℕ) (k : Cost) → capacity_after_pushes rule R c n ≡ Some d → n ≤ m
+      → m ≤ d → cost_after_pushes rule R c m k ≡ cost_after_pushes rule R c n k
+  paid-kept c n zero d k was more room =
+      ap (λ (q : ℕ). cost_after_pushes rule R c q k) (let none : 0 ≡ n = omega arith in none)
+  paid-kept c n (suc m) d k was more room =
+      elim (cases_lt n (suc m)) [
+        | inl less ↦
+            paid-spare c m d k (pushes-kept c n m d was (omega arith) (omega arith)) (omega arith)
+            ∙ paid-kept c n m d k was (omega arith) (omega arith)
+        | inr all ↦
+            ap (λ (q : ℕ). cost_after_pushes rule R c q k)
+            (let same : suc m ≡ n = omega arith in same)
+      ]
+
+  pub paid-none : (c n : ℕ) (k : Cost) → n ≤ c → cost_after_pushes rule R c n k ≡ k
+  unfolding capacity_after_pushes cost_after_pushes
+  paid-none c n k room = paid-kept c 0 n c k refl (omega arith) room
+
+  -- The first push onto a full list, whose capacity is `c`.
+  pub pushes-first : (c d : ℕ) → capacity_after_pushes rule R c (suc c) ≡ Some d
+      → grown c (suc c) ≡ Some d
+  unfolding capacity_after_pushes
+  pushes-first c d e =
+      sym (ap (option_and_then (λ (u : ℕ). grown u (suc c)))
+      (pushes-none c c (let all : c ≤ c = omega arith in all))) ∙ e
+
+  module _ {T A : Type 0} where
+    -- No item was pushed.
+    pub after-none : (v w : ListView T A) → length v.items ≤ v.capacity → w ≡ v
+        → IsAfterPushes rule R v w
+    after-none v w room same =
+        let none : 0 ≡ length v.items - length v.items = omega arith in
+        let paid = paid-none v.capacity (length v.items) v.cost room in
+        subst (λ z. IsAfterPushes rule R v z) (sym same) (record {
+          capacity = pushes-none v.capacity (length v.items) room;
+          cost = sym (moving-none v.cost) ∙ (λ i. add_moves (none i) (sym paid i));
+        })
+
+    -- Items are moved into the empty slots of the list `u`, which becomes `w`.
+    pub after-filled : (v u w : ListView T A) → IsAfterPushes rule R v u
+        → length v.items ≤ length u.items → length u.items ≤ length w.items
+        → length w.items ≤ w.capacity → w.capacity ≡ u.capacity
+        → w.cost ≡ add_moves (length w.items - length u.items) u.cost → IsAfterPushes rule R v w
+    after-filled v u w was low high room kept moved =
+        let all : (length u.items - length v.items) + (length w.items - length u.items)
+        ≡ length w.items - length v.items = omega arith in
+        let here = was.capacity ∙ ap Some (sym kept) in
+        let same = paid-kept v.capacity (length u.items) (length w.items) w.capacity v.cost here high
+        room in
+        record {
+          capacity = pushes-kept v.capacity (length u.items) (length w.items) w.capacity here high
+              room;
+          cost = moved
+              ∙ (ap (λ (k : Cost). add_moves (length w.items - length u.items) k) was.cost
+              ∙ (moving-more (length w.items - length u.items) (length u.items - length v.items) _
+              ∙ (λ i. add_moves (all i) (sym same i))));
+        }
+
+    -- An item is pushed onto the full list `w`, which becomes `z`.
+    pub after-pushed : (v w z : ListView T A) → IsAfterPushes rule R v w
+        → length w.items ≡ w.capacity → length v.items ≤ length w.items
+        → length z.items ≡ length w.items + 1 → w.capacity < z.capacity
+        → capacity_after_reserve rule R w 1 ≡ Some z.capacity
+        → z.cost ≡ add_moves 1 (cost_after_resize w z.capacity) → IsAfterPushes rule R v z
+    after-pushed v w z was full low long more grew moved =
+        let n = length w.items in let k = cost_after_pushes rule R v.capacity n v.cost in
+        let all : (n - length v.items) + 1 ≡ length z.items - length v.items = omega arith in
+        let next : suc n ≡ length z.items = omega arith in
+        let copies = paid-full v.capacity n v.cost (was.capacity ∙ ap Some (sym full)) in
+        let now : add_realloc n k ≡ cost_after_pushes rule R v.capacity (length z.items) v.cost =
+        sym copies ∙ ap (λ (q : ℕ). cost_after_pushes rule R v.capacity q v.cost) next in
+        record {
+          capacity = pushes-grew v.capacity n (length z.items) w.capacity z.capacity was.capacity
+              long grew;
+          cost = moved
+              ∙ (ap (λ (q : Cost). add_moves 1 q) (cost_after_resize-more w z.capacity more)
+              ∙ (ap (λ (q : Cost). add_moves 1 (add_realloc n q)) was.cost
+              ∙ (moving-more 1 (n - length v.items) (add_realloc n k)
+              ∙ (λ i. add_moves (all i) (now i)))));
+        }
+
   module _ {T A : Type 0} (v : ListView T A) where
-    pub reserved-none : length v.items ≤ v.capacity
-        → capacity_after_reserve rule R v 0 ≡ Some v.capacity
-    reserved-none room = ruled-same rule _ _ v.capacity (length v.items + 0) (omega (arith, room))
-
-    pub extended-by : (h c n d : ℕ) → capacity_after_reserve rule R v h ≡ Some c
-        → capacity_after_pushes rule R c n ≡ Some d → capacity_after_extend rule R v h n ≡ Some d
-    extended-by h c n d reserved pushed =
-        ap (option_and_then (λ (u : ℕ). capacity_after_pushes rule R u n)) reserved ∙ pushed
-
-    pub spliced-by : (h c n d : ℕ) → capacity_after_reserve rule R v h ≡ Some c
-        → grown c n ≡ Some d → capacity_after_splice rule R v h n ≡ Some d
-    spliced-by h c n d reserved grew =
-        ap (option_and_then (λ (u : ℕ). grown u n)) reserved ∙ grew
-
-    -- If nothing was reserved, and the items fit into the capacity, it is unchanged.
-    pub extended-none : (n d : ℕ) (left : Count) → length v.items ≤ v.capacity → n ≤ v.capacity
-        → d ≡ v.capacity
-        → (h : ℕ) × IsWithinCount h left × (capacity_after_extend rule R v h n ≡ Some d)
-    extended-none n d left room fit same = (
+    -- Nothing was reserved, and no item was added.
+    pub extended-none : (w : ListView T A) (left : Count) → length v.items ≤ v.capacity → w ≡ v
+        → (h : ℕ) × IsWithinCount h left × IsAfterExtend rule R v h w
+    extended-none w left room same = (
       0,
       (λ _. omega arith),
-      extended-by 0 v.capacity n d (reserved-none room)
-          (pushes-none v.capacity n fit ∙ ap Some (sym same)),
+      (
+        v.capacity,
+        ruled-same rule _ _ v.capacity (length v.items + 0) (omega (arith, room)),
+        after-none (record v { capacity = v.capacity; cost = cost_after_resize v v.capacity }) w
+            room (same ∙ (λ i. record v
+            { cost = sym (cost_after_resize-same v v.capacity refl) i })),
+      ),
     )
 
-    pub spliced-none : (n d : ℕ) (left : Count) → length v.items ≤ v.capacity → n ≤ v.capacity
-        → d ≡ v.capacity
-        → (h : ℕ) × IsWithinCount h left × (capacity_after_splice rule R v h n ≡ Some d)
-    spliced-none n d left room fit same = (
+    pub reserved-none : (k : ℕ) → length v.items + k ≤ v.capacity
+        → capacity_after_reserve rule R v k ≡ Some v.capacity
+    reserved-none k room = ruled-same rule _ _ v.capacity (length v.items + k) room
+
+    -- If the items fit into the slots of the range, the list does not grow.
+    pub spliced-none : (w : ListView T A) (k m : ℕ) (left : Count)
+        → length v.items + k ≤ v.capacity → length w.items ≤ v.capacity
+        → w.capacity ≡ v.capacity → w.cost ≡ add_moves m v.cost
+        → (h : ℕ) × ((h ≡ 0) ⊎ IsWithinCount (k + h) left) × IsAfterSplice rule R v k h w
+    spliced-none w k m left room fit same paid = (
       0,
-      (λ _. omega arith),
-      spliced-by 0 v.capacity n d (reserved-none room)
-          (ruled-same rule _ _ v.capacity n fit ∙ ap Some (sym same)),
+      inl refl,
+      (
+        v.capacity,
+        m,
+        reserved-none (k + 0) (omega (arith, room)),
+        ruled-same rule _ _ v.capacity (length w.items) fit ∙ ap Some (sym same),
+        paid
+            ∙ ap (add_moves m) (sym (growth-same (length v.items + k + 0) v.capacity w.capacity _ same
+            ∙ growth-same (length v.items + k) v.capacity v.capacity v.cost refl)),
+      ),
     )
 
 -- A call to `extend` is like a splice at the end of the list.
 pub extends-splices : {T A : Type 0} {rule : GrowthRule} {R : RattleType} {tail : List T}
-    {v w : ListView T A} {limit : Count} → tail ≡ [] → ExtendsCapacity rule R v w limit
-    → SplicesCapacity rule R tail v w limit
+    {k : ℕ} {v w : ListView T A} {limit : Count} → tail ≡ [] → ExtendsCapacity rule R v w limit
+    → SplicesCapacity rule R tail k v w limit
 extends-splices none grew = record {
   had_room = grew.had_room;
   at_end = λ _. grew.pushed;
@@ -104,11 +262,10 @@ extends-splices none grew = record {
 
 -- Items follow the range of the splice.
 pub splices-before : {T A : Type 0} {rule : GrowthRule} {R : RattleType} {tail : List T}
-    {v w : ListView T A} {limit : Count} → 0 < length tail
+    {k : ℕ} {v w : ListView T A} {limit : Count} → 0 < length tail
     → (HasRoomFor v (size limit) → w.capacity ≡ v.capacity)
-    → (h : ℕ) × IsWithinCount h limit
-    × (capacity_after_splice rule R v h (length w.items) ≡ Some w.capacity)
-    → SplicesCapacity rule R tail v w limit
+    → (h : ℕ) × ((h ≡ 0) ⊎ IsWithinCount (k + h) limit) × IsAfterSplice rule R v k h w
+    → SplicesCapacity rule R tail k v w limit
 splices-before some room grew = record {
   had_room = room;
   at_end = λ none. absurd (omega (arith, some, ap length none));
@@ -170,6 +327,141 @@ module _ (rule : GrowthRule) (R : RattleType) (law : IsLawful rule) where
   pub grown-le : (c n d : ℕ) → grown rule R c n ≡ Some d → c ≤ d
   grown-le c n d e = kept-le c d (grown-kept c n d e)
 
+  -- Pushes leave no fewer slots than items.
+  pushes-room : (c n d : ℕ) → capacity_after_pushes rule R c n ≡ Some d → n ≤ d
+  unfolding capacity_after_pushes
+  pushes-room c zero d e = omega arith
+  pushes-room c (suc n) d e =
+      option_and_then_some (λ (u : ℕ). grown rule R u (suc n)) (capacity_after_pushes rule R c n) d e
+      (λ u was grew. elim (cases_lt u (suc n)) [
+        | inl more ↦ (ruled-grows rule _ _ u (suc n) d law more grew).enough
+        | inr spare ↦
+            let same : d ≡ u = some-same (sym grew ∙ ruled-same rule _ _ u (suc n) spare) in
+            omega arith
+      ])
+
+  -- `PushCosts c n d k q` bounds the cost `q` after pushes up to the length `n`, which changed the
+  -- capacity from `c` to `d`. The cost before was `k`.
+  pub record PushCosts (c n d : ℕ) (k q : Cost) : Type 0 where
+    pub moves : q.moves ≡ k.moves
+    pub never_less : (c ≤ d) × (k.blocks ≤ q.blocks) × (k.grown ≤ q.grown)
+    pub kept : d ≡ c → (q.blocks ≡ k.blocks) × (q.grown ≡ k.grown)
+    pub on_growth : c < d → (k.blocks < q.blocks) × (k.grown + c ≤ q.grown)
+    pub copied : q.grown + c ≤ k.grown + d
+    pub requests : q.blocks ≤ k.blocks + (n - c)
+
+  -- The list with the length `n` and the capacity `n` grows to the capacity `d`.
+  costs-full : (c n d : ℕ) (k q : Cost) → n < d → 2 * n ≤ d → PushCosts c n n k q
+      → PushCosts c (suc n) d k (add_realloc n q)
+  costs-full c n d k q more doubled p =
+      let low = p.never_less in let paid = p.copied in let few = p.requests in
+      record {
+        moves = p.moves;
+        never_less = (omega arith, omega arith, omega arith);
+        kept = λ same. absurd (omega arith);
+        on_growth = λ _. (omega arith, omega arith);
+        copied = omega arith;
+        requests = omega arith;
+      }
+
+  costs-spare : (c n d : ℕ) (k q : Cost) → PushCosts c n d k q → PushCosts c (suc n) d k q
+  costs-spare c n d k q p = record {
+    moves = p.moves;
+    never_less = p.never_less;
+    kept = p.kept;
+    on_growth = p.on_growth;
+    copied = p.copied;
+    requests = omega (arith, p.requests);
+  }
+
+  pub pushes-costs : (c n d : ℕ) (k : Cost) → capacity_after_pushes rule R c n ≡ Some d
+      → PushCosts c n d k (cost_after_pushes rule R c n k)
+  unfolding capacity_after_pushes cost_after_pushes
+  pushes-costs c zero d k e =
+      let same : d ≡ c = sym (some-same e) in
+      record {
+        moves = refl;
+        never_less = (omega arith, omega arith, omega arith);
+        kept = λ _. (refl, refl);
+        on_growth = λ more. absurd (omega arith);
+        copied = omega arith;
+        requests = omega arith;
+      }
+  pushes-costs c (suc n) d k e =
+      option_and_then_some (λ (u : ℕ). grown rule R u (suc n)) (capacity_after_pushes rule R c n) d e
+      (λ u was grew. elim (cases_lt u (suc n)) [
+        | inl more ↦
+            let room = pushes-room c n u was in
+            let full : u ≡ n = omega arith in
+            let g = ruled-grows rule _ _ u (suc n) d law more grew in
+            let here = was ∙ ap Some full in
+            subst (PushCosts c (suc n) d k) (sym (paid-full rule R c n k here))
+            (costs-full c n d k (cost_after_pushes rule R c n k) (omega (arith, g.enough))
+            (omega (arith, g.doubled)) (pushes-costs c n n k here))
+        | inr spare ↦
+            let same : d ≡ u = some-same (sym grew ∙ ruled-same rule _ _ u (suc n) spare) in
+            let here = was ∙ ap Some (sym same) in
+            subst (PushCosts c (suc n) d k)
+            (sym (paid-spare rule R c n u k was (omega arith)))
+            (costs-spare c n d k (cost_after_pushes rule R c n k) (pushes-costs c n d k here))
+      ])
+
+  -- The bounds on the cost of `extend` follow from its exact cost.
+  pub extended-costs : {T A : Type 0} (v w : ListView T A) (h : ℕ) → length v.items ≤ v.capacity
+      → length v.items ≤ length w.items → IsAfterExtend rule R v h w → CostsExtending v w
+  extended-costs v w h room longer p =
+      let c = p.0 in let k = cost_after_resize v c in
+      let q = cost_after_pushes rule R c (length w.items) k in
+      let m = pushes-costs c (length w.items) w.capacity k p.2.capacity in
+      let grew = grown-le v.capacity (length v.items + h) c p.1 in
+      let once = cost_after_resize-blocks v c in
+      let still = cost_after_resize-moves v c in
+      let copied = cost_after_resize-copied rule R law v h c room p.1 in
+      let blocks : w.cost.blocks ≡ q.blocks = ap (λ x. x.blocks) p.2.cost in
+      let grown : w.cost.grown ≡ q.grown = ap (λ x. x.grown) p.2.cost in
+      let moves : w.cost.moves ≡ q.moves + (length w.items - length v.items) =
+      ap (λ x. x.moves) p.2.cost in
+      let low = m.never_less in let same = m.moves in
+      record {
+        inserting = record {
+          least = omega arith;
+          moves = omega arith;
+          kept = λ kept.
+              let none : c ≡ v.capacity = omega arith in
+              let paid = cost_after_resize-same v c none in
+              let all = m.kept (omega arith) in
+              (blocks ∙ (all.0 ∙ ap (λ x. x.blocks) paid), grown ∙ (all.1 ∙ ap (λ x. x.grown) paid));
+          on_growth = λ more. elim (cases_lt v.capacity c) [
+            | inl first ↦
+                let paid = cost_after_resize-more v c first in
+                let b = ap (λ x. x.blocks) paid in let g = ap (λ x. x.grown) paid in
+                (omega arith, omega arith)
+            | inr spare ↦
+                let paid = cost_after_resize-same v c (omega arith) in
+                let b = ap (λ x. x.blocks) paid in let g = ap (λ x. x.grown) paid in
+                let all = m.on_growth (omega arith) in
+                (omega arith, omega arith)
+          ];
+          copied = omega (arith, m.copied, copied);
+        };
+        requests = omega (arith, m.requests, once);
+      }
+
+  -- The bounds on the cost of `from_iter` follow from its exact cost, too.
+  pub collected-costs : {T A : Type 0} (w : ListView T A) (h : ℕ) → IsAfterCollect rule R h w
+      → (w.cost.moves ≡ length w.items) × (w.cost.blocks ≤ 1 + length w.items)
+  collected-costs w h p =
+      let m = pushes-costs h (length w.items) w.capacity (cost_of_new h) p.capacity in
+      let few = go (eqb h 0) in (
+        omega (arith, ap (λ x. x.moves) p.cost, m.moves, few.0),
+        omega (arith, ap (λ x. x.blocks) p.cost, m.requests, few.1),
+      )
+    where
+      go : (b : Bool) → ((if b then no_cost else add_realloc 0 no_cost).moves ≡ 0)
+          × ((if b then no_cost else add_realloc 0 no_cost).blocks ≤ 1)
+      go true = (refl, omega arith)
+      go false = (refl, omega arith)
+
   pub pushes-at_least : (c n d : ℕ) → capacity_after_pushes rule R c n ≡ Some d
       → IsKeptOrGrown rule R c d
   unfolding capacity_after_pushes
@@ -197,36 +489,116 @@ module _ (rule : GrowthRule) (R : RattleType) (law : IsLawful rule) where
       later c n d (inr p) = inr (p.0, p.1, p.2, omega (arith, p.3), p.4)
 
   module _ {T A : Type 0} (v : ListView T A) (h n d : ℕ) where
-    pub extended-at_least : capacity_after_extend rule R v h n ≡ Some d
-        → IsKeptOrGrown rule R v.capacity d
-    extended-at_least e =
-        option_and_then_some (λ (u : ℕ). capacity_after_pushes rule R u n)
-        (capacity_after_reserve rule R v h) d e
-        (λ u reserved pushed. kept-join v.capacity u d
-        (grown-kept v.capacity (length v.items + h) u reserved) (pushes-at_least u n d pushed))
+    pub extended-at_least : (w : ListView T A) → IsAfterExtend rule R v h w
+        → IsKeptOrGrown rule R v.capacity w.capacity
+    extended-at_least w p =
+        kept-join v.capacity p.0 w.capacity (grown-kept v.capacity (length v.items + h) p.0 p.1)
+        (pushes-at_least p.0 (length w.items) w.capacity p.2.capacity)
 
-    pub extended-ruled : capacity_after_extend rule R v h n ≡ Some d
-        → IsChosenByRule rule R d n ⊎ (capacity_after_reserve rule R v h ≡ Some d)
-    extended-ruled e =
-        option_and_then_some (λ (u : ℕ). capacity_after_pushes rule R u n)
-        (capacity_after_reserve rule R v h) d e
-        (λ u reserved pushed. elim (pushes-ruled u n d pushed) [
-          | inl same ↦ inr (reserved ∙ ap Some (sym same))
-          | inr chosen ↦ inl chosen
-        ])
+    pub extended-ruled : (w : ListView T A) → IsAfterExtend rule R v h w
+        → IsChosenByRule rule R w.capacity (length w.items)
+        ⊎ (capacity_after_reserve rule R v h ≡ Some w.capacity)
+    extended-ruled w p = elim (pushes-ruled p.0 (length w.items) w.capacity p.2.capacity) [
+      | inl same ↦ inr (p.1 ∙ ap Some (sym same))
+      | inr chosen ↦ inl chosen
+    ]
 
-    pub spliced-at_least : capacity_after_splice rule R v h n ≡ Some d
-        → IsKeptOrGrown rule R v.capacity d
-    spliced-at_least e =
-        option_and_then_some (λ (u : ℕ). grown rule R u n) (capacity_after_reserve rule R v h) d e
-        (λ u reserved grew. kept-join v.capacity u d
-        (grown-kept v.capacity (length v.items + h) u reserved) (grown-kept u n d grew))
+    pub spliced-at_least : (k : ℕ) (w : ListView T A) → IsAfterSplice rule R v k h w
+        → IsKeptOrGrown rule R v.capacity w.capacity
+    spliced-at_least k w p =
+        kept-join v.capacity p.0 w.capacity
+        (grown-kept v.capacity (length v.items + (k + h)) p.0 p.2)
+        (grown-kept p.0 (length w.items) w.capacity p.3)
 
-    pub spliced-ruled : capacity_after_splice rule R v h n ≡ Some d
-        → IsChosenByRule rule R d n ⊎ (capacity_after_reserve rule R v h ≡ Some d)
-    spliced-ruled e =
-        option_and_then_some (λ (u : ℕ). grown rule R u n) (capacity_after_reserve rule R v h) d e
-        (λ u reserved grew. elim (cases_lt u n) [
-          | inl more ↦ inl (u, n, more, (let all : n ≤ n = omega arith in all), grew)
-          | inr spare ↦ inr (reserved ∙ (sym (ruled-same rule _ _ u n spare) ∙ grew))
-        ])
+    pub spliced-ruled : (k : ℕ) (w : ListView T A) (left : Count) → length v.items + k ≤ v.capacity
+        → (h ≡ 0) ⊎ IsWithinCount (k + h) left → IsAfterSplice rule R v k h w
+        → IsChosenByRule rule R w.capacity (length w.items) ⊎ ((q : ℕ) × IsWithinCount q left
+        × (capacity_after_reserve rule R v q ≡ Some w.capacity))
+    spliced-ruled k w left room hint p =
+        elim (cases_lt p.0 (length w.items)) [
+          | inl more ↦
+              inl (
+                p.0,
+                length w.items,
+                more,
+                (let all : length w.items ≤ length w.items = omega arith in all),
+                p.3,
+              )
+          | inr spare ↦
+              let same : w.capacity ≡ p.0 =
+              some-same (sym p.3 ∙ ruled-same rule _ _ p.0 (length w.items) spare) in
+              inr (elim hint [
+                | inl none ↦
+                    let kept : p.0 ≡ v.capacity =
+                    cap-kept rule R law v (k + h) p.0 (omega (arith, room, none)) p.2 in (
+                      0,
+                      (λ _. omega arith),
+                      reserved-none rule R v 0 (omega (arith, room))
+                          ∙ ap Some (sym (same ∙ kept)),
+                    )
+                | inr within ↦ (k + h, within, p.2 ∙ ap Some (sym same))
+              ])
+        ]
+
+-- Under `Doubling`, a full list that gets at most as many items as it has doubles its capacity, by
+-- one request. The iterator could yield no more than these.
+module _ (R : RattleType) {T A : Type 0} (v w : ListView T A) (h : ℕ) where
+  pub doubled_once : 0 < v.capacity → length v.items ≡ v.capacity → v.capacity < length w.items
+      → length w.items ≤ 2 * v.capacity → h ≤ v.capacity → IsAfterExtend doubling R v h w
+      → (w.capacity ≡ 2 * v.capacity) × (w.cost.blocks ≡ v.cost.blocks + 1)
+      × (w.cost.grown ≡ v.cost.grown + v.capacity)
+  doubled_once some full more few hint p =
+      let c = p.0 in let n = length w.items in let k = cost_after_resize v c in
+      let blocks = ap (λ x. x.blocks) p.2.cost in let copies = ap (λ x. x.grown) p.2.cost in
+      elim (cases_lt 0 h) [
+        | inl hinted ↦
+            let twice = doubling-twice _ _ v.capacity (length v.items + h) c some (omega arith)
+            (omega arith) p.1 in
+            let room : n ≤ c = omega arith in
+            let same : w.capacity ≡ c =
+            some-same (sym p.2.capacity ∙ pushes-none doubling R c n room) in
+            let paid = paid-none doubling R c n k room
+            ∙ cost_after_resize-more v c (omega arith) in (
+              omega arith,
+              omega (arith, blocks, ap (λ x. x.blocks) paid),
+              omega (arith, copies, ap (λ x. x.grown) paid),
+            )
+        | inr none ↦
+            let kept : c ≡ v.capacity =
+            cap-kept doubling R doubling_law v h c (omega arith) p.1 in
+            let all : c ≤ c = omega arith in
+            let first = pushes-before doubling R c (suc c) n w.capacity p.2.capacity
+            (let less : suc c ≤ n = omega arith in less) in
+            let twice = doubling-twice _ _ c (suc c) first.0 (omega arith) (omega arith)
+            (omega arith) (pushes-first doubling R c first.0 first.1) in
+            let low : suc c ≤ n = omega arith in let high : n ≤ first.0 = omega arith in
+            let same : w.capacity ≡ first.0 =
+            some-same (sym p.2.capacity
+            ∙ pushes-kept doubling R c (suc c) n first.0 first.1 low high) in
+            let paid = paid-kept doubling R c (suc c) n first.0 k first.1 low high
+            ∙ (paid-full doubling R c c k (pushes-none doubling R c c all)
+            ∙ ap (add_realloc c) (paid-none doubling R c c k all
+            ∙ cost_after_resize-same v c kept)) in (
+              omega arith,
+              omega (arith, blocks, ap (λ x. x.blocks) paid),
+              omega (arith, copies, ap (λ x. x.grown) paid),
+            )
+      ]
+
+-- The capacity after `from_iter` is one that the growth rule chose, or the one in the size hint.
+pub collected-ruled : {T A : Type 0} (rule : GrowthRule) (R : RattleType) (w : ListView T A) (h : ℕ)
+    → IsLawful rule → IsBounded R w → IsAfterCollect rule R h w
+    → IsChosenByRule rule R w.capacity (length w.items)
+    ⊎ (exact_capacity (type_size R) (type_align R) 0 h ≡ Some w.capacity)
+collected-ruled rule R w h law bounds p =
+    elim (pushes-ruled rule R law h (length w.items) w.capacity p.capacity) [
+      | inl same ↦ inr (elim (cases_lt 0 h) [
+        | inl some ↦
+            exact-fits R 0 h some (subst (Fits R) same
+            (fits_allocatable R w.capacity bounds.allocatable))
+            ∙ ap Some (sym same)
+        | inr none ↦
+            exact-same _ _ 0 h none ∙ ap Some (let zero : 0 ≡ w.capacity = omega arith in zero)
+      ])
+      | inr chosen ↦ inl chosen
+    ]

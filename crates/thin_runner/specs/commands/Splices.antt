@@ -29,7 +29,7 @@ module _ {T A : Type 0} (rule : GrowthRule) (R : RattleType) (old : ListView T A
   -- Each placed item counts as one move, and each item after the range as at most two.
   pub record Replaces (placed : List T) (most : ℕ) (new : ListView T A) : Type 0 where
     pub items : new.items ≡ (take a old.items ++ placed) ++ drop b old.items
-    pub capacity : SplicesCapacity rule R (drop b old.items) (without_range old a b) new
+    pub capacity : SplicesCapacity rule R (drop b old.items) (b - a) (without_range old a b) new
         (at_most most)
     pub cost : CostsInserting (2 * (length old.items - b)) (without_range old a b) new
     pub keeps : PreservesList R (without_range old a b) new

@@ -5,7 +5,7 @@ use Rattle.std.proofs.lemmas.List.{length-drop, length-take-le}
 use Rattle.std.specs.Align.{type_align}
 use Rattle.std.specs.Mem.{type_size}
 use Rattle.std.specs.Borrow.{RattleType}
-use Rattle.std.specs.Prelude.{IfErr, IsOk, OnErr, OnOk}
+use Rattle.std.specs.Prelude.{◌⊎◌, IfErr, IsOk, OnErr, OnOk}
 use Rattle.std.specs.declared.result.Result.{Result}
 use Rattle.std.specs.declared.result.Result.TheVariants.{Ok, Err}
 use Rattle.std.specs.Iterator.{Count, Drains, IsFinite, Yields, size}
@@ -14,13 +14,13 @@ use Rattle.thin_block.specs.Cost.{add_moves}
 use Rattle.thin_block.specs.Growth.{IsLawful, GrowthRule, grown_capacity}
 use Rattle.thin_vec.specs.Put.{YieldsThenMayEnd, IsFilledBy}
 use Rattle.thin_vec.specs.declared.put.Filled.{Filled}
-use Rattle.thin_vec.specs.Edits.Splice.{IsSpliceCause, SpliceErrorAccountsFor, SplicesCapacity, capacity_after_splice}
+use Rattle.thin_vec.specs.Edits.Splice.{IsSpliceCause, SpliceErrorAccountsFor, SplicesCapacity, IsAfterSplice}
 use Rattle.thin_vec.specs.Edits.Finish.{AddsFromIter, FinishesSplice, without_middle, with_replacement}
 use Rattle.thin_vec.specs.OpenView.{OpenView, cost_closed, items_of}
 use Rattle.thin_vec.specs.ThinVec.{ListView, capacity_after_reserve}
 use Rattle.thin_vec.specs.declared.errors.SpliceRefused.{SpliceRefused}
 use Rattle.thin_vec.proofs.list.ExtendLemmas.{yields-join}
-use Rattle.thin_vec.proofs.PushesLemmas.{spliced-by, splices-before}
+use Rattle.thin_vec.proofs.PushesLemmas.{splices-before}
 use Rattle.thin_vec.proofs.PutLemmas.{filled-fits}
 use Rattle.thin_vec.proofs.edits.SpliceLemmas.{between-length, between-more, closed-moves, drains-more, run-moves, stopped-more, taken-join, taken-spare}
 
@@ -171,23 +171,21 @@ module _ {S T A : Type 0} {steps : S → Option T → S → Type 0} {can : S →
         (λ fit same. omega (arith, fit, same, ap length p.items, long, left, p.nearer))
         before now
 
-    -- Reserving room for `h` items now is like reserving it for `length xs + h` items at the start.
-    pub reached-spliced : (rule : GrowthRule) (R : RattleType) (a : A) (h c d n : ℕ)
-        → u.capacity ≡ v.capacity → IsWithinCount h (remaining t)
+    -- Reserving room for `h` items now is like reserving it for `v.gap_before + h` items at the
+    -- start.
+    pub reached-reserved : (rule : GrowthRule) (R : RattleType) (a : A) (h c : ℕ)
+        → u.capacity ≡ v.capacity → length xs ≡ v.gap_before → IsWithinCount h (remaining t)
         → capacity_after_reserve rule R u h ≡ Some c
-        → grown_capacity rule (type_size R) (type_align R) c n ≡ Some d
-        → (k : ℕ) × IsWithinCount k (remaining s)
-        × (capacity_after_splice rule R (without_middle v a) k n ≡ Some d)
-    reached-spliced rule R a h c d n same hint reserved grew =
+        → IsWithinCount (v.gap_before + h) (remaining s)
+        × (capacity_after_reserve rule R (without_middle v a) (v.gap_before + h) ≡ Some c)
+    reached-reserved rule R a h c same all hint reserved =
         let within : h ≤ size (remaining t) = hint p.finite in
-        let want : length v.front + length v.tail + (length xs + h) ≡ length u.items + h =
-        omega (arith, ap length p.items, between-length v xs) in (
-          length xs + h,
-          (λ _. omega (arith, p.nearer, within)),
-          spliced-by rule R (without_middle v a) (length xs + h) c n d
-              ((λ i. grown_capacity rule (type_size R) (type_align R) (sym same i)
-              ((ap (λ n. n + (length xs + h)) (length-append v.front v.tail) ∙ want) i)) ∙ reserved)
-              grew,
+        let want : length v.front + length v.tail + (v.gap_before + h) ≡ length u.items + h =
+        omega (arith, all, ap length p.items, between-length v xs) in (
+          (λ _. omega (arith, all, p.nearer, within)),
+          (λ i. grown_capacity rule (type_size R) (type_align R) (sym same i)
+              ((ap (λ n. n + (v.gap_before + h)) (length-append v.front v.tail) ∙ want) i))
+              ∙ reserved,
         )
 
     pub reached-more : {w : ListView T A} {room : ℕ} {f : Filled S}
@@ -214,7 +212,7 @@ module _ {S T A : Type 0} {steps : S → Option T → S → Type 0} {can : S →
     pub finished-ok : (x : Unit {0})
         → (xs : List T) × Drains steps s xs × (w.items ≡ with_replacement v xs)
         → AddsFromIter rule R (without_middle v a) w (2 * length v.tail) (remaining s)
-        → SplicesCapacity rule R v.tail (without_middle v a) w (remaining s)
+        → SplicesCapacity rule R v.tail v.gap_before (without_middle v a) w (remaining s)
         → (0 < length v.tail → w.cost.blocks ≤ v.cost.blocks + 2)
         → (v.tail ≡ [] → w.cost.blocks
         ≤ v.cost.blocks + 1 + (length w.items - length (v.front ++ v.tail)))
@@ -244,8 +242,8 @@ module _ {S T A : Type 0} {steps : S → Option T → S → Type 0} {can : S →
         → IfErr r (λ error. IsSpliceCause rule R w v.tail (remaining error.rest) error)
         → OnErr r (w ≡ u)
         → AddsFromIter rule R (without_middle v a) w (2 * length v.tail) (remaining s)
-        → (h : ℕ) × IsWithinCount h (remaining s)
-        × (capacity_after_splice rule R (without_middle v a) h (length w.items) ≡ Some w.capacity)
+        → (h : ℕ) × ((h ≡ 0) ⊎ IsWithinCount (v.gap_before + h) (remaining s))
+        × IsAfterSplice rule R (without_middle v a) v.gap_before h w
         → (0 < length v.tail → w.cost.blocks ≤ v.cost.blocks + 2)
         → FinishesSplice steps can remaining rule R v a s w r
     finished-from {t} {u} {xs} {end} (Ok x) p some ends items placed cause err taken grew blocks =

@@ -87,6 +87,16 @@ full-in-hand P Q (Ok _) some at_capacity = tt
 full-in-hand P Q (Err error) some at_capacity =
     match-some P (Q error) error.in_hand some at_capacity
 
+-- A call that appends items makes the list no shorter, whether it succeeds or fails.
+pub placed-longer : {T E : Type 0} (old new : List T) (r : Result (Unit {0}) E)
+    (P : List T → Type 0) (Q : E → List T → Type 0)
+    → OnOk r ((xs : List T) × P xs × (new ≡ old ++ xs))
+    → IfErr r (λ e. (xs : List T) × (new ≡ old ++ xs) × Q e xs) → length old ≤ length new
+placed-longer old new (Ok _) P Q all _ =
+    omega (arith, ap length all.2, length-append old all.0)
+placed-longer old new (Err e) P Q _ all =
+    omega (arith, ap length all.1, length-append old all.0)
+
 module _ {T : Type 0} where
   module _ (s s' r : List (Option T)) where
     pub written-more : (i k : ℕ) (xs : List T) (x : T) → s ≡ write_slots i (filled_slots xs) r

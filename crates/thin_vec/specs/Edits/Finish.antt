@@ -52,7 +52,8 @@ module _ {S T A : Type 0} (steps : S → Option T → S → Type 0) (can : S →
         → IsOk result
     pub items : OnOk result ((xs : List T) × Drains steps s xs × (w.items ≡ with_replacement v xs))
     pub taken : AddsFromIter rule R (without_middle v a) w (2 * length v.tail) (remaining s)
-    pub capacity : SplicesCapacity rule R v.tail (without_middle v a) w (remaining s)
+    pub capacity : SplicesCapacity rule R v.tail v.gap_before (without_middle v a) w
+        (remaining s)
     pub blocks : 0 < length v.tail → w.cost.blocks ≤ v.cost.blocks + 2
     pub requests : v.tail ≡ [] → w.cost.blocks
         ≤ v.cost.blocks + 1 + (length w.items - length (v.front ++ v.tail))

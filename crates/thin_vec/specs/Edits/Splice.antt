@@ -1,6 +1,6 @@
 -- These definitions name the parts of a `Splice`, and describe the list and the error after a call
 -- to `finish`. (std: `Vec::splice`)
-use Rattle.std.specs.Prelude.{◌≡◌, ◌⊎◌, ◌+◌, ◌<◌, ◌≤◌, [], ◌++◌, IsSome, List, Option, length, option_and_then, vec_capacity, ℕ}
+use Rattle.std.specs.Prelude.{◌≡◌, ◌⊎◌, ◌+◌, ◌<◌, ◌≤◌, [], ◌++◌, IsSome, List, Option, if◌then◌else◌, ◌==◌, length, vec_capacity, ℕ}
 use Rattle.std.specs.Iterator.{Count, YieldsFirst, YieldsLast, YieldsThen, size}
 use Rattle.std.specs.Iterator.SizeHint.{IsWithinCount}
 use Rattle.std.specs.Option.{option_to_list}
@@ -9,10 +9,11 @@ use Rattle.std.specs.Align.{type_align}
 use Rattle.std.specs.Borrow.{GName, RattleType}
 use Rattle.std.specs.Mem.{type_size}
 use Rattle.thin_block.specs.declared.errors.ThinVecError.TheVariants.{OutOfMemory}
+use Rattle.thin_block.specs.Cost.{Cost, add_moves, add_realloc}
 use Rattle.thin_block.specs.Growth.{GrowthRule, grown_capacity}
 use Rattle.thin_block.specs.declared.growth.Growth.{Ghosts}
 use Rattle.thin_vec.specs.List.Capacity.{LacksRoom}
-use Rattle.thin_vec.specs.List.Extend.{YieldsAndCanContinue, capacity_after_extend}
+use Rattle.thin_vec.specs.List.Extend.{IsAfterExtend, YieldsAndCanContinue}
 use Rattle.thin_vec.specs.OpenView.{OpenView}
 use Rattle.thin_vec.specs.ThinVec.{HasRoomFor, ListView, capacity_after_reserve}
 use Rattle.thin_vec.specs.declared.errors.SpliceRefused.{SpliceRefused}
@@ -37,29 +38,37 @@ module _ {S T A : Type 0} (steps : S → Option T → S → Type 0) where
       ⊎ ((error.in_hand ≡ None) × (0 < length error.held.items)
       × YieldsThen steps s (placed ++ error.held.items) None error.rest)
 
-module _ {T A : Type 0} where
-  -- `capacity_after_splice rule R v h n` is the capacity of the list `v` after `reserve(h)`, and
-  -- then a second growth, if it is needed, to make room for `n` items in total.
-  abbrev pub capacity_after_splice : GrowthRule → RattleType → ListView T A → ℕ → ℕ → Option ℕ
-  capacity_after_splice rule R v h n =
-      option_and_then (λ c. grown_capacity rule (type_size R) (type_align R) c n)
-      (capacity_after_reserve rule R v h)
+-- `cost_after_growth n c d cost` is the recorded cost of a list of `n` items after its capacity
+-- changed from `c` to `d`, if it was `cost` before.
+abbrev pub cost_after_growth : ℕ → ℕ → ℕ → Cost → Cost
+cost_after_growth n c d cost = if d == c then cost else add_realloc n cost
 
-  -- `SplicesCapacity rule R tail v w limit` says which capacity the list `w` has, which is the list
-  -- `v` after `finish` inserted items of an iterator before the items `tail`. The growth rule is
-  -- `rule`, the item type is `R`, and the iterator could yield at most `limit` items.
-  pub record SplicesCapacity (rule : GrowthRule) (R : RattleType) (tail : List T)
+module _ {T A : Type 0} where
+  -- `IsAfterSplice rule R v k h w` holds if the list `w` has the capacity of the list `v` after up
+  -- to two growths, and its cost, apart from moves. The first growth begins with `k` items more
+  -- than `v` has, those in the slots of the range, and makes room for `h` more. The second one
+  -- begins with these, too, and makes room for all items of `w`.
+  abbrev pub IsAfterSplice : GrowthRule → RattleType → ListView T A → ℕ → ℕ → ListView T A → Type 0
+  IsAfterSplice rule R v k h w =
+      (c m : ℕ) × (capacity_after_reserve rule R v (k + h) ≡ Some c)
+      × (grown_capacity rule (type_size R) (type_align R) c (length w.items) ≡ Some w.capacity)
+      × (w.cost ≡ add_moves m (cost_after_growth (length v.items + k + h) c w.capacity
+      (cost_after_growth (length v.items + k) v.capacity c v.cost)))
+
+  -- `SplicesCapacity rule R tail k v w limit` says which capacity the list `w` has, and which cost
+  -- apart from moves. It is the list `v` after `finish` inserted items of an iterator before the
+  -- items `tail`. The range has `k` slots, the growth rule is `rule`, the item type is `R`, and the
+  -- iterator could yield at most `limit` items.
+  pub record SplicesCapacity (rule : GrowthRule) (R : RattleType) (tail : List T) (k : ℕ)
       (v w : ListView T A) (limit : Count) : Type 0 where
     -- If `v` has room for all items that the iterator could yield, the capacity is unchanged.
     pub had_room : HasRoomFor v (size limit) → w.capacity ≡ v.capacity
-    -- If no item follows the range, the capacity is as after `extend`.
-    pub at_end : tail ≡ [] → (h : ℕ) × IsWithinCount h limit
-        × (capacity_after_extend rule R v h (length w.items) ≡ Some w.capacity)
-    -- The number `h` stands for the slots of the range, plus the lower bound in the size hint for
-    -- the items that did not fit there. If nothing was reserved, it is 0. The second growth makes
-    -- room for the items that exceeded this bound.
-    pub before_tail : 0 < length tail → (h : ℕ) × IsWithinCount h limit
-        × (capacity_after_splice rule R v h (length w.items) ≡ Some w.capacity)
+    -- If no item follows the range, the capacity and the cost are as after `extend`.
+    pub at_end : tail ≡ [] → (h : ℕ) × IsWithinCount h limit × IsAfterExtend rule R v h w
+    -- The number `h` stands for the lower bound in the size hint for the items that did not fit
+    -- into the range. If nothing was reserved, it is 0.
+    pub before_tail : 0 < length tail → (h : ℕ) × ((h ≡ 0) ⊎ IsWithinCount (k + h) limit)
+        × IsAfterSplice rule R v k h w
 
   -- `IsSpliceCause rule R w tail limit error` states why a call to `finish` failed with `error`.
   -- The growth rule is `rule`, the item type is `R`, the list after the call is `w`, and the items

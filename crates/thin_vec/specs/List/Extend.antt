@@ -3,7 +3,8 @@
 -- call, and `R` is the type of the items. The number `limit` is an upper bound on the number of
 -- items that the iterator may still yield. `IsWithinCount h limit` is std's: `h` is at most
 -- `limit`, if `limit` is finite.
-use Rattle.std.specs.Prelude.{◌≡◌, ◌↔◌, ℕ, zero, suc, ◌+◌, ◌-◌, ◌<◌, ◌≤◌, IsSome, List, ◌++◌, Option, length, option_and_then}
+use Rattle.std.specs.Prelude.{◌≡◌, ◌↔◌, ℕ, zero, suc, ◌+◌, ◌-◌, ◌<◌, ◌≤◌, IsSome, List, [], ◌++◌, Option, false, if◌then◌else◌, ◌==◌, length, option_and_then}
+use Rattle.std.specs.Option.{option_map_or}
 use Rattle.std.specs.Iterator.{Count, IsFinite, Yields, size}
 use Rattle.std.specs.Iterator.SizeHint.{IsWithinCount}
 use Rattle.std.specs.declared.option.Option.TheVariants.{None, Some}
@@ -11,10 +12,11 @@ use Rattle.std.specs.Align.{type_align}
 use Rattle.std.specs.Borrow.{RattleType}
 use Rattle.std.specs.Mem.{type_size}
 use Rattle.thin_block.specs.declared.errors.ThinVecError.TheVariants.{CapacityOverflow}
-use Rattle.thin_block.specs.Growth.{GrowthRule, exact_capacity, grown_capacity}
+use Rattle.thin_block.specs.Cost.{Cost, add_moves, add_realloc}
+use Rattle.thin_block.specs.Growth.{GrowthRule, doubling, exact_capacity, grown_capacity}
 use Rattle.thin_vec.specs.Cheap.{IsCheap}
 use Rattle.thin_vec.specs.List.Capacity.{IsFreshList, LacksRoom}
-use Rattle.thin_vec.specs.ThinVec.{HasRoomFor, IsBounded, ListView, capacity_after_reserve}
+use Rattle.thin_vec.specs.ThinVec.{HasRoomFor, IsBounded, ListView, capacity_after_reserve, cost_after_resize, cost_of_new}
 use Rattle.thin_vec.specs.declared.errors.CollectRefused.{CollectRefused}
 use Rattle.thin_vec.specs.declared.errors.ExtendRefused.{ExtendRefused}
 
@@ -40,12 +42,37 @@ capacity_after_pushes rule R c (suc n) =
     option_and_then (λ d. grown_capacity rule (type_size R) (type_align R) d (suc n))
     (capacity_after_pushes rule R c n)
 
+-- `cost_after_pushes rule R c n cost` is the recorded cost of this list, if it was `cost` before
+-- the pushes, without the moves of the pushed items. A push onto a full list makes one request for
+-- memory, which copies all items.
+unfoldable pub cost_after_pushes : GrowthRule → RattleType → ℕ → ℕ → Cost → Cost
+cost_after_pushes rule R c zero cost = cost
+cost_after_pushes rule R c (suc n) cost =
+    if option_map_or (λ d. d == n) (capacity_after_pushes rule R c n) false
+    then add_realloc n (cost_after_pushes rule R c n cost)
+    else cost_after_pushes rule R c n cost
+
 module _ {T A : Type 0} where
-  -- `capacity_after_extend rule R v h n` is the capacity of the list `v` after `reserve(h)`, and
-  -- then pushes until its length is `n`.
-  abbrev pub capacity_after_extend : GrowthRule → RattleType → ListView T A → ℕ → ℕ → Option ℕ
-  capacity_after_extend rule R v h n =
-      option_and_then (λ c. capacity_after_pushes rule R c n) (capacity_after_reserve rule R v h)
+  -- `IsAfterPushes rule R v w` holds if the list `w` has the capacity and the cost of the list `v`
+  -- after items were pushed one by one until it had as many items as `w`. The growth rule is
+  -- `rule`, and the item type is `R`.
+  pub record IsAfterPushes (rule : GrowthRule) (R : RattleType) (v w : ListView T A) : Type 0 where
+    pub capacity : capacity_after_pushes rule R v.capacity (length w.items) ≡ Some w.capacity
+    pub cost : w.cost ≡ add_moves (length w.items - length v.items)
+        (cost_after_pushes rule R v.capacity (length w.items) v.cost)
+
+  -- `IsAfterExtend rule R v h w` holds if the list `w` has the capacity and the cost of the list
+  -- `v` after `reserve(h)`, which changed the capacity to `c`, and then pushes.
+  abbrev pub IsAfterExtend : GrowthRule → RattleType → ListView T A → ℕ → ListView T A → Type 0
+  IsAfterExtend rule R v h w =
+      (c : ℕ) × (capacity_after_reserve rule R v h ≡ Some c)
+      × IsAfterPushes rule R (record v { capacity = c; cost = cost_after_resize v c }) w
+
+  -- `IsAfterCollect rule R h w` holds if the list `w` has the capacity and the cost of a new list
+  -- that was made with the capacity `h`, after pushes.
+  abbrev pub IsAfterCollect : GrowthRule → RattleType → ℕ → ListView T A → Type 0
+  IsAfterCollect rule R h w =
+      IsAfterPushes rule R (record w { items = []; capacity = h; cost = cost_of_new h }) w
 
   -- `ExtendsCapacity rule R v w limit` says which capacity the list `w` has, which is the list `v`
   -- after `extend`. The growth rule is `rule`, the item type is `R`, and the iterator could yield
@@ -56,8 +83,7 @@ module _ {T A : Type 0} where
     -- particular, it is unchanged if the iterator cannot yield any item.
     pub had_room : HasRoomFor v (size limit) → w.capacity ≡ v.capacity
     -- The number `h` stands for the lower bound in the size hint. If nothing was reserved, it is 0.
-    pub pushed : (h : ℕ) × IsWithinCount h limit
-        × (capacity_after_extend rule R v h (length w.items) ≡ Some w.capacity)
+    pub pushed : (h : ℕ) × IsWithinCount h limit × IsAfterExtend rule R v h w
 
   -- `CostsInserting n v w` bounds the recorded cost of a call that added items to a list, and
   -- changed the list from `v` to `w`. Each added item costs one move, and moving the items that
@@ -92,10 +118,10 @@ module _ {T A : Type 0} where
       : Type 0 where
     -- In this case, nothing was allocated.
     pub none : size limit ≡ 0 → w.capacity ≡ 0
-    -- The list was made with the capacity `h`, which stands for the lower bound in the size hint,
-    -- and then the items were pushed. If nothing was allocated before the pushes, `h` is 0.
-    pub pushed : (h : ℕ) × IsWithinCount h limit
-        × (capacity_after_pushes rule R h (length w.items) ≡ Some w.capacity)
+    -- The number `h` stands for the lower bound in the size hint. If nothing was allocated before
+    -- the pushes, it is 0.
+    pub pushed : (h : ℕ) × IsWithinCount h limit × IsAfterCollect rule R h w
+    -- This follows from `pushed`, and so does `requests`.
     pub moves : w.cost.moves ≡ length w.items
     -- There was at most one request for memory, and one more for each item.
     pub requests : w.cost.blocks ≤ 1 + length w.items
@@ -108,16 +134,16 @@ module _ {T A : Type 0} where
   ExtendsList rule R v xs w =
       (w.items ≡ v.items ++ xs) × (length w.items ≡ length v.items + length xs)
       × (v.capacity ≤ w.capacity)
-      × ((h : ℕ) × (capacity_after_extend rule R v h (length w.items) ≡ Some w.capacity))
+      × ((h : ℕ) × IsAfterExtend rule R v h w)
       × CostsInserting 0 v w
       × (w.alloc ≡ v.alloc) × (IsCheap v → IsCheap w) × IsBounded R w
 
   -- `IsCollectedFrom R xs v` states what std's `FromIterator` guarantees about a list `v` that was
-  -- made from the items `xs`. `R` is the type of the items.
+  -- made from the items `xs`. `R` is the type of the items, and the growth rule is `doubling`.
   abbrev pub IsCollectedFrom : RattleType → List T → ListView T A → Type 0
   IsCollectedFrom R xs v =
       (v.items ≡ xs) × (length v.items ≡ length xs) × (v.cost.moves ≡ length xs) × IsCheap v
-      × IsBounded R v
+      × IsBounded R v × ((h : ℕ) × IsAfterCollect doubling R h v)
 
   -- `IsExtendCause rule R w limit error` states why a call to `extend` failed with `error`. The
   -- growth rule is `rule`, the item type is `R`, and the list after the call is `w`. The rest of

@@ -7,13 +7,14 @@ ghost use Rattle.std.specs.Option.{option_len, option_to_list};
 ghost use Rattle.thin_vec.specs.List.Capacity.{LacksRoom};
 ghost use Rattle.std.specs.Align.{type_align};
 ghost use Rattle.std.specs.Mem.{type_size};
+ghost use Rattle.thin_block.specs.Cost.{add_moves};
 ghost use Rattle.thin_block.specs.Growth.{grown_capacity};
 ghost use Rattle.thin_block.specs.Block.{IsAllocatedBy};
 ghost use Rattle.thin_vec.specs.OpenView.{tail_end};
 ghost use Rattle.thin_vec.specs.Edits.Splice.{IsSpliceCause, SpliceErrorAccountsFor};
 ghost use Rattle.thin_vec.specs.Edits.Finish.{AddsFromIter, FinishesSplice};
 ghost use Rattle.thin_vec.specs.Put.{IsFilledBy};
-ghost use Rattle.thin_vec.specs.ThinVec.{capacity_after_reserve};
+ghost use Rattle.thin_vec.specs.ThinVec.{capacity_after_reserve, cost_after_resize};
 
 use crate::errors::{ExtendRefused, Rejected, SpliceRefused};
 use crate::list::ThinVec;
@@ -38,11 +39,13 @@ impl<T: Drop, A: Allocator, G: Growth> ThinVec<T, A, G> {
 
         // On success.
         ensures filled_by { IfOk result (λ filled. (hint : ℕ)
+            × IsWithinCount hint (I.remaining iter)
+            × (capacity_after_reserve G.rule T.row self.old hint ≡ Some self.new.capacity)
             × (by : IsFilledBy I.next_gives I.can_next I.remaining hint iter filled)
             × (self.new.items ≡ (take at self.old.items ++ by.items) ++ drop at self.old.items)
             × (filled.end ≡ at + length by.items)) }
-        ensures capacity { OnOk result ((hint : ℕ) × IsWithinCount hint (I.remaining iter)
-            × (capacity_after_reserve G.rule T.row self.old hint ≡ Some self.new.capacity)) }
+        ensures paid { OnOk result ((m : ℕ) × (self.new.cost
+            ≡ add_moves m (cost_after_resize self.old self.new.capacity))) }
 
         // When it must succeed.
         ensures succeeds { size (I.remaining iter) ≡ 0 → IsOk result }
@@ -105,6 +108,8 @@ impl<T: Drop, A: Allocator, G: Growth> ThinVec<T, A, G> {
         // In every case.
         ensures capacity { grown_capacity G.rule (type_size T.row) (type_align T.row)
             self.old.capacity (length self.new.items) ≡ Some self.new.capacity }
+        ensures paid { (m : ℕ) × (self.new.cost
+            ≡ add_moves m (cost_after_resize self.old self.new.capacity)) }
         ensures added { AddsFromIter G.rule T.row self.old self.new (length self.old.items - at)
             (I.remaining iter) }
         ensures blocks { self.new.cost.blocks ≤ self.old.cost.blocks + 1 }
@@ -152,6 +157,7 @@ impl<T: Drop, A: Allocator, G: Growth> ThinVec<T, A, G> {
         alloc: A,
     ) -> Result<(), SpliceRefused<T, I, A>>
         requires nonempty { 0 < length block.tail }
+        requires bounds { tail_end block ≤ block.capacity }
         requires is_empty { self.old.items ≡ [] }
         requires no_middle { block.middle ≡ [] }
         requires gap_after { block.gap_after ≡ 0 }

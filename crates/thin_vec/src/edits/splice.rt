@@ -184,7 +184,8 @@ impl<
 
         // In every case.
         ensures capacity { SplicesCapacity G.rule T.row (splice_tail self.entry)
-            (left_by_splice self.entry) self.exit.0.now (I.remaining (splice_iter self.entry)) }
+            (splice_range_len self.entry) (left_by_splice self.entry) self.exit.0.now
+            (I.remaining (splice_iter self.entry)) }
 
         ensures cost { CostsInserting (2 * length (splice_tail self.entry))
             (left_by_splice self.entry) self.exit.0.now }

@@ -7,7 +7,7 @@ ghost use Rattle.thin_block.specs.Cost.{add_moves};
 ghost use Rattle.thin_block.specs.Growth.{doubling};
 ghost use Rattle.thin_vec.specs.Cheap.{IsCheap};
 ghost use Rattle.thin_vec.specs.List.Capacity.{PreservesList};
-ghost use Rattle.thin_vec.specs.List.Extend.{ExtendsList, ExtendsCapacity, IsCollectCause, IsCollectedList, IsExtendCause, CostsInserting, CostsExtending, IsCollectedFrom, YieldsAndCanContinue, capacity_after_pushes};
+ghost use Rattle.thin_vec.specs.List.Extend.{ExtendsList, ExtendsCapacity, IsCollectCause, IsCollectedList, IsExtendCause, CostsExtending, IsAfterPushes, IsCollectedFrom, YieldsAndCanContinue};
 ghost use Rattle.thin_vec.specs.Put.{IsFilledBy};
 ghost use Rattle.thin_vec.specs.ThinVec.{HasRoomFor, IsNew, IsBounded};
 
@@ -58,6 +58,7 @@ impl<T, A: Allocator, G: Growth> ThinVec<T, A, G> {
 
         // In every case.
         ensures capacity { ExtendsCapacity G.rule T.row self.old self.new (I.remaining iter) }
+        // `cost` follows from `capacity`.
         ensures cost { CostsExtending self.old self.new }
         ensures preserved { PreservesList T.row self.old self.new }
     {
@@ -100,11 +101,7 @@ impl<T, A: Allocator, G: Growth> ThinVec<T, A, G> {
         // In every case.
         ensures had_room { HasRoomFor self.old (size (I.remaining iter))
             → self.new.capacity ≡ self.old.capacity }
-        ensures capacity { capacity_after_pushes G.rule T.row self.old.capacity
-            (length self.new.items) ≡ Some self.new.capacity }
-        ensures cost { CostsInserting 0 self.old self.new }
-        ensures blocks { self.new.cost.blocks
-            ≤ self.old.cost.blocks + (length self.new.items - self.old.capacity) }
+        ensures after { IsAfterPushes G.rule T.row self.old self.new }
         ensures preserved { PreservesList T.row self.old self.new }
     {
         let mut rest = iter;

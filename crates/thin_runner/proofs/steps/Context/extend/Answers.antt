@@ -23,7 +23,7 @@ returns-in-Ok g c =
         tt,
         replaces ((e.items.2 ∙ ap (λ l. old.items ++ l) items) ∙ sym (at-end old.items _))
             (extends-splices (drop-length old.items) e.capacity) e.cost.inserting e.preserved
-            (sym (without_range-end old)) count (omega arith) refl,
+            (sym (without_range-end old)) count (omega arith) refl refl,
       );
     }
 
@@ -55,7 +55,7 @@ returns-in-Err g c =
             claim = claim ∙ c.new.ensures.lower;
             filled = replaces (e.placed.1 ∙ sym (at-end old.items e.placed.0))
                 (extends-splices (drop-length old.items) e.capacity) e.cost.inserting e.preserved
-                (sym (without_range-end old)) count (omega arith) refl;
+                (sym (without_range-end old)) count (omega arith) refl refl;
             no_room = places-end old ⊥ may
                 (λ nothing. false≢true
                 (e.succeeds (omega (arith, nothing, most, e.preserved.within.0.room)))) full;

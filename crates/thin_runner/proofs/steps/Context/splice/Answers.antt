@@ -8,7 +8,7 @@ use Rattle.thin_runner.specs.Hinted.{hinted_claim, hinted_count, hinted_items}
 use Rattle.thin_runner.proofs.HintedLemmas.{drains-items}
 use Rattle.thin_runner.proofs.SplicesLemmas.{at-no-in-hand, at-some-in-hand, no-tail, replaces, replaces-of, some-tail, stops-of, stopped-claim, stopped-ended, stopped-items, tail-count}
 use Rattle.thin_runner.specs.commands.Splices.{without_range}
-use Rattle.thin_vec.specs.Edits.Splice.{left_by_splice, splice_front, splice_iter, splice_tail}
+use Rattle.thin_vec.specs.Edits.Splice.{left_by_splice, splice_front, splice_iter, splice_range_len, splice_tail}
 use Rattle.thin_vec.specs.ThinVec.{HasRoomFor}
 use Rattle.thin_runner.proofs.steps.Context.splice.Goals.{After-take_ends}
 use Rattle.thin_runner.proofs.steps.Context.splice.Goals as goal
@@ -24,6 +24,10 @@ front g c = c.take_ends.ensures.preserved.front ∙ c.splice-splice.ensures.fron
 tail : (g : _) (c : After-take_ends g)
     → splice_tail c.take_ends.new.splice ≡ drop c.args.end c.args.list.now.items
 tail g c = c.take_ends.ensures.preserved.tail ∙ c.splice-splice.ensures.tail
+
+range : (g : _) (c : After-take_ends g)
+    → splice_range_len c.take_ends.new.splice ≡ c.args.end - c.args.start
+range g c = c.take_ends.ensures.preserved.range ∙ c.splice-splice.ensures.range
 
 moved : (g : _) (c : After-take_ends g) → 2 * length (splice_tail c.take_ends.new.splice)
     ≡ 2 * (length c.args.list.now.items - c.args.end)
@@ -60,7 +64,7 @@ returns-in-Ok-finish g c =
           replaces-of written
               (replaces (e.items.2 ∙ (λ i. (front g at i ++ all i) ++ tail g at i))
               e.capacity e.cost e.preserved (left g at) (count g at) (moved g at)
-              (tail g at)),
+              (tail g at) (range g at)),
         ),
       );
     }
@@ -96,7 +100,7 @@ returns-in-Err-finish g c =
             claim = stopped-claim drawn placed refused e.placed.2 ∙ claim g at;
             filled = replaces (e.placed.1 ∙ (λ i. (front g at i ++ placed) ++ tail g at i))
                 e.capacity e.cost e.preserved (left g at) (count g at) (moved g at)
-                (tail g at);
+                (tail g at) (range g at);
             no_room = λ places. false≢true (⊎_elim
                 (λ (few : may ≤ end - start). e.succeeds (inl (omega (arith, few, most, width))))
                 (λ (room : (end ≡ length xs)

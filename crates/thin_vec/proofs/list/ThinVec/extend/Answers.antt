@@ -6,55 +6,57 @@ use Rattle.std.specs.Iterator.Runs.{SomeRun, WholeRun}
 use Rattle.std.specs.Option.{option_to_list}
 use Rattle.std.specs.Prelude.{IfErr, OnOk}
 use denote.Param.{param}
-use Rattle.thin_vec.proofs.ThinVecLemmas.{cost_after_resize-blocks, cost_after_resize-copied}
 use Rattle.std.proofs.lemmas.Bool.{false≢true}
 use Rattle.thin_vec.specs.List.Capacity.{LacksRoom}
-use Rattle.thin_vec.proofs.list.ExtendLemmas.{full-in-hand, run_of_ok, inserting-join, filled-reserved, run_given, run_given_err}
-use Rattle.thin_vec.proofs.PushesLemmas.{extended-by, extended-none}
+use Rattle.thin_vec.proofs.list.ExtendLemmas.{full-in-hand, placed-longer, run_of_ok, run_given, run_given_err}
+use Rattle.thin_vec.proofs.PushesLemmas.{extended-costs, extended-none}
+use Rattle.thin_vec.specs.List.Extend.{IsAfterExtend, IsAfterPushes}
 use Rattle.thin_vec.proofs.list.ReservesLemmas.{lacks-room}
+use Rattle.thin_vec.proofs.list.ThinVec.extend.Goals.{After-extend_unhinted}
 use Rattle.thin_vec.proofs.list.ThinVec.extend.Goals as goal
 
+pushed : (g : _) (c : After-extend_unhinted g) → IsAfterExtend g.G.Growth.rule (param 0 g.row.T)
+    c.args.self.now c.size_hint.result.0 c.extend_unhinted.new.self
+pushed g c =
+    let u = c.reserve.new.self in (
+      u.capacity,
+      c.in-Ok.ensures.capacity.ok,
+      subst (λ z. IsAfterPushes g.G.Growth.rule (param 0 g.row.T) z c.extend_unhinted.new.self)
+          (λ i. record {
+            items = c.reserve.ensures.items i;
+            capacity = u.capacity;
+            alloc = c.reserve.ensures.preserved.alloc i;
+            cost = c.in-Ok.ensures.cost i;
+          })
+          c.extend_unhinted.ensures.after,
+    )
+
 pub returns-in-Ok-clause-capacity : goal.returns-in-Ok-clause-capacity
-returns-in-Ok-clause-capacity g c =
-    let rule = g.G.Growth.rule in let T = param 0 g.row.T in
-    let v = c.args.self.now in let u = c.reserve.new.self in let w = c.extend_unhinted.new.self in
-    let e = c.extend_unhinted.ensures in let reserves = c.in-Ok.ensures.capacity in
-    let hint = c.size_hint.result.0 in
-    record {
-      had_room = λ room. let same = reserves.had_room (omega (
-        arith,
-        c.size_hint.ensures.lower c.requires.finite,
-      )) in
-          e.had_room (omega (arith, room, same, ap length c.reserve.ensures.items)) ∙ same;
-      pushed = (
-        hint,
-        c.size_hint.ensures.lower,
-        extended-by rule T v hint u.capacity (length w.items) w.capacity reserves.ok e.capacity,
-      );
-    }
+returns-in-Ok-clause-capacity g c = record {
+  had_room = λ room. let same = c.in-Ok.ensures.capacity.had_room (omega (
+    arith,
+    c.size_hint.ensures.lower c.requires.finite,
+  )) in
+      c.extend_unhinted.ensures.had_room
+      (omega (arith, room, same, ap length c.reserve.ensures.items)) ∙ same;
+  pushed = (
+    c.size_hint.result.0,
+    c.size_hint.ensures.lower,
+    pushed g (goal.at.returns-in-Ok-clause-capacity g c).After-extend_unhinted,
+  );
+}
 
 pub returns-in-Ok-clause-cost : goal.returns-in-Ok-clause-cost
 returns-in-Ok-clause-cost g c =
-    let rule = g.G.Growth.rule in let T = param 0 g.row.T in let law = g.met.G.Growth.law in
-    let v = c.args.self.now in let u = c.reserve.new.self in let w = c.extend_unhinted.new.self in
-    let e = c.extend_unhinted.ensures in let hint = c.size_hint.result.0 in
-    record {
-      inserting = inserting-join 0 0 0 (omega arith)
-          (filled-reserved v u c.in-Ok.ensures.cost c.reserve.ensures.items
-          (cost_after_resize-copied rule T law v hint u.capacity
-          c.reserve.ensures.preserved.within.0.room
-          c.in-Ok.ensures.capacity.ok))
-          e.cost
-          c.reserve.ensures.preserved.never_less e.preserved.never_less
-          (omega (arith, ap length c.reserve.ensures.items));
-      requests = omega (
-        arith,
-        ap (λ k. k.blocks) c.in-Ok.ensures.cost,
-        cost_after_resize-blocks v u.capacity,
-        c.in-Ok.ensures.ok,
-        ap length c.reserve.ensures.items,
-      );
-    }
+    let e = c.extend_unhinted.ensures in
+    extended-costs g.G.Growth.rule (param 0 g.row.T) g.met.G.Growth.law c.args.self.now
+    c.extend_unhinted.new.self c.size_hint.result.0 c.reserve.ensures.preserved.within.0.room
+    (omega (
+      arith,
+      ap length c.reserve.ensures.items,
+      placed-longer _ _ c.extend_unhinted.result _ _ e.items e.placed,
+    ))
+    (pushed g (goal.at.returns-in-Ok-clause-cost g c).After-extend_unhinted)
 
 pub returns-in-Err-clause-capacity : goal.returns-in-Err-clause-capacity
 returns-in-Err-clause-capacity g c =
@@ -62,14 +64,9 @@ returns-in-Err-clause-capacity g c =
     let same = ap (λ v. v.capacity) c.in-Err.ensures.err in
     record {
       had_room = λ _. same;
-      pushed = extended-none g.G.Growth.rule (param 0 g.row.T) v (length w.items) w.capacity
+      pushed = extended-none g.G.Growth.rule (param 0 g.row.T) v w
           (g.I.Iterator.remaining c.args.iter) c.reserve.ensures.preserved.within.0.room
-          (omega (
-            arith,
-            ap length c.reserve.ensures.items,
-            c.reserve.ensures.preserved.within.0.room,
-          ))
-          same;
+          c.in-Err.ensures.err;
     }
 
 pub returns-in-Err-clause-cause : goal.returns-in-Err-clause-cause

@@ -1,19 +1,18 @@
 -- In each iteration of the loop, `fill_spare` moves items of the iterator into the empty slots of
 -- the list. If the iterator has not ended, one more item is pushed.
-use Rattle.std.proofs.Common.{◌≡◌, ◌++◌, ◌∷◌, [], ◌+◌, ◌-◌, ◌≤◌, ◌∙◌, ap, arith, append_assoc, length, length-append, refl, subst, sym, Some}
+use Rattle.std.proofs.Common.{◌≡◌, ◌++◌, ◌∷◌, [], ◌+◌, ◌-◌, ◌∙◌, ap, arith, append_assoc, length, length-append, refl, subst, sym}
 use Rattle.std.proofs.lemmas.List.{append-nil, length_push}
 use Rattle.std.specs.Iterator.{Yields}
 use denote.Param.{param}
 use Rattle.thin_block.specs.Cost.{add_moves}
 use Rattle.thin_vec.specs.Cheap.{IsCheap}
 use Rattle.thin_vec.specs.List.Capacity.{LacksRoom, PreservesList}
-use Rattle.thin_vec.specs.List.Extend.{CostsInserting, capacity_after_pushes}
+use Rattle.thin_vec.specs.List.Extend.{IsAfterPushes}
 use Rattle.thin_vec.specs.Put.{YieldsThenMayEnd}
-use Rattle.thin_vec.proofs.list.ExtendLemmas.{filled-at, inserting-join, filled-spare, spare-kept, yields-join, yields-more}
-use Rattle.thin_vec.proofs.PushesLemmas.{pushes-grew, pushes-kept, pushes-none}
+use Rattle.thin_vec.proofs.list.ExtendLemmas.{spare-kept, yields-join, yields-more}
+use Rattle.thin_vec.proofs.PushesLemmas.{after-filled, after-none, after-pushed}
 use Rattle.thin_vec.proofs.CallerLemmas.{grows-cheap, grows-preserved}
 use Rattle.thin_vec.proofs.list.ReservesLemmas.{keeps-join}
-use Rattle.thin_vec.proofs.ThinVecLemmas.{cost_after_resize-blocks, cost_after_resize-copied}
 use Rattle.thin_block.proofs.ResultLemmas.{none-some}
 use Rattle.thin_vec.proofs.list.ThinVec.extend_unhinted.Goals.{After-fill_spare-left, Else-ended}
 use Rattle.thin_vec.proofs.list.ThinVec.extend_unhinted.Goals as goal
@@ -42,27 +41,26 @@ longer g c =
     ap (λ v. length v.items) filled.1 ∙ length-append c.loop-rest.self.items filled.0.items
 
 -- `fill_spare` moves items into empty slots only.
-pushed : (g : _) (c : After-fill_spare-left g)
-    → capacity_after_pushes g.G.Growth.rule (param 0 g.row.T) c.args.self.now.capacity
-    (length c.fill_spare-left.new.self.items) ≡ Some c.fill_spare-left.new.self.capacity
-pushed g c =
-    pushes-kept g.G.Growth.rule (param 0 g.row.T) c.args.self.now.capacity
-    (length c.loop-rest.self.items) (length c.fill_spare-left.new.self.items)
-    c.fill_spare-left.new.self.capacity
-    (c.loop-rest.invariant.pushed ∙ ap Some (sym (ap (λ z. z.capacity) (changed g c))))
+after : (g : _) (c : After-fill_spare-left g) → IsAfterPushes g.G.Growth.rule (param 0 g.row.T)
+    c.args.self.now c.fill_spare-left.new.self
+after g c =
+    let v = c.args.self.now in let held = c.loop-rest.invariant in
+    after-filled g.G.Growth.rule (param 0 g.row.T) v c.loop-rest.self c.fill_spare-left.new.self
+    held.after (omega (arith, ap length held.placed.1, length-append v.items held.placed.0))
     (omega (arith, longer g c)) c.fill_spare-left.ensures.bounds.1.room
+    (ap (λ z. z.capacity) (changed g c)) (ap (λ z. z.cost) (changed g c))
 
-spent : (g : _) (c : After-fill_spare-left g)
-    → CostsInserting 0 c.args.self.now c.fill_spare-left.new.self
-spent g c =
-    let held = c.loop-rest.invariant in
-    let v = c.args.self.now in let u = c.loop-rest.self in let w = c.fill_spare-left.new.self in
-    inserting-join 0 0 0 (omega arith) held.cost
-    (filled-spare u w (length w.items - length u.items) (changed g c)
-    (omega (arith, longer g c)))
-    held.never_less
-    (omega (arith, ap (λ z. z.capacity) (changed g c)))
-    (omega (arith, ap length held.placed.1, length-append v.items held.placed.0))
+pub returns-then-ended-clause-after : goal.returns-then-ended-clause-after
+returns-then-ended-clause-after g c =
+    after g (goal.at.returns-then-ended-clause-after g c).After-fill_spare-left
+
+pub returns-in_default-clause-after : goal.returns-in_default-clause-after
+returns-in_default-clause-after g c =
+    after g (goal.at.returns-in_default-clause-after g c).After-fill_spare-left
+
+pub returns-in-Err-clause-after : goal.returns-in-Err-clause-after
+returns-in-Err-clause-after g c =
+    rw c.in-Err.ensures.err (after g (goal.at.returns-in-Err-clause-after g c).After-fill_spare-left)
 
 -- If the iterator has not ended, it yielded the appended items, and the list is full.
 yielded : (g : _) (c : Else-ended g) → Yields g.I.Iterator.next_gives c.args.iter
@@ -98,10 +96,7 @@ loop-rest-init g c =
       nearer = omega arith;
       never_less = omega arith;
       had_room = λ _. refl;
-      cost = omega arith;
-      requests = omega arith;
-      pushed = pushes-none g.G.Growth.rule (param 0 g.row.T) v.capacity (length v.items)
-          c.requires.bounds.room;
+      after = after-none g.G.Growth.rule (param 0 g.row.T) v v c.requires.bounds.room refl;
       alloc = refl;
       cheap = λ cheap. cheap;
     }
@@ -156,19 +151,6 @@ returns-in-Err-clause-placed g c =
       },
     )
 
-pub returns-then-ended-clause-capacity : goal.returns-then-ended-clause-capacity
-returns-then-ended-clause-capacity g c =
-    pushed g (goal.at.returns-then-ended-clause-capacity g c).After-fill_spare-left
-
-pub returns-in_default-clause-capacity : goal.returns-in_default-clause-capacity
-returns-in_default-clause-capacity g c =
-    pushed g (goal.at.returns-in_default-clause-capacity g c).After-fill_spare-left
-
-pub returns-in-Err-clause-capacity : goal.returns-in-Err-clause-capacity
-returns-in-Err-clause-capacity g c =
-    rw c.in-Err.ensures.err
-    (pushed g (goal.at.returns-in-Err-clause-capacity g c).After-fill_spare-left)
-
 pub loop-rest-preserved : goal.loop-rest-preserved
 loop-rest-preserved g c =
     let here = goal.at.loop-rest-preserved g c in let filled = here.After-fill_spare-left in
@@ -184,9 +166,6 @@ loop-rest-preserved g c =
     let kept = ap (λ y. y.capacity) (changed g filled) in
     let long = ap length put.items ∙ length_push w.items c.in-Some.item in
     let more = longer g filled in
-    let push = filled-at w z 1 put.cost long
-    (cost_after_resize-copied rule T law w 1 z.capacity c.fill_spare-left.ensures.bounds.1.room
-    put.grows.ok) in
     let all = full g here.Else-ended in
     record {
       can = goes.0;
@@ -204,18 +183,9 @@ loop-rest-preserved g c =
       had_room = λ fit. let same = held.had_room fit in
           put.grows.had_room (omega (arith, fit, held.nearer, nearer, goes.2, more, same, kept))
           ∙ (kept ∙ same);
-      cost = inserting-join 0 0 0 (omega arith) (spent g filled) push
-          (omega (arith, held.never_less, kept)) put.grows.never_less
-          (omega (arith, ap length held.placed.1, length-append v.items held.placed.0, more));
-      requests = omega (
-        arith,
-        ap (λ y. y.cost.blocks) (changed g filled),
-        ap (λ k. k.blocks) put.cost,
-        cost_after_resize-blocks w z.capacity,
-        kept,
-      );
-      pushed = pushes-grew rule T v.capacity (length w.items) (length z.items) w.capacity z.capacity
-          (pushed g filled) long put.grows.ok;
+      after = after-pushed rule T v w z (after g filled) all
+          (omega (arith, ap length held.placed.1, length-append v.items held.placed.0, more)) long
+          (omega (arith, all, long, put.grows.room)) put.grows.ok put.cost;
       alloc = put.grows.alloc ∙ (ap (λ y. y.alloc) (changed g filled) ∙ held.alloc);
       cheap = λ first. grows-cheap law _ 1 put.grows put.cost put.err
           (c.fill_spare-left.ensures.cheap (held.cheap first));
@@ -235,37 +205,6 @@ returns-in-Err-clause-succeeds g c = λ fit.
       longer g filled,
       ap (λ z. z.capacity) (changed g filled),
     ))
-
-pub returns-then-ended-clause-cost : goal.returns-then-ended-clause-cost
-returns-then-ended-clause-cost g c =
-    spent g (goal.at.returns-then-ended-clause-cost g c).After-fill_spare-left
-
-pub returns-in_default-clause-cost : goal.returns-in_default-clause-cost
-returns-in_default-clause-cost g c =
-    spent g (goal.at.returns-in_default-clause-cost g c).After-fill_spare-left
-
-pub returns-in-Err-clause-cost : goal.returns-in-Err-clause-cost
-returns-in-Err-clause-cost g c =
-    rw c.in-Err.ensures.err (spent g (goal.at.returns-in-Err-clause-cost g c).After-fill_spare-left)
-
-requested : (g : _) (c : After-fill_spare-left g) → c.fill_spare-left.new.self.cost.blocks
-    ≤ c.args.self.now.cost.blocks
-    + (length c.fill_spare-left.new.self.items - c.args.self.now.capacity)
-requested g c =
-    omega (arith, ap (λ y. y.cost.blocks) (changed g c), longer g c)
-
-pub returns-then-ended-clause-blocks : goal.returns-then-ended-clause-blocks
-returns-then-ended-clause-blocks g c =
-    requested g (goal.at.returns-then-ended-clause-blocks g c).After-fill_spare-left
-
-pub returns-in_default-clause-blocks : goal.returns-in_default-clause-blocks
-returns-in_default-clause-blocks g c =
-    requested g (goal.at.returns-in_default-clause-blocks g c).After-fill_spare-left
-
-pub returns-in-Err-clause-blocks : goal.returns-in-Err-clause-blocks
-returns-in-Err-clause-blocks g c =
-    rw c.in-Err.ensures.err
-    (requested g (goal.at.returns-in-Err-clause-blocks g c).After-fill_spare-left)
 
 pub returns-in-Err-clause-cause : goal.returns-in-Err-clause-cause
 returns-in-Err-clause-cause g c =

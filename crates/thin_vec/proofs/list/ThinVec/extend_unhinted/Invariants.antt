@@ -1,10 +1,11 @@
 -- Before each iteration of the loop, the list contains its old items, followed by all items that
--- the iterator has yielded so far. Its capacity is the one after as many pushes.
-use Rattle.std.proofs.Common.{◌≡◌, ◌+◌, ◌-◌, ◌≤◌, List, ◌++◌, Some, length}
+-- the iterator has yielded so far. Its capacity and its cost are
+-- those after as many pushes.
+use Rattle.std.proofs.Common.{◌≡◌, ◌+◌, ◌≤◌, List, ◌++◌, length}
 use Rattle.std.specs.Iterator.{IsFinite, Yields, size}
 use denote.Param.{param}
 use Rattle.thin_vec.specs.Cheap.{IsCheap}
-use Rattle.thin_vec.specs.List.Extend.{CostsInserting, capacity_after_pushes}
+use Rattle.thin_vec.specs.List.Extend.{IsAfterPushes}
 use Rattle.thin_vec.proofs.list.ThinVec.extend_unhinted.Given as goal
 
 abbrev pub invariant-loop-rest : goal.invariant-loop-rest
@@ -18,11 +19,7 @@ invariant-loop-rest g l = record {
   never_less : l.fn.self.capacity ≤ l.self.capacity;
   had_room : length l.fn.self.items + size (g.I.Iterator.remaining l.fn.iter) ≤ l.fn.self.capacity
       → l.self.capacity ≡ l.fn.self.capacity;
-  cost : CostsInserting 0 l.fn.self l.self;
-  requests : l.self.cost.blocks
-      ≤ l.fn.self.cost.blocks + (length l.self.items - l.fn.self.capacity);
-  pushed : capacity_after_pushes g.G.Growth.rule (param 0 g.row.T) l.fn.self.capacity
-      (length l.self.items) ≡ Some l.self.capacity;
+  after : IsAfterPushes g.G.Growth.rule (param 0 g.row.T) l.fn.self l.self;
   alloc : l.self.alloc ≡ l.fn.self.alloc;
   cheap : IsCheap l.fn.self → IsCheap l.self;
 }

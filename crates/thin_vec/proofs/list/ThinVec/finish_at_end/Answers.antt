@@ -38,7 +38,7 @@ taken g c =
     subst (λ z. AddsFromIter g.G.Growth.rule (param 0 g.row.T) z w n more) (left g c) now
 
 capacity : (g : _) (c : After-extend g)
-    → SplicesCapacity g.G.Growth.rule (param 0 g.row.T) c.args.block.tail
+    → SplicesCapacity g.G.Growth.rule (param 0 g.row.T) c.args.block.tail c.args.block.gap_before
     (without_middle c.args.block c.args.self.now.alloc) c.extend.new.self
     (g.I.Iterator.remaining c.args.iter)
 capacity g c =

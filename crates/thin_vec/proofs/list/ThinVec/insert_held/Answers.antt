@@ -10,7 +10,8 @@ use Rattle.thin_block.specs.Cost.{add_moves}
 use Rattle.std.specs.Align.{type_align}
 use Rattle.std.specs.Mem.{type_size}
 use Rattle.thin_block.specs.Growth.{grown_capacity}
-use Rattle.thin_vec.specs.ThinVec.{capacity_after_reserve}
+use Rattle.thin_vec.specs.ThinVec.{capacity_after_reserve, cost_after_resize}
+use Rattle.thin_vec.proofs.PushesLemmas.{resized-none}
 use Rattle.thin_vec.proofs.edits.SpliceLemmas.{blocks-if, closed-moves, drawn-after, inserted-long, run-moves, stop-at-held, taken-join, taken-none, taken-reserved, taken-spare}
 use Rattle.thin_block.proofs.CapacityLemmas.{ruled-same}
 use Rattle.thin_block.proofs.ResultLemmas.{err-same}
@@ -167,6 +168,26 @@ returns-clause-blocks g c = omega (
 
 pub returns-in-Err-clause-err : goal.returns-in-Err-clause-err
 returns-in-Err-clause-err g c = search (arith, ◌∙◌)
+
+-- The list is unchanged.
+pub returns-in_default-clause-paid : goal.returns-in_default-clause-paid
+returns-in_default-clause-paid g c = resized-none c.args.self.now
+
+pub returns-in-Some-in_hand-clause-paid : goal.returns-in-Some-in_hand-clause-paid
+returns-in-Some-in_hand-clause-paid g c = resized-none c.args.self.now
+
+pub returns-in-Err-clause-paid : goal.returns-in-Err-clause-paid
+returns-in-Err-clause-paid g c = rw c.in-Err.ensures.err (resized-none c.args.self.now)
+
+pub returns-clause-paid : goal.returns-clause-paid
+returns-clause-paid g c =
+    let here = (goal.at.returns-clause-paid g c).After-close in
+    let paid = cost g here in
+    let n = length c.collect_rest-held.result.held.items + paid.0 in (
+      n,
+      paid.1 ∙ ap (add_moves n) (c.in_default-reserve.ensures.cost
+          ∙ ap (cost_after_resize c.args.self.now) (sym (capacity g here))),
+    )
 
 -- The list is unchanged, and its items fit into its capacity.
 pub returns-in_default-clause-capacity : goal.returns-in_default-clause-capacity

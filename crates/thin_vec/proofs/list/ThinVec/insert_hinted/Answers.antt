@@ -7,6 +7,9 @@ use denote.Param.{param}
 use Rattle.thin_vec.specs.Edits.Finish.{AddsFromIter}
 use Rattle.thin_vec.specs.List.Capacity.{LacksRoom}
 use Rattle.thin_vec.proofs.edits.SpliceLemmas.{blocks-if, run-moves, taken-join, taken-none, taken-reserved}
+use Rattle.thin_block.specs.Cost.{add_moves}
+use Rattle.thin_vec.proofs.PutLemmas.{filled-room}
+use Rattle.thin_vec.specs.ThinVec.{cost_after_resize}
 use Rattle.thin_vec.proofs.list.ReservesLemmas.{lacks-room}
 use Rattle.thin_vec.proofs.edits.FinishLemmas.{FillsGap, IsWide, gap-filled, wide-taken}
 use Rattle.thin_vec.proofs.list.ThinVec.insert_hinted.Goals.{After-close}
@@ -58,13 +61,20 @@ tail g c = omega (
   ap length c.reserve.ensures.items,
 )
 
+hinted : (g : _) (c : After-close g)
+    → c.close.new.self.capacity ≡ c.reserve.new.self.capacity
+hinted g c = (fills g c).1.capacity ∙ c.open_with_gap-block.ensures.capacity
+
 pub returns-clause-filled_by : goal.returns-clause-filled_by
 returns-clause-filled_by g c =
-    let filled = (fills g ((goal.at.returns-clause-filled_by g c).After-close)) in
-    let xs = filled.0.items in
-    let there = wide g ((goal.at.returns-clause-filled_by g c).After-close) in (
-      c.open_with_gap-block.result.gap_before,
-      filled.0,
+    let here = (goal.at.returns-clause-filled_by g c).After-close in
+    let filled = fills g here in let there = wide g here in let xs = filled.0.items in
+    let slots : c.open_with_gap-block.result.gap_before ≡ c.size_hint-hint.result.0 =
+    omega (arith, c.open_with_gap-block.ensures.gap_before) in (
+      c.size_hint-hint.result.0,
+      c.size_hint-hint.ensures.lower,
+      c.in_default.ensures.capacity.ok ∙ ap Some (sym (hinted g here)),
+      filled-room slots filled.0,
       filled.1.items
           ∙ ((λ i. (there.front i ++ xs) ++ there.tail i)
           ∙ ap (λ l. (take c.args.at l ++ xs) ++ drop c.args.at l) c.reserve.ensures.items),
@@ -75,13 +85,16 @@ returns-clause-filled_by g c =
       ),
     )
 
-pub returns-clause-capacity : goal.returns-clause-capacity
-returns-clause-capacity g c =
-    let filled = (fills g ((goal.at.returns-clause-capacity g c).After-close)) in (
-      c.size_hint-hint.result.0,
-      c.size_hint-hint.ensures.lower,
-      c.in_default.ensures.capacity.ok
-          ∙ ap Some (sym (filled.1.capacity ∙ c.open_with_gap-block.ensures.capacity)),
+pub returns-clause-paid : goal.returns-clause-paid
+returns-clause-paid g c =
+    let here = (goal.at.returns-clause-paid g c).After-close in
+    let p = fills g here in let u = c.reserve.new.self in
+    let all = run-moves c.size_hint-hint.result.0 (length u.items - c.args.at) (length p.0.items)
+    p.1.cost.0 u.cost c.open_with_gap-block.result.cost c.open_with_gap-block.ensures.cost in (
+      length p.0.items + all.0,
+      (p.1.cost.1 ∙ all.1)
+          ∙ ap (add_moves (length p.0.items + all.0)) (c.in_default.ensures.cost
+          ∙ ap (cost_after_resize c.args.self.now) (sym (hinted g here))),
     )
 
 pub returns-clause-added : goal.returns-clause-added

@@ -1,26 +1,50 @@
 -- `from_iter` makes a list for the lower bound of the size hint, and calls `extend_unhinted`.
 use Rattle.std.specs.Iterator.{Yields}
 use Rattle.std.specs.Option.{option_to_list}
-use Rattle.std.proofs.Common.{Err, None, [], refl, Some, inl, inr, ◌++◌, ◌≡◌, ◌∙◌, ap, arith, length, subst, sym}
+use Rattle.std.proofs.Common.{Err, None, [], refl, inl, inr, ◌++◌, ◌≡◌, ◌∙◌, ◌==◌, if◌then◌else◌, ap, arith, length, subst, sym}
 use Rattle.std.proofs.lemmas.Bool.{cases_lt, false≢true}
 use denote.Param.{param}
 use Rattle.thin_block.proofs.ResultLemmas.{err-same}
 use Rattle.thin_block.specs.Growth.{doubling}
-use Rattle.thin_vec.proofs.ThinVecLemmas.{cost_after_resize-blocks}
 use Rattle.thin_vec.proofs.list.ExtendLemmas.{exact-new, hand-empty, match-some, run_given, run_of}
-use Rattle.thin_vec.proofs.PushesLemmas.{exact-is, pushes-none}
-use Rattle.thin_vec.specs.List.Extend.{IsCollectedList, capacity_after_pushes}
+use Rattle.thin_vec.proofs.PushesLemmas.{after-none, collected-costs, exact-is}
+use Rattle.thin_block.specs.GrowthLaws.{doubling_law}
+use Rattle.thin_block.specs.Cost.{add_realloc}
+use Rattle.thin_vec.specs.ThinVec.{cost_after_resize, cost_of_new}
+use Rattle.thin_vec.specs.List.Extend.{IsAfterCollect, IsAfterPushes, IsCollectedList}
 use Rattle.thin_vec.proofs.list.extend.ThinVec+T+A.from_iter.Goals.{After-extend_unhinted}
 use Rattle.thin_vec.proofs.list.extend.ThinVec+T+A.from_iter.Goals as goal
+
+-- `reserve_exact` gives the new list exactly the capacity in the size hint.
+pushed : (g : _) (c : After-extend_unhinted g) → IsAfterCollect doubling (param 0 g.row.T)
+    c.size_hint.result.0 c.extend_unhinted.new.self
+pushed g c =
+    let new = c.new-list.ensures.new in let hint = c.size_hint.result.0 in
+    let u = c.reserve_exact.new.self in
+    let made : u.capacity ≡ hint = exact-is _ _ hint u.capacity
+    (sym (exact-new (param 0 g.row.T) _ _ _ new) ∙ c.in-Ok.ensures.capacity) in
+    let paid : cost_after_resize c.new-list.result u.capacity ≡ cost_of_new hint =
+    λ i. if made i == new.capacity i then new.cost i else add_realloc (length (new.items i))
+    (new.cost i) in
+    subst (λ z. IsAfterPushes doubling (param 0 g.row.T) z c.extend_unhinted.new.self)
+    (λ i. record {
+      items = (c.reserve_exact.ensures.items ∙ new.items) i;
+      capacity = made i;
+      alloc = sym c.extend_unhinted.ensures.preserved.alloc i;
+      cost = (c.in-Ok.ensures.cost ∙ paid) i;
+    })
+    c.extend_unhinted.ensures.after
 
 collected : (g : _) (c : After-extend_unhinted g)
     → IsCollectedList doubling (param 0 g.row.T) c.args.alloc c.extend_unhinted.new.self
     (g.I.Iterator.remaining c.args.iter)
 collected g c =
-    let u = c.reserve_exact.new.self in let w = c.extend_unhinted.new.self in
+    let w = c.extend_unhinted.new.self in
     let e = c.extend_unhinted.ensures in
     let items = ap length c.reserve_exact.ensures.items
     ∙ ap length c.new-list.ensures.new.items in
+    let after = pushed g c in
+    let paid = collected-costs doubling (param 0 g.row.T) doubling_law w c.size_hint.result.0 after in
     record {
       none = λ none.
           e.had_room (omega (arith, none, items))
@@ -30,23 +54,9 @@ collected g c =
             ap length c.new-list.ensures.new.items,
           ))
           ∙ c.new-list.ensures.new.capacity);
-      pushed = (
-        c.size_hint.result.0,
-        c.size_hint.ensures.lower,
-        subst (λ k. capacity_after_pushes doubling (param 0 g.row.T) k (length w.items)
-            ≡ Some w.capacity)
-            (exact-is _ _ c.size_hint.result.0 u.capacity
-            (sym (exact-new (param 0 g.row.T) _ _ _ c.new-list.ensures.new)
-            ∙ c.in-Ok.ensures.capacity))
-            e.capacity,
-      );
-      moves = search (arith, ◌∙◌);
-      requests = omega (
-        arith,
-        ap (λ k. k.blocks) c.in-Ok.ensures.cost,
-        cost_after_resize-blocks c.new-list.result u.capacity,
-        ap (λ k. k.blocks) c.new-list.ensures.new.cost,
-      );
+      pushed = (c.size_hint.result.0, c.size_hint.ensures.lower, after);
+      moves = paid.0;
+      requests = paid.1;
       made = record {
         alloc = search (arith, ◌∙◌);
         cheap = search (arith, ◌∙◌);
@@ -65,18 +75,19 @@ returns-in-Err-extend_unhinted-clause-err g c =
 pub returns-in-Err-clause-err : goal.returns-in-Err-clause-err
 returns-in-Err-clause-err g c =
     let none = ap (λ v. v.capacity) c.in-Err.ensures.err ∙ c.new-list.ensures.new.capacity in
-    let w = c.reserve_exact.new.self in
+    let w = c.reserve_exact.new.self in let new = c.new-list.ensures.new in
     record {
       none = λ _. none;
       pushed = (
         0,
         (λ _. omega arith),
-        pushes-none doubling (param 0 g.row.T) 0 (length w.items) (omega (
-          arith,
-          ap length c.reserve_exact.ensures.items,
-          ap length c.new-list.ensures.new.items,
-        ))
-            ∙ ap Some (sym none),
+        after-none doubling (param 0 g.row.T)
+            (record w { items = []; capacity = 0; cost = cost_of_new 0 }) w (omega arith)
+            (λ i. record w {
+              items = (c.reserve_exact.ensures.items ∙ new.items) i;
+              capacity = none i;
+              cost = (ap (λ v. v.cost) c.in-Err.ensures.err ∙ new.cost) i;
+            }),
       );
       moves = search (arith, ◌∙◌);
       requests = omega (

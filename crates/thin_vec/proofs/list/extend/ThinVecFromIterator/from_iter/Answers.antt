@@ -14,6 +14,13 @@ returns-in-Ok g c =
         c.in-Ok.list.items,
         c.into_iter.ensures.into_iter_gives,
         (d.1.0, d.1.1, λ _. (d.0, d.1.2)),
-        (refl, refl, e.new.moves, e.new.made.cheap, e.new.made.within),
+        (
+          refl,
+          refl,
+          e.new.moves,
+          e.new.made.cheap,
+          e.new.made.within,
+          (e.new.pushed.0, e.new.pushed.2),
+        ),
       );
     }
