@@ -4,9 +4,9 @@
 use Rattle.std.proofs.Common.{◌≡◌, ℕ, zero, suc, ◌+◌, ◌<◌, ◌≤◌, Bool, true, false, List, [], ◌∷◌, ◌++◌, length, drop, take, refl, sym, ap, ◌∙◌, arith}
 use Rattle.std.proofs.lemmas.Bool.{ne_eqb}
 use Rattle.std.proofs.lemmas.List.{drop_at, take_at}
-use Rattle.std.specs.Prelude.{◌==◌, if◌then◌else◌}
+use Rattle.std.specs.Prelude.{◌==◌, cond, if◌then◌else◌}
 use Rattle.std.specs.List.{filter, items_where_true}
-use Rattle.std.specs.List.Retain.{IsFiltered, ReturnsInTurn}
+use Rattle.std.specs.List.Retain.{IsFiltered, RetainsInTurn, ReturnsInTurn}
 use Rattle.std.proofs.lemmas.Fn.{filter_same}
 use Rattle.thin_block.specs.Cost.{Cost, add_moves}
 use Rattle.thin_vec.specs.Edits.Retain.{TestResults, TestsInTurn, IsRetained, IsRetainedTo, ReadsOnly, flags_of, items_where, moves_of_retain, all_kept, count_true}
@@ -184,3 +184,20 @@ module _ {S T : Type 0} (R : S → T → Bool → S → T → Type 0) where
     );
     cost = h.cost;
   }
+
+-- The following lemma says what `retain_mut` keeps, in the words of std's contract.
+module _ {S T : Type 0} (R : S → T → Bool → S → T → Type 0) where
+  kept_first : (b : Bool) (y : T) (a : TestResults T)
+      → items_where true ((b, y) ∷ a) ≡ cond b (y ∷ items_where true a) (items_where true a)
+  kept_first true y a = refl
+  kept_first false y a = refl
+
+  in_turn : (xs : List T) (s t : S) (a : TestResults T) → TestsInTurn R s xs a t
+      → RetainsInTurn R s xs (items_where true a)
+  in_turn [] s t a h = rw h.0 refl
+  in_turn (x ∷ xs) s t a h = rw h.6
+      (h.0, h.2, h.1, h.4, items_where true h.3, in_turn xs h.2 t h.3 h.5, kept_first h.0 h.1 h.3)
+
+  pub retained_in_turn : {A : Type 0} (s : S) (v w : ListView T A) → IsRetained R s v w
+      → RetainsInTurn R s v.items w.items
+  retained_in_turn s v w h = rw h.1.items (in_turn v.items s h.0 h.1.results h.1.asked)

@@ -55,6 +55,9 @@ impl<T, A: Allocator> ThinVec<T, A> {
     /// Returns an empty list that owns the allocator `alloc`. The call allocates nothing.
     pub fn new(alloc: A) -> ThinVec<T, A>
         ensures new { IsNew result alloc }
+        ensures items { result.items ≡ [] }
+        ensures len { length result.items ≡ 0 }
+        ensures capacity { result.capacity ≡ 0 }
         ensures bounds { IsBounded T.row result }
     {
         ThinVec::ruled(alloc)

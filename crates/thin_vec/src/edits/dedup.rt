@@ -2,6 +2,7 @@
 ghost use Rattle.std.specs.Prelude.{◌≡◌, ◌+◌, ◌<◌, ◌≤◌, length};
 ghost use Rattle.std.specs.Fn.{CalledAtPairMut, ComparesKeys};
 ghost use Rattle.std.specs.List.{dedup};
+ghost use Rattle.std.specs.List.Retain.{IsDeduped};
 ghost use Rattle.thin_block.specs.Cost.{add_moves};
 ghost use Rattle.thin_vec.specs.List.Capacity.{MovesAtMost, PreservesList};
 
@@ -22,6 +23,7 @@ impl<T: Drop, A: Allocator, G: Growth> ThinVec<T, A, G> {
         ensures deduped { IsDedupedBy (CalledAtPairMut F.FnMut) same self.old self.new }
 
         // These follow from `deduped`.
+        ensures filtered { IsDeduped (CalledAtPairMut F.FnMut) same self.old.items self.new.items }
         ensures moves { MovesAtMost (length self.new.items) self.old.cost self.new.cost }
         ensures bound { length self.new.items ≤ length self.old.items }
 
@@ -61,6 +63,7 @@ impl<T: Drop, A: Allocator, G: Growth> ThinVec<T, A, G> {
         ensures deduped { IsDedupedBy (ComparesKeys F.FnMut K.eq) key self.old self.new }
 
         // These follow from `deduped`.
+        ensures filtered { IsDeduped (ComparesKeys F.FnMut K.eq) key self.old.items self.new.items }
         ensures moves { MovesAtMost (length self.new.items) self.old.cost self.new.cost }
         ensures bound { length self.new.items ≤ length self.old.items }
 

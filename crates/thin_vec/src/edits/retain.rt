@@ -1,6 +1,6 @@
 //! The methods `retain` and `retain_mut`, which keep the items for which a closure returns true.
 ghost use Rattle.std.specs.Prelude.{◌≡◌, ◌<◌, ◌≤◌, length};
-ghost use Rattle.std.specs.List.Retain.{IsFiltered};
+ghost use Rattle.std.specs.List.Retain.{IsFiltered, RetainsInTurn};
 ghost use Rattle.std.specs.Fn.{CalledAt, CalledAtMut};
 ghost use Rattle.thin_vec.specs.List.Capacity.{MovesAtMost, PreservesList};
 
@@ -39,6 +39,7 @@ impl<T: Drop, A: Allocator, G: Growth> ThinVec<T, A, G> {
         ensures retained { IsRetained (CalledAtMut F.FnMut) keep self.old self.new }
 
         // These follow from `retained`.
+        ensures filtered { RetainsInTurn (CalledAtMut F.FnMut) keep self.old.items self.new.items }
         ensures moves { MovesAtMost (length self.new.items) self.old.cost self.new.cost }
         ensures bound { length self.new.items ≤ length self.old.items }
 

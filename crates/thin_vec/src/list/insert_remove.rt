@@ -1,5 +1,5 @@
 //! The methods that insert or remove single items, and `truncate` and `clear`.
-ghost use Rattle.std.specs.Prelude.{◌≡◌, ◌+◌, ◌-◌, ◌<◌, ◌≤◌, ◌==◌, [], IfErr, IfOk, IsErr, IsOk, None, OnErr, OnOk, Some, if◌then◌else◌, insert, length, remove, slice_get, take};
+ghost use Rattle.std.specs.Prelude.{◌≡◌, ◌+◌, ◌-◌, ◌<◌, ◌≤◌, ◌==◌, [], IfErr, IfOk, IsErr, IsOk, None, is_ok, OnErr, OnOk, Some, if◌then◌else◌, insert, length, remove, slice_get, slice_index_or, take};
 ghost use Rattle.std.specs.List.{swap_remove};
 ghost use Rattle.std.specs.List.Retain.{PopsIf};
 ghost use types.Logic.{sem};
@@ -25,7 +25,8 @@ impl<T, A: Allocator, G: Growth> ThinVec<T, A, G> {
         requires in_bounds { index ≤ length self.old.items }
 
         // On success.
-        ensures items { OnOk result (self.new.items ≡ insert self.old.items index value) }
+        ensures items { self.new.items
+            ≡ (if is_ok result then insert self.old.items index value else self.old.items) }
         ensures cost { OnOk result
             (CostsMoves (length self.old.items - index + 1) self.old self.new) }
 
@@ -95,7 +96,8 @@ impl<T, A: Allocator, G: Growth> ThinVec<T, A, G> {
     /// lower index.
     pub fn remove(&mut self, index: usize) -> T
         requires in_bounds { index < length self.old.items }
-        ensures value { slice_get self.old.items index ≡ Some result }
+        ensures value { result ≡ slice_index_or self.old.items index result }
+        ensures found { slice_get self.old.items index ≡ Some result }
         ensures items { self.new.items ≡ remove self.old.items index }
         ensures cost { self.new.cost ≡ add_moves
             (length self.old.items - (index + 1)) self.old.cost }
@@ -113,7 +115,8 @@ impl<T, A: Allocator, G: Growth> ThinVec<T, A, G> {
     /// constant time, but changes the order of the items.
     pub fn swap_remove(&mut self, index: usize) -> T
         requires in_bounds { index < length self.old.items }
-        ensures value { slice_get self.old.items index ≡ Some result }
+        ensures value { result ≡ slice_index_or self.old.items index result }
+        ensures found { slice_get self.old.items index ≡ Some result }
         ensures items { self.new.items ≡ swap_remove self.old.items index result }
         ensures cost { self.new.cost ≡ add_moves
             (if index + 1 == length self.old.items then 0 else 1)

@@ -1,5 +1,5 @@
 //! The methods that append one item.
-ghost use Rattle.std.specs.Prelude.{◌≡◌, ◌+◌, ◌<◌, ◌≤◌, [], ◌∷◌, ◌++◌, IfErr, IfOk, IsErr, IsOk, None, OnErr, OnOk, length, slice_index_or};
+ghost use Rattle.std.specs.Prelude.{◌≡◌, ◌+◌, ◌<◌, ◌≤◌, [], ◌∷◌, ◌++◌, IfErr, IfOk, IsErr, IsOk, None, if◌then◌else◌, is_ok, OnErr, OnOk, length, slice_index_or};
 ghost use Rattle.std.specs.List.{SameBelow};
 ghost use Rattle.thin_block.specs.Cost.{add_moves};
 ghost use Rattle.thin_vec.specs.List.Capacity.{CostsMoves, Grows, LacksRoom, PreservesList};
@@ -26,8 +26,10 @@ impl<T, A: Allocator, G: Growth> ThinVec<T, A, G> {
     #[inline(always)]
     pub fn push(&mut self, value: T) -> Result<(), Rejected<T>>
         // On success.
-        ensures items { OnOk result (self.new.items ≡ self.old.items ++ value ∷ []) }
-        ensures len { OnOk result (length self.new.items ≡ length self.old.items + 1) }
+        ensures items { self.new.items
+            ≡ (if is_ok result then self.old.items ++ value ∷ [] else self.old.items) }
+        ensures len { length self.new.items
+            ≡ (if is_ok result then length self.old.items + 1 else length self.old.items) }
         ensures cost { OnOk result (CostsMoves 1 self.old self.new) }
 
         // When it must succeed.

@@ -33,7 +33,7 @@ returns-clause-value g c =
     let row = c.self.inside.entries in
     let place = rw c.as_slice.ensures.value at c.in-Ok.ensures.ok in
     let read = get_or_from_slice_get row.items c.in-Ok.at _ c.remove-column.result
-    c.remove-column.ensures.value in
+    c.remove-column.ensures.found in
     let found = get_at row.items c.self.invariant.sorted c.args.column c.in-Ok.at place
     c.remove-column.result in
     rw (← c.self.view_is) (sym (found ∙ ap (λ entry. Some entry.1) read))

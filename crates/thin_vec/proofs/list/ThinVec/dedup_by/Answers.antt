@@ -1,6 +1,7 @@
 -- The test that `dedup_by` passes to `dedup_with` calls the closure `same` exactly once.
 use Rattle.std.specs.Fn.{CalledAtPairMut}
 use Rattle.thin_vec.proofs.edits.DedupLemmas.{deduped-moves, deduped-through, few-deduped}
+use Rattle.thin_vec.proofs.EditLemmas.{deduped_deduped}
 use Rattle.thin_vec.proofs.list.ThinVec.dedup_by.Goals as goal
 
 pub returns-clause-deduped : goal.returns-clause-deduped
@@ -17,3 +18,9 @@ returns-clause-bound g c =
 pub returns-clause-moves : goal.returns-clause-moves
 returns-clause-moves g c =
     deduped-moves _ _ _ c.args.self.now c.dedup_with.new.self c.dedup_with.ensures.deduped
+
+pub returns-clause-filtered : goal.returns-clause-filtered
+returns-clause-filtered g c =
+    deduped_deduped (CalledAtPairMut g.F.FnMut) _ c.args.self.now c.dedup_with.new.self
+    (deduped-through (CalledAtPairMut g.F.FnMut) (λ s. s.same)
+    _ c.args.self.now c.dedup_with.new.self _ c.dedup_with.ensures.deduped)

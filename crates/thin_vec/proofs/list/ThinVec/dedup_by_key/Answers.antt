@@ -1,6 +1,7 @@
 -- The test that `dedup_by_key` passes to `dedup_with` compares the keys of the two items.
 use Rattle.std.specs.Fn.{ComparesKeys}
 use Rattle.thin_vec.proofs.edits.DedupLemmas.{deduped-moves, deduped-through, few-deduped}
+use Rattle.thin_vec.proofs.EditLemmas.{deduped_deduped}
 use Rattle.thin_vec.proofs.list.ThinVec.dedup_by_key.Goals as goal
 
 pub returns-clause-deduped : goal.returns-clause-deduped
@@ -17,3 +18,9 @@ returns-clause-bound g c =
 pub returns-clause-moves : goal.returns-clause-moves
 returns-clause-moves g c =
     deduped-moves _ _ _ c.args.self.now c.dedup_with.new.self c.dedup_with.ensures.deduped
+
+pub returns-clause-filtered : goal.returns-clause-filtered
+returns-clause-filtered g c =
+    deduped_deduped (ComparesKeys g.F.FnMut g.K.PartialEq.eq) _ c.args.self.now c.dedup_with.new.self
+    (deduped-through (ComparesKeys g.F.FnMut g.K.PartialEq.eq) (λ s. s.key)
+    _ c.args.self.now c.dedup_with.new.self _ c.dedup_with.ensures.deduped)

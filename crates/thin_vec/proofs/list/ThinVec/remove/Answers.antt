@@ -1,5 +1,5 @@
 -- `remove` takes the item out of its slot, and moves all later items down by one slot.
-use Rattle.std.proofs.Common.{◌+◌, ◌-◌, ap, ◌∙◌, length, arith, refl}
+use Rattle.std.proofs.Common.{◌+◌, ◌-◌, ap, ◌∙◌, length, arith, refl, sym}
 use Rattle.std.specs.Prelude.{remove}
 use Rattle.thin_vec.proofs.ListLemmas.{RestoresInvariant, thin-filled, thin-get, kept-filled}
 use Rattle.thin_block.proofs.BlockLemmas.{then-len}
@@ -9,6 +9,7 @@ use Rattle.thin_block.specs.Slots.{items_in, move_slots}
 use Rattle.thin_vec.proofs.list.ThinVec.remove.Goals.{After-store_len}
 use Rattle.thin_vec.proofs.list.InsertRemoveLemmas.{restores-remove}
 use Rattle.thin_vec.proofs.list.ReservesLemmas.{keeps-settled}
+use Rattle.std.proofs.lemmas.Option.{get_or_from_slice_get}
 use Rattle.thin_vec.proofs.list.ThinVec.remove.Goals as goal
 
 pub take-value-requires : goal.take-value-requires
@@ -25,8 +26,8 @@ move_down-requires-clause-filled g c = λ j low high.
     (omega arith) (omega (arith, high, c.len-len.ensures.value, c.self.invariant.packed.len))
     (ap (λ v. v.slots) c.take-value.ensures.changes)
 
-pub returns-clause-value : goal.returns-clause-value
-returns-clause-value g c =
+pub returns-clause-found : goal.returns-clause-found
+returns-clause-found g c =
     rw (← ap (λ v. v.items) c.self.view_is)
     (thin-get c.self.inside.block c.self.inside.alloc c.args.index c.take-value.result
     c.self.invariant (omega
@@ -48,6 +49,9 @@ facts g c =
 
 pub invariant_of-self : goal.invariant_of-self
 invariant_of-self g c = (facts g c).thin
+
+pub returns-clause-value : goal.returns-clause-value
+returns-clause-value g c = sym (get_or_from_slice_get c.args.self.now.items c.args.index c.take-value.result c.take-value.result (returns-clause-found g c))
 
 pub returns-clause-items : goal.returns-clause-items
 returns-clause-items g c = (facts g c).items ∙ ap (λ v. remove v.items c.args.index) c.self.view_is

@@ -6,6 +6,7 @@ use Rattle.thin_block.specs.Slots.{items_in}
 use Rattle.thin_vec.proofs.list.InsertRemoveLemmas.{restores-replaced}
 use Rattle.thin_vec.proofs.ListLemmas.{RestoresInvariant, thin-filled, thin-get}
 use Rattle.thin_vec.proofs.list.ReservesLemmas.{keeps-settled}
+use Rattle.std.proofs.lemmas.Option.{get_or_from_slice_get}
 use Rattle.thin_vec.proofs.list.ThinVec.swap_remove.Goals as goal
 
 pub swap_take-value-requires : goal.swap_take-value-requires
@@ -33,13 +34,16 @@ facts g c =
 pub invariant_of-self : goal.invariant_of-self
 invariant_of-self g c = (facts g c).thin
 
-pub returns-clause-value : goal.returns-clause-value
-returns-clause-value g c =
+pub returns-clause-found : goal.returns-clause-found
+returns-clause-found g c =
     let long = ap (λ v. length v.items) c.self.view_is in
     sym (ap (λ v. slice_get v.items c.args.index) c.self.view_is)
     ∙ thin-get c.self.inside.block c.self.inside.alloc c.args.index c.swap_take-value.result
     c.self.invariant (omega (arith, c.requires.in_bounds, long))
     c.swap_take-value.ensures.value
+
+pub returns-clause-value : goal.returns-clause-value
+returns-clause-value g c = sym (get_or_from_slice_get c.args.self.now.items c.args.index c.swap_take-value.result c.swap_take-value.result (returns-clause-found g c))
 
 pub returns-clause-items : goal.returns-clause-items
 returns-clause-items g c = (facts g c).items
