@@ -7,6 +7,7 @@ pub use borrow.Table.OneValue.{part_in, part_out}
 pub use contract.BorrowLft.{⊑_trans, ◌⊑◌, ⊑_static}
 pub use contract.Monad.{fact, fact_i, Fun}
 pub use contract.Running.{tables}
+unfoldable pub use contract.Running.{tables_of}
 pub use denote.Array.{Array}
 pub use denote.Builtin.{usize, unit, bool, u64}
 pub use denote.Exit.{yes}
@@ -38,6 +39,7 @@ pub use prog.Capped.{capped_is, capped_fits}
 pub use prog.Memory.{size, align, capped, Memory, up}
 pub use prog.RawLaws.{size-raw, align-raw}
 pub use prog.Routine.{Routine}
+unfoldable pub use prog.Wp.{after_turn}
 pub use prog.Wp.{Env, WpFn, Calls, Loops, Tables, Wp, after_seq, after_block, Out, at_return}
 pub use seplogic.Ra.Ura.{Ura}
 pub use sound.WpLaws.{WpFn-mono}
@@ -56,7 +58,7 @@ pub use Rattle.core.proofs.slots.Lent.{pointer_in, pointer_out, word_in, word_ou
 pub use Rattle.core.specs.Allocator.{array_of, block_with_items}
 pub use Rattle.core.specs.Ptr.{memory_before_copy, memory_after_copy}
 pub use Rattle.std.proofs.lemmas.List.{length-take, length-append}
-pub use Rattle.std.proofs.raw_atomic.Walks.{proved_at, leaves}
+pub use Rattle.std.proofs.raw_atomic.Walks.{proved, proved_at, leaves}
 pub use Rattle.std.specs.Align.{type_align}
 pub use Rattle.std.specs.Int.{div_ceil}
 pub use Rattle.std.specs.Mem.{type_size}

@@ -11,8 +11,8 @@ use crate::block::Block;
 use crate::errors::ThinVecError;
 use crate::in_place::LONG;
 use crate::sizes::{
-    HEADER, HEADER_WORDS, Layout, align_of_block, bytes_of_block, is_padded, item_size, layout_of,
-    may_be_padded,
+    HEADER, HEADER_WORDS, Layout, block_align, block_bytes, has_padding, item_size, layout_of,
+    may_have_padding,
 };
 use std::alloc::{AllocError, Allocator};
 use std::marker::PhantomData;
@@ -61,7 +61,7 @@ impl<T, A: Allocator> Block<T, A> {
         ensures cause { IfErr result (λ cause. cause ≡ ThinVecError.OutOfMemory) }
     {
         let Layout { bytes, front } = layout_of::<T>(cap);
-        let align = align_of_block::<T>();
+        let align = block_align::<T>();
         Ok(Block::allocate_sized(alloc, cap, bytes, align, front, self)?)
     }
 
@@ -146,7 +146,7 @@ impl<T, A: Allocator> Block<T, A> {
             4 if len >= LONG * 2 && len % 2 == 0 => self.resize_in_place::<2, 2>(alloc, len, cap),
             8 if len >= LONG => self.resize_in_place::<1, 2>(alloc, len, cap),
             16 if len >= LONG / 2 => self.resize_in_place::<1, 1>(alloc, len, cap),
-            _ if is_padded::<T>(self.cap()) && is_padded::<T>(cap) && len > 0 => {
+            _ if has_padding::<T>(self.cap()) && has_padding::<T>(cap) && len > 0 => {
                 let old = self.cap();
                 let front = item_size::<T>() - HEADER;
                 Ok(self.resize_padded(alloc, len, old, cap, old + 2, cap + 2, front)?)
@@ -185,11 +185,11 @@ impl<T, A: Allocator> Block<T, A> {
         requires empty { self.slots ≡ empty_slots (length self.slots) }
         requires fits { Fits T.row cap }
     {
-        if may_be_padded::<T>(cap) {
+        if may_have_padding::<T>(cap) {
             self.free_large(alloc, cap);
         } else {
-            let bytes = bytes_of_block::<T>(cap);
-            self.free_sized(alloc, cap, bytes, align_of_block::<T>(), 0);
+            let bytes = block_bytes::<T>(cap);
+            self.free_sized(alloc, cap, bytes, block_align::<T>(), 0);
         }
     }
 
@@ -205,7 +205,7 @@ impl<T, A: Allocator> Block<T, A> {
         requires fits { Fits T.row cap }
     {
         let Layout { bytes, front } = layout_of::<T>(cap);
-        self.free_sized(alloc, cap, bytes, align_of_block::<T>(), front);
+        self.free_sized(alloc, cap, bytes, block_align::<T>(), front);
     }
 
     /// Consumes a block without slots. Unlike `release`, this function does not test whether the

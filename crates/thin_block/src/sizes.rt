@@ -30,7 +30,7 @@ pub(crate) fn item_align<T>() -> usize
 }
 
 // Returns the alignment of a block in bytes.
-pub(crate) fn align_of_block<T>() -> usize
+pub(crate) fn block_align<T>() -> usize
     ensures value { result ≡ block_align (type_align T.row) }
 {
     let align = item_align::<T>();
@@ -39,29 +39,29 @@ pub(crate) fn align_of_block<T>() -> usize
 
 // Returns the size in bytes of a block for `cap` items that is not padded. It is a multiple of the
 // alignment, so a block whose items form words is an array of words of just this size.
-pub(crate) fn bytes_of_block<T>(cap: usize) -> usize
+pub(crate) fn block_bytes<T>(cap: usize) -> usize
     requires { Fits T.row cap }
     ensures value { result ≡ block_bytes (type_size T.row) (type_align T.row) cap }
 {
-    (HEADER + cap * item_size::<T>()).next_multiple_of(align_of_block::<T>())
+    (HEADER + cap * item_size::<T>()).next_multiple_of(block_align::<T>())
 }
 
 // The least capacity of a padded block. So the padding is at most a sixteenth of the items.
 const PADDED: usize = 32;
 
 // Returns whether a block for `cap` items is padded unless `has_room_for_padding` returns `false`.
-pub(crate) fn may_be_padded<T>(cap: usize) -> bool
+pub(crate) fn may_have_padding<T>(cap: usize) -> bool
     ensures value { result ≡ may_have_padding (type_size T.row) (type_align T.row) cap }
 {
     item_size::<T>() > HEADER && item_align::<T>() >= 8 && cap >= PADDED
 }
 
 #[tactic(auto, unfolding(crate::specs::Capacity::has_padding))]
-pub(crate) fn is_padded<T>(cap: usize) -> bool
+pub(crate) fn has_padding<T>(cap: usize) -> bool
     requires { Fits T.row cap }
     ensures value { result ≡ has_padding (type_size T.row) (type_align T.row) cap }
 {
-    may_be_padded::<T>(cap) && has_room_for_padding::<T>(cap)
+    may_have_padding::<T>(cap) && has_room_for_padding::<T>(cap)
 }
 
 // Returns whether `cap` items take less than `2^62` bytes, so that a padded block for them takes at
@@ -99,7 +99,7 @@ pub(crate) fn layout_of<T>(cap: usize) -> Layout
     ensures bytes { result.bytes ≡ memory_bytes (type_size T.row) (type_align T.row) cap }
     ensures front { result.front ≡ front_bytes (type_size T.row) (type_align T.row) cap }
 {
-    if is_padded::<T>(cap) {
+    if has_padding::<T>(cap) {
         let size = item_size::<T>();
         Layout {
             bytes: (cap + 2) * size,
@@ -107,7 +107,7 @@ pub(crate) fn layout_of<T>(cap: usize) -> Layout
         }
     } else {
         Layout {
-            bytes: bytes_of_block::<T>(cap),
+            bytes: block_bytes::<T>(cap),
             front: 0,
         }
     }
@@ -125,5 +125,5 @@ pub fn fits<T>(cap: usize) -> bool
     if size == 0 {
         return true;
     }
-    cap <= (isize::MAX as usize + 1 - align_of_block::<T>() - HEADER) / size
+    cap <= (isize::MAX as usize + 1 - block_align::<T>() - HEADER) / size
 }

@@ -98,16 +98,18 @@ pub record InWords (s a m k : ℕ) : Type 0 where
   pub any : 0 < k
 
 in_words_by : (s a m k : ℕ) → Counts m → 0 < k → k * (m * s) ≡ 16 → Laid s a m k → InWords s a m k
-in_words_by s a m k c any room l = record {
-  counts = c;
-  size = l.0;
-  align = l.1.0;
-  eight = l.1.1.0;
-  item = l.1.1.1.0;
-  bytes_are = l.1.1.1.1;
-  room = room;
-  any = any;
-}
+in_words_by s a m k c any room l =
+    let (size, (align, (eight, (item, bytes_are)))) = l in
+    record {
+      counts = c;
+      size = size;
+      align = align;
+      eight = eight;
+      item = item;
+      bytes_are = bytes_are;
+      room = room;
+      any = any;
+    }
 
 -- `AtAny s m k` states that `InWords` holds for every alignment that divides the item size `s`.
 abbrev AtAny : ℕ → ℕ → ℕ → Type 0

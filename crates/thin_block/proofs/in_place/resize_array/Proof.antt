@@ -39,7 +39,9 @@ resize_array_spec 𝓤 𝓛 𝓜 𝓡 wired T A k LT LA fits_k g d dd met md =
     -- `back` are the last values, which are in the gap while the allocator runs.
     let back : List T.Denot = rest (len - k) items in
     let turned : List T.Denot = back ++ take (len - k) items in
-    let Tokens : Item 𝓤 = raw (toks 𝓛 2 z.0.0.1.1 z.0.1.1.1) in
+    let (_, (_, κs)) = z.0.0 in
+    let (_, (_, qs)) = z.0.1 in
+    let Tokens : Item 𝓤 = raw (toks 𝓛 2 κs qs) in
     let out : (y : Bool) (b' o' : ℕ) → Sq 𝓛 (‵ (left (result_of y b' o')) ∷ ‵ (flft κ q) ∷ ‵
     (flft κT qT) ∷ Tokens ∷ []) (prop (Post (answer_val y b' o'))) = λ y b' o'.
     suffices ! _ (ends_at 𝓛 En₀ hs c z (answer_val y b' o') (result_of y b' o')

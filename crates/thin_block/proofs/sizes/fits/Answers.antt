@@ -71,6 +71,6 @@ returns g c =
     let some = positive c.item_size-size.result c.if-size-eq0.false in
     record {
       value = by_division (param 0 g.row.T) c.args.cap c.item_size-size.result
-          c.align_of_block.result c.align_of_block.ensures.value c.item_size-size.ensures.value some
+          c.block_align.result c.block_align.ensures.value c.item_size-size.ensures.value some
           (omega arith);
     }

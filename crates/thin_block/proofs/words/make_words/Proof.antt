@@ -1,20 +1,11 @@
 -- This file proves the contract of `make_words`. For each word, the function reads the items of the
 -- word, and writes them back as one word at the same address.
 use Rattle.std.proofs.Common.{◌≡◌, refl, sym, ap, ◌∙◌, List, [], ◌∷◌, map, ℕ, suc, ◌+◌, ◌-◌, ◌*◌, ◌<◌, ◌^◌, arith, lit<, length, w64}
-use Rattle.thin_block.proofs.WalkPrelude.{suc-mul, zero-mul, Ura, ltb→lt, nltb→le, full_share, Ty, Fn, Body, Args, a_type, a_number, ty_int, ty_array, bare, inst_fn, Val, vunit, vint, vptr, vstruct, vcons, vnil, WT, has_ty, SProp, ent, emp, sep, wand, never_e, apply∗, Lft, Share, Fml, ftrue, fat, flft, froom, ◌⊑◌, Memory, size, size-raw, Routine, Env, Wp, WpFn, Tables, after_seq, after_block, Holds, Logic, sem, Fun, fact, tables, WpFn-mono, Item, Sq, any_q, runs, ‵, raw, ◌⊛◌, exists, prop, at_ret, ◌$◌, ◌∵◌, !, qed, by, move, keep, drop, use0, use1, use2, join, split, pick, rewrite, fsplit, fjoin, feq_i, assume, suffices, done, agg, stop, look, load, lit, bin, unit_lit, of_opd, no_more, and_then, init, assigns_last, first, blocks, skips, branches, exec, returns, enter, alloc_all, pass_all, free_all, look_at, get, through, sets, sets_last, env, Array, usize, yes, Is, shows, part_at, layout, layouts, number, ArrayAt, param_laws, array_at_laws, uint_vals, uint_Tells, RattleType, owns, Ptr, RawPtr, block_ptr, null_ptr, ptr_val, rawptr_vals, rawptr_Tells, plain, heard, nothing, peeks, Ended, Clauses, triple_of, entered, Stays, stay_dropped, walk_of, ends_at, walked, Goes-dropped, walk_Meets, part_out, part_in, El, R, el_x, times_below, type_size, Out, at_return, size_lit, jumps, loops, again, Below, holding, forget_but, take_at, give_at, u64, one_more, one_below, slots_own, word_of, filled_slots}
-use prog.Wp.{after_turn}
-use contract.Running.{tables_of}
+use Rattle.thin_block.proofs.WalkPrelude.{suc-mul, zero-mul, Ura, ltb→lt, nltb→le, full_share, Ty, Fn, Body, Args, a_type, a_number, ty_int, ty_array, bare, inst_fn, Val, vunit, vint, vptr, SProp, ent, emp, sep, wand, never_e, apply∗, Lft, Share, Fml, ftrue, fat, flft, froom, ◌⊑◌, size, size-raw, Env, Wp, WpFn, Tables, after_seq, after_block, Logic, sem, fact, tables, Item, Sq, any_q, runs, ‵, raw, ◌⊛◌, exists, prop, at_ret, ◌$◌, ◌∵◌, !, qed, by, move, keep, drop, use0, use1, use2, join, split, pick, rewrite, fsplit, fjoin, feq_i, assume, suffices, done, agg, stop, look, load, lit, bin, unit_lit, of_opd, no_more, and_then, init, assigns_last, first, blocks, skips, branches, exec, returns, enter, alloc_all, pass_all, free_all, look_at, get, through, sets, sets_last, env, usize, yes, Is, shows, part_at, layout, layouts, number, param_laws, array_at_laws, uint_vals, uint_Tells, RattleType, owns, Ptr, RawPtr, block_ptr, null_ptr, ptr_val, rawptr_vals, rawptr_Tells, plain, heard, nothing, peeks, Ended, Stays, stay_dropped, walk_of, ends_at, Goes-dropped, part_out, part_in, El, R, el_x, times_below, type_size, Out, at_return, size_lit, jumps, loops, again, Below, holding, forget_but, take_at, give_at, one_more, one_below, slots_own, word_of, filled_slots, after, head, after_turn, proved, tables_of}
 use lib.WfN.{lt-wf_rel}
-use prog.Align.{both}
-use denote.Array.{Array-Makes}
-use denote.Plain.{uint_Makes}
-use denote.Signature.Struct.{makes}
-use denote.Steps.{owned}
-use denote.Struct.Declared.{shape}
-use Rattle.core.proofs.slots.Bodies.{after, head}
-use Rattle.thin_block.specs.Words.{word, runs_at, runs_from}
-use Rattle.thin_block.specs.contracts.words.Word.{the_type}
+use Rattle.thin_block.specs.Words.{word, runs_at, runs_from, words_from}
 use Rattle.thin_block.proofs.words.WordsMemory.{word_row, number_of_items}
+use Rattle.thin_block.proofs.words.OneWord.{run_row, word_val, word_fits, word_made}
 use Rattle.thin_block.specs.contracts.words.make_words.Key.{name as #self}
 use mathlib.Core.WellFounded.InvImage
 use Rattle.thin_block.specs.contracts.words.make_words as F
@@ -35,10 +26,7 @@ module _ (E : El) (m : ℕ) where
   ended = F.ended E.row (number m)
 
   abbrev stayed : Stays ended.signature.params ended.kept
-  stayed = (
-    stay_dropped (plain (λ _. RawPtr)) yes,
-    (stay_dropped (plain (λ _. usize)) yes, tt),
-  )
+  stayed = (stay_dropped _ yes, (stay_dropped _ yes, tt))
 
   -- `Runs` is the type of lists of words in which each word is given as the list of its items.
   abbrev Runs : Type 0
@@ -47,39 +35,9 @@ module _ (E : El) (m : ℕ) where
   abbrev N : RattleType
   N = number_of_items m
 
-  abbrev Arr : RattleType
-  Arr = ArrayAt (R E) N
-
-  abbrev Wr : RattleType
-  Wr = word_row E.row m
-
-  -- `word_val v` is the machine value of a word whose array of items has the machine value `v`.
-  abbrev word_val : Val → Val
-  word_val v = vstruct (vcons v (vcons (vstruct vnil) vnil))
-
-  abbrev Fits : Ty → Val → Type 0
-  Fits τ v = Holds (has_ty τ v) × WT v
-
-  word_fits : (v : Val) → Fits (ty_array (layout E.row) m) v → Fits (layout Wr) (word_val v)
-  word_fits v fits = (both (has_ty (ty_array (layout E.row) m) v) _ fits.0 tt, (fits.1, (tt, tt)))
-
-  word_made : {M : Type 1} {𝓤 : Ura M} (𝓛 : Logic 𝓤) (xs : List (el_x E)) (v : Val)
-      → ent 𝓤 (sem 𝓛 (Arr.own_val xs (v ∷ [])))
-      (sem 𝓛 (Wr.own_val (word (R E) N xs) (word_val v ∷ [])))
-  word_made 𝓛 xs v =
-      let D = the_type (R E) N in
-      let fields = (shape D).fields in
-      qed 𝓛 (‵ (Arr.own_val xs (v ∷ [])) ∷ []) ∵ nothing ! $
-      owned ! (Array u64 0) (Is (Array u64 0)) (Array-Makes 𝓛 u64 (uint_Makes 𝓛 w64) 0) []
-      (vstruct vnil ∷ []) ([], ((refl, refl), tt)) $ fjoin ! $ move ! (1 ∷ 0 ∷ []) $ fjoin ! $
-      by ! (makes 𝓛 fields (owns fields (xs, ([], tt))) (v ∷ [], (vstruct vnil ∷ [], tt)))
-
-module _ (E : El) (m : ℕ) {M : Type 1} {𝓤 : Ura M} (𝓛 : Logic 𝓤) (at_mem : Memory → SProp 𝓤)
-    (run : Routine → Fun 𝓤) (𝓣 : Tables 𝓤 𝓛.H) (κ κ' : Lft) (q q' : Share) where
+module _ (E : El) (m : ℕ) {M : Type 1} {𝓤 : Ura M} (𝓛 : Logic 𝓤) (𝓣 : Tables 𝓤 𝓛.H)
+    (κ κ' : Lft) (q q' : Share) (Post : Val → SProp 𝓤) (n : ℕ) (g : Runs E m) where
   open 𝓛 use {H, A}
-
-  abbrev held : Clauses 𝓤 (ended E m)
-  held = F.clauses E.row (number m) 𝓛 at_mem run
 
   abbrev σ : Ty
   σ = ty_array (layout E.row) m
@@ -93,29 +51,22 @@ module _ (E : El) (m : ℕ) {M : Type 1} {𝓤 : Ura M} (𝓛 : Logic 𝓤) (at_
   abbrev Tokens : Item 𝓤
   Tokens = ‵ (flft κ q) ⊛ ‵ (flft κ' q') ⊛ ‵ ftrue
 
-  abbrev bound : Ptr → ℕ → Runs E m → (walk_of 𝓛 (ended E m) (stayed E m) held).Ghost
-  bound p n g = (
-    (
-      (κ, (κ', tt)),
-      (q, (q', tt)),
-      tt,
-      (p, (n, tt)),
-      (ptr_val p ∷ [], (vint w64 n ∷ [], tt)),
-    ),
-    g,
-  )
+  -- `Exits p` states that what must hold at the return follows from the words at `p`.
+  abbrev Exits : Ptr → Type 1
+  Exits p = Sq 𝓛 (‵ (words_from (R E) (N E m) g p) ∷ Tokens ∷ []) (prop (Post vunit))
 
-  abbrev Goes : Ptr → ℕ → Runs E m → SProp 𝓤
-  Goes p n g = WpFn 𝓤 H 𝓣.C 𝓣.Λ (fn' E m) (ptr_val p ∷ vint w64 n ∷ [])
-      ((walk_of 𝓛 (ended E m) (stayed E m) held).post (bound p n g))
+  -- `Goes p` states that the function may be called with the items at `p`.
+  abbrev Goes : Ptr → Type 1
+  Goes p = Sq 𝓛 (‵ (runs_from (R E) (N E m) g p) ∷ Tokens ∷ [])
+      (prop (WpFn 𝓤 H 𝓣.C 𝓣.Λ (fn' E m) (ptr_val p ∷ vint w64 n ∷ []) Post))
 
-  module _ (b o n : ℕ) (g : Runs E m) (fn : n < 2 ^ 64) (fb : n * s < 2 ^ 64)
-      (dense : type_size (Wr E m) ≡ s) where
+  module _ (b o : ℕ) (fn : n < 2 ^ 64) (fb : n * s < 2 ^ 64) (dense : type_size (word_row E.row m) ≡ s)
+      (exits : Exits (block_ptr b o)) where
     abbrev Rest : Runs E m → ℕ → Fml
     Rest xss at = runs_at (R E) (N E m) xss b at
 
     abbrev Made : Runs E m → ℕ → Fml
-    Made xss at = slots_own (Wr E m) (filled_slots (map (word (R E) (N E m)) xss)) b at
+    Made xss at = slots_own (word_row E.row m) (filled_slots (map (word (R E) (N E m)) xss)) b at
 
     abbrev To : Fml
     To = Made g o
@@ -124,16 +75,6 @@ module _ (E : El) (m : ℕ) {M : Type 1} {𝓤 : Ura M} (𝓛 : Logic 𝓤) (at_
     -- items `xss`, with all words before them.
     abbrev Then : Runs E m → ℕ → SProp 𝓤
     Then xss at = wand 𝓤 (sem 𝓛 (Made xss at)) (sem 𝓛 To)
-
-    abbrev Post : Val → SProp 𝓤
-    Post = (walk_of 𝓛 (ended E m) (stayed E m) held).post (bound (block_ptr b o) n g)
-
-    exits : Sq 𝓛 (‵ To ∷ Tokens ∷ []) (prop (Post vunit))
-    exits =
-        suffices ! _ (ends_at 𝓛 (ended E m) (stayed E m) held (bound (block_ptr b o) n g) vunit tt
-        (tt, (tt, tt)) (tt, (tt, tt))) $
-        feq_i ! (List Val) (vunit ∷ []) (vunit ∷ []) refl $ nothing ! $ nothing ! $ fjoin ! $
-        nothing ! $ fjoin ! $ join ! $ move ! (2 ∷ 0 ∷ []) $ join ! $ join ! $ done !
 
     -- A state of the loop: the number `i` of words that have been made, the items `xss` of the
     -- other words, and a proof that these are all `n` words.
@@ -147,18 +88,18 @@ module _ (E : El) (m : ℕ) {M : Type 1} {𝓤 : Ura M} (𝓛 : Logic 𝓤) (at_
     here i = i * s + o
 
     same : size (word_of τ' m) ≡ s
-    same = size-raw (layout (Wr E m)) ∙ dense
+    same = size-raw (layout (word_row E.row m)) ∙ dense
 
     further : (i : ℕ) → here i + size (word_of τ' m) ≡ here (suc i)
     further i = let e = same in omega (arith, suc-mul i s)
 
     onward : (i : ℕ) (xs : List (el_x E)) (xss : Runs E m)
-        → ent 𝓤 (sep 𝓤 (sem 𝓛 (part_at (Wr E m) full_share (word (R E) (N E m) xs) b (here i)))
+        → ent 𝓤 (sep 𝓤 (sem 𝓛 (part_at (word_row E.row m) full_share (word (R E) (N E m) xs) b (here i)))
         (Then (xs ∷ xss) (here i))) (Then xss (here (suc i)))
     onward i xs xss =
-        let first : Fml = part_at (Wr E m) full_share (word (R E) (N E m) xs) b (here i) in
-        let next : here (suc i) ≡ here i + type_size (Wr E m) =
-        sym (further i) ∙ ap (λ (x : ℕ). here i + x) (size-raw (layout (Wr E m))) in
+        let first : Fml = part_at (word_row E.row m) full_share (word (R E) (N E m) xs) b (here i) in
+        let next : here (suc i) ≡ here i + type_size (word_row E.row m) =
+        sym (further i) ∙ ap (λ (x : ℕ). here i + x) (size-raw (layout (word_row E.row m))) in
         qed 𝓛 (‵ first ∷ raw (Then (xs ∷ xss) (here i)) ∷ []) ∵
         assume {P = sem 𝓛 To} ! (‵ (Made xss (here (suc i)))) $
         rewrite ! 0 (λ (x : ℕ). ‵ (Made xss x)) next refl $ move ! (1 ∷ 0 ∷ []) $ fjoin ! $
@@ -205,9 +146,9 @@ module _ (E : El) (m : ℕ) {M : Type 1} {𝓤 : Ura M} (𝓛 : Logic 𝓤) (at_
           -- memory for the word; the items of the later words; the right `Then` for the later
           -- words; the lifetime tokens.
           use1 𝓛 (exists (λ (v : Val). ‵ (fat full_share σ b at v) ⊛ ‵
-          ((Arr E m).own_val xs (v ∷ [])))) (part_out 𝓛 (Arr E m) refl full_share xs b at) $
+          ((run_row E m).own_val xs (v ∷ [])))) (part_out 𝓛 (run_row E m) refl full_share xs b at) $
           pick ! (λ v. split ! $ move ! (1 ∷ []) $
-          peeks ! (Arr E m) (Is (Arr E m)) (shows 𝓛 (Arr E m)) xs (v ∷ []) (λ is_v.
+          peeks ! (run_row E m) (Is (run_row E m)) (shows 𝓛 (run_row E m)) xs (v ∷ []) (λ is_v.
           let good = (((array_at_laws 1 (R E) (param_laws 0 E.row E.laws) m).lawful 𝓛).typed xs
           (v ∷ []) is_v).0 in
           let good' = word_fits E m v good in
@@ -222,15 +163,15 @@ module _ (E : El) (m : ℕ) {M : Type 1} {𝓤 : Ura M} (𝓛 : Logic 𝓤) (at_
           use1 𝓛 (‵ (froom (bare σ) b at)) (𝓛.laws.room-raw σ b at) $ move ! (0 ∷ 2 ∷ []) $
           use2 𝓛 (‵ (froom (word_of τ' m) b at))
           (apply∗ 𝓤 (H.room (bare σ) b at) (H.room (word_of τ' m) b at)) $
-          use1 𝓛 (‵ (froom (layout (Wr E m)) b at)) (𝓛.laws.raw-room (layout (Wr E m)) b at) $
+          use1 𝓛 (‵ (froom (layout (word_row E.row m)) b at)) (𝓛.laws.raw-room (layout (word_row E.row m)) b at) $
           assigns_last ! (of_opd ! (get ! refl)) (through ! refl (stop !)) (init ! 0 refl good') $
           exec ! 𝓣.C 𝓣.Λ En (after 3 (turn E m)) (any_q (Turned (i, (xs ∷ xss, e)))) $
           sets_last ! (bin ! (get ! refl) (lit ! tt) (record { fits = f₁ })) refl
           (tt, record { fits = f₁ }) $ move ! (1 ∷ []) $
-          use1 𝓛 (‵ ((Wr E m).own_val (word (R E) (N E m) xs) (word_val E m v ∷ [])))
+          use1 𝓛 (‵ ((word_row E.row m).own_val (word (R E) (N E m) xs) (word_val v ∷ [])))
           (word_made E m 𝓛 xs v) $ move ! (1 ∷ 0 ∷ []) $
-          use2 𝓛 (‵ (part_at (Wr E m) full_share (word (R E) (N E m) xs) b at))
-          (part_in 𝓛 (Wr E m) refl full_share (word (R E) (N E m) xs) b at (word_val E m v)) $
+          use2 𝓛 (‵ (part_at (word_row E.row m) full_share (word (R E) (N E m) xs) b at))
+          (part_in 𝓛 (word_row E.row m) refl full_share (word (R E) (N E m) xs) b at (word_val v)) $
           move ! (0 ∷ 2 ∷ []) $ use2 𝓛 (raw (Then xss (here (suc i)))) (onward i xs xss) $
           move ! (1 ∷ []) $ rewrite ! 0 (λ (x : ℕ). ‵ (Rest xss x)) (further i) refl $
           forget_but ! En (1 ∷ 2 ∷ 3 ∷ []) refl $ take_at ! 3 $
@@ -246,7 +187,7 @@ module _ (E : El) (m : ℕ) {M : Type 1} {𝓤 : Ura M} (𝓛 : Logic 𝓤) (at_
     start = qed 𝓛 [] ∵ assume {P = sem 𝓛 To} ! (‵ (Made g (here 0))) $
         rewrite ! 0 (λ (x : ℕ). ‵ (Made g x)) (sym begins) refl $ done !
 
-    runs_by : length g ≡ n → Sq 𝓛 (‵ (Rest g o) ∷ Tokens ∷ []) (prop (Goes (block_ptr b o) n g))
+    runs_by : length g ≡ n → Goes (block_ptr b o)
     runs_by count =
         rewrite ! 0 (λ (x : ℕ). ‵ (Rest g x)) begins refl $
         use0 𝓛 (raw (Then g (here 0))) start $ move ! (1 ∷ 0 ∷ []) $
@@ -257,39 +198,37 @@ module _ (E : El) (m : ℕ) {M : Type 1} {𝓤 : Ura M} (𝓛 : Logic 𝓤) (at_
         first ! $ blocks ! $ loops ! 𝓣 Nearer (InvImage.wf (λ (t : Left). n - t.0) lt-wf_rel.wf)
         (Now l) (λ t. turns_at l t.0 t.1.0 t.1.1) (0, (g, omega arith)))
 
-  from_ptr : (p : Ptr) (n : ℕ) (g : Runs E m) → n < 2 ^ 64 → n * s < 2 ^ 64
-      → type_size (Wr E m) ≡ s → length g ≡ n
-      → Sq 𝓛 (‵ (runs_from (R E) (N E m) g p) ∷ Tokens ∷ []) (prop (Goes p n g))
-  from_ptr null_ptr n g fn fb dense count = keep ! (0 ∷ []) $ by ! (never_e 𝓤 _)
-  from_ptr (block_ptr b o) n g fn fb dense count = runs_by b o n g fn fb dense count
-
-  walk : (p : Ptr) (n : ℕ) (g : Runs E m) → n < 2 ^ 64
-      → ent 𝓤 ((walk_of 𝓛 (ended E m) (stayed E m) held).pre (bound p n g)) (Goes p n g)
-  walk p n g fn =
-      let Counted : Type 0 = length g ≡ n in
-      let Dense : Type 0 = type_size (Wr E m) ≡ s in
-      let Short : Type 0 = n * s < 2 ^ 64 in
-      qed 𝓛 ((Tokens ⊛ ‵ (owns (RawPtr ∷ usize ∷ []) (p, (n, tt)) (bound p n g).0.4))
-      ∷ (raw (fact 𝓤 (κ ⊑ E.row.lives)) ⊛ raw (fact 𝓤 (κ' ⊑ [])) ⊛ raw (fact 𝓤 Counted) ⊛
-      raw (fact 𝓤 Dense) ⊛ raw (fact 𝓤 Short) ⊛ ‵ (runs_from (R E) (N E m) g p)) ∷ []) ∵
-      split ! $ move ! (1 ∷ []) $ drop ! $ move ! (1 ∷ []) $ split ! $ drop ! $ split ! $ drop ! $
-      split ! $ heard ! Counted (λ count. split ! $ heard ! Dense (λ dense. split ! $
-      heard ! Short (λ fb. from_ptr p n g fn fb dense count)))
+  from_ptr : (p : Ptr) → n < 2 ^ 64 → n * s < 2 ^ 64 → type_size (word_row E.row m) ≡ s → length g ≡ n
+      → Exits p → Goes p
+  from_ptr null_ptr fn fb dense count exits = keep ! (0 ∷ []) $ by ! (never_e 𝓤 _)
+  from_ptr (block_ptr b o) fn fb dense count exits = runs_by b o fn fb dense exits count
 
 pub make_words_spec : {M : Type 1} → stated.statement M
 unfolding tables_of
 make_words_spec 𝓤 𝓛 𝓜 𝓡 wired X m L fits_m =
     let E : El = record { row = X; laws = L } in
     let 𝓣 : Tables 𝓤 𝓛.H = tables_of 𝓤 𝓛.H 𝓜 (tables 𝓤 𝓛.H 𝓜 𝓡 𝓡.env) in
-    let held' = F.clauses X (number m) 𝓛 𝓜.mem 𝓡.returns in
+    let c = F.clauses X (number m) 𝓛 𝓜.mem 𝓡.returns in
+    let W = walk_of 𝓛 (ended E m) (stayed E m) c in
     let gone = λ (Y : RattleType). Goes-dropped 𝓛 2 (plain (λ _. Y)) yes in
-    entered 𝓤 𝓛.H
-    (triple_of 𝓛 (F.signature X (number m)) (F.spec X (number m) 𝓛 𝓜.mem 𝓡.returns)) 𝓣.C 𝓣.Λ
+    proved 𝓛 (ended E m) (stayed E m) c 𝓜 𝓡
+    (gone RawPtr (λ κs x f. refl), (gone usize (λ κs x f. refl), tt))
     (#self (args E m)) (fn' E m) (code.unfolded 𝓤 𝓛.H 𝓜 𝓡 wired (X, (number m, tt)))
-    (walk_Meets 𝓛 (ended E m) (stayed E m)
-    (gone RawPtr (λ κs x f. refl), (gone usize (λ κs x f. refl), tt)) held'
-    (WpFn 𝓤 𝓛.H 𝓣.C 𝓣.Λ (fn' E m)) (WpFn-mono 𝓤 𝓛.H 𝓛.laws 𝓣 (fn' E m))
-    (walked 𝓛 (ended E m) (stayed E m) held' (WpFn 𝓤 𝓛.H 𝓣.C 𝓣.Λ (fn' E m))
     (λ κs. (rawptr_vals, (uint_vals w64, tt))) (λ κs. (rawptr_Tells, (uint_Tells w64, tt)))
-    (λ κs qs bounds a g are. walk E m 𝓛 𝓜.mem 𝓡.returns 𝓣 κs.0 κs.1.0 qs.0 qs.1.0 a.0 a.1.0 g
-    are.1.0.1)))
+    (λ κs qs bounds a g are.
+    let (κ, (κ', _)) = κs in let (q, (q', _)) = qs in let (p, (n, _)) = a in
+    let y : W.Ghost = ((κs, qs, bounds, a, (ptr_val p ∷ [], (vint w64 n ∷ [], tt))), g) in
+    let exits : Exits E m 𝓛 𝓣 κ κ' q q' (W.post y) n g p =
+    suffices ! _ (ends_at 𝓛 (ended E m) (stayed E m) c y vunit tt (tt, (tt, tt)) (tt, (tt, tt))) $
+    feq_i ! (List Val) (vunit ∷ []) (vunit ∷ []) refl $ nothing ! $ nothing ! $ fjoin ! $
+    nothing ! $ fjoin ! $ join ! $ move ! (2 ∷ 0 ∷ []) $ join ! $ join ! $ done ! in
+    let Counted : Type 0 = length g ≡ n in
+    let Dense : Type 0 = type_size (word_row E.row m) ≡ m * type_size (R E) in
+    let Short : Type 0 = n * (m * type_size (R E)) < 2 ^ 64 in
+    qed 𝓛 ((Tokens E m 𝓛 𝓣 κ κ' q q' (W.post y) n g ⊛ ‵ (owns (RawPtr ∷ usize ∷ []) (p, (n, tt)) y.0.4))
+    ∷ (raw (fact 𝓤 (κ ⊑ E.row.lives)) ⊛ raw (fact 𝓤 (κ' ⊑ [])) ⊛ raw (fact 𝓤 Counted) ⊛
+    raw (fact 𝓤 Dense) ⊛ raw (fact 𝓤 Short) ⊛ ‵ (runs_from (R E) (N E m) g p)) ∷ []) ∵
+    split ! $ move ! (1 ∷ []) $ drop ! $ move ! (1 ∷ []) $ split ! $ drop ! $ split ! $ drop ! $
+    split ! $ heard ! Counted (λ count. split ! $ heard ! Dense (λ dense. split ! $
+    heard ! Short (λ fb. from_ptr E m 𝓛 𝓣 κ κ' q q' (W.post y) n g p are.1.0.1 fb dense count
+    exits))))

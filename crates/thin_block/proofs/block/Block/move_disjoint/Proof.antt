@@ -1,7 +1,7 @@
 -- This file proves the contract of `move_disjoint`, which moves items to slots that do not overlap
 -- with their old slots.
 use Rattle.std.proofs.Common.{◌≡◌, ℕ, Some, ◌+◌, ◌*◌, ◌^◌, ◌<◌, List, ◌∷◌, [], ◌++◌, length, refl, sym, ap, subst, ◌∙◌, arith, w64, Option}
-use Rattle.thin_block.proofs.WalkPrelude.{length-map, Holds, ty_array, ty_unit, Val, WT, has_ty, vint, vunit, inst_fn, full_share, Lft, Share, Fml, froom, flft, ‵, raw, ◌⊛◌, given, later, learn, await, ◌$◌, !, move, use1, use2, use3, split, split3, join, fsplit, fjoin, suffices, done, unit_lit, of_opd, no_more, and_then, first, blocks, returns, alloc_all, pass_all, free_all, look_at, sets, lands_last, get, Array, part_at, layout, calls_at_last, walk_of, ends_at, proved_at, framed, R, says_all, add_moves, with_slots, slots_own, move_slots}
+use Rattle.thin_block.proofs.WalkPrelude.{length-map, Holds, ty_array, ty_unit, Val, WT, has_ty, vint, vunit, inst_fn, full_share, Fml, froom, flft, ‵, raw, ◌⊛◌, given, later, learn, await, ◌$◌, !, move, use1, use2, use3, split, split3, join, fsplit, fjoin, suffices, done, unit_lit, of_opd, no_more, and_then, first, blocks, returns, alloc_all, pass_all, free_all, look_at, sets, lands_last, get, Array, part_at, layout, calls_at_last, walk_of, ends_at, proved_at, framed, R, says_all, add_moves, with_slots, slots_own, move_slots}
 use Rattle.core.proofs.alloc.Moves.{Copies, at_copies, Copies-goes, Copies-gives}
 use Rattle.thin_block.proofs.shifts.ShiftMemory.{Was, apart}
 use Rattle.thin_block.proofs.MethodSignatures.{item, source, others, block_stays, goes, begins, enters, closes_over, token_out, leaves_unit, ptr_of, opens_self, continues, word, full-run, length-run, args, Br, sz, reach, length-moved, near, its_ptr, slot_found, moves_on}
@@ -22,7 +22,7 @@ move_disjoint_spec 𝓤 𝓛 𝓜 𝓡 wired T A LT LA g d dd met md =
     let (r, (from, (to, (k, _)))) = z.0.3 in
     let ((is₀, _), ((is₁, f₁), ((is₂, f₂), ((is₃, fk), _)))) = are in
     let x = r.now in let cap : ℕ = length x.slots in
-    let κ₁ : Lft = z.0.0.1.0 in let q₁ : Share = z.0.1.1.0 in
+    let (_, (κ₁, _)) = z.0.0 in let (_, (q₁, _)) = z.0.1 in
     begins E Y 𝓛 ss z.0 (_ ∷ _ ∷ _ ∷ _ ∷ _ ∷ _ ∷ _ ∷ []) (λ lives _ source target filled bare far.
     let items = full-run x.slots from k source filled in
     let xs : List T.Denot = items.0 in

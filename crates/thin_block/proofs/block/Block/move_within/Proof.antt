@@ -1,7 +1,7 @@
 -- This file proves the contract of `move_within`, which moves adjacent items up or down by `d`
 -- slots.
 use Rattle.std.proofs.Common.{◌≡◌, ℕ, Some, ◌+◌, ◌*◌, ◌^◌, ◌<◌, List, ◌∷◌, [], ◌++◌, length, refl, sym, ap, subst, ◌∙◌, arith, w64, Option}
-use Rattle.thin_block.proofs.WalkPrelude.{length-map, Holds, ty_unit, Val, WT, has_ty, vint, vptr, vunit, inst_fn, emp, Lft, Share, Fml, ftrue, fsep, flft, ◌⊑◌, fact, fact_i, ‵, raw, ◌⊛◌, exists, later, pick, await, ◌$◌, !, move, drop, use0, use1, use2, split, join, suffices, done, bin, size_word, unit_lit, of_opd, no_more, and_then, first, blocks, returns, alloc_all, pass_all, free_all, look_at, is, sets, lands_last, get, usize, owns, RawPtr, block_ptr, nothing, calls_at_last, walk_of, ends_at, proved_at, framed, R, uncapped, says_all, feq_l, id⊢, unit, only, triple_of, vbool, memory_before_copy, memory_after_copy, add_moves, with_slots, slots_own, move_slots, bool, pure_i, IsShifted}
+use Rattle.thin_block.proofs.WalkPrelude.{length-map, Holds, ty_unit, Val, WT, has_ty, vint, vptr, vunit, inst_fn, emp, Fml, ftrue, fsep, flft, ◌⊑◌, fact, fact_i, ‵, raw, ◌⊛◌, exists, later, pick, await, ◌$◌, !, move, drop, use0, use1, use2, split, join, suffices, done, bin, size_word, unit_lit, of_opd, no_more, and_then, first, blocks, returns, alloc_all, pass_all, free_all, look_at, is, sets, lands_last, get, usize, owns, RawPtr, block_ptr, nothing, calls_at_last, walk_of, ends_at, proved_at, framed, R, uncapped, says_all, feq_l, id⊢, unit, only, triple_of, vbool, memory_before_copy, memory_after_copy, add_moves, with_slots, slots_own, move_slots, bool, pure_i, IsShifted}
 use Rattle.thin_block.proofs.shifts.ShiftMemory.{further, slides, distance, shifted}
 use Rattle.thin_block.proofs.MethodSignatures.{item, source, others, block_stays, goes, begins, enters, closes_over, token_out, leaves_unit, ptr_of, opens_self, continues, word, full-run, length-run, args, Br, sz, reach, length-moved, near, its_ptr, slot_found}
 use Rattle.thin_block.specs.contracts.block.Block.move_within.{ended, clauses}
@@ -26,7 +26,7 @@ move_within_spec 𝓤 𝓛 𝓜 𝓡 wired T A LT LA g d dd met md =
     let ((is₀, _), ((is₁, f₁), ((is₂, f₂), ((is₃, f₃), ((is₄, fk), (is₅, _)))))) = are in
     let x = r.now in let cap : ℕ = length x.slots in
     let from : ℕ = low + a in let to : ℕ = low + d in
-    let κ₁ : Lft = z.0.0.1.0 in let q₁ : Share = z.0.1.1.0 in
+    let (_, (κ₁, _)) = z.0.0 in let (_, (q₁, _)) = z.0.1 in
     begins E Y 𝓛 ss z.0 (_ ∷ _ ∷ _ ∷ _ ∷ _ ∷ _ ∷ _ ∷ []) (λ lives _ source target filled above below.
     let items = full-run x.slots from k source filled in
     let xs : List T.Denot = items.0 in

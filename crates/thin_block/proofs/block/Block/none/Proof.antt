@@ -28,11 +28,12 @@ none_spec 𝓤 𝓛 𝓜 𝓡 wired T A LT LA g d dd met md =
     proved_at 𝓛 En₀ hs c 𝓜 𝓡 tt (#self (args E Y)) fn
     (compiled.unfolded 𝓤 H 𝓜 𝓡 wired (T, (A, tt)) d dd) (λ z are.
     let Post : Val → SProp 𝓤 = (walk_of 𝓛 En₀ hs c).post z in
+    let (κT, (κA, _)) = z.0.0 in
     let a = z.0.3 in
     let vss = z.0.4 in
     qed 𝓛 ((raw (alive 𝓛 En₀.signature z.0.0 z.0.1) ⊛ ‵
-    (owns (types_at En₀.signature.params z.0.0) a vss)) ∷ (raw (fact 𝓤 (z.0.0.0 ⊑ T.lives))
-    ⊛ raw (fact 𝓤 (z.0.0.1.0 ⊑ A.lives)) ⊛ ‵ ftrue) ∷ []) ∵
+    (owns (types_at En₀.signature.params z.0.0) a vss)) ∷ (raw (fact 𝓤 (κT ⊑ T.lives))
+    ⊛ raw (fact 𝓤 (κA ⊑ A.lives)) ⊛ ‵ ftrue) ∷ []) ∵
     split ! $ keep ! (0 ∷ []) $
     enter ! 𝓣.C 𝓣.Λ fn [] Post $
     alloc_all ! (λ l. pass_all ! refl tt $

@@ -27,18 +27,14 @@ resize_padded_spec 𝓤 𝓛 𝓜 𝓡 wired T A LT LA g d dd met md =
     (goes E Y ss 𝓛 En₀.kept.1 ((λ κs x f. refl), (q, (q, (q, (q, (q, (q, tt))))))))
     (#self (args E Y)) fn (compiled.unfolded 𝓤 H 𝓜 𝓡 wired (T, (A, tt)) d dd) (λ z are.
     let Post : Val → SProp 𝓤 = (walk_of 𝓛 En₀ hs c).post z in
-    let B : RattleType = Br E Y in
-    let Rt : RattleType = R E in
-    let s : ℕ = sz E in
+    let B : RattleType = Br E Y in let Rt : RattleType = R E in let s : ℕ = sz E in
     let (_, (κ, (κT, (κA, _)))) = z.0.0 in
     let (_, (q, (qT, (qA, _)))) = z.0.1 in
     let (_, (_, (out, _))) = z.0.2 in
     let (r, (a, (len, (old, (cap, (held, (wanted, (front, _)))))))) = z.0.3 in
     let ((is₀, _), ((is₁, _), ((is₂, fl), ((is₃, fo), are')))) = are in
     let ((is₄, fc), ((is₅, fh), ((is₆, fw), ((is₇, ff), _)))) = are' in
-    let x = r.now in
-    let h = a.now in
-    let handle_at = a.ref_ptr in
+    let x = r.now in let h = a.now in let handle_at = a.ref_ptr in
     let Out : RattleType = type_at En₀.signature.result z.0.0 in
     let V = Resizing E Y 1 𝓛 𝓜.mem 𝓡.returns in
     let Tokens : Item 𝓤 = ‵ (flft κ q) ⊛ ‵ (flft κT qT) ⊛ ‵ (flft κA qA) ⊛ ‵ ftrue in

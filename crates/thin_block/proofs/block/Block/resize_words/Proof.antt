@@ -1,7 +1,7 @@
 -- This file proves the contract of `resize_words`, which converts a block into an array of words,
 -- resizes the array, and converts it back into a block.
 use Rattle.std.proofs.Common.{◌≡◌, ℕ, ◌+◌, ◌-◌, ◌*◌, ◌^◌, ◌<◌, ◌≤◌, List, [], ◌∷◌, ◌++◌, length, true, refl, sym, ap, subst, ◌∙◌, arith, lit<, w64, Some, Option}
-use Rattle.thin_block.proofs.WalkPrelude.{div_ceil, Ty, Body, Args, ty_int, a_type, a_number, dcons, dnil, bare, Val, WT, vint, vptr, vstruct, vcons, vnil, vunit, inst_fn, SProp, ex, emp, id⊢, Fml, ftrue, fsep, froom, flft, Env, ◌⊑◌, fact, fact_i, tables, After, Item, ‵, raw, ◌⊛◌, exists, pick, later, at_ret, ◌$◌, !, move, keep, drop, group, use0, use1, use2, split, split3, join, rewrite, fsplit, await, fjoin3, feq_i, feq_l, suffices, done, whole, sub, agg, stop, fld, lit, bin, init, store_in, unit_lit, of_opd, no_more, and_then, assigns, first, blocks, exec, returns, alloc_all, pass_all, free_all, look_at, get, get_in, through, is, sets, sets_last, lands_as, env, usize, unit, RattleType, owns, yes, layout, param, number, bounded, Ptr, RawPtr, block_ptr, nothing, only, calls_at, triple_of, walk_of, ends_at, array_of, Al, token, fm, proved_at, type_size, type_align, El, R, then_runs, out_of_block, after, head, inside, arm_body, says_all, refused_made, mul_assoc, live, vrt, in_variant, switches_on, get_tag, pure_i, type_at, Flagged, flagged, Ok, Err, ok_of, err_of, add_realloc, block_bytes, items_in, filled_slots, empty_slots, write_slots, slot_range, fits_block, slots_own, header_owns, dealloc_right, word_of, slots_wand, runs_at, FitsGap, block_view}
+use Rattle.thin_block.proofs.WalkPrelude.{div_ceil, Ty, Body, Args, ty_int, a_type, a_number, dcons, dnil, bare, Val, WT, vint, vptr, vstruct, vcons, vnil, vunit, inst_fn, SProp, ex, id⊢, Fml, ftrue, froom, flft, Env, ◌⊑◌, tables, After, Item, ‵, raw, ◌⊛◌, later, at_ret, ◌$◌, !, move, keep, drop, group, use0, use1, use2, split, split3, join, rewrite, fsplit, await, fjoin3, feq_i, feq_l, suffices, done, whole, sub, agg, stop, fld, lit, bin, init, store_in, unit_lit, of_opd, no_more, and_then, assigns, first, blocks, exec, returns, alloc_all, pass_all, free_all, look_at, get, get_in, through, is, sets, sets_last, lands_as, env, unit, RattleType, yes, layout, param, number, bounded, Ptr, block_ptr, only, calls_at, walk_of, ends_at, array_of, Al, token, fm, proved_at, type_size, type_align, El, R, then_runs, out_of_block, after, head, inside, arm_body, says_all, refused_made, mul_assoc, live, vrt, in_variant, switches_on, get_tag, type_at, Flagged, flagged, Ok, Err, ok_of, err_of, add_realloc, block_bytes, items_in, filled_slots, empty_slots, write_slots, slot_range, fits_block, slots_own, header_owns, dealloc_right, word_of, slots_wand, runs_at, FitsGap, block_view}
 use contract.BorrowLft.{⊑_meet, ⊑_static}
 use denote.Param.{arg}
 use denote.Param.Laws.{arg_laws}
@@ -9,6 +9,7 @@ use Rattle.core.specs.Simd.{first_chunks}
 use Rattle.thin_block.proofs.sizes.SizesLemmas.{fits_tells, opened}
 use Rattle.thin_block.proofs.WordConversionLemmas.{Kept, header_apart, right_in, words_apart}
 use Rattle.thin_block.proofs.words.WordsLemmas.{InWords, words_told}
+use Rattle.thin_block.proofs.words.MadeCall.{Making, at_making, Making-goes, Making-gives}
 use Rattle.thin_block.proofs.words.WordsMemory.{word_el, words_made, words_long, chunks_long, words_in, words_joined}
 use Rattle.thin_block.proofs.in_place.ResizedCall.{Resizing, at_resizing, leaves, Resizing-goes, Resizing-gives}
 use Rattle.thin_block.proofs.MethodSignatures.{others, block_stays, goes, starts, enters, heard_each, still, word, ptr_of, Br, header, t, any_some, its_ptr, opens_self, header_closes, leaves_with, sz, reach, packed-carried, packed-le, packed-long, packed-parted}
@@ -17,7 +18,6 @@ use Rattle.thin_block.specs.contracts.block.Block.resize_words.Key.{name as #sel
 use Rattle.thin_block.proofs.block.Block.resize_words.Statement.{statement}
 use Rattle.thin_block.proofs.in_place.resize_array.Met as resize_array_met
 use Rattle.thin_block.proofs.words.make_words.Met as make_met
-use Rattle.thin_block.specs.contracts.words.make_words as make
 use Rattle.core.specs.contracts.alloc.AllocError as AE
 use Rattle.thin_block.proofs.block.Block.resize_words.Code as compiled
 
@@ -143,40 +143,21 @@ resize_words_spec 𝓤 𝓛 𝓜 𝓡 wired T A m k LT LA fits_m fits_k g d dd m
     move ! (0 ∷ 10 ∷ 12 ∷ []) $
     -- The context begins with what the call to `make_words` needs: the items, and the lifetime
     -- tokens of `T` and `M`.
-    let G = triple_of 𝓛 (make.signature T Mr) (make.spec T Mr 𝓛 𝓜.mem 𝓡.returns) in
-    let y₀ : G.Ghost = (
-      (
-        (κT, (κM, tt)),
-        (qT, (qM, tt)),
-        tt,
-        (block_ptr b (o + 16), (count, tt)),
-        (vptr b (o + 16) ∷ [], (vint w64 count ∷ [], tt)),
-      ),
-      xss,
-    ) in
-    let Counted : Type 0 = length xss ≡ count in
-    let Dense : Type 0 = s ≡ m * type_size Rt in
-    let Short : Type 0 = count * (m * type_size Rt) < 2 ^ 64 in
-    let shorter : Short = subst (λ (n : ℕ). count * n < 2 ^ 64) hd.size short in
-    use0 𝓛 (raw (fact 𝓤 Short)) (fact_i 𝓤 Short (emp 𝓤) shorter) $ join ! $
-    use0 𝓛 (raw (fact 𝓤 Dense)) (fact_i 𝓤 Dense (emp 𝓤) hd.size) $ join ! $
-    use0 𝓛 (raw (fact 𝓤 Counted)) (fact_i 𝓤 Counted (emp 𝓤) (chunks_long m count items)) $ join ! $
-    use0 𝓛 (raw (fact 𝓤 (κM ⊑ []))) (fact_i 𝓤 (κM ⊑ []) (emp 𝓤) leM) $ join ! $
-    use0 𝓛 (raw (fact 𝓤 (κT ⊑ T.lives))) (fact_i 𝓤 (κT ⊑ T.lives) (emp 𝓤) leT) $ join ! $
-    pure_i ! (owns (RawPtr ∷ usize ∷ []) y₀.0.3 y₀.0.4) (tt, ((tt, tt), tt))
-    (refl, ((refl, fn_), tt)) $
-    nothing ! $ move ! (4 ∷ 0 ∷ []) $ join ! $ move ! (3 ∷ 0 ∷ []) $ join ! $ join ! $ join ! $
-    use1 𝓛 (raw (G.pre y₀)) (id⊢ 𝓤 _) $
+    let G = Making T LT m 𝓛 𝓜.mem 𝓡.returns in
+    let made = at_making T LT m 𝓛 𝓜.mem 𝓡.returns κT κM qT qM b (o + 16) count xss in
+    let shorter : count * (m * type_size Rt) < 2 ^ 64 =
+    subst (λ (n : ℕ). count * n < 2 ^ 64) hd.size short in
+    group ! 3 $ use1 𝓛 (raw (G.pre made))
+    (Making-goes T LT m 𝓛 𝓜.mem 𝓡.returns κT κM qT qM b (o + 16) count xss leT leM
+    (chunks_long m count items) hd.size shorter fn_) $
     calls_at ! (fm 𝓛 𝓜 𝓡) G
     (make_met.met 𝓤 𝓛 𝓜 𝓡 (compiled.calls-thin_block::words::make_words 𝓡.env wired) T m LT fits_m)
-    y₀ (and_then ! (get ! refl) (and_then ! (get ! refl) (no_more !))) (λ v₀.
-    use1 𝓛 (later (exists
-    (λ (r : Unit {0}). ((‵ (flft κT qT) ⊛ ‵ (flft κM qM) ⊛ ‵ ftrue) ⊛ ‵ (unit.own_val r (v₀ ∷ [])))
-    ⊛ exists (λ (us : Unit {0} × (Unit {0} × Unit {0})). ‵ (fsep ftrue (fsep ftrue ftrue)) ⊛ ‵
-    (slots_own Rw (filled_slots ws) b (o + 16)))))) (id⊢ 𝓤 _) $
-    await ! tt $ pick ! (λ r₀. split ! $ split ! $ move ! (1 ∷ []) $ feq_l ! (λ is_unit.
-    move ! (1 ∷ []) $ pick ! (λ us₀. split ! $ drop ! $
-    lands_as ! (ap only is_unit) refl (tt, tt) $ move ! (0 ∷ 2 ∷ []) $
+    made (and_then ! (get ! refl) (and_then ! (get ! refl) (no_more !))) (λ v₀.
+    use1 𝓛 (later (‵ (unit.own_val tt (v₀ ∷ [])) ⊛ ‵ (flft κT qT) ⊛ ‵ (flft κM qM) ⊛ ‵
+    (slots_own Rw (filled_slots ws) b (o + 16))))
+    (Making-gives T LT m 𝓛 𝓜.mem 𝓡.returns κT κM qT qM b (o + 16) count xss v₀) $ await ! tt $
+    split ! $ feq_l ! (λ is_unit. split3 ! $ lands_as ! (ap only is_unit) refl (tt, tt) $
+    move ! (2 ∷ 3 ∷ []) $
     -- The context is now: the words; the empty words; the lifetime tokens of `T` and `M`; memory
     -- for the header; the right to free the block; the open borrow (4 entries); the shared
     -- reference to the allocator and its lifetime token; the lifetime tokens of `A` and `K`; the
@@ -186,8 +167,7 @@ resize_words_spec 𝓤 𝓛 𝓜 𝓡 wired T A m k LT LA fits_m fits_k g d dd m
     (hd.counts.covers old)) $
     rewrite ! 0 (λ (n : ℕ). ‵ (slots_own Rw (filled_slots ws ++ empty_slots v) b (o + n)))
     (sym sixteen) refl $
-    move ! (1 ∷ []) $ split3 ! $ move ! (2 ∷ []) $ drop ! $
-    move ! (3 ∷ 2 ∷ 4 ∷ 9 ∷ 10 ∷ 0 ∷ 11 ∷ 12 ∷ 1 ∷ 13 ∷ []) $ fjoin3 ! $
+    move ! (1 ∷ 2 ∷ []) $ move ! (3 ∷ 2 ∷ 4 ∷ 9 ∷ 10 ∷ 0 ∷ 11 ∷ 12 ∷ 1 ∷ 13 ∷ []) $ fjoin3 ! $
     -- The context is now: the words behind the memory for the header; the shared reference to the
     -- allocator; the lifetime tokens of this reference and of `T`, `A`, `K` and `M`; the other
     -- tokens; the open borrow (4 entries).
@@ -330,4 +310,4 @@ resize_words_spec 𝓤 𝓛 𝓜 𝓡 wired T A m k LT LA fits_m fits_k g d dd m
     suffices ! _ (ends_at 𝓛 En₀ hs c z (live 1 (vcons (vstruct vnil) vnil)) (Err (record {}))
     (x, (tt, (tt, (tt, (tt, (tt, (tt, (tt, tt))))))))
     (tt, (tt, (tt, (tt, (tt, (tt, (tt, (tt, tt))))))))) $
-    says_all ! (_ ∷ _ ∷ []) (tt, refl) $ done !)))))))))))
+    says_all ! (_ ∷ _ ∷ []) (tt, refl) $ done !)))))))))

@@ -1,5 +1,5 @@
 -- If a block of the given capacity is small enough to be allocated, then no sum or product that
--- `bytes_of_block` computes exceeds `usize::MAX`.
+-- `block_bytes` computes exceeds `usize::MAX`.
 use Rattle.std.proofs.Common.{◌≡◌, ℕ, ◌+◌, ◌*◌, ◌^◌, ◌<◌, ap, ◌∙◌, arith}
 use Rattle.std.specs.Mem.{type_size}
 use Rattle.std.specs.Align.{type_align}
@@ -9,7 +9,7 @@ use Rattle.thin_block.proofs.sizes.SizesLemmas.{opened, fits_tells, rounded, cap
 use prog.Memory.{capped}
 use denote.Param.{param}
 use denote.RattleType.{RattleType}
-use Rattle.thin_block.proofs.sizes.bytes_of_block.Goals as goal
+use Rattle.thin_block.proofs.sizes.block_bytes.Goals as goal
 
 summed : (R : RattleType) (c size : ℕ) → Fits R c → size ≡ capped (type_size R)
     → 16 + c * size ≡ items_offset (type_align R) + c * type_size R
@@ -46,9 +46,9 @@ next_multiple_of-requires-clause-fits g c =
     (opened (param 0 g.row.T) c.args.cap c.requires)).short in
     let sum = summed (param 0 g.row.T) c.args.cap c.item_size.result c.requires
     c.item_size.ensures.value in
-    let value : next_multiple_of (16 + c.args.cap * c.item_size.result) c.align_of_block.result
+    let value : next_multiple_of (16 + c.args.cap * c.item_size.result) c.block_align.result
     ≡ block_bytes (type_size (param 0 g.row.T)) (type_align (param 0 g.row.T)) c.args.cap =
-    (λ i. next_multiple_of (sum i) (c.align_of_block.ensures.value i)) in
+    (λ i. next_multiple_of (sum i) (c.block_align.ensures.value i)) in
     omega arith
 
 pub returns : goal.returns
@@ -57,5 +57,5 @@ returns g c =
     c.item_size.ensures.value in
     record {
       value = c.next_multiple_of.ensures.value
-          ∙ (λ i. next_multiple_of (sum i) (c.align_of_block.ensures.value i));
+          ∙ (λ i. next_multiple_of (sum i) (c.block_align.ensures.value i));
     }
