@@ -1,9 +1,10 @@
 //! Examples that carry out commands on a list. Their contracts follow from the main theorem of the
 //! crate `thin_runner`.
-ghost use Rattle.std.specs.Prelude.{◌≡◌, ◌%◌, ◌==◌, [], ◌∷◌, ◌++◌, All, OnOk, fold};
+ghost use Rattle.std.specs.Prelude.{◌≡◌, ◌⊎◌, ◌%◌, ◌==◌, [], ◌∷◌, ◌++◌, All, OnOk, false, fold, true};
 ghost use Rattle.thin_vec.specs.List.Clones.{ClonesEqual};
 ghost use Rattle.thin_runner.specs.Plain.{items_after};
 ghost use Rattle.thin_runner.specs.Replies.{IsGranted};
+ghost use Rattle.thin_runner.specs.Run.{MakesNoClone};
 ghost use Rattle.thin_runner.specs.Env.{env};
 
 use std::alloc::Allocator;
@@ -33,7 +34,30 @@ pub fn one_and_two<A: Allocator + Copy, J: Judge<u64>>(
     carry_out(alloc, list, commands, judge)
 }
 
-/// Carries out the commands on `list`, in order.
+/// Carries out three commands on a list of lists: pushes of `first` and `second`, and a pop. None
+/// of them clones, so it does not matter that a clone of a list need not equal it.
+///
+/// # Errors
+///
+/// Fails if there is not enough memory for the commands or for the replies to them, or if one of
+/// the three commands fails.
+pub fn first_of_two<A: Allocator + Copy>(
+    alloc: A,
+    list: &mut ThinVec<ThinVec<u64, A>, A>,
+    first: ThinVec<u64, A>,
+    second: ThinVec<u64, A>,
+) -> Result<(), ThinVecError>
+    ensures items { list.old.items ≡ [] → OnOk result (list.new.items ≡ first ∷ []) }
+{
+    let mut commands = Vec::new(alloc);
+    add(&mut commands, Command::Push(first))?;
+    add(&mut commands, Command::Push(second))?;
+    add(&mut commands, Command::Pop)?;
+    carry_out(alloc, list, commands, &Unasked)
+}
+
+/// Carries out the commands on `list`, in order. No command may clone if clones need not equal
+/// their items.
 ///
 /// # Errors
 ///
@@ -46,7 +70,7 @@ pub fn carry_out<T: Clone + Eq, A: Allocator + Copy, G: Growth, J: Judge<T>>(
     commands: Vec<Command<T, A, G>, A>,
     judge: &J,
 ) -> Result<(), ThinVecError>
-    requires clones_equal { ClonesEqual T.is_clone }
+    requires clones { All MakesNoClone commands.items ⊎ ClonesEqual T.is_clone }
     ensures items { OnOk result (list.new.items ≡ fold
         (items_after (env T.is_clone T.is_infallible T.eq J.model G.rule T.row alloc
         judge.now)) list.old.items commands.items) }
@@ -90,6 +114,40 @@ impl Judge<u64> for Evens {
 
     fn take(&mut self, item: &mut u64) -> bool {
         *item % 2 == 0
+    }
+}
+
+/// A judge for commands that do not ask it. It would keep all items.
+#[derive(Clone, Copy)]
+pub struct Unasked;
+
+impl<T> Judge<T> for Unasked {
+    ghost model = { record {
+      look = λ j x. (true, j);
+      keep = λ j x. (true, x, j);
+      same = λ j x y. (false, x, y, j);
+      key = λ j x. (0, x, j);
+      take = λ j x. (false, x, j);
+    } };
+
+    fn look(&mut self, _item: &T) -> bool {
+        true
+    }
+
+    fn keep(&mut self, _item: &mut T) -> bool {
+        true
+    }
+
+    fn same(&mut self, _later: &mut T, _kept: &mut T) -> bool {
+        false
+    }
+
+    fn key(&mut self, _item: &mut T) -> u64 {
+        0
+    }
+
+    fn take(&mut self, _item: &mut T) -> bool {
+        false
     }
 }
 

@@ -190,6 +190,9 @@ fn show_write(rt: &impl Print, alloc: Global) -> io::Result<()> {
     println!(rt; "halve_by_index: {list:?}")?;
     write::sort(&mut list);
     println!(rt; "sort: {list:?}")?;
+    let mut pairs = ThinVec::from_array(alloc, [(2, 7), (1, 9), (2, 5)])?;
+    write::sort_pairs(&mut pairs)?;
+    println!(rt; "sort_pairs: {pairs:?}")?;
     let mut list = ThinVec::from_array(alloc, [1, 2, 3, 4])?;
     write::set_first(&mut list, 9);
     println!(rt; "set_first: {list:?}")?;
@@ -198,7 +201,13 @@ fn show_write(rt: &impl Print, alloc: Global) -> io::Result<()> {
     write::clear_range(&mut list, 1, 3);
     println!(rt; "clear_range: {list:?}")?;
     write::mark_halves(&mut list, 2);
-    println!(rt; "mark_halves: {list:?}")
+    println!(rt; "mark_halves: {list:?}")?;
+    write::set_last(&mut list, 5);
+    println!(rt; "set_last: {list:?}")?;
+    write::turn(&mut list, 1);
+    println!(rt; "turn: {list:?}")?;
+    write::set_all(&mut list, 6);
+    println!(rt; "set_all: {list:?}")
 }
 
 fn show_replace(rt: &impl Print, alloc: Global) -> io::Result<()> {
@@ -253,6 +262,9 @@ fn show_divide(rt: &impl Print, alloc: Global) -> io::Result<()> {
     transfer::divide(ThinVec::from_array(alloc, [1, 2, 3])?, &mut odd, &mut even)?;
     println!(rt; "divide: {odd:?} and {even:?}")?;
     let mut list = ThinVec::from_array(alloc, [4, 5, 6, 7])?;
+    let half = transfer::second_half(alloc, &mut list)?;
+    println!(rt; "second_half: {list:?} and {half:?}")?;
+    list.extend_from_copies(half.as_slice())?;
     transfer::hand_over_odd(&mut list, &mut odd)?;
     println!(rt; "hand_over_odd: {list:?} and {odd:?}")
 }
@@ -299,7 +311,9 @@ fn show_tree(rt: &impl Print, alloc: Global) -> io::Result<()> {
     println!(rt; "Node::add_child: {} children", root.children.len())?;
     println!(rt; "Node::count: {}", root.count())?;
     root.paint(4);
-    println!(rt; "Node::paint: kind {}", root.kind)
+    println!(rt; "Node::paint: kind {}", root.kind)?;
+    root.take_apart(alloc)?;
+    println!(rt; "Node::take_apart: no node is left")
 }
 
 fn show_tables(rt: &impl Print, alloc: Global) -> io::Result<()> {
@@ -368,6 +382,11 @@ fn show_commands(rt: &impl Print, alloc: Global) -> io::Result<()> {
     let mut list = ThinVec::new(alloc);
     commands::one_and_two(alloc, &mut list, &Evens)?;
     println!(rt; "one_and_two: {list:?}")?;
+    let mut lists = ThinVec::new(alloc);
+    let first = ThinVec::from_array(alloc, [1, 2])?;
+    let second = ThinVec::from_array(alloc, [3])?;
+    commands::first_of_two(alloc, &mut lists, first, second)?;
+    println!(rt; "first_of_two: {lists:?}")?;
     let mut retain = Vec::new(alloc);
     retain.push(Command::Retain)?;
     commands::carry_out(alloc, &mut list, retain, &Evens)?;

@@ -1,5 +1,5 @@
 //! Examples that move items from one list to another, or to a `Vec`.
-ghost use Rattle.std.specs.Prelude.{◌≡◌, ◌-◌, ◌%◌, ◌==◌, ◌≤◌, ◌++◌, IfOk, IsOk, OnErr, OnOk, drop, filter, length, not, slice_range, take, vec_capacity};
+ghost use Rattle.std.specs.Prelude.{◌≡◌, ◌-◌, ◌/◌, ◌%◌, ◌==◌, ◌≤◌, ◌++◌, IfOk, IsOk, OnErr, OnOk, drop, filter, length, not, slice_range, take, vec_capacity};
 ghost use Rattle.thin_vec.specs.ThinVec.{HasRoomFor};
 
 use std::alloc::{AllocError, Allocator, Global};
@@ -89,6 +89,25 @@ pub fn divide<A: Allocator, G: Growth>(
         }
     }
     Ok(())
+}
+
+/// Moves the second half of the items of `list` to a new list.
+///
+/// # Errors
+///
+/// Fails if `alloc` refuses the memory for the new list. On failure, `list` is unchanged.
+pub fn second_half<A: Allocator, G: Growth>(
+    alloc: A,
+    list: &mut ThinVec<u32, A, G>,
+) -> Result<ThinVec<u32, A, G>, ThinVecError>
+    ensures items { OnOk result (list.new.items
+        ≡ take (length list.old.items / 2) list.old.items) }
+    ensures half { IfOk result (λ half. half.items
+        ≡ drop (length list.old.items / 2) list.old.items) }
+    ensures err { OnErr result (list.new ≡ list.old) }
+{
+    let middle = list.len() / 2;
+    list.split_off(alloc, middle)
 }
 
 /// Moves the odd numbers of `list` to the end of `other`, and leaves the even numbers in `list`.

@@ -4,7 +4,7 @@ ghost use Rattle.thin_vec.specs.ThinVec.{HasRoomFor, IsNew};
 ghost use Rattle.thin_examples.specs.Tree.{children_of, kind_of, node_count, painted};
 
 use std::alloc::Global;
-use thin_vec::{Rejected, ThinVec};
+use thin_vec::{Rejected, ThinVec, ThinVecError};
 
 /// A node of a syntax tree: its kind, and its children in order.
 #[derive(Drop)]
@@ -66,5 +66,22 @@ impl Node {
         for i in 0..children.len() {
             children[i].paint(kind);
         }
+    }
+
+    /// Drops the tree whose root is this node, and no two levels of it at once. The drop of a node
+    /// drops its children first, so that of a deep tree can run out of stack.
+    ///
+    /// # Errors
+    ///
+    /// Fails if there is no memory for the list of the nodes that are still to be dropped. On
+    /// failure, these are dropped as usual.
+    pub fn take_apart(self, alloc: Global) -> Result<(), ThinVecError> {
+        let mut waiting = ThinVec::new(alloc);
+        waiting.push(self)?;
+        while let Some(node) = waiting.pop() {
+            let mut children = node.children;
+            waiting.append(&mut children)?;
+        }
+        Ok(())
     }
 }

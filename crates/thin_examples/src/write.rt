@@ -1,8 +1,8 @@
 //! Examples that write to the items of a list.
 ghost use Rattle.std.specs.List.{swap};
-ghost use Rattle.std.specs.Prelude.{◌≡◌, ◌-◌, ◌/◌, ◌<◌, ◌≤◌, ◌++◌, IsPermutation, IsSorted, drop, length, map, replicate, slice_index, slice_set, take};
+ghost use Rattle.std.specs.Prelude.{◌≡◌, ◌-◌, ◌/◌, ◌<◌, ◌≤◌, ◌++◌, reverse as reversed, IsPermutation, IsSorted, OnErr, drop, length, map, replicate, slice_index, slice_set, take};
 
-use std::alloc::Allocator;
+use std::alloc::{AllocError, Allocator};
 use thin_vec::{Growth, ThinVec};
 
 /// Subtracts `less` from the first number, and returns the old first number.
@@ -49,7 +49,19 @@ pub fn sort<T: Ord, A: Allocator, G: Growth>(list: &mut ThinVec<T, A, G>)
     ensures alloc { list.new.alloc ≡ list.old.alloc }
     ensures cost { list.new.cost ≡ list.old.cost }
 {
-    list.as_mut_slice().sort_unstable();
+    list.sort_unstable();
+}
+
+/// Sorts the pairs by their first number. Pairs with the same first number keep their order. If
+/// there is no memory, nothing changes.
+pub fn sort_pairs<A: Allocator, G: Growth>(
+    list: &mut ThinVec<(u32, u32), A, G>,
+) -> Result<(), AllocError>
+    ensures permutation { IsPermutation list.old.items list.new.items }
+    ensures err { OnErr result (list.new ≡ list.old) }
+    ensures capacity { list.new.capacity ≡ list.old.capacity }
+{
+    list.sort_by_key(|pair| pair.0)
 }
 
 /// Writes `value` over the first number.
@@ -75,7 +87,7 @@ pub fn exchange<T, A: Allocator, G: Growth>(
     ensures capacity { list.new.capacity ≡ list.old.capacity }
     ensures alloc { list.new.alloc ≡ list.old.alloc }
 {
-    list.as_mut_slice().swap(first, second);
+    list.swap(first, second);
 }
 
 /// Writes 0 over the numbers at the indices `start..end`.
@@ -99,4 +111,36 @@ pub fn mark_halves<A: Allocator, G: Growth>(list: &mut ThinVec<u32, A, G>, middl
     let (front, back) = list.as_mut_slice().split_at_mut(middle);
     front.fill(0);
     back.fill(1);
+}
+
+/// Writes `value` over the last number, if there is one.
+pub fn set_last<A: Allocator, G: Growth>(list: &mut ThinVec<u32, A, G>, value: u32)
+    ensures items { 0 < length list.old.items
+        → list.new.items ≡ slice_set list.old.items (length list.old.items - 1) value }
+    ensures len { length list.new.items ≡ length list.old.items }
+    ensures capacity { list.new.capacity ≡ list.old.capacity }
+{
+    if let Some(last) = list.last_mut() {
+        *last = value;
+    }
+}
+
+/// Reverses the items, and then moves the first `count` of them to the end.
+pub fn turn<T, A: Allocator, G: Growth>(list: &mut ThinVec<T, A, G>, count: usize)
+    requires in_bounds { count ≤ length list.old.items }
+    ensures items { list.new.items
+        ≡ drop count (reversed list.old.items) ++ take count (reversed list.old.items) }
+    ensures capacity { list.new.capacity ≡ list.old.capacity }
+    ensures cost { list.new.cost ≡ list.old.cost }
+{
+    list.reverse();
+    list.rotate_left(count);
+}
+
+/// Writes `value` over each number.
+pub fn set_all<A: Allocator, G: Growth>(list: &mut ThinVec<u32, A, G>, value: u32)
+    ensures items { list.new.items ≡ replicate (length list.old.items) value }
+    ensures capacity { list.new.capacity ≡ list.old.capacity }
+{
+    list.fill(value);
 }

@@ -4,9 +4,10 @@ use denote.MutBor.{MutBor}
 use denote.Param.Members.{Mut}
 use Rattle.std.specs.Fn.{CalledAtMut, ComparesKeys}
 use Rattle.std.specs.List.{dedup, dedup_from}
-use Rattle.std.specs.Prelude.{MatchBool, if◌then◌else◌, not}
+use Rattle.std.specs.Prelude.{MatchBool, if◌then◌else◌, map, not}
+use Rattle.thin_vec.proofs.RetainLemmas.{keeps-cons}
 use Rattle.thin_vec.specs.Cost.{add_moves}
-use Rattle.thin_vec.specs.Edits.Retain.{TestResults, TestsInTurn, IsRetained, flags_of, items_where, moves_of_retain}
+use Rattle.thin_vec.specs.Edits.Retain.{TestResults, KeepsInTurn, IsRetainedMut, flags_of, items_where, moves_of_retain}
 use Rattle.thin_vec.specs.Edits.Dedup.{TestsEachAgainstLast, TestsAllAgainstLast, IsDedupedBy, dedup_flags, dedup_flags_from}
 use Rattle.thin_vec.specs.ThinVec.{ListView}
 use Rattle.thin_runner.specs.commands.Filters.{test_each, test_against_last, test_pairs, same_key, filtered_list}
@@ -21,27 +22,27 @@ module _ {S T J : Type 0} (R : S → T → Bool → S → T → Type 0) (judge_o
 
 module _ {S T J : Type 0} (R : S → T → Bool → S → T → Type 0) (judge_of : S → J)
     (ask : J → T → Bool × T × J) (told : AsksJudge R judge_of ask) where
-  pub test_each-by : (s t : S) (xs : List T) (results : TestResults T)
-      → TestsInTurn R s xs results t
-      → results ≡ test_each ask (judge_of s) xs
-  test_each-by s t [] results a = a.0
-  test_each-by s t (x ∷ xs) results a =
-      a.6 ∙ (ap (λ l. (a.0, a.1) ∷ l) (test_each-by a.2 t xs a.3 a.5)
-      ∙ ap (λ l. (l.0, l.1) ∷ test_each ask l.2 xs) (told s x a.0 a.2 a.1 a.4))
+  pub test_each-by : (s : S) (xs : List T) (flags : List Bool) (ys : List T)
+      → KeepsInTurn R s xs flags ys → let results = test_each ask (judge_of s) xs
+      in (flags ≡ flags_of results) × (ys ≡ items_where true results)
+  test_each-by s [] flags ys a = a
+  test_each-by s (x ∷ xs) flags ys a =
+      subst (λ l. let c = (l.0, l.1) ∷ test_each ask l.2 xs
+      in (flags ≡ flags_of c) × (ys ≡ items_where true c)) (told s x a.0 a.1 a.2 a.3)
+      (keeps-cons a.2 _ a.7 a.8 (test_each-by a.1 xs a.4 a.5 a.6))
 
-  pub retained-by : {A : Type 0} (s : S) (v w : ListView T A) → IsRetained R s v w
+  pub retained-by : {A : Type 0} {s : S} {v w : ListView T A} → IsRetainedMut R s v w
       → w.capacity ≡ v.capacity → w.alloc ≡ v.alloc
       → w ≡ filtered_list v (test_each ask (judge_of s) v.items)
-  retained-by s v w r capacity alloc =
-      let same = test_each-by s r.0 v.items r.1.results r.1.asked in
-      let items = r.1.items ∙ ap (λ a. items_where true a) same in
-      let cost = r.1.cost ∙ ap (λ a. add_moves (moves_of_retain (flags_of a)) v.cost) same in
-      λ i. record { items = items i; capacity = capacity i; alloc = alloc i; cost = cost i }
+  retained-by {s = s} {v} {w} r capacity alloc =
+      let by = test_each-by s v.items r.flags w.items r.calls in
+      let cost = r.cost ∙ ap (λ f. add_moves (moves_of_retain f) v.cost) by.0 in
+      λ i. record { items = by.1 i; capacity = capacity i; alloc = alloc i; cost = cost i }
 
 module _ {T : Type 0} where
-  -- `flags` says which later items are kept, and `ys` is the item of `b` followed by these.
+  -- `flags` says which later items are removed, and `ys` is the item of `b` followed by the others.
   abbrev pub Leaves : List Bool → List T → T × TestResults T → Type 0
-  Leaves flags ys b = (flags ≡ flags_of b.1) × (ys ≡ b.0 ∷ items_where true b.1)
+  Leaves flags ys b = (map not flags ≡ flags_of b.1) × (ys ≡ b.0 ∷ items_where true b.1)
 
 -- `R` describes a closure that compares two items by asking the judge in its state.
 module _ {S T J : Type 0} (R : S → T → T → Bool → S → T → T → Type 0) (judge_of : S → J)
@@ -51,7 +52,7 @@ module _ {S T J : Type 0} (R : S → T → T → Bool → S → T → T → Type
   pub test_against_last-by : (s t : S) (k : T) (xs : List T) (flags : List Bool) (ys : List T)
       → TestsEachAgainstLast R s k xs flags ys t
       → Leaves flags ys (test_against_last same (judge_of s) k xs)
-  test_against_last-by s t k [] flags ys a = (a.0, a.1)
+  test_against_last-by s t k [] flags ys a = (ap (map not) a.0, a.1)
   test_against_last-by s t k (x ∷ xs) flags ys a =
       subst (λ p. let b = test_against_last same p.3 (if p.0 then p.2 else p.1) xs
       in Leaves flags ys (if p.0 then (b.0, (false, p.1) ∷ b.1) else (p.2, (true, b.0) ∷ b.1)))
@@ -62,27 +63,27 @@ module _ {S T J : Type 0} (R : S → T → T → Bool → S → T → T → Type
           → Leaves a.4 zs (test_against_last same (judge_of a.3) l xs))
           → (b : Bool) → MatchBool b (TestsEachAgainstLast R a.3 a.2 xs a.4 ys t)
           ((zs : List T) × TestsEachAgainstLast R a.3 a.1 xs a.4 zs t × (ys ≡ a.2 ∷ zs))
-          → flags ≡ not b ∷ a.4
+          → flags ≡ b ∷ a.4
           → (let c = test_against_last same (judge_of a.3) (if b then a.2 else a.1) xs
           in Leaves flags ys (if b then (c.0, (false, a.1) ∷ c.1) else (a.2, (true, c.0) ∷ c.1)))
-      by_test by true m e = let h = by a.2 ys m in (e ∙ ap (λ l. false ∷ l) h.0, h.1)
-      by_test by false m e = let h =
-          by a.1 m.0 m.1 in (e ∙ ap (λ l. true ∷ l) h.0, m.2 ∙ ap (λ l. a.2 ∷ l) h.1)
+      by_test by true m e = let h = by a.2 ys m in (ap (map not) e ∙ ap (λ l. false ∷ l) h.0, h.1)
+      by_test by false m e = let h = by a.1 m.0 m.1 in
+          (ap (map not) e ∙ ap (λ l. true ∷ l) h.0, m.2 ∙ ap (λ l. a.2 ∷ l) h.1)
 
   pub test_pairs-by : (s t : S) (xs : List T) (flags : List Bool) (ys : List T)
       → TestsAllAgainstLast R s xs flags ys t
-      → (moves_of_retain flags ≡ moves_of_retain (flags_of (test_pairs same (judge_of s) xs)))
-      × (ys ≡ items_where true (test_pairs same (judge_of s) xs))
-  test_pairs-by s t [] flags ys a = (ap moves_of_retain a.0, a.1)
+      → let results = test_pairs same (judge_of s) xs in (moves_of_retain (map not flags)
+      ≡ moves_of_retain (flags_of results)) × (ys ≡ items_where true results)
+  test_pairs-by s t [] flags ys a = (ap (λ f. moves_of_retain (map not f)) a.0, a.1)
   test_pairs-by s t (x ∷ xs) flags ys a = let h = test_against_last-by s t x xs flags ys a
       in (ap moves_of_retain h.0, h.1)
 
-  pub deduped-by : {A : Type 0} (s : S) (v w : ListView T A) → IsDedupedBy R s v w
+  pub deduped-by : {A : Type 0} {s : S} {v w : ListView T A} → IsDedupedBy R s v w
       → w.capacity ≡ v.capacity → w.alloc ≡ v.alloc
       → w ≡ filtered_list v (test_pairs same (judge_of s) v.items)
-  deduped-by s v w r capacity alloc =
-      let by = test_pairs-by s r.0 v.items r.1.kept w.items r.1.asked in
-      let cost = r.1.cost ∙ ap (λ m. add_moves m v.cost) by.0 in
+  deduped-by {s = s} {v} {w} r capacity alloc =
+      let by = test_pairs-by s r.last v.items r.removed w.items r.calls in
+      let cost = r.cost ∙ ap (λ m. add_moves m v.cost) by.0 in
       λ i. record { items = by.1 i; capacity = capacity i; alloc = alloc i; cost = cost i }
 
 -- `g` describes a closure that maps an item to the key of the judge in its state.
@@ -90,10 +91,10 @@ module _ {F T A J : Type 0} (g : Mut F (MutBor T × Unit {0}) (ℕ × (MutBor T 
     (judge_of : F → J) (key : J → T → ℕ × T × J)
     (told : (f : F) (x : T) (k : ℕ) (f' : F) (x' : T) → CalledAtMut g f x k f' x'
     → (k, x', judge_of f') ≡ key (judge_of f) x) where
-  pub deduped-by-keys : (f : F) (v w : ListView T A)
+  pub deduped-by-keys : {f : F} {v w : ListView T A}
       → IsDedupedBy (ComparesKeys g (λ a b. a == b)) f v w → w.capacity ≡ v.capacity
       → w.alloc ≡ v.alloc → w ≡ filtered_list v (test_pairs (same_key key) (judge_of f) v.items)
-  deduped-by-keys f v w d capacity alloc =
+  deduped-by-keys d capacity alloc =
       deduped-by (ComparesKeys g (λ a b. a == b)) judge_of (same_key key)
       (λ f x k b f' x' k' called.
       let first = told f x called.key called.between x' called.first in
@@ -101,7 +102,7 @@ module _ {F T A J : Type 0} (g : Mut F (MutBor T × Unit {0}) (ℕ × (MutBor T 
       ap (λ z. (z, x', k', judge_of f')) called.compared
       ∙ (ap (λ l. (called.key == l.0, x', l.1, l.2)) second
       ∙ ap (λ a. let l = key a.2 k in (a.0 == l.0, a.1, l.1, l.2)) first))
-      f v w d capacity alloc
+      d capacity alloc
 
 module _ {T J : Type 0} (look : J → T → Bool × J) where
   -- `looks j x` is a call to `look`, as if it could write to the item.
@@ -170,20 +171,20 @@ module _ {T J : Type 0} (E : T → T → Bool) (j : J) where
           → Leaves (dedup_flags_from E l xs) (dedup_from E l xs) (test_against_last tells j l xs))
           → (b : Bool)
           → (let a = test_against_last tells j (if b then k else x) xs in
-          Leaves (if b then false ∷ dedup_flags_from E k xs else true ∷ dedup_flags_from E x xs)
+          Leaves (if b then true ∷ dedup_flags_from E k xs else false ∷ dedup_flags_from E x xs)
           (if b then dedup_from E k xs else k ∷ dedup_from E x xs)
           (if b then (a.0, (false, x) ∷ a.1) else (k, (true, a.0) ∷ a.1)))
       told by true = let h = by k in (ap (λ l. false ∷ l) h.0, h.1)
       told by false = let h = by x in (ap (λ l. true ∷ l) h.0, ap (λ l. k ∷ l) h.1)
 
   pub dedup-pairs : (xs : List T)
-      → (moves_of_retain (dedup_flags E xs) ≡ moves_of_retain (flags_of (test_pairs tells j xs)))
-      × (dedup E xs ≡ items_where true (test_pairs tells j xs))
+      → let results = test_pairs tells j xs in (moves_of_retain (map not (dedup_flags E xs))
+      ≡ moves_of_retain (flags_of results)) × (dedup E xs ≡ items_where true results)
   dedup-pairs [] = (refl, refl)
   dedup-pairs (x ∷ xs) = let h = dedup-last x xs in (ap moves_of_retain h.0, h.1)
 
   pub deduped-alike : {A : Type 0} (v w : ListView T A) → w.items ≡ dedup E v.items → w.cost
-      ≡ add_moves (moves_of_retain (dedup_flags E v.items)) v.cost
+      ≡ add_moves (moves_of_retain (map not (dedup_flags E v.items))) v.cost
       → w.capacity ≡ v.capacity → w.alloc ≡ v.alloc
       → w ≡ filtered_list v (test_pairs tells j v.items)
   deduped-alike v w items cost capacity alloc =

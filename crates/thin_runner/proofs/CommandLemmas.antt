@@ -5,7 +5,7 @@ use Rattle.std.specs.Prelude.{HoldsAt}
 use Rattle.thin_vec.specs.List.Clones.{LeftByFailedClone}
 use Rattle.thin_vec.specs.Cost.{add_moves}
 use Rattle.thin_vec.specs.Growth.{GrowthRule}
-use Rattle.thin_vec.specs.ThinVec.{ListView, capacity_after_reserve, cost_after_resize}
+use Rattle.thin_vec.specs.ThinVec.{HasRoomFor, ListView, capacity_after_reserve, cost_after_resize}
 use Rattle.thin_runner.specs.commands.Items.{set_capacity, set_items}
 
 pub some-items : {X : Type 0} (xs : List X) → (xs ≡ [] → ⊥) → 0 < length xs
@@ -28,13 +28,13 @@ module _ {T A : Type 0} where
     -- made.
     pub refuses-clone : (R : RattleType) (k : ℕ) {infallible : T → Type 0} {sources : List T}
         {v w : ListView T A} → w.alloc ≡ v.alloc
-        → (w ≡ v)
+        → (¬ (HasRoomFor v k) × (w ≡ v))
         ⊎ LeftByFailedClone (capacity_after_reserve rule R v k) infallible sources v w
         → (w ≡ v) ⊎ ((at : ℕ) × (at < length sources)
         × HoldsAt (λ x. ¬ (infallible x)) sources at
         × ((capacity_after_reserve rule R v k ≡ Some w.capacity)
         × (w ≡ set_items (set_capacity v w.capacity) v.items at)))
-    refuses-clone R k alloc (inl e) = inl e
+    refuses-clone R k alloc (inl e) = inl e.1
     refuses-clone R k {v = v} {w} alloc (inr r) =
         inr (
           r.at,

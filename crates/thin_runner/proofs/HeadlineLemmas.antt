@@ -29,7 +29,7 @@ module _ {T A G J : Type 0} (here : Env T A J) (law : IsLawful here.rule) where
         record {
           replies = replies;
           appended = h.appended;
-          plain = λ equal ok. run-plain here equal old new commands replies ok run;
+          plain = λ equal ok. run-plain here old new commands replies equal ok run;
           allowed = run;
           within = within;
           stays_cheap = λ only.

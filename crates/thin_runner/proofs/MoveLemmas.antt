@@ -53,10 +53,11 @@ module _ {T A : Type 0} (v w : ListView T A) where
 
     stopped-moves : (xs held : List T) (lower : ℕ) (cause : ThinVecError) (in_hand : Option T)
         (rest : Hinted T A) → StopsBetween rule R v a b xs held lower cause in_hand rest w
-        → w.cost.moves ≤ v.cost.moves + (2 * (length v.items - b) + length xs)
+        → w.cost.moves ≤ v.cost.moves + (2 * (length v.items - b)
+        + (length xs - length (held ++ (option_to_list in_hand ++ hinted_items rest))))
     stopped-moves xs held lower cause in_hand rest s =
         let others = held ++ (option_to_list in_hand ++ hinted_items rest) in
-        spliced-moves s.placed (lower + length xs) (length xs) s.filled
+        spliced-moves s.placed (lower + length xs) (length xs - length others) s.filled
         (omega (arith, ap length s.all, length-append s.placed others))
 
 shrunk-moves : {T A : Type 0} (v : ListView T A) → (cost_shrunk v).moves ≤ v.cost.moves
@@ -137,7 +138,8 @@ module _ {T A G J : Type 0} (here : Env T A J) where
   step-moves v w (ExtractIf a b k) (Refused cause) s = same-moves v w v 0 s.1.2 refl
   step-moves v w (Splice a b steps xs lower) (Answers answers) s =
       let most = lower + length xs.items in
-      spliced-moves v w here.rule here.R a b xs.items most (length xs.items) s.1.1 (omega arith)
+      let few = spliced-moves v w here.rule here.R a b xs.items most (length xs.items) s.1.1 in
+      omega (arith, few (omega arith))
   step-moves v w (Splice a b steps xs lower) (Stopped answers cause held in_hand rest) s =
       stopped-moves v w here.rule here.R a b xs.items held.items lower cause in_hand rest s.1.1
   step-moves v w (Splice a b steps xs lower) (Refused cause) s = same-moves v w v 0 s.1.2 refl

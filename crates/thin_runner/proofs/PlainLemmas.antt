@@ -1,6 +1,6 @@
--- If each clone equals its source, and no command fails, `items_after` and `reply_to` predict a
--- run.
-use Rattle.std.proofs.Common.{◌≡◌, ℕ, ◌+◌, ◌-◌, ◌&&◌, ◌<◌, ◌≤◌, ◌↔◌, List, [], ◌∷◌, ◌++◌, All, Decides, IsSome, Option, Some, None, length, map, take, drop, true, arith, ap, nat_le, refl, slice_get, sym, take_all, ◌∙◌, inl, inr, append_assoc, length-append}
+-- If no command fails, and none clones or each clone equals its source, `items_after` and
+-- `reply_to` predict a run.
+use Rattle.std.proofs.Common.{◌≡◌, ℕ, ◌+◌, ◌-◌, ◌&&◌, ◌<◌, ◌≤◌, ◌↔◌, ◌⊎◌, List, [], ◌∷◌, ◌++◌, All, Decides, IsSome, Option, Some, None, length, map, take, drop, true, arith, ap, nat_le, refl, slice_get, sym, take_all, ◌∙◌, inl, inr, append_assoc, length-append}
 use Rattle.std.proofs.lemmas.Bool.{and_from, and_parts, cases_lt, cond-false, cond-true, false_from_ne_true, false≢true, le-leb, leb-true, lt-ltb, ltb-true}
 use Rattle.std.proofs.lemmas.List.{append-nil, replicate-append-replicate}
 use Rattle.std.proofs.lemmas.List.Elements.{All-head, All-tail, recursion_from_All}
@@ -15,7 +15,7 @@ use Rattle.thin_vec.proofs.RetainLemmas.{items_where-append, items_where-stay}
 use Rattle.thin_runner.specs.Env.{Env}
 use Rattle.thin_runner.specs.Plain.{reference_step, in_range, items_after, plain_step, reply_to, says, observed, yields}
 use Rattle.thin_runner.specs.Replies.{IsGranted}
-use Rattle.thin_runner.specs.Run.{Runs}
+use Rattle.thin_runner.specs.Run.{MakesNoClone, Runs}
 use Rattle.thin_runner.specs.Steps.{Does, IsInRange, Steps}
 use Rattle.thin_runner.specs.commands.Filters.{keep_outside, extract_results}
 use Rattle.thin_runner.specs.commands.Room.{made}
@@ -26,7 +26,7 @@ use Rattle.thin_runner.specs.declared.command.Reply.TheVariants.{Answers, Done, 
 use Rattle.thin_runner.proofs.CallbackLemmas.{dedup-pairs}
 use Rattle.thin_runner.proofs.SplicesLemmas.{at-end}
 use Rattle.thin_runner.proofs.WalkLemmas.{last-of}
-use Rattle.thin_runner.proofs.WeakerClonesLemmas.{zip-weaker}
+use Rattle.thin_runner.proofs.WeakerClonesLemmas.{first-meets, needed, others-meet, zip-weaker}
 
 refused : {X B : Type 0} (x : X) → Some x ≡ None → B
 refused x e = cc
@@ -109,95 +109,102 @@ module _ {T : Type 0} where
       ∙ ((λ i. before ++ (kept ++ items_where-stay after i))
       ∙ sym (append_assoc before kept after)))
 
-module _ {T A G J : Type 0} (here : Env T A J) (equal : ClonesEqual here.clones) where
+module _ {T A G J : Type 0} (here : Env T A J) where
   does-reference_step : (v w : ListView T A) (command : Command T A G) (reply : Reply T A G)
-      → IsGranted reply → Does here v command reply w
+      → MakesNoClone command ⊎ ClonesEqual here.clones → IsGranted reply
+      → Does here v command reply w
       → (observed reply, w.items) ≡ reference_step here v.items command
-  does-reference_step v w (Push x) Done ok d = λ j. (says Done, (d.1 j).items)
-  does-reference_step v w command (Returned y cause) ok d = refused cause ok
-  does-reference_step v w command (Refused cause) ok d = refused cause ok
-  does-reference_step v w command (Stopped answers cause held in_hand rest) ok d = refused cause ok
-  does-reference_step v w Pop (Item o) ok d =
+  does-reference_step v w (Push x) Done equal ok d = λ j. (says Done, (d.1 j).items)
+  does-reference_step v w command (Returned y cause) equal ok d = refused cause ok
+  does-reference_step v w command (Refused cause) equal ok d = refused cause ok
+  does-reference_step v w command (Stopped answers cause held in_hand rest) equal ok d =
+      refused cause ok
+  does-reference_step v w Pop (Item o) equal ok d =
       let last = popped v.items w.items o d.0 d.1 in λ j. (says (Item (last.0 j)), last.1 j)
-  does-reference_step v w (Insert i x) Done ok d = λ j. (says Done, (d.1 j).items)
-  does-reference_step v w (Remove i) (Item (Some x)) ok d =
+  does-reference_step v w (Insert i x) Done equal ok d = λ j. (says Done, (d.1 j).items)
+  does-reference_step v w (Remove i) (Item (Some x)) equal ok d =
       λ j. (says (Item (sym d.0 j)), (d.1 j).items)
-  does-reference_step v w (SwapRemove i) (Item (Some x)) ok d =
+  does-reference_step v w (SwapRemove i) (Item (Some x)) equal ok d =
       let left : w.items ≡ option_map_or (swap_remove v.items i) (slice_get v.items i) v.items =
       (λ j. (d.1 j).items) ∙ ap (λ o. option_map_or (swap_remove v.items i) o v.items) (sym d.0) in
       λ j. (says (Item (sym d.0 j)), left j)
-  does-reference_step v w (Set i x) (Item (Some y)) ok d =
+  does-reference_step v w (Set i x) (Item (Some y)) equal ok d =
       λ j. (says (Item (sym d.0 j)), (d.1 j).items)
-  does-reference_step v w (Truncate k) Done ok d = λ j. (says Done, (d j).items)
-  does-reference_step v w Clear Done ok d = λ j. (says Done, (d j).items)
-  does-reference_step v w (Reserve k) Done ok d = λ j. (says Done, (d.1 j).items)
-  does-reference_step v w (ReserveExact k) Done ok d = λ j. (says Done, (d.1 j).items)
-  does-reference_step v w ShrinkToFit Done ok d = λ j. (says Done, (d j).items)
-  does-reference_step v w (Resize k x) Done ok d =
-      let left = resized here.clones equal v.items k x w.items d.0 in λ j. (says Done, left j)
-  does-reference_step v w (ExtendFromSlice xs) Done ok d =
+  does-reference_step v w (Truncate k) Done equal ok d = λ j. (says Done, (d j).items)
+  does-reference_step v w Clear Done equal ok d = λ j. (says Done, (d j).items)
+  does-reference_step v w (Reserve k) Done equal ok d = λ j. (says Done, (d.1 j).items)
+  does-reference_step v w (ReserveExact k) Done equal ok d = λ j. (says Done, (d.1 j).items)
+  does-reference_step v w ShrinkToFit Done equal ok d = λ j. (says Done, (d j).items)
+  does-reference_step v w (Resize k x) Done equal ok d =
+      let left = resized here.clones (needed equal) v.items k x w.items d.0 in
+      λ j. (says Done, left j)
+  does-reference_step v w (ExtendFromSlice xs) Done equal ok d =
       let a = d.0 in
       let left : w.items ≡ v.items ++ xs.items =
-      a.1 ∙ ap (λ l. v.items ++ l) (zip-equal equal xs.items a.0 a.2) in
+      a.1 ∙ ap (λ l. v.items ++ l) (zip-equal (needed equal) xs.items a.0 a.2) in
       λ j. (says Done, left j)
-  does-reference_step v w (Extend xs lower) Done ok d =
+  does-reference_step v w (Extend xs lower) Done equal ok d =
       let left : w.items ≡ v.items ++ xs.items = d.items ∙ at-end v.items xs.items in
       λ j. (says Done, left j)
-  does-reference_step v w (Append other) (Other back None) ok d =
+  does-reference_step v w (Append other) (Other back None) equal ok d =
       λ j. (says (Other (d.0 j) None), (d.1.1 j).items)
-  does-reference_step v w (Append other) (Other back (Some cause)) ok d = refused cause ok
-  does-reference_step v w (SplitOff i) (Made out) ok d = λ j. (says (Made (d.0 j)), (d.1 j).items)
-  does-reference_step v w Clone (Made copy) ok d =
+  does-reference_step v w (Append other) (Other back (Some cause)) equal ok d = refused cause ok
+  does-reference_step v w (SplitOff i) (Made out) equal ok d =
+      λ j. (says (Made (d.0 j)), (d.1 j).items)
+  does-reference_step v w Clone (Made copy) equal ok d =
       let same : copy ≡ made here.alloc v.items =
-      d.1 ∙ ap (λ l. made here.alloc l) (zip-equal equal v.items copy.items d.0) in
+      d.1 ∙ ap (λ l. made here.alloc l) (zip-equal (needed equal) v.items copy.items d.0) in
       λ j. (says (Made (same j)), (d.2 j).items)
-  does-reference_step v w Retain Done ok d = λ j. (says Done, (d j).items)
-  does-reference_step v w RetainMut Done ok d = λ j. (says Done, (d j).items)
-  does-reference_step v w Dedup Done ok d =
+  does-reference_step v w Retain Done equal ok d = λ j. (says Done, (d j).items)
+  does-reference_step v w RetainMut Done equal ok d = λ j. (says Done, (d j).items)
+  does-reference_step v w Dedup Done equal ok d =
       let left : w.items ≡ dedup here.eq v.items =
       (λ j. (d j).items) ∙ sym (dedup-pairs here.eq here.judge v.items).1 in
       λ j. (says Done, left j)
-  does-reference_step v w DedupBy Done ok d = λ j. (says Done, (d j).items)
-  does-reference_step v w DedupByKey Done ok d = λ j. (says Done, (d j).items)
-  does-reference_step v w (Drain a b steps) (Answers answers) ok d =
+  does-reference_step v w DedupBy Done equal ok d = λ j. (says Done, (d j).items)
+  does-reference_step v w DedupByKey Done equal ok d = λ j. (says Done, (d j).items)
+  does-reference_step v w (Drain a b steps) (Answers answers) equal ok d =
       λ j. (yields (d.0 j), (d.1 j).items)
-  does-reference_step v w (ExtractIf a b k) (Answers answers) ok d =
+  does-reference_step v w (ExtractIf a b k) (Answers answers) equal ok d =
       let results = extract_results here.model.take here.judge k (slice_range v.items a b) in
       let left : w.items ≡ replace_range v.items a b (items_where true results) =
       (λ j. (d.1 j).items) ∙ left-keep_outside v.items a b results in
       λ j. (yields (d.0 j), left j)
-  does-reference_step v w (Splice a b steps xs lower) (Answers answers) ok d =
+  does-reference_step v w (Splice a b steps xs lower) (Answers answers) equal ok d =
       λ j. (yields (d.0 j), d.1.items j)
-  does-reference_step v w command reply ok d = absurd d
+  does-reference_step v w command reply equal ok d = absurd d
 
   step-plain : (v w : ListView T A) (command : Command T A G) (reply : Reply T A G)
-      → IsGranted reply → Steps here v command reply w
+      → MakesNoClone command ⊎ ClonesEqual here.clones → IsGranted reply
+      → Steps here v command reply w
       → (observed reply, w.items) ≡ plain_step here v.items command
-  step-plain v w command (OutOfRange back) ok s =
+  step-plain v w command (OutOfRange back) equal ok s =
       let decides = in_range-decides v.items command in
       let out = false_from_ne_true (in_range v.items command) (λ e. s.1 (decides.0 e)) in
       (λ j. (says (OutOfRange (s.0 j)), (s.2 j).items))
       ∙ sym (cond-false (in_range v.items command) (reference_step here v.items command)
       (says (OutOfRange command), v.items) out)
-  step-plain v w command reply ok s =
+  step-plain v w command reply equal ok s =
       let inside = (in_range-decides v.items command).1 s.0 in
-      does-reference_step v w command reply ok s.1
+      does-reference_step v w command reply equal ok s.1
       ∙ sym (cond-true (in_range v.items command) (reference_step here v.items command)
       (says (OutOfRange command), v.items) inside)
 
   pub run-plain : (v w : ListView T A) (commands : List (Command T A G))
-      (replies : List (Reply T A G))
+      (replies : List (Reply T A G)) → All MakesNoClone commands ⊎ ClonesEqual here.clones
       → All IsGranted replies → Runs here v commands replies w
       → (w.items ≡ fold (items_after here) v.items commands)
       × (map observed replies ≡ scan (items_after here) (reply_to here) v.items commands)
-  run-plain v w [] [] ok run = ((λ j. (run j).items), refl)
-  run-plain v w (c ∷ commands) (r ∷ replies) ok run =
-      let first = step-plain v run.0 c r (All-head IsGranted r replies ok) run.1.0 in
-      let rest = run-plain run.0 w commands replies (All-tail IsGranted r replies ok) run.1.1 in
+  run-plain v w [] [] equal ok run = ((λ j. (run j).items), refl)
+  run-plain v w (c ∷ commands) (r ∷ replies) equal ok run =
+      let first = step-plain v run.0 c r (first-meets c commands equal)
+      (All-head IsGranted r replies ok) run.1.0 in
+      let rest = run-plain run.0 w commands replies (others-meet c commands equal)
+      (All-tail IsGranted r replies ok) run.1.1 in
       let items : w.items ≡ fold (items_after here) v.items (c ∷ commands) =
       rest.0 ∙ (λ j. fold (items_after here) (first j).1 commands) in
       let xs : List T = items_after here v.items c in
       let later : map observed replies ≡ scan (items_after here) (reply_to here) xs commands =
       rest.1 ∙ (λ j. scan (items_after here) (reply_to here) (first j).1 commands) in
       (items, (λ j. (first j).0 ∷ later j))
-  run-plain v w commands replies ok run = absurd run
+  run-plain v w commands replies equal ok run = absurd run

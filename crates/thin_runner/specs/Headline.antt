@@ -1,7 +1,7 @@
 -- The main theorem, `Headline`, states what is known about a list after any sequence of commands.
 -- It holds for every item type, every allocator, every growth rule and every judge. (A judge is a
 -- value that makes decisions about items.)
-use Rattle.std.specs.Prelude.{◌≡◌, ◌+◌, ◌*◌, ◌<◌, ◌≤◌, List, ◌++◌, All, fold, map, max, scan}
+use Rattle.std.specs.Prelude.{◌≡◌, ◌⊎◌, ◌+◌, ◌*◌, ◌<◌, ◌≤◌, List, ◌++◌, All, fold, map, max, scan}
 use Rattle.thin_vec.specs.Cheap.{IsCheap}
 use Rattle.thin_vec.specs.List.Clones.{ClonesEqual}
 use Rattle.thin_vec.specs.Growth.{doubling}
@@ -9,7 +9,7 @@ use Rattle.thin_vec.specs.ThinVec.{IsNew, IsBounded, ListView}
 use Rattle.thin_runner.specs.Env.{Env}
 use Rattle.thin_runner.specs.Plain.{items_after, reply_to, observed}
 use Rattle.thin_runner.specs.Replies.{IsGranted}
-use Rattle.thin_runner.specs.Run.{IsPushOrPop, KeepsCheap, Runs, successful_pushes, peak, run_may_move}
+use Rattle.thin_runner.specs.Run.{IsPushOrPop, KeepsCheap, MakesNoClone, Runs, successful_pushes, peak, run_may_move}
 use Rattle.thin_runner.specs.declared.command.Command.{Command}
 use Rattle.thin_runner.specs.declared.command.Reply.{Reply}
 
@@ -22,10 +22,11 @@ module _ {T A G J : Type 0} (here : Env T A J) where
     -- The replies to the commands of the run, without the earlier replies in `before`.
     pub replies : List (Reply T A G)
     pub appended : after ≡ before ++ replies
-    -- Suppose that each clone equals its source, and that no call failed. Then the final items of
-    -- the list are the result of applying `items_after` for each command, in order. The function
-    -- `reply_to` computes the part of each reply that `observed` extracts.
-    pub plain : ClonesEqual here.clones → All IsGranted replies
+    -- Suppose that no command clones, or that each clone equals its source. Suppose also that no
+    -- call failed. Then the final items of the list are the result of applying `items_after` for
+    -- each command, in order. The function `reply_to` computes the part of each reply that
+    -- `observed` extracts.
+    pub plain : All MakesNoClone commands ⊎ ClonesEqual here.clones → All IsGranted replies
         → (new.items ≡ fold (items_after here) old.items commands)
         × (map observed replies ≡ scan (items_after here) (reply_to here) old.items commands)
     -- The predicate `Runs` holds for this run, even if calls failed. `Runs` states which replies

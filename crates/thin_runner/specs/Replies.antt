@@ -1,6 +1,9 @@
--- These definitions take a reply, and state whether the call failed, and why it failed.
-use Rattle.std.specs.Prelude.{◌≡◌, None, Option, Some}
+-- These definitions take a reply, and state whether the call failed, why it failed, and which items
+-- it returns because of this.
+use Rattle.std.specs.Prelude.{◌≡◌, List, [], ◌++◌, None, Option, Some}
+use Rattle.std.specs.Option.{option_to_list}
 use Rattle.thin_vec.specs.declared.ThinVecError.{ThinVecError}
+use Rattle.thin_runner.specs.Hinted.{hinted_items}
 use Rattle.thin_runner.specs.declared.command.Reply.{Reply}
 use Rattle.thin_runner.specs.declared.command.Reply.TheVariants.{Other, Returned, Refused, Stopped}
 
@@ -19,3 +22,10 @@ module _ {T A G : Type 0} where
   -- not carried out because its index or range was out of bounds.
   abbrev pub IsGranted : Reply T A G → Type 0
   IsGranted reply = refusal_of reply ≡ None
+
+  -- `not_placed reply` is the list of the items that an `Extend` or a `Splice` was given, but did
+  -- not put into the list, in order. It is empty unless the call failed.
+  abbrev pub not_placed : Reply T A G → List T
+  not_placed (Stopped answers cause held in_hand rest) =
+      held.items ++ (option_to_list in_hand ++ hinted_items rest)
+  not_placed reply = []

@@ -5,10 +5,11 @@ use Rattle.std.specs.Option.{unwrap_or}
 use Rattle.thin_vec.specs.ThinVec.{ListView}
 use Rattle.thin_runner.specs.Env.{Env}
 use Rattle.thin_vec.specs.Edits.Retain.{flags_of, moves_of_retain}
+use Rattle.thin_runner.specs.Replies.{not_placed}
 use Rattle.thin_runner.specs.Steps.{Steps}
 use Rattle.thin_runner.specs.commands.Filters.{filter_results, keep_outside, extract_results}
 use Rattle.thin_runner.specs.declared.command.Command.{Command}
-use Rattle.thin_runner.specs.declared.command.Command.TheVariants.{Push, Pop, Insert, Remove, SwapRemove, ReserveExact, ShrinkToFit, Resize, ExtendFromSlice, Extend, Append, Drain, ExtractIf, Splice}
+use Rattle.thin_runner.specs.declared.command.Command.TheVariants.{Push, Pop, Insert, Remove, SwapRemove, ReserveExact, ShrinkToFit, Resize, ExtendFromSlice, Extend, Append, Clone, Drain, ExtractIf, Splice}
 use Rattle.thin_runner.specs.declared.command.Reply.{Reply}
 use Rattle.thin_runner.specs.declared.command.Reply.TheVariants.{Answers, Done, Item, OutOfRange, Other, Refused}
 
@@ -33,6 +34,14 @@ module _ {T A G : Type 0} where
   KeepsCheap ShrinkToFit = ⊥
   KeepsCheap command = Unit {0}
 
+  -- `MakesNoClone` holds for every command except `Resize`, `ExtendFromSlice` and `Clone`, which
+  -- clone items or values.
+  abbrev pub MakesNoClone : Command T A G → Type 0
+  MakesNoClone (Resize k v) = ⊥
+  MakesNoClone (ExtendFromSlice ys) = ⊥
+  MakesNoClone Clone = ⊥
+  MakesNoClone command = Unit {0}
+
 module _ {T A G J : Type 0} (here : Env T A J) where
   -- `Runs old commands replies new` holds if the commands, carried out in order, may turn the list
   -- `old` into `new` and get these replies.
@@ -44,7 +53,8 @@ module _ {T A G J : Type 0} (here : Env T A J) where
 
   -- `may_move xs command reply` is an upper bound on the number of items that the command moves.
   -- The command runs on a list with the items `xs`, and its reply is `reply`. Items that growth
-  -- copies are not counted.
+  -- copies are not counted. Of the items given to an `Extend` or a `Splice`, those placed are
+  -- counted.
   abbrev pub may_move : List T → Command T A G → Reply T A G → ℕ
   may_move xs command (OutOfRange back) = 0
   may_move xs (Push v) Done = 1
@@ -53,14 +63,15 @@ module _ {T A G J : Type 0} (here : Env T A J) where
   may_move xs (SwapRemove i) (Item o) = if i + 1 == length xs then 0 else 1
   may_move xs (Resize k v) reply = k - length xs
   may_move xs (ExtendFromSlice ys) reply = length ys.items
-  may_move xs (Extend ys lower) reply = length ys.items
+  may_move xs (Extend ys lower) reply = length ys.items - length (not_placed reply)
   may_move xs (Append given) (Other back None) = length given.items
   may_move xs (Drain a b steps) (Answers answers) = if a == b then 0 else length xs - b
   may_move xs (ExtractIf a b k) (Answers answers) =
       let results = extract_results here.model.take here.judge k (slice_range xs a b) in
       moves_of_retain (flags_of (keep_outside xs a b results))
   may_move xs (Splice a b steps ys lower) (Refused cause) = 0
-  may_move xs (Splice a b steps ys lower) reply = 2 * (length xs - b) + length ys.items
+  may_move xs (Splice a b steps ys lower) reply =
+      2 * (length xs - b) + (length ys.items - length (not_placed reply))
   may_move xs command reply =
       moves_of_retain (flags_of (unwrap_or (filter_results here xs command) []))
 

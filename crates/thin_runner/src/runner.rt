@@ -134,7 +134,7 @@ pub fn run<T: Clone + Eq, A: Allocator + Copy, G: Growth, J: Judge<T>>(
         × (vec_capacity replies.new ≡ vec_capacity replies.old)) }
     ensures cause { IfErr result (λ cause. cause ≡ ThinVecError.OutOfMemory) }
 {
-    // Only the proof needs this call: its contract says that the items fit into the capacity.
+    // Only the proof needs this call: its contract says that the list `IsBounded`.
     let _capacity = list.capacity();
     match replies.reserve(commands.len()) {
         Ok(()) => (),
@@ -147,7 +147,7 @@ pub fn run<T: Clone + Eq, A: Allocator + Copy, G: Growth, J: Judge<T>>(
             Err(_refused) => unreachable!(),
         }
     }
-    // The same for the field `within` of `Headline`, which the contract of `step` does not give.
+    // Only the proof needs this call: its contract says that the list `IsBounded`.
     let _end = list.capacity();
     Ok(())
 }

@@ -1,5 +1,4 @@
-//! Implements the commands whose proofs are written out, and `Drain`. The function `step` carries
-//! out the others itself.
+//! Implements the commands that the function `step` does not carry out itself.
 mod filters;
 mod many;
 mod ranges;

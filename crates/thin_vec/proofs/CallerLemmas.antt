@@ -1,7 +1,7 @@
 -- These lemmas are for the proofs of other crates. They say which capacities are small enough, and
 -- which items a list contains after a write through a slice, an `insert` and a `remove`, or a
--- `collect`, what a call that grows costs, and where the items of an iterator are.
-use Rattle.std.proofs.Common.{if◌then◌else◌, eqb, Bool, true, false, ◌≡◌, ℕ, zero, suc, ◌+◌, ◌-◌, ◌*◌, ◌^◌, ◌<◌, ◌≤◌, ap, arith, length, IfErr, OnErr, ◌⊎◌, Option, Result, Ok, Err, Some, None, inl, inr, refl, subst, sym, ◌∙◌, List, ◌++◌, append_assoc, drop, take, [], ◌∷◌, IfOk, OnOk}
+-- `collect`, how many items calls that grow a list copy, and where the items of an iterator are.
+use Rattle.std.proofs.Common.{if◌then◌else◌, eqb, Bool, true, false, ◌≡◌, ℕ, zero, suc, ◌+◌, ◌-◌, ◌*◌, ◌^◌, ◌<◌, ◌≤◌, ap, arith, length, IfErr, Option, Result, Ok, Err, Some, None, inl, inr, refl, subst, sym, ◌∙◌, List, ◌++◌, append_assoc, drop, take, [], ◌∷◌, IfOk}
 use Rattle.std.specs.Borrow.{RattleType}
 use Rattle.std.specs.Align.{type_align}
 use Rattle.std.specs.Mem.{type_size}
@@ -15,11 +15,9 @@ use Rattle.thin_block.specs.Cost.{Cost}
 use Rattle.thin_block.specs.Growth.{GrowthRule, IsLawful, doubling, exact_capacity, checked_capacity, grown_capacity}
 use Rattle.thin_block.proofs.CapacityLemmas.{exact-fits, exact-same, ruled-overflow, ruled-rule, ruled-same, small_fits}
 use Rattle.thin_block.proofs.ResultLemmas.{some-same}
-use Rattle.thin_vec.specs.Cheap.{IsCheap, IsCheapAt}
-use Rattle.thin_vec.specs.List.Capacity.{CostsMoves, Grows, PreservesList, Reserves, OverflowsIffTooLarge}
-use Rattle.thin_vec.specs.List.Clones.{LeftByFailedClone}
-use Rattle.thin_vec.specs.ThinVec.{IsBounded, IsCauseOf, ListView, capacity_after_reserve}
-use Rattle.thin_vec.proofs.ThinVecLemmas.{allocatable-less, cheap-regrown, cost_after_resize-copied}
+use Rattle.thin_vec.specs.List.Capacity.{CostsMoves, OverflowsIff, OverflowsIffTooLarge, PreservesList}
+use Rattle.thin_vec.specs.ThinVec.{IsCauseOf, ListView, capacity_after_reserve}
+use Rattle.thin_vec.proofs.ThinVecLemmas.{cost_after_resize-copied}
 use Rattle.std.proofs.Math.Seq.{take-append_seam}
 use Rattle.std.specs.List.{refill}
 use Rattle.thin_vec.specs.Lends.{with_items}
@@ -78,102 +76,29 @@ doubling-few R c w few small = elim (cases_lt c w) [
   | inr enough ↦ (c, ruled-same doubling _ _ c w enough)
 ]
 
-pub few_more : {X T A : Type 0} (R : RattleType) (k : ℕ) (v w : ListView T A)
+pub few_more : {X T A : Type 0} (R : RattleType) (k : ℕ) (v : ListView T A)
     (result : Result X ThinVecError) → length v.items + k < 2 ^ 30 → type_size R < 2 ^ 31
-    → Reserves doubling R k v w result → IfErr result (λ cause. cause ≡ OutOfMemory)
-few_more R k v w (Ok made) few small told = tt
-few_more R k v w (Err cause) few small told =
+    → OverflowsIff (capacity_after_reserve doubling R v k) result
+    → IfErr result (λ cause. cause ≡ OutOfMemory)
+few_more R k v (Ok made) few small told = tt
+few_more R k v (Err cause) few small told =
     let named = doubling-few R v.capacity (length v.items + k) few small in
     cause-named (capacity_after_reserve doubling R v k) named.0 cause named.1
     (λ over. told.overflow.0 (ap Err over))
 
-module _ {T A X E : Type 0} {rule : GrowthRule} {R : RattleType} {k : ℕ} {v w : ListView T A}
-    {r : Result X E} where
-  pub grows-bounded : Grows rule R k v w r → IsBounded R w
-  grows-bounded g = record { room = g.room; small = g.small; allocatable = g.allocatable }
-
-  pub grows-was_bounded : Grows rule R k v w r → IsBounded R v
-  grows-was_bounded g = record {
-    room = g.was_room;
-    small = omega (arith, g.never_less, g.small);
-    allocatable = allocatable-less R v.capacity w.capacity g.allocatable g.never_less;
-  }
-
-  pub grows-preserved : Grows rule R k v w r → (IsCheap v → IsCheap w) → PreservesList R v w
-  grows-preserved g cheap = record {
-    alloc = g.alloc;
-    never_less = g.never_less;
-    cheap = cheap;
-    within = (grows-was_bounded g, grows-bounded g);
-  }
-
-module _ {T A : Type 0} (rule : GrowthRule) (R : RattleType) (law : IsLawful rule)
-    (v w : ListView T A)
-    (k n : ℕ) (room : length v.items ≤ v.capacity)
-    (named : capacity_after_reserve rule R v k ≡ Some w.capacity) (cost : CostsMoves n v w) where
-  regrown-cheap : IsCheap v → IsCheap w
-  regrown-cheap cheap =
-      let same = cheap-regrown rule R law v k w.capacity cheap room named in
-      subst (IsCheapAt w.capacity) (sym cost)
-      (record { none = same.none; grown = same.grown; blocks = same.blocks })
-
-  regrown-copied : w.cost.grown + v.capacity ≤ v.cost.grown + w.capacity
-  regrown-copied =
-      omega (
-        arith,
-        cost_after_resize-copied rule R law v k w.capacity room named,
-        ap (λ (c : Cost). c.grown) cost,
-      )
-
--- Every growth rule has the law `IsLawful`: in an answer, it is `g.met.G.Growth.law`. For lists
--- with the rule `Doubling`, it is `doubling_law`.
-module _ {T A : Type 0} {rule : GrowthRule} (law : IsLawful rule) {R : RattleType} {k : ℕ}
-    {v w : ListView T A} where
-  module _ {X E : Type 0} (r : Result X E) (n : ℕ) where
-    -- A call such as `push`, which changes nothing if it fails, keeps a cheap list cheap.
-    pub grows-cheap : Grows rule R k v w r → OnOk r (CostsMoves n v w) → OnErr r (w ≡ v)
-        → IsCheap v → IsCheap w
-    grows-cheap g cost same cheap = go r g.ok cost same
-      where
-        go : (r : Result X E) → OnOk r (capacity_after_reserve rule R v k ≡ Some w.capacity)
-            → OnOk r (CostsMoves n v w) → OnErr r (w ≡ v) → IsCheap w
-        go (Ok x) named cost same = regrown-cheap rule R law v w k n g.was_room named cost cheap
-        go (Err e) named cost same = subst IsCheap (sym same) cheap
-
-    -- A call such as `push` copies at most as many items as the capacity grows by. So the same
-    -- holds of any number of calls, from any list: their inequalities add up.
-    pub grows-copied : Grows rule R k v w r → OnOk r (CostsMoves n v w) → OnErr r (w ≡ v)
-        → w.cost.grown + v.capacity ≤ v.cost.grown + w.capacity
-    grows-copied g cost same = go r g.ok cost same
-      where
-        go : (r : Result X E) → OnOk r (capacity_after_reserve rule R v k ≡ Some w.capacity)
-            → OnOk r (CostsMoves n v w) → OnErr r (w ≡ v)
-            → w.cost.grown + v.capacity ≤ v.cost.grown + w.capacity
-        go (Ok x) named cost same = regrown-copied rule R law v w k n g.was_room named cost
-        go (Err e) named cost same = omega (
-          arith,
-          ap (λ (z : ListView T A). z.cost.grown) same,
-          ap (λ (z : ListView T A). z.capacity) same,
-        )
-
-    -- A call such as `extend_from_slice`, which may have grown the list if it fails, keeps a cheap
-    -- list cheap.
-    pub cloned-cheap : (infallible : T → Type 0) (sources : List T) → Grows rule R k v w r
-        → OnOk r (CostsMoves n v w)
-        → OnErr r ((w ≡ v)
-        ⊎ LeftByFailedClone (capacity_after_reserve rule R v k) infallible sources v w)
-        → IsCheap v → IsCheap w
-    cloned-cheap infallible sources g cost err cheap = go r g.ok cost err
-      where
-        go : (r : Result X E) → OnOk r (capacity_after_reserve rule R v k ≡ Some w.capacity)
-            → OnOk r (CostsMoves n v w)
-            → OnErr r ((w ≡ v)
-            ⊎ LeftByFailedClone (capacity_after_reserve rule R v k) infallible sources v w)
-            → IsCheap w
-        go (Ok x) named cost err = regrown-cheap rule R law v w k n g.was_room named cost cheap
-        go (Err e) named cost (inl same) = subst IsCheap (sym same) cheap
-        go (Err e) named cost (inr grew) =
-            regrown-cheap rule R law v w k grew.at g.was_room grew.capacity grew.cost cheap
+-- A successful call such as `push`, which needs room for `k` more items and makes `n` moves, copies
+-- at most as many items as the capacity grows by. So the same holds of any number of calls, from
+-- any list: their inequalities add up. Every growth rule has the law `IsLawful`: in an answer, it
+-- is `g.met.G.Growth.law`. For lists with the rule `Doubling`, it is `doubling_law`.
+pub grows-copied : {T A : Type 0} {rule : GrowthRule} → IsLawful rule → {R : RattleType} (k n : ℕ)
+    {v w : ListView T A} → PreservesList R v w → capacity_after_reserve rule R v k ≡ Some w.capacity
+    → CostsMoves n v w → w.cost.grown + v.capacity ≤ v.cost.grown + w.capacity
+grows-copied {rule = rule} law {R} k n {v} {w} kept named cost =
+    omega (
+      arith,
+      cost_after_resize-copied rule R law v k w.capacity kept.within.0.room named,
+      ap (λ (c : Cost). c.grown) cost,
+    )
 
 named-by : (b : Bool) (m n : ℕ) → (if b then Some m else None) ≡ Some n → m ≡ n
 named-by true m n e = some-same e

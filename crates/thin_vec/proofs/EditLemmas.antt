@@ -22,10 +22,10 @@ use Rattle.thin_vec.proofs.open_block.PairTestLemmas.{map-answer}
 -- arguments: the state of the closure before the call, the two items, the result of the call, the
 -- state after the call, and the two items as the call left them.
 module _ {S T : Type 0} (R : S → T → T → Bool → S → T → T → Type 0) where
-  dedups_from : (xs : List T) (s : S) (k : T) (stays : List Bool) (ys : List T) (t : S)
-      → TestsEachAgainstLast R s k xs stays ys t → DedupsFrom R s k xs ys
-  dedups_from [] s k stays ys t h = h.1
-  dedups_from (x ∷ xs) s k stays ys t h = (
+  dedups_from : (xs : List T) (s : S) (k : T) (removed : List Bool) (ys : List T) (t : S)
+      → TestsEachAgainstLast R s k xs removed ys t → DedupsFrom R s k xs ys
+  dedups_from [] s k removed ys t h = h.1
+  dedups_from (x ∷ xs) s k removed ys t h = (
     h.0,
     h.3,
     h.1,
@@ -35,15 +35,15 @@ module _ {S T : Type 0} (R : S → T → T → Bool → S → T → T → Type 0
         (λ m. (m.0, dedups_from xs h.3 h.1 h.4 m.0 t m.1, m.2)) h.7,
   )
 
-  dedups_all : (xs : List T) (s : S) (stays : List Bool) (ys : List T) (t : S)
-      → TestsAllAgainstLast R s xs stays ys t → DedupsAll R s xs ys
-  dedups_all [] s stays ys t h = h.1
-  dedups_all (x ∷ xs) s stays ys t h = dedups_from xs s x stays ys t h
+  dedups_all : (xs : List T) (s : S) (removed : List Bool) (ys : List T) (t : S)
+      → TestsAllAgainstLast R s xs removed ys t → DedupsAll R s xs ys
+  dedups_all [] s removed ys t h = h.1
+  dedups_all (x ∷ xs) s removed ys t h = dedups_from xs s x removed ys t h
 
   pub deduped_deduped : {A : Type 0} (s : S) (v w : ListView T A) → IsDedupedBy R s v w
       → IsDeduped R s v.items w.items
   deduped_deduped s v w h =
-      record { told = dedups_all v.items s h.1.kept w.items h.0 h.1.asked }
+      record { told = dedups_all v.items s h.removed w.items h.last h.calls }
 
   pub deduped_dedup : {A : Type 0} (same : T → T → Bool) {s : S} {v w : ListView T A}
       → ((x y : T) (b : Bool) (t : S) (x' y' : T) → R s x y b t x' y'

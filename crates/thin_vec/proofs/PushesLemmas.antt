@@ -1,6 +1,6 @@
 -- These lemmas are about the capacity of a list after pushes (`capacity_after_pushes`), after
 -- `extend` and after `finish` of a `Splice`. They are also meant for other crates.
-use Rattle.std.proofs.Common.{if◌then◌else◌, Bool, true, false, ◌≡◌, ℕ, zero, suc, ◌+◌, ◌-◌, ◌*◌, eqb, ◌<◌, ◌≤◌, List, [], Option, None, Some, ap, arith, inl, inr, length, refl, subst, sym, ◌∙◌}
+use Rattle.std.proofs.Common.{if◌then◌else◌, Bool, true, false, ◌≡◌, ℕ, zero, suc, ◌+◌, ◌-◌, ◌*◌, eqb, ◌<◌, ◌≤◌, List, [], ◌∷◌, Option, None, Some, ap, arith, inl, inr, length, refl, subst, sym, ◌∙◌}
 use borrow.Author.Tests.{lt-leb}
 use Rattle.std.proofs.lemmas.Bool.{cases_lt}
 use Rattle.std.proofs.lemmas.Bool.Decides.{nat_tests}
@@ -17,8 +17,9 @@ use Rattle.thin_block.proofs.CapacityLemmas.{exact-fits, exact-same, ruled-grows
 use Rattle.thin_block.proofs.ResultLemmas.{none-some, some-same}
 use Rattle.thin_block.specs.Capacity.{Fits, fits}
 use Rattle.thin_block.specs.Growth.{GrowthRule, IsLawful, checked_capacity, doubling, exact_capacity, grown_capacity}
-use Rattle.thin_vec.specs.Edits.Splice.{IsAfterSplice, SplicesCapacity, cost_after_growth}
-use Rattle.thin_vec.specs.List.Extend.{CostsExtending, ExtendsCapacity, IsAfterCollect, IsAfterExtend, IsAfterPushes, capacity_after_pushes, cost_after_pushes}
+use Rattle.thin_vec.specs.Edits.Splice.{IsAfterSplice, SplicesCapacity, StopsBeforeTail, cost_after_growth}
+use Rattle.thin_vec.specs.declared.errors.SpliceRefused.{SpliceRefused}
+use Rattle.thin_vec.specs.List.Extend.{CostsExtending, CostsInserting, ExtendsCapacity, IsAfterCollect, IsAfterExtend, IsAfterPushes, capacity_after_pushes, cost_after_pushes}
 use Rattle.thin_vec.specs.ThinVec.{HasRoomFor, IsBounded, ListView, fits_allocatable, capacity_after_reserve, cost_after_resize, cost_of_new}
 use Rattle.thin_block.specs.GrowthLaws.{doubling_law}
 use Rattle.thin_vec.proofs.CallerLemmas.{doubling-twice}
@@ -29,12 +30,39 @@ pub growth-same : (n c d : ℕ) (cost : Cost) → d ≡ c → cost_after_growth 
 growth-same n c d cost same = let t : eqb d c ≡ true = grind (arith, nat_tests) in rw t refl
 
 -- A list that does not change has the cost after a change of its capacity to the same.
-pub resized-none : {T A : Type 0} (v : ListView T A)
-    → (m : ℕ) × (v.cost ≡ add_moves m (cost_after_resize v v.capacity))
-resized-none v = (
-  0,
-  sym (moving-none (cost_after_resize v v.capacity) ∙ cost_after_resize-same v v.capacity refl),
-)
+pub resized-none : {T A : Type 0} (v : ListView T A) (q : ℕ)
+    → v.cost ≡ add_moves (length v.items - length v.items
+    + (if eqb (length v.items) (length v.items) then 0 else q)) (cost_after_resize v v.capacity)
+resized-none v q =
+    let t : eqb (length v.items) (length v.items) ≡ true = grind (arith, nat_tests) in
+    let none : length v.items - length v.items + 0 ≡ 0 = omega arith in
+    rw t (sym (ap (λ k. add_moves k (cost_after_resize v v.capacity)) none
+    ∙ (moving-none (cost_after_resize v v.capacity)
+    ∙ cost_after_resize-same v v.capacity refl)))
+
+-- The `t` items after `n` others move, unless `n` is `k`.
+pub tail-moves : (n k t m : ℕ) → (n < k → m ≡ t) → (n ≡ k → m ≡ 0) → n ≤ k
+    → (if eqb n k then 0 else t) ≡ m
+tail-moves n k t m short full low = elim (cases_lt n k) [
+  | inl less ↦ let f : eqb n k ≡ false = grind (arith, nat_tests) in rw f (sym (short less))
+  | inr all ↦
+      let same : n ≡ k = omega arith in let f : eqb n k ≡ true = grind (arith, nat_tests) in
+      rw f (sym (full same))
+]
+
+-- Making no slots moves no item, and then there are as many items as before.
+hinted-moves : (h m n t : ℕ) → n ≡ m + h
+    → (if eqb h 0 then 0 else t) ≡ (if eqb n m then 0 else t)
+hinted-moves h m n t long = elim (cases_lt 0 h) [
+  | inl some ↦
+      let f : eqb h 0 ≡ false = grind (arith, nat_tests) in
+      let g : eqb n m ≡ false = grind (arith, nat_tests) in
+      ap (λ b. if b then 0 else t) (f ∙ sym g)
+  | inr none ↦
+      let f : eqb h 0 ≡ true = grind (arith, nat_tests) in
+      let g : eqb n m ≡ true = grind (arith, nat_tests) in
+      ap (λ b. if b then 0 else t) (f ∙ sym g)
+]
 
 -- A list of `n` items with the capacity `c` and the cost `add_moves a k` grows, and moves are made.
 pub growth-once : {T A : Type 0} (u w : ListView T A) (a b n c : ℕ) (k : Cost)
@@ -232,23 +260,34 @@ module _ (rule : GrowthRule) (R : RattleType) where
     reserved-none k room = ruled-same rule _ _ v.capacity (length v.items + k) room
 
     -- If the items fit into the slots of the range, the list does not grow.
-    pub spliced-none : (w : ListView T A) (k m : ℕ) (left : Count)
-        → length v.items + k ≤ v.capacity → length w.items ≤ v.capacity
-        → w.capacity ≡ v.capacity → w.cost ≡ add_moves m v.cost
-        → (h : ℕ) × ((h ≡ 0) ⊎ IsWithinCount (k + h) left) × IsAfterSplice rule R v k h w
-    spliced-none w k m left room fit same paid = (
-      0,
-      inl refl,
-      (
-        v.capacity,
-        m,
-        reserved-none (k + 0) (omega (arith, room)),
-        ruled-same rule _ _ v.capacity (length w.items) fit ∙ ap Some (sym same),
-        paid
-            ∙ ap (add_moves m) (sym (growth-same (length v.items + k + 0) v.capacity w.capacity _ same
-            ∙ growth-same (length v.items + k) v.capacity v.capacity v.cost refl)),
-      ),
-    )
+    pub spliced-none : (w : ListView T A) (k t m : ℕ) (left : Count)
+        → length v.items + k ≤ v.capacity → w.capacity ≡ v.capacity
+        → w.cost ≡ add_moves (length w.items - length v.items + m) v.cost
+        → length w.items ≤ length v.items + k → (length w.items < length v.items + k → m ≡ t)
+        → (length w.items ≡ length v.items + k → m ≡ 0)
+        → (p : IsAfterSplice rule R k t v w left) × (p.hint ≡ 0)
+    spliced-none w k t m left room same paid low short full =
+        let n = length w.items - length v.items in
+        let end = length v.items + k + 0 in
+        let once = tail-moves (length w.items) end t m
+        (λ less. short (omega (arith, less))) (λ all. full (omega (arith, all))) (omega arith) in
+        let count : n + m ≡ n + 0 + m = omega arith in (
+          record {
+            hint = 0;
+            within = inl refl;
+            in_range = λ _. refl;
+            reserved = v.capacity;
+            reserves = reserved-none (k + 0) (omega (arith, room));
+            capacity = ruled-same rule _ _ v.capacity (length w.items) (omega (arith, low, room))
+                ∙ ap Some (sym same);
+            cost = paid
+                ∙ (ap (λ q. add_moves q v.cost) (count ∙ ap (λ q. n + 0 + q) (sym once))
+                ∙ ap (add_moves (n + 0 + (if eqb (length w.items) end then 0 else t)))
+                (sym (growth-same end v.capacity w.capacity _ same
+                ∙ growth-same (length v.items + k) v.capacity v.capacity v.cost refl)));
+          },
+          refl,
+        )
 
 -- A call to `extend` is like a splice at the end of the list.
 pub extends-splices : {T A : Type 0} {rule : GrowthRule} {R : RattleType} {tail : List T}
@@ -264,8 +303,7 @@ extends-splices none grew = record {
 pub splices-before : {T A : Type 0} {rule : GrowthRule} {R : RattleType} {tail : List T}
     {k : ℕ} {v w : ListView T A} {limit : Count} → 0 < length tail
     → (HasRoomFor v (size limit) → w.capacity ≡ v.capacity)
-    → (h : ℕ) × ((h ≡ 0) ⊎ IsWithinCount (k + h) limit) × IsAfterSplice rule R v k h w
-    → SplicesCapacity rule R tail k v w limit
+    → IsAfterSplice rule R k (length tail) v w limit → SplicesCapacity rule R tail k v w limit
 splices-before some room grew = record {
   had_room = room;
   at_end = λ none. absurd (omega (arith, some, ap length none));
@@ -326,6 +364,72 @@ module _ (rule : GrowthRule) (R : RattleType) (law : IsLawful rule) where
 
   pub grown-le : (c n d : ℕ) → grown rule R c n ≡ Some d → c ≤ d
   grown-le c n d e = kept-le c d (grown-kept c n d e)
+
+  -- A block that grew to hold `n` items has at least `n` slots.
+  grown-room : (c n d : ℕ) → grown rule R c n ≡ Some d → n ≤ d
+  grown-room c n d e = elim (cases_lt c n) [
+    | inl more ↦ (ruled-grows rule _ _ c n d law more e).enough
+    | inr spare ↦
+        let same : d ≡ c = some-same (sym e ∙ ruled-same rule _ _ c n spare) in
+        omega arith
+  ]
+
+  -- `GrowthCosts n c d q r` bounds the cost `r` after a block with `n` items changed its capacity
+  -- from `c` to `d`. The cost before was `q`.
+  pub record GrowthCosts (n c d : ℕ) (q r : Cost) : Type 0 where
+    pub moves : r.moves ≡ q.moves
+    pub never_less : (c ≤ d) × (q.blocks ≤ r.blocks) × (q.grown ≤ r.grown)
+    pub kept : d ≡ c → (r.blocks ≡ q.blocks) × (r.grown ≡ q.grown)
+    pub on_growth : c < d → (q.blocks < r.blocks) × (q.grown + n ≤ r.grown)
+    pub copied : r.grown + c ≤ q.grown + d
+
+  growth-costs : (n c m d : ℕ) (q : Cost) → n ≤ c → grown rule R c m ≡ Some d
+      → GrowthCosts n c d q (cost_after_growth n c d q)
+  growth-costs n c m d q fit e = elim (cases_lt c m) [
+    | inl more ↦
+        let g = ruled-grows rule _ _ c m d law more e in
+        let bigger : c < d = omega (arith, more, g.enough) in
+        let other : eqb d c ≡ false = grind (arith, nat_tests, bigger) in
+        subst (GrowthCosts n c d q) (sym (ap (λ b. if b then q else add_realloc n q) other))
+        (record {
+          moves = refl;
+          never_less = (omega arith, omega arith, omega arith);
+          kept = λ same. absurd (omega arith);
+          on_growth = λ _. (omega arith, omega arith);
+          copied = omega (arith, g.doubled);
+        })
+    | inr spare ↦
+        let same : d ≡ c = some-same (sym e ∙ ruled-same rule _ _ c m spare) in
+        subst (GrowthCosts n c d q) (sym (growth-same n c d q same)) (record {
+          moves = refl;
+          never_less = (omega arith, omega arith, omega arith);
+          kept = λ _. (refl, refl);
+          on_growth = λ more. absurd (omega arith);
+          copied = omega arith;
+        })
+  ]
+
+  two-growths : {T A : Type 0} (v w : ListView T A) (start end c t a b : ℕ) (k l : Cost)
+      → GrowthCosts start v.capacity c v.cost k → GrowthCosts end c w.capacity k l
+      → w.cost ≡ add_moves (length w.items - length v.items + a + b) l → a ≤ t → b ≤ t
+      → length v.items ≤ length w.items → length v.items ≤ start → length v.items ≤ end
+      → CostsInserting (2 * t) v w
+  two-growths v w start end c t a b k l one two paid few less longer low high =
+      let moves : w.cost.moves ≡ l.moves + (length w.items - length v.items + a + b) =
+      ap (λ x. x.moves) paid in
+      let blocks : w.cost.blocks ≡ l.blocks = ap (λ x. x.blocks) paid in
+      let copies : w.cost.grown ≡ l.grown = ap (λ x. x.grown) paid in
+      let first = one.never_less in let second = two.never_less in
+      record {
+        least = omega (arith, one.moves, two.moves);
+        moves = omega (arith, one.moves, two.moves);
+        kept = λ same. omega (arith, one.kept (omega arith), two.kept (omega arith));
+        on_growth = λ more. elim (cases_lt v.capacity c) [
+          | inl grew ↦ omega (arith, one.on_growth grew)
+          | inr still ↦ omega (arith, two.on_growth (omega arith))
+        ];
+        copied = omega (arith, one.copied, two.copied);
+      }
 
   -- Pushes leave no fewer slots than items.
   pushes-room : (c n d : ℕ) → capacity_after_pushes rule R c n ≡ Some d → n ≤ d
@@ -503,42 +607,123 @@ module _ (rule : GrowthRule) (R : RattleType) (law : IsLawful rule) where
       | inr chosen ↦ inl chosen
     ]
 
-    pub spliced-at_least : (k : ℕ) (w : ListView T A) → IsAfterSplice rule R v k h w
-        → IsKeptOrGrown rule R v.capacity w.capacity
-    spliced-at_least k w p =
-        kept-join v.capacity p.0 w.capacity
-        (grown-kept v.capacity (length v.items + (k + h)) p.0 p.2)
-        (grown-kept p.0 (length w.items) w.capacity p.3)
+  module _ {T A : Type 0} (k t : ℕ) (v w : ListView T A) (left : Count)
+      (p : IsAfterSplice rule R k t v w left) where
+    pub spliced-at_least : IsKeptOrGrown rule R v.capacity w.capacity
+    spliced-at_least =
+        kept-join v.capacity p.reserved w.capacity
+        (grown-kept v.capacity (length v.items + (k + p.hint)) p.reserved p.reserves)
+        (grown-kept p.reserved (length w.items) w.capacity p.capacity)
 
-    pub spliced-ruled : (k : ℕ) (w : ListView T A) (left : Count) → length v.items + k ≤ v.capacity
-        → (h ≡ 0) ⊎ IsWithinCount (k + h) left → IsAfterSplice rule R v k h w
+    pub spliced-ruled : length v.items + k ≤ v.capacity
         → IsChosenByRule rule R w.capacity (length w.items) ⊎ ((q : ℕ) × IsWithinCount q left
         × (capacity_after_reserve rule R v q ≡ Some w.capacity))
-    spliced-ruled k w left room hint p =
-        elim (cases_lt p.0 (length w.items)) [
+    spliced-ruled room =
+        elim (cases_lt p.reserved (length w.items)) [
           | inl more ↦
               inl (
-                p.0,
+                p.reserved,
                 length w.items,
                 more,
                 (let all : length w.items ≤ length w.items = omega arith in all),
-                p.3,
+                p.capacity,
               )
           | inr spare ↦
-              let same : w.capacity ≡ p.0 =
-              some-same (sym p.3 ∙ ruled-same rule _ _ p.0 (length w.items) spare) in
-              inr (elim hint [
+              let same : w.capacity ≡ p.reserved =
+              some-same (sym p.capacity ∙ ruled-same rule _ _ p.reserved (length w.items) spare) in
+              inr (elim p.within [
                 | inl none ↦
-                    let kept : p.0 ≡ v.capacity =
-                    cap-kept rule R law v (k + h) p.0 (omega (arith, room, none)) p.2 in (
+                    let kept : p.reserved ≡ v.capacity =
+                    cap-kept rule R law v (k + p.hint) p.reserved (omega (arith, room, none))
+                    p.reserves in (
                       0,
                       (λ _. omega arith),
                       reserved-none rule R v 0 (omega (arith, room))
                           ∙ ap Some (sym (same ∙ kept)),
                     )
-                | inr within ↦ (k + h, within, p.2 ∙ ap Some (sym same))
+                | inr within ↦ (k + p.hint, within, p.reserves ∙ ap Some (sym same))
               ])
         ]
+
+    -- The bounds on the cost of `finish` before a tail follow from its exact cost.
+    pub spliced-costs : length v.items + k ≤ v.capacity → length v.items ≤ length w.items
+        → CostsInserting (2 * t) v w
+    spliced-costs room longer =
+        let start = length v.items + k in
+        let fit : start + p.hint ≤ p.reserved =
+        omega (
+          arith,
+          grown-room v.capacity (length v.items + (k + p.hint)) p.reserved p.reserves,
+        ) in
+        two-growths v w start (start + p.hint) p.reserved t (if eqb p.hint 0 then 0 else t)
+        (if eqb (length w.items) (start + p.hint) then 0 else t)
+        (cost_after_growth start v.capacity p.reserved v.cost)
+        (cost_after_growth (start + p.hint) p.reserved w.capacity
+        (cost_after_growth start v.capacity p.reserved v.cost))
+        (growth-costs start v.capacity (length v.items + (k + p.hint)) p.reserved v.cost room
+        p.reserves)
+        (growth-costs (start + p.hint) p.reserved (length w.items) w.capacity
+        (cost_after_growth start v.capacity p.reserved v.cost) fit p.capacity)
+        p.cost (at-most (eqb p.hint 0)) (at-most (eqb (length w.items) (start + p.hint))) longer
+        (omega arith) (omega arith)
+      where
+        at-most : (b : Bool) → (if b then 0 else t) ≤ t
+        at-most true = omega arith
+        at-most false = omega arith
+
+    -- If a call to `finish` fails, it has filled all slots that it reserved for the hint.
+    pub spliced-stops : {S : Type 0} (error : SpliceRefused T S A)
+        → length v.items + k ≤ v.capacity → length w.items ≡ length v.items + k + p.hint
+        → (error.held.items ≡ [] → error.in_hand ≡ None → p.hint ≡ 0)
+        → StopsBeforeTail rule R k t v w error
+    spliced-stops error room long none =
+        let n = length w.items - length v.items in
+        let start = length v.items + k in
+        let fit : length w.items ≤ p.reserved =
+        omega (
+          arith,
+          long,
+          grown-room v.capacity (length v.items + (k + p.hint)) p.reserved p.reserves,
+        ) in
+        let same : w.capacity ≡ p.reserved =
+        some-same (sym p.capacity ∙ ruled-same rule _ _ p.reserved (length w.items) fit) in
+        let all : eqb (length w.items) (start + p.hint) ≡ true = grind (arith, nat_tests, long) in
+        let done : (if eqb (length w.items) (start + p.hint) then 0 else t) ≡ 0 =
+        ap (λ b. if b then 0 else t) all in
+        let once = hinted-moves p.hint start (length w.items) t long in
+        let moves = if eqb (length w.items) start then 0 else t in
+        let grows : cost_after_growth (start + p.hint) p.reserved w.capacity
+        (cost_after_growth start v.capacity p.reserved v.cost)
+        ≡ cost_after_growth start v.capacity w.capacity v.cost =
+        growth-same (start + p.hint) p.reserved w.capacity
+        (cost_after_growth start v.capacity p.reserved v.cost) same
+        ∙ ap (λ d. cost_after_growth start v.capacity d v.cost) (sym same) in
+        let count = (λ i. n + once i + done i)
+        ∙ (let z : n + moves + 0 ≡ n + moves = omega arith in z) in
+        let paid : w.cost ≡ add_moves (n + moves)
+        (cost_after_growth start v.capacity w.capacity v.cost) =
+        p.cost ∙ (λ i. add_moves (count i) (grows i)) in
+        let more : k + p.hint ≡ n = omega (arith, long) in
+        record {
+          filled = omega (arith, long);
+          capacity = subst (λ q. capacity_after_reserve rule R v q ≡ Some w.capacity) more
+              (p.reserves ∙ ap Some (sym same));
+          cost = paid;
+          at_hint = λ held hand.
+              let zero = none held hand in
+              let kept : w.capacity ≡ v.capacity = same
+              ∙ cap-kept rule R law v (k + p.hint) p.reserved (omega (arith, room, zero))
+              p.reserves in
+              let at : eqb (length w.items) start ≡ true = grind (arith, nat_tests, long, zero) in
+              let few : n + moves ≡ k =
+              ap (λ b. n + (if b then 0 else t)) at
+              ∙ (let z : n + 0 ≡ k = omega (arith, long, zero) in z) in (
+                omega (arith, long, zero),
+                kept,
+                paid ∙ (λ i. add_moves (few i)
+                    (growth-same start v.capacity w.capacity v.cost kept i)),
+              );
+        }
 
 -- Under `Doubling`, a full list that gets at most as many items as it has doubles its capacity, by
 -- one request. The iterator could yield no more than these.
@@ -584,6 +769,17 @@ module _ (R : RattleType) {T A : Type 0} (v w : ListView T A) (h : ℕ) where
               omega (arith, copies, ap (λ x. x.grown) paid),
             )
       ]
+
+-- The bounds on the cost of `finish` follow from its exact cost.
+pub splices-costs : {T A : Type 0} (rule : GrowthRule) (R : RattleType) (tail : List T) (k : ℕ)
+    (v w : ListView T A) (limit : Count) → IsLawful rule → SplicesCapacity rule R tail k v w limit
+    → length v.items + k ≤ v.capacity → length v.items ≤ length w.items
+    → CostsInserting (2 * length tail) v w
+splices-costs rule R [] k v w limit law p room longer =
+    let after = p.at_end refl in
+    (extended-costs rule R law v w after.0 (omega (arith, room)) longer after.2).inserting
+splices-costs rule R (x ∷ xs) k v w limit law p room longer =
+    spliced-costs rule R law k (length (x ∷ xs)) v w limit (p.before_tail (omega arith)) room longer
 
 -- The capacity after `from_iter` is one that the growth rule chose, or the one in the size hint.
 pub collected-ruled : {T A : Type 0} (rule : GrowthRule) (R : RattleType) (w : ListView T A) (h : ℕ)

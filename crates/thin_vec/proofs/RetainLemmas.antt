@@ -9,8 +9,9 @@ use Rattle.std.specs.List.{filter, items_where_true}
 use Rattle.std.specs.List.Retain.{IsFiltered, RetainsInTurn, ReturnsInTurn}
 use Rattle.std.proofs.lemmas.Fn.{filter_same}
 use Rattle.thin_block.specs.Cost.{Cost, add_moves}
-use Rattle.thin_vec.specs.Edits.Retain.{TestResults, TestsInTurn, IsRetained, IsRetainedTo, ReadsOnly, flags_of, items_where, moves_of_retain, all_kept, count_true}
+use Rattle.thin_vec.specs.Edits.Retain.{TestResults, IsRetained, IsRetainedMut, KeepsInTurn, flags_of, items_where, moves_of_retain, all_kept, count_true}
 use Rattle.thin_vec.specs.List.Capacity.{MovesAtMost}
+use Rattle.thin_vec.specs.OpenBlock.Retain.{TestsInTurn}
 use Rattle.thin_vec.specs.ThinVec.{ListView}
 
 pub moving-more : (a b : ℕ) (c : Cost) → add_moves a (add_moves b c) ≡ add_moves (b + a) c
@@ -80,12 +81,6 @@ module _ {T : Type 0} where
   items_where-stay [] = refl
   items_where-stay (x ∷ xs) = ap (λ (l : List T). x ∷ l) (items_where-stay xs)
 
-  -- As many flags are true as items are kept.
-  pub count_true-kept : (a : TestResults T) → count_true (flags_of a) ≡ length (items_where true a)
-  count_true-kept [] = refl
-  count_true-kept ((true, x) ∷ a) = ap suc (count_true-kept a)
-  count_true-kept ((false, x) ∷ a) = count_true-kept a
-
   pub count_true-stay : (xs : List T) → count_true (flags_of (all_kept xs)) ≡ length xs
   count_true-stay [] = refl
   count_true-stay (x ∷ xs) = ap suc (count_true-stay xs)
@@ -96,108 +91,182 @@ module _ {T : Type 0} where
   moves_of_retain-stay [] a = refl
   moves_of_retain-stay (x ∷ xs) a = moves_of_retain-stay xs a
 
--- In this module, `J` is the type of a wrapper around a closure that returns what the closure
--- returns. `inside` maps each state of the wrapper to the state of the closure inside it.
-module _ {J S T : Type 0} (R : S → T → Bool → S → T → Type 0) (inside : J → S) where
-  -- `through` describes the calls to the wrapper.
-  abbrev through : J → T → Bool → J → T → Type 0
-  through s x b t y = R (inside s) x b (inside t) y
+module _ {T : Type 0} where
+  kept-first : (b : Bool) (y : T) (a : TestResults T)
+      → items_where true ((b, y) ∷ a) ≡ cond b (y ∷ items_where true a) (items_where true a)
+  kept-first true y a = refl
+  kept-first false y a = refl
 
-  pub asked-through : (xs : List T) (s t : J) (a : TestResults T) → TestsInTurn through s xs a t
-      → TestsInTurn R (inside s) xs a (inside t)
-  asked-through [] s t a h = (h.0, ap inside h.1)
-  asked-through (x ∷ xs) s t a h =
-      (h.0, h.1, inside h.2, h.3, h.4, asked-through xs h.2 t h.3 h.5, h.6)
-
-  pub retained-through : {A : Type 0} (s : J) (v w : ListView T A) (t : J)
-      → IsRetainedTo through s v w t → IsRetained R (inside s) v w
-  retained-through s v w t h = (
-    inside t,
-    record {
-      results = h.results;
-      asked = asked-through v.items s t h.results h.asked;
-      items = h.items;
-      cost = h.cost;
-    },
+  -- The results for a list are those for its first item and for the others.
+  pub keeps-cons : {b : Bool} {flags later : List Bool} {ys zs : List T} (y : T) (a : TestResults T)
+      → flags ≡ b ∷ later → ys ≡ cond b (y ∷ zs) zs
+      → (later ≡ flags_of a) × (zs ≡ items_where true a)
+      → (flags ≡ flags_of ((b, y) ∷ a)) × (ys ≡ items_where true ((b, y) ∷ a))
+  keeps-cons {b} y a first kept rest = (
+    first ∙ ap (λ l. b ∷ l) rest.0,
+    kept ∙ (ap (λ l. cond b (y ∷ l) l) rest.1 ∙ sym (kept-first b y a)),
   )
 
--- The following lemmas state which items `retain` keeps, and bound the number of kept items.
-
--- In this module, `R` describes the calls to a closure that only reads the item.
-module _ {S T : Type 0} (R : S → T → Bool → S → Type 0) where
-  told : (xs : List T) (s t : S) (a : TestResults T) → TestsInTurn (ReadsOnly R) s xs a t
-      → (length (flags_of a) ≡ length xs) × ReturnsInTurn R s (flags_of a) xs t
-      × (items_where true a ≡ items_where_true (flags_of a) xs)
-  told [] s t a h = rw h.0 (refl, sym h.1, refl)
-  told (x ∷ xs) s t a h =
-      let more = told xs h.2 t h.3 h.5 in
-      rw h.6 (ap suc more.0, (h.2, h.4.0, more.1), first h.0 h.1 x h.3 xs h.4.1 more.2)
-    where
-      -- In this induction step of `told`, `b` is the flag for `x`, and `y` is `x` after the test.
-      first : (b : Bool) (y x : T) (a : TestResults T) (xs : List T) → y ≡ x
-          → items_where true a ≡ items_where_true (flags_of a) xs
-          → items_where true ((b, y) ∷ a) ≡ items_where_true (b ∷ flags_of a) (x ∷ xs)
-      first true y x a xs e f = λ i. e i ∷ f i
-      first false y x a xs e f = f
-
-  pub retained_filtered : {A : Type 0} (s : S) (v w : ListView T A) → IsRetained (ReadsOnly R) s v w
-      → IsFiltered R s v.items w.items
-  retained_filtered s v w h =
-      let r = h.1 in
-      let t = told v.items s h.0 r.results r.asked in
-      (flags_of r.results, h.0, t.0, t.1, r.items ∙ t.2)
-
-  pub retained_filter : {A : Type 0} (test : T → Bool) {s : S} {v w : ListView T A}
-      → ((x : T) (b : Bool) (t : S) → R s x b t → (b ≡ test x) × (t ≡ s))
-      → IsRetained (ReadsOnly R) s v w → w.items ≡ filter test v.items
-  retained_filter test {s} {v} {w} says h = filter_same R test s says v.items w.items
-      (retained_filtered s v w h)
-
 module _ {S T : Type 0} (R : S → T → Bool → S → T → Type 0) where
-  pub few-left : (xs : List T) (s t : S) (a : TestResults T) → TestsInTurn R s xs a t
-      → length (items_where true a) ≤ length xs
-  few-left [] s t a h = rw h.0 (omega arith)
-  few-left (x ∷ xs) s t a h = rw h.6 (one h.0 h.1 h.3 xs (few-left xs h.2 t h.3 h.5))
-    where
-      one : (b : Bool) (y : T) (a : TestResults T) (xs : List T)
-          → length (items_where true a) ≤ length xs
-          → length (items_where true ((b, y) ∷ a)) ≤ suc (length xs)
-      one true y a xs few = omega (arith, few)
-      one false y a xs few = omega (arith, few)
+  keeps-results : (xs : List T) (s t : S) (a : TestResults T) → TestsInTurn R s xs a t
+      → KeepsInTurn R s xs (flags_of a) (items_where true a)
+  keeps-results [] s t a h = rw h.0 (refl, refl)
+  keeps-results (x ∷ xs) s t a h = rw h.6 (
+    h.0,
+    h.2,
+    h.1,
+    h.4,
+    flags_of h.3,
+    items_where true h.3,
+    keeps-results xs h.2 t h.3 h.5,
+    refl,
+    kept-first h.0 h.1 h.3,
+  )
 
-  pub few-retained : {A : Type 0} (s : S) (v w : ListView T A) → IsRetained R s v w
+  pub retained-results : {A : Type 0} (s t : S) (v w : ListView T A) (a : TestResults T)
+      → TestsInTurn R s v.items a t → w.items ≡ items_where true a
+      → w.cost ≡ add_moves (moves_of_retain (flags_of a)) v.cost → IsRetainedMut R s v w
+  retained-results s t v w a asked items cost =
+      record { flags = flags_of a; calls = rw items (keeps-results v.items s t a asked); cost = cost }
+
+  pub retained-in-turn : {A : Type 0} (s : S) (v w : ListView T A) → IsRetainedMut R s v w
+      → RetainsInTurn R s v.items w.items
+  retained-in-turn s v w h = in-turn v.items s h.flags w.items h.calls
+    where
+      in-turn : (xs : List T) (s : S) (flags : List Bool) (ys : List T)
+          → KeepsInTurn R s xs flags ys → RetainsInTurn R s xs ys
+      in-turn [] s flags ys h = h.1
+      in-turn (x ∷ xs) s flags ys h =
+          (h.0, h.1, h.2, h.3, h.5, in-turn xs h.1 h.4 h.5 h.6, h.8)
+
+  -- As many flags are true as items are kept, which are at most all items.
+  kept-count : (xs : List T) (s : S) (flags : List Bool) (ys : List T) → KeepsInTurn R s xs flags ys
+      → (count_true flags ≡ length ys) × (length ys ≤ length xs)
+  kept-count [] s flags ys h = rw (h.0, h.1) (refl, omega arith)
+  kept-count (x ∷ xs) s flags ys h =
+      rw (h.7, h.8) (one h.0 h.4 h.5 (kept-count xs h.1 h.4 h.5 h.6))
+    where
+      one : (b : Bool) (flags : List Bool) (ys : List T)
+          → (count_true flags ≡ length ys) × (length ys ≤ length xs)
+          → (count_true (b ∷ flags) ≡ length (cond b (h.2 ∷ ys) ys))
+          × (length (cond b (h.2 ∷ ys) ys) ≤ suc (length xs))
+      one true flags ys more = (ap suc more.0, omega (arith, more.1))
+      one false flags ys more = (more.0, omega (arith, more.1))
+
+  pub few-retained : {A : Type 0} (s : S) (v w : ListView T A) → IsRetainedMut R s v w
       → length w.items ≤ length v.items
-  few-retained s v w h =
-      let few = few-left v.items s h.0 h.1.results h.1.asked in
-      omega (arith, few, ap length h.1.items)
+  few-retained s v w h = (kept-count v.items s h.flags w.items h.calls).1
 
   -- Each item that stays is moved at most once.
-  pub retained-moves : {A : Type 0} (s t : S) (v w : ListView T A) → IsRetainedTo R s v w t
+  pub retained-moves : {A : Type 0} (s : S) (v w : ListView T A) → IsRetainedMut R s v w
       → MovesAtMost (length w.items) v.cost w.cost
-  retained-moves s t v w h = record {
-    moves = moves_of_retain (flags_of h.results);
+  retained-moves s v w h = record {
+    moves = moves_of_retain h.flags;
     few = omega (
       arith,
-      moves_of_retain-few (flags_of h.results),
-      count_true-kept h.results,
-      ap length h.items,
+      moves_of_retain-few h.flags,
+      (kept-count v.items s h.flags w.items h.calls).0,
     );
     cost = h.cost;
   }
 
--- The following lemma says what `retain_mut` keeps, in the words of std's contract.
-module _ {S T : Type 0} (R : S → T → Bool → S → T → Type 0) where
-  kept_first : (b : Bool) (y : T) (a : TestResults T)
-      → items_where true ((b, y) ∷ a) ≡ cond b (y ∷ items_where true a) (items_where true a)
-  kept_first true y a = refl
-  kept_first false y a = refl
+-- In the following modules, `J` is the type of a wrapper around a closure that returns what the
+-- closure returns. `inside` maps each state of the wrapper to the state of the closure inside it.
 
-  in_turn : (xs : List T) (s t : S) (a : TestResults T) → TestsInTurn R s xs a t
-      → RetainsInTurn R s xs (items_where true a)
-  in_turn [] s t a h = rw h.0 refl
-  in_turn (x ∷ xs) s t a h = rw h.6
-      (h.0, h.2, h.1, h.4, items_where true h.3, in_turn xs h.2 t h.3 h.5, kept_first h.0 h.1 h.3)
+module _ {J S T : Type 0} (R : S → T → Bool → S → T → Type 0) (inside : J → S) where
+  keeps-through : (xs : List T) (s : J) (flags : List Bool) (ys : List T)
+      → KeepsInTurn (λ s x b t y. R (inside s) x b (inside t) y) s xs flags ys
+      → KeepsInTurn R (inside s) xs flags ys
+  keeps-through [] s flags ys h = h
+  keeps-through (x ∷ xs) s flags ys h =
+      (h.0, inside h.1, h.2, h.3, h.4, h.5, keeps-through xs h.1 h.4 h.5 h.6, h.7, h.8)
 
-  pub retained_in_turn : {A : Type 0} (s : S) (v w : ListView T A) → IsRetained R s v w
-      → RetainsInTurn R s v.items w.items
-  retained_in_turn s v w h = rw h.1.items (in_turn v.items s h.0 h.1.results h.1.asked)
+  pub retained-through : {A : Type 0} (s : J) (v w : ListView T A)
+      → IsRetainedMut (λ s x b t y. R (inside s) x b (inside t) y) s v w
+      → IsRetainedMut R (inside s) v w
+  retained-through s v w h = record {
+    flags = h.flags;
+    calls = keeps-through v.items s h.flags w.items h.calls;
+    cost = h.cost;
+  }
+
+-- In this module, the closure only reads the item.
+module _ {J S T : Type 0} (R : S → T → Bool → S → Type 0) (inside : J → S) where
+  -- `reads` describes the calls to the wrapper.
+  abbrev reads : J → T → Bool → J → T → Type 0
+  reads s x b t y = R (inside s) x b (inside t) × (y ≡ x)
+
+  told : (xs : List T) (s : J) (flags : List Bool) (ys : List T) → KeepsInTurn reads s xs flags ys
+      → (length flags ≡ length xs) × ((t : S) × ReturnsInTurn R (inside s) flags xs t)
+      × (ys ≡ items_where_true flags xs)
+  told [] s flags ys h = rw h.0 (refl, (inside s, refl), h.1)
+  told (x ∷ xs) s flags ys h =
+      let more = told xs h.1 h.4 h.5 h.6 in
+      rw h.7 (
+        ap suc more.0,
+        (more.1.0, (inside h.1, h.3.0, more.1.1)),
+        h.8 ∙ first h.0 h.2 h.3.1 h.5 more.2,
+      )
+    where
+      -- `y` is the first item as the call left it.
+      first : (b : Bool) (y : T) → y ≡ x → (zs : List T) → zs ≡ items_where_true h.4 xs
+          → cond b (y ∷ zs) zs ≡ items_where_true (b ∷ h.4) (x ∷ xs)
+      first true y e zs f = λ i. e i ∷ f i
+      first false y e zs f = f
+
+  pub retained-reads : {A : Type 0} (s : J) (v w : ListView T A) → IsRetainedMut reads s v w
+      → IsRetained R (inside s) v w
+  retained-reads s v w h =
+      let t = told v.items s h.flags w.items h.calls in
+      record {
+        flags = h.flags;
+        last = t.1.0;
+        count = t.0;
+        calls = t.1.1;
+        items = t.2;
+        cost = h.cost;
+      }
+
+module _ {S T : Type 0} (R : S → T → Bool → S → Type 0) where
+  pub retained_filtered : {A : Type 0} (s : S) (v w : ListView T A) → IsRetained R s v w
+      → IsFiltered R s v.items w.items
+  retained_filtered s v w h = (h.flags, h.last, h.count, h.calls, h.items)
+
+  pub retained_filter : {A : Type 0} (test : T → Bool) {s : S} {v w : ListView T A}
+      → ((x : T) (b : Bool) (t : S) → R s x b t → (b ≡ test x) × (t ≡ s))
+      → IsRetained R s v w → w.items ≡ filter test v.items
+  retained_filter test {s} {v} {w} says h =
+      filter_same R test s says v.items w.items (retained_filtered s v w h)
+
+  -- The contract of `retain` says what that of `retain_mut` says of a closure that writes nothing.
+  pub retained_mut : {A : Type 0} {s : S} {v w : ListView T A} → IsRetained R s v w
+      → IsRetainedMut (λ s x b t y. R s x b t × (y ≡ x)) s v w
+  retained_mut {s = s} {v} {w} h = record {
+    flags = h.flags;
+    calls = rw h.items (keeps h.flags v.items s h.last h.count h.calls);
+    cost = h.cost;
+  }
+    where
+      first : (b : Bool) (flags : List Bool) (x : T) (xs : List T)
+          → items_where_true (b ∷ flags) (x ∷ xs)
+          ≡ cond b (x ∷ items_where_true flags xs) (items_where_true flags xs)
+      first true flags x xs = refl
+      first false flags x xs = refl
+
+      keeps : (flags : List Bool) (xs : List T) (s t : S) → length flags ≡ length xs
+          → ReturnsInTurn R s flags xs t
+          → KeepsInTurn (λ s x b t y. R s x b t × (y ≡ x)) s xs flags (items_where_true flags xs)
+      keeps [] [] s t n h = (refl, refl)
+      keeps [] (x ∷ xs) s t n h = absurd (omega (arith, n))
+      keeps (b ∷ flags) [] s t n h = absurd (omega (arith, n))
+      keeps (b ∷ flags) (x ∷ xs) s t n h = (
+        b,
+        h.0,
+        x,
+        (h.1, refl),
+        flags,
+        items_where_true flags xs,
+        keeps flags xs h.0 t (omega (arith, n)) h.2,
+        refl,
+        first b flags x xs,
+      )

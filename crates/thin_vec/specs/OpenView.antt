@@ -90,9 +90,3 @@ module _ {T A : Type 0} where
   abbrev pub cost_closed : OpenView T A → Cost
   cost_closed v =
       if v.gap_before == 0 then v.cost else add_moves (length v.middle + length v.tail) v.cost
-
-  -- `cost_drained v` is the recorded cost of the open block `v` after its middle items have been
-  -- removed, and its tail items have been moved down to follow the front directly. This is the cost
-  -- after the drop of a `Drain`. If the range has no slots, nothing is moved.
-  abbrev pub cost_drained : OpenView T A → Cost
-  cost_drained v = if range_len v == 0 then v.cost else add_moves (length v.tail) v.cost

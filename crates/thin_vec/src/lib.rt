@@ -1,6 +1,8 @@
 //! A growable list that is one pointer wide: its length and its capacity are stored in its
 //! allocation, before the items. It is a port of the Rust crate thin-vec. `docs/FROM_RUST.md` lists
 //! the differences.
+//!
+//! Version 6 of 29 November 2026. `CHANGELOG.md` says what a caller has to change.
 #![tactic(auto)]
 
 mod convert;

@@ -17,6 +17,7 @@ mod insert_remove;
 mod push;
 mod resize;
 mod shrink;
+mod slices;
 
 use std::alloc::{Allocator, Global};
 use std::marker::{Model, PhantomData};

@@ -44,8 +44,16 @@ macro_rules! thin_vec {
     ($alloc:expr => $item:expr; $count:expr) => {
         $crate::repeated($alloc, $item, $count)
     };
+    // The type of a literal is no type parameter, so an array of literals needs no precondition
+    // about its size. The proof of a caller takes less time than with a push for each.
+    ($alloc:expr => $($item:literal),+ $(,)?) => {
+        match $crate::ThinVec::from_array($alloc, [$($item),+]) {
+            Ok(list) => Ok::<_, $crate::ThinVecError>(list),
+            Err(refused) => Err(refused.cause),
+        }
+    };
     ($alloc:expr => $($item:expr),+ $(,)?) => {
-        match $crate::ThinVec::with_capacity($alloc, $crate::count_items!($($item),+)) {
+        match $crate::ThinVec::with_capacity($alloc, 0 $(+ $crate::one_for!($item))+) {
             Ok(mut list) => {
                 $($crate::ThinVec::push_reserved(&mut list, $item);)+
                 Ok::<_, $crate::ThinVecError>(list)
@@ -61,15 +69,12 @@ macro_rules! thin_vec {
     };
 }
 
-/// Counts the arguments without evaluating them.
+/// Gives 1 without evaluating its argument.
 #[doc(hidden)]
 #[macro_export]
-macro_rules! count_items {
+macro_rules! one_for {
     ($item:expr) => {
         1
-    };
-    ($item:expr, $($rest:expr),+) => {
-        1 + $crate::count_items!($($rest),+)
     };
 }
 
@@ -88,7 +93,7 @@ pub fn repeated<T: Clone, A: Allocator>(
         (λ list. grown_capacity doubling (type_size T.row) (type_align T.row) 0 count
         ≡ Some list.capacity) }
     ensures cost { IfOk result (λ list. list.cost ≡ add_moves count (cost_of_new list.capacity)) }
-    ensures new { IfOk result (IsFreshList T.row alloc) }
+    ensures fresh { IfOk result (IsFreshList T.row alloc) }
 
     // When it must succeed.
     ensures succeeds { count ≡ 0 → IsOk result }

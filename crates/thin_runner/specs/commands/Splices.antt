@@ -9,7 +9,7 @@ use Rattle.std.specs.Option.{option_to_list}
 use Rattle.std.specs.Vec.Iter.{into_iter_items}
 use Rattle.thin_vec.specs.Edits.Splice.{SplicesCapacity}
 use Rattle.thin_vec.specs.List.Extend.{CostsInserting}
-use Rattle.thin_vec.specs.List.Capacity.{LacksRoom, PreservesList}
+use Rattle.thin_vec.specs.List.Capacity.{FailsForRoom, PreservesList}
 use Rattle.thin_vec.specs.Growth.{GrowthRule}
 use Rattle.thin_vec.specs.ThinVec.{HasRoomFor, ListView, capacity_after_reserve}
 use Rattle.thin_vec.specs.declared.ThinVecError.{ThinVecError}
@@ -52,10 +52,10 @@ module _ {T A : Type 0} (rule : GrowthRule) (R : RattleType) (old : ListView T A
     -- items. The number `h` is a lower bound that the size hint of `rest` may have.
     pub by_hint : held ≡ [] → in_hand ≡ None
         → (h : ℕ) × IsWithinCount h (at_most (rest.lower + length (into_iter_items rest.items)))
-        × LacksRoom rule R new h cause
+        × FailsForRoom rule R new h cause
     -- If `held` contains items and `in_hand` is `None`, then the list had no room for the items in
     -- `held`.
-    pub by_held : 0 < length held → in_hand ≡ None → LacksRoom rule R new (length held) cause
+    pub by_held : 0 < length held → in_hand ≡ None → FailsForRoom rule R new (length held) cause
     -- If `in_hand` contains an item, and the list `old` has items after the range, then the cause
     -- is `OutOfMemory`. In this case, the call failed because there was not enough memory to put
     -- the item into the vector `held`.

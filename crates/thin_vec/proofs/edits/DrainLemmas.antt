@@ -24,10 +24,16 @@ module _ {T A G H : Type 0} {g : Ghosts G} {h : IntoInnerGhosts H (OpenView T A)
   same : (d : Drain T A G H g h) → DrainKeeps d d
   same d = record { lender = refl; meanwhile = refl; left = refl }
 
+  drain_keeps_yielding : (d : Drain T A G H g h) (items : List T) (later : Drain T A G H g h)
+      → Yields DrainSteps d items later → DrainKeeps d later
+  drain_keeps_yielding d [] later e = subst (λ t. DrainKeeps d t) e (same d)
+  drain_keeps_yielding d (x ∷ xs) later (m, one, e) =
+      drain_keeps_more d m later one.keeps (drain_keeps_yielding m xs later e)
+
   pub drain_keeps_along : (d : Drain T A G H g h) → DrainKeepsAlong d
-  drain_keeps_along d [] later e = subst (λ t. DrainKeeps d t) e (same d)
-  drain_keeps_along d (x ∷ xs) later (m, one, e) =
-      drain_keeps_more d m later one.keeps (drain_keeps_along m xs later e)
+  drain_keeps_along d items later (inl e) = drain_keeps_yielding d items later e
+  drain_keeps_along d items later (inr (m, e, last)) =
+      drain_keeps_more d m later (drain_keeps_yielding d items m e) last.keeps
 
   -- `DrainStepsEither old item new` holds if a call to `next` or to `next_back` returned `item` and
   -- changed the `Drain` from `old` to `new`.

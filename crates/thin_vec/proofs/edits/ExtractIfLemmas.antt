@@ -1,17 +1,17 @@
 -- These lemmas are about the item that `next` on an `ExtractIf` extracts: the first untested item
 -- for which the closure returns true.
 use Rattle.std.proofs.Common.{◌≡◌, ℕ, ◌+◌, ◌≤◌, Bool, true, false, List, [], ◌∷◌, ◌++◌, Option, None, Some, length, take, drop, refl, sym, ap, subst, ◌∙◌, append_assoc, arith, length-append}
-use Rattle.std.proofs.lemmas.List.{append-nil, drop_at, length-take-le, take-append-drop, take_at}
+use Rattle.std.proofs.lemmas.List.{append-nil, drop_at, length-take-le, nil_from_length, take-append-drop, take_at}
 use Rattle.std.proofs.lemmas.List.Folds.{drop_split}
 use Rattle.std.specs.List.Retain.{ExtractsNext}
 use Rattle.std.specs.Option.{option_to_list}
-use Rattle.std.specs.Prelude.{◌==◌, if◌then◌else◌, not, slice_range}
+use Rattle.std.specs.Prelude.{◌==◌, MatchBool, cond, if◌then◌else◌, not, slice_range}
 use Rattle.thin_block.specs.Cost.{Cost, add_moves}
 use Rattle.thin_block.specs.declared.growth.Growth.{Ghosts}
-use Rattle.thin_vec.specs.Edits.ExtractIf.{ExtractKeepsAlong, ExtractLeaves, extract_block, extract_rest, left_by_extract_if}
-use Rattle.thin_vec.specs.Edits.Retain.{TestsInTurn, all_kept}
+use Rattle.thin_vec.specs.Edits.ExtractIf.{ExtractKeepsAlong, ExtractLeaves, ExtractSteps, ExtractsInTurn, ExtractsToEnd, extract_block, extract_callee, extract_rest, left_by_extract_if}
+use Rattle.thin_vec.specs.Edits.Retain.{all_kept}
 use Rattle.thin_vec.specs.List.Capacity.{MovesAtMost}
-use Rattle.thin_vec.specs.OpenBlock.Retain.{TestsUpTo, IsRemovedFirst}
+use Rattle.thin_vec.specs.OpenBlock.Retain.{TestsUpTo, IsRemovedFirst, TestsInTurn}
 use Rattle.thin_vec.specs.declared.edits.extract_if.ExtractIf.{ExtractIf}
 use Rattle.thin_vec.specs.declared.edits.extract_if.ExtractState.{ExtractState}
 use Rattle.thin_vec.specs.declared.edits.holder.IntoInner.{Ghosts as IntoInnerGhosts}
@@ -33,6 +33,59 @@ module _ {F T : Type 0} (R : F → T → Bool → F → T → Type 0) where
       (length (x ∷ xs) ≡ length kept + length (option_to_list item) + length untested)
       (λ m. omega (arith, ap (λ o. length (option_to_list o)) m.0, ap length m.2, ap length m.3))
       (λ m. omega (arith, picked-count e.1 xs item t m.0 untested m.1, ap length m.2)) e.4
+
+  pub picked-turn : (s : F) (xs : List T) (item : Option T) (t : F) (kept untested : List T)
+      → ExtractsNext R s xs item t kept untested
+      → (tested : List T) × (xs ≡ tested ++ untested)
+      × ExtractsInTurn R s tested (option_to_list item) kept t × (item ≡ None → untested ≡ [])
+  picked-turn s [] item t kept untested e =
+      ([], sym e.3, (ap option_to_list e.0, e.2, e.1), λ _. e.3)
+  picked-turn s (x ∷ xs) item t kept untested e =
+      one e.0 (λ ks n. picked-turn e.1 xs item t ks untested n) e.3 e.4
+    where
+      one : (b : Bool)
+          → ((ks : List T) → ExtractsNext R e.1 xs item t ks untested
+          → (tested : List T) × (xs ≡ tested ++ untested)
+          × ExtractsInTurn R e.1 tested (option_to_list item) ks t × (item ≡ None → untested ≡ []))
+          → R s x b e.1 e.2
+          → MatchBool b ((item ≡ Some e.2) × (t ≡ e.1) × (kept ≡ []) × (untested ≡ xs))
+          ((ks : List T) × ExtractsNext R e.1 xs item t ks untested × (kept ≡ e.2 ∷ ks))
+          → (tested : List T) × (x ∷ xs ≡ tested ++ untested)
+          × ExtractsInTurn R s tested (option_to_list item) kept t × (item ≡ None → untested ≡ [])
+      one true more called m = (
+        x ∷ [],
+        ap (λ l. x ∷ l) (sym m.3),
+        (true, e.1, e.2, called, [], [], (refl, refl, m.1), ap option_to_list m.0, m.2),
+        λ n. cc m.0,
+      )
+      one false more called m =
+          let on = more m.0 m.1 in (
+            x ∷ on.0,
+            ap (λ l. x ∷ l) on.1,
+            (false, e.1, e.2, called, option_to_list item, m.0, on.2, refl, m.2),
+            on.3,
+          )
+
+  module _ (t u : F) (ys i k : List T) (later : ExtractsInTurn R t ys i k u) where
+    pub extracts-append : (xs : List T) (s : F) (j l : List T) → ExtractsInTurn R s xs j l t
+        → ExtractsInTurn R s (xs ++ ys) (j ++ i) (l ++ k) u
+    extracts-append [] s j l h = rw (h.0, h.1, ← h.2) later
+    extracts-append (x ∷ xs) s j l h = (
+      h.0,
+      h.1,
+      h.2,
+      h.3,
+      h.4 ++ i,
+      h.5 ++ k,
+      extracts-append xs h.1 h.4 h.5 h.6,
+      ap (λ a. a ++ i) h.7 ∙ cond-append h.0 (h.2 ∷ h.4) h.4 i,
+      ap (λ a. a ++ k) h.8 ∙ cond-append h.0 h.5 (h.2 ∷ h.5) k,
+    )
+      where
+        cond-append : (b : Bool) (xs ys zs : List T)
+            → cond b xs ys ++ zs ≡ cond b (xs ++ zs) (ys ++ zs)
+        cond-append true xs ys zs = refl
+        cond-append false xs ys zs = refl
 
   module _ {S : Type 0} (of : S → F) where
     -- `J` describes the calls to a predicate that negates the result of a closure. If `s` is a
@@ -130,45 +183,101 @@ moves-join m n k b c d few p q = record {
   cost = q.cost ∙ (ap (λ x. add_moves q.moves x) p.cost ∙ moving-more q.moves p.moves b);
 }
 
+-- A call that yields nothing leaves the cost after the drop as it was: the `k` items that it kept
+-- are `k` fewer for the drop to move.
+closed-none : (b : Bool) (k n m tail : ℕ) (c d : Cost) → d ≡ (if b then c else add_moves k c)
+    → m ≡ k + n
+    → (if b then d else add_moves (n + tail) d) ≡ (if b then c else add_moves (m + tail) c)
+closed-none true k n m tail c d e count = e
+closed-none false k n m tail c d e count =
+    let all : k + (n + tail) ≡ m + tail = omega (arith, count) in
+    ap (add_moves (n + tail)) e
+    ∙ (moving-more (n + tail) k c ∙ ap (λ x. add_moves x c) all)
+
 module _ {T F A G H : Type 0} {g : Ghosts G} {h : IntoInnerGhosts H (ExtractState T F A)}
     (R : F → T → Bool → F → T → Type 0) where
-  pub extract_keeps_along : (d : ExtractIf T F A G H g h)
-      → ExtractKeepsAlong R d
-  extract_keeps_along d [] later e = subst (λ t. ExtractLeaves d [] t) e (record {
+  leaves-none : (d : ExtractIf T F A G H g h) → ExtractLeaves R d [] d
+  leaves-none d = record {
     lender = refl;
     meanwhile = refl;
+    tested = [];
     kept = [];
+    rest = refl;
+    calls = (refl, refl, refl);
+    count = omega arith;
+    front = sym (append-nil (extract_block d).front);
+    gone = omega arith;
+    tail = refl;
     left = λ i. record (left_by_extract_if d) {
       items = sym (append-nil (extract_block d).front) i
           ++ (extract_rest d ++ (extract_block d).tail);
     };
     moves = moves-if ((extract_block d).gap_before == 0)
         (length (extract_rest d) + length (extract_block d).tail) _ _ _ refl (omega arith);
-    front = sym (append-nil (extract_block d).front);
-    tail = refl;
-    gone = omega arith;
-    count = omega arith;
-  })
-  extract_keeps_along d (x ∷ xs) later (m, one, e) =
-      let on = extract_keeps_along m xs later e in
+    unmoved = λ _. refl;
+  }
+
+  -- The first call returned `item` and left the `ExtractIf` as `m`.
+  leaves-first : (d m later : ExtractIf T F A G H g h) (item : Option T) (xs : List T)
+      → ExtractSteps R d item m → ExtractLeaves R m xs later
+      → ExtractLeaves R d (option_to_list item ++ xs) later
+  leaves-first d m later item xs one on =
       let s = one.extracts in
+      let turn = picked-turn R (extract_callee d) (extract_rest d) item (extract_callee m) s.kept
+      (extract_rest m) s.asked in
       let both = length-append s.kept on.kept in
+      let out = length-append (option_to_list item) xs in
       let front : (extract_block m).front ++ on.kept
       ≡ (extract_block d).front ++ (s.kept ++ on.kept) =
       ap (λ l. l ++ on.kept) s.front ∙ append_assoc (extract_block d).front s.kept on.kept in
       record {
         lender = on.lender ∙ one.lender;
         meanwhile = on.meanwhile ∙ one.meanwhile;
+        tested = turn.0 ++ on.tested;
         kept = s.kept ++ on.kept;
-        left = cc (on.left, front, s.tail, s.capacity, one.left);
+        rest = turn.1 ∙ (ap (λ l. turn.0 ++ l) on.rest
+            ∙ sym (append_assoc turn.0 on.tested (extract_rest later)));
+        calls = extracts-append R (extract_callee m) (extract_callee later) on.tested xs on.kept
+            on.calls turn.0 (extract_callee d) (option_to_list item) s.kept turn.2;
+        count = omega (arith, on.count, s.count, both, out);
+        front = on.front ∙ front;
+        gone = omega (arith, on.gone, s.gap_before, out);
+        tail = on.tail ∙ s.tail;
+        left = cc (on.left, front, s.tail, s.capacity, one.meanwhile);
         moves = moves-join (length s.kept)
             (length on.kept + length (extract_rest later) + length (extract_block m).tail)
             _ _ _ _ (omega (arith, both, ap length s.tail))
             (moves-if ((extract_block d).gap_before == 0) (length s.kept) _ _ _ s.cost
             (omega arith))
             on.moves;
-        front = on.front ∙ front;
-        tail = on.tail ∙ s.tail;
-        gone = omega (arith, on.gone, s.gap_before);
-        count = omega (arith, on.count, s.count, both);
+        unmoved = λ none. on.unmoved (nil_from_length xs (omega (arith, ap length none, out)))
+            ∙ still (omega (arith, ap length none, out));
       }
+    where
+      still : length (option_to_list item) ≡ 0
+          → (left_by_extract_if m).cost ≡ (left_by_extract_if d).cost
+      still none =
+          let s = one.extracts in
+          let b = extract_block d in
+          let n = extract_block m in
+          let gap : n.gap_before ≡ b.gap_before = omega (arith, s.gap_before, none) in
+          (λ i. if gap i == 0 then n.cost else add_moves (length n.middle + length (s.tail i)) n.cost)
+          ∙ closed-none (b.gap_before == 0) (length s.kept) (length n.middle) (length b.middle)
+          (length b.tail) b.cost n.cost s.cost (omega (arith, s.count, none))
+
+  pub extract_keeps_along : (d : ExtractIf T F A G H g h) → ExtractKeepsAlong R d
+  extract_keeps_along d [] later e = subst (λ t. ExtractLeaves R d [] t) e (leaves-none d)
+  extract_keeps_along d (x ∷ xs) later (m, one, e) =
+      leaves-first d m later (Some x) xs one (extract_keeps_along m xs later e)
+
+  pub extracts_to_end : (d : ExtractIf T F A G H g h) → ExtractsToEnd R d
+  extracts_to_end d [] last (m, e, one) =
+      let end = subst (λ t. ExtractSteps R t None last) (sym e) one in
+      let s = end.extracts in (
+        leaves-first d last last None [] end (leaves-none last),
+        (picked-turn R (extract_callee d) (extract_rest d) None (extract_callee last) s.kept
+            (extract_rest last) s.asked).3 refl,
+      )
+  extracts_to_end d (x ∷ xs) last (m, (j, one, e), end) =
+      let on = extracts_to_end j xs last (m, e, end) in
+      (leaves-first d j last (Some x) xs one on.0, on.1)

@@ -1,11 +1,12 @@
 -- These lemmas are about `finish`, which completes a splice. They state what the list contains
 -- after each step of `finish`, and how these steps combine.
-use Rattle.std.proofs.Common.{if◌then◌else◌, Option, Some, drop, take, subst, ◌≡◌, ℕ, ◌+◌, ◌-◌, ◌*◌, ◌<◌, ◌≤◌, true, false, eqb, List, [], ◌++◌, ap, arith, length, length-append, refl, sym, ◌∙◌}
-use Rattle.std.proofs.lemmas.List.{length-drop, length-take-le}
+use Rattle.std.proofs.Common.{if◌then◌else◌, inl, inr, None, Option, Some, drop, take, subst, ◌≡◌, ℕ, ◌+◌, ◌-◌, ◌<◌, ◌≤◌, true, false, eqb, List, [], ◌++◌, ap, arith, length, length-append, refl, sym, ◌∙◌}
+use Rattle.std.proofs.lemmas.Bool.{cases_lt}
+use Rattle.std.proofs.lemmas.Bool.Decides.{nat_tests}
 use Rattle.std.specs.Align.{type_align}
 use Rattle.std.specs.Mem.{type_size}
 use Rattle.std.specs.Borrow.{RattleType}
-use Rattle.std.specs.Prelude.{◌⊎◌, IfErr, IsOk, OnErr, OnOk}
+use Rattle.std.specs.Prelude.{IfErr, IsOk, OnErr, OnOk}
 use Rattle.std.specs.declared.result.Result.{Result}
 use Rattle.std.specs.declared.result.Result.TheVariants.{Ok, Err}
 use Rattle.std.specs.Iterator.{Count, Drains, IsFinite, Yields, size}
@@ -14,13 +15,13 @@ use Rattle.thin_block.specs.Cost.{add_moves}
 use Rattle.thin_block.specs.Growth.{IsLawful, GrowthRule, grown_capacity}
 use Rattle.thin_vec.specs.Put.{YieldsThenMayEnd, IsFilledBy}
 use Rattle.thin_vec.specs.declared.put.Filled.{Filled}
-use Rattle.thin_vec.specs.Edits.Splice.{IsSpliceCause, SpliceErrorAccountsFor, SplicesCapacity, IsAfterSplice}
+use Rattle.thin_vec.specs.Edits.Splice.{IsSpliceCause, SpliceErrorAccountsFor, SplicesCapacity, IsAfterSplice, cost_after_growth}
 use Rattle.thin_vec.specs.Edits.Finish.{AddsFromIter, FinishesSplice, without_middle, with_replacement}
 use Rattle.thin_vec.specs.OpenView.{OpenView, cost_closed, items_of}
-use Rattle.thin_vec.specs.ThinVec.{ListView, capacity_after_reserve}
+use Rattle.thin_vec.specs.ThinVec.{ListView, capacity_after_reserve, cost_after_resize}
 use Rattle.thin_vec.specs.declared.errors.SpliceRefused.{SpliceRefused}
 use Rattle.thin_vec.proofs.list.ExtendLemmas.{yields-join}
-use Rattle.thin_vec.proofs.PushesLemmas.{splices-before}
+use Rattle.thin_vec.proofs.PushesLemmas.{growth-once, spliced-stops, splices-before}
 use Rattle.thin_vec.proofs.PutLemmas.{filled-fits}
 use Rattle.thin_vec.proofs.edits.SpliceLemmas.{between-length, between-more, closed-moves, drains-more, run-moves, stopped-more, taken-join, taken-spare}
 
@@ -41,9 +42,9 @@ module _ {T A : Type 0} where
     pub capacity : w.capacity ≡ v.capacity
     pub alloc : w.alloc ≡ a
     -- The cost counts one move for each item of `xs`, and `m` moves for the items after the range.
-    -- Each of these items is moved at most once.
-    pub cost : (m : ℕ) × (w.cost ≡ add_moves (length xs + m) v.cost) × (m ≤ length v.tail)
-        × (length xs ≡ v.gap_before → m ≡ 0)
+    -- Each of these items is moved once, unless the gap is full.
+    pub cost : (m : ℕ) × (w.cost ≡ add_moves (length xs + m) v.cost)
+        × (length xs < v.gap_before → m ≡ length v.tail) × (length xs ≡ v.gap_before → m ≡ 0)
 
 module _ {S T A : Type 0} (steps : S → Option T → S → Type 0) (can : S → Type 0)
     (remaining : S → Count) where
@@ -68,6 +69,56 @@ module _ {S T A : Type 0} (steps : S → Option T → S → Type 0) (can : S →
     pub can_next : can t
     pub finite : IsFinite (remaining t)
     pub nearer : length xs + size (remaining t) ≤ size (remaining s)
+
+eqb-plus : (m n p a b : ℕ) → m ≡ p + a → n ≡ p + b → eqb m n ≡ eqb a b
+eqb-plus m n p a b left right = elim (cases_lt a b) [
+  | inl less ↦
+      let f : eqb m n ≡ false = grind (arith, nat_tests) in
+      let g : eqb a b ≡ false = grind (arith, nat_tests) in
+      f ∙ sym g
+  | inr high ↦ elim (cases_lt b a) [
+    | inl more ↦
+        let f : eqb m n ≡ false = grind (arith, nat_tests) in
+        let g : eqb a b ≡ false = grind (arith, nat_tests) in
+        f ∙ sym g
+    | inr same ↦
+        let f : eqb m n ≡ true = grind (arith, nat_tests) in
+        let g : eqb a b ≡ true = grind (arith, nat_tests) in
+        f ∙ sym g
+  ]
+]
+
+-- The moves up to the end of the gap for the hint: `xs` items in the range, and `n` more ones. In
+-- these lemmas, `all` is the number of items without the range, which has `k` slots.
+hinted-sum : (xs m n a b all k now : ℕ) → m ≡ 0 → xs ≡ k → now ≡ all + k + n
+    → (xs + m) + (n + a + b) ≡ now - all + a + b
+hinted-sum xs m n a b all k now none full long = omega arith
+
+hinted-count : (xs m n h t moved all k now : ℕ) → m ≡ 0 → xs ≡ k → moved ≡ t
+    → now ≡ all + k + n
+    → (xs + m) + (n + (if eqb h 0 then 0 else moved) + (if eqb n h then 0 else moved))
+    ≡ now - all + (if eqb h 0 then 0 else t) + (if eqb now (all + k + h) then 0 else t)
+hinted-count xs m n h t moved all k now none full tails long =
+    let same = sym (eqb-plus now (all + k + h) (all + k) n h long refl) in
+    (λ i. (xs + m) + (n + (if eqb h 0 then 0 else tails i) + (if same i then 0 else tails i)))
+    ∙ hinted-sum xs m n (if eqb h 0 then 0 else t) (if eqb now (all + k + h) then 0 else t) all k
+    now none full long
+
+held-sum : (before now all a b : ℕ) → all ≤ before → before ≤ now
+    → (before - all + a + 0) + (now - before + b) ≡ now - all + a + b
+held-sum before now all a b low high = omega arith
+
+-- The moves up to the end of the gap for the held items.
+pub held-count : (before now all end a t moved : ℕ) → before ≡ end → all ≤ before → before ≤ now
+    → moved ≡ t
+    → (before - all + a + (if eqb before end then 0 else t))
+    + (now - before + (if eqb now before then 0 else moved))
+    ≡ now - all + a + (if eqb now end then 0 else t)
+held-count before now all end a t moved full low high tails =
+    let f : eqb before end ≡ true = grind (arith, nat_tests, full) in
+    (λ i. (before - all + a + (if f i then 0 else t))
+    + (now - before + (if eqb now (full i) then 0 else tails i)))
+    ∙ held-sum before now all a (if eqb now end then 0 else t) low high
 
 module _ {S T A : Type 0} {steps : S → Option T → S → Type 0} {can : S → Type 0}
     {remaining : S → Count} where
@@ -101,7 +152,7 @@ module _ {S T A : Type 0} {steps : S → Option T → S → Type 0} {can : S →
           cost = (
             put.0,
             ap (λ y. y.cost) closed ∙ put.1,
-            put.2,
+            λ short. put.2 (omega (arith, gap_before, short)),
             λ full. put.3 (omega (arith, gap_before, full)),
           );
         },
@@ -130,28 +181,44 @@ module _ {S T A : Type 0} {steps : S → Option T → S → Type 0} {can : S →
     filled-drains done =
         (f.rest, subst (λ b. YieldsThenMayEnd steps s p.0.items b f.rest) done p.0.gave)
 
-    module _ (rule : GrowthRule) (R : RattleType) (n : ℕ) (left : Count) where
-      pub filled-taken : p.1.cost.0 ≤ n → AddsFromIter rule R (without_middle v a) w n left
-      filled-taken few =
-          taken-spare rule R (without_middle v a) w (length p.0.items) p.1.cost.0 n left p.1.cost.1
-          p.1.capacity (omega (arith, filled-long, length-append v.front v.tail)) few p.1.alloc
+    -- After the range is full, a gap of `h` slots at index `at` gets `n` more items.
+    pub filled-hinted : (y : ListView T A) (n h at : ℕ) → f.ended ≡ false
+        → y.cost ≡ add_moves (n + (if eqb h 0 then 0 else length w.items - at)
+        + (if eqb n h then 0 else length w.items - at)) (cost_after_resize w y.capacity)
+        → length w.items - at ≡ length v.tail → length y.items ≡ length w.items + n
+        → y.cost ≡ add_moves (length y.items - length (v.front ++ v.tail)
+        + (if eqb h 0 then 0 else length v.tail)
+        + (if eqb (length y.items) (length (v.front ++ v.tail) + v.gap_before + h) then 0
+        else length v.tail))
+        (cost_after_growth (length (v.front ++ v.tail) + v.gap_before) v.capacity y.capacity v.cost)
+    filled-hinted y n h at more paid tails long =
+        let all = length (v.front ++ v.tail) in
+        let start = all + v.gap_before in
+        let slots : length w.items ≡ start =
+        omega (arith, filled-long, p.0.full more, length-append v.front v.tail) in
+        let moves = n + (if eqb h 0 then 0 else length w.items - at)
+        + (if eqb n h then 0 else length w.items - at) in
+        growth-once w y (length p.0.items + p.1.cost.0) moves start v.capacity v.cost p.1.cost.1
+        p.1.capacity slots paid
+        ∙ ap (λ q. add_moves q (cost_after_growth start v.capacity y.capacity v.cost))
+        (hinted-count (length p.0.items) p.1.cost.0 n h (length v.tail) (length w.items - at) all
+        v.gap_before (length y.items) (p.1.cost.3 (p.0.full more)) (p.0.full more) tails
+        (omega (arith, long, slots)))
+
+    module _ (R : RattleType) (left : Count) where
+      pub filled-taken : AddsFromIter (without_middle v a) w left
+      filled-taken =
+          taken-spare R (without_middle v a) w (length p.0.items + p.1.cost.0) left p.1.cost.1
+          p.1.capacity p.1.alloc
 
       pub wide-taken : (u : ListView T A) (at count : ℕ) → IsWide v u at count → a ≡ u.alloc
-          → p.1.cost.0 + (length u.items - at) ≤ n → AddsFromIter rule R u w n left
-      wide-taken u at count wide from few =
-          let all = run-moves count (length u.items - at) (length p.0.items) p.1.cost.0 u.cost
-          v.cost wide.cost in
-          taken-spare rule R u w (length p.0.items) all.0 n left (p.1.cost.1 ∙ all.1)
-          (p.1.capacity ∙ wide.capacity)
-          (omega (
-            arith,
-            filled-long,
-            ap length wide.front,
-            ap length wide.tail,
-            length-take-le at u.items wide.in_bounds,
-            length-drop at u.items,
-          ))
-          (omega (arith, all.2, few)) (p.1.alloc ∙ from)
+          → AddsFromIter u w left
+      wide-taken u at count wide from =
+          let before = if eqb count 0 then 0 else length u.items - at in
+          taken-spare R u w (length p.0.items + before + p.1.cost.0) left
+          (p.1.cost.1 ∙ run-moves count (length u.items - at) (length p.0.items) p.1.cost.0 u.cost
+          v.cost wide.cost)
+          (p.1.capacity ∙ wide.capacity) (p.1.alloc ∙ from)
 
   module _ {v : OpenView T A} {s t : S} {u : ListView T A} {xs : List T} {end : ℕ}
       (p : IsReached steps can remaining v s u xs end t) where
@@ -159,16 +226,20 @@ module _ {S T A : Type 0} {steps : S → Option T → S → Type 0} {can : S →
     pub reached-long : length u.items ≡ end + length v.tail
     reached-long = omega (arith, ap length p.items, between-length v xs, p.ends)
 
-    pub reached-taken : (rule : GrowthRule) (R : RattleType) → IsLawful rule
-        → (a : A) (w : ListView T A)
-        (m n k : ℕ) → m + n ≤ k → AddsFromIter rule R (without_middle v a) u m (remaining s)
-        → AddsFromIter rule R u w n (remaining t)
-        → AddsFromIter rule R (without_middle v a) w k (remaining s)
-    reached-taken rule R law a w m n k few before now =
-        let long = between-length v xs in let left = length-append v.front v.tail in
-        taken-join rule R law (without_middle v a) u w m n k (remaining s) (remaining t) few
-        (omega (arith, ap length p.items, long, left))
-        (λ fit same. omega (arith, fit, same, ap length p.items, long, left, p.nearer))
+    pub reached-taken : (a : A) (w : ListView T A)
+        → AddsFromIter (without_middle v a) u (remaining s) → AddsFromIter u w (remaining t)
+        → AddsFromIter (without_middle v a) w (remaining s)
+    reached-taken a w before now =
+        taken-join (without_middle v a) u w (remaining s) (remaining t)
+        (λ fit same. omega (
+          arith,
+          fit,
+          same,
+          ap length p.items,
+          between-length v xs,
+          length-append v.front v.tail,
+          p.nearer,
+        ))
         before now
 
     -- Reserving room for `h` items now is like reserving it for `v.gap_before + h` items at the
@@ -211,64 +282,75 @@ module _ {S T A : Type 0} {steps : S → Option T → S → Type 0} {can : S →
       (w : ListView T A) where
     pub finished-ok : (x : Unit {0})
         → (xs : List T) × Drains steps s xs × (w.items ≡ with_replacement v xs)
-        → AddsFromIter rule R (without_middle v a) w (2 * length v.tail) (remaining s)
+        → AddsFromIter (without_middle v a) w (remaining s)
         → SplicesCapacity rule R v.tail v.gap_before (without_middle v a) w (remaining s)
-        → (0 < length v.tail → w.cost.blocks ≤ v.cost.blocks + 2)
-        → (v.tail ≡ [] → w.cost.blocks
-        ≤ v.cost.blocks + 1 + (length w.items - length (v.front ++ v.tail)))
         → FinishesSplice steps can remaining rule R v a s w (Ok x)
-    finished-ok x items taken capacity blocks requests = record {
+    finished-ok x items taken capacity = record {
       succeeds = λ _. refl;
       succeeds_at_end = λ _ _. refl;
       items = items;
+      longer = omega (
+        arith,
+        ap length items.2,
+        between-length v items.0,
+        length-append v.front v.tail,
+      );
       taken = taken;
       capacity = capacity;
-      blocks = blocks;
-      requests = requests;
       placed = tt;
-      range = tt;
+      stops = tt;
       held = tt;
       in_hand = tt;
       cause = tt;
     }
 
     pub finished-from : {t : S} {u : ListView T A} {xs : List T} {end : ℕ}
-        (r : Result (Unit {0}) (SpliceRefused T S A))
+        (r : Result (Unit {0}) (SpliceRefused T S A)) → IsLawful rule
         → IsReached steps can remaining v s u xs end t → 0 < length v.tail
+        → length (v.front ++ v.tail) + v.gap_before ≤ v.capacity
         → (size (remaining t) ≡ 0 → IsOk r)
         → OnOk r ((ys : List T) × Drains steps t ys
         × (w.items ≡ (take end u.items ++ ys) ++ drop end u.items))
         → IfErr r (λ error. SpliceErrorAccountsFor steps can remaining t [] error)
         → IfErr r (λ error. IsSpliceCause rule R w v.tail (remaining error.rest) error)
         → OnErr r (w ≡ u)
-        → AddsFromIter rule R (without_middle v a) w (2 * length v.tail) (remaining s)
-        → (h : ℕ) × ((h ≡ 0) ⊎ IsWithinCount (v.gap_before + h) (remaining s))
-        × IsAfterSplice rule R (without_middle v a) v.gap_before h w
-        → (0 < length v.tail → w.cost.blocks ≤ v.cost.blocks + 2)
+        → AddsFromIter (without_middle v a) w (remaining s)
+        → (grew : IsAfterSplice rule R v.gap_before (length v.tail) (without_middle v a) w
+        (remaining s))
+        → IfErr r (λ error. (length u.items ≡ length (v.front ++ v.tail) + v.gap_before + grew.hint)
+        × (error.held.items ≡ [] → error.in_hand ≡ None → grew.hint ≡ 0))
         → FinishesSplice steps can remaining rule R v a s w r
-    finished-from {t} {u} {xs} {end} (Ok x) p some ends items placed cause err taken grew blocks =
+    finished-from {t} {u} {xs} {end} (Ok x) law p some room ends items placed cause err taken grew
+        stops =
         finished-ok x (
           xs ++ items.0,
           drains-more steps s t xs items.0 p.gave items.1,
           items.2 ∙ between-more v u.items xs items.0 end p.items p.ends,
         )
-        taken (splices-before some taken.had_room grew) blocks (λ none. absurd (omega (arith, some, ap length none)))
-    finished-from {t} {u} {xs} (Err e) p some ends items placed cause err taken grew blocks =
+        taken (splices-before some taken.had_room grew)
+    finished-from {t} {u} {xs} (Err e) law p some room ends items placed cause err taken grew
+        stops =
         record {
           succeeds = λ few. ends (omega (arith, few, p.full, p.nearer));
-          succeeds_at_end = λ none _. absurd (omega (arith, some, ap length none));
+          succeeds_at_end = λ no_tail _. absurd (omega (arith, some, ap length no_tail));
           items = tt;
+          longer = omega (
+            arith,
+            ap (λ z. length z.items) err,
+            ap length p.items,
+            between-length v xs,
+            length-append v.front v.tail,
+          );
           taken = taken;
           capacity = splices-before some taken.had_room grew;
-          blocks = blocks;
-          requests = λ none. absurd (omega (arith, some, ap length none));
           placed = (
             xs,
             ap (λ z. z.items) err ∙ p.items,
             stopped-more steps can remaining s t xs e p.gave placed,
           );
-          range = λ _. omega (arith, ap (λ z. length z.items) err, reached-long p);
-          held = λ none. absurd (omega (arith, some, ap length none));
-          in_hand = λ none. absurd (omega (arith, some, ap length none));
+          stops = λ _. spliced-stops rule R law v.gap_before (length v.tail) (without_middle v a) w
+              (remaining s) grew e room (ap (λ z. length z.items) err ∙ stops.0) stops.1;
+          held = λ no_tail. absurd (omega (arith, some, ap length no_tail));
+          in_hand = λ no_tail. absurd (omega (arith, some, ap length no_tail));
           cause = cause;
         }

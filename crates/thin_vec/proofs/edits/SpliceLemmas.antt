@@ -10,31 +10,31 @@ use Rattle.std.specs.declared.result.Result.TheVariants.{Ok, Err}
 use Rattle.std.specs.Iterator.{Count, Drains, Yields, YieldsThen, size}
 use Rattle.std.specs.Iterator.SizeHint.{IsWithinCount}
 use Rattle.thin_vec.specs.Cheap.{IsCheap}
-use Rattle.thin_vec.specs.List.Extend.{IsExtendCause, CostsInserting, YieldsAndCanContinue}
+use Rattle.thin_vec.specs.List.Extend.{IsExtendCause, YieldsAndCanContinue}
 use Rattle.std.proofs.lemmas.Bool.Decides.{nat_tests}
 use Rattle.thin_block.specs.declared.errors.ThinVecError.TheVariants.{OutOfMemory}
-use Rattle.thin_block.specs.Cost.{Cost, add_realloc, add_moves}
+use Rattle.thin_block.specs.Cost.{Cost, add_moves}
 use Rattle.thin_block.specs.Growth.{IsLawful, GrowthRule}
 use Rattle.std.proofs.lemmas.Bool.{false≢true}
 use Rattle.thin_vec.specs.OpenView.{OpenView, cost_closed, items_of}
 use Rattle.thin_vec.specs.Edits.Splice.{IsSpliceCause, SpliceErrorAccountsFor}
 use Rattle.thin_vec.specs.Edits.Finish.{AddsFromIter, without_middle, with_replacement}
-use Rattle.thin_vec.specs.List.Capacity.{LacksRoom}
+use Rattle.thin_vec.specs.List.Capacity.{FailsForRoom}
 use Rattle.thin_vec.specs.ThinVec.{HasRoomFor, ListView, capacity_after_reserve, cost_after_resize}
 use Rattle.thin_vec.specs.declared.errors.ExtendRefused.{ExtendRefused}
 use Rattle.thin_vec.specs.declared.errors.SpliceRefused.{SpliceRefused}
-use Rattle.thin_vec.proofs.list.ExtendLemmas.{inserting-join, filled-reserved, yields-join}
+use Rattle.thin_vec.proofs.list.ExtendLemmas.{yields-join}
 use Rattle.thin_vec.proofs.PushesLemmas.{grown-le}
 use Rattle.thin_vec.proofs.RetainLemmas.{moving-more, moving-none}
 use Rattle.thin_vec.proofs.list.ReservesLemmas.{cheap-kept}
-use Rattle.thin_vec.proofs.ThinVecLemmas.{cap-kept, cost_after_resize-copied}
+use Rattle.thin_vec.proofs.ThinVecLemmas.{cap-kept, cost_after_resize-same}
 
--- Closing `w` takes at most one move for each tail item, and none if `w` has no gap.
+-- Closing `w` takes one move for each tail item, and none if `w` has no gap.
 pub closed-moves : {T A : Type 0} (v w : OpenView T A) (n : ℕ)
     → w.cost ≡ add_moves (v.gap_before - w.gap_before)
     v.cost → w.middle ≡ [] → w.tail ≡ v.tail → n ≡ v.gap_before - w.gap_before
-    → (m : ℕ) × (cost_closed w ≡ add_moves (n + m) v.cost) × (m ≤ length v.tail)
-    × (w.gap_before ≡ 0 → m ≡ 0)
+    → (m : ℕ) × (cost_closed w ≡ add_moves (n + m) v.cost)
+    × (0 < w.gap_before → m ≡ length v.tail) × (w.gap_before ≡ 0 → m ≡ 0)
 closed-moves v w n paid none same count = go (eqb w.gap_before 0) refl
   where
     filled : w.cost ≡ add_moves n v.cost
@@ -43,11 +43,12 @@ closed-moves v w n paid none same count = go (eqb w.gap_before 0) refl
     go : (b : Bool) → eqb w.gap_before 0 ≡ b → (m : ℕ)
         × ((if b then w.cost else add_moves (length w.middle + length w.tail) w.cost) ≡ add_moves
         (n + m)
-        v.cost) × (m ≤ length v.tail) × (w.gap_before ≡ 0 → m ≡ 0)
+        v.cost) × (0 < w.gap_before → m ≡ length v.tail) × (w.gap_before ≡ 0 → m ≡ 0)
     go true e = (
       0,
       filled ∙ ap (λ k. add_moves k v.cost) (let z : n ≡ n + 0 = omega arith in z),
-      omega arith,
+      λ some. let t : eqb w.gap_before 0 ≡ false = grind (arith, nat_tests, some) in
+          cc,
       λ _. refl,
     )
     go false e =
@@ -57,31 +58,25 @@ closed-moves v w n paid none same count = go (eqb w.gap_before 0) refl
           ap (λ k. add_moves k w.cost) all
               ∙ (ap (λ c. add_moves (length v.tail) c) filled
               ∙ moving-more (length v.tail) n v.cost),
-          omega arith,
+          λ _. refl,
           λ z. let t : eqb w.gap_before 0 ≡ true = grind (arith, nat_tests, z) in
               cc,
         )
 
 -- A first step makes `n` moves, or none if `count` is 0. `k + m` more moves follow it.
 pub run-moves : (count n k m : ℕ) (c d : Cost) → d ≡ (if eqb count 0 then c else add_moves n c)
-    → (x : ℕ) × (add_moves (k + m) d ≡ add_moves (k + x) c) × (x ≤ n + m)
+    → add_moves (k + m) d ≡ add_moves (k + (if eqb count 0 then 0 else n) + m) c
 run-moves count n k m c d e = go (eqb count 0) e
   where
-    go : (b : Bool) → d ≡ (if b then c else add_moves n c) → (x : ℕ)
-        × (add_moves (k + m) d ≡ add_moves (k + x) c) × (x ≤ n + m)
-    go true e = (m, ap (λ q. add_moves (k + m) q) e, omega arith)
-    go false e = (
-      n + m,
-      ap (λ q. add_moves (k + m) q) e
-          ∙ (moving-more (k + m) n c
-          ∙ ap (λ j. add_moves j c) (let f : n + (k + m) ≡ k + (n + m) = omega arith in f)),
-      omega arith,
-    )
-
-pub blocks-if : (b : Bool) (n : ℕ) (c d : Cost) → d ≡ (if b then c else add_realloc n c)
-    → d.blocks ≤ c.blocks + 1
-blocks-if true n c d is = omega (arith, ap (λ q. q.blocks) is)
-blocks-if false n c d is = omega (arith, ap (λ q. q.blocks) is)
+    go : (b : Bool) → d ≡ (if b then c else add_moves n c)
+        → add_moves (k + m) d ≡ add_moves (k + (if b then 0 else n) + m) c
+    go true e =
+        ap (λ q. add_moves (k + m) q) e
+        ∙ ap (λ j. add_moves j c) (let f : k + m ≡ k + 0 + m = omega arith in f)
+    go false e =
+        ap (λ q. add_moves (k + m) q) e
+        ∙ (moving-more (k + m) n c
+        ∙ ap (λ j. add_moves j c) (let f : n + (k + m) ≡ k + n + m = omega arith in f))
 
 module _ {S X : Type 0} (steps : S → Option X → S → Type 0) where
   -- The item in `o`, if there is one, was yielded last. If there is none, the iterator has ended.
@@ -96,12 +91,6 @@ module _ {S X : Type 0} (steps : S → Option X → S → Type 0) where
   )
   drawn-after s t u x xs held (Some y) one parts now =
       subst (λ l. Yields steps s l u) (sym parts) (t, one, now)
-
-module _ {T A : Type 0} where
-  pub inserting-run : (v w : ListView T A) (k m n : ℕ) → w.cost ≡ add_moves (k + m) v.cost
-      → w.capacity ≡ v.capacity → length w.items ≡ length v.items + k → m ≤ n → CostsInserting n v w
-  inserting-run v w k m n e same long few =
-      omega (arith, ap (λ c. c.blocks) e, ap (λ c. c.grown) e, ap (λ c. c.moves) e)
 
 pub if-err : {X E : Type 0} {P Q : E → Type 0} (r : Result X E) → ((e : E) → r ≡ Err e → P e → Q e)
     → IfErr r P → IfErr r Q
@@ -180,7 +169,7 @@ module _ {S T A : Type 0} (rule : GrowthRule) (R : RattleType) (v : ListView T A
   -- `finish` can fail at three steps: the reservation for the size hint, the collection and
   -- insertion of the held items, and, if no item follows the range, the call to `extend`.
   pub stop-at-hint : 0 < length tail → error.held.items ≡ [] → error.in_hand ≡ None
-      → (h : ℕ) × IsWithinCount h left × LacksRoom rule R v h error.cause
+      → (h : ℕ) × IsWithinCount h left × FailsForRoom rule R v h error.cause
       → IsSpliceCause rule R v tail left error
   stop-at-hint some none empty fails = record {
     by_hint = λ _ _. fails;
@@ -190,7 +179,7 @@ module _ {S T A : Type 0} (rule : GrowthRule) (R : RattleType) (v : ListView T A
   }
 
   pub stop-at-held : 0 < length tail → (error.in_hand ≡ None → 0 < length error.held.items)
-      → (error.in_hand ≡ None → LacksRoom rule R v (length error.held.items) error.cause)
+      → (error.in_hand ≡ None → FailsForRoom rule R v (length error.held.items) error.cause)
       → (IsSome error.in_hand
       → (error.cause ≡ OutOfMemory) × (length error.held.items ≡ vec_capacity error.held))
       → IsSpliceCause rule R v tail left error
@@ -207,7 +196,7 @@ module _ {S T A : Type 0} (rule : GrowthRule) (R : RattleType) (v : ListView T A
       → IsSpliceCause rule R v tail left error
   stop-at-end e no_tail none same hand full by = record {
     by_hint = λ _ empty.
-        subst (λ cause. (h : ℕ) × IsWithinCount h left × LacksRoom rule R v h cause) (sym same)
+        subst (λ cause. (h : ℕ) × IsWithinCount h left × FailsForRoom rule R v h cause) (sym same)
         (by.by_hint (sym hand ∙ empty));
     by_held = λ more _. absurd (omega (arith, more, ap length none));
     by_in_hand = λ some _. absurd (omega (arith, some, ap length no_tail));
@@ -251,51 +240,44 @@ module _ {T A : Type 0} where
       ∙ (ap (λ l. l ++ xs) (append-nil v.front)
       ∙ (sym (append-nil (v.front ++ xs)) ∙ (λ i. (v.front ++ xs) ++ sym none i)))
 
-module _ (rule : GrowthRule) (R : RattleType) {T A : Type 0} where
-  pub taken-spare : (v w : ListView T A) (k m n : ℕ) (left : Count)
-      → w.cost ≡ add_moves (k + m) v.cost
-      → w.capacity ≡ v.capacity → length w.items ≡ length v.items + k → m ≤ n → w.alloc ≡ v.alloc
-      → AddsFromIter rule R v w n left
-  taken-spare v w k m n left paid same long few from = record {
+module _ (R : RattleType) {T A : Type 0} where
+  pub taken-spare : (v w : ListView T A) (m : ℕ) (left : Count) → w.cost ≡ add_moves m v.cost
+      → w.capacity ≡ v.capacity → w.alloc ≡ v.alloc → AddsFromIter v w left
+  taken-spare v w m left paid same from = record {
     never_less = omega (arith, same);
     had_room = λ _. same;
-    cost = inserting-run v w k m n paid same long few;
+    kept = λ _. ap (λ c. c.blocks) paid;
     alloc = from;
     cheap = cheap-kept R v w same (ap (λ c. c.blocks) paid, ap (λ c. c.grown) paid);
   }
 
-  pub taken-none : (v w : ListView T A) (n : ℕ) (left : Count) → w ≡ v
-      → AddsFromIter rule R v w n left
-  taken-none v w n left e =
-      taken-spare v w 0 0 n left (ap (λ z. z.cost) e ∙ sym (moving-none v.cost))
-      (ap (λ z. z.capacity) e) (omega (arith, ap (λ z. length z.items) e)) (omega arith)
-      (ap (λ z. z.alloc) e)
+  pub taken-none : (v w : ListView T A) (left : Count) → w ≡ v → AddsFromIter v w left
+  taken-none v w left e =
+      taken-spare v w 0 left (ap (λ z. z.cost) e ∙ sym (moving-none v.cost))
+      (ap (λ z. z.capacity) e) (ap (λ z. z.alloc) e)
 
-  module _ (law : IsLawful rule) where
-    pub taken-reserved : (v w : ListView T A) (h : ℕ) (left : Count)
-        → capacity_after_reserve rule R v h ≡ Some w.capacity → w.items ≡ v.items
-        → w.alloc ≡ v.alloc
-        → w.cost ≡ cost_after_resize v w.capacity → (IsCheap v → IsCheap w) → h ≤ size left
-        → length v.items ≤ v.capacity → AddsFromIter rule R v w 0 left
-    taken-reserved v w h left named same from paid cheap allowed room = record {
-      never_less = grown-le rule R law v.capacity (length v.items + h) w.capacity named;
-      had_room = λ fit. cap-kept rule R law v h w.capacity (omega (arith, fit, allowed)) named;
-      cost = filled-reserved v w paid same
-          (cost_after_resize-copied rule R law v h w.capacity room named);
-      alloc = from;
-      cheap = cheap;
-    }
+  pub taken-reserved : (rule : GrowthRule) → IsLawful rule → (v w : ListView T A) (h : ℕ)
+      (left : Count)
+      → capacity_after_reserve rule R v h ≡ Some w.capacity → w.alloc ≡ v.alloc
+      → w.cost ≡ cost_after_resize v w.capacity → (IsCheap v → IsCheap w) → h ≤ size left
+      → AddsFromIter v w left
+  taken-reserved rule law v w h left named from paid cheap allowed = record {
+    never_less = grown-le rule R law v.capacity (length v.items + h) w.capacity named;
+    had_room = λ fit. cap-kept rule R law v h w.capacity (omega (arith, fit, allowed)) named;
+    kept = λ same. ap (λ c. c.blocks) (paid ∙ cost_after_resize-same v w.capacity same);
+    alloc = from;
+    cheap = cheap;
+  }
 
-    -- The bounds on the moves of two steps add up.
-    pub taken-join : (v u w : ListView T A) (m n k : ℕ) (left more : Count) → m + n ≤ k
-        → length v.items ≤ length u.items
-        → (HasRoomFor v (size left) → u.capacity ≡ v.capacity → HasRoomFor u (size more))
-        → AddsFromIter rule R v u m left → AddsFromIter rule R u w n more
-        → AddsFromIter rule R v w k left
-    taken-join v u w m n k left more few long room p q = record {
-      never_less = omega (arith, p.never_less, q.never_less);
-      had_room = λ fit. let same = p.had_room fit in q.had_room (room fit same) ∙ same;
-      cost = inserting-join m n k few p.cost q.cost p.never_less q.never_less long;
-      alloc = q.alloc ∙ p.alloc;
-      cheap = λ c. q.cheap (p.cheap c);
-    }
+pub taken-join : {T A : Type 0} (v u w : ListView T A) (left more : Count)
+    → (HasRoomFor v (size left) → u.capacity ≡ v.capacity → HasRoomFor u (size more))
+    → AddsFromIter v u left → AddsFromIter u w more → AddsFromIter v w left
+taken-join v u w left more room p q = record {
+  never_less = omega (arith, p.never_less, q.never_less);
+  had_room = λ fit. let same = p.had_room fit in q.had_room (room fit same) ∙ same;
+  kept = λ same.
+      let low = p.never_less in let high = q.never_less in
+      q.kept (omega arith) ∙ p.kept (omega arith);
+  alloc = q.alloc ∙ p.alloc;
+  cheap = λ c. q.cheap (p.cheap c);
+}

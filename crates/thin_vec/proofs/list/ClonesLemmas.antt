@@ -1,6 +1,6 @@
 -- These lemmas are for calls that clone items and write the clones into empty slots. The last two
 -- lemmas are about the items in a range of a list.
-use Rattle.std.proofs.Common.{◌≡◌, ◌+◌, ◌-◌, ◌<◌, ◌≤◌, [], ◌∷◌, ◌++◌, ◌∙◌, ◌⊎◌, Err, List, Ok, OnErr, Option, Result, Some, ap, append_assoc, arith, drop, get_or, inr, length, refl, suc, sym, take, zero, ℕ}
+use Rattle.std.proofs.Common.{◌≡◌, ◌+◌, ◌-◌, ◌<◌, ◌≤◌, [], ◌∷◌, ◌++◌, ◌∙◌, ◌⊎◌, Err, List, Ok, OnErr, Option, Result, Some, ap, append_assoc, arith, drop, get_or, inl, inr, length, refl, suc, sym, take, zero, ℕ}
 use Rattle.std.proofs.lemmas.List.{get_or-drop, get_or-take, get_or_append_left, length-drop, length-take-le, map_push, replicate-append-replicate}
 use Rattle.std.proofs.lemmas.List.Elements.{All-from_recursion, all_zip_more, length_all_zip, recursion_from_All}
 use Rattle.std.proofs.Math.Seq.{take-append_seam}
@@ -8,7 +8,11 @@ use Rattle.std.specs.List.{AllByRecursion, AllZip}
 use Rattle.std.specs.Align.{type_align}
 use Rattle.std.specs.Mem.{type_size}
 use Rattle.std.specs.Borrow.{RattleType}
-use Rattle.std.specs.Prelude.{All, HoldsAt, replicate, slice_range}
+use Rattle.std.specs.Prelude.{All, HoldsAt, IsErrOf, replicate, slice_range}
+use Rattle.thin_block.specs.declared.errors.ThinVecError.{ThinVecError}
+use Rattle.thin_block.specs.declared.errors.ThinVecError.TheVariants.{CapacityOverflow}
+use Rattle.thin_block.proofs.ResultLemmas.{none-some}
+use Rattle.thin_vec.specs.List.Capacity.{OverflowsIff}
 use lib.ListN.{set}
 use Rattle.thin_block.specs.Growth.{GrowthRule, grown_capacity}
 use Rattle.thin_block.specs.Slots.{filled_slots, write_slots}
@@ -112,11 +116,22 @@ module _ {T A : Type 0} (infallible : T → Type 0) (sources : List T) (v u w : 
         (cost ∙ ap (λ n. cost_after_resize v n) (sym same));
   }
 
-  pub grew-after : {X E : Type 0} (r : Result X E) → OnErr r (w.items ≡ u.items)
+  pub grew-after : {X E : Type 0} (P : Type 0) (r : Result X E) → OnErr r (w.items ≡ u.items)
       → OnErr r (FailsAtClone infallible sources u.cost w.cost)
-      → OnErr r ((w ≡ v) ⊎ LeftByFailedClone named infallible sources v w)
-  grew-after (Ok x) kept fails = tt
-  grew-after (Err e) kept fails = inr (grew kept fails)
+      → OnErr r (P ⊎ LeftByFailedClone named infallible sources v w)
+  grew-after P (Ok x) kept fails = tt
+  grew-after P (Err e) kept fails = inr (grew kept fails)
+
+-- A capacity that is too large fails before any item is cloned.
+pub overflow-unchanged : {T A X : Type 0} {wanted : Option ℕ} (infallible : T → Type 0)
+    (sources : List T) {v w : ListView T A} (P : Type 0) (r : Result X ThinVecError)
+    → OverflowsIff wanted r
+    → OnErr r ((P × (w ≡ v)) ⊎ LeftByFailedClone wanted infallible sources v w)
+    → IsErrOf r CapacityOverflow → w ≡ v
+overflow-unchanged infallible sources P (Ok x) only err is = cc
+overflow-unchanged infallible sources P (Err e) only (inl same) is = same.1
+overflow-unchanged infallible sources P (Err e) only (inr left) is =
+    absurd (none-some (only.overflow.0 is) left.capacity)
 
 module _ {T : Type 0} (xs : List T) (a b : ℕ) (within : b ≤ length xs) where
   pub length-range : length (slice_range xs a b) ≡ b - a

@@ -1,6 +1,6 @@
 -- These lemmas are for calls that append the items of an iterator to a list.
-use Rattle.std.proofs.Common.{true, ◌≡◌, ℕ, ◌+◌, ◌-◌, ◌<◌, ◌≤◌, List, [], ◌∷◌, ◌++◌, inl, inr, length, length-append, Option, None, Some, refl, sym, ap, subst, ◌∙◌, arith, false}
-use Rattle.std.proofs.lemmas.Bool.{cases_lt, false≢true}
+use Rattle.std.proofs.Common.{true, ◌≡◌, ℕ, ◌+◌, ◌-◌, ◌<◌, ◌≤◌, List, [], ◌∷◌, ◌++◌, length, length-append, Option, None, Some, refl, sym, ap, subst, ◌∙◌, arith, false}
+use Rattle.std.proofs.lemmas.Bool.{false≢true}
 use Rattle.std.proofs.lemmas.List.{map-append}
 use Rattle.std.specs.Align.{type_align}
 use Rattle.std.specs.Mem.{type_size}
@@ -18,12 +18,11 @@ use Rattle.thin_block.specs.Cost.{add_moves}
 use Rattle.thin_block.specs.Growth.{exact_capacity}
 use Rattle.thin_block.specs.Slots.{filled_slots, write_slots}
 use Rattle.thin_block.proofs.SlotsLemmas.{written-one}
-use Rattle.thin_vec.specs.List.Extend.{CostsInserting, YieldsAndCanContinue}
-use Rattle.thin_vec.specs.ThinVec.{IsNew, ListView, cost_after_resize, capacity_after_reserve_exact}
+use Rattle.thin_vec.specs.List.Extend.{YieldsAndCanContinue}
+use Rattle.thin_vec.specs.ThinVec.{IsNew, ListView, capacity_after_reserve_exact}
 use Rattle.thin_vec.specs.declared.errors.ExtendRefused.{ExtendRefused}
 use Rattle.thin_vec.proofs.RetainLemmas.{moving-more, moving-none}
 use Rattle.thin_vec.proofs.ListLemmas.{length-full}
-use Rattle.thin_vec.proofs.ThinVecLemmas.{cost_after_resize-more, cost_after_resize-moves, cost_after_resize-same}
 
 module _ {S X : Type 0} (steps : S → Option X → S → Type 0) where
   pub yields-more : (s t u : S) (xs : List X) (x : X) → Yields steps s xs t → steps t (Some x) u
@@ -143,60 +142,3 @@ exact-new R v a h new =
     let all : length v.items + h ≡ h = omega (arith, ap length new.items) in
     ap (λ (n : ℕ). exact_capacity (type_size R) (type_align R) n (length v.items + h)) new.capacity
     ∙ ap (λ (n : ℕ). exact_capacity (type_size R) (type_align R) 0 n) all
-
-module _ {T A : Type 0} where
-  pub filled-at : (v w : ListView T A) (k : ℕ)
-      → w.cost ≡ add_moves k (cost_after_resize v w.capacity)
-      → length w.items ≡ length v.items + k
-      → (cost_after_resize v w.capacity).grown + v.capacity ≤ v.cost.grown + w.capacity
-      → CostsInserting 0 v w
-  filled-at v w k e n few = record {
-    copied = omega (arith, ap (λ c. c.grown) e, few);
-    least = omega (arith, ap (λ c. c.moves) e, cost_after_resize-moves v w.capacity, n);
-    moves = omega (arith, ap (λ c. c.moves) e, cost_after_resize-moves v w.capacity, n);
-    kept = λ same. (
-      ap (λ c. c.blocks) (e ∙ ap (λ c. add_moves k c) (cost_after_resize-same v w.capacity same)),
-      ap (λ c. c.grown) (e ∙ ap (λ c. add_moves k c) (cost_after_resize-same v w.capacity same)),
-    );
-    on_growth = λ more. let f =
-        e ∙ ap (λ c. add_moves k c) (cost_after_resize-more v w.capacity more) in
-        (omega (arith, ap (λ c. c.blocks) f), omega (arith, ap (λ c. c.grown) f));
-  }
-
-  pub filled-reserved : (v w : ListView T A) → w.cost ≡ cost_after_resize v w.capacity
-      → w.items ≡ v.items
-      → (cost_after_resize v w.capacity).grown + v.capacity ≤ v.cost.grown + w.capacity
-      → CostsInserting 0 v w
-  filled-reserved v w e n few =
-      filled-at v w 0 (e ∙ sym (moving-none (cost_after_resize v w.capacity)))
-      (omega (arith, ap length n)) few
-
-  pub filled-spare : (v w : ListView T A) (k : ℕ)
-      → w ≡ record v { items = w.items; cost = add_moves k v.cost }
-      → length w.items ≡ length v.items + k → CostsInserting 0 v w
-  filled-spare v w k e n =
-      let same : w.capacity ≡ v.capacity = ap (λ u. u.capacity) e in
-      let kept : cost_after_resize v w.capacity ≡ v.cost =
-      cost_after_resize-same v w.capacity same in
-      filled-at v w k (ap (λ u. u.cost) e ∙ ap (λ c. add_moves k c) (sym kept)) n
-      (omega (arith, ap (λ c. c.grown) kept, same))
-
-  pub inserting-join : {v u w : ListView T A} (m n k : ℕ) → m + n ≤ k → CostsInserting m v u
-      → CostsInserting n u w → v.capacity ≤ u.capacity → u.capacity ≤ w.capacity
-      → length v.items ≤ length u.items → CostsInserting k v w
-  inserting-join {v} {u} {w} m n k few p q low high long = record {
-    copied = omega (arith, p.copied, q.copied);
-    least = omega (arith, p.least, q.least);
-    moves = omega (arith, p.moves, q.moves, few);
-    kept = λ same. omega (arith, p.kept (omega arith), q.kept (omega arith));
-    on_growth = λ more. elim (cases_lt v.capacity u.capacity) [
-      | inl first ↦ elim (cases_lt u.capacity w.capacity) [
-        | inl again ↦ omega (arith, p.on_growth first, q.on_growth again)
-        | inr still ↦ omega (arith, p.on_growth first, q.kept (omega arith))
-      ]
-      | inr still ↦ omega (arith, p.kept (omega arith), q.on_growth (omega arith))
-    ];
-  }
-
-  pub inserting-more : (v w : ListView T A) (n : ℕ) → CostsInserting 0 v w → CostsInserting n v w
-  inserting-more v w n p = omega arith

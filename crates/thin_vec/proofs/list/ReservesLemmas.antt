@@ -1,6 +1,6 @@
--- These lemmas prove that calls satisfy `PreservesList`, `Reserves` and `OverflowsIff`. These three
--- definitions say how a call may change the capacity of a list, and which error the call returns.
-use Rattle.std.proofs.Common.{◌≡◌, ℕ, ◌+◌, Err, List, None, Ok, Option, Result, Some, ap, arith, inl, inr, length, sym, ◌∙◌}
+-- These lemmas prove that calls satisfy `PreservesList` and `OverflowsIff`. These definitions say
+-- what a call preserves of a list, and when it returns the error `CapacityOverflow`.
+use Rattle.std.proofs.Common.{◌≡◌, ℕ, ◌+◌, Err, List, None, Ok, Option, Result, Some, ap, arith, length, sym, ◌∙◌}
 use Rattle.std.specs.Align.{type_align}
 use Rattle.std.specs.Mem.{type_size}
 use Rattle.std.specs.Borrow.{RattleType}
@@ -14,7 +14,7 @@ use Rattle.thin_block.specs.declared.block.Block.{Block}
 use Rattle.thin_block.proofs.CapacityLemmas.{ruled-same}
 use Rattle.thin_block.proofs.ResultLemmas.{err-same, none-some, ok-err}
 use Rattle.thin_vec.specs.Cheap.{IsCheap}
-use Rattle.thin_vec.specs.List.Capacity.{Grows, LacksRoom, PreservesList, Reserves, OverflowsIff, OverflowsIffTooLarge}
+use Rattle.thin_vec.specs.List.Capacity.{FailsForRoom, OverflowsIff, OverflowsIffTooLarge, PreservesList}
 use Rattle.thin_vec.specs.ThinVec.{HasRoomFor, IsListBlock, IsBounded, ListView, capacity_after_reserve, list_view}
 use Rattle.thin_vec.proofs.ListLemmas.{RestoresInvariant}
 use Rattle.thin_vec.proofs.ThinVecLemmas.{within-kept}
@@ -99,75 +99,14 @@ module _ {T A : Type 0} (R : RattleType) (v : ListView T A) where
   module _ (rule : GrowthRule) where
     pub lacks-room : {X : Type 0} (k : ℕ) (cause : ThinVecError) → (HasRoomFor v k → ⊥)
         → IsErrOf {T = X} (Err cause) CapacityOverflow ↔ (capacity_after_reserve rule R v k ≡ None)
-        → LacksRoom rule R v k cause
+        → FailsForRoom rule R v k cause
     lacks-room k cause full overflow = (
       full,
       (λ over. overflow.0 (ap Err over), λ none. err-same (overflow.1 none)),
     )
 
-    pub grows-room : {X E : Type 0} {x : X} (k : ℕ) (w : ListView T A) → HasRoomFor v k
-        → w.alloc ≡ v.alloc → w.capacity ≡ v.capacity → IsBounded R v × IsBounded R w
-        → Grows rule R k v w (let r : Result X E = Ok x in r)
-    grows-room k w room alloc capacity within = record {
-      had_room = λ _. capacity;
-      ok = ruled-same rule _ _ v.capacity (length v.items + k) room ∙ ap Some (sym capacity);
-      alloc = alloc;
-      never_less = omega (arith, capacity);
-      was_room = within.0.room;
-      room = within.1.room;
-      small = within.1.small;
-      allocatable = within.1.allocatable;
-    }
-
-    pub reserves-room : {X : Type 0} {x : X} (k : ℕ) (w : ListView T A) → HasRoomFor v k
-        → w.capacity ≡ v.capacity → Reserves rule R k v w (Ok x)
-    reserves-room {x = x} k w room capacity =
-        let named = ruled-same rule _ _ v.capacity (length v.items + k) room
-        ∙ ap Some (sym capacity) in
-        record {
-          had_room = λ _. capacity;
-          ok = named;
-          err = tt;
-          overflow = (λ e. ok-err x CapacityOverflow e, λ none. absurd (none-some none named));
-        }
-
-    pub reserves-then : {X Y : Type 0} {x : X} (S : RattleType) (k l : ℕ) (u w : ListView T A)
-        (r : Result Y ThinVecError) → l ≡ k
-        → capacity_after_reserve rule S v l ≡ capacity_after_reserve rule R v k
-        → w.capacity ≡ u.capacity
-        → Reserves rule R k v u (Ok x) → IfErr r (λ cause. cause ≡ OutOfMemory)
-        → Reserves rule S l v w r
-    reserves-then S k l u w (Ok y) count same capacity h _ =
-        let named = same ∙ (h.ok ∙ ap Some (sym capacity)) in
-        record {
-          had_room = λ room. capacity ∙ h.had_room (omega (arith, room, count));
-          ok = named;
-          err = tt;
-          overflow = (λ e. ok-err y CapacityOverflow e, λ none. absurd (none-some none named));
-        }
-    reserves-then S k l u w (Err cause) count same capacity h memory =
-        let named = same ∙ (h.ok ∙ ap Some (sym capacity)) in
-        record {
-          had_room = λ room. capacity ∙ h.had_room (omega (arith, room, count));
-          ok = tt;
-          err = inr named;
-          overflow = (
-            λ e. cc (memory, err-same e),
-            λ none. absurd (none-some none named),
-          );
-        }
-
-    pub reserves-failed : {X Y : Type 0} (S : RattleType) (k l : ℕ) (w : ListView T A)
-        (cause : ThinVecError) → l ≡ k
-        → capacity_after_reserve rule S v l ≡ capacity_after_reserve rule R v k
-        → Reserves rule R k v w (let r : Result X ThinVecError = Err cause in r) → w ≡ v
-        → Reserves rule S l v w (let r : Result Y ThinVecError = Err cause in r)
-    reserves-failed S k l w cause count same h unchanged = record {
-      had_room = λ room. h.had_room (omega (arith, room, count));
-      ok = tt;
-      err = inl unchanged;
-      overflow = (
-        λ e. same ∙ h.overflow.0 (ap Err (err-same e)),
-        λ none. ap Err (err-same (h.overflow.1 (sym same ∙ none))),
-      );
-    }
+    -- If there is room, the capacity after `reserve` is the old one.
+    pub capacity-kept : (k : ℕ) (w : ListView T A) → HasRoomFor v k → w.capacity ≡ v.capacity
+        → capacity_after_reserve rule R v k ≡ Some w.capacity
+    capacity-kept k w room same =
+        ruled-same rule _ _ v.capacity (length v.items + k) room ∙ ap Some (sym same)

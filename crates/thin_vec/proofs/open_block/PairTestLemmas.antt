@@ -2,7 +2,7 @@
 -- item kept before it. `R` describes the calls to the closure.
 use Rattle.std.proofs.Common.{◌≡◌, ℕ, zero, suc, ◌+◌, ◌<◌, Bool, true, false, List, [], ◌∷◌, ◌++◌, length, take, drop, refl, sym, ap, subst, ◌∙◌, arith, inl, inr, append_assoc}
 use Rattle.std.proofs.lemmas.List.{drop_at, length_push, replicate-append-replicate, same_from_push, take_at}
-use Rattle.std.specs.Prelude.{MatchBool, replicate}
+use Rattle.std.specs.Prelude.{MatchBool, map, not, replicate}
 use Rattle.thin_vec.specs.Edits.Retain.{moves_of_retain, count_true}
 use Rattle.thin_vec.specs.Edits.Dedup.{TestsEachAgainstLast}
 use Rattle.thin_vec.specs.OpenBlock.Dedup.{TestsPairAt, TestsPairsUpTo}
@@ -13,21 +13,27 @@ use Rattle.thin_vec.proofs.RetainLemmas.{cons-head, cons-not-nil, cons-tail, sam
 abbrev pub OnPairs : Type 0 → Type 0 → Type 1
 OnPairs S T = S → T → T → Bool → S → T → T → Type 0
 
--- `all-stay n` is a list of `n` flags that are all true. A true flag says that an item is kept.
+-- In this file, a flag is true if its item is removed.
+
+-- `all-stay n` is the list of the flags of `n` kept items.
 abbrev pub all-stay : ℕ → List Bool
-all-stay n = replicate n true
+all-stay n = replicate n false
 
-pub count_true-join : (a b : List Bool) → count_true (a ++ b) ≡ count_true a + count_true b
-count_true-join [] b = omega arith
-count_true-join (true ∷ a) b = let e = count_true-join a b in omega arith
-count_true-join (false ∷ a) b = count_true-join a b
+-- `count_kept removed` is the number of kept items.
+abbrev pub count_kept : List Bool → ℕ
+count_kept removed = count_true (map not removed)
 
-count_true-all : (n : ℕ) → count_true (replicate n true) ≡ n
-count_true-all zero = refl
-count_true-all (suc n) = ap suc (count_true-all n)
+pub count_kept-join : (a b : List Bool) → count_kept (a ++ b) ≡ count_kept a + count_kept b
+count_kept-join [] b = omega arith
+count_kept-join (true ∷ a) b = count_kept-join a b
+count_kept-join (false ∷ a) b = let e = count_kept-join a b in omega arith
+
+count_kept-all : (n : ℕ) → count_kept (all-stay n) ≡ n
+count_kept-all zero = refl
+count_kept-all (suc n) = ap suc (count_kept-all n)
 
 pub moved-all : (n : ℕ) (b : List Bool)
-    → moves_of_retain (replicate n true ++ b) ≡ moves_of_retain b
+    → moves_of_retain (map not (all-stay n ++ b)) ≡ moves_of_retain (map not b)
 moved-all zero b = refl
 moved-all (suc n) b = moved-all n b
 
@@ -46,19 +52,19 @@ after-first [] zs k l e some = let n = ap length e in absurd (omega (arith, n, s
 after-first (a ∷ p) zs k l e some = (p, sym (cons-tail e), ap (λ z. z ∷ p) (cons-head e))
 
 module _ {S T : Type 0} (R : OnPairs S T) where
-  pub last-some : (xs : List T) (s t : S) (k : T) (stays : List Bool) (ys : List T)
-      → TestsEachAgainstLast R s k xs stays ys t → 0 < length ys
-  last-some [] s t k stays ys h = omega (arith, ap length h.1)
-  last-some (x ∷ xs) s t k stays ys h =
+  pub last-some : (xs : List T) (s t : S) (k : T) (removed : List Bool) (ys : List T)
+      → TestsEachAgainstLast R s k xs removed ys t → 0 < length ys
+  last-some [] s t k removed ys h = omega (arith, ap length h.1)
+  last-some (x ∷ xs) s t k removed ys h =
       by-answer h.0 _ _ (0 < length ys) (λ m. last-some xs h.3 t h.2 h.4 ys m)
       (λ m. omega (arith, ap length m.2)) h.7
 
   pub last-goes : (s t : S) (k x x' k' : T) → R s x k true t x' k'
-      → TestsEachAgainstLast R s k (x ∷ []) (false ∷ []) (k' ∷ []) t
+      → TestsEachAgainstLast R s k (x ∷ []) (true ∷ []) (k' ∷ []) t
   last-goes s t k x x' k' h = (true, x', k', t, [], h, refl, (refl, refl, refl))
 
   pub last-stays : (s t : S) (k x x' k' : T) → R s x k false t x' k'
-      → TestsEachAgainstLast R s k (x ∷ []) (true ∷ []) (k' ∷ x' ∷ []) t
+      → TestsEachAgainstLast R s k (x ∷ []) (false ∷ []) (k' ∷ x' ∷ []) t
   last-stays s t k x x' k' h = (false, x', k', t, [], h, refl, (x' ∷ [], (refl, refl, refl), refl))
 
   -- In this module, the items `zs` were tested after the kept item `l`. The flags `g` say which of
@@ -160,9 +166,9 @@ module _ {S T : Type 0} (R : OnPairs S T) where
     pair-more u zs a =
         let pre : List T = h.pre ++ a.kept_left ∷ [] in
         let longer : length h.pre + 1 ≡ length pre = sym (length_push h.pre a.kept_left) in
-        let flags : all-stay (length h.pre) ++ true ∷ [] ≡ all-stay (length pre) =
-        replicate-append-replicate (length h.pre) 1 true ∙ ap (λ (n : ℕ). all-stay n) longer in
-        let asked = last-append t u h.last (true ∷ []) (a.kept_left ∷ a.later_left ∷ [])
+        let flags : all-stay (length h.pre) ++ false ∷ [] ≡ all-stay (length pre) =
+        replicate-append-replicate (length h.pre) 1 false ∙ ap (λ (n : ℕ). all-stay n) longer in
+        let asked = last-append t u h.last (false ∷ []) (a.kept_left ∷ a.later_left ∷ [])
         (a.later ∷ [])
         (last-stays t u h.last a.later a.later_left a.kept_left (next-asked false u zs a))
         h.done s h.first (all-stay (length h.pre)) h.pre h.asked in
@@ -186,11 +192,11 @@ module _ {S T : Type 0} (R : OnPairs S T) where
           done = h.done ++ a.later ∷ [];
           after = a.after;
           more = length h.pre;
-          stays = all-stay (length h.pre) ++ false ∷ [];
+          removed = all-stay (length h.pre) ++ true ∷ [];
           left = h.pre ++ a.kept_left ∷ [];
           over = a.later_left ∷ [];
           was = next-was true u zs a;
-          asked = last-append t u h.last (false ∷ []) (a.kept_left ∷ []) (a.later ∷ [])
+          asked = last-append t u h.last (true ∷ []) (a.kept_left ∷ []) (a.later ∷ [])
               (last-goes t u h.last a.later a.later_left a.kept_left (next-asked true u zs a))
               h.done s h.first (all-stay (length h.pre)) h.pre h.asked;
           kept = h.kept;
@@ -211,7 +217,7 @@ module _ {S T : Type 0} (R : OnPairs S T) where
 
     pub run-goes : (value : T) (untested : List T) → drop m ys ≡ value ∷ untested
         → (r.after ≡ untested)
-        × (r.stays ≡ all-stay r.more ++ false ∷ [])
+        × (r.removed ≡ all-stay r.more ++ true ∷ [])
     run-goes value untested k =
         elim r.stops [
           | inl p ↦ let v = single r.over p.0 in
@@ -219,7 +225,7 @@ module _ {S T : Type 0} (R : OnPairs S T) where
           | inr q ↦ absurd (cons-not-nil (sym k ∙ (run-over ∙ (λ i. q.0 i ++ q.1.0 i))))
         ]
 
-    pub run-ends : drop m ys ≡ [] → (r.after ≡ []) × (r.stays ≡ all-stay r.more)
+    pub run-ends : drop m ys ≡ [] → (r.after ≡ []) × (r.removed ≡ all-stay r.more)
     run-ends k =
         elim r.stops [
           | inl p ↦ let v = single r.over p.0 in
@@ -228,8 +234,8 @@ module _ {S T : Type 0} (R : OnPairs S T) where
           | inr q ↦ (q.1.0, q.1.1)
         ]
 
-    -- The first item is kept without a test, so `r.stays` has no flag for it.
-    pub run-count : (f : List Bool) → count_true f ≡ 0 → r.stays ≡ all-stay r.more ++ f
-        → suc (count_true r.stays) ≡ m
+    -- The first item is kept without a test, so `r.removed` has no flag for it.
+    pub run-count : (f : List Bool) → count_kept f ≡ 0 → r.removed ≡ all-stay r.more ++ f
+        → suc (count_kept r.removed) ≡ m
     run-count f none e =
-        omega (arith, ap count_true e, count_true-join (all-stay r.more) f, count_true-all r.more)
+        omega (arith, ap count_kept e, count_kept-join (all-stay r.more) f, count_kept-all r.more)

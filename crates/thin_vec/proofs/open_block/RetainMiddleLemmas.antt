@@ -4,9 +4,9 @@ use Rattle.std.proofs.Common.{◌≡◌, ℕ, ◌+◌, ◌<◌, ◌≤◌, Bool,
 use Rattle.std.proofs.Math.Seq.{take-add}
 use Rattle.std.proofs.lemmas.List.{append-nil, drop-drop, drop_at, length-take-le, nil_from_length, take-append-drop, take_at}
 use Rattle.thin_block.specs.Cost.{add_moves}
-use Rattle.thin_vec.specs.Edits.Retain.{TestResults, TestsInTurn, flags_of, items_where, moves_of_retain, all_kept, count_true}
+use Rattle.thin_vec.specs.Edits.Retain.{TestResults, flags_of, items_where, moves_of_retain, all_kept, count_true}
 use Rattle.thin_vec.specs.OpenView.{OpenView}
-use Rattle.thin_vec.specs.OpenBlock.Retain.{SeeksRemoved, TestsAt, RetainsMiddle, TestsUpTo, RetainsSome}
+use Rattle.thin_vec.specs.OpenBlock.Retain.{SeeksRemoved, TestsAt, RetainsMiddle, TestsUpTo, RetainsSome, TestsInTurn}
 use Rattle.thin_vec.proofs.RetainLemmas.{items_where-append, items_where-stay, moves_of_retain-stay, moving-after, moving-more, moving-none, count_true-append, count_true-stay}
 use Rattle.thin_vec.proofs.open_block.TestLemmas.{Part, Stays, asked-append, part-ends, part-goes, stays-goes, stays-more, stays-start}
 

@@ -2,8 +2,8 @@
 -- `R` describes the calls to the closure, and `s`, `t` and `u` are its states.
 use Rattle.std.proofs.Common.{◌≡◌, ℕ, ◌+◌, Bool, true, false, List, [], ◌∷◌, ◌++◌, length, take, drop, refl, sym, ap, subst, ◌∙◌, arith, length-append, append_assoc}
 use Rattle.std.proofs.lemmas.List.{append-nil, drop_at, map_push, take_at}
-use Rattle.thin_vec.specs.Edits.Retain.{TestResults, TestsInTurn, flags_of, items_where, all_kept, count_true}
-use Rattle.thin_vec.specs.OpenBlock.Retain.{TestsAt, TestsUpTo, IsRemovedFirst}
+use Rattle.thin_vec.specs.Edits.Retain.{TestResults, flags_of, items_where, all_kept, count_true}
+use Rattle.thin_vec.specs.OpenBlock.Retain.{TestsAt, TestsUpTo, IsRemovedFirst, TestsInTurn}
 use Rattle.thin_vec.proofs.RetainLemmas.{cons-head, cons-not-nil, cons-tail, items_where-append, items_where-stay, same-parts, count_true-append, count_true-stay}
 
 module _ {S T : Type 0} (R : S → T → Bool → S → T → Type 0) where

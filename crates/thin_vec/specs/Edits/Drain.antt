@@ -1,30 +1,38 @@
 -- These definitions are for the contracts of `Drain`. They name the parts of a `Drain`, and they
 -- say what its methods guarantee. (std: `vec::Drain`)
-use Rattle.std.specs.Prelude.{◌≡◌, List, ◌++◌, Option}
+use Rattle.std.specs.Prelude.{◌≡◌, ◌⊎◌, ◌==◌, List, ◌++◌, None, Option, if◌then◌else◌, length}
 use Rattle.std.specs.Borrow.{GName}
-use Rattle.std.specs.Iterator.{Yields, YieldsFirst, YieldsLast}
+use Rattle.std.specs.Iterator.{Yields, YieldsFirst, YieldsLast, YieldsThen}
 use Rattle.std.specs.Iterator.Runs.{YieldsInOrder, YieldsInReverse}
+use Rattle.thin_block.specs.Cost.{add_moves}
 use Rattle.thin_block.specs.declared.growth.Growth.{Ghosts}
-use Rattle.thin_vec.specs.OpenView.{OpenView, cost_drained}
+use Rattle.thin_vec.specs.OpenView.{OpenView, range_len}
 use Rattle.thin_vec.specs.ThinVec.{ListView}
 use Rattle.thin_vec.specs.declared.edits.drain.Drain.{Drain}
 use Rattle.thin_vec.specs.declared.edits.holder.IntoInner.{Ghosts as IntoInnerGhosts}
 
 module _ {T A G H : Type 0} {g : Ghosts G} {h : IntoInnerGhosts H (OpenView T A)} where
+  -- `drain_block d` is the open block that the `Drain` `d` owns. Its front contains the items
+  -- before the range, and its tail contains the items after the range.
+  abbrev pub drain_block : Drain T A G H g h → OpenView T A
+  drain_block d = h.inner d.holder
+
   -- `left_by_drain d` is the list that the `Drain` `d` leaves when it is dropped: its items are
-  -- those before and after the range. The contract of `drain` says what this list is, and calls to
-  -- `next` and `next_back` do not change it. The prover unfolds this definition only on request.
+  -- those before and after the range. Unless the range has no slots, the drop moves each item after
+  -- it. The contract of `drain` says what this list is, and calls to `next` and `next_back` do not
+  -- change it. The prover unfolds this definition only on request.
   unfoldable pub left_by_drain : Drain T A G H g h → ListView T A
   left_by_drain d = record {
-    items = (h.inner d.holder).front ++ (h.inner d.holder).tail;
-    capacity = (h.inner d.holder).capacity;
+    items = (drain_block d).front ++ (drain_block d).tail;
+    capacity = (drain_block d).capacity;
     alloc = d.list.now.alloc;
-    cost = cost_drained (h.inner d.holder);
+    cost = if range_len (drain_block d) == 0 then (drain_block d).cost else add_moves
+        (length (drain_block d).tail) (drain_block d).cost;
   }
 
   -- `drain_rest d` contains the items of the range that the `Drain` `d` has not yielded yet.
   abbrev pub drain_rest : Drain T A G H g h → List T
-  drain_rest d = (h.inner d.holder).middle
+  drain_rest d = (drain_block d).middle
 
   -- `drain_list d` is the list that the `Drain` `d` borrows, as it is until `d` is dropped. It
   -- stays as it is if `d` is leaked (this is tested, not proved).
@@ -59,20 +67,21 @@ module _ {T A G H : Type 0} {g : Ghosts G} {h : IntoInnerGhosts H (OpenView T A)
     pub keeps : DrainKeeps old new
 
   -- `DrainKeepsAlong d` states that calls to `next` on the `Drain` `d`, however many there are,
-  -- change neither the borrowed list nor the list that will remain after `d` is dropped
-  -- (`DrainKeeps`). This follows from `DrainSteps`.
+  -- and even if the last of them returns `None`, change neither the borrowed list nor the list that
+  -- will remain after `d` is dropped (`DrainKeeps`). This follows from `DrainSteps`.
   abbrev pub DrainKeepsAlong : Drain T A G H g h → Type 0
   DrainKeepsAlong first = (items : List T) (later : Drain T A G H g h)
-      → Yields DrainSteps first items later → DrainKeeps first later
+      → Yields DrainSteps first items later ⊎ YieldsThen DrainSteps first items None later
+      → DrainKeeps first later
 
-  -- `DrainYieldsInOrder d` states that calls to `next` on any `Drain` yield the remaining items of
-  -- the range in order. The value `d` only names the type of the `Drain`. This follows from
-  -- `DrainSteps`.
+  -- `DrainYieldsInOrder d` states that calls to `next` on any `Drain` of the type of `d` yield the
+  -- remaining items of the range in order. (Apart from its type, `d` does not matter.) This follows
+  -- from `DrainSteps`.
   abbrev pub DrainYieldsInOrder : Drain T A G H g h → Type 0
   DrainYieldsInOrder d = YieldsInOrder DrainSteps drain_rest
 
-  -- `DrainYieldsInReverse d` states that calls to `next_back` on any `Drain` yield the remaining
-  -- items of the range in reverse order. The value `d` only names the type of the `Drain`. This
-  -- follows from `DrainStepsBack`.
+  -- `DrainYieldsInReverse d` states that calls to `next_back` on any `Drain` of the type of `d`
+  -- yield the remaining items of the range in reverse order. (Apart from its type, `d` does not
+  -- matter.) This follows from `DrainStepsBack`.
   abbrev pub DrainYieldsInReverse : Drain T A G H g h → Type 0
   DrainYieldsInReverse d = YieldsInReverse DrainStepsBack drain_rest

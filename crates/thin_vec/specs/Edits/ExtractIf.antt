@@ -1,14 +1,14 @@
 -- These definitions are for the contracts of `ExtractIf`. They name the parts of an `ExtractIf`,
 -- and they say what a call to `next` changes. (std: `Vec::extract_if`)
-use Rattle.std.specs.Prelude.{◌≡◌, ◌+◌, ◌==◌, ◌++◌, Bool, List, Option, if◌then◌else◌, length}
+use Rattle.std.specs.Prelude.{◌≡◌, ◌+◌, ◌==◌, ◌++◌, ◌∷◌, [], Bool, List, None, Option, cond, if◌then◌else◌, length}
 use Rattle.std.specs.List.Retain.{ExtractsNext}
 use Rattle.std.specs.Option.{option_to_list}
-use Rattle.std.specs.Iterator.{Yields}
+use Rattle.std.specs.Iterator.{Yields, YieldsThen}
 use Rattle.std.specs.Borrow.{GName}
 use Rattle.thin_block.specs.Cost.{add_moves}
 use Rattle.thin_block.specs.declared.growth.Growth.{Ghosts}
 use Rattle.thin_vec.specs.List.Capacity.{MovesAtMost}
-use Rattle.thin_vec.specs.OpenView.{OpenView, cost_closed, items_of}
+use Rattle.thin_vec.specs.OpenView.{OpenView}
 use Rattle.thin_vec.specs.ThinVec.{ListView}
 use Rattle.thin_vec.specs.declared.edits.extract_if.ExtractState.{ExtractState}
 use Rattle.thin_vec.specs.declared.edits.extract_if.ExtractIf.{ExtractIf}
@@ -16,6 +16,19 @@ use Rattle.thin_vec.specs.declared.edits.holder.IntoInner.{Ghosts as IntoInnerGh
 
 -- `R f x b g y` states that the closure was called with the item `x` and returned the Boolean value
 -- `b`. The call changed the state of the closure from `f` to `g`, and the item from `x` to `y`.
+module _ {T F : Type 0} (R : F → T → Bool → F → T → Type 0) where
+  -- `ExtractsInTurn f xs yielded kept g` holds if the closure, at first in the state `f`, was
+  -- called once for each item of `xs`, in order, and the calls left it in the state `g`. The list
+  -- `yielded` has the items for which it returned true, and `kept` has the others, as the calls
+  -- left them.
+  abbrev pub ExtractsInTurn : F → List T → List T → List T → F → Type 0
+  ExtractsInTurn f [] yielded kept g = (yielded ≡ []) × (kept ≡ []) × (g ≡ f)
+  ExtractsInTurn f (x ∷ xs) yielded kept g =
+      (b : Bool) × (u : F) × (y : T) × R f x b u y
+      × (ys : List T) × (zs : List T) × ExtractsInTurn u xs ys zs g
+      × (yielded ≡ cond b (y ∷ ys) ys) × (kept ≡ cond b zs (y ∷ zs))
+
+-- `R` is as above.
 module _ {T F A : Type 0} (R : F → T → Bool → F → T → Type 0) where
   -- `ExtractsOne old item new` describes a call to `next` that returned `item`. The values `old`
   -- and `new` are the block and the closure of the `ExtractIf` before and after the call.
@@ -35,16 +48,6 @@ module _ {T F A : Type 0} (R : F → T → Bool → F → T → Type 0) where
         (length kept) old.block.cost)
 
 module _ {T F A G H : Type 0} {g : Ghosts G} {h : IntoInnerGhosts H (ExtractState T F A)} where
-  -- `left_by_extract_if e` is the list that the `ExtractIf` `e` leaves if it is dropped now: its
-  -- items are those that have not been yielded. Its cost includes the moves that the drop makes.
-  abbrev pub left_by_extract_if : ExtractIf T F A G H g h → ListView T A
-  left_by_extract_if e = record {
-    items = items_of (h.inner e.holder).block;
-    capacity = (h.inner e.holder).block.capacity;
-    alloc = e.list.now.alloc;
-    cost = cost_closed (h.inner e.holder).block;
-  }
-
   -- `extract_block e` is the open block that the `ExtractIf` `e` owns. Its front contains the items
   -- before the range, followed by the tested items that were kept, as the closure left them. Its
   -- gap has one slot for each item that `e` has yielded. Its tail contains the items after the
@@ -55,6 +58,18 @@ module _ {T F A G H : Type 0} {g : Ghosts G} {h : IntoInnerGhosts H (ExtractStat
   -- `extract_rest e` contains the items of the range that have not been tested yet.
   abbrev pub extract_rest : ExtractIf T F A G H g h → List T
   extract_rest e = (extract_block e).middle
+
+  -- `left_by_extract_if e` is the list that the `ExtractIf` `e` leaves if it is dropped now: its
+  -- items are those that have not been yielded. If there is a gap, the drop moves each item after
+  -- it, and the cost includes these moves.
+  abbrev pub left_by_extract_if : ExtractIf T F A G H g h → ListView T A
+  left_by_extract_if e = record {
+    items = (extract_block e).front ++ (extract_rest e ++ (extract_block e).tail);
+    capacity = (extract_block e).capacity;
+    alloc = e.list.now.alloc;
+    cost = if (extract_block e).gap_before == 0 then (extract_block e).cost else add_moves
+        (length (extract_rest e) + length (extract_block e).tail) (extract_block e).cost;
+  }
 
   -- `extract_callee e` is the closure that the `ExtractIf` owns, in its present state.
   abbrev pub extract_callee : ExtractIf T F A G H g h → F
@@ -78,42 +93,61 @@ module _ {T F A G H : Type 0} {g : Ghosts G} {h : IntoInnerGhosts H (ExtractStat
     pub lender : extract_lender new ≡ extract_lender old
     pub meanwhile : extract_list new ≡ extract_list old
     -- If `new` is dropped, the list has the items `extracts.kept`, and the items that `new` has not
-    -- tested, in place of those that `old` had not tested. Capacity and allocator stay.
+    -- tested, in place of those that `old` had not tested. Capacity and allocator stay. The drop
+    -- moves each item after the gap, if there is one.
     pub left : left_by_extract_if new ≡ record (left_by_extract_if old) {
       items = ((extract_block old).front ++ extracts.kept)
           ++ (extract_rest new ++ (extract_block old).tail);
-      cost = (left_by_extract_if new).cost;
+      cost = if (extract_block new).gap_before == 0 then (extract_block new).cost else add_moves
+          (length (extract_rest new) + length (extract_block old).tail) (extract_block new).cost;
     }
 
-  -- `ExtractLeaves first items later` states what calls to `next` leave, after they yielded `items`
-  -- and changed the `ExtractIf` from `first` to `later`. Each item of the range has been yielded,
-  -- or kept (at the end of the front), or not been tested yet.
-  pub record ExtractLeaves (first : ExtractIf T F A G H g h) (items : List T)
-      (later : ExtractIf T F A G H g h) : Type 0 where
+  -- `ExtractLeaves R first yielded later` states what calls to `next` leave, after they yielded the
+  -- items `yielded` and changed the `ExtractIf` from `first` to `later`.
+  pub record ExtractLeaves (R : F → T → Bool → F → T → Type 0) (first : ExtractIf T F A G H g h)
+      (yielded : List T) (later : ExtractIf T F A G H g h) : Type 0 where
     pub lender : extract_lender later ≡ extract_lender first
     pub meanwhile : extract_list later ≡ extract_list first
+    -- The closure was called for the items `tested`, from the first on. Those that were not yielded
+    -- are `kept`, at the end of the front.
+    pub tested : List T
     pub kept : List T
-    -- As in `ExtractSteps`.
+    pub rest : extract_rest first ≡ tested ++ extract_rest later
+    pub calls : ExtractsInTurn R (extract_callee first) tested yielded kept (extract_callee later)
+    pub count : length kept + length yielded + length (extract_rest later)
+        ≡ length (extract_rest first)
+    pub front : (extract_block later).front ≡ (extract_block first).front ++ kept
+    pub gone : (extract_block later).gap_before
+        ≡ (extract_block first).gap_before + length yielded
+    pub tail : (extract_block later).tail ≡ (extract_block first).tail
+    -- If `later` is dropped, the list has the items `kept`, and the items that `later` has not
+    -- tested, in place of those that `first` had not tested. Capacity and allocator stay.
     pub left : left_by_extract_if later ≡ record (left_by_extract_if first) {
       items = ((extract_block first).front ++ kept)
           ++ (extract_rest later ++ (extract_block first).tail);
-      cost = (left_by_extract_if later).cost;
+      cost = if (extract_block later).gap_before == 0 then (extract_block later).cost else add_moves
+          (length (extract_rest later) + length (extract_block first).tail)
+          (extract_block later).cost;
     }
     -- From `first` on, and with the moves of the drop, at most each item after the front of `first`
-    -- that stays in the list is moved, once.
+    -- that stays in the list is moved, once. If no item was yielded, the calls cost nothing.
     pub moves : MovesAtMost (length kept + length (extract_rest later)
         + length (extract_block first).tail) (extract_block first).cost
         (left_by_extract_if later).cost
-    pub front : (extract_block later).front ≡ (extract_block first).front ++ kept
-    pub tail : (extract_block later).tail ≡ (extract_block first).tail
-    pub gone : (extract_block later).gap_before ≡ (extract_block first).gap_before + length items
-    pub count : length kept + length items + length (extract_rest later)
-        ≡ length (extract_rest first)
+    pub unmoved : yielded ≡ [] → (left_by_extract_if later).cost ≡ (left_by_extract_if first).cost
 
-  -- `ExtractKeepsAlong R e` states what calls to `next` on the `ExtractIf` `e` leave, however many
-  -- there are. `R` describes the calls to the closure.
+  -- `ExtractKeepsAlong R e` states what calls to `next` on the `ExtractIf` `e` leave, as long as
+  -- they yield items. `R` describes the calls to the closure.
   abbrev pub ExtractKeepsAlong : (F → T → Bool → F → T → Type 0) → ExtractIf T F A G H g h
       → Type 0
   ExtractKeepsAlong R first =
-      (items : List T) (later : ExtractIf T F A G H g h)
-      → Yields (ExtractSteps R) first items later → ExtractLeaves first items later
+      (yielded : List T) (later : ExtractIf T F A G H g h)
+      → Yields (ExtractSteps R) first yielded later → ExtractLeaves R first yielded later
+
+  -- `ExtractsToEnd R e` states what calls to `next` on the `ExtractIf` `e` leave if the last of
+  -- them returns `None`: then every item has been tested. `R` describes the calls to the closure.
+  abbrev pub ExtractsToEnd : (F → T → Bool → F → T → Type 0) → ExtractIf T F A G H g h → Type 0
+  ExtractsToEnd R first =
+      (yielded : List T) (last : ExtractIf T F A G H g h)
+      → YieldsThen (ExtractSteps R) first yielded None last
+      → ExtractLeaves R first yielded last × (extract_rest last ≡ [])

@@ -1,13 +1,12 @@
 -- These definitions are for the private functions that `Splice::finish` calls. No public contract
 -- uses these definitions.
-use Rattle.std.specs.Prelude.{◌≡◌, ℕ, ◌+◌, ◌-◌, ◌*◌, ◌<◌, ◌≤◌, List, [], ◌++◌, IfErr, IsOk, MatchOption, OnErr, OnOk, Option, length}
+use Rattle.std.specs.Prelude.{◌≡◌, ◌<◌, ◌≤◌, List, [], ◌++◌, IfErr, IsOk, MatchOption, OnOk, Option, length}
 use Rattle.std.specs.Iterator.{Count, Drains, size}
 use Rattle.std.specs.declared.result.Result.{Result}
 use Rattle.std.specs.Borrow.{RattleType}
 use Rattle.thin_block.specs.Growth.{GrowthRule}
 use Rattle.thin_vec.specs.Cheap.{IsCheap}
-use Rattle.thin_vec.specs.List.Extend.{CostsInserting}
-use Rattle.thin_vec.specs.Edits.Splice.{IsSpliceCause, SpliceErrorAccountsFor, SplicesCapacity}
+use Rattle.thin_vec.specs.Edits.Splice.{IsSpliceCause, SpliceErrorAccountsFor, SplicesCapacity, StopsBeforeTail}
 use Rattle.thin_vec.specs.OpenView.{OpenView}
 use Rattle.thin_vec.specs.ThinVec.{HasRoomFor, ListView}
 use Rattle.thin_vec.specs.declared.errors.SpliceRefused.{SpliceRefused}
@@ -28,15 +27,12 @@ module _ {T A : Type 0} where
   abbrev pub with_replacement : OpenView T A → List T → List T
   with_replacement v xs = (v.front ++ xs) ++ v.tail
 
-  -- `AddsFromIter rule R v w n limit` describes how adding items of an iterator turned the list `v`
-  -- into `w`. `rule` is the growth rule of the list, and `R` is the type of the items. The iterator
-  -- could yield at most `limit` items, and the old items of `v` were moved at most `n` times in
-  -- total.
-  pub record AddsFromIter (rule : GrowthRule) (R : RattleType) (v w : ListView T A) (n : ℕ)
-      (limit : Count) : Type 0 where
+  -- `AddsFromIter v w limit` describes how adding items of an iterator turned the list `v` into
+  -- `w`. The iterator could yield at most `limit` items.
+  pub record AddsFromIter (v w : ListView T A) (limit : Count) : Type 0 where
     pub never_less : v.capacity ≤ w.capacity
     pub had_room : HasRoomFor v (size limit) → w.capacity ≡ v.capacity
-    pub cost : CostsInserting n v w
+    pub kept : w.capacity ≡ v.capacity → w.cost.blocks ≡ v.cost.blocks
     pub alloc : w.alloc ≡ v.alloc
     pub cheap : IsCheap v → IsCheap w
 
@@ -51,16 +47,14 @@ module _ {S T A : Type 0} (steps : S → Option T → S → Type 0) (can : S →
     pub succeeds_at_end : v.tail ≡ [] → HasRoomFor (without_middle v a) (size (remaining s))
         → IsOk result
     pub items : OnOk result ((xs : List T) × Drains steps s xs × (w.items ≡ with_replacement v xs))
-    pub taken : AddsFromIter rule R (without_middle v a) w (2 * length v.tail) (remaining s)
+    pub longer : length (v.front ++ v.tail) ≤ length w.items
+    pub taken : AddsFromIter (without_middle v a) w (remaining s)
     pub capacity : SplicesCapacity rule R v.tail v.gap_before (without_middle v a) w
         (remaining s)
-    pub blocks : 0 < length v.tail → w.cost.blocks ≤ v.cost.blocks + 2
-    pub requests : v.tail ≡ [] → w.cost.blocks
-        ≤ v.cost.blocks + 1 + (length w.items - length (v.front ++ v.tail))
     pub placed : IfErr result (λ error. (xs : List T) × (w.items ≡ with_replacement v xs)
         × SpliceErrorAccountsFor steps can remaining s xs error)
-    pub range : OnErr result
-        (0 < length v.tail → length v.front + length v.tail + v.gap_before ≤ length w.items)
+    pub stops : IfErr result (λ error. 0 < length v.tail
+        → StopsBeforeTail rule R v.gap_before (length v.tail) (without_middle v a) w error)
     pub held : IfErr result (λ error. v.tail ≡ [] → error.held.items ≡ [])
     pub in_hand : IfErr result (λ error. v.tail ≡ []
         → MatchOption error.in_hand ((w ≡ without_middle v a) × (error.rest ≡ s))

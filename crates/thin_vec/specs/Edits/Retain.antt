@@ -1,6 +1,8 @@
 -- These definitions are for methods that test each item of a list and remove the items that fail
--- the test. (std: `Vec::retain_mut`)
-use Rattle.std.specs.Prelude.{◌≡◌, ℕ, zero, suc, List, [], ◌∷◌, Bool, true, false, map}
+-- the test. (std: `Vec::retain`, `Vec::retain_mut`)
+use Rattle.std.specs.Prelude.{◌≡◌, ℕ, zero, suc, List, [], ◌∷◌, Bool, true, false, cond, length, map}
+use Rattle.std.specs.List.{items_where_true}
+use Rattle.std.specs.List.Retain.{ReturnsInTurn}
 use Rattle.thin_block.specs.Cost.{add_moves}
 use Rattle.thin_vec.specs.ThinVec.{ListView}
 
@@ -42,33 +44,36 @@ module _ {T : Type 0} where
   abbrev pub flags_of : TestResults T → List Bool
   flags_of results = map (λ (answer : Bool × T). answer.0) results
 
--- `R s x b t y` describes one call of a test with the item `x`. The call returns `b` (true: keep
--- `x`), and changes the state of the test from `s` to `t`, and `x` to `y`.
+-- `R s x b t` describes one call of the closure of `retain`: it is called with the item `x`,
+-- returns `b` (true: keep `x`), and changes its state from `s` to `t`.
+module _ {S T : Type 0} (R : S → T → Bool → S → Type 0) where
+  -- `IsRetained s v w` holds if `retain` turned the list `v` into `w`. The closure, whose state was
+  -- `s` at first, was called once for each item of `v`, in order. The calls returned `flags`, and
+  -- `w` has the items for which they returned true.
+  pub record IsRetained {A : Type 0} (s : S) (v w : ListView T A) : Type 0 where
+    pub flags : List Bool
+    pub last : S
+    pub count : length flags ≡ length v.items
+    pub calls : ReturnsInTurn R s flags v.items last
+    pub items : w.items ≡ items_where_true flags v.items
+    pub cost : w.cost ≡ add_moves (moves_of_retain flags) v.cost
+
+-- `R s x b t y` describes one call of the closure of `retain_mut`, which may also change the item,
+-- from `x` to `y`.
 module _ {S T : Type 0} (R : S → T → Bool → S → T → Type 0) where
-  -- `TestsInTurn s xs results t` holds if testing each item of `xs` once, in order, gave `results`,
-  -- and changed the state of the test from `s` to `t`.
-  abbrev pub TestsInTurn : S → List T → TestResults T → S → Type 0
-  TestsInTurn s [] results t = (results ≡ []) × (t ≡ s)
-  TestsInTurn s (x ∷ xs) results t =
-      (b : Bool) × (y : T) × (u : S) × (later : TestResults T) × R s x b u y
-      × TestsInTurn u xs later t
-      × (results ≡ (b, y) ∷ later)
+  -- `KeepsInTurn s xs flags ys` holds if the closure, whose state was `s` at first, was called once
+  -- for each item of `xs`, in order, and returned `flags`. The list `ys` has the items for which it
+  -- returned true, as the calls left them. (This is std's `RetainsInTurn`, with the flags.)
+  abbrev pub KeepsInTurn : S → List T → List Bool → List T → Type 0
+  KeepsInTurn s [] flags ys = (flags ≡ []) × (ys ≡ [])
+  KeepsInTurn s (x ∷ xs) flags ys =
+      (b : Bool) × (t : S) × (y : T) × R s x b t y
+      × (later : List Bool) × (zs : List T) × KeepsInTurn t xs later zs
+      × (flags ≡ b ∷ later) × (ys ≡ cond b (y ∷ zs) zs)
 
-  -- `IsRetainedTo s v w t` holds if removing the items that failed the test turned the list `v`
-  -- into `w`, and changed the state of the test from `s` to `t`.
-  pub record IsRetainedTo {A : Type 0} (s : S) (v w : ListView T A) (t : S) : Type 0 where
-    pub results : TestResults T
-    pub asked : TestsInTurn s v.items results t
-    pub items : w.items ≡ items_where true results
-    pub cost : w.cost ≡ add_moves (moves_of_retain (flags_of results)) v.cost
-
-  -- `IsRetained s v w` holds if removing the items that failed the test turned the list `v` into
-  -- `w`, where the test started in the state `s`.
-  abbrev pub IsRetained : {A : Type 0} → S → ListView T A → ListView T A → Type 0
-  IsRetained s v w = (t : S) × IsRetainedTo s v w t
-
--- `R s x b t` describes a test that is called with the item `x`, returns `b`, and changes its state
--- from `s` to `t`. `ReadsOnly R s x b t y` states this, and that the test left the item unchanged
--- (`y ≡ x`).
-abbrev pub ReadsOnly : {S T : Type 0} → (S → T → Bool → S → Type 0) → S → T → Bool → S → T → Type 0
-ReadsOnly R s x b t y = R s x b t × (y ≡ x)
+  -- `IsRetainedMut s v w` holds if `retain_mut` turned the list `v` into `w`, with a closure whose
+  -- state was `s` at first, and whose calls returned `flags`.
+  pub record IsRetainedMut {A : Type 0} (s : S) (v w : ListView T A) : Type 0 where
+    pub flags : List Bool
+    pub calls : KeepsInTurn s v.items flags w.items
+    pub cost : w.cost ≡ add_moves (moves_of_retain flags) v.cost

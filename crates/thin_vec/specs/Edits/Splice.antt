@@ -1,6 +1,6 @@
 -- These definitions name the parts of a `Splice`, and describe the list and the error after a call
 -- to `finish`. (std: `Vec::splice`)
-use Rattle.std.specs.Prelude.{◌≡◌, ◌⊎◌, ◌+◌, ◌<◌, ◌≤◌, [], ◌++◌, IsSome, List, Option, if◌then◌else◌, ◌==◌, length, vec_capacity, ℕ}
+use Rattle.std.specs.Prelude.{◌≡◌, ◌⊎◌, ◌+◌, ◌-◌, ◌<◌, ◌≤◌, [], ◌++◌, IsSome, List, Option, if◌then◌else◌, ◌==◌, length, vec_capacity, ℕ}
 use Rattle.std.specs.Iterator.{Count, YieldsFirst, YieldsLast, YieldsThen, size}
 use Rattle.std.specs.Iterator.SizeHint.{IsWithinCount}
 use Rattle.std.specs.Option.{option_to_list}
@@ -12,7 +12,7 @@ use Rattle.thin_block.specs.declared.errors.ThinVecError.TheVariants.{OutOfMemor
 use Rattle.thin_block.specs.Cost.{Cost, add_moves, add_realloc}
 use Rattle.thin_block.specs.Growth.{GrowthRule, grown_capacity}
 use Rattle.thin_block.specs.declared.growth.Growth.{Ghosts}
-use Rattle.thin_vec.specs.List.Capacity.{LacksRoom}
+use Rattle.thin_vec.specs.List.Capacity.{FailsForRoom}
 use Rattle.thin_vec.specs.List.Extend.{IsAfterExtend, YieldsAndCanContinue}
 use Rattle.thin_vec.specs.OpenView.{OpenView}
 use Rattle.thin_vec.specs.ThinVec.{HasRoomFor, ListView, capacity_after_reserve}
@@ -44,31 +44,62 @@ abbrev pub cost_after_growth : ℕ → ℕ → ℕ → Cost → Cost
 cost_after_growth n c d cost = if d == c then cost else add_realloc n cost
 
 module _ {T A : Type 0} where
-  -- `IsAfterSplice rule R v k h w` holds if the list `w` has the capacity of the list `v` after up
-  -- to two growths, and its cost, apart from moves. The first growth begins with `k` items more
-  -- than `v` has, those in the slots of the range, and makes room for `h` more. The second one
-  -- begins with these, too, and makes room for all items of `w`.
-  abbrev pub IsAfterSplice : GrowthRule → RattleType → ListView T A → ℕ → ℕ → ListView T A → Type 0
-  IsAfterSplice rule R v k h w =
-      (c m : ℕ) × (capacity_after_reserve rule R v (k + h) ≡ Some c)
-      × (grown_capacity rule (type_size R) (type_align R) c (length w.items) ≡ Some w.capacity)
-      × (w.cost ≡ add_moves m (cost_after_growth (length v.items + k + h) c w.capacity
-      (cost_after_growth (length v.items + k) v.capacity c v.cost)))
+  -- `IsAfterSplice rule R k t v w limit` says which capacity and which cost the list `w` has. It is
+  -- the list `v` after `finish` inserted items of an iterator before the last `t` items. The range
+  -- has `k` slots, the growth rule is `rule`, the item type is `R`, and the iterator could yield at
+  -- most `limit` items.
+  pub record IsAfterSplice (rule : GrowthRule) (R : RattleType) (k t : ℕ) (v w : ListView T A)
+      (limit : Count) : Type 0 where
+    -- The lower bound in the size hint for the items that did not fit into the range. If nothing
+    -- was reserved, it is 0.
+    pub hint : ℕ
+    pub within : (hint ≡ 0) ⊎ IsWithinCount (k + hint) limit
+    -- If the new items do not fill the range, nothing was reserved.
+    pub in_range : length w.items < length v.items + k → hint ≡ 0
+    -- The capacity after slots were reserved for the hint.
+    pub reserved : ℕ
+    pub reserves : capacity_after_reserve rule R v (k + hint) ≡ Some reserved
+    -- The list then made room for all items that did not fit into these slots.
+    pub capacity : grown_capacity rule (type_size R) (type_align R) reserved (length w.items)
+        ≡ Some w.capacity
+    -- The last `t` items move once if slots were reserved, and once more unless the new items fill
+    -- exactly the slots of the range and these slots.
+    pub cost : w.cost ≡ add_moves (length w.items - length v.items + (if hint == 0 then 0 else t)
+        + (if length w.items == length v.items + k + hint then 0 else t))
+        (cost_after_growth (length v.items + k + hint) reserved w.capacity
+        (cost_after_growth (length v.items + k) v.capacity reserved v.cost))
 
-  -- `SplicesCapacity rule R tail k v w limit` says which capacity the list `w` has, and which cost
-  -- apart from moves. It is the list `v` after `finish` inserted items of an iterator before the
-  -- items `tail`. The range has `k` slots, the growth rule is `rule`, the item type is `R`, and the
-  -- iterator could yield at most `limit` items.
+  -- `SplicesCapacity rule R tail k v w limit` says which capacity and which cost the list `w` has.
+  -- It is the list `v` after `finish` inserted items of an iterator before the items `tail`. The
+  -- range has `k` slots, the growth rule is `rule`, the item type is `R`, and the iterator could
+  -- yield at most `limit` items.
   pub record SplicesCapacity (rule : GrowthRule) (R : RattleType) (tail : List T) (k : ℕ)
       (v w : ListView T A) (limit : Count) : Type 0 where
     -- If `v` has room for all items that the iterator could yield, the capacity is unchanged.
     pub had_room : HasRoomFor v (size limit) → w.capacity ≡ v.capacity
     -- If no item follows the range, the capacity and the cost are as after `extend`.
     pub at_end : tail ≡ [] → (h : ℕ) × IsWithinCount h limit × IsAfterExtend rule R v h w
-    -- The number `h` stands for the lower bound in the size hint for the items that did not fit
-    -- into the range. If nothing was reserved, it is 0.
-    pub before_tail : 0 < length tail → (h : ℕ) × ((h ≡ 0) ⊎ IsWithinCount (k + h) limit)
-        × IsAfterSplice rule R v k h w
+    pub before_tail : 0 < length tail → IsAfterSplice rule R k (length tail) v w limit
+
+  -- `StopsBeforeTail rule R k t v w error` describes the list `w` that a call to `finish` left when
+  -- it failed with `error`. The list without the range is `v`, the range has `k` slots, and `t`
+  -- items follow it. The growth rule is `rule`, and the item type is `R`.
+  pub record StopsBeforeTail {S : Type 0} (rule : GrowthRule) (R : RattleType) (k t : ℕ)
+      (v w : ListView T A) (error : SpliceRefused T S A) : Type 0 where
+    -- The slots of the range are filled.
+    pub filled : length v.items + k ≤ length w.items
+    -- The capacity is the one after reserving the slots of all new items at once.
+    pub capacity : capacity_after_reserve rule R v (length w.items - length v.items)
+        ≡ Some w.capacity
+    -- The items after the range moved at most once, to make room for the new items beyond it.
+    pub cost : w.cost ≡ add_moves (length w.items - length v.items
+        + (if length w.items == length v.items + k then 0 else t))
+        (cost_after_growth (length v.items + k) v.capacity w.capacity v.cost)
+    -- If the error contains no item, only the slots of the range are filled, and the list did not
+    -- request memory.
+    pub at_hint : error.held.items ≡ [] → error.in_hand ≡ None
+        → (length w.items ≡ length v.items + k) × (w.capacity ≡ v.capacity)
+        × (w.cost ≡ add_moves k v.cost)
 
   -- `IsSpliceCause rule R w tail limit error` states why a call to `finish` failed with `error`.
   -- The growth rule is `rule`, the item type is `R`, the list after the call is `w`, and the items
@@ -80,17 +111,17 @@ module _ {T A : Type 0} where
     -- If the error contains no item, there was no room for `h` more items in the list, where `h`
     -- is a possible lower bound in the size hint (see `IsExtendCause`).
     pub by_hint : error.held.items ≡ [] → error.in_hand ≡ None
-        → (h : ℕ) × IsWithinCount h limit × LacksRoom rule R w h error.cause
+        → (h : ℕ) × IsWithinCount h limit × FailsForRoom rule R w h error.cause
     -- If the error contains only items in `held`, there was no room for these items in the list.
     pub by_held : 0 < length error.held.items → error.in_hand ≡ None
-        → LacksRoom rule R w (length error.held.items) error.cause
+        → FailsForRoom rule R w (length error.held.items) error.cause
     -- If items follow the range and there is an item `in_hand`, the vector `held` is full, and
     -- could not get memory for this item.
     pub by_in_hand : 0 < length tail → IsSome error.in_hand
         → (error.cause ≡ OutOfMemory) × (length error.held.items ≡ vec_capacity error.held)
     -- If no item follows the range and there is an item `in_hand`, there was no room for this item
     -- in the list.
-    pub by_push : tail ≡ [] → IsSome error.in_hand → LacksRoom rule R w 1 error.cause
+    pub by_push : tail ≡ [] → IsSome error.in_hand → FailsForRoom rule R w 1 error.cause
 
 module _ {I T A G H : Type 0} {g : Ghosts G} {h : IntoInnerGhosts H (OpenView T A)} where
   -- `left_by_splice s` is the list without the range: the items before and after it. The contract

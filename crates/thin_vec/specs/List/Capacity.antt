@@ -1,10 +1,7 @@
--- These definitions describe calls that reserve room for `k` more items of the type `R` in a list:
--- the new capacity, the errors and the cost. (std: `Vec::reserve`)
---
--- The list before the call is `v`, the list after the call is `w`, and the result is `r`. If the
--- list must grow, every growth rule chooses at least twice the old capacity (`IsLawful`).
-use Rattle.std.specs.Prelude.{◌≡◌, ◌↔◌, ◌⊎◌, ℕ, ◌^◌, ◌<◌, ◌≤◌, IsErrOf, OnErr, OnOk, Option, Result, length}
-use Rattle.std.specs.declared.option.Option.TheVariants.{None, Some}
+-- These definitions describe calls that need room in a list: their errors, their cost, and what
+-- they preserve. (std: `Vec::reserve`)
+use Rattle.std.specs.Prelude.{◌≡◌, ◌↔◌, ℕ, ◌≤◌, IsErrOf, Option, Result}
+use Rattle.std.specs.declared.option.Option.TheVariants.{None}
 use Rattle.std.specs.declared.result.Result.TheVariants.{Ok, Err}
 use Rattle.std.specs.Align.{type_align}
 use Rattle.std.specs.Borrow.{RattleType}
@@ -14,7 +11,7 @@ use Rattle.thin_block.specs.declared.errors.ThinVecError.TheVariants.{CapacityOv
 use Rattle.thin_block.specs.Cost.{Cost, add_moves}
 use Rattle.thin_block.specs.Growth.{GrowthRule, exact_capacity}
 use Rattle.thin_vec.specs.Cheap.{IsCheap}
-use Rattle.thin_vec.specs.ThinVec.{ListView, HasRoomFor, IsAllocatable, IsBounded, capacity_after_reserve, cost_after_resize}
+use Rattle.thin_vec.specs.ThinVec.{ListView, HasRoomFor, IsBounded, capacity_after_reserve, cost_after_resize}
 use Rattle.thin_vec.specs.declared.errors.Rejected.{Rejected}
 
 -- `map_cause r` is `r`, with the error, if there is one, replaced by its cause. In Rust, this is
@@ -51,59 +48,25 @@ module _ {T A : Type 0} where
   abbrev pub CostsMoves : ℕ → ListView T A → ListView T A → Type 0
   CostsMoves n v w = w.cost ≡ add_moves n (cost_after_resize v w.capacity)
 
-  -- `LacksRoom rule R w k cause` states why a call failed with the error `cause`: the list `w` has
-  -- no room for `k` more items of the type `R`. Here, `w` is the list at the time of the failure,
-  -- which does not change it. The cause is `CapacityOverflow` if and only if the growth rule `rule`
-  -- chooses no capacity for these items.
-  abbrev pub LacksRoom : GrowthRule → RattleType → ListView T A → ℕ → ThinVecError → Type 0
-  LacksRoom rule R w k cause =
+  -- `FailsForRoom rule R w k cause` states why a call failed with the error `cause`: the list `w`
+  -- has no room for `k` more items of the type `R`. Here, `w` is the list at the time of the
+  -- failure, which does not change it. The cause is `CapacityOverflow` if and only if the growth
+  -- rule `rule` chooses no capacity for these items.
+  abbrev pub FailsForRoom : GrowthRule → RattleType → ListView T A → ℕ → ThinVecError → Type 0
+  FailsForRoom rule R w k cause =
       ¬ (HasRoomFor w k)
       × ((cause ≡ CapacityOverflow) ↔ (capacity_after_reserve rule R w k ≡ None))
-
-  -- `Reserves rule R k v w r` describes a call that needs room for `k` more items of the type `R`,
-  -- under the growth rule `rule`. It relates the lists `v` and `w` before and after the call, and
-  -- the result `r`.
-  pub record Reserves (rule : GrowthRule) (R : RattleType) (k : ℕ) (v w : ListView T A)
-      {X : Type 0} (r : Result X ThinVecError) : Type 0 where
-    -- This follows from `ok` and `err`. It is here for the proofs of callers.
-    pub had_room : HasRoomFor v k → w.capacity ≡ v.capacity
-    pub ok : OnOk r (capacity_after_reserve rule R v k ≡ Some w.capacity)
-    -- A call that fails after it has reserved the room leaves the list with the new capacity.
-    pub err : OnErr r ((w ≡ v) ⊎ (capacity_after_reserve rule R v k ≡ Some w.capacity))
-    pub overflow : IsErrOf r CapacityOverflow ↔ (capacity_after_reserve rule R v k ≡ None)
 
   -- `PreservesList R v w` says what stays true in a call that changes the list `v` of items of the
   -- type `R` to `w`. The allocator did not change, the capacity did not shrink, and the bound
   -- `IsCheap` on the cost was preserved. Before and after the call, the length and the capacity are
-  -- within their bounds (`within`). In a contract that also has a clause with `Reserves`, the field
+  -- within their bounds (`within`). In a contract that also has a clause `capacity`, the field
   -- `never_less` follows from that clause.
   pub record PreservesList (R : RattleType) (v w : ListView T A) : Type 0 where
     pub alloc : w.alloc ≡ v.alloc
     pub never_less : v.capacity ≤ w.capacity
     pub cheap : IsCheap v → IsCheap w
     pub within : IsBounded R v × IsBounded R w
-
-  -- `Grows rule R k v w r` describes a call that needs room for `k` more items of the type `R`,
-  -- under the growth rule `rule`. The call changes the list from `v` to `w`, and its result is `r`.
-  -- What a failed call leaves and why it failed are clauses of their own in each contract (`err`,
-  -- and `cause` or `overflow`).
-  --
-  -- The fields of `Grows` are no records, because a proof by search reads each record that the
-  -- contract of an earlier call has. The lemma `grows-cheap` says that a cheap list stays cheap
-  -- (`IsCheap`). The lemmas `grows-bounded` and `grows-was_bounded` derive `IsBounded`.
-  pub record Grows (rule : GrowthRule) (R : RattleType) (k : ℕ) (v w : ListView T A)
-      {X E : Type 0} (r : Result X E) : Type 0 where
-    -- This follows from `ok`, and on failure from the clause `err` of the contract.
-    pub had_room : HasRoomFor v k → w.capacity ≡ v.capacity
-    pub ok : OnOk r (capacity_after_reserve rule R v k ≡ Some w.capacity)
-    pub alloc : w.alloc ≡ v.alloc
-    pub never_less : v.capacity ≤ w.capacity
-    -- This holds for every list. It is a fact about the list before the call, not a precondition.
-    pub was_room : length v.items ≤ v.capacity
-    -- The last three fields are those of `IsBounded R w`.
-    pub room : length w.items ≤ w.capacity
-    pub small : w.capacity < 2 ^ 63
-    pub allocatable : IsAllocatable (type_size R) (type_align R) w.capacity
 
   -- `IsFreshList R a w` holds if the new list `w` of items of the type `R` has the allocator `a`, a
   -- low recorded cost (`IsCheap`), and a capacity that can be allocated (`IsBounded`).

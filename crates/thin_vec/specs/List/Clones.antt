@@ -59,7 +59,7 @@ pub record IsResized {T : Type 0} (clones : T → T → Type 0) (xs : List T) (n
 -- `after` at the end of the call. `infallible x` states that cloning `x` cannot fail.
 pub record FailsAtClone {T : Type 0} (infallible : T → Type 0) (sources : List T)
     (before after : Cost) : Type 0 where
-  -- The index of an item whose cloning can fail. As many clones were made as there are items before
+  -- The index of the item whose clone failed. As many clones were made as there are items before
   -- it.
   pub at : ℕ
   pub in_bounds : at < length sources
@@ -75,7 +75,7 @@ pub record LeftByFailedClone {T A : Type 0} (wanted : Option ℕ) (infallible : 
     (sources : List T) (v w : ListView T A) : Type 0 where
   pub items : w.items ≡ v.items
   pub capacity : wanted ≡ Some w.capacity
-  -- The index of an item whose cloning can fail. As many clones were made as there are items before
+  -- The index of the item whose clone failed. As many clones were made as there are items before
   -- it.
   pub at : ℕ
   pub in_bounds : at < length sources

@@ -15,7 +15,7 @@ use Rattle.thin_block.specs.declared.errors.ThinVecError.TheVariants.{CapacityOv
 use Rattle.thin_block.specs.Cost.{Cost, add_moves, add_realloc}
 use Rattle.thin_block.specs.Growth.{GrowthRule, doubling, exact_capacity, grown_capacity}
 use Rattle.thin_vec.specs.Cheap.{IsCheap}
-use Rattle.thin_vec.specs.List.Capacity.{IsFreshList, LacksRoom}
+use Rattle.thin_vec.specs.List.Capacity.{IsFreshList, FailsForRoom}
 use Rattle.thin_vec.specs.ThinVec.{HasRoomFor, IsBounded, ListView, capacity_after_reserve, cost_after_resize, cost_of_new}
 use Rattle.thin_vec.specs.declared.errors.CollectRefused.{CollectRefused}
 use Rattle.thin_vec.specs.declared.errors.ExtendRefused.{ExtendRefused}
@@ -151,12 +151,12 @@ module _ {T A : Type 0} where
   pub record IsExtendCause {S : Type 0} (rule : GrowthRule) (R : RattleType) (w : ListView T A)
       (limit : Count) (error : ExtendRefused T S) : Type 0 where
     -- The list had no room for the item in `in_hand`.
-    pub by_push : IsSome error.in_hand → LacksRoom rule R w 1 error.cause
+    pub by_push : IsSome error.in_hand → FailsForRoom rule R w 1 error.cause
     -- The list had no room for `h` more items, where `h` is a possible lower bound in the size
     -- hint, so at most `limit`. The contract cannot say which number `h` it was: std's contract of
     -- `size_hint` bounds the result, but gives it no name.
     pub by_hint : error.in_hand ≡ None
-        → (h : ℕ) × IsWithinCount h limit × LacksRoom rule R w h error.cause
+        → (h : ℕ) × IsWithinCount h limit × FailsForRoom rule R w h error.cause
 
   -- `IsCollectCause rule R limit error` states why a call to `from_iter` failed with `error`. The
   -- growth rule is `rule`, and the item type is `R`. The rest of the iterator may yield at most
@@ -164,7 +164,7 @@ module _ {T A : Type 0} where
   pub record IsCollectCause {S : Type 0} (rule : GrowthRule) (R : RattleType) (limit : Count)
       (error : CollectRefused T S A) : Type 0 where
     -- The list had no room for the item in `in_hand`.
-    pub by_push : IsSome error.in_hand → LacksRoom rule R error.list 1 error.cause
+    pub by_push : IsSome error.in_hand → FailsForRoom rule R error.list 1 error.cause
     -- The call could not allocate a block of capacity `h`, a possible lower bound in the size hint.
     pub by_hint : error.in_hand ≡ None
         → (h : ℕ) × IsWithinCount h limit × (0 < h)

@@ -1,13 +1,12 @@
 -- These definitions describe calls that add one item to a list and return a `&mut` to it, such as
 -- `Vec::push_mut`. They say what the list contains after the borrow.
-use Rattle.std.specs.Prelude.{◌≡◌, ◌≤◌, ℕ, List, Result, Some}
+use Rattle.std.specs.Prelude.{◌≡◌, ℕ, List, Result, Some}
 use Rattle.std.specs.declared.alloc.Allocator.{Ghosts as AllocatorGhosts}
 use Rattle.std.specs.Borrow.{Fml, LendsSoOk, MutBor, RattleType}
-use Rattle.thin_block.specs.Cost.{add_moves}
 use Rattle.thin_block.specs.Growth.{GrowthRule}
 use Rattle.thin_block.specs.declared.growth.Growth.{Ghosts as GrowthGhosts}
-use Rattle.thin_vec.specs.Cheap.{IsCheap}
-use Rattle.thin_vec.specs.ThinVec.{HasRoomFor, ListView, IsBounded, capacity_after_reserve, cost_after_resize}
+use Rattle.thin_vec.specs.List.Capacity.{CostsMoves, PreservesList}
+use Rattle.thin_vec.specs.ThinVec.{HasRoomFor, ListView, capacity_after_reserve}
 use Rattle.thin_vec.specs.contracts.list.ThinVec.{the_row}
 
 -- `InsertsOne rule R v xs k w` holds if a call added one item of the type `R` to the list `v`, and
@@ -18,13 +17,10 @@ pub record InsertsOne {T A : Type 0} (rule : GrowthRule) (R : RattleType) (v : L
     (k : ℕ) (w : ListView T A) : Type 0 where
   pub items : w.items ≡ xs
   pub capacity : capacity_after_reserve rule R v 1 ≡ Some w.capacity
-  -- This field and the next one follow from `capacity`. They are here for the proofs of callers.
+  pub cost : CostsMoves k v w
+  -- This follows from `capacity`. It is here for the proofs of callers.
   pub had_room : HasRoomFor v 1 → w.capacity ≡ v.capacity
-  pub never_less : v.capacity ≤ w.capacity
-  pub alloc : w.alloc ≡ v.alloc
-  pub cost : w.cost ≡ add_moves k (cost_after_resize v w.capacity)
-  pub cheap : IsCheap v → IsCheap w
-  pub within : IsBounded R w
+  pub preserved : PreservesList R v w
 
 module _ (T A G : RattleType) (a : AllocatorGhosts A.Denot) (g : GrowthGhosts G.Denot)
     (v : MutBor (ListView T.Denot A.Denot)) where

@@ -1,6 +1,6 @@
 -- These definitions describe how duplicates are removed from an open block, as in std's
 -- `Vec::dedup_by`. A test decides for each item whether the item duplicates the last kept item.
-use Rattle.std.specs.Prelude.{◌≡◌, ◌⊎◌, ℕ, suc, ◌<◌, List, [], ◌∷◌, ◌++◌, Bool, true, false, length, replicate}
+use Rattle.std.specs.Prelude.{◌≡◌, ◌⊎◌, ℕ, suc, ◌<◌, List, [], ◌∷◌, ◌++◌, Bool, true, false, length, map, not, replicate}
 use Rattle.thin_block.specs.Cost.{add_moves}
 use Rattle.thin_vec.specs.Edits.Retain.{moves_of_retain, count_true}
 use Rattle.thin_vec.specs.Edits.Dedup.{TestsEachAgainstLast, TestsAllAgainstLast}
@@ -57,16 +57,16 @@ module _ {S T : Type 0} (R : S → T → T → Bool → S → T → T → Type 0
     pub done : List T
     pub after : List T
     pub more : ℕ
-    pub stays : List Bool
+    pub removed : List Bool
     pub left : List T
     pub over : List T
     pub was : xs ≡ first ∷ (done ++ after)
-    pub asked : TestsEachAgainstLast R s first done stays left t
+    pub asked : TestsEachAgainstLast R s first done removed left t
     pub kept : suc more ≡ m
     pub long : length left ≡ m
     pub now : ys ≡ left ++ (over ++ after)
-    pub stops : ((length over ≡ 1) × (stays ≡ replicate more true ++ false ∷ []))
-        ⊎ ((over ≡ []) × ((after ≡ []) × (stays ≡ replicate more true)))
+    pub stops : ((length over ≡ 1) × (removed ≡ replicate more false ++ true ∷ []))
+        ⊎ ((over ≡ []) × ((after ≡ []) × (removed ≡ replicate more false)))
 
   -- `DedupsSome s v t w` holds if testing some or all middle items of the open block `v` for
   -- duplicates turned `v` into `w`. The kept items were appended to the front items, and the other
@@ -76,28 +76,28 @@ module _ {S T : Type 0} (R : S → T → T → Bool → S → T → T → Type 0
     pub before : List T
     pub first : T
     pub done : List T
-    pub stays : List Bool
+    pub removed : List Bool
     pub kept : List T
     pub was : v.front ≡ before ++ first ∷ []
     pub middle : v.middle ≡ done ++ w.middle
-    pub asked : TestsEachAgainstLast R s first done stays kept t
+    pub asked : TestsEachAgainstLast R s first done removed kept t
     pub gap_before : 0 < w.gap_before
     pub now : w ≡ record v {
       front = before ++ kept;
       gap_before = w.gap_before;
       middle = w.middle;
-      cost = add_moves (count_true stays) v.cost;
+      cost = add_moves (count_true (map not removed)) v.cost;
     }
 
   -- `DedupsMiddle s v t w` holds if removing all duplicates among the middle items of an open block
   -- turned the block `v` into `w`. The kept items form the front of `w`.
   pub record DedupsMiddle {A : Type 0} (s : S) (v : OpenView T A) (t : S)
       (w : OpenView T A) : Type 0 where
-    pub stays : List Bool
-    pub asked : TestsAllAgainstLast R s v.middle stays w.front t
+    pub removed : List Bool
+    pub asked : TestsAllAgainstLast R s v.middle removed w.front t
     pub now : w ≡ record v {
       front = w.front;
       gap_before = w.gap_before;
       middle = [];
-      cost = add_moves (moves_of_retain stays) v.cost;
+      cost = add_moves (moves_of_retain (map not removed)) v.cost;
     }

@@ -2,13 +2,22 @@
 -- `Vec::retain_mut`.
 use Rattle.std.specs.Prelude.{◌≡◌, ℕ, ◌<◌, ◌==◌, List, [], ◌∷◌, ◌++◌, Bool, true, false, drop, if◌then◌else◌, length, take}
 use Rattle.thin_block.specs.Cost.{add_moves}
-use Rattle.thin_vec.specs.Edits.Retain.{TestResults, TestsInTurn, flags_of, items_where, moves_of_retain, all_kept, count_true}
+use Rattle.thin_vec.specs.Edits.Retain.{TestResults, flags_of, items_where, moves_of_retain, all_kept, count_true}
 use Rattle.thin_vec.specs.OpenView.{OpenView}
 
 -- `R s x b t y` describes one call to a test with the item `x`. The call returns `b` (`true`: keep
 -- the item), changes the state of the test from `s` to `t`, and changes the item from `x` to `y`.
 -- In the definitions below, the tests also change the list from `xs` to `ys`.
 module _ {S T : Type 0} (R : S → T → Bool → S → T → Type 0) where
+  -- `TestsInTurn s xs results t` holds if testing each item of `xs` once, in order, gave `results`,
+  -- and changed the state of the test from `s` to `t`.
+  abbrev pub TestsInTurn : S → List T → TestResults T → S → Type 0
+  TestsInTurn s [] results t = (results ≡ []) × (t ≡ s)
+  TestsInTurn s (x ∷ xs) results t =
+      (b : Bool) × (y : T) × (u : S) × (later : TestResults T) × R s x b u y
+      × TestsInTurn u xs later t
+      × (results ≡ (b, y) ∷ later)
+
   -- `TestsAt k s xs b t ys` states that the item at index `k` of the list `xs` was tested.
   pub record TestsAt (k : ℕ) (s : S) (xs : List T) (b : Bool) (t : S) (ys : List T) : Type 0 where
     pub before : List T
@@ -37,7 +46,7 @@ module _ {S T : Type 0} (R : S → T → Bool → S → T → Type 0) where
     pub between : S
     pub reached : length left ≡ m
     pub was : xs ≡ run ++ after
-    pub asked : TestsInTurn R s run (all_kept left) between
+    pub asked : TestsInTurn s run (all_kept left) between
     pub stops : IsRemovedFirst between after t end
     pub now : ys ≡ left ++ end
 
@@ -62,7 +71,7 @@ module _ {S T : Type 0} (R : S → T → Bool → S → T → Type 0) where
     pub done : List T
     pub results : TestResults T
     pub middle : v.middle ≡ done ++ w.middle
-    pub asked : TestsInTurn R s done results t
+    pub asked : TestsInTurn s done results t
     pub gap_before : 0 < w.gap_before
     pub now : w ≡ record v {
       front = v.front ++ items_where true results;
@@ -76,7 +85,7 @@ module _ {S T : Type 0} (R : S → T → Bool → S → T → Type 0) where
   pub record RetainsMiddle {A : Type 0} (s : S) (v : OpenView T A) (t : S)
       (w : OpenView T A) : Type 0 where
     pub results : TestResults T
-    pub asked : TestsInTurn R s v.middle results t
+    pub asked : TestsInTurn s v.middle results t
     pub now : w ≡ record v {
       front = v.front ++ items_where true results;
       gap_before = w.gap_before;

@@ -31,7 +31,7 @@ impl<T, A: Allocator> ThinVec<T, A> {
         ensures items { IfOk result (λ list. list.items ≡ items) }
         ensures capacity { IfOk result (λ list. list.capacity ≡ N) }
         ensures cost { IfOk result (λ list. list.cost ≡ add_moves N (cost_of_new N)) }
-        ensures new { IfOk result (IsFreshList T.row alloc) }
+        ensures fresh { IfOk result (IsFreshList T.row alloc) }
 
         // When it must succeed.
         ensures succeeds { N ≡ 0 → IsOk result }
@@ -69,7 +69,7 @@ impl<T, A: Allocator> ThinVec<T, A> {
         ensures cost { IfOk result
             (λ list. list.cost ≡ add_moves (length items.items)
             (cost_of_new (length items.items))) }
-        ensures new { IfOk result (IsFreshList T.row alloc) }
+        ensures fresh { IfOk result (IsFreshList T.row alloc) }
 
         // When it must succeed.
         ensures succeeds_empty { length items.items ≡ 0 → IsOk result }
@@ -106,7 +106,7 @@ impl<T, A: Allocator> ThinVec<T, A> {
         ensures cost { IfOk result
             (λ list. list.cost ≡ add_moves (length (boxed_slice_items items))
             (cost_of_new (length (boxed_slice_items items)))) }
-        ensures new { IfOk result (IsFreshList T.row alloc) }
+        ensures fresh { IfOk result (IsFreshList T.row alloc) }
 
         // When it must succeed.
         ensures succeeds_empty { length (boxed_slice_items items) ≡ 0 → IsOk result }
@@ -158,7 +158,7 @@ impl<T: Copy, A: Allocator> ThinVec<T, A> {
         ensures capacity { IfOk result (λ list. list.capacity ≡ length items.now) }
         ensures cost { IfOk result
             (λ list. list.cost ≡ add_moves (length items.now) (cost_of_new (length items.now))) }
-        ensures new { IfOk result (IsFreshList T.row alloc) }
+        ensures fresh { IfOk result (IsFreshList T.row alloc) }
 
         // When it must succeed.
         ensures succeeds_empty { length items.now ≡ 0 → IsOk result }
@@ -190,7 +190,7 @@ impl<A: Allocator> ThinVec<u8, A> {
         ensures capacity { IfOk result (λ list. list.capacity ≡ length text.now) }
         ensures cost { IfOk result
             (λ list. list.cost ≡ add_moves (length text.now) (cost_of_new (length text.now))) }
-        ensures new { IfOk result (IsFreshList u8 alloc) }
+        ensures fresh { IfOk result (IsFreshList u8 alloc) }
 
         // When it must succeed.
         ensures succeeds_empty { length text.now ≡ 0 → IsOk result }
@@ -218,7 +218,7 @@ impl<T: Clone, A: Allocator> ThinVec<T, A> {
         ensures capacity { IfOk result (λ list. list.capacity ≡ length items.now) }
         ensures cost { IfOk result
             (λ list. list.cost ≡ add_moves (length items.now) (cost_of_new (length items.now))) }
-        ensures new { IfOk result (IsFreshList T.row alloc) }
+        ensures fresh { IfOk result (IsFreshList T.row alloc) }
 
         // When it must succeed.
         ensures succeeds_empty { length items.now ≡ 0 → IsOk result }

@@ -1,5 +1,5 @@
 //! The methods `dedup`, `dedup_by` and `dedup_by_key`, which remove duplicates.
-ghost use Rattle.std.specs.Prelude.{◌≡◌, ◌+◌, ◌<◌, ◌≤◌, length};
+ghost use Rattle.std.specs.Prelude.{◌≡◌, ◌+◌, ◌<◌, ◌≤◌, length, map, not};
 ghost use Rattle.std.specs.Fn.{CalledAtPairMut, ComparesKeys};
 ghost use Rattle.std.specs.List.{dedup};
 ghost use Rattle.std.specs.List.Retain.{IsDeduped};
@@ -12,7 +12,7 @@ use std::alloc::Allocator;
 use thin_block::Growth;
 
 impl<T: Drop, A: Allocator, G: Growth> ThinVec<T, A, G> {
-    ghost use Rattle.thin_vec.specs.Edits.Dedup.{IsDedupedBy, IsDedupedTo};
+    ghost use Rattle.thin_vec.specs.Edits.Dedup.{IsDedupedBy};
     ghost use Rattle.thin_vec.specs.ThinVec.{IsBounded};
 
     /// Removes and drops each item for which `same` returns true. Calls `same` once for each item
@@ -20,12 +20,14 @@ impl<T: Drop, A: Allocator, G: Growth> ThinVec<T, A, G> {
     /// kept before it.
     pub fn dedup_by<F: FnMut(&mut T, &mut T) -> bool>(&mut self, same: F)
         requires callable { F.IsAlwaysCallable same }
-        ensures deduped { IsDedupedBy (CalledAtPairMut F.FnMut) same self.old self.new }
 
-        // These follow from `deduped`.
+        // Which items are kept, and what the closure wrote to them.
         ensures filtered { IsDeduped (CalledAtPairMut F.FnMut) same self.old.items self.new.items }
-        ensures moves { MovesAtMost (length self.new.items) self.old.cost self.new.cost }
         ensures bound { length self.new.items ≤ length self.old.items }
+
+        // The same, and how many items are moved. The clauses above and `moves` follow from it.
+        ensures deduped { IsDedupedBy (CalledAtPairMut F.FnMut) same self.old self.new }
+        ensures moves { MovesAtMost (length self.new.items) self.old.cost self.new.cost }
 
         // What does not change.
         ensures capacity { self.new.capacity ≡ self.old.capacity }
@@ -39,7 +41,7 @@ impl<T: Drop, A: Allocator, G: Growth> ThinVec<T, A, G> {
     // Removes and drops the items that fail the test.
     fn dedup_with<J: PairTest<T>>(&mut self, test: &mut J)
         requires callable { J.ready test.old }
-        ensures deduped { IsDedupedTo J.tests test.old self.old self.new test.new }
+        ensures deduped { IsDedupedBy J.tests test.old self.old self.new }
         ensures changes { self.new ≡ record self.old {
           items = self.new.items;
           cost = self.new.cost;
@@ -60,12 +62,14 @@ impl<T: Drop, A: Allocator, G: Growth> ThinVec<T, A, G> {
     /// item kept.
     pub fn dedup_by_key<K: PartialEq + Drop, F: FnMut(&mut T) -> K>(&mut self, key: F)
         requires callable { F.IsAlwaysCallable key }
-        ensures deduped { IsDedupedBy (ComparesKeys F.FnMut K.eq) key self.old self.new }
 
-        // These follow from `deduped`.
+        // Which items are kept, and what the closure wrote to them.
         ensures filtered { IsDeduped (ComparesKeys F.FnMut K.eq) key self.old.items self.new.items }
-        ensures moves { MovesAtMost (length self.new.items) self.old.cost self.new.cost }
         ensures bound { length self.new.items ≤ length self.old.items }
+
+        // The same, and how many items are moved. The clauses above and `moves` follow from it.
+        ensures deduped { IsDedupedBy (ComparesKeys F.FnMut K.eq) key self.old self.new }
+        ensures moves { MovesAtMost (length self.new.items) self.old.cost self.new.cost }
 
         // What does not change.
         ensures capacity { self.new.capacity ≡ self.old.capacity }
@@ -86,8 +90,8 @@ impl<T: PartialEq + Drop, A: Allocator, G: Growth> ThinVec<T, A, G> {
     /// sorted, one item of each value remains.
     pub fn dedup(&mut self)
         ensures items { self.new.items ≡ dedup T.eq self.old.items }
-        ensures cost { self.new.cost ≡ add_moves (moves_of_retain (dedup_flags T.eq self.old.items))
-            self.old.cost }
+        ensures cost { self.new.cost
+            ≡ add_moves (moves_of_retain (map not (dedup_flags T.eq self.old.items))) self.old.cost }
         ensures moves { MovesAtMost (length self.new.items) self.old.cost self.new.cost }
         ensures bound { length self.new.items ≤ length self.old.items }
 

@@ -70,7 +70,7 @@ impl<T: Drop, A: Allocator, G: Growth> ThinVec<T, A, G> {
         ensures meanwhile { drain_list result
             ≡ record self.old { items = []; capacity = 0; cost = no_cost } }
 
-        // The list after the `Drain` is dropped.
+        // `Drain::drop` leaves exactly this list, whatever was yielded.
         ensures left { left_by_drain result ≡ record self.old {
           items = remove_range self.old.items start end;
           cost = if start == end then self.old.cost else add_moves
@@ -79,7 +79,7 @@ impl<T: Drop, A: Allocator, G: Growth> ThinVec<T, A, G> {
 
         // Which list is borrowed, and what calls to `next` leave unchanged.
         ensures same_reference { drain_lender result ≡ self.entry.ghost_name }
-        ensures stays { DrainKeepsAlong result }
+        ensures next_keeps { DrainKeepsAlong result }
     {
         let block = self.open(start, end);
         Drain {

@@ -97,7 +97,7 @@ impl<T, F: FnMut(&mut T) -> bool, A: Allocator> ExtractState<T, F, A> {
 }
 
 impl<T: Drop, A: Allocator, G: Growth> ThinVec<T, A, G> {
-    ghost use Rattle.thin_vec.specs.Edits.ExtractIf.{ExtractKeepsAlong, extract_block, extract_callee, extract_lender, extract_list, extract_rest, left_by_extract_if};
+    ghost use Rattle.thin_vec.specs.Edits.ExtractIf.{ExtractKeepsAlong, ExtractsToEnd, extract_block, extract_callee, extract_lender, extract_list, extract_rest, left_by_extract_if};
 
     /// Returns an iterator that removes the items in the range `start..end` for which `pick`
     /// returns true, and yields them in order.
@@ -128,14 +128,15 @@ impl<T: Drop, A: Allocator, G: Growth> ThinVec<T, A, G> {
         ensures meanwhile { extract_list result
             ≡ record self.old { items = []; capacity = 0; cost = no_cost } }
 
-        // If the `ExtractIf` is dropped now, the list is unchanged.
+        // What `ExtractIf::drop` leaves. If it is dropped now, the list is unchanged.
         ensures left { left_by_extract_if result ≡ self.old }
 
         // Which list is borrowed.
         ensures same_reference { extract_lender result ≡ self.entry.ghost_name }
 
-        // What calls to `next` leave unchanged, however many there are.
-        ensures stays { ExtractKeepsAlong (CalledAtMut F.FnMut) result }
+        // What calls to `next` leave: as long as they yield items, and once one returns `None`.
+        ensures next_keeps { ExtractKeepsAlong (CalledAtMut F.FnMut) result }
+        ensures walk { ExtractsToEnd (CalledAtMut F.FnMut) result }
     {
         let block = self.open(start, end);
         let picks = ExtractBy { pick };

@@ -1,10 +1,10 @@
 //! The functions that `Splice::finish` calls to put the items of an iterator in place of a removed
 //! range. If items follow the range, the steps are `fill`, `insert_hinted` and `insert_held`.
-ghost use Rattle.std.specs.Prelude.{◌≡◌, ◌+◌, ◌-◌, ◌*◌, ◌<◌, ◌≤◌, [], ◌++◌, ◌∷◌, IfErr, IfOk, IsOk, IsSome, List, MatchOption, None, OnErr, OnOk, Some, drop, false, length, take, vec_capacity, ℕ};
+ghost use Rattle.std.specs.Prelude.{◌≡◌, ◌+◌, ◌-◌, ◌==◌, ◌<◌, ◌≤◌, [], ◌++◌, ◌∷◌, IfErr, IfOk, IsOk, IsSome, List, MatchOption, None, OnErr, OnOk, Some, drop, if◌then◌else◌, length, take, vec_capacity, ℕ};
 ghost use Rattle.std.specs.Iterator.{Drains, IsFinite, Yields, YieldsThen, size};
 ghost use Rattle.std.specs.Iterator.SizeHint.{IsWithinCount};
 ghost use Rattle.std.specs.Option.{option_len, option_to_list};
-ghost use Rattle.thin_vec.specs.List.Capacity.{LacksRoom};
+ghost use Rattle.thin_vec.specs.List.Capacity.{FailsForRoom};
 ghost use Rattle.std.specs.Align.{type_align};
 ghost use Rattle.std.specs.Mem.{type_size};
 ghost use Rattle.thin_block.specs.Cost.{add_moves};
@@ -43,9 +43,11 @@ impl<T: Drop, A: Allocator, G: Growth> ThinVec<T, A, G> {
             × (capacity_after_reserve G.rule T.row self.old hint ≡ Some self.new.capacity)
             × (by : IsFilledBy I.next_gives I.can_next I.remaining hint iter filled)
             × (self.new.items ≡ (take at self.old.items ++ by.items) ++ drop at self.old.items)
-            × (filled.end ≡ at + length by.items)) }
-        ensures paid { OnOk result ((m : ℕ) × (self.new.cost
-            ≡ add_moves m (cost_after_resize self.old self.new.capacity))) }
+            × (filled.end ≡ at + length by.items)
+            × (self.new.cost ≡ add_moves (length by.items
+            + (if hint == 0 then 0 else length self.old.items - at)
+            + (if length by.items == hint then 0 else length self.old.items - at))
+            (cost_after_resize self.old self.new.capacity))) }
 
         // When it must succeed.
         ensures succeeds { size (I.remaining iter) ≡ 0 → IsOk result }
@@ -55,16 +57,10 @@ impl<T: Drop, A: Allocator, G: Growth> ThinVec<T, A, G> {
             × (rejected.value ≡ iter)) }
         ensures cause { IfErr result
             (λ rejected. (h : ℕ) × IsWithinCount h (I.remaining iter)
-            × LacksRoom G.rule T.row self.new h rejected.cause) }
+            × FailsForRoom G.rule T.row self.new h rejected.cause) }
 
-        // In every case. Each item from index `at` onward moves up at most once, and down again if
-        // the gap is not filled.
-        ensures added { AddsFromIter G.rule T.row self.old self.new
-            (2 * (length self.old.items - at)) (I.remaining iter) }
-        ensures added_full { IfOk result (λ filled. filled.ended ≡ false
-            → AddsFromIter G.rule T.row self.old self.new (length self.old.items - at)
-            (I.remaining iter)) }
-        ensures blocks { self.new.cost.blocks ≤ self.old.cost.blocks + 1 }
+        // In every case.
+        ensures added { AddsFromIter self.old self.new (I.remaining iter) }
         ensures room { OnOk result (length self.new.items ≤ self.new.capacity) }
     {
         let hint = iter.size_hint().0;
@@ -100,6 +96,8 @@ impl<T: Drop, A: Allocator, G: Growth> ThinVec<T, A, G> {
 
         // On failure.
         ensures err { OnErr result (self.new ≡ self.old) }
+        ensures err_some { IfErr result
+            (λ error. error.in_hand ≡ None → 0 < length error.held.items) }
         ensures placed { IfErr result
             (λ error. SpliceErrorAccountsFor I.next_gives I.can_next I.remaining iter [] error) }
         ensures cause { IfErr result (λ error. (tail : List T) → 0 < length tail
@@ -108,11 +106,12 @@ impl<T: Drop, A: Allocator, G: Growth> ThinVec<T, A, G> {
         // In every case.
         ensures capacity { grown_capacity G.rule (type_size T.row) (type_align T.row)
             self.old.capacity (length self.new.items) ≡ Some self.new.capacity }
-        ensures paid { (m : ℕ) × (self.new.cost
-            ≡ add_moves m (cost_after_resize self.old self.new.capacity)) }
-        ensures added { AddsFromIter G.rule T.row self.old self.new (length self.old.items - at)
-            (I.remaining iter) }
-        ensures blocks { self.new.cost.blocks ≤ self.old.cost.blocks + 1 }
+        ensures longer { length self.old.items ≤ length self.new.items }
+        ensures paid { self.new.cost ≡ add_moves (length self.new.items - length self.old.items
+            + (if length self.new.items == length self.old.items then 0
+            else length self.old.items - at))
+            (cost_after_resize self.old self.new.capacity) }
+        ensures added { AddsFromIter self.old self.new (I.remaining iter) }
     {
         let mut rest = iter;
         let Some(first) = rest.next() else {

@@ -1,8 +1,8 @@
 //! The methods `replace_range_from_copies` and `replace_range_from_list`.
-ghost use Rattle.std.specs.Prelude.{◌≡◌, ◌+◌, ◌-◌, ◌<◌, ◌≤◌, ◌++◌, [], IsOk, OnErr, OnOk, drop, length, take};
+ghost use Rattle.std.specs.Prelude.{◌≡◌, ◌+◌, ◌-◌, ◌<◌, ◌≤◌, ◌++◌, [], IsOk, OnErr, OnOk, Some, drop, length, take};
 ghost use Rattle.thin_vec.specs.Edits.ReplaceRange.{moves_replacing};
-ghost use Rattle.thin_vec.specs.ThinVec.{HasRoomFor, IsBounded};
-ghost use Rattle.thin_vec.specs.List.Capacity.{CostsMoves, PreservesList, Reserves};
+ghost use Rattle.thin_vec.specs.ThinVec.{HasRoomFor, IsBounded, capacity_after_reserve};
+ghost use Rattle.thin_vec.specs.List.Capacity.{CostsMoves, OverflowsIff, PreservesList};
 
 use crate::list::ThinVec;
 use std::alloc::Allocator;
@@ -27,6 +27,8 @@ impl<T: Copy, A: Allocator, G: Growth> ThinVec<T, A, G> {
         // On success.
         ensures items { OnOk result (self.new.items
             ≡ (take start self.old.items ++ items.now) ++ drop end self.old.items) }
+        ensures capacity { OnOk result (capacity_after_reserve G.rule T.row self.old
+            (length items.now - (end - start)) ≡ Some self.new.capacity) }
         ensures cost { OnOk result (CostsMoves
             (moves_replacing self.old start end (length items.now)) self.old self.new) }
 
@@ -36,14 +38,16 @@ impl<T: Copy, A: Allocator, G: Growth> ThinVec<T, A, G> {
 
         // On failure.
         ensures err { OnErr result (self.new ≡ self.old) }
+        ensures overflow { OverflowsIff (capacity_after_reserve G.rule T.row self.old
+            (length items.now - (end - start))) result }
 
         // In every case.
-        ensures capacity { Reserves G.rule T.row (length items.now - (end - start)) self.old
-            self.new result }
+        ensures had_room { HasRoomFor self.old (length items.now - (end - start))
+            → self.new.capacity ≡ self.old.capacity }
         ensures preserved { PreservesList T.row self.old self.new }
     {
         let more = items.len().saturating_sub(end - start);
-        // With `?`, the proof of `capacity` would not see the cause behind `From`.
+        // With `?`, the proof of `overflow` would not see the cause behind `From`.
         match self.reserve(more) {
             Ok(()) => (),
             Err(cause) => return Err(cause),
@@ -74,6 +78,8 @@ impl<T: Drop, A: Allocator, G: Growth> ThinVec<T, A, G> {
         // On success.
         ensures items { OnOk result (self.new.items
             ≡ (take start self.old.items ++ other.old.items) ++ drop end self.old.items) }
+        ensures capacity { OnOk result (capacity_after_reserve G.rule T.row self.old
+            (length other.old.items - (end - start)) ≡ Some self.new.capacity) }
         ensures cost { OnOk result (CostsMoves
             (moves_replacing self.old start end (length other.old.items)) self.old self.new) }
         ensures other_changes { OnOk result (other.new ≡ record other.old { items = [] }) }
@@ -86,10 +92,12 @@ impl<T: Drop, A: Allocator, G: Growth> ThinVec<T, A, G> {
         // On failure.
         ensures err { OnErr result (self.new ≡ self.old) }
         ensures other_err { OnErr result (other.new ≡ other.old) }
+        ensures overflow { OverflowsIff (capacity_after_reserve G.rule T.row self.old
+            (length other.old.items - (end - start))) result }
 
         // In every case.
-        ensures capacity { Reserves G.rule T.row (length other.old.items - (end - start)) self.old
-            self.new result }
+        ensures had_room { HasRoomFor self.old (length other.old.items - (end - start))
+            → self.new.capacity ≡ self.old.capacity }
         ensures preserved { PreservesList T.row self.old self.new }
         ensures other_bounds { IsBounded T.row other.old × IsBounded T.row other.new }
     {

@@ -10,19 +10,22 @@ use std::alloc::Allocator;
 use thin_block::Growth;
 
 impl<T: Drop, A: Allocator, G: Growth> ThinVec<T, A, G> {
-    ghost use Rattle.thin_vec.specs.Edits.Retain.{IsRetained, IsRetainedTo, ReadsOnly};
+    ghost use Rattle.thin_vec.specs.Edits.Retain.{IsRetained, IsRetainedMut};
     ghost use Rattle.thin_vec.specs.ThinVec.{IsBounded};
 
     /// Keeps the items for which `keep` returns true, and drops the other items. Calls `keep` once
-    /// for each item, in order.
+    /// for each item, in order. (The contract says that there is such a series of calls. It does
+    /// not say that no call follows them.)
     pub fn retain<F: FnMut(&T) -> bool>(&mut self, keep: F)
         requires callable { F.IsAlwaysCallable keep }
-        ensures retained { IsRetained (ReadsOnly (CalledAt F.FnMut)) keep self.old self.new }
 
-        // These follow from `retained`.
+        // Which items are kept.
         ensures filtered { IsFiltered (CalledAt F.FnMut) keep self.old.items self.new.items }
-        ensures moves { MovesAtMost (length self.new.items) self.old.cost self.new.cost }
         ensures bound { length self.new.items ≤ length self.old.items }
+
+        // The same, and how many items are moved. The clauses above and `moves` follow from it.
+        ensures retained { IsRetained (CalledAt F.FnMut) keep self.old self.new }
+        ensures moves { MovesAtMost (length self.new.items) self.old.cost self.new.cost }
 
         // What does not change.
         ensures capacity { self.new.capacity ≡ self.old.capacity }
@@ -36,12 +39,14 @@ impl<T: Drop, A: Allocator, G: Growth> ThinVec<T, A, G> {
     /// Does the same as `retain`, with a closure that may change the items.
     pub fn retain_mut<F: FnMut(&mut T) -> bool>(&mut self, keep: F)
         requires callable { F.IsAlwaysCallable keep }
-        ensures retained { IsRetained (CalledAtMut F.FnMut) keep self.old self.new }
 
-        // These follow from `retained`.
+        // Which items are kept, and what the closure wrote to them.
         ensures filtered { RetainsInTurn (CalledAtMut F.FnMut) keep self.old.items self.new.items }
-        ensures moves { MovesAtMost (length self.new.items) self.old.cost self.new.cost }
         ensures bound { length self.new.items ≤ length self.old.items }
+
+        // The same, and how many items are moved. The clauses above and `moves` follow from it.
+        ensures retained { IsRetainedMut (CalledAtMut F.FnMut) keep self.old self.new }
+        ensures moves { MovesAtMost (length self.new.items) self.old.cost self.new.cost }
 
         // What does not change.
         ensures capacity { self.new.capacity ≡ self.old.capacity }
@@ -55,7 +60,7 @@ impl<T: Drop, A: Allocator, G: Growth> ThinVec<T, A, G> {
     // Removes and drops the items that fail the test.
     fn retain_with<J: Test<T>>(&mut self, test: &mut J)
         requires callable { J.ready test.old }
-        ensures retained { IsRetainedTo J.tests test.old self.old self.new test.new }
+        ensures retained { IsRetainedMut J.tests test.old self.old self.new }
         ensures changes { self.new ≡ record self.old {
           items = self.new.items;
           cost = self.new.cost;
@@ -79,9 +84,8 @@ struct KeepByMut<F> {
 
 impl<T, F: FnMut(&T) -> bool> Test<T> for KeepByRef<F> {
     ghost use Rattle.std.specs.Fn.{CalledAt};
-    ghost use Rattle.thin_vec.specs.Edits.Retain.{ReadsOnly};
 
-    ghost tests = { λ s x b t y. ReadsOnly (CalledAt F.FnMut) s.keep x b t.keep y };
+    ghost tests = { λ s x b t y. CalledAt F.FnMut s.keep x b t.keep × (y ≡ x) };
 
     ghost ready = { λ s. F.IsAlwaysCallable s.keep };
 

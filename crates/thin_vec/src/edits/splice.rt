@@ -124,7 +124,7 @@ impl<
     G: Growth,
     H: IntoInner<Inner = OpenBlock<T, A>>,
 > Splice<'a, I, T, A, G, H> {
-    ghost use Rattle.thin_vec.specs.Edits.Splice.{HasSlotsFor, IsSpliceCause, SpliceErrorAccountsFor, SplicesCapacity, left_by_splice, splice_front, splice_iter, splice_range_len, splice_tail};
+    ghost use Rattle.thin_vec.specs.Edits.Splice.{HasSlotsFor, IsSpliceCause, SpliceErrorAccountsFor, SplicesCapacity, StopsBeforeTail, left_by_splice, splice_front, splice_iter, splice_range_len, splice_tail};
 
     /// Drops the items of the range that were not yielded, and puts the items of the iterator in
     /// their place, up to its first `None`.
@@ -136,8 +136,9 @@ impl<
     ///
     /// # Errors
     ///
-    /// Fails if the list or the vector cannot grow. The possible causes are those of `reserve`. If
-    /// the range has a slot for each item that the iterator may yield, `finish` cannot fail.
+    /// Fails if the list or the vector cannot grow. The possible causes are those of `reserve`.
+    /// `finish` cannot fail if the range has a slot for each item that the iterator may yield, or
+    /// if no item follows the range and the list has room for all of them.
     ///
     /// On failure, the items of the range are dropped all the same. No item of the iterator is
     /// lost: those that are not in the list are in the error.
@@ -156,7 +157,7 @@ impl<
             ≡ (splice_front self.entry ++ p.items) ++ splice_tail self.entry)) }
 
         // When it must succeed, and when the list makes no request for memory. `had_room` follows
-        // from `capacity` and `cost`.
+        // from `capacity`.
         ensures succeeds { HasSlotsFor self.entry (size (I.remaining (splice_iter self.entry)))
             → IsOk result }
         ensures had_room { HasRoomFor (left_by_splice self.entry)
@@ -171,34 +172,29 @@ impl<
             (splice_iter self.entry) xs error) }
         ensures cause { IfErr result (λ error. IsSpliceCause G.rule T.row self.exit.0.now
             (splice_tail self.entry) (I.remaining error.rest) error) }
-        ensures err_full { OnErr result (0 < length (splice_tail self.entry)
-            → length (left_by_splice self.entry).items + splice_range_len self.entry
-            ≤ length self.exit.0.now.items) }
-        ensures held { IfErr result (λ error. splice_tail self.entry ≡ []
+        ensures at_end_held { IfErr result (λ error. splice_tail self.entry ≡ []
             → error.held.items ≡ []) }
-        ensures in_hand { IfErr result (λ error. splice_tail self.entry ≡ []
+        ensures at_end_in_hand { IfErr result (λ error. splice_tail self.entry ≡ []
             → MatchOption error.in_hand
             ((self.exit.0.now ≡ left_by_splice self.entry)
             × (error.rest ≡ splice_iter self.entry))
             (λ _. length self.exit.0.now.items ≡ self.exit.0.now.capacity)) }
+        ensures before_tail { IfErr result (λ error. 0 < length (splice_tail self.entry)
+            → StopsBeforeTail G.rule T.row (splice_range_len self.entry)
+            (length (splice_tail self.entry)) (left_by_splice self.entry) self.exit.0.now error) }
 
         // In every case.
         ensures capacity { SplicesCapacity G.rule T.row (splice_tail self.entry)
             (splice_range_len self.entry) (left_by_splice self.entry) self.exit.0.now
             (I.remaining (splice_iter self.entry)) }
-
+        // `cost` follows from `capacity`.
         ensures cost { CostsInserting (2 * length (splice_tail self.entry))
             (left_by_splice self.entry) self.exit.0.now }
-
-        ensures blocks { (0 < length (splice_tail self.entry)
-            → self.exit.0.now.cost.blocks ≤ (left_by_splice self.entry).cost.blocks + 2)
-            × (splice_tail self.entry ≡ []
-            → self.exit.0.now.cost.blocks ≤ (left_by_splice self.entry).cost.blocks + 1
-            + (length self.exit.0.now.items - length (left_by_splice self.entry).items)) }
         ensures preserved { PreservesList T.row (left_by_splice self.entry) self.exit.0.now }
 
         // The slots of the range are a part of the capacity.
-        ensures bounds { HasRoomFor (left_by_splice self.entry) (splice_range_len self.entry) }
+        ensures range_room { HasRoomFor (left_by_splice self.entry)
+            (splice_range_len self.entry) }
     {
         let Splice { list, holder, iter } = self;
         let mut block = holder.into_inner();

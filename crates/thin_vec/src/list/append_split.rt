@@ -1,18 +1,19 @@
 //! The methods `append`, which moves the items of one list to the end of another, and `split_off`,
 //! which splits a list in two.
-ghost use Rattle.std.specs.Prelude.{◌≡◌, ◌+◌, ◌-◌, ◌≤◌, ◌++◌, [], IfErr, IfOk, IsOk, OnErr, OnOk, drop, length, take};
+ghost use Rattle.std.specs.Prelude.{◌≡◌, ◌+◌, ◌-◌, ◌≤◌, ◌++◌, [], IfErr, IfOk, IsOk, OnErr, OnOk, Some, drop, length, take};
 ghost use Rattle.thin_block.specs.Cost.{add_moves};
-ghost use Rattle.thin_vec.specs.List.Capacity.{CostsMoves, PreservesList, Reserves, IsFreshList};
+ghost use Rattle.thin_vec.specs.List.Capacity.{CostsMoves, IsFreshList, OverflowsIff, PreservesList};
 
 use crate::list::ThinVec;
 use std::alloc::Allocator;
 use thin_block::{Growth, ThinVecError};
 
 impl<T, A: Allocator, G: Growth> ThinVec<T, A, G> {
-    ghost use Rattle.thin_vec.specs.ThinVec.{HasRoomFor, IsBounded, cost_of_new};
+    ghost use Rattle.thin_vec.specs.ThinVec.{HasRoomFor, IsBounded, capacity_after_reserve, cost_of_new};
 
-    /// Moves all items of `other` to the end of this list, in order. On success, `other` is empty,
-    /// and keeps its capacity. On failure, neither list changes.
+    /// Moves all items of `other` to the end of this list, in order, or fails and changes neither
+    /// list if this one has to grow and cannot. On success, `other` is empty, and keeps its
+    /// capacity.
     ///
     /// # Errors
     ///
@@ -20,18 +21,23 @@ impl<T, A: Allocator, G: Growth> ThinVec<T, A, G> {
     pub fn append(&mut self, other: &mut ThinVec<T, A, G>) -> Result<(), ThinVecError>
         // On success.
         ensures items { OnOk result (self.new.items ≡ self.old.items ++ other.old.items) }
+        ensures capacity { OnOk result (capacity_after_reserve G.rule T.row self.old
+            (length other.old.items) ≡ Some self.new.capacity) }
         ensures cost { OnOk result (CostsMoves (length other.old.items) self.old self.new) }
         ensures other_changes { OnOk result (other.new ≡ record other.old { items = [] }) }
 
-        // When it must succeed.
+        // When it must succeed. In every other case it may fail.
         ensures succeeds { HasRoomFor self.old (length other.old.items) → IsOk result }
 
         // On failure.
         ensures err { OnErr result (self.new ≡ self.old) }
         ensures other_err { OnErr result (other.new ≡ other.old) }
+        ensures overflow { OverflowsIff
+            (capacity_after_reserve G.rule T.row self.old (length other.old.items)) result }
 
         // In every case.
-        ensures capacity { Reserves G.rule T.row (length other.old.items) self.old self.new result }
+        ensures had_room { HasRoomFor self.old (length other.old.items)
+            → self.new.capacity ≡ self.old.capacity }
         ensures preserved { PreservesList T.row self.old self.new }
         ensures other_bounds { IsBounded T.row other.old × IsBounded T.row other.new }
     {
@@ -44,7 +50,8 @@ impl<T, A: Allocator, G: Growth> ThinVec<T, A, G> {
     }
 
     /// Moves the items from index `at` onward to a new list, which owns `alloc` and has no spare
-    /// capacity.
+    /// capacity, or fails and changes nothing if there is no memory for the new list. The old list
+    /// keeps its capacity.
     ///
     /// # Errors
     ///
@@ -54,21 +61,22 @@ impl<T, A: Allocator, G: Growth> ThinVec<T, A, G> {
 
         // On success.
         ensures items { OnOk result (self.new.items ≡ take at self.old.items) }
-        ensures other_items { IfOk result (λ tail. tail.items ≡ drop at self.old.items) }
-        ensures capacity { IfOk result (λ tail. tail.capacity ≡ length self.old.items - at) }
-        ensures cost { IfOk result (λ tail. tail.cost ≡ add_moves (length self.old.items - at)
+        ensures tail_items { IfOk result (λ tail. tail.items ≡ drop at self.old.items) }
+        ensures tail_capacity { IfOk result (λ tail. tail.capacity ≡ length self.old.items - at) }
+        ensures tail_cost { IfOk result (λ tail. tail.cost ≡ add_moves (length self.old.items - at)
             (cost_of_new (length self.old.items - at))) }
-        ensures new { IfOk result (IsFreshList T.row alloc) }
+        ensures tail_fresh { IfOk result (IsFreshList T.row alloc) }
 
-        // When it must succeed.
-        ensures succeeds { at ≡ length self.old.items → IsOk result }
+        // When it must succeed. In every other case it may fail.
+        ensures succeeds_empty { at ≡ length self.old.items → IsOk result }
 
         // On failure.
-        ensures cause { IfErr result (λ cause. cause ≡ ThinVecError.OutOfMemory) }
         ensures err { OnErr result (self.new ≡ self.old) }
+        ensures cause { IfErr result (λ cause. cause ≡ ThinVecError.OutOfMemory) }
 
-        // In every case.
+        // In every case. `capacity` follows from `changes`.
         ensures changes { self.new ≡ record self.old { items = self.new.items } }
+        ensures capacity { self.new.capacity ≡ self.old.capacity }
         ensures bounds { IsBounded T.row self.old × IsBounded T.row self.new }
     {
         let mut tail = ThinVec::with_fitting_capacity(alloc, self.len() - at)?;

@@ -4,7 +4,7 @@ ghost use Rattle.std.specs.Prelude.{◌≡◌, ◌+◌, ◌<◌, ◌≤◌, [], 
 ghost use Rattle.thin_block.specs.Capacity.{Fits};
 ghost use Rattle.thin_block.specs.Cost.{add_realloc};
 ghost use Rattle.thin_block.specs.Growth.{GrowsValidly};
-ghost use Rattle.thin_vec.specs.List.Capacity.{PreservesList, Reserves, OverflowsIff, OverflowsIffTooLarge, IsFreshList};
+ghost use Rattle.thin_vec.specs.List.Capacity.{IsFreshList, OverflowsIff, OverflowsIffTooLarge, PreservesList};
 
 use crate::list::ThinVec;
 use std::alloc::Allocator;
@@ -14,9 +14,9 @@ use thin_block::{Block, Growth, ThinVecError, fits};
 impl<T, A: Allocator, G: Growth> ThinVec<T, A, G> {
     ghost use Rattle.thin_vec.specs.ThinVec.{HasRoomFor, IsBounded, capacity_after_reserve, cost_after_resize, cost_of_new, capacity_after_reserve_exact};
 
-    /// Reserves room for at least `additional` more items. If there is not enough room, the list
-    /// grows to the capacity that the growth rule chooses, which is at least twice the old
-    /// capacity.
+    /// Reserves room for at least `additional` more items, or fails and changes nothing. If there
+    /// is not enough room, the list grows to the capacity that the growth rule chooses, which is at
+    /// least twice the old capacity.
     ///
     /// # Errors
     ///
@@ -28,19 +28,23 @@ impl<T, A: Allocator, G: Growth> ThinVec<T, A, G> {
     /// - `OutOfMemory`: the allocator failed.
     pub fn reserve(&mut self, additional: usize) -> Result<(), ThinVecError>
         // On success.
-        ensures ok { OnOk result (HasRoomFor self.new additional) }
+        ensures room { OnOk result (HasRoomFor self.new additional) }
+        ensures capacity { OnOk result
+            (capacity_after_reserve G.rule T.row self.old additional ≡ Some self.new.capacity) }
         ensures cost { OnOk result (self.new.cost ≡ cost_after_resize self.old self.new.capacity) }
 
-        // When it must succeed.
+        // When it must succeed. In every other case it may fail.
         ensures succeeds { HasRoomFor self.old additional → IsOk result }
 
         // On failure.
         ensures err { OnErr result (self.new ≡ self.old) }
+        ensures overflow { OverflowsIff
+            (capacity_after_reserve G.rule T.row self.old additional) result }
 
         // In every case.
         ensures items { self.new.items ≡ self.old.items }
         ensures len { length self.new.items ≡ length self.old.items }
-        ensures capacity { Reserves G.rule T.row additional self.old self.new result }
+        ensures had_room { HasRoomFor self.old additional → self.new.capacity ≡ self.old.capacity }
         ensures preserved { PreservesList T.row self.old self.new }
     {
         if additional <= self.capacity() - self.len() {
@@ -49,9 +53,9 @@ impl<T, A: Allocator, G: Growth> ThinVec<T, A, G> {
         self.grow_for(additional)
     }
 
-    /// Reserves room for `additional` more items. If there is not enough room, the new capacity is
-    /// exactly the length plus `additional`. Prefer `reserve` if the list will grow again, because
-    /// each growth may copy all items.
+    /// Reserves room for `additional` more items, or fails and changes nothing. If there is not
+    /// enough room, the new capacity is exactly the length plus `additional`. Prefer `reserve` if
+    /// the list will grow again, because each growth may copy all items.
     ///
     /// # Errors
     ///
@@ -68,7 +72,7 @@ impl<T, A: Allocator, G: Growth> ThinVec<T, A, G> {
             (capacity_after_reserve_exact T.row self.old additional ≡ Some self.new.capacity) }
         ensures cost { OnOk result (self.new.cost ≡ cost_after_resize self.old self.new.capacity) }
 
-        // When it must succeed.
+        // When it must succeed. In every other case it may fail.
         ensures succeeds { HasRoomFor self.old additional → IsOk result }
 
         // On failure.
@@ -80,7 +84,7 @@ impl<T, A: Allocator, G: Growth> ThinVec<T, A, G> {
         ensures items { self.new.items ≡ self.old.items }
         ensures had_room { HasRoomFor self.old additional → self.new.capacity ≡ self.old.capacity }
         ensures alloc { self.new.alloc ≡ self.old.alloc }
-        ensures at_least { self.old.capacity ≤ self.new.capacity }
+        ensures never_less { self.old.capacity ≤ self.new.capacity }
         ensures bounds { IsBounded T.row self.old × IsBounded T.row self.new }
     {
         if additional <= self.capacity() - self.len() {
@@ -98,17 +102,21 @@ impl<T, A: Allocator, G: Growth> ThinVec<T, A, G> {
     pub(crate) fn reserve_run(&mut self, additional: usize) -> Result<(), ThinVecError>
         // On success.
         ensures room { OnOk result (HasRoomFor self.new additional) }
+        ensures capacity { OnOk result
+            (capacity_after_reserve G.rule T.row self.old additional ≡ Some self.new.capacity) }
         ensures cost { OnOk result (self.new.cost ≡ cost_after_resize self.old self.new.capacity) }
 
-        // When it must succeed.
+        // When it must succeed. In every other case it may fail.
         ensures succeeds { HasRoomFor self.old additional → IsOk result }
 
         // On failure.
         ensures err { OnErr result (self.new ≡ self.old) }
+        ensures overflow { OverflowsIff
+            (capacity_after_reserve G.rule T.row self.old additional) result }
 
         // In every case.
         ensures items { self.new.items ≡ self.old.items }
-        ensures capacity { Reserves G.rule T.row additional self.old self.new result }
+        ensures had_room { HasRoomFor self.old additional → self.new.capacity ≡ self.old.capacity }
         ensures preserved { PreservesList T.row self.old self.new }
     {
         let len = self.len();
@@ -128,7 +136,7 @@ impl<T, A: Allocator, G: Growth> ThinVec<T, A, G> {
         // On success.
         ensures capacity { OnOk result
             (capacity_after_reserve G.rule T.row self.old additional ≡ Some self.new.capacity) }
-        ensures at_least { OnOk result
+        ensures valid { OnOk result
             (GrowsValidly T.row self.old.capacity
             (length self.old.items + additional) self.new.capacity) }
         ensures cost { OnOk result
@@ -194,9 +202,9 @@ impl<T, A: Allocator, G: Growth> ThinVec<T, A, G> {
         ensures len { IfOk result (λ list. length list.items ≡ 0) }
         ensures capacity { IfOk result (λ list. list.capacity ≡ capacity) }
         ensures cost { IfOk result (λ list. list.cost ≡ cost_of_new capacity) }
-        ensures new { IfOk result (IsFreshList T.row alloc) }
+        ensures fresh { IfOk result (IsFreshList T.row alloc) }
 
-        // When it must succeed.
+        // When it must succeed. In every other case it may fail.
         ensures succeeds { capacity ≡ 0 → IsOk result }
 
         // On failure.
@@ -217,8 +225,9 @@ impl<T, A: Allocator, G: Growth> ThinVec<T, A, G> {
 impl<T, A: Allocator> ThinVec<T, A> {
     ghost use Rattle.thin_vec.specs.ThinVec.{cost_of_new};
 
-    /// Makes an empty list that owns `alloc`, with room for exactly `capacity` items. If `capacity`
-    /// is 0, the call allocates nothing.
+    /// Makes an empty list that owns `alloc`, with room for exactly `capacity` items, or fails if
+    /// they are too many or there is no memory for them. If `capacity` is 0, the call allocates
+    /// nothing.
     ///
     /// # Errors
     ///
@@ -232,9 +241,9 @@ impl<T, A: Allocator> ThinVec<T, A> {
         ensures capacity { IfOk result (λ list. capacity ≤ list.capacity) }
         ensures exact { IfOk result (λ list. list.capacity ≡ capacity) }
         ensures cost { IfOk result (λ list. list.cost ≡ cost_of_new capacity) }
-        ensures new { IfOk result (IsFreshList T.row alloc) }
+        ensures fresh { IfOk result (IsFreshList T.row alloc) }
 
-        // When it must succeed.
+        // When it must succeed. In every other case it may fail.
         ensures succeeds { capacity ≡ 0 → IsOk result }
 
         // On failure.

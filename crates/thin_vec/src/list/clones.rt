@@ -1,10 +1,10 @@
 //! The methods that clone items.
-ghost use Rattle.std.specs.Prelude.{◌≡◌, ◌⊎◌, ◌+◌, ◌<◌, ◌≤◌, [], ◌++◌, ◌-◌, All, HoldsAt, IfErr, IfOk, IsOk, OnErr, OnOk, length, slice_range, take};
+ghost use Rattle.std.specs.Prelude.{◌≡◌, ◌⊎◌, ◌+◌, ◌<◌, ◌≤◌, [], ◌++◌, ◌-◌, All, HoldsAt, IfErr, IfOk, IsErrOf, IsOk, OnErr, OnOk, Some, length, slice_range, take};
 ghost use Rattle.std.specs.List.{AllZip, AppendsClones};
 ghost use Rattle.thin_block.specs.Capacity.{Fits};
 ghost use Rattle.thin_block.specs.Cost.{add_moves};
 ghost use Rattle.thin_vec.specs.List.Clones.{ClonesEqual, FailsAtClone, LeftByFailedClone, IsClonedList};
-ghost use Rattle.thin_vec.specs.List.Capacity.{CostsMoves, Grows, IsFreshList, OverflowsIff, PreservesList};
+ghost use Rattle.thin_vec.specs.List.Capacity.{CostsMoves, IsFreshList, OverflowsIff, PreservesList};
 
 use crate::list::ThinVec;
 use crate::put::put_clones;
@@ -26,26 +26,33 @@ impl<T: Clone, A: Allocator, G: Growth> ThinVec<T, A, G> {
         // On success.
         ensures items { OnOk result
             (AppendsClones T.is_clone self.old.items self.new.items items.now) }
+        ensures capacity { OnOk result (capacity_after_reserve G.rule T.row self.old
+            (length items.now) ≡ Some self.new.capacity) }
         ensures cost { OnOk result (CostsMoves (length items.now) self.old self.new) }
 
         // When it must succeed.
         ensures succeeds { HasRoomFor self.old (length items.now) → All T.is_infallible items.now
             → IsOk result }
 
-        // On failure.
-        ensures err { OnErr result ((self.new ≡ self.old)
+        // On failure. Either the list had no room, or the clone of an item failed.
+        ensures err { OnErr result ((¬ (HasRoomFor self.old (length items.now))
+            × (self.new ≡ self.old))
             ⊎ LeftByFailedClone (capacity_after_reserve G.rule T.row self.old (length items.now))
             T.is_infallible items.now self.old self.new) }
         ensures overflow { OverflowsIff
             (capacity_after_reserve G.rule T.row self.old (length items.now)) result }
 
         // In every case.
-        ensures grows { Grows G.rule T.row (length items.now) self.old self.new result }
+        ensures had_room { HasRoomFor self.old (length items.now)
+            → self.new.capacity ≡ self.old.capacity }
+        ensures preserved { PreservesList T.row self.old self.new }
 
-        // These follow from `items` and `err`.
+        // These follow from `items`, `err` and `overflow`.
         ensures items_if_clones_equal { OnOk result (ClonesEqual T.is_clone
             → self.new.items ≡ self.old.items ++ items.now) }
         ensures err_items { OnErr result (self.new.items ≡ self.old.items) }
+        ensures err_overflow { IsErrOf result ThinVecError.CapacityOverflow
+            → self.new ≡ self.old }
         ensures err_if_infallible { All T.is_infallible items.now
             → OnErr result (self.new ≡ self.old) }
     {
@@ -53,8 +60,9 @@ impl<T: Clone, A: Allocator, G: Growth> ThinVec<T, A, G> {
         self.extend_from_slice_reserved(items)
     }
 
-    /// Makes a list of clones of all items, in order. The new list owns `alloc`. For `Copy` items,
-    /// `clone_copies` is faster.
+    /// Makes a list of clones of all items, in order, or fails if there is no memory for it or an
+    /// item cannot be cloned. The new list owns `alloc`. For `Copy` items, `clone_copies` is
+    /// faster.
     ///
     /// # Errors
     ///
@@ -68,9 +76,9 @@ impl<T: Clone, A: Allocator, G: Growth> ThinVec<T, A, G> {
         ensures capacity { IfOk result (λ list. list.capacity ≡ length self.now.items) }
         ensures cost { IfOk result (λ list. list.cost ≡ add_moves (length self.now.items)
             (cost_of_new (length self.now.items))) }
-        ensures new { IfOk result (IsFreshList T.row alloc) }
+        ensures fresh { IfOk result (IsFreshList T.row alloc) }
 
-        // When it must succeed.
+        // When it must succeed. In every other case it may fail.
         ensures succeeds_empty { length self.now.items ≡ 0 → IsOk result }
 
         // On failure.
@@ -94,9 +102,9 @@ impl<T: Clone, A: Allocator, G: Growth> ThinVec<T, A, G> {
         ensures capacity { IfOk result (λ list. list.capacity ≡ length items.now) }
         ensures cost { IfOk result (λ list. list.cost ≡ add_moves (length items.now)
             (cost_of_new (length items.now))) }
-        ensures new { IfOk result (IsFreshList T.row alloc) }
+        ensures fresh { IfOk result (IsFreshList T.row alloc) }
 
-        // When it must succeed.
+        // When it must succeed. In every other case it may fail.
         ensures succeeds_empty { length items.now ≡ 0 → IsOk result }
 
         // On failure.
@@ -177,26 +185,32 @@ impl<T: Clone, A: Allocator, G: Growth> ThinVec<T, A, G> {
         ensures items { OnOk result
             (AppendsClones T.is_clone self.old.items self.new.items
             (slice_range self.old.items start end)) }
+        ensures capacity { OnOk result (capacity_after_reserve G.rule T.row self.old
+            (end - start) ≡ Some self.new.capacity) }
         ensures cost { OnOk result (CostsMoves (end - start) self.old self.new) }
 
         // When it must succeed.
         ensures succeeds { HasRoomFor self.old (end - start)
             → All T.is_infallible (slice_range self.old.items start end) → IsOk result }
 
-        // On failure.
-        ensures err { OnErr result ((self.new ≡ self.old)
+        // On failure. Either the list had no room, or the clone of an item failed.
+        ensures err { OnErr result ((¬ (HasRoomFor self.old (end - start)) × (self.new ≡ self.old))
             ⊎ LeftByFailedClone (capacity_after_reserve G.rule T.row self.old (end - start))
             T.is_infallible (slice_range self.old.items start end) self.old self.new) }
         ensures overflow { OverflowsIff
             (capacity_after_reserve G.rule T.row self.old (end - start)) result }
 
         // In every case.
-        ensures grows { Grows G.rule T.row (end - start) self.old self.new result }
+        ensures had_room { HasRoomFor self.old (end - start)
+            → self.new.capacity ≡ self.old.capacity }
+        ensures preserved { PreservesList T.row self.old self.new }
 
-        // These follow from `items` and `err`.
+        // These follow from `items`, `err` and `overflow`.
         ensures items_if_clones_equal { OnOk result (ClonesEqual T.is_clone
             → self.new.items ≡ self.old.items ++ slice_range self.old.items start end) }
         ensures err_items { OnErr result (self.new.items ≡ self.old.items) }
+        ensures err_overflow { IsErrOf result ThinVecError.CapacityOverflow
+            → self.new ≡ self.old }
         ensures err_if_infallible { All T.is_infallible (slice_range self.old.items start end)
             → OnErr result (self.new ≡ self.old) }
     {

@@ -1,17 +1,18 @@
 //! The methods that copy items of a `Copy` type. They copy the items byte for byte, without calling
 //! `clone`.
-ghost use Rattle.std.specs.Prelude.{◌≡◌, ◌+◌, ◌<◌, ◌++◌, IfErr, IfOk, IsOk, OnErr, OnOk, length};
+ghost use Rattle.std.specs.Prelude.{◌≡◌, ◌+◌, ◌<◌, ◌++◌, IfErr, IfOk, IsOk, OnErr, OnOk, Some, length};
 ghost use Rattle.thin_block.specs.Cost.{add_moves};
-ghost use Rattle.thin_vec.specs.List.Capacity.{CostsMoves, PreservesList, Reserves, IsFreshList};
+ghost use Rattle.thin_vec.specs.List.Capacity.{CostsMoves, IsFreshList, OverflowsIff, PreservesList};
 
 use crate::list::ThinVec;
 use std::alloc::Allocator;
 use thin_block::{Growth, ThinVecError};
 
 impl<T: Copy, A: Allocator, G: Growth> ThinVec<T, A, G> {
-    ghost use Rattle.thin_vec.specs.ThinVec.{HasRoomFor, cost_of_new};
+    ghost use Rattle.thin_vec.specs.ThinVec.{HasRoomFor, capacity_after_reserve, cost_of_new};
 
-    /// Appends a copy of each item of `items`, in order. This is faster than `extend_from_slice`.
+    /// Appends a copy of each item of `items`, in order, or fails and changes nothing if the list
+    /// has to grow and cannot. This is faster than `extend_from_slice`.
     ///
     /// # Errors
     ///
@@ -21,19 +22,24 @@ impl<T: Copy, A: Allocator, G: Growth> ThinVec<T, A, G> {
         ensures items { OnOk result (self.new.items ≡ self.old.items ++ items.now) }
         ensures len { OnOk result
             (length self.new.items ≡ length self.old.items + length items.now) }
+        ensures capacity { OnOk result (capacity_after_reserve G.rule T.row self.old
+            (length items.now) ≡ Some self.new.capacity) }
         ensures cost { OnOk result (CostsMoves (length items.now) self.old self.new) }
 
-        // When it must succeed.
+        // When it must succeed. In every other case it may fail.
         ensures succeeds { HasRoomFor self.old (length items.now) → IsOk result }
 
         // On failure.
         ensures err { OnErr result (self.new ≡ self.old) }
+        ensures overflow { OverflowsIff
+            (capacity_after_reserve G.rule T.row self.old (length items.now)) result }
 
         // In every case.
-        ensures capacity { Reserves G.rule T.row (length items.now) self.old self.new result }
+        ensures had_room { HasRoomFor self.old (length items.now)
+            → self.new.capacity ≡ self.old.capacity }
         ensures preserved { PreservesList T.row self.old self.new }
     {
-        // The proof of `capacity` names the cause, which `?` would hide behind `From`.
+        // The proof of `overflow` names the cause, which `?` would hide behind `From`.
         match self.reserve_run(items.len()) {
             Ok(()) => (),
             Err(cause) => return Err(cause),
@@ -42,8 +48,8 @@ impl<T: Copy, A: Allocator, G: Growth> ThinVec<T, A, G> {
         Ok(())
     }
 
-    /// Makes a list of copies of all items, in order. The new list owns `alloc`. This is faster
-    /// than `clone`.
+    /// Makes a list of copies of all items, in order, or fails if there is no memory for it. The
+    /// new list owns `alloc`. This is faster than `clone`.
     ///
     /// # Errors
     ///
@@ -54,9 +60,9 @@ impl<T: Copy, A: Allocator, G: Growth> ThinVec<T, A, G> {
         ensures capacity { IfOk result (λ list. list.capacity ≡ length self.now.items) }
         ensures cost { IfOk result (λ list. list.cost ≡ add_moves (length self.now.items)
             (cost_of_new (length self.now.items))) }
-        ensures new { IfOk result (IsFreshList T.row alloc) }
+        ensures fresh { IfOk result (IsFreshList T.row alloc) }
 
-        // When it must succeed.
+        // When it must succeed. In every other case it may fail.
         ensures succeeds_empty { length self.now.items ≡ 0 → IsOk result }
 
         // On failure.

@@ -5,7 +5,7 @@ ghost use Rattle.std.specs.List.Retain.{PopsIf};
 ghost use types.Logic.{sem};
 ghost use Rattle.thin_block.specs.Cost.{add_moves};
 ghost use Rattle.thin_vec.specs.List.InsertRemove.{LendsAdded};
-ghost use Rattle.thin_vec.specs.List.Capacity.{CostsMoves, Grows, LacksRoom, PreservesList};
+ghost use Rattle.thin_vec.specs.List.Capacity.{CostsMoves, FailsForRoom, PreservesList};
 
 use crate::errors::Rejected;
 use crate::list::ThinVec;
@@ -15,8 +15,8 @@ use thin_block::{Growth, ThinVecError};
 impl<T, A: Allocator, G: Growth> ThinVec<T, A, G> {
     ghost use Rattle.thin_vec.specs.ThinVec.{HasRoomFor, IsBounded, capacity_after_reserve};
 
-    /// Inserts `value` at `index`, and moves each item from `index` onward to the next higher
-    /// index.
+    /// Inserts `value` at `index`, or fails and returns it in the error if the list is full and
+    /// cannot grow. Each item from `index` onward is moved to the next higher index.
     ///
     /// # Errors
     ///
@@ -27,19 +27,24 @@ impl<T, A: Allocator, G: Growth> ThinVec<T, A, G> {
         // On success.
         ensures items { self.new.items
             ≡ (if is_ok result then insert self.old.items index value else self.old.items) }
+        ensures len { length self.new.items
+            ≡ (if is_ok result then length self.old.items + 1 else length self.old.items) }
+        ensures capacity { OnOk result
+            (capacity_after_reserve G.rule T.row self.old 1 ≡ Some self.new.capacity) }
         ensures cost { OnOk result
             (CostsMoves (length self.old.items - index + 1) self.old self.new) }
 
-        // When it must succeed.
+        // When it must succeed. In every other case it may fail.
         ensures succeeds { HasRoomFor self.old 1 → IsOk result }
 
         // On failure.
         ensures err { OnErr result (self.new ≡ self.old) }
         ensures value_returned { IfErr result (λ error. error.value ≡ value) }
-        ensures cause { IfErr result (λ error. LacksRoom G.rule T.row self.old 1 error.cause) }
+        ensures cause { IfErr result (λ error. FailsForRoom G.rule T.row self.old 1 error.cause) }
 
         // In every case.
-        ensures grows { Grows G.rule T.row 1 self.old self.new result }
+        ensures had_room { HasRoomFor self.old 1 → self.new.capacity ≡ self.old.capacity }
+        ensures preserved { PreservesList T.row self.old self.new }
     {
         if let Err(cause) = self.reserve(1) {
             return Err(Rejected { value, cause });
@@ -64,6 +69,7 @@ impl<T, A: Allocator, G: Growth> ThinVec<T, A, G> {
     }
 
     /// Inserts `value` at `index`, like `insert`, and returns a mutable reference to the new item.
+    /// Fails if the list is full and cannot grow.
     ///
     /// # Errors
     ///
@@ -77,13 +83,13 @@ impl<T, A: Allocator, G: Growth> ThinVec<T, A, G> {
             (insert self.old.items index) (length self.old.items - index + 1) result) }
         ensures value { IfOk result (λ item. item.now ≡ value) }
 
-        // When it must succeed, and when it must fail.
+        // When it must succeed, and when it must fail. In every other case it may fail.
         ensures succeeds { HasRoomFor self.old 1 → IsOk result }
         ensures overflow { capacity_after_reserve G.rule T.row self.old 1 ≡ None → IsErr result }
 
         // On failure.
         ensures value_returned { IfErr result (λ error. error.value ≡ value) }
-        ensures cause { IfErr result (λ error. LacksRoom G.rule T.row self.old 1 error.cause) }
+        ensures cause { IfErr result (λ error. FailsForRoom G.rule T.row self.old 1 error.cause) }
 
         // In every case.
         ensures bounds { IsBounded T.row self.old }

@@ -1,8 +1,7 @@
 //! The methods that append one item.
-ghost use Rattle.std.specs.Prelude.{◌≡◌, ◌+◌, ◌<◌, ◌≤◌, [], ◌∷◌, ◌++◌, IfErr, IfOk, IsErr, IsOk, None, if◌then◌else◌, is_ok, OnErr, OnOk, length, slice_index_or};
-ghost use Rattle.std.specs.List.{SameBelow};
+ghost use Rattle.std.specs.Prelude.{◌≡◌, ◌+◌, ◌<◌, ◌≤◌, [], ◌∷◌, ◌++◌, IfErr, IfOk, IsErr, IsOk, None, Some, if◌then◌else◌, is_ok, OnErr, OnOk, length};
 ghost use Rattle.thin_block.specs.Cost.{add_moves};
-ghost use Rattle.thin_vec.specs.List.Capacity.{CostsMoves, Grows, LacksRoom, PreservesList};
+ghost use Rattle.thin_vec.specs.List.Capacity.{CostsMoves, FailsForRoom, PreservesList};
 ghost use Rattle.thin_vec.specs.List.InsertRemove.{LendsAdded};
 ghost use types.Logic.{sem};
 
@@ -14,8 +13,9 @@ use thin_block::{Growth, ThinVecError};
 impl<T, A: Allocator, G: Growth> ThinVec<T, A, G> {
     ghost use Rattle.thin_vec.specs.ThinVec.{HasRoomFor, IsBounded, capacity_after_reserve};
 
-    /// Appends `value`. This takes amortized constant time, because a list without spare capacity
-    /// at least doubles its capacity.
+    /// Appends `value`, or fails and returns it in the error if the list is full and cannot grow.
+    /// This takes amortized constant time, because a full list at least doubles its capacity: by
+    /// the clause `preserved`, a cheap list stays cheap (`IsCheap`).
     ///
     /// # Errors
     ///
@@ -30,24 +30,21 @@ impl<T, A: Allocator, G: Growth> ThinVec<T, A, G> {
             ≡ (if is_ok result then self.old.items ++ value ∷ [] else self.old.items) }
         ensures len { length self.new.items
             ≡ (if is_ok result then length self.old.items + 1 else length self.old.items) }
+        ensures capacity { OnOk result
+            (capacity_after_reserve G.rule T.row self.old 1 ≡ Some self.new.capacity) }
         ensures cost { OnOk result (CostsMoves 1 self.old self.new) }
 
-        // When it must succeed.
+        // When it must succeed. In every other case it may fail.
         ensures succeeds { HasRoomFor self.old 1 → IsOk result }
 
         // On failure.
         ensures err { OnErr result (self.new ≡ self.old) }
         ensures value_returned { IfErr result (λ error. error.value ≡ value) }
-        ensures cause { IfErr result (λ error. LacksRoom G.rule T.row self.old 1 error.cause) }
+        ensures cause { IfErr result (λ error. FailsForRoom G.rule T.row self.old 1 error.cause) }
 
         // In every case.
-        ensures grows { Grows G.rule T.row 1 self.old self.new result }
-
-        // These follow from `items`, `err` and `cause`.
-        ensures full { OnErr result (self.old.capacity ≤ length self.old.items) }
-        ensures by_index { SameBelow self.old.items self.new.items (length self.old.items)
-            × ((d : T) → IsOk result
-            → slice_index_or self.new.items (length self.old.items) d ≡ value) }
+        ensures had_room { HasRoomFor self.old 1 → self.new.capacity ≡ self.old.capacity }
+        ensures preserved { PreservesList T.row self.old self.new }
     {
         let len = self.len();
         if let Err(cause) = self.reserve(1) {
@@ -84,7 +81,8 @@ impl<T, A: Allocator, G: Growth> ThinVec<T, A, G> {
         self.block.put_and_set_len(len, value, len + 1);
     }
 
-    /// Appends `value`, and returns a mutable reference to the new item.
+    /// Appends `value`, and returns a mutable reference to the new item. Fails if the list is full
+    /// and cannot grow.
     ///
     /// # Errors
     ///
@@ -96,13 +94,13 @@ impl<T, A: Allocator, G: Growth> ThinVec<T, A, G> {
             (λ x. self.old.items ++ x ∷ []) 1 result) }
         ensures value { IfOk result (λ item. item.now ≡ value) }
 
-        // When it must succeed, and when it must fail.
+        // When it must succeed, and when it must fail. In every other case it may fail.
         ensures succeeds { HasRoomFor self.old 1 → IsOk result }
         ensures overflow { capacity_after_reserve G.rule T.row self.old 1 ≡ None → IsErr result }
 
         // On failure.
         ensures value_returned { IfErr result (λ error. error.value ≡ value) }
-        ensures cause { IfErr result (λ error. LacksRoom G.rule T.row self.old 1 error.cause) }
+        ensures cause { IfErr result (λ error. FailsForRoom G.rule T.row self.old 1 error.cause) }
 
         // In every case.
         ensures bounds { IsBounded T.row self.old }

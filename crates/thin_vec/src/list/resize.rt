@@ -1,9 +1,9 @@
 //! The methods `resize` and `resize_with`, which change the length of a list.
-ghost use Rattle.std.specs.Prelude.{◌≡◌, ◌⊎◌, ◌+◌, ◌-◌, ◌<◌, ◌≤◌, ◌++◌, IsOk, OnErr, OnOk, length, replicate, take};
+ghost use Rattle.std.specs.Prelude.{◌≡◌, ◌⊎◌, ◌+◌, ◌-◌, ◌<◌, ◌≤◌, ◌++◌, IsErrOf, IsOk, OnErr, OnOk, Some, length, replicate, take};
 ghost use Rattle.std.specs.List.{AppendsResults};
 ghost use Rattle.thin_block.specs.Cost.{add_moves};
 ghost use Rattle.thin_vec.specs.List.Clones.{AppendsRepeats, CloneEquals, LeftByFailedClone, IsResized};
-ghost use Rattle.thin_vec.specs.List.Capacity.{CostsMoves, Grows, OverflowsIff, PreservesList, Reserves};
+ghost use Rattle.thin_vec.specs.List.Capacity.{CostsMoves, OverflowsIff, PreservesList};
 
 use crate::list::ThinVec;
 use crate::put::{put_repeated, put_results};
@@ -24,6 +24,8 @@ impl<T: Clone, A: Allocator, G: Growth> ThinVec<T, A, G> {
     pub fn resize(&mut self, len: usize, value: T) -> Result<(), ThinVecError>
         // On success.
         ensures items { OnOk result (IsResized T.is_clone self.old.items len value self.new.items) }
+        ensures capacity { OnOk result (capacity_after_reserve G.rule T.row self.old
+            (len - length self.old.items) ≡ Some self.new.capacity) }
         ensures cost { OnOk result (CostsMoves (len - length self.old.items) self.old self.new) }
 
         // When it must succeed.
@@ -32,8 +34,9 @@ impl<T: Clone, A: Allocator, G: Growth> ThinVec<T, A, G> {
         ensures succeeds_by_one { len ≡ length self.old.items + 1 → HasRoomFor self.old 1
             → IsOk result }
 
-        // On failure.
-        ensures err { OnErr result ((self.new ≡ self.old) ⊎ LeftByFailedClone
+        // On failure. Either the list had no room, or a clone of `value` failed.
+        ensures err { OnErr result ((¬ (HasRoomFor self.old (len - length self.old.items))
+            × (self.new ≡ self.old)) ⊎ LeftByFailedClone
             (capacity_after_reserve G.rule T.row self.old (len - length self.old.items))
             T.is_infallible (replicate (len - length self.old.items - 1) value)
             self.old self.new) }
@@ -41,14 +44,18 @@ impl<T: Clone, A: Allocator, G: Growth> ThinVec<T, A, G> {
             (capacity_after_reserve G.rule T.row self.old (len - length self.old.items)) result }
 
         // In every case.
-        ensures grows { Grows G.rule T.row (len - length self.old.items) self.old self.new result }
+        ensures had_room { HasRoomFor self.old (len - length self.old.items)
+            → self.new.capacity ≡ self.old.capacity }
+        ensures preserved { PreservesList T.row self.old self.new }
 
-        // These follow from `items` and `err`.
+        // These follow from `items`, `err` and `overflow`.
         ensures len { OnOk result (length self.new.items ≡ len) }
         ensures items_if_clones_equal { OnOk result (CloneEquals T.is_clone value
             → self.new.items ≡ take len self.old.items ++ replicate
             (len - length self.old.items) value) }
         ensures err_items { OnErr result (self.new.items ≡ self.old.items) }
+        ensures err_overflow { IsErrOf result ThinVecError.CapacityOverflow
+            → self.new ≡ self.old }
         ensures err_if_infallible { T.is_infallible value → OnErr result (self.new ≡ self.old) }
     {
         let old = self.len();
@@ -87,6 +94,8 @@ impl<T: Clone, A: Allocator, G: Growth> ThinVec<T, A, G> {
 }
 
 impl<T: Drop, A: Allocator, G: Growth> ThinVec<T, A, G> {
+    ghost use Rattle.thin_vec.specs.ThinVec.{HasRoomFor, capacity_after_reserve};
+
     /// Changes the length to `len`, like `resize`, but appends results of `make`, which is called
     /// once for each new item, in order.
     ///
@@ -101,6 +110,8 @@ impl<T: Drop, A: Allocator, G: Growth> ThinVec<T, A, G> {
         ensures items { OnOk result
             (AppendsResults F.step (take len self.old.items) self.new.items make) }
         ensures len { OnOk result (length self.new.items ≡ len) }
+        ensures capacity { OnOk result (capacity_after_reserve G.rule T.row self.old
+            (len - length self.old.items) ≡ Some self.new.capacity) }
         ensures cost { OnOk result (CostsMoves (len - length self.old.items) self.old self.new) }
 
         // When it must succeed.
@@ -108,10 +119,12 @@ impl<T: Drop, A: Allocator, G: Growth> ThinVec<T, A, G> {
 
         // On failure.
         ensures err { OnErr result (self.new ≡ self.old) }
+        ensures overflow { OverflowsIff
+            (capacity_after_reserve G.rule T.row self.old (len - length self.old.items)) result }
 
         // In every case.
-        ensures capacity { Reserves G.rule T.row (len - length self.old.items) self.old self.new
-            result }
+        ensures had_room { HasRoomFor self.old (len - length self.old.items)
+            → self.new.capacity ≡ self.old.capacity }
         ensures preserved { PreservesList T.row self.old self.new }
     {
         let old = self.len();

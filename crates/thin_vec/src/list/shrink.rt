@@ -9,8 +9,9 @@ use thin_block::{Block, Growth, ThinVecError};
 impl<T, A: Allocator, G: Growth> ThinVec<T, A, G> {
     ghost use Rattle.thin_vec.specs.ThinVec.{IsBounded, cost_shrunk, cost_after_shrink};
 
-    /// Shrinks the capacity to `min_capacity`, or to the length if the length is greater. If this
-    /// would not reduce the capacity, nothing changes. At capacity 0, the block is freed.
+    /// Shrinks the capacity to `min_capacity`, or to the length if the length is greater. Fails and
+    /// changes nothing if the allocator refuses the smaller block. If the call would not reduce the
+    /// capacity, nothing changes. At capacity 0, the block is freed.
     ///
     /// # Errors
     ///
@@ -21,7 +22,7 @@ impl<T, A: Allocator, G: Growth> ThinVec<T, A, G> {
             ≡ min self.old.capacity (max min_capacity (length self.old.items))) }
         ensures cost { OnOk result (self.new.cost ≡ cost_after_shrink self.old self.new.capacity) }
 
-        // When it must succeed.
+        // When it must succeed. In every other case it may fail.
         ensures succeeds { self.old.capacity ≤ max min_capacity (length self.old.items)
             → IsOk result }
         ensures succeeds_empty { length self.old.items ≡ 0 → min_capacity ≡ 0 → IsOk result }
@@ -48,7 +49,8 @@ impl<T, A: Allocator, G: Growth> ThinVec<T, A, G> {
         Ok(())
     }
 
-    /// Shrinks the capacity to the length.
+    /// Shrinks the capacity to the length. Fails and changes nothing if the allocator refuses the
+    /// smaller block.
     ///
     /// # Errors
     ///
@@ -58,7 +60,7 @@ impl<T, A: Allocator, G: Growth> ThinVec<T, A, G> {
         ensures capacity { OnOk result (self.new.capacity ≡ length self.old.items) }
         ensures cost { OnOk result (self.new.cost ≡ cost_shrunk self.old) }
 
-        // When it must succeed.
+        // When it must succeed. In every other case it may fail.
         ensures succeeds_empty { length self.old.items ≡ 0 → IsOk result }
         ensures succeeds { length self.old.items ≡ self.old.capacity → IsOk result }
 

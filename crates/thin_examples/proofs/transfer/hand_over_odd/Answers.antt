@@ -17,7 +17,7 @@ loop-number-init g c = (
   extract_start odd _ _,
   omega (
     arith,
-    c.in_ok-reserve.ensures.ok,
+    c.in_ok-reserve.ensures.room,
     c.len-len.ensures.value,
     length-extract_rest odd c.extract_if-odd.result,
     ap (λ v. length v.items) c.extract_if-odd.ensures.left,

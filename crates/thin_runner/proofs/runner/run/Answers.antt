@@ -54,15 +54,3 @@ returns-clause-ok g c =
     g.J.Judge.model g.G.Growth.rule (param 0 g.row.T) c.args.alloc c.args.judge.now)
     g.met.G.Growth.law c.capacity-capacity.ensures.bounds c.capacity-end.ensures.bounds none
     c.loop-command.invariant.ran
-
-pub returns-clause-succeeds : goal.returns-clause-succeeds
-returns-clause-succeeds g c = search rules
-
-pub returns-clause-err : goal.returns-clause-err
-returns-clause-err g c = search rules
-
-pub returns-clause-cause : goal.returns-clause-cause
-returns-clause-cause g c = search rules
-
-pub returns-in-Err : goal.returns-in-Err
-returns-in-Err g c = search rules

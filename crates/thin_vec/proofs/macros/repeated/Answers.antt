@@ -1,6 +1,5 @@
 -- `repeated` resizes an empty list, so the growth rule chooses the capacity for `count` items.
 use Rattle.std.proofs.Common.{arith, ◌∙◌}
-use Rattle.thin_vec.proofs.CallerLemmas.{doubling_law, grows-bounded, grows-cheap}
 use Rattle.thin_vec.proofs.list.ClonesLemmas.{new_lists}
 use Rattle.thin_vec.proofs.macros.repeated.Goals as goal
 
@@ -16,11 +15,11 @@ returns-clause-capacity g c = search (arith, ◌∙◌)
 pub returns-clause-cost : goal.returns-clause-cost
 returns-clause-cost g c = search (arith, ◌∙◌)
 
-pub returns-clause-new : goal.returns-clause-new
-returns-clause-new g c =
+pub returns-clause-fresh : goal.returns-clause-fresh
+returns-clause-fresh g c =
     let resized = c.in_ok-resize.ensures in
     record {
-      alloc = resized.grows.alloc ∙ c.new-list.ensures.new.alloc;
-      cheap = grows-cheap doubling_law _ _ resized.grows resized.cost tt (search (arith, ◌∙◌));
-      within = grows-bounded resized.grows;
+      alloc = resized.preserved.alloc ∙ c.new-list.ensures.new.alloc;
+      cheap = resized.preserved.cheap (search (arith, ◌∙◌));
+      within = resized.preserved.within.1;
     }

@@ -49,7 +49,7 @@ invariant_of-self-in-Err g c =
           gap c.args.value);
       block = (
         λ _. rw (items, longer) (omega arith),
-        λ some. omega (arith, c.in_default.ensures.grows.room),
+        λ some. omega (arith, c.in_default.ensures.preserved.within.1.room),
       );
     }
 
@@ -67,7 +67,7 @@ returns-in-Err-insert-clause-overflow g c =
     sym (sym (len_is row.items c.self.invariant.sorted) ∙ ap len c.self.view_is) in
     let full : len c.args.self.now ≡ row.capacity =
     elim (cases_lt row.capacity (length row.items + 1)) [
-      | inl few ↦ omega (arith, few, many, c.insert.ensures.grows.was_room)
+      | inl few ↦ omega (arith, few, many, c.insert.ensures.preserved.within.0.room)
       | inr spare ↦ absurd (false≢true (c.in-Err-insert.ensures.succeeds spare))
     ] in
     failure_tells (ruled_of_same doubling _ _ full (ap (λ k. k + 1) many))

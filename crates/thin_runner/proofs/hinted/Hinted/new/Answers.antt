@@ -1,5 +1,5 @@
 -- Each call to `next` yields the first of the remaining items.
-use Rattle.std.proofs.Common.{length, ap, rules}
+use Rattle.std.proofs.Common.{length, ap}
 use Rattle.std.proofs.iter.runs.Sources.{from_front, as_is}
 use Rattle.thin_runner.specs.Hinted.{HintedSteps, hinted_items}
 use Rattle.thin_runner.proofs.hinted.Hinted.new.Goals as goal
@@ -9,6 +9,3 @@ returns-clause-runs g c run seen =
     let steps = HintedSteps {T = g.row.T.Denot} {A = g.row.A.Denot} in
     as_is run _ (from_front steps (λ item. item) hinted_items (λ old new step. ap length step.0.0)
     (λ old item new step. step.0) run seen)
-
-pub returns-clause-lower : goal.returns-clause-lower
-returns-clause-lower g c = search rules

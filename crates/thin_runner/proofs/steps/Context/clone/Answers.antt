@@ -8,6 +8,3 @@ returns-in-Ok g c =
     let e = c.in-Ok.ensures in
     let same = length_all_zip _ _ _ e.items in
     record { allowed = (tt, (e.items, grind (arith, same), search rules)) }
-
-pub returns-in-Err : goal.returns-in-Err
-returns-in-Err g c = search rules

@@ -10,7 +10,6 @@ returns g c =
       allowed = (
         tt,
         deduped-by _ (λ f. f.0) g.J.Judge.model.same
-            (λ f x k b f' x' k' called. search rules) _ c.args.list.now c.dedup_by.new.self
-            e.deduped e.capacity e.preserved.alloc,
+            (λ f x k b f' x' k' called. search rules) e.deduped e.capacity e.preserved.alloc,
       );
     }

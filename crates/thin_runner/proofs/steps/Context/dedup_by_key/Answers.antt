@@ -10,7 +10,6 @@ returns g c =
       allowed = (
         tt,
         deduped-by-keys _ (λ f. f.0) g.J.Judge.model.key
-            (λ f x k f' x' called. search rules) _ c.args.list.now c.dedup_by_key.new.self
-            e.deduped e.capacity e.preserved.alloc,
+            (λ f x k f' x' called. search rules) e.deduped e.capacity e.preserved.alloc,
       );
     }

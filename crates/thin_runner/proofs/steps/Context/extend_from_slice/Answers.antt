@@ -10,7 +10,7 @@ pub returns : goal.returns
 returns g c =
     let e = c.in-Err.ensures in
     let same = c.as_slice.ensures.value in
-    let stopped = refuses-clone g.G.Growth.rule (param 0 g.row.T) _ e.grows.alloc e.err in
+    let stopped = refuses-clone g.G.Growth.rule (param 0 g.row.T) _ e.preserved.alloc e.err in
     let overflow = rw same at e.overflow.overflow in
     let succeeds = rw same at e.succeeds in
     record {
@@ -19,7 +19,7 @@ returns g c =
         (
           some-items c.args.items.items (λ none.
               let room : HasRoomFor c.args.list.now (length c.args.items.items) =
-              omega (arith, ap length none, e.grows.was_room) in
+              omega (arith, ap length none, e.preserved.within.0.room) in
               let wrong = succeeds room
               (λ k d less. absurd (omega (arith, less, ap length none))) in cc),
           (

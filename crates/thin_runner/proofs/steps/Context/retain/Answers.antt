@@ -1,5 +1,6 @@
 -- The closure calls the method `look` of the judge, which so determines the kept items.
 use Rattle.std.proofs.Common.{rules}
+use Rattle.thin_vec.proofs.RetainLemmas.{retained_mut}
 use Rattle.thin_runner.proofs.CallbackLemmas.{looked, retained-by}
 use Rattle.thin_runner.proofs.steps.Context.retain.Goals as goal
 
@@ -12,6 +13,6 @@ returns g c =
         tt,
         retained-by _ (λ f. f.0) _
             (λ f x b f' y called. looked look f.0 f'.0 x y b (search rules) called.1)
-            _ c.args.list.now c.retain.new.self e.retained e.capacity e.preserved.alloc,
+            (retained_mut _ e.retained) e.capacity e.preserved.alloc,
       );
     }

@@ -10,6 +10,6 @@ returns g c =
       allowed = (
         tt,
         retained-by _ (λ f. f.0) _ (λ f x b f' y called. search rules)
-            _ c.args.list.now c.retain_mut.new.self e.retained e.capacity e.preserved.alloc,
+            e.retained e.capacity e.preserved.alloc,
       );
     }

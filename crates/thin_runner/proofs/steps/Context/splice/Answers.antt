@@ -125,7 +125,7 @@ returns-in-Err-finish g c =
             range = λ more. omega (
               arith,
               width,
-              e.err_full (some-tail xs after end (tail g at) more),
+              (e.before_tail (some-tail xs after end (tail g at) more)).filled,
               ap length e.placed.1,
               length-append (before ++ placed) after,
               length-append before placed,
@@ -136,10 +136,10 @@ returns-in-Err-finish g c =
             );
             at_end = λ full.
                 let none = no-tail xs after end (tail g at) full in
-                (e.held none, at-some-in-hand _ _ refused.in_hand (e.in_hand none));
+                (e.at_end_held none, at-some-in-hand _ _ refused.in_hand (e.at_end_in_hand none));
             unchanged = λ full none.
                 (at-no-in-hand _ _ refused.in_hand
-                (e.in_hand (no-tail xs after end (tail g at) full)) none).0
+                (e.at_end_in_hand (no-tail xs after end (tail g at) full)) none).0
                 ∙ left g at;
           }),
         ),

@@ -7,20 +7,18 @@ use Rattle.thin_vec.proofs.list.ThinVec.dedup_by_key.Goals as goal
 pub returns-clause-deduped : goal.returns-clause-deduped
 returns-clause-deduped g c =
     deduped-through (ComparesKeys g.F.FnMut g.K.PartialEq.eq) (λ s. s.key)
-    _ c.args.self.now c.dedup_with.new.self _ c.dedup_with.ensures.deduped
+    _ c.args.self.now c.dedup_with.new.self c.dedup_with.ensures.deduped
 
 pub returns-clause-bound : goal.returns-clause-bound
 returns-clause-bound g c =
-    few-deduped (ComparesKeys g.F.FnMut g.K.PartialEq.eq) _ c.args.self.now c.dedup_with.new.self
-    (deduped-through (ComparesKeys g.F.FnMut g.K.PartialEq.eq) (λ s. s.key)
-    _ c.args.self.now c.dedup_with.new.self _ c.dedup_with.ensures.deduped)
+    few-deduped _ _ c.args.self.now c.dedup_with.new.self c.dedup_with.ensures.deduped
 
 pub returns-clause-moves : goal.returns-clause-moves
 returns-clause-moves g c =
-    deduped-moves _ _ _ c.args.self.now c.dedup_with.new.self c.dedup_with.ensures.deduped
+    deduped-moves _ _ c.args.self.now c.dedup_with.new.self c.dedup_with.ensures.deduped
 
 pub returns-clause-filtered : goal.returns-clause-filtered
 returns-clause-filtered g c =
     deduped_deduped (ComparesKeys g.F.FnMut g.K.PartialEq.eq) _ c.args.self.now c.dedup_with.new.self
     (deduped-through (ComparesKeys g.F.FnMut g.K.PartialEq.eq) (λ s. s.key)
-    _ c.args.self.now c.dedup_with.new.self _ c.dedup_with.ensures.deduped)
+    _ c.args.self.now c.dedup_with.new.self c.dedup_with.ensures.deduped)

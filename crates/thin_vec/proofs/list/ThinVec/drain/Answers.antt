@@ -9,8 +9,8 @@ returns-clause-runs g c = drains_in_order
 pub returns-clause-runs_back : goal.returns-clause-runs_back
 returns-clause-runs_back g c = drains_in_reverse
 
-pub returns-clause-stays : goal.returns-clause-stays
-returns-clause-stays g c = drain_keeps_along _
+pub returns-clause-next_keeps : goal.returns-clause-next_keeps
+returns-clause-next_keeps g c = drain_keeps_along _
 
 pub returns-clause-rest : goal.returns-clause-rest
 returns-clause-rest g c = search (arith, ◌∙◌)

@@ -7,7 +7,7 @@ use Rattle.std.specs.Option.{option_to_list}
 use Rattle.std.specs.Prelude.{IfErr, OnOk}
 use denote.Param.{param}
 use Rattle.std.proofs.lemmas.Bool.{false≢true}
-use Rattle.thin_vec.specs.List.Capacity.{LacksRoom}
+use Rattle.thin_vec.specs.List.Capacity.{FailsForRoom}
 use Rattle.thin_vec.proofs.list.ExtendLemmas.{full-in-hand, placed-longer, run_of_ok, run_given, run_given_err}
 use Rattle.thin_vec.proofs.PushesLemmas.{extended-costs, extended-none}
 use Rattle.thin_vec.specs.List.Extend.{IsAfterExtend, IsAfterPushes}
@@ -20,7 +20,7 @@ pushed : (g : _) (c : After-extend_unhinted g) → IsAfterExtend g.G.Growth.rule
 pushed g c =
     let u = c.reserve.new.self in (
       u.capacity,
-      c.in-Ok.ensures.capacity.ok,
+      c.in-Ok.ensures.capacity,
       subst (λ z. IsAfterPushes g.G.Growth.rule (param 0 g.row.T) z c.extend_unhinted.new.self)
           (λ i. record {
             items = c.reserve.ensures.items i;
@@ -33,7 +33,7 @@ pushed g c =
 
 pub returns-in-Ok-clause-capacity : goal.returns-in-Ok-clause-capacity
 returns-in-Ok-clause-capacity g c = record {
-  had_room = λ room. let same = c.in-Ok.ensures.capacity.had_room (omega (
+  had_room = λ room. let same = c.in-Ok.ensures.had_room (omega (
     arith,
     c.size_hint.ensures.lower c.requires.finite,
   )) in
@@ -78,10 +78,10 @@ returns-in-Err-clause-cause g c =
       by_hint = λ _. (
         hint,
         c.size_hint.ensures.lower,
-        subst (λ v. LacksRoom rule T v hint c.in-Err.cause) (sym same)
+        subst (λ v. FailsForRoom rule T v hint c.in-Err.cause) (sym same)
             (lacks-room T c.args.self.now rule hint c.in-Err.cause
             (λ room. false≢true (c.in-Err.ensures.succeeds room))
-            c.in-Err.ensures.capacity.overflow),
+            c.in-Err.ensures.overflow.overflow),
       );
     }
 

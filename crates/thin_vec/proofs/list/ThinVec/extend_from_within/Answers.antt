@@ -1,9 +1,11 @@
 -- If all items of the range can be cloned, their clones are appended. If every clone equals its
 -- original, the appended items are the items of the range.
-use Rattle.std.proofs.Common.{◌++◌, ap, arith, inr, length, subst, sym, take_all, ◌∙◌}
+use Rattle.std.proofs.Common.{◌++◌, ap, arith, inl, inr, length, subst, sym, take_all, ◌∙◌}
+use Rattle.std.proofs.lemmas.Bool.{false≢true}
 use Rattle.std.proofs.lemmas.List.Elements.{same_from_all_zip}
 use Rattle.std.specs.List.{AllZip}
 use Rattle.std.specs.Prelude.{All, HoldsAt, slice_range}
+use Rattle.thin_vec.proofs.edits.SpliceLemmas.{any-err}
 use Rattle.thin_vec.proofs.list.ClonesLemmas.{cut-back, grew, length-range, not-all}
 use Rattle.thin_vec.proofs.list.ThinVec.extend_from_within.Goals.{After-truncate}
 use Rattle.thin_vec.proofs.list.ThinVec.extend_from_within.Goals as goal
@@ -38,7 +40,7 @@ returns-then-push_clones_within-end-clause-err g c =
     let placed = c.push_clones_within in
     let less = c.if-push_clones_within-end.true in
     inr (grew g.T.Clone.is_infallible range v c.reserve.new.self c.truncate.new.self
-    c.in_ok-reserve.ensures.capacity.ok c.reserve.ensures.items c.in_ok-reserve.ensures.cost
+    c.in_ok-reserve.ensures.capacity c.reserve.ensures.items c.in_ok-reserve.ensures.cost
     (ap (λ z. z.capacity) c.truncate.ensures.changes ∙ ap (λ z. z.capacity) placed.ensures.changes)
     (cut-back c.reserve.new.self.items placed.ensures.items.0 c.truncate.ensures.items
     placed.ensures.items.1 c.len-len.ensures.value) (record {
@@ -76,3 +78,10 @@ returns-clause-items_if_clones_equal g c = λ equal.
     let placed = returns-clause-items g c in
     placed.1 ∙ ap (λ ys. c.args.self.now.items ++ ys)
     (same_from_all_zip g.T.Clone.is_clone _ placed.0 placed.2 equal)
+
+pub returns-in_err-reserve-clause-err : goal.returns-in_err-reserve-clause-err
+returns-in_err-reserve-clause-err g c =
+    any-err c.from_residual.result (λ _. inl (
+      λ room. false≢true (c.in_err-reserve.ensures.succeeds room),
+      c.in_err-reserve.ensures.err,
+    ))

@@ -5,13 +5,11 @@ use Rattle.std.proofs.lemmas.List.{append-nil, length_push}
 use Rattle.std.specs.Iterator.{Yields}
 use denote.Param.{param}
 use Rattle.thin_block.specs.Cost.{add_moves}
-use Rattle.thin_vec.specs.Cheap.{IsCheap}
-use Rattle.thin_vec.specs.List.Capacity.{LacksRoom, PreservesList}
+use Rattle.thin_vec.specs.List.Capacity.{FailsForRoom, PreservesList}
 use Rattle.thin_vec.specs.List.Extend.{IsAfterPushes}
 use Rattle.thin_vec.specs.Put.{YieldsThenMayEnd}
 use Rattle.thin_vec.proofs.list.ExtendLemmas.{spare-kept, yields-join, yields-more}
 use Rattle.thin_vec.proofs.PushesLemmas.{after-filled, after-none, after-pushed}
-use Rattle.thin_vec.proofs.CallerLemmas.{grows-cheap, grows-preserved}
 use Rattle.thin_vec.proofs.list.ReservesLemmas.{keeps-join}
 use Rattle.thin_block.proofs.ResultLemmas.{none-some}
 use Rattle.thin_vec.proofs.list.ThinVec.extend_unhinted.Goals.{After-fill_spare-left, Else-ended}
@@ -154,7 +152,7 @@ returns-in-Err-clause-placed g c =
 pub loop-rest-preserved : goal.loop-rest-preserved
 loop-rest-preserved g c =
     let here = goal.at.loop-rest-preserved g c in let filled = here.After-fill_spare-left in
-    let rule = g.G.Growth.rule in let T = param 0 g.row.T in let law = g.met.G.Growth.law in
+    let rule = g.G.Growth.rule in let T = param 0 g.row.T in
     let held = c.loop-rest.invariant in
     let by = c.fill_spare-left.ensures.filled_by.0 in
     let xs = held.placed.0 ++ by.items in
@@ -179,16 +177,15 @@ loop-rest-preserved g c =
             c.in-Some.ensures.steps,
       );
       nearer = omega (arith, held.nearer, nearer, goes.2, more, long);
-      never_less = omega (arith, held.never_less, put.grows.never_less, kept);
+      never_less = omega (arith, held.never_less, put.preserved.never_less, kept);
       had_room = λ fit. let same = held.had_room fit in
-          put.grows.had_room (omega (arith, fit, held.nearer, nearer, goes.2, more, same, kept))
+          put.had_room (omega (arith, fit, held.nearer, nearer, goes.2, more, same, kept))
           ∙ (kept ∙ same);
       after = after-pushed rule T v w z (after g filled) all
           (omega (arith, ap length held.placed.1, length-append v.items held.placed.0, more)) long
-          (omega (arith, all, long, put.grows.room)) put.grows.ok put.cost;
-      alloc = put.grows.alloc ∙ (ap (λ y. y.alloc) (changed g filled) ∙ held.alloc);
-      cheap = λ first. grows-cheap law _ 1 put.grows put.cost put.err
-          (c.fill_spare-left.ensures.cheap (held.cheap first));
+          (omega (arith, all, long, put.preserved.within.1.room)) put.capacity put.cost;
+      alloc = put.preserved.alloc ∙ (ap (λ y. y.alloc) (changed g filled) ∙ held.alloc);
+      cheap = λ first. put.preserved.cheap (c.fill_spare-left.ensures.cheap (held.cheap first));
     }
 
 pub returns-in-Err-clause-succeeds : goal.returns-in-Err-clause-succeeds
@@ -210,7 +207,7 @@ pub returns-in-Err-clause-cause : goal.returns-in-Err-clause-cause
 returns-in-Err-clause-cause g c =
     record {
       by_push = λ _. subst
-          (λ v. LacksRoom g.G.Growth.rule (param 0 g.row.T) v 1 c.in-Err.refused.cause)
+          (λ v. FailsForRoom g.G.Growth.rule (param 0 g.row.T) v 1 c.in-Err.refused.cause)
           (sym c.in-Err.ensures.err) c.in-Err.ensures.cause;
       by_hint = λ none. absurd (none-some none refl);
     }
@@ -237,8 +234,7 @@ returns-in_default-clause-preserved g c =
 pub returns-in-Err-clause-preserved : goal.returns-in-Err-clause-preserved
 returns-in-Err-clause-preserved g c =
     keeps-join (kept g (goal.at.returns-in-Err-clause-preserved g c).After-fill_spare-left)
-    (grows-preserved c.in-Err.ensures.grows
-    (λ cheap. subst IsCheap (sym c.in-Err.ensures.err) cheap))
+    c.in-Err.ensures.preserved
 
 pub returns-in-Err-clause-err_full : goal.returns-in-Err-clause-err_full
 returns-in-Err-clause-err_full g c =

@@ -3,7 +3,7 @@
 use Rattle.std.proofs.Common.{◌≡◌, ◌+◌, ◌++◌, ◌∙◌, ap, length}
 use Rattle.std.specs.Prelude.{◌==◌, if◌then◌else◌}
 use Rattle.thin_block.specs.Cost.{add_moves}
-use Rattle.thin_vec.proofs.edits.ExtractIfLemmas.{extract_keeps_along, in-parts}
+use Rattle.thin_vec.proofs.edits.ExtractIfLemmas.{extract_keeps_along, extracts_to_end, in-parts}
 use Rattle.thin_vec.proofs.list.ThinVec.extract_if.Goals as goal
 
 pub returns-clause-left : goal.returns-clause-left
@@ -27,5 +27,8 @@ returns-clause-left g c =
       cost = cost i;
     }
 
-pub returns-clause-stays : goal.returns-clause-stays
-returns-clause-stays g c = extract_keeps_along _ _
+pub returns-clause-next_keeps : goal.returns-clause-next_keeps
+returns-clause-next_keeps g c = extract_keeps_along _ _
+
+pub returns-clause-walk : goal.returns-clause-walk
+returns-clause-walk g c = extracts_to_end _ _

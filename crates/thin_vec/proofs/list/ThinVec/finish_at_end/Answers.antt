@@ -1,5 +1,5 @@
 -- `close` leaves only the items before the range, and `extend` appends the items of the iterator.
-use Rattle.std.proofs.Common.{◌≡◌, ◌+◌, ◌-◌, ◌*◌, ◌≤◌, ◌++◌, ◌∙◌, ap, arith, length, length-append, refl, subst, sym}
+use Rattle.std.proofs.Common.{◌≡◌, ◌++◌, ◌∙◌, ap, arith, length, length-append, refl, subst, sym}
 use Rattle.std.specs.Iterator.{size}
 use Rattle.std.specs.Prelude.{MatchOption}
 use denote.Param.{param}
@@ -8,7 +8,6 @@ use Rattle.thin_vec.specs.Edits.Splice.{SplicesCapacity}
 use Rattle.thin_vec.specs.List.Extend.{ExtendsCapacity}
 use Rattle.thin_vec.specs.ThinVec.{HasRoomFor}
 use Rattle.thin_vec.proofs.edits.SpliceLemmas.{after-items, closed-left, stop-at-end, stopped-now, when-some}
-use Rattle.thin_vec.proofs.list.ExtendLemmas.{inserting-more}
 use Rattle.thin_vec.proofs.PushesLemmas.{extends-splices}
 use Rattle.thin_vec.proofs.edits.FinishLemmas.{finished-ok}
 use Rattle.thin_vec.specs.declared.errors.SpliceRefused.{SpliceRefused}
@@ -22,20 +21,18 @@ left g c =
     ∙ closed-left c.args.block c.args.self.now c.requires.no_middle c.requires.no_tail
 
 taken : (g : _) (c : After-extend g)
-    → AddsFromIter g.G.Growth.rule (param 0 g.row.T)
-    (without_middle c.args.block c.args.self.now.alloc)
-    c.extend.new.self (2 * length c.args.block.tail) (g.I.Iterator.remaining c.args.iter)
+    → AddsFromIter (without_middle c.args.block c.args.self.now.alloc) c.extend.new.self
+    (g.I.Iterator.remaining c.args.iter)
 taken g c =
-    let n = 2 * length c.args.block.tail in
     let w = c.extend.new.self in let more = g.I.Iterator.remaining c.args.iter in
-    let now : AddsFromIter g.G.Growth.rule (param 0 g.row.T) c.close.new.self w n more = record {
+    let now : AddsFromIter c.close.new.self w more = record {
       never_less = c.extend.ensures.preserved.never_less;
       had_room = c.extend.ensures.capacity.had_room;
-      cost = inserting-more c.close.new.self w n c.extend.ensures.cost.inserting;
+      kept = λ same. (c.extend.ensures.cost.inserting.kept same).0;
       alloc = c.extend.ensures.preserved.alloc;
       cheap = c.extend.ensures.preserved.cheap;
     } in
-    subst (λ z. AddsFromIter g.G.Growth.rule (param 0 g.row.T) z w n more) (left g c) now
+    subst (λ z. AddsFromIter z w more) (left g c) now
 
 capacity : (g : _) (c : After-extend g)
     → SplicesCapacity g.G.Growth.rule (param 0 g.row.T) c.args.block.tail c.args.block.gap_before
@@ -45,14 +42,6 @@ capacity g c =
     extends-splices c.requires.no_tail
     (subst (λ z. ExtendsCapacity g.G.Growth.rule (param 0 g.row.T) z c.extend.new.self
     (g.I.Iterator.remaining c.args.iter)) (left g c) c.extend.ensures.capacity)
-
-requests : (g : _) (c : After-extend g) → c.extend.new.self.cost.blocks
-    ≤ c.args.block.cost.blocks + 1
-    + (length c.extend.new.self.items - length (c.args.block.front ++ c.args.block.tail))
-requests g c =
-    let w = c.extend.new.self in
-    subst (λ z. w.cost.blocks ≤ z.cost.blocks + 1 + (length w.items - length z.items)) (left g c)
-    c.extend.ensures.cost.requests
 
 pub returns-in-Ok : goal.returns-in-Ok
 returns-in-Ok g c =
@@ -64,8 +53,7 @@ returns-in-Ok g c =
       gave.2 ∙ (ap (λ z. z.items ++ gave.0) (left g at)
           ∙ after-items v gave.0 c.requires.no_tail),
     )
-    (taken g at) (capacity g at) (λ some. absurd (omega (arith, some, ap length c.requires.no_tail)))
-    (λ _. requests g at)
+    (taken g at) (capacity g at)
 
 pub returns-in-Err : goal.returns-in-Err
 returns-in-Err g c =
@@ -90,10 +78,14 @@ returns-in-Err g c =
       succeeds_at_end = λ _ fit. c.in-Err.ensures.succeeds
           (subst (λ z. HasRoomFor z (size (g.I.Iterator.remaining c.args.iter))) (sym is) fit);
       items = tt;
+      longer = omega (
+        arith,
+        ap length gave.1,
+        length-append c.close.new.self.items gave.0,
+        ap (λ z. length z.items) is,
+      );
       taken = taken g at;
       capacity = capacity g at;
-      blocks = λ some. absurd (omega (arith, some, ap length c.requires.no_tail));
-      requests = λ _. requests g at;
       placed = (
         gave.0,
         gave.1 ∙ (ap (λ z. z.items ++ gave.0) is
@@ -101,7 +93,7 @@ returns-in-Err g c =
         stopped-now g.I.Iterator.next_gives g.I.Iterator.can_next g.I.Iterator.remaining
             c.args.iter gave.0 error none gave.2,
       );
-      range = λ some. absurd (omega (arith, some, ap length c.requires.no_tail));
+      stops = λ some. absurd (omega (arith, some, ap length c.requires.no_tail));
       held = λ _. none;
       in_hand = λ _. subst (λ z. MatchOption refused.in_hand
           ((c.extend.new.self ≡ z) × (refused.rest ≡ c.args.iter))

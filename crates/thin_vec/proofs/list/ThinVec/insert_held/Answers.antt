@@ -1,9 +1,10 @@
 -- `collect_rest` collects the items of the iterator in a vector. `open_with_gap` makes a gap with
 -- one slot for each of these items, and `fill_from_vec` moves the items into the gap. If memory
 -- runs out, the error contains the vector, and the item that did not fit into it, if there is one.
-use Rattle.std.proofs.Common.{Err, Some, ◌++◌, drop, take, inl, inr, ◌≡◌, ℕ, ◌+◌, ◌-◌, ◌<◌, ◌≤◌, ◌∙◌, ap, arith, length, refl, subst, sym}
+use Rattle.std.proofs.Common.{if◌then◌else◌, false, Err, Some, ◌++◌, drop, take, inl, inr, ◌≡◌, ◌+◌, ◌-◌, ◌<◌, ◌∙◌, ap, arith, eqb, length, length-append, refl, subst, sym}
 use Rattle.std.proofs.lemmas.Bool.{cases_lt, false≢true}
-use Rattle.std.specs.Option.{option_len}
+use Rattle.std.proofs.lemmas.Bool.Decides.{nat_tests}
+use Rattle.std.specs.Option.{option_len, option_to_list}
 use Rattle.std.specs.Prelude.{IsSome}
 use denote.Param.{param}
 use Rattle.thin_block.specs.Cost.{add_moves}
@@ -12,7 +13,7 @@ use Rattle.std.specs.Mem.{type_size}
 use Rattle.thin_block.specs.Growth.{grown_capacity}
 use Rattle.thin_vec.specs.ThinVec.{capacity_after_reserve, cost_after_resize}
 use Rattle.thin_vec.proofs.PushesLemmas.{resized-none}
-use Rattle.thin_vec.proofs.edits.SpliceLemmas.{blocks-if, closed-moves, drawn-after, inserted-long, run-moves, stop-at-held, taken-join, taken-none, taken-reserved, taken-spare}
+use Rattle.thin_vec.proofs.edits.SpliceLemmas.{closed-moves, drawn-after, inserted-long, run-moves, stop-at-held, taken-join, taken-none, taken-reserved, taken-spare}
 use Rattle.thin_block.proofs.CapacityLemmas.{ruled-same}
 use Rattle.thin_block.proofs.ResultLemmas.{err-same}
 use Rattle.thin_vec.proofs.list.ThinVec.insert_held.Goals.{After-close, In-Err}
@@ -46,16 +47,28 @@ capacity g c =
     ap (λ z. z.capacity) c.close.ensures.changes
     ∙ (ap (λ v. v.capacity) c.fill_from_vec.ensures ∙ c.open_with_gap-block.ensures.capacity)
 
-cost : (g : _) (c : After-close g)
-    → (m : ℕ) × (c.close.new.self.cost
-    ≡ add_moves (length c.collect_rest-held.result.held.items + m) c.reserve.new.self.cost)
-    × (m ≤ length c.reserve.new.self.items - c.args.at)
+-- There is an item to insert, so `open_with_gap` moves the items from index `at` onward.
+some : (g : _) (c : After-close g) → 0 < length c.collect_rest-held.result.held.items
+some g c =
+    let held = c.collect_rest-held.result in
+    omega (
+      arith,
+      ap length c.collect_rest-held.ensures.runs.1,
+      length-append held.held.items (option_to_list held.in_hand),
+      ap (λ o. length (option_to_list o)) c.in_default-in_hand.is,
+    )
+
+cost : (g : _) (c : After-close g) → c.close.new.self.cost
+    ≡ add_moves (length c.collect_rest-held.result.held.items
+    + (length c.reserve.new.self.items - c.args.at)) c.reserve.new.self.cost
 cost g c =
     let v = c.reserve.new.self in
     let block = c.open_with_gap-block.result in
     let w = c.fill_from_vec.new.self in
     let k = length c.collect_rest-held.result.held.items in
-    let count = c.len-count.ensures ∙ c.collect_rest-held.result.held.ok.0 in
+    let n = length v.items - c.args.at in
+    let count : c.len-count.result ≡ k =
+    c.len-count.ensures ∙ c.collect_rest-held.result.held.ok.0 in
     let before = c.open_with_gap-block.ensures.gap_before in
     let none : w.gap_before ≡ 0 =
     omega (arith, ap (λ v. v.gap_before) c.fill_from_vec.ensures, before, count) in
@@ -65,12 +78,14 @@ cost g c =
     (ap (λ v. v.middle) c.fill_from_vec.ensures ∙ c.open_with_gap-block.ensures.middle)
     (ap (λ v. v.tail) c.fill_from_vec.ensures)
     all in
-    let moves = run-moves c.len-count.result (length v.items - c.args.at) k put.0 v.cost block.cost
-    c.open_with_gap-block.ensures.cost in (
-      moves.0,
-      ap (λ z. z.cost) c.close.ensures.changes ∙ (put.1 ∙ moves.1),
-      omega (arith, moves.2, put.3 none),
-    )
+    let more : 0 < c.len-count.result = omega (arith, count, some g c) in
+    let opened : eqb c.len-count.result 0 ≡ false = grind (arith, nat_tests, more) in
+    let moves : k + (if eqb c.len-count.result 0 then 0 else n) + put.0 ≡ k + n =
+    ap (λ b. k + (if b then 0 else n) + put.0) opened
+    ∙ (let z : k + n + put.0 ≡ k + n = omega (arith, put.3 none) in z) in
+    ap (λ z. z.cost) c.close.ensures.changes
+    ∙ (put.1 ∙ (run-moves c.len-count.result n k put.0 v.cost block.cost
+    c.open_with_gap-block.ensures.cost ∙ ap (λ j. add_moves j v.cost) moves))
 
 pub returns-in-Some-in_hand-clause-placed : goal.returns-in-Some-in_hand-clause-placed
 returns-in-Some-in_hand-clause-placed g c =
@@ -108,7 +123,7 @@ returns-in-Some-in_hand-clause-cause g c = λ tail some.
 
 pub returns-in-Some-in_hand-clause-added : goal.returns-in-Some-in_hand-clause-added
 returns-in-Some-in_hand-clause-added g c =
-    taken-none g.G.Growth.rule (param 0 g.row.T) c.args.self.now c.args.self.now _ _ refl
+    taken-none (param 0 g.row.T) c.args.self.now c.args.self.now _ refl
 
 pub returns-in-Err-clause-placed : goal.returns-in-Err-clause-placed
 returns-in-Err-clause-placed g c =
@@ -144,50 +159,68 @@ returns-in-Err-clause-cause g c = λ tail some.
         count g here,
       ))),
       (
-        λ over. sym same ∙ c.in-Err.ensures.capacity.overflow.0 (ap Err over),
-        λ none. err-same (c.in-Err.ensures.capacity.overflow.1 (same ∙ none)),
+        λ over. sym same ∙ c.in-Err.ensures.overflow.overflow.0 (ap Err over),
+        λ none. err-same (c.in-Err.ensures.overflow.overflow.1 (same ∙ none)),
       ),
     ))
     (λ is. absurd (false≢true is))
 
 pub returns-in-Err-clause-added : goal.returns-in-Err-clause-added
 returns-in-Err-clause-added g c =
-    taken-none g.G.Growth.rule (param 0 g.row.T) c.args.self.now c.reserve.new.self _ _
-    c.in-Err.ensures.err
+    taken-none (param 0 g.row.T) c.args.self.now c.reserve.new.self _ c.in-Err.ensures.err
 
-pub returns-in-Err-clause-blocks : goal.returns-in-Err-clause-blocks
-returns-in-Err-clause-blocks g c = omega (arith, ap (λ z. z.cost.blocks) c.in-Err.ensures.err)
+pub returns-in-Err-clause-err_some : goal.returns-in-Err-clause-err_some
+returns-in-Err-clause-err_some g c =
+    λ _. more g ((goal.at.returns-in-Err-clause-err_some g c).In-Err)
 
-pub returns-clause-blocks : goal.returns-clause-blocks
-returns-clause-blocks g c = omega (
-  arith,
-  ap (λ q. q.blocks) (cost g ((goal.at.returns-clause-blocks g c).After-close)).1,
-  blocks-if _ _ c.args.self.now.cost c.reserve.new.self.cost
-      c.in_default-reserve.ensures.cost,
-)
+pub returns-in-Err-clause-longer : goal.returns-in-Err-clause-longer
+returns-in-Err-clause-longer g c = omega (arith, ap (λ z. length z.items) c.in-Err.ensures.err)
 
 pub returns-in-Err-clause-err : goal.returns-in-Err-clause-err
 returns-in-Err-clause-err g c = search (arith, ◌∙◌)
 
+long : (g : _) (c : After-close g) → length c.close.new.self.items
+    ≡ length c.args.self.now.items + length c.collect_rest-held.result.held.items
+long g c = omega (
+  arith,
+  ap length (items g c),
+  inserted-long c.reserve.new.self.items c.collect_rest-held.result.held.items c.args.at
+      (omega (arith, ap length c.reserve.ensures.items, c.requires.in_bounds)),
+  ap length c.reserve.ensures.items,
+)
+
+pub returns-clause-longer : goal.returns-clause-longer
+returns-clause-longer g c = omega (arith, long g ((goal.at.returns-clause-longer g c).After-close))
+
 -- The list is unchanged.
 pub returns-in_default-clause-paid : goal.returns-in_default-clause-paid
-returns-in_default-clause-paid g c = resized-none c.args.self.now
+returns-in_default-clause-paid g c =
+    resized-none c.args.self.now (length c.args.self.now.items - c.args.at)
 
 pub returns-in-Some-in_hand-clause-paid : goal.returns-in-Some-in_hand-clause-paid
-returns-in-Some-in_hand-clause-paid g c = resized-none c.args.self.now
+returns-in-Some-in_hand-clause-paid g c =
+    resized-none c.args.self.now (length c.args.self.now.items - c.args.at)
 
 pub returns-in-Err-clause-paid : goal.returns-in-Err-clause-paid
-returns-in-Err-clause-paid g c = rw c.in-Err.ensures.err (resized-none c.args.self.now)
+returns-in-Err-clause-paid g c =
+    rw c.in-Err.ensures.err
+    (resized-none c.args.self.now (length c.args.self.now.items - c.args.at))
 
 pub returns-clause-paid : goal.returns-clause-paid
 returns-clause-paid g c =
     let here = (goal.at.returns-clause-paid g c).After-close in
-    let paid = cost g here in
-    let n = length c.collect_rest-held.result.held.items + paid.0 in (
-      n,
-      paid.1 ∙ ap (add_moves n) (c.in_default-reserve.ensures.cost
-          ∙ ap (cost_after_resize c.args.self.now) (sym (capacity g here))),
-    )
+    let v = c.args.self.now in let u = c.reserve.new.self in let w = c.close.new.self in
+    let n = length c.collect_rest-held.result.held.items in
+    let last = length v.items - c.args.at in
+    let longer : length v.items < length w.items = omega (arith, long g here, some g here) in
+    let other : eqb (length w.items) (length v.items) ≡ false = grind (arith, nat_tests, longer) in
+    let count : n + (length u.items - c.args.at) ≡ length w.items - length v.items + last =
+    omega (arith, long g here, ap length c.reserve.ensures.items) in
+    let paid = c.in_default-reserve.ensures.cost ∙ ap (cost_after_resize v) (sym (capacity g here)) in
+    cost g here
+    ∙ ((λ i. add_moves (count i) (paid i))
+    ∙ ap (λ b. add_moves (length w.items - length v.items + (if b then 0 else last))
+    (cost_after_resize v w.capacity)) (sym other))
 
 -- The list is unchanged, and its items fit into its capacity.
 pub returns-in_default-clause-capacity : goal.returns-in_default-clause-capacity
@@ -209,44 +242,29 @@ returns-in-Err-clause-capacity g c =
 pub returns-clause-capacity : goal.returns-clause-capacity
 returns-clause-capacity g c =
     let rule = g.G.Growth.rule in let T = param 0 g.row.T in
-    let v = c.args.self.now in let u = c.reserve.new.self in let w = c.close.new.self in
+    let v = c.args.self.now in let w = c.close.new.self in
     let here = (goal.at.returns-clause-capacity g c).After-close in
-    let long = ap length (items g here)
-    ∙ inserted-long c.reserve.new.self.items c.collect_rest-held.result.held.items c.args.at
-    (omega (arith, ap length c.reserve.ensures.items, c.requires.in_bounds)) in
     let all : length v.items + c.len-count.result ≡ length w.items =
-    omega (
-      arith,
-      long,
-      c.len-count.ensures ∙ c.collect_rest-held.result.held.ok.0,
-      ap length c.reserve.ensures.items,
-    ) in
+    omega (arith, long g here, c.len-count.ensures ∙ c.collect_rest-held.result.held.ok.0) in
     subst (λ n. grown_capacity rule (type_size T) (type_align T) v.capacity n ≡ Some w.capacity) all
-    (c.in_default-reserve.ensures.capacity.ok ∙ ap Some (sym (capacity g here)))
+    (c.in_default-reserve.ensures.capacity ∙ ap Some (sym (capacity g here)))
 
 pub returns-clause-added : goal.returns-clause-added
 returns-clause-added g c =
-    let rule = g.G.Growth.rule in let T = param 0 g.row.T in let law = g.met.G.Growth.law in
+    let T = param 0 g.row.T in
     let left = g.I.Iterator.remaining c.args.iter in
     let v = c.args.self.now in let u = c.reserve.new.self in
-    let n = length v.items - c.args.at in
-    let old = ap length c.reserve.ensures.items in
     let count = c.len-count.ensures ∙ c.collect_rest-held.result.held.ok.0 in
     let here = (goal.at.returns-clause-added g c).After-close in
-    let long = ap length (items g here)
-    ∙ inserted-long c.reserve.new.self.items c.collect_rest-held.result.held.items c.args.at
-    (omega (arith, ap length c.reserve.ensures.items, c.requires.in_bounds)) in
-    let paid = cost g here in
-    taken-join rule T law v u c.close.new.self 0 n n left left (omega arith)
-    (omega (arith, old)) (λ fit same. omega (arith, fit, same, old))
-    (taken-reserved rule T law v u c.len-count.result left c.in_default-reserve.ensures.capacity.ok
-    c.reserve.ensures.items c.reserve.ensures.preserved.alloc c.in_default-reserve.ensures.cost
-    c.reserve.ensures.preserved.cheap
-    (omega (arith, count, (c.in-Some.ensures.goes.on c.requires.finite).2))
-    c.reserve.ensures.preserved.within.0.room)
-    (taken-spare rule T u c.close.new.self
-    (length c.collect_rest-held.result.held.items) paid.0 n left
-    paid.1 (capacity g here) long (omega (arith, paid.2, old))
+    let old = ap length c.reserve.ensures.items in
+    taken-join v u c.close.new.self left left (λ fit same. omega (arith, fit, same, old))
+    (taken-reserved T g.G.Growth.rule g.met.G.Growth.law v u c.len-count.result left
+    c.in_default-reserve.ensures.capacity c.reserve.ensures.preserved.alloc
+    c.in_default-reserve.ensures.cost c.reserve.ensures.preserved.cheap
+    (omega (arith, count, (c.in-Some.ensures.goes.on c.requires.finite).2)))
+    (taken-spare T u c.close.new.self
+    (length c.collect_rest-held.result.held.items + (length u.items - c.args.at)) left
+    (cost g here) (capacity g here)
     (ap (λ z. z.alloc) c.close.ensures.changes
     ∙ ap (λ z. z.alloc) c.open_with_gap-block.ensures.changes))
 

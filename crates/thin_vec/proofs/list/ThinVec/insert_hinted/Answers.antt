@@ -1,15 +1,15 @@
 -- `open_with_gap` makes a gap of empty slots at index `at`. The number of these slots is the lower
 -- bound of the iterator's size hint. Then `fill` fills the gap with items of the iterator.
-use Rattle.std.proofs.Common.{Some, ◌≡◌, ◌+◌, ◌-◌, ◌*◌, ◌≤◌, ◌++◌, ◌∙◌, ap, arith, drop, length, refl, subst, sym, take}
+use Rattle.std.proofs.Common.{if◌then◌else◌, Some, ◌≡◌, ◌+◌, ◌-◌, ◌++◌, ◌∙◌, ap, arith, drop, eqb, length, refl, subst, sym, take}
 use Rattle.std.proofs.lemmas.Bool.{false≢true}
 use Rattle.std.proofs.lemmas.List.{length-drop, length-take-le}
 use denote.Param.{param}
-use Rattle.thin_vec.specs.Edits.Finish.{AddsFromIter}
-use Rattle.thin_vec.specs.List.Capacity.{LacksRoom}
-use Rattle.thin_vec.proofs.edits.SpliceLemmas.{blocks-if, run-moves, taken-join, taken-none, taken-reserved}
+use Rattle.thin_vec.specs.List.Capacity.{FailsForRoom}
+use Rattle.thin_vec.proofs.edits.SpliceLemmas.{run-moves, taken-join, taken-none, taken-reserved}
 use Rattle.thin_block.specs.Cost.{add_moves}
-use Rattle.thin_vec.proofs.PutLemmas.{filled-room}
+use Rattle.thin_vec.proofs.PutLemmas.{filled-fits, filled-room}
 use Rattle.thin_vec.specs.ThinVec.{cost_after_resize}
+use Rattle.thin_vec.proofs.PushesLemmas.{tail-moves}
 use Rattle.thin_vec.proofs.list.ReservesLemmas.{lacks-room}
 use Rattle.thin_vec.proofs.edits.FinishLemmas.{FillsGap, IsWide, gap-filled, wide-taken}
 use Rattle.thin_vec.proofs.list.ThinVec.insert_hinted.Goals.{After-close}
@@ -33,24 +33,20 @@ fills g c =
     c.open_with_gap-block.new.self c.close.new.self c.fill-filled.result
     c.fill-filled.ensures.filled_by c.open_with_gap-block.ensures.middle c.close.ensures.changes
 
-taken : (g : _) (c : After-close g) (n : _)
-    → (fills g c).1.cost.0 + (length c.reserve.new.self.items - c.args.at) ≤ n
-    → AddsFromIter g.G.Growth.rule (param 0 g.row.T) c.args.self.now c.close.new.self n
-    (g.I.Iterator.remaining c.args.iter)
-taken g c n few =
-    let rule = g.G.Growth.rule in let T = param 0 g.row.T in let law = g.met.G.Growth.law in
+pub returns-clause-added : goal.returns-clause-added
+returns-clause-added g c =
+    let rule = g.G.Growth.rule in let T = param 0 g.row.T in
     let left = g.I.Iterator.remaining c.args.iter in
     let v = c.args.self.now in let u = c.reserve.new.self in let w = c.close.new.self in
+    let here = (goal.at.returns-clause-added g c).After-close in
     let hint = c.size_hint-hint.result.0 in
     let old = ap length c.reserve.ensures.items in
-    taken-join rule T law v u w 0 n n left left (omega arith)
-    (omega (arith, old)) (λ fit same. omega (arith, fit, same, old))
-    (taken-reserved rule T law v u hint left c.in_default.ensures.capacity.ok
-    c.reserve.ensures.items c.reserve.ensures.preserved.alloc c.in_default.ensures.cost
-    c.reserve.ensures.preserved.cheap (c.size_hint-hint.ensures.lower c.requires.finite)
-    c.reserve.ensures.preserved.within.0.room)
-    (wide-taken (fills g c) rule T n left u c.args.at hint (wide g c)
-    (ap (λ z. z.alloc) c.open_with_gap-block.ensures.changes) few)
+    taken-join v u w left left (λ fit same. omega (arith, fit, same, old))
+    (taken-reserved T rule g.met.G.Growth.law v u hint left c.in_default.ensures.capacity
+    c.reserve.ensures.preserved.alloc c.in_default.ensures.cost
+    c.reserve.ensures.preserved.cheap (c.size_hint-hint.ensures.lower c.requires.finite))
+    (wide-taken (fills g here) T left u c.args.at hint (wide g here)
+    (ap (λ z. z.alloc) c.open_with_gap-block.ensures.changes))
 
 tail : (g : _) (c : After-close g) → length c.open_with_gap-block.result.tail
     ≡ length c.args.self.now.items - c.args.at
@@ -69,11 +65,21 @@ pub returns-clause-filled_by : goal.returns-clause-filled_by
 returns-clause-filled_by g c =
     let here = (goal.at.returns-clause-filled_by g c).After-close in
     let filled = fills g here in let there = wide g here in let xs = filled.0.items in
-    let slots : c.open_with_gap-block.result.gap_before ≡ c.size_hint-hint.result.0 =
-    omega (arith, c.open_with_gap-block.ensures.gap_before) in (
-      c.size_hint-hint.result.0,
+    let v = c.args.self.now in let u = c.reserve.new.self in
+    let hint = c.size_hint-hint.result.0 in
+    let slots : c.open_with_gap-block.result.gap_before ≡ hint =
+    omega (arith, c.open_with_gap-block.ensures.gap_before) in
+    let old : length u.items - c.args.at ≡ length v.items - c.args.at =
+    omega (arith, ap length c.reserve.ensures.items) in
+    let last = tail-moves (length xs) hint (length v.items - c.args.at) filled.1.cost.0
+    (λ short. filled.1.cost.2 (omega (arith, short, slots)) ∙ tail g here)
+    (λ full. filled.1.cost.3 (omega (arith, full, slots)))
+    (omega (arith, filled-fits filled.0, slots)) in
+    let paid = c.in_default.ensures.cost
+    ∙ ap (cost_after_resize v) (sym (hinted g here)) in (
+      hint,
       c.size_hint-hint.ensures.lower,
-      c.in_default.ensures.capacity.ok ∙ ap Some (sym (hinted g here)),
+      c.in_default.ensures.capacity ∙ ap Some (sym (hinted g here)),
       filled-room slots filled.0,
       filled.1.items
           ∙ ((λ i. (there.front i ++ xs) ++ there.tail i)
@@ -83,56 +89,11 @@ returns-clause-filled_by g c =
         ap length there.front,
         length-take-le c.args.at c.reserve.new.self.items there.in_bounds,
       ),
+      filled.1.cost.1
+          ∙ (run-moves hint (length u.items - c.args.at) (length xs) filled.1.cost.0 u.cost
+          c.open_with_gap-block.result.cost c.open_with_gap-block.ensures.cost
+          ∙ (λ i. add_moves (length xs + (if eqb hint 0 then 0 else old i) + sym last i) (paid i))),
     )
-
-pub returns-clause-paid : goal.returns-clause-paid
-returns-clause-paid g c =
-    let here = (goal.at.returns-clause-paid g c).After-close in
-    let p = fills g here in let u = c.reserve.new.self in
-    let all = run-moves c.size_hint-hint.result.0 (length u.items - c.args.at) (length p.0.items)
-    p.1.cost.0 u.cost c.open_with_gap-block.result.cost c.open_with_gap-block.ensures.cost in (
-      length p.0.items + all.0,
-      (p.1.cost.1 ∙ all.1)
-          ∙ ap (add_moves (length p.0.items + all.0)) (c.in_default.ensures.cost
-          ∙ ap (cost_after_resize c.args.self.now) (sym (hinted g here))),
-    )
-
-pub returns-clause-added : goal.returns-clause-added
-returns-clause-added g c =
-    let here = (goal.at.returns-clause-added g c).After-close in
-    taken g here (2 * (length c.args.self.now.items - c.args.at))
-    (omega (
-      arith,
-      (fills g ((goal.at.returns-clause-added g c).After-close)).1.cost.2,
-      tail g here,
-      ap length c.reserve.ensures.items,
-    ))
-
-pub returns-clause-added_full : goal.returns-clause-added_full
-returns-clause-added_full g c = λ full.
-    let here = (goal.at.returns-clause-added_full g c).After-close in
-    let filled = (fills g ((goal.at.returns-clause-added_full g c).After-close)) in
-    taken g here (length c.args.self.now.items - c.args.at)
-    (omega (
-      arith,
-      filled.1.cost.3 (filled.0.full full),
-      ap length c.reserve.ensures.items,
-    ))
-
-pub returns-clause-blocks : goal.returns-clause-blocks
-returns-clause-blocks g c =
-    let p = (fills g ((goal.at.returns-clause-blocks g c).After-close)) in
-    let u = c.reserve.new.self in
-    let all = run-moves c.size_hint-hint.result.0 (length u.items - c.args.at) (length p.0.items)
-    p.1.cost.0 u.cost c.open_with_gap-block.result.cost c.open_with_gap-block.ensures.cost in
-    omega (
-      arith,
-      ap (λ q. q.blocks) (p.1.cost.1 ∙ all.1),
-      blocks-if _ _ c.args.self.now.cost u.cost c.in_default.ensures.cost,
-    )
-
-pub returns-in-Err-clause-blocks : goal.returns-in-Err-clause-blocks
-returns-in-Err-clause-blocks g c = omega (arith, ap (λ z. z.cost.blocks) c.in-Err.ensures.err)
 
 pub returns-in-Err-clause-succeeds : goal.returns-in-Err-clause-succeeds
 returns-in-Err-clause-succeeds g c = λ none.
@@ -145,10 +106,10 @@ returns-in-Err-clause-cause g c =
     let rule = g.G.Growth.rule in let T = param 0 g.row.T in (
       hint,
       c.size_hint-hint.ensures.lower,
-      subst (λ z. LacksRoom rule T z hint c.in-Err.cause) (sym same)
+      subst (λ z. FailsForRoom rule T z hint c.in-Err.cause) (sym same)
           (lacks-room T c.args.self.now rule hint c.in-Err.cause
           (λ room. false≢true (c.in-Err.ensures.succeeds room))
-          c.in-Err.ensures.capacity.overflow),
+          c.in-Err.ensures.overflow.overflow),
     )
 
 pub returns-in-Err-clause-err : goal.returns-in-Err-clause-err
@@ -156,5 +117,4 @@ returns-in-Err-clause-err g c = (c.in-Err.ensures.err, refl)
 
 pub returns-in-Err-clause-added : goal.returns-in-Err-clause-added
 returns-in-Err-clause-added g c =
-    taken-none g.G.Growth.rule (param 0 g.row.T) c.args.self.now c.reserve.new.self _ _
-    c.in-Err.ensures.err
+    taken-none (param 0 g.row.T) c.args.self.now c.reserve.new.self _ c.in-Err.ensures.err

@@ -3,7 +3,6 @@ use Rattle.std.proofs.Common.{◌≡◌, ap, arith, drop, get_or, length, refl, 
 use Rattle.std.proofs.lemmas.List.{get_or_at, length-take-le, set_at}
 use Rattle.std.proofs.lemmas.Option.{none-some}
 use lib.ListN.{length-set, set}
-use Rattle.thin_vec.proofs.CallerLemmas.{grows-bounded, grows-cheap, grows-was_bounded}
 use Rattle.thin_vec.proofs.ThinVecLemmas.{within-like}
 use Rattle.thin_vec.proofs.list.ThinVec.insert_mut.Goals as goal
 
@@ -16,20 +15,24 @@ returns g c =
     let put = c.in_ok-insert.ensures.items in
     let at : length (take i xs) ≡ i = length-take-le i xs c.requires.in_bounds in
     let y = c.index_mut.result.now in
-    let within = grows-bounded c.insert.ensures.grows in (
+    let kept = c.insert.ensures.preserved in (
       (
         refl,
         λ w _. record {
           items = ap (λ l. set l i w) put ∙ set_at (take i xs) v (drop i xs) w i at;
-          capacity = c.in_ok-insert.ensures.grows.ok;
-          had_room = c.insert.ensures.grows.had_room;
-          never_less = c.insert.ensures.grows.never_less;
-          alloc = c.insert.ensures.grows.alloc;
+          capacity = c.in_ok-insert.ensures.capacity;
           cost = c.in_ok-insert.ensures.cost;
-          cheap = grows-cheap g.met.G.Growth.law _ _ c.insert.ensures.grows c.insert.ensures.cost
-              c.insert.ensures.err;
-          within = within-like _ _ new within refl
-              (omega (arith, length-set new.items i w, within.room));
+          had_room = c.insert.ensures.had_room;
+          preserved = record {
+            alloc = kept.alloc;
+            never_less = kept.never_less;
+            cheap = kept.cheap;
+            within = (
+              kept.within.0,
+              within-like _ _ new kept.within.1 refl
+                  (omega (arith, length-set new.items i w, kept.within.1.room)),
+            );
+          };
         },
         tt,
       ),
@@ -38,9 +41,9 @@ returns g c =
         value = c.index_mut.ensures.value
             ∙ (ap (λ l. get_or l i y) put ∙ get_or_at (take i xs) v (drop i xs) y i at);
         succeeds = λ _. refl;
-        overflow = λ none. absurd (none-some _ (sym none ∙ c.in_ok-insert.ensures.grows.ok));
+        overflow = λ none. absurd (none-some _ (sym none ∙ c.in_ok-insert.ensures.capacity));
         cause = tt;
         value_returned = tt;
-        bounds = grows-was_bounded c.insert.ensures.grows;
+        bounds = kept.within.0;
       },
     )

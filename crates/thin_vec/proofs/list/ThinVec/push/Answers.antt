@@ -7,4 +7,4 @@ use Rattle.thin_vec.proofs.list.ThinVec.push.Goals as goal
 pub returns-in-Err-clause-cause : goal.returns-in-Err-clause-cause
 returns-in-Err-clause-cause g c =
     lacks-room (param 0 g.row.T) c.args.self.now g.G.Growth.rule 1 c.in-Err.cause
-    (λ room. false≢true (c.in-Err.ensures.succeeds room)) c.in-Err.ensures.capacity.overflow
+    (λ room. false≢true (c.in-Err.ensures.succeeds room)) c.in-Err.ensures.overflow.overflow

@@ -39,11 +39,11 @@ returns-clause-capacity g c =
     let v = c.args.self.now in let w = c.replace_range_from_list.new.self in
     subst (λ n. OnOk c.replace_range_from_list.result (capacity_after_reserve g.G.Growth.rule
     (param 0 g.row.T) v (n - (c.args.end - c.args.start)) ≡ Some w.capacity)) (count g c)
-    c.replace_range_from_list.ensures.capacity.ok
+    c.replace_range_from_list.ensures.capacity
 
 pub returns-clause-had_room : goal.returns-clause-had_room
 returns-clause-had_room g c room =
-    c.replace_range_from_list.ensures.capacity.had_room (omega (arith, count g c, room))
+    c.replace_range_from_list.ensures.had_room (omega (arith, count g c, room))
 
 pub returns-clause-cost : goal.returns-clause-cost
 returns-clause-cost g c =
@@ -55,7 +55,7 @@ returns-clause-cost g c =
 pub returns-clause-overflow : goal.returns-clause-overflow
 returns-clause-overflow g c none =
     let v = c.args.self.now in
-    let over = c.replace_range_from_list.ensures.capacity.overflow.1
+    let over = c.replace_range_from_list.ensures.overflow.overflow.1
     (ap (λ n. capacity_after_reserve g.G.Growth.rule (param 0 g.row.T) v
     (n - (c.args.end - c.args.start))) (count g c) ∙ none) in
     rw over refl
@@ -66,4 +66,4 @@ returns-clause-cause g c =
     cause-of c.replace_range_from_list.result
     (capacity_after_reserve g.G.Growth.rule (param 0 g.row.T) v (length c.args.items.now - k))
     (λ over. sym (ap (λ n. capacity_after_reserve g.G.Growth.rule (param 0 g.row.T) v (n - k))
-    (count g c)) ∙ c.replace_range_from_list.ensures.capacity.overflow.0 over)
+    (count g c)) ∙ c.replace_range_from_list.ensures.overflow.overflow.0 over)

@@ -1,16 +1,18 @@
 -- If `len` is at most the old length, `truncate` keeps the first `len` items. Otherwise `reserve`
 -- makes room, and clones of `value` and finally `value` itself are appended.
 use Rattle.std.proofs.lemmas.Grind.{common_steps}
-use Rattle.std.proofs.Common.{◌≡◌, ◌-◌, [], ◌∷◌, ◌++◌, Err, Ok, Some, ap, append_assoc, arith, inr, length, length-append, refl, replicate, subst, sym, take, take_all, ◌∙◌, ℕ}
+use Rattle.std.proofs.Common.{◌≡◌, ◌-◌, [], ◌∷◌, ◌++◌, Err, Ok, Some, ap, append_assoc, arith, inl, inr, length, length-append, refl, replicate, subst, sym, take, take_all, ◌∙◌, ℕ}
+use Rattle.std.proofs.lemmas.Bool.{false≢true}
 use Rattle.std.proofs.lemmas.List.{get_or-replicate, length-replicate, length_push}
 use denote.Param.{param}
 use Rattle.thin_block.specs.declared.errors.ThinVecError.TheVariants.{OutOfMemory}
 use Rattle.std.specs.Borrow.{RattleType}
 use Rattle.thin_block.specs.Growth.{GrowthRule}
 use Rattle.thin_vec.specs.ThinVec.{ListView, capacity_after_reserve}
-use Rattle.thin_vec.specs.List.Capacity.{Reserves}
+use Rattle.thin_vec.specs.List.Capacity.{OverflowsIff}
+use Rattle.thin_vec.proofs.edits.SpliceLemmas.{any-err}
 use Rattle.thin_vec.proofs.list.ClonesLemmas.{cut-back, equal-repeated, grew}
-use Rattle.thin_vec.proofs.list.ReservesLemmas.{grows-room, tells-ok, tells-then}
+use Rattle.thin_vec.proofs.list.ReservesLemmas.{capacity-kept, keeps-join, keeps-kept, tells-ok, tells-then}
 use Rattle.thin_vec.proofs.list.ThinVec.resize.Goals as goal
 
 -- `reserve` gave the list the capacity `c`, which the growth rule chose.
@@ -66,7 +68,12 @@ pub returns-in_err-reserve-clause-cost : goal.returns-in_err-reserve-clause-cost
 returns-in_err-reserve-clause-cost g c = search (arith, ◌∙◌)
 
 pub returns-in_err-reserve-clause-err : goal.returns-in_err-reserve-clause-err
-returns-in_err-reserve-clause-err g c = search (arith, ◌∙◌)
+returns-in_err-reserve-clause-err g c =
+    any-err c.from_residual.result (λ _. inl (
+      λ room. false≢true
+          (c.in_err-reserve.ensures.succeeds (omega (arith, room, c.len-old.ensures.value))),
+      c.in_err-reserve.ensures.err,
+    ))
 
 pub returns-in_err-reserve-clause-err_items : goal.returns-in_err-reserve-clause-err_items
 returns-in_err-reserve-clause-err_items g c = search (arith, ◌∙◌)
@@ -81,30 +88,28 @@ returns-in_err-reserve-clause-items_if_clones_equal g c = search (arith, ◌∙�
 pub returns-then-len-old-clause-items : goal.returns-then-len-old-clause-items
 returns-then-len-old-clause-items g c = grind (arith, common_steps)
 
-pub returns-then-len-old-clause-grows : goal.returns-then-len-old-clause-grows
-returns-then-len-old-clause-grows g c =
-    grows-room _ c.args.self.now g.G.Growth.rule _ _
+pub returns-then-len-old-clause-capacity : goal.returns-then-len-old-clause-capacity
+returns-then-len-old-clause-capacity g c =
+    capacity-kept (param 0 g.row.T) c.args.self.now g.G.Growth.rule _ c.truncate.new.self
     (omega (arith, c.len-old.ensures.value, c.if-len-old.true, c.len-old.ensures.bounds.room))
-    (ap (λ v. v.alloc) c.truncate.ensures.changes)
-    (ap (λ v. v.capacity) c.truncate.ensures.changes) c.truncate.ensures.bounds
+    (ap (λ v. v.capacity) c.truncate.ensures.changes)
 
 pub returns-then-len-old-clause-overflow : goal.returns-then-len-old-clause-overflow
 returns-then-len-old-clause-overflow g c =
-    tells-ok _ _ _ (returns-then-len-old-clause-grows g c).ok
+    tells-ok _ _ _ (returns-then-len-old-clause-capacity g c)
 
 pub returns-in_err-reserve-clause-overflow : goal.returns-in_err-reserve-clause-overflow
 returns-in_err-reserve-clause-overflow g c =
-    let refused = subst (λ n. Reserves g.G.Growth.rule (param 0 g.row.T) (c.args.len - n)
-    c.args.self.now c.reserve.new.self c.from_residual.result) c.len-old.ensures.value
-    (search (arith, ◌∙◌)) in
-    record { overflow = refused.overflow }
+    subst (λ n. OverflowsIff (capacity_after_reserve g.G.Growth.rule (param 0 g.row.T)
+    c.args.self.now (c.args.len - n)) c.from_residual.result) c.len-old.ensures.value
+    (search (arith, ◌∙◌))
 
 pub returns-then-push_repeated_reserved-count-clause-err :
     goal.returns-then-push_repeated_reserved-count-clause-err
 returns-then-push_repeated_reserved-count-clause-err g c =
     let v = c.args.self.now in
     let named = reserved g.G.Growth.rule (param 0 g.row.T) v c.args.len c.len-old.ensures.value
-    c.in_ok-reserve.ensures.capacity.ok in
+    c.in_ok-reserve.ensures.capacity in
     let w = c.truncate-then-push_repeated_reserved-count in
     let placed = c.push_repeated_reserved in
     inr (grew g.T.Clone.is_infallible (replicate (c.args.len - length v.items - 1) c.args.value)
@@ -126,9 +131,24 @@ pub returns-then-push_repeated_reserved-count-clause-overflow :
     goal.returns-then-push_repeated_reserved-count-clause-overflow
 returns-then-push_repeated_reserved-count-clause-overflow g c =
     tells-then _ _ (Err OutOfMemory) (reserved g.G.Growth.rule (param 0 g.row.T) c.args.self.now
-    c.args.len c.len-old.ensures.value c.in_ok-reserve.ensures.capacity.ok) refl
+    c.args.len c.len-old.ensures.value c.in_ok-reserve.ensures.capacity) refl
+
+pub returns-clause-capacity : goal.returns-clause-capacity
+returns-clause-capacity g c =
+    reserved g.G.Growth.rule (param 0 g.row.T) c.args.self.now c.args.len c.len-old.ensures.value
+    (c.in_ok-reserve.ensures.capacity ∙ ap Some (sym (c.push_reserved.ensures.capacity
+    ∙ ap (λ z. z.capacity) c.push_repeated_reserved.ensures.changes)))
+
+pub returns-clause-preserved : goal.returns-clause-preserved
+returns-clause-preserved g c =
+    let placed = c.push_repeated_reserved.ensures in
+    keeps-join c.reserve.ensures.preserved
+    (keeps-join (keeps-kept (param 0 g.row.T) c.reserve.new.self c.push_repeated_reserved.new.self
+    (ap (λ z. z.alloc) placed.changes) (ap (λ z. z.capacity) placed.changes)
+    (ap (λ z. z.cost.blocks) placed.changes, ap (λ z. z.cost.grown) placed.changes) placed.bounds)
+    c.push_reserved.ensures.preserved)
 
 pub returns-clause-overflow : goal.returns-clause-overflow
 returns-clause-overflow g c =
     tells-then _ _ (Ok tt) (reserved g.G.Growth.rule (param 0 g.row.T) c.args.self.now
-    c.args.len c.len-old.ensures.value c.in_ok-reserve.ensures.capacity.ok) tt
+    c.args.len c.len-old.ensures.value c.in_ok-reserve.ensures.capacity) tt

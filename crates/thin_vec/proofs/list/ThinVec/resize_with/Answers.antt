@@ -1,28 +1,33 @@
 -- If the list does not become longer, its capacity does not change. Otherwise, `reserve` determines
 -- the new capacity, and the results of `make` are appended.
-use Rattle.std.proofs.Common.{Ok, ◌≡◌, ◌-◌, ◌++◌, ap, arith, length, length-append, refl, subst, sym, take, take_all, ◌∙◌}
+use Rattle.std.proofs.Common.{Some, ◌≡◌, ◌-◌, ◌++◌, ap, arith, length, length-append, refl, subst, sym, take, take_all, ◌∙◌}
 use denote.Param.{param}
-use Rattle.thin_vec.specs.List.Capacity.{Reserves}
+use Rattle.thin_vec.specs.List.Capacity.{OverflowsIff}
 use Rattle.thin_vec.specs.ThinVec.{capacity_after_reserve, fits_allocatable}
 use Rattle.thin_block.proofs.BlockLemmas.{slots-are, then-len}
 use Rattle.thin_block.specs.Capacity.{Fits}
 use Rattle.thin_block.specs.Slots.{items_in}
 use Rattle.thin_vec.proofs.list.AppendSplitLemmas.{restores-more}
 use Rattle.thin_vec.proofs.ListLemmas.{RestoresInvariant}
-use Rattle.thin_vec.proofs.list.ReservesLemmas.{keeps-join, keeps-settled, reserves-room, reserves-then}
+use Rattle.thin_vec.proofs.list.ReservesLemmas.{capacity-kept, keeps-join, keeps-settled, tells-ok}
 use Rattle.thin_vec.proofs.list.ThinVec.resize_with.Goals.{After-set_len}
 use Rattle.thin_vec.proofs.list.ThinVec.resize_with.Goals as goal
 
 pub returns-then-len-old-clause-capacity : goal.returns-then-len-old-clause-capacity
 returns-then-len-old-clause-capacity g c =
-    reserves-room _ c.args.self.now g.G.Growth.rule _ _
+    capacity-kept (param 0 g.row.T) c.args.self.now g.G.Growth.rule _ c.truncate.new.self
     (omega (arith, c.len-old.ensures.value, c.if-len-old.true, c.len-old.ensures.bounds.room))
     (ap (λ v. v.capacity) c.truncate.ensures.changes)
 
-pub returns-in_err-reserve-clause-capacity : goal.returns-in_err-reserve-clause-capacity
-returns-in_err-reserve-clause-capacity g c =
-    subst (λ n. Reserves g.G.Growth.rule (param 0 g.row.T) (c.args.len - n) c.args.self.now
-    c.reserve.new.self c.from_residual.result) c.len-old.ensures.value (search (arith, ◌∙◌))
+pub returns-then-len-old-clause-overflow : goal.returns-then-len-old-clause-overflow
+returns-then-len-old-clause-overflow g c =
+    tells-ok _ _ _ (returns-then-len-old-clause-capacity g c)
+
+pub returns-in_err-reserve-clause-overflow : goal.returns-in_err-reserve-clause-overflow
+returns-in_err-reserve-clause-overflow g c =
+    subst (λ n. OverflowsIff (capacity_after_reserve g.G.Growth.rule (param 0 g.row.T)
+    c.args.self.now (c.args.len - n)) c.from_residual.result) c.len-old.ensures.value
+    (search (arith, ◌∙◌))
 
 -- `put_results` writes the results of `make` into the slots directly after the last item.
 facts : (g : _) (c : After-set_len g)
@@ -39,7 +44,7 @@ facts g c =
     (omega (arith, ap (λ v. length v.items) c.self.view_is))
     (omega (
       arith,
-      c.in_ok-reserve.ensures.ok,
+      c.in_ok-reserve.ensures.room,
       ap (λ v. length v.items) c.self.view_is,
       ap (λ v. v.capacity) c.self.view_is,
     ))
@@ -47,18 +52,25 @@ facts g c =
     (then-len c.set_len.ensures.changes
     (slots-are put.changes put.slots.4))
 
+kept : (g : _) (c : After-set_len g)
+    → length c.set_len.new.self.slots ≡ c.reserve.new.self.capacity
+kept g c = (facts g c).cap ∙ ap (λ z. z.capacity) c.self.view_is
+
 pub invariant_of-self : goal.invariant_of-self
 invariant_of-self g c = (facts g c).thin
 
 pub returns-clause-capacity : goal.returns-clause-capacity
 returns-clause-capacity g c =
-    let rule = g.G.Growth.rule in let T = param 0 g.row.T in let v = c.args.self.now in
-    let len = sym c.len-old.ensures.value in
-    reserves-then _ v rule T (c.args.len - c.len-old.result) _ c.reserve.new.self _ (Ok tt)
-    (ap (λ n. c.args.len - n) len)
-    (ap (λ n. capacity_after_reserve rule T v (c.args.len - n)) len)
-    ((facts g c).cap ∙ ap (λ z. z.capacity) c.self.view_is)
-    c.in_ok-reserve.ensures.capacity tt
+    ap (λ n. capacity_after_reserve g.G.Growth.rule (param 0 g.row.T) c.args.self.now
+    (c.args.len - n)) (sym c.len-old.ensures.value)
+    ∙ (c.in_ok-reserve.ensures.capacity ∙ ap Some (sym (kept g c)))
+
+pub returns-clause-had_room : goal.returns-clause-had_room
+returns-clause-had_room g c room =
+    kept g c ∙ c.reserve.ensures.had_room (omega (arith, room, c.len-old.ensures.value))
+
+pub returns-clause-overflow : goal.returns-clause-overflow
+returns-clause-overflow g c = tells-ok _ _ _ (returns-clause-capacity g c)
 
 pub returns-clause-items : goal.returns-clause-items
 returns-clause-items g c =

@@ -1,26 +1,23 @@
 -- The test that `retain` passes to `retain_with` calls the closure `keep` once for each item.
 use Rattle.std.specs.Fn.{CalledAt}
-use Rattle.thin_vec.specs.Edits.Retain.{ReadsOnly}
-use Rattle.thin_vec.proofs.RetainLemmas.{few-retained, retained-moves, retained-through, retained_filtered}
+use Rattle.thin_vec.proofs.RetainLemmas.{few-retained, retained-moves, retained-reads, retained_filtered}
 use Rattle.thin_vec.proofs.list.ThinVec.retain.Goals as goal
 
 pub returns-clause-retained : goal.returns-clause-retained
 returns-clause-retained g c =
-    retained-through (ReadsOnly (CalledAt g.F.FnMut)) (λ s. s.keep)
-    _ c.args.self.now c.retain_with.new.self _ c.retain_with.ensures.retained
+    retained-reads (CalledAt g.F.FnMut) (λ s. s.keep) _ c.args.self.now c.retain_with.new.self
+    c.retain_with.ensures.retained
 
 pub returns-clause-filtered : goal.returns-clause-filtered
 returns-clause-filtered g c =
     retained_filtered (CalledAt g.F.FnMut) _ c.args.self.now c.retain_with.new.self
-    (retained-through (ReadsOnly (CalledAt g.F.FnMut)) (λ s. s.keep)
-    _ c.args.self.now c.retain_with.new.self _ c.retain_with.ensures.retained)
+    (retained-reads (CalledAt g.F.FnMut) (λ s. s.keep) _ c.args.self.now c.retain_with.new.self
+    c.retain_with.ensures.retained)
 
 pub returns-clause-bound : goal.returns-clause-bound
 returns-clause-bound g c =
-    few-retained (ReadsOnly (CalledAt g.F.FnMut)) _ c.args.self.now c.retain_with.new.self
-    (retained-through (ReadsOnly (CalledAt g.F.FnMut)) (λ s. s.keep)
-    _ c.args.self.now c.retain_with.new.self _ c.retain_with.ensures.retained)
+    few-retained _ _ c.args.self.now c.retain_with.new.self c.retain_with.ensures.retained
 
 pub returns-clause-moves : goal.returns-clause-moves
 returns-clause-moves g c =
-    retained-moves _ _ _ c.args.self.now c.retain_with.new.self c.retain_with.ensures.retained
+    retained-moves _ _ c.args.self.now c.retain_with.new.self c.retain_with.ensures.retained

@@ -1,7 +1,9 @@
 -- `retain_middle` tests each item, and drops the items that are not to be kept.
 use Rattle.std.proofs.Common.{◌≡◌, arith, rules}
-use Rattle.thin_vec.proofs.ThinVecLemmas.{within-like}
 use Rattle.std.proofs.lemmas.Grind.{common_steps}
+use Rattle.thin_vec.proofs.RetainLemmas.{retained-results}
+use Rattle.thin_vec.proofs.ThinVecLemmas.{within-like}
+use Rattle.thin_vec.specs.OpenBlock.Retain.{TestsInTurn}
 use Rattle.thin_vec.proofs.list.ThinVec.retain_with.Goals as goal
 
 pub returns-clause-bounds : goal.returns-clause-bounds
@@ -13,4 +15,9 @@ returns-clause-bounds g c =
     )
 
 pub returns-clause-retained : goal.returns-clause-retained
-returns-clause-retained g c = grind (arith, common_steps)
+returns-clause-retained g c =
+    let r = c.retain_middle.ensures.retained in
+    let asked : TestsInTurn g.J.Test.tests c.args.test.now c.args.self.now.items r.results
+    c.retain_middle.new.test = grind (arith, common_steps) in
+    retained-results g.J.Test.tests c.args.test.now c.retain_middle.new.test c.args.self.now
+    c.close.new.self r.results asked (grind (arith, common_steps)) (grind (arith, common_steps))

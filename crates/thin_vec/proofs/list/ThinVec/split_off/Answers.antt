@@ -11,8 +11,8 @@ with_fitting_capacity-requires g c =
           c.len.result c.len.ensures.fits (omega arith);
     }
 
-pub returns-in_err-tail-clause-capacity : goal.returns-in_err-tail-clause-capacity
-returns-in_err-tail-clause-capacity g c = search (arith, ◌∙◌)
+pub returns-in_err-tail-clause-tail_capacity : goal.returns-in_err-tail-clause-tail_capacity
+returns-in_err-tail-clause-tail_capacity g c = search (arith, ◌∙◌)
 
-pub returns-clause-capacity : goal.returns-clause-capacity
-returns-clause-capacity g c = search (arith, ◌∙◌)
+pub returns-clause-tail_capacity : goal.returns-clause-tail_capacity
+returns-clause-tail_capacity g c = search (arith, ◌∙◌)

@@ -21,8 +21,8 @@ returns-clause-items g c = (facts g c).items
 pub returns-clause-len : goal.returns-clause-len
 returns-clause-len g c = ap length (facts g c).items
 
-pub returns-clause-new : goal.returns-clause-new
-returns-clause-new g c = record {
+pub returns-clause-fresh : goal.returns-clause-fresh
+returns-clause-fresh g c = record {
   alloc = refl;
   cheap = grind (arith, common_steps);
   within = within-settled _ _ _ _ _ c.requires.fits (facts g c);

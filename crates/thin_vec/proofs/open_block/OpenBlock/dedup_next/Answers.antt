@@ -57,7 +57,7 @@ returns-then-middle_len-gt0-clause-deduped g c =
     (search rules)
     (not c.test_next-stays.result) (search rules) (search rules)
     (ap not c.if-not-stays.false) c.test_pairs-kept.result c.test_pairs-kept.new.test
-    c.test_pairs-kept.new.self.middle r goes.0 (run-count R _ _ _ _ _ r (false ∷ []) refl goes.1)
+    c.test_pairs-kept.new.self.middle r goes.0 (run-count R _ _ _ _ _ r (true ∷ []) refl goes.1)
     (search rules) (search rules)
 
 -- No item is removed.

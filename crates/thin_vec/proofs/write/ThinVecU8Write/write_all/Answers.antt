@@ -6,7 +6,7 @@ use Rattle.thin_vec.proofs.write.ThinVecU8Write.write_all.Goals as goal
 
 pub returns-clause-capacity : goal.returns-clause-capacity
 returns-clause-capacity g c =
-    c.in-Ok.ensures.capacity.ok
+    c.in-Ok.ensures.capacity
     ∙ ap (λ n. Some n) (sym c.extend_from_copies_reserved.ensures.capacity)
 
 pub returns-clause-overflow : goal.returns-clause-overflow

@@ -29,10 +29,10 @@ returns-in-Ok-clause-items g c = (facts g c).items ∙ ap (λ xs. xs ++ c.args.i
 pub returns-in-Ok-clause-capacity : goal.returns-in-Ok-clause-capacity
 returns-in-Ok-clause-capacity g c = grind (arith, common_steps)
 
-pub returns-in-Ok-clause-new : goal.returns-in-Ok-clause-new
-returns-in-Ok-clause-new g c = record {
+pub returns-in-Ok-clause-fresh : goal.returns-in-Ok-clause-fresh
+returns-in-Ok-clause-fresh g c = record {
   alloc = search (arith, ◌∙◌);
   cheap = search (arith, ◌∙◌);
   within = within-stays _ c.list.inside.block c.list.inside.alloc
-      c.set_len.new.self _ _ c.in-Ok.ensures.new.within c.list.view_is (facts g c);
+      c.set_len.new.self _ _ c.in-Ok.ensures.fresh.within c.list.view_is (facts g c);
 }

@@ -1,6 +1,7 @@
 -- A call of `next` changes only the state that the `ExtractIf` owns.
-use Rattle.std.proofs.Common.{◌++◌, refl}
-use Rattle.thin_vec.specs.OpenView.{cost_closed}
+use Rattle.std.proofs.Common.{◌+◌, ◌++◌, length, refl}
+use Rattle.std.specs.Prelude.{◌==◌, if◌then◌else◌}
+use Rattle.thin_block.specs.Cost.{add_moves}
 use Rattle.thin_vec.proofs.edits.extract_if.ExtractIf+T+F+A+G.next.Goals as goal
 
 pub returns-clause-steps : goal.returns-clause-steps
@@ -15,6 +16,7 @@ returns-clause-steps g c =
         items = s.front i ++ (new.block.middle ++ s.tail i);
         capacity = s.capacity i;
         alloc = c.args.self.now.list.now.alloc;
-        cost = cost_closed new.block;
+        cost = if new.block.gap_before == 0 then new.block.cost else add_moves
+            (length new.block.middle + length (s.tail i)) new.block.cost;
       };
     }

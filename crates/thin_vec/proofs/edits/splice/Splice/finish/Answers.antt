@@ -5,8 +5,8 @@ use Rattle.thin_vec.specs.Edits.Finish.{FinishesSplice}
 use Rattle.thin_vec.specs.OpenView.{tail_end}
 use Rattle.thin_vec.specs.Edits.Splice.{left_by_splice, splice_front, splice_iter, splice_list, splice_tail}
 use Rattle.thin_vec.proofs.ThinVecLemmas.{allocatable-less}
+use Rattle.thin_vec.proofs.PushesLemmas.{splices-costs}
 use Rattle.thin_vec.proofs.list.ExtendLemmas.{run_of_ok}
-use Rattle.thin_vec.proofs.edits.SpliceLemmas.{if-err}
 use Rattle.thin_vec.proofs.edits.splice.Splice.finish.Goals.{else-has_tail, then-has_tail}
 use Rattle.thin_vec.proofs.edits.splice.Splice.finish.Goals as goal
 
@@ -57,17 +57,16 @@ returns g c =
       ];
       had_room = λ fit.
           let same = f.taken.had_room fit in
-          (same, (f.taken.cost.kept same).0);
-      bounds = room;
+          (same, f.taken.kept same);
+      range_room = room;
       placed = f.placed;
-      err_full = if-err r
-          (λ error is now some. omega (arith, now some, length-append v.front v.tail)) f.range;
-      held = f.held;
-      in_hand = f.in_hand;
+      at_end_held = f.held;
+      at_end_in_hand = f.in_hand;
+      before_tail = f.stops;
       cause = f.cause;
       capacity = f.capacity;
-      cost = f.taken.cost;
-      blocks = (f.blocks, f.requests);
+      cost = splices-costs rule T (splice_tail c.args.self) _ left w _ g.met.G.Growth.law f.capacity
+          room f.longer;
       preserved = record {
         alloc = f.taken.alloc;
         never_less = le;

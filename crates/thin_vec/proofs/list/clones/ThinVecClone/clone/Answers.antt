@@ -12,9 +12,9 @@ returns-in-Ok g c =
         len = sym (length_all_zip g.T.Clone.is_clone c.args.self.now.items c.in-Ok.other.items
             e.items);
         capacity = e.capacity;
-        alloc = e.new.alloc ∙ c.allocator.ensures.value;
+        alloc = e.fresh.alloc ∙ c.allocator.ensures.value;
         cost = e.cost;
-        cheap = e.new.cheap;
-        small = e.new.within.small;
+        cheap = e.fresh.cheap;
+        small = e.fresh.within.small;
       };
     }

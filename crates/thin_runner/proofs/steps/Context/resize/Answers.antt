@@ -1,9 +1,0 @@
--- The contract of `resize` implies what `Steps` states about the command `Resize`.
-use Rattle.std.proofs.Common.{rules}
-use Rattle.thin_runner.proofs.steps.Context.resize.Goals as goal
-
-pub returns-in-Ok : goal.returns-in-Ok
-returns-in-Ok g c = search rules
-
-pub returns-in-Err : goal.returns-in-Err
-returns-in-Err g c = search rules
