@@ -48,6 +48,19 @@ impl<'a, T> Claims<'a, T> {
     pub fn left(&self) -> usize {
         self.items.len()
     }
+
+    /// Returns the items that have not been yielded yet. This counts no call to `next`.
+    pub fn into_left(self) -> IntoIter<T, Global> {
+        let Claims {
+            items,
+            lower: _,
+            is_bounded: _,
+            is_exact: _,
+            ledger: _,
+            itself: _,
+        } = self;
+        items
+    }
 }
 
 impl<T: Drop> Iterator for Claims<'_, T> {

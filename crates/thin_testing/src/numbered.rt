@@ -54,6 +54,18 @@ impl Numbered for () {
     fn numbered(_ledger: &'static Ledger, _number: u64) -> () {}
 }
 
+impl Numbered for [u128; 0] {
+    const SIZE: usize = 0;
+
+    const ALIGN: usize = 16;
+
+    const LIMIT: usize = 9_223_372_036_854_775_807;
+
+    fn numbered(_ledger: &'static Ledger, _number: u64) -> [u128; 0] {
+        []
+    }
+}
+
 impl Numbered for u8 {
     const SIZE: usize = 1;
 
@@ -114,6 +126,18 @@ impl Numbered for [u8; 7] {
     }
 }
 
+impl Numbered for [u8; 32] {
+    const SIZE: usize = 32;
+
+    const ALIGN: usize = 1;
+
+    const LIMIT: usize = 288_230_376_151_711_743;
+
+    fn numbered(_ledger: &'static Ledger, number: u64) -> [u8; 32] {
+        [(number % 251) as u8; 32]
+    }
+}
+
 impl Numbered for u16 {
     const SIZE: usize = 2;
 
@@ -159,6 +183,18 @@ impl Numbered for [u32; 3] {
 
     fn numbered(_ledger: &'static Ledger, number: u64) -> [u32; 3] {
         [(number % 65521) as u32; 3]
+    }
+}
+
+impl Numbered for [u32; 4] {
+    const SIZE: usize = 16;
+
+    const ALIGN: usize = 4;
+
+    const LIMIT: usize = 576_460_752_303_423_486;
+
+    fn numbered(_ledger: &'static Ledger, number: u64) -> [u32; 4] {
+        [(number % 65521) as u32; 4]
     }
 }
 
@@ -216,6 +252,16 @@ impl Numbered for [u64; 3] {
     }
 }
 
+impl Numbered for [u64; 5] {
+    const SIZE: usize = 40;
+
+    const LIMIT: usize = 230_584_300_921_369_394;
+
+    fn numbered(_ledger: &'static Ledger, number: u64) -> [u64; 5] {
+        [number; 5]
+    }
+}
+
 impl Numbered for [u64; 6] {
     const SIZE: usize = 48;
 
@@ -223,6 +269,26 @@ impl Numbered for [u64; 6] {
 
     fn numbered(_ledger: &'static Ledger, number: u64) -> [u64; 6] {
         [number; 6]
+    }
+}
+
+impl Numbered for [u64; 12] {
+    const SIZE: usize = 96;
+
+    const LIMIT: usize = 96_076_792_050_570_581;
+
+    fn numbered(_ledger: &'static Ledger, number: u64) -> [u64; 12] {
+        [number; 12]
+    }
+}
+
+impl Numbered for [u64; 32] {
+    const SIZE: usize = 256;
+
+    const LIMIT: usize = 36_028_797_018_963_967;
+
+    fn numbered(_ledger: &'static Ledger, number: u64) -> [u64; 32] {
+        [number; 32]
     }
 }
 

@@ -8,9 +8,9 @@ use std::process::Abort;
 use thin_testing::{Answer, At, Case, Due, Ledger, Numbered};
 use thin_vec::{Doubling, ThinVec, ThinVecError};
 
-/// Converts lists of several lengths to arrays of 0, 1, 2, 3, 6, 7, 20 and 100 items, and back.
+/// Converts lists of several lengths to arrays of up to 300 items, and back.
 pub fn arrays<T: Numbered, R: Abort>(rt: &R, ledger: &'static Ledger)
-    requires small { 100 * type_size T.row < 2 ^ 63 }
+    requires small { 300 * type_size T.row < 2 ^ 63 }
 {
     arrays_of::<T, 0, R>(rt, ledger);
     arrays_of::<T, 1, R>(rt, ledger);
@@ -20,13 +20,14 @@ pub fn arrays<T: Numbered, R: Abort>(rt: &R, ledger: &'static Ledger)
     arrays_of::<T, 7, R>(rt, ledger);
     arrays_of::<T, 20, R>(rt, ledger);
     arrays_of::<T, 100, R>(rt, ledger);
+    arrays_of::<T, 300, R>(rt, ledger);
 }
 
 // Converts lists to arrays of `N` items, and back. Refuses the request of the conversion back.
 fn arrays_of<T: Numbered, const N: usize, R: Abort>(rt: &R, ledger: &'static Ledger)
     requires small { N * type_size T.row < 2 ^ 63 }
 {
-    for length in [0, 1, 2, 3, 4, 6, 7, 8, 20, 100] {
+    for length in [0, 1, 2, 3, 4, 6, 7, 8, 20, 100, 300] {
         for spare in 0..2 {
             for refused in 0..if length == N { 2 } else { 1 } {
                 let at = At {

@@ -181,6 +181,14 @@ fn sweeps_items_of_odd_sizes(rt: HostRuntime) {
     sweep_all::<[u32; 7], Doubling, _>(&rt, rt.alloc(), &LONGER);
 }
 
+#[test]
+fn sweeps_items_that_are_aligned_otherwise_than_most(rt: HostRuntime) {
+    sweep_all::<[u128; 0], Doubling, _>(&rt, rt.alloc(), &[50]);
+    sweep_all::<[u32; 4], Doubling, _>(&rt, rt.alloc(), &[50]);
+    sweep_all::<[u8; 32], Doubling, _>(&rt, rt.alloc(), &[50]);
+    sweep_all::<[u64; 5], Doubling, _>(&rt, rt.alloc(), &[50]);
+}
+
 // Sweeps the calls on short lists with the growth rule `G`.
 fn growths<G: Ruled, R: Abort>(rt: &R, ledger: &'static Ledger) {
     sweep::<Adding, Small, G, R>(rt, ledger, &SHORT, &[0, 1], ALL);
@@ -280,6 +288,8 @@ fn converts_arrays(rt: HostRuntime) {
     arrays::<(), _>(&rt, ledger);
     arrays::<u8, _>(&rt, ledger);
     arrays::<[u8; 3], _>(&rt, ledger);
+    arrays::<u64, _>(&rt, ledger);
+    arrays::<CountedWord<'static>, _>(&rt, ledger);
     arrays::<Small, _>(&rt, ledger);
     arrays::<ThreeWords, _>(&rt, ledger);
     arrays::<Large, _>(&rt, ledger);

@@ -65,10 +65,10 @@ fn refused_conversions_of_a_list_return_the_list(rt: HostRuntime) -> Result<(), 
         Refusing::leaked(rt.alloc(), 0)?,
         Refusing::leaked(rt.alloc(), 1)?,
     );
-    let list = list_of(own, &[1, 2, 3])?;
+    let list = list_of(own, &[1, 2, 3, 4, 5])?;
     let refused = list.into_vec(other).err().ok_or("converted")?;
     assert_same(&rt, refused.cause, OUT_OF_MEMORY);
-    assert_list(&rt, &refused.value, &[1, 2, 3], 3);
+    assert_list(&rt, &refused.value, &[1, 2, 3, 4, 5], 5);
     other.refuse(1);
     let refused = refused
         .value
@@ -76,10 +76,10 @@ fn refused_conversions_of_a_list_return_the_list(rt: HostRuntime) -> Result<(), 
         .err()
         .ok_or("converted")?;
     assert_same(&rt, refused.cause, OUT_OF_MEMORY);
-    assert_list(&rt, &refused.value, &[1, 2, 3], 3);
+    assert_list(&rt, &refused.value, &[1, 2, 3, 4, 5], 5);
     assert_counts(&rt, own, 1, 1);
     assert_counts(&rt, other, 1, 0);
     let list = refused.value.into_array::<2>().err().ok_or("converted")?;
-    assert_list(&rt, &list, &[1, 2, 3], 3);
+    assert_list(&rt, &list, &[1, 2, 3, 4, 5], 5);
     Ok(())
 }

@@ -24,6 +24,19 @@ fn resize_grows_past_twice_the_capacity(rt: HostRuntime) -> Result<(), Fail> {
     Ok(())
 }
 
+#[test]
+fn long_lists_double_their_capacity(rt: HostRuntime) -> Result<(), Fail> {
+    let mut list = list_of(rt.alloc(), &[7; 3000])?;
+    list.resize(3001, 7)?;
+    let mut appended = list_of(rt.alloc(), &[7; 300])?;
+    appended.append(&mut list_of(rt.alloc(), &[7; 200])?)?;
+    let mut bytes = list_of(rt.alloc(), &[7_u8; 10_001])?;
+    bytes.push(7)?;
+    let capacities = (list.capacity(), appended.capacity(), bytes.capacity());
+    assert_same(&rt, capacities, (6000, 600, 20_002));
+    Ok(())
+}
+
 // An iterator that returns the answers in order, and counts the calls. The lower bound of its size
 // hint is always 3.
 #[derive(Drop)]

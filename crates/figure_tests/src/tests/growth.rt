@@ -77,6 +77,7 @@ fn power_bytes_fills_blocks_of_power_of_two_sizes(rt: HostRuntime) -> Result<(),
     assert_grows(&rt, alloc, 7_u32, &[4, 12, 28, 60])?;
     assert_grows(&rt, alloc, 7_u64, &[2, 6, 14])?;
     assert_grows(&rt, alloc, [7_u64, 8, 9], &[2, 4, 10])?;
+    assert_grows(&rt, alloc, [7_u64; 40], &[1, 3, 6, 12])?;
     assert_grows(&rt, alloc, (), &[4, 8, 16])?;
     Ok(())
 }

@@ -19,7 +19,7 @@ fn hash_of_slice(items: &[i32]) -> u64 {
 
 #[test]
 fn a_list_and_its_slice_hash_alike(rt: HostRuntime) -> Result<(), Fail> {
-    for items in [&[][..], &[7], &[1, 2, 3]] {
+    for items in [&[][..], &[7], &[1, 2, 3], &[5; 100]] {
         let mut list = list_of(rt.alloc(), items)?;
         list.reserve(9)?;
         assert_same(&rt, hash_of_list(&list), hash_of_slice(items));

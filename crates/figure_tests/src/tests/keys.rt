@@ -17,5 +17,11 @@ fn dedup_by_key_asks_the_later_item_and_then_the_kept_one(rt: HostRuntime) -> Re
     list.dedup_by_key(|item| key(&asked, *item));
     assert_same(&rt, asked.get(), 11_10_20_10);
     assert_list(&rt, &list, &[10, 20], 3);
+    let (mut list, asked) = (
+        list_of(rt.alloc(), &[[10; 40], [11; 40], [20; 40]])?,
+        Cell::new(0),
+    );
+    list.dedup_by_key(|item| key(&asked, item[0]));
+    assert_same(&rt, (asked.get(), list.len()), (11_10_20_10, 2));
     Ok(())
 }

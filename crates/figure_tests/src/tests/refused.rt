@@ -104,5 +104,10 @@ fn write_macro_and_write_vectored_append_their_bytes(rt: HostRuntime) -> Result<
     let slices = [IoSlice::new(b"ab"), IoSlice::new(b""), IoSlice::new(b"cd")];
     assert_same(&rt, list.write_vectored(&slices)?, 4);
     assert_same(&rt, list.as_slice() == b"7-\"x\"abcd".as_slice(), true);
+    assert_same(
+        &rt,
+        (list.write(&[7; 20_000])?, list.len()),
+        (20_000, 20_009),
+    );
     Ok(())
 }

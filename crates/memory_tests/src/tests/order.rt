@@ -5,6 +5,7 @@ ghost use Rattle.thin_vec.specs.Edits.Splice.{SpliceKeeps};
 
 use crate::tests::support::assert_same;
 use std::alloc::Allocator;
+use std::cell::Cell;
 use std::iter::Iterator;
 use std::process::Abort;
 use std::test::Fail;
@@ -50,6 +51,9 @@ const CALLS: [Call; 14] = [
 // The number of the value that `resize` drops.
 const VALUE: u64 = 5000;
 
+// The length of a list of which each number of items is taken.
+const TAKEN: usize = 20;
+
 // A call on a list of `len` items, whose numbers are their indices.
 #[derive(Clone, Copy, PartialEq, Debug)]
 struct Case {
@@ -58,8 +62,8 @@ struct Case {
     // The range.
     start: usize,
     end: usize,
-    // The number of items that are taken from the front of the range, and then from its back, at
-    // most 3 from each. Each of them is dropped at once.
+    // The number of items that are taken from the front of the range, and then from its back. Each
+    // of them is dropped at once.
     fronts: usize,
     backs: usize,
     // The number of items that replace the range. Their numbers follow those of the list.
@@ -310,7 +314,7 @@ fn assert_range<T: Numbered>(
 // Makes each call on lists of several lengths, with several ranges.
 fn assert_in_order<T: Numbered>(rt: &impl Abort, ledger: &'static Ledger) -> Result<(), Fail> {
     for call in CALLS {
-        for len in [5_usize, 17, 40, 100, 1000] {
+        for len in [5_usize, 17, 40, 100, 3000] {
             let last = len.saturating_sub(1);
             for (start, end) in [(0, len), (1, last), (1, len), (2, len), (0, 2)] {
                 let case = Case {
@@ -329,13 +333,85 @@ fn assert_in_order<T: Numbered>(rt: &impl Abort, ledger: &'static Ledger) -> Res
     Ok(())
 }
 
+// Takes each number of items from the front of all iterators but `Splice`, and some of the rest
+// from the back.
+fn assert_taken<T: Numbered>(rt: &impl Abort, ledger: &'static Ledger) -> Result<(), Fail> {
+    for call in [Call::IntoIter, Call::Drain, Call::ExtractIf] {
+        for fronts in 0..=TAKEN {
+            for backs in [0, 1, 4, TAKEN] {
+                let case = Case {
+                    call,
+                    len: TAKEN,
+                    start: 0,
+                    end: TAKEN,
+                    fronts,
+                    backs,
+                    new: 0,
+                };
+                if case.is_possible() {
+                    let dropped = drops_of::<T>(rt, ledger, case)?;
+                    assert_same(rt, (case, dropped), (case, case.dropped()));
+                }
+            }
+        }
+    }
+    Ok(())
+}
+
+// Makes the calls on lists of `T`.
+fn assert_order<T: Numbered>(rt: &impl Abort, ledger: &'static Ledger) -> Result<(), Fail> {
+    assert_in_order::<T>(rt, ledger)?;
+    assert_taken::<T>(rt, ledger)
+}
+
 #[test]
 fn removed_items_are_dropped_in_order(rt: HostRuntime) -> Result<(), Fail> {
     let ledger = Ledger::leaked(rt.alloc())?;
-    assert_in_order::<Counted<'static>>(&rt, ledger)?;
-    assert_in_order::<Counted<'static, u64>>(&rt, ledger)?;
-    assert_in_order::<Counted<'static, [u64; 14]>>(&rt, ledger)?;
-    assert_in_order::<Counted<'static, [u64; 62]>>(&rt, ledger)?;
+    assert_order::<Counted<'static>>(&rt, ledger)?;
+    assert_order::<Counted<'static, u64>>(&rt, ledger)?;
+    assert_order::<Counted<'static, [u64; 14]>>(&rt, ledger)?;
+    assert_order::<Counted<'static, [u64; 62]>>(&rt, ledger)?;
+    Ok(())
+}
+
+// Counts a call to a closure that keeps none of `len` items, and adds 1 to `late` if an item that
+// an earlier call did not keep still exists.
+fn reject(ledger: &Ledger, len: u64, late: &Cell<u64>) -> bool {
+    let left = len.saturating_sub(ledger.called());
+    if ledger.live.get() != left {
+        late.set(late.get().saturating_add(1));
+    }
+    false
+}
+
+// Removes all items by `retain` or `retain_mut`. Asserts that each is dropped before the next one
+// is tested.
+fn assert_prompt<T: Numbered>(
+    rt: &impl Abort,
+    ledger: &'static Ledger,
+    len: usize,
+) -> Result<(), Fail> {
+    for is_mut in [false, true] {
+        let mut list: List<T, Doubling> = filled_list(ledger, len, 0)?;
+        let late = Cell::new(0);
+        ledger.begin(0);
+        if is_mut {
+            list.retain_mut(|_item| reject(ledger, len as u64, &late));
+        } else {
+            list.retain(|_item| reject(ledger, len as u64, &late));
+        }
+        assert_same(rt, (len, is_mut, late.get()), (len, is_mut, 0));
+    }
+    Ok(())
+}
+
+#[test]
+fn retain_drops_an_item_before_it_tests_the_next_one(rt: HostRuntime) -> Result<(), Fail> {
+    let ledger = Ledger::leaked(rt.alloc())?;
+    for len in [1, 2, 6, 100] {
+        assert_prompt::<Counted<'static>>(&rt, ledger, len)?;
+        assert_prompt::<Counted<'static, [u64; 62]>>(&rt, ledger, len)?;
+    }
     Ok(())
 }
 

@@ -7,8 +7,8 @@ use crate::tests::support::assert_same;
 use std::alloc::{Allocator, Global};
 use std::process::Abort;
 use std::test::Fail;
-use thin_testing::{Counted, Ledger, Numbered, Refusing, least_power};
-use thin_vec::{PowerBytes, ThinVec, ThinVecError};
+use thin_testing::{Counted, Ledger, Numbered, Refusing, Ruled};
+use thin_vec::{Doubling, PowerBytes, ThinVec, ThinVecError};
 
 // The lists of these tests.
 type List<T> = ThinVec<T, &'static Refusing<Global>>;
@@ -155,6 +155,7 @@ fn a_block_of_large_items_is_padded_from_32_slots_on(rt: HostRuntime) -> Result<
     assert_border::<[u32; 7]>(&rt, ledger, None)?;
     assert_border::<u128>(&rt, ledger, None)?;
     assert_border::<Counted<'static>>(&rt, ledger, None)?;
+    assert_border::<[u8; 32]>(&rt, ledger, None)?;
     assert_border::<[u64; 3]>(&rt, ledger, PADDED)?;
     assert_border::<Counted<'static, u64>>(&rt, ledger, PADDED)?;
     assert_border::<Counted<'static, u128>>(&rt, ledger, PADDED)?;
@@ -261,68 +262,61 @@ fn calls_make_and_free_padded_blocks(rt: HostRuntime) -> Result<(), Fail> {
 // The number of items that a list gets in the next two tests.
 const PUSHES: u64 = 1000;
 
-// Pushes items under the rule `PowerBytes`. Asserts that each block takes at most the next power of
-// two of bytes, and that this power has no room for one item more.
-fn assert_powers<T: Numbered>(
+// Pushes items onto a list under the growth rule `G`. Asserts that it makes a request if it is
+// full, for the capacity that the rule chooses. The block is padded if it has at least `least`
+// slots.
+fn assert_requests<T: Numbered, G: Ruled>(
     rt: &impl Abort,
     ledger: &'static Ledger,
+    least: Option<usize>,
 ) -> Result<(), ThinVecError> {
-    let mut list = ThinVec::<T, &'static Refusing<Global>, PowerBytes>::ruled(&ledger.alloc);
+    let mut list = ThinVec::<T, &'static Refusing<Global>, G>::ruled(&ledger.alloc);
     for number in 0..PUSHES {
+        let (len, capacity) = (list.len(), list.capacity());
         ledger.begin(0);
         list.push(T::numbered(ledger, number))?;
-        if ledger.alloc.requests() > 0 {
-            let bytes = ledger.alloc.lent() as usize;
-            let unused = least_power(bytes).saturating_sub(bytes);
-            let found = (list.capacity(), bytes, unused < T::SIZE);
-            assert_same(rt, found, (list.capacity(), bytes, true));
-        }
+        let wanted = if len == capacity {
+            let grown = G::expected_capacity(T::SIZE, capacity, len.saturating_add(1));
+            (grown, 1, bytes_of::<T>(grown, least))
+        } else {
+            (capacity, 0, 0)
+        };
+        let (requests, bytes) = (ledger.alloc.requests(), ledger.alloc.lent() as usize);
+        assert_same(rt, (list.capacity(), requests, bytes), wanted);
     }
     drop(list);
     assert_nothing(rt, ledger);
     Ok(())
 }
 
+// A block under the rule `PowerBytes` takes 16 bytes and its items, and not the place of two items
+// more. So it just fits into the power of two for which the rule has chosen its capacity.
 #[test]
 fn blocks_of_power_bytes_just_fit_into_powers_of_two(rt: HostRuntime) -> Result<(), Fail> {
     let ledger = Ledger::leaked(rt.alloc())?;
-    assert_powers::<[u64; 3]>(&rt, ledger)?;
-    assert_powers::<Counted<'static, u64>>(&rt, ledger)?;
-    assert_powers::<Counted<'static, u128>>(&rt, ledger)?;
-    assert_powers::<[u64; 6]>(&rt, ledger)?;
-    assert_powers::<[u128; 3]>(&rt, ledger)?;
-    assert_powers::<[u64; 40]>(&rt, ledger)?;
-    Ok(())
-}
-
-// Pushes items under the rule `Doubling`. Asserts that each block from 32 slots on is padded.
-fn assert_doubled<T: Numbered>(
-    rt: &impl Abort,
-    ledger: &'static Ledger,
-) -> Result<(), ThinVecError> {
-    let mut list = List::<T>::new(&ledger.alloc);
-    for number in 0..PUSHES {
-        ledger.begin(0);
-        list.push(T::numbered(ledger, number))?;
-        if ledger.alloc.requests() > 0 {
-            let found = (list.capacity(), ledger.alloc.lent());
-            let bytes = bytes_of::<T>(list.capacity(), PADDED) as u64;
-            assert_same(rt, found, (list.capacity(), bytes));
-        }
-    }
-    drop(list);
-    assert_nothing(rt, ledger);
+    assert_requests::<[u64; 3], PowerBytes>(&rt, ledger, None)?;
+    assert_requests::<Counted<'static, u64>, PowerBytes>(&rt, ledger, None)?;
+    assert_requests::<Counted<'static, u128>, PowerBytes>(&rt, ledger, None)?;
+    assert_requests::<[u64; 5], PowerBytes>(&rt, ledger, None)?;
+    assert_requests::<[u64; 6], PowerBytes>(&rt, ledger, None)?;
+    assert_requests::<[u128; 3], PowerBytes>(&rt, ledger, None)?;
+    assert_requests::<[u64; 40], PowerBytes>(&rt, ledger, None)?;
     Ok(())
 }
 
 #[test]
 fn blocks_of_doubling_are_padded_from_32_slots_on(rt: HostRuntime) -> Result<(), Fail> {
     let ledger = Ledger::leaked(rt.alloc())?;
-    assert_doubled::<[u64; 3]>(&rt, ledger)?;
-    assert_doubled::<Counted<'static, u64>>(&rt, ledger)?;
-    assert_doubled::<Counted<'static, u128>>(&rt, ledger)?;
-    assert_doubled::<[u64; 6]>(&rt, ledger)?;
-    assert_doubled::<[u128; 3]>(&rt, ledger)?;
-    assert_doubled::<[u64; 40]>(&rt, ledger)?;
+    assert_requests::<[u64; 3], Doubling>(&rt, ledger, PADDED)?;
+    assert_requests::<Counted<'static, u64>, Doubling>(&rt, ledger, PADDED)?;
+    assert_requests::<Counted<'static, u128>, Doubling>(&rt, ledger, PADDED)?;
+    assert_requests::<[u64; 5], Doubling>(&rt, ledger, PADDED)?;
+    assert_requests::<[u64; 6], Doubling>(&rt, ledger, PADDED)?;
+    assert_requests::<[u128; 3], Doubling>(&rt, ledger, PADDED)?;
+    assert_requests::<Counted<'static, [u64; 6]>, Doubling>(&rt, ledger, PADDED)?;
+    assert_requests::<[u64; 12], Doubling>(&rt, ledger, PADDED)?;
+    assert_requests::<Counted<'static, [u64; 14]>, Doubling>(&rt, ledger, PADDED)?;
+    assert_requests::<[u64; 32], Doubling>(&rt, ledger, PADDED)?;
+    assert_requests::<[u64; 40], Doubling>(&rt, ledger, PADDED)?;
     Ok(())
 }

@@ -1,10 +1,10 @@
 //! Tests of what a call returns if a request for memory or a clone is refused, and of the list
 //! afterwards.
-use crate::tests::support::{assert_counts, assert_len, assert_list, assert_same};
+use crate::tests::support::{assert_counts, assert_list, assert_same};
 use std::test::Fail;
 use thin_runner::hinted::Hinted;
-use thin_testing::{Counted, Ledger, Refusing, counted_list, list_of, splice};
-use thin_vec::{ExtendRefused, SpliceRefused, ThinVec, ThinVecError};
+use thin_testing::{Counted, Ledger, Refusing, counted_list, splice};
+use thin_vec::{ExtendRefused, SpliceRefused, ThinVec, ThinVecError, thin_vec};
 
 const OUT_OF_MEMORY: ThinVecError = ThinVecError::OutOfMemory;
 
@@ -28,8 +28,8 @@ fn refused_push_returns_its_value(rt: HostRuntime) -> Result<(), Fail> {
 #[test]
 fn refused_append_changes_neither_list(rt: HostRuntime) -> Result<(), Fail> {
     let refusing = Refusing::leaked(rt.alloc(), 3)?;
-    let mut list = list_of(refusing, &[1, 2])?;
-    let mut other = list_of(refusing, &[3])?;
+    let mut list = thin_vec![refusing => 1, 2]?;
+    let mut other = thin_vec![refusing => 3]?;
     assert_same(&rt, list.append(&mut other), Err(OUT_OF_MEMORY));
     assert_list(&rt, &list, &[1, 2], 2);
     assert_list(&rt, &other, &[3], 1);
@@ -44,8 +44,7 @@ fn refused_append_changes_neither_list(rt: HostRuntime) -> Result<(), Fail> {
 fn extend_from_slice_drops_its_clones_if_one_is_refused(rt: HostRuntime) -> Result<(), Fail> {
     let ledger = Ledger::leaked(rt.alloc())?;
     let three = counted_list(ledger, rt.alloc(), 3)?;
-    let mut list = ThinVec::with_capacity(rt.alloc(), 1)?;
-    list.push(Counted::new(ledger, 7, ()))?;
+    let mut list = thin_vec![rt.alloc() => Counted::new(ledger, 7, ())]?;
     ledger.begin(2);
     assert_same(&rt, list.extend_from_slice(&three), Err(OUT_OF_MEMORY));
     assert_same(&rt, (list.len(), list.capacity()), (1, 4));
@@ -79,8 +78,7 @@ fn refused_extend_returns_the_item_in_hand(rt: HostRuntime) -> Result<(), Fail> 
 #[test]
 fn refused_finish_returns_the_item_in_hand(rt: HostRuntime) -> Result<(), Fail> {
     let refusing = Refusing::leaked(rt.alloc(), 2)?;
-    let mut list = list_of(refusing, &[1, 2, 3, 4, 5])?;
-    assert_len(&rt, &list, 5);
+    let mut list = thin_vec![refusing => 1, 2, 3, 4, 5]?;
     let items = Hinted::new([10, 11, 12].to_vec(rt.alloc())?, 0);
     let SpliceRefused {
         cause,
@@ -105,8 +103,7 @@ fn refused_finish_returns_the_item_in_hand(rt: HostRuntime) -> Result<(), Fail> 
 #[test]
 fn refused_finish_returns_the_held_items(rt: HostRuntime) -> Result<(), Fail> {
     let refusing = Refusing::leaked(rt.alloc(), 3)?;
-    let mut list = list_of(refusing, &[1, 2, 3])?;
-    assert_len(&rt, &list, 3);
+    let mut list = thin_vec![refusing => 1, 2, 3]?;
     let items = Hinted::new([7, 8, 9].to_vec(rt.alloc())?, 0);
     let SpliceRefused {
         cause,

@@ -1,6 +1,6 @@
 //! Random commands, which `run` of `thin_runner` executes. As in a sweep, the list itself says what
 //! is right.
-use crate::tests::judges::Digits;
+use crate::tests::judges::{Digits, Swaps};
 use crate::tests::made::{assert_same, items, steps};
 use std::alloc::{AllocError, Allocator};
 use std::process::Abort;
@@ -155,7 +155,7 @@ pub fn is_right<T: Numbered, G: Growth>(
     put(&mut commands, command)?;
     let mut replies = Vec::new(alloc);
     ledger.begin(refused);
-    let ran = run(alloc, list, commands, &mut replies, &Digits { digits });
+    let ran = run(alloc, list, commands, &mut replies, &Swaps { digits });
     let (cause, shown) = match replies.as_slice() {
         [reply] => (reply.refusal(), blocks_in(reply)),
         _ => (ran.err(), 0),

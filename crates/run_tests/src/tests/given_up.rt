@@ -276,6 +276,15 @@ fn assert_long_ranges<T: Numbered, R: Abort>(rt: &R, ledger: &'static Ledger) {
     }
 }
 
+// Asserts that the reply has answers, and no more room than they need.
+fn assert_room<T: Drop, R: Abort>(rt: &R, edit: Edit, reply: &Told<T>) {
+    let room = match reply {
+        Reply::Answers(answers) => answers.capacity(),
+        _ => 0,
+    };
+    assert_same(rt, (edit, room), (edit, edit.steps));
+}
+
 // Executes edits of a list of 300 items with many steps, and asserts that nothing is left behind.
 fn assert_longer_ranges<T: Numbered, R: Abort>(rt: &R, ledger: &'static Ledger) {
     for kind in [Kind::Drain, Kind::ExtractIf, Kind::Splice] {
@@ -288,7 +297,9 @@ fn assert_longer_ranges<T: Numbered, R: Abort>(rt: &R, ledger: &'static Ledger) 
                     let items = run_of_items(rt, ledger, 0, edit.len);
                     let mut list: List<T> = list_of(rt, ledger, items, 0);
                     let judge = Digits { digits: bits };
-                    drop(step(&ledger.alloc, &mut list, command, &judge));
+                    let reply = step(&ledger.alloc, &mut list, command, &judge);
+                    assert_room(rt, edit, &reply);
+                    drop(reply);
                     assert_clean(rt, ledger, list);
                 }
             }
@@ -308,6 +319,7 @@ fn assert_edits<T: Numbered, R: Abort>(rt: &R, alloc: Global) {
 fn edits_of_counted_items_after_each_number_of_steps(rt: HostRuntime) {
     assert_edits::<CountedWord<'static>, _>(&rt, rt.alloc());
     assert_edits::<Item, _>(&rt, rt.alloc());
+    assert_edits::<Counted<'static, u64>, _>(&rt, rt.alloc());
     assert_edits::<Counted<'static, [u64; 62]>, _>(&rt, rt.alloc());
 }
 

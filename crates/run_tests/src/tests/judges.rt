@@ -6,30 +6,63 @@ use std::mem;
 use thin_runner::judge::Judge;
 use thin_testing::Ledger;
 
-/// A judge that takes its answers from the binary digits of a number. A 1 means `true`. The method
-/// `same` swaps its items.
+/// A judge that takes its answers from the binary digits of a number. A 1 means `true`. It writes
+/// nothing.
 #[derive(Clone, Copy)]
 pub struct Digits {
     pub digits: u64,
 }
 
-/// Answers true, false, true, and so on, for 64 calls.
-pub const TURNS: Digits = Digits {
-    digits: 0x5555_5555_5555_5555,
-};
+/// A judge that answers as `Digits` does. The method `same` swaps its items.
+#[derive(Clone, Copy)]
+pub struct Swaps {
+    pub digits: u64,
+}
 
-impl Digits {
-    fn next_digit(&mut self) -> u64
-        ensures value { result ≡ self.old.digits % 2 }
-        ensures digits { self.new.digits ≡ self.old.digits / 2 }
-    {
-        let digit = self.digits % 2;
-        self.digits /= 2;
-        digit
-    }
+/// The digits of the answers true, false, true, and so on, for 64 calls.
+pub const TURNS: u64 = 0x5555_5555_5555_5555;
+
+// Removes the last digit.
+fn next_digit(digits: &mut u64) -> u64
+    ensures value { result ≡ digits.old % 2 }
+    ensures digits { digits.new ≡ digits.old / 2 }
+{
+    let digit = *digits % 2;
+    *digits /= 2;
+    digit
 }
 
 impl<T> Judge<T> for Digits {
+    ghost model = { record {
+      look = λ j x. (j.digits % 2 == 1, record { digits = j.digits / 2 });
+      keep = λ j x. (j.digits % 2 == 1, x, record { digits = j.digits / 2 });
+      same = λ j x y. (j.digits % 2 == 1, x, y, record { digits = j.digits / 2 });
+      key = λ j x. (j.digits % 2, x, record { digits = j.digits / 2 });
+      take = λ j x. (j.digits % 2 == 1, x, record { digits = j.digits / 2 });
+    } };
+
+    fn look(&mut self, _item: &T) -> bool {
+        next_digit(&mut self.digits) == 1
+    }
+
+    fn keep(&mut self, _item: &mut T) -> bool {
+        next_digit(&mut self.digits) == 1
+    }
+
+    fn same(&mut self, _later: &mut T, _kept: &mut T) -> bool {
+        next_digit(&mut self.digits) == 1
+    }
+
+    fn key(&mut self, _item: &mut T) -> u64 {
+        next_digit(&mut self.digits)
+    }
+
+    fn take(&mut self, _item: &mut T) -> bool {
+        next_digit(&mut self.digits) == 1
+    }
+}
+
+impl<T> Judge<T> for Swaps {
     ghost model = { record {
       look = λ j x. (j.digits % 2 == 1, record { digits = j.digits / 2 });
       keep = λ j x. (j.digits % 2 == 1, x, record { digits = j.digits / 2 });
@@ -39,24 +72,24 @@ impl<T> Judge<T> for Digits {
     } };
 
     fn look(&mut self, _item: &T) -> bool {
-        self.next_digit() == 1
+        next_digit(&mut self.digits) == 1
     }
 
     fn keep(&mut self, _item: &mut T) -> bool {
-        self.next_digit() == 1
+        next_digit(&mut self.digits) == 1
     }
 
     fn same(&mut self, later: &mut T, kept: &mut T) -> bool {
         mem::swap(later, kept);
-        self.next_digit() == 1
+        next_digit(&mut self.digits) == 1
     }
 
     fn key(&mut self, _item: &mut T) -> u64 {
-        self.next_digit()
+        next_digit(&mut self.digits)
     }
 
     fn take(&mut self, _item: &mut T) -> bool {
-        self.next_digit() == 1
+        next_digit(&mut self.digits) == 1
     }
 }
 

@@ -1,5 +1,5 @@
 //! Tests of one run of six commands, and of the commands that ask a judge.
-use crate::tests::judges::{Evens, TURNS};
+use crate::tests::judges::{Digits, Evens, Swaps, TURNS};
 use crate::tests::made::{
     Asked, Item, Lender, List, Told, assert_clean, assert_same, items, leaked_ledger, list_of, put,
     room, run_all, run_of_items, run_single, steps,
@@ -216,16 +216,17 @@ fn six_commands_one_by_one(rt: HostRuntime) -> Result<(), Fail> {
     Ok(())
 }
 
-// Executes the command on the list 1, 2, 3, 4, 5, 6, with a judge that answers true, false, true,
-// and so on. Asserts that the reply and the list have the given texts.
-fn assert_turned<R: Abort>(
+// Executes the command on the list 1, 2, 3, 4, 5, 6. Asserts that the reply and the list have the
+// given texts.
+fn assert_judged<J: Judge<Item>, R: Abort>(
     rt: &R,
     ledger: &'static Ledger,
     command: Asked<Item>,
+    judge: &J,
     texts: (&str, &str),
 ) -> Result<(), AllocError> {
     let mut list = list_of(rt, ledger, items(rt, ledger, &[1, 2, 3, 4, 5, 6]), 0);
-    assert_single(rt, ledger, &mut list, command, &TURNS, false, texts)?;
+    assert_single(rt, ledger, &mut list, command, judge, false, texts)?;
     assert_clean(rt, ledger, list);
     Ok(())
 }
@@ -233,10 +234,21 @@ fn assert_turned<R: Abort>(
 #[test]
 fn a_judge_that_counts_its_calls(rt: HostRuntime) -> Result<(), Fail> {
     let ledger = leaked_ledger(&rt, rt.alloc());
+    let judge = Digits { digits: TURNS };
+    let done = ("Done", "[1, 3, 5] 6");
     let extracted = ("Answers([Some(1), Some(3)])", "[2, 4, 5, 6] 6");
-    assert_turned(&rt, ledger, Command::Retain, ("Done", "[1, 3, 5] 6"))?;
-    assert_turned(&rt, ledger, Command::DedupBy, ("Done", "[3, 5, 6] 6"))?;
-    assert_turned(&rt, ledger, Command::ExtractIf(0, 6, 2), extracted)?;
+    assert_judged(&rt, ledger, Command::Retain, &judge, done)?;
+    assert_judged(&rt, ledger, Command::DedupBy, &judge, done)?;
+    assert_judged(&rt, ledger, Command::ExtractIf(0, 6, 2), &judge, extracted)?;
+    Ok(())
+}
+
+#[test]
+fn a_judge_that_swaps_the_items(rt: HostRuntime) -> Result<(), Fail> {
+    let ledger = leaked_ledger(&rt, rt.alloc());
+    let judge = Swaps { digits: TURNS };
+    let done = ("Done", "[3, 5, 6] 6");
+    assert_judged(&rt, ledger, Command::DedupBy, &judge, done)?;
     Ok(())
 }
 
@@ -259,7 +271,7 @@ fn assert_asked<R: Abort>(
 #[test]
 fn a_judge_is_asked_no_more_than_needed(rt: HostRuntime) {
     let ledger = leaked_ledger(&rt, rt.alloc());
-    for len in [0_usize, 1, 2, 6, 100] {
+    for len in [0_usize, 1, 2, 6, 100, 300] {
         let (pairs, more) = (len.saturating_sub(1), len.saturating_add(1));
         assert_asked(&rt, ledger, len, Command::Retain, len);
         assert_asked(&rt, ledger, len, Command::RetainMut, len);

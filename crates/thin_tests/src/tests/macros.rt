@@ -3,7 +3,7 @@
 use crate::tests::support::{assert_counts, assert_list, assert_same};
 use std::cell::Cell;
 use std::test::Fail;
-use thin_testing::Refusing;
+use thin_testing::{Counted, Ledger, Refusing};
 use thin_vec::{ThinVec, ThinVecError, thin_vec};
 
 // Returns `value`, and appends `digit` to the decimal number in `order`.
@@ -28,17 +28,43 @@ fn evaluates_each_argument_once_and_in_order(rt: HostRuntime) -> Result<(), Fail
 
 #[test]
 fn lists_of_one_to_forty_items_need_one_request(rt: HostRuntime) -> Result<(), Fail> {
-    assert_list(&rt, &thin_vec![rt.alloc() => 7]?, &[7], 1);
+    let (one, seven) = (1, 7);
+    assert_list(&rt, &thin_vec![rt.alloc() => seven]?, &[7], 1);
     let items = [1, 2, 3, 4, 5, 6, 7, 8, 9, 10, 11, 12];
     let refusing = Refusing::leaked(rt.alloc(), 2)?;
-    let list = thin_vec![refusing => 1, 2, 3, 4, 5, 6, 7, 8, 9, 10, 11, 12]?;
+    let list = thin_vec![refusing => one, 2, 3, 4, 5, 6, 7, 8, 9, 10, 11, 12]?;
     assert_list(&rt, &list, &items, 12);
     refusing.refuse(2);
     let list = thin_vec![in refusing;
         7, 7, 7, 7, 7, 7, 7, 7, 7, 7, 7, 7, 7, 7, 7, 7, 7, 7, 7, 7, 7, 7, 7, 7, 7, 7, 7, 7, 7, 7,
-        7, 7, 7, 7, 7, 7, 7, 7, 7, 7,
+        7, 7, 7, 7, 7, 7, 7, 7, 7, seven,
     ]?;
     assert_list(&rt, &list, &[7; 40], 40);
+    Ok(())
+}
+
+#[test]
+fn lists_of_one_to_two_hundred_literals_need_one_request(rt: HostRuntime) -> Result<(), Fail> {
+    assert_list(&rt, &thin_vec![rt.alloc() => -7]?, &[-7], 1);
+    let refusing = Refusing::leaked(rt.alloc(), 2)?;
+    let list = thin_vec![refusing =>
+        0, 1, 2, 3, 4, 5, 6, 7, 8, 9, 10, 11, 12, 13, 14, 15, 16, 17, 18, 19, 20, 21, 22, 23, 24,
+        25, 26, 27, 28, 29, 30, 31, 32, 33, 34, 35, 36, 37, 38, 39, 40, 41, 42, 43, 44, 45, 46, 47,
+        48, 49, 50, 51, 52, 53, 54, 55, 56, 57, 58, 59, 60, 61, 62, 63, 64, 65, 66, 67, 68, 69, 70,
+        71, 72, 73, 74, 75, 76, 77, 78, 79, 80, 81, 82, 83, 84, 85, 86, 87, 88, 89, 90, 91, 92, 93,
+        94, 95, 96, 97, 98, 99, 100, 101, 102, 103, 104, 105, 106, 107, 108, 109, 110, 111, 112,
+        113, 114, 115, 116, 117, 118, 119, 120, 121, 122, 123, 124, 125, 126, 127, 128, 129, 130,
+        131, 132, 133, 134, 135, 136, 137, 138, 139, 140, 141, 142, 143, 144, 145, 146, 147, 148,
+        149, 150, 151, 152, 153, 154, 155, 156, 157, 158, 159, 160, 161, 162, 163, 164, 165, 166,
+        167, 168, 169, 170, 171, 172, 173, 174, 175, 176, 177, 178, 179, 180, 181, 182, 183, 184,
+        185, 186, 187, 188, 189, 190, 191, 192, 193, 194, 195, 196, 197, 198, 199,
+    ]?;
+    let items: Vec<i32> = (0..200).collect(rt.alloc())?;
+    assert_list(&rt, &list, items.as_slice(), 200);
+    refusing.refuse(1);
+    let refused = thin_vec![in refusing; 1, 2, 3,].err();
+    assert_same(&rt, refused, Some(ThinVecError::OutOfMemory));
+    assert_counts(&rt, refusing, 1, 1);
     Ok(())
 }
 
@@ -74,6 +100,22 @@ fn evaluates_no_item_if_refused(rt: HostRuntime) {
         (Some(ThinVecError::OutOfMemory), 0),
     );
     assert_counts(&rt, &refusing, 1, 0);
+}
+
+#[test]
+fn drops_the_repeated_value_if_the_capacity_overflows(rt: HostRuntime) -> Result<(), Fail> {
+    let ledger = Ledger::leaked(rt.alloc())?;
+    for form in 0..2 {
+        let value = Counted::new(ledger, 7, ());
+        let refused = if form == 0 {
+            thin_vec![rt.alloc() => value; usize::MAX].err()
+        } else {
+            thin_vec![in rt.alloc(); value; usize::MAX].err()
+        };
+        let overflow = Some(ThinVecError::CapacityOverflow);
+        assert_same(&rt, (refused, ledger.live.get()), (overflow, 0));
+    }
+    Ok(())
 }
 
 #[test]

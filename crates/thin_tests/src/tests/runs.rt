@@ -1,5 +1,5 @@
-//! Tests of `run` and `step`: without commands, `run` makes no request, and a reply uses the
-//! allocator that was passed.
+//! Tests of `run` and `step`: `run` makes no request for replies for which there is room, and a
+//! reply uses the allocator that was passed.
 ghost use Rattle.std.specs.Prelude.{false};
 
 use crate::tests::support::assert_same;
@@ -57,6 +57,25 @@ fn run_makes_no_request_without_commands(rt: HostRuntime) -> Result<(), Fail> {
         Ok(()),
     );
     assert_same(&rt, refusing.requests(), 0);
+    Ok(())
+}
+
+#[test]
+fn run_makes_no_request_if_there_is_room_for_its_replies(rt: HostRuntime) -> Result<(), Fail> {
+    let refusing = Refusing::leaked(rt.alloc(), 0)?;
+    let mut list = list_of(refusing, &[1, 2])?;
+    for count in [1, 2, 9] {
+        refusing.refuse(0);
+        let mut replies = Vec::with_capacity(refusing, 9)?;
+        let mut commands = Vec::with_capacity(refusing, count)?;
+        for _ in 0..count {
+            commands.push(Command::Pop).map_err(|_full| "room")?;
+        }
+        refusing.refuse(1);
+        let ran = run(refusing, &mut list, commands, &mut replies, &Never);
+        let found = (ran, refusing.requests(), replies.len());
+        assert_same(&rt, found, (Ok(()), 0, count));
+    }
     Ok(())
 }
 

@@ -35,6 +35,23 @@ fn says_what_is_wrong_with_a_line(rt: HostRuntime) -> Result<(), Fail> {
     Ok(())
 }
 
+// Of two wrong words, the first that is no number or no word of steps is named.
+#[test]
+fn says_which_word_of_a_line_is_wrong(rt: HostRuntime) -> Result<(), Fail> {
+    let number = "is not a number from 0 to 18446744073709551615";
+    for (line, name) in [
+        ("retain 0 x 1", "STRIDE"),
+        ("retain_mut 0 x 1", "STRIDE"),
+        ("push _5", "ITEM"),
+        ("extend_from_slice 1 _5", "ITEM"),
+    ] {
+        let told = format!(in rt.alloc(); "{name} {number}")?;
+        assert_wrong(&rt, rt.alloc(), line, told.as_str())?;
+    }
+    let told = "STEPS is neither `-` nor a word of the letters `f` and `b`";
+    assert_wrong(&rt, rt.alloc(), "drain 0 0 F", told)
+}
+
 // Returns the first `len` words of a line of the form. From the word `from` to the word `to`, all
 // are `wrong`.
 fn spelled(

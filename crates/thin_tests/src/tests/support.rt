@@ -80,7 +80,9 @@ pub fn assert_texts<D: Debug>(
 // Returns what the value is printed as with each option of `{:?}`.
 fn texts_of<D: Debug>(alloc: Global, value: &D) -> Result<String, Fail> {
     let mut texts = format!(in alloc; "{value:?} {value:#?} {value:+?} {value:04?} {value:.3?}")?;
-    let more = format!(in alloc; "{value:+8.2?} {value:<5?} {value:*^5?} {value:#06?}")?;
+    let more = format!(in alloc;
+        "{value:+8.2?} {value:<5?} {value:*^5?} {value:#06?} {value:#.2?}"
+    )?;
     texts.push_str(more.as_str())?;
     Ok(texts)
 }
@@ -102,11 +104,15 @@ impl Write for Failing {
     }
 }
 
-// Prints the value to a writer whose call number `failing` fails. Returns whether printing failed,
-// and the number of calls.
-fn print_to_failing<D: Debug>(value: &D, failing: usize) -> (bool, usize) {
+// Prints the value, on several lines if `is_long` is true, to a writer whose call number `failing`
+// fails. Returns whether printing failed, and the number of calls.
+fn print_to_failing<D: Debug>(value: &D, is_long: bool, failing: usize) -> (bool, usize) {
     let mut out = Failing { calls: 0, failing };
-    let failed = write!(out, "{value:?}").is_err();
+    let failed = if is_long {
+        write!(out, "{value:#?}").is_err()
+    } else {
+        write!(out, "{value:?}").is_err()
+    };
     (failed, out.calls)
 }
 
@@ -120,11 +126,15 @@ pub fn assert_prints_as<D: Debug, L: Debug>(
     like: &L,
 ) -> Result<(), Fail> {
     let (texts, wanted) = (texts_of(alloc, value)?, texts_of(alloc, like)?);
-    let (failed, calls) = print_to_failing(value, 0);
-    assert_same(rt, (texts.as_str(), failed), (wanted.as_str(), false));
-    for failing in 1..=calls {
-        if failing < 60 || calls.saturating_sub(failing) < 10 {
-            assert_same(rt, print_to_failing(value, failing), (true, failing));
+    assert_same(rt, texts.as_str(), wanted.as_str());
+    for is_long in [false, true] {
+        let (failed, calls) = print_to_failing(value, is_long, 0);
+        assert_same(rt, (is_long, failed), (is_long, false));
+        for failing in 1..=calls {
+            if failing < 60 || calls.saturating_sub(failing) < 10 {
+                let found = print_to_failing(value, is_long, failing);
+                assert_same(rt, (is_long, found), (is_long, (true, failing)));
+            }
         }
     }
     Ok(())

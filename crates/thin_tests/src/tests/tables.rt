@@ -128,6 +128,26 @@ fn drops_each_value_once(rt: HostRuntime) -> Result<(), Fail> {
 }
 
 #[test]
+fn clear_row_drops_the_values_in_the_order_of_the_columns(rt: HostRuntime) -> Result<(), Fail> {
+    let ledger = Ledger::leaked(rt.alloc())?;
+    let mut table = Rows::with_rows(rt.alloc(), 1)?;
+    for len in [2, 5, 300] {
+        let mut wanted = 0;
+        for column in 0..len {
+            assert_row(&rt, &table, 0);
+            let value = Counted::new(ledger, column as u64, ());
+            drop(table.set(0, column, value)?);
+            wanted = Ledger::add_drop(wanted, column as u64);
+        }
+        ledger.begin(0);
+        assert_row(&rt, &table, 0);
+        table.clear_row(0);
+        assert_same(&rt, (len, ledger.dropped.get()), (len, wanted));
+    }
+    Ok(())
+}
+
+#[test]
 fn prints_each_row_as_a_map(rt: HostRuntime) -> Result<(), Fail> {
     let mut table = Rows::with_rows(rt.alloc(), 2)?;
     assert_set(&rt, &mut table, (1, 7), 10, None)?;
@@ -220,14 +240,16 @@ fn set_adds_thousands_of_columns_to_a_row(rt: HostRuntime) -> Result<(), Fail> {
     Ok(())
 }
 
-// Asserts that a new table makes one request, for its rows and a header of 16 bytes, and that a row
-// takes 16 bytes, whatever the values are. A table without rows makes no request.
+// Asserts that a new table has its rows, and that it makes one request, for the rows and a header
+// of 16 bytes. A row takes 16 bytes, whatever the values are. A table without rows makes no
+// request.
 fn assert_table_requests<V: Drop>(rt: &impl Abort, alloc: Global) -> Result<(), Fail> {
     for rows in [0, 1, 2, 3, 5, 17, 100, 3000] {
         let refusing = Refusing::leaked(alloc, 0)?;
         let table = Rows::<V, &Refusing<Global>>::with_rows(refusing, rows)?;
         let blocks = rows.min(1) as u64;
         let bytes = rows.saturating_add(1).saturating_mul(16) as u64;
+        assert_same(rt, (table.rows(), table.len()), (rows, 0));
         assert_counts(rt, refusing, blocks, blocks);
         assert_same(rt, refusing.bytes(), bytes.saturating_mul(blocks));
         drop(table);
@@ -312,6 +334,7 @@ fn assert_row_requests<V: Copy + PartialEq + Debug + Drop>(
     for index in 0..count.saturating_sub(1) {
         assert_removed(rt, &mut table, (1, column(index, gap)), Some(value));
     }
+    assert_removed(rt, &mut table, (1, 12_345), None);
     assert_same(rt, table.len(), count.min(1));
     if count > 0 {
         assert_set(rt, &mut table, (1, 12_345), value, None)?;

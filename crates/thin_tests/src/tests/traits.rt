@@ -1,7 +1,7 @@
 //! Tests of a list through the traits of std: `clone_from` and `or_default` with the capacities of
 //! their lists, and which calls make no request.
 use crate::tests::support::{assert_counts, assert_len, assert_list, assert_same};
-use std::alloc::{Allocator, Global};
+use std::alloc::{AllocError, Allocator, Global};
 use std::cmp::Ordering;
 use std::collections::HashMap;
 use std::convert::AsSlice;
@@ -46,6 +46,13 @@ fn or_default_makes_a_list_without_a_block(rt: HostRuntime) -> Result<(), Fail> 
     assert_same(&rt, wide.entry(1)?.or_default().capacity(), 0);
     let mut units: HashMap<u32, ThinVec<()>> = HashMap::new(rt.alloc());
     assert_same(&rt, units.entry(1)?.or_default().capacity(), 0);
+    Ok(())
+}
+
+#[test]
+fn lists_of_nan_are_not_ordered(rt: HostRuntime) -> Result<(), Fail> {
+    let list = list_of(rt.alloc(), &[1.0, f64::NAN])?;
+    assert_same(&rt, (list == list, list.partial_cmp(&list)), (false, None));
     Ok(())
 }
 
@@ -98,8 +105,17 @@ fn assert_slice_requests<T: Copy + Ord + Hash + Debug + Drop>(
     assert_len(rt, &other, len);
     if len > 0 {
         list[len - 1] = other[0];
+        list.swap(0, len - 1);
     }
     list.reverse();
+    list.rotate_left(len / 2);
+    list.rotate_right(len);
+    list.sort_unstable();
+    list.sort_unstable_by(|x, y| y.cmp(x));
+    list.sort_unstable_by_key(|x| *x);
+    assert_len(rt, &list, len);
+    let ends = (list.first_mut().is_some(), list.last_mut().is_some());
+    assert_same(rt, ends, (len > 0, len > 0));
     let mut seen = 0_usize;
     for _item in &list {
         seen = seen.saturating_add(1);
@@ -133,6 +149,32 @@ fn slice_methods_make_no_request(rt: HostRuntime) -> Result<(), Fail> {
         assert_slice_requests(&rt, refusing, 7_u32, len)?;
         assert_slice_requests(&rt, refusing, (), len)?;
         assert_slice_requests(&rt, refusing, [7_u64; 40], len)?;
+    }
+    Ok(())
+}
+
+// Sorts the list by one of four calls. The number `way`, from 0 to 3, selects the call.
+fn sort_by_way<A: Allocator>(way: u32, list: &mut ThinVec<i32, A>) -> Result<(), AllocError> {
+    match way {
+        0 => list.sort(),
+        1 => list.sort_by(|x, y| x.cmp(y)),
+        2 => list.sort_by_key(|x| *x),
+        _ => list.sort_by_cached_key(|x| *x),
+    }
+}
+
+#[test]
+fn stable_sorts_use_the_allocator_of_the_list(rt: HostRuntime) -> Result<(), Fail> {
+    let refusing = Refusing::leaked(rt.alloc(), 0)?;
+    for way in 0..4 {
+        let mut list = ThinVec::new(refusing);
+        list.extend((0..30).rev())?;
+        let unsorted = list.clone(refusing)?;
+        refusing.refuse(1);
+        assert_same(&rt, sort_by_way(way, &mut list).is_err(), true);
+        assert_same(&rt, (list == unsorted, refusing.blocks()), (true, 2));
+        assert_same(&rt, sort_by_way(way, &mut list).is_ok(), true);
+        assert_same(&rt, (list.is_sorted(), refusing.blocks()), (true, 2));
     }
     Ok(())
 }

@@ -92,10 +92,8 @@ fn from_slice<T: Numbered>(case: &mut Case<T, Doubling>) -> Answer {
 
 fn from_vec<T: Numbered, R: Abort>(rt: &R, case: &mut Case<T, Doubling>) -> Answer {
     let mut items = case.lent_items(case.count())?;
-    items
-        .reserve(case.at.argument % 3)
-        .ok()
-        .expect(rt, "memory");
+    let spare = [0, 1, 2, 300][case.at.argument % 4];
+    items.reserve(spare).ok().expect(rt, "memory");
     case.begin("from_vec");
     let list = ThinVec::from_vec(&case.ledger.alloc, items)?;
     Ok(Due::block_of(list.len()))

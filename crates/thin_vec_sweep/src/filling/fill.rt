@@ -1,11 +1,11 @@
-//! Calls that fill a list from an iterator: `extend`, `from_iter` and `collect`. Contracts only
-//! bound the capacity afterwards, so the tests compute the exact one, and how often the iterator is
-//! asked.
+//! Calls that fill a list from an iterator: `extend`, `from_iter` and `collect`. The tests compute
+//! the capacity afterwards, how often the iterator is asked, and which items are in the list, in
+//! the error and in the rest of the iterator.
 use crate::asserts::{assert_right, assert_same};
 use std::iter;
 use std::process::Abort;
 use thin_testing::{At, Case, Claims, Ledger, Numbered, Ruled, block_bytes, numbered_items};
-use thin_vec::{Doubling, Growth, ThinVec, ThinVecError};
+use thin_vec::{CollectRefused, Doubling, ExtendRefused, Growth, ThinVec, ThinVecError};
 
 /// What a call that fills a list has to do: the capacity of the list, the number of requests and of
 /// their bytes, and how often the iterator's `next` and `size_hint` are called.
@@ -19,6 +19,8 @@ pub struct Filling {
     pub hints: u64,
     /// Why the call failed.
     pub cause: Option<ThinVecError>,
+    /// The number of items of the iterator that are in the list afterwards.
+    pub placed: usize,
     /// The number of items that the error holds, besides those that are left in the iterator.
     pub held: usize,
     /// The number of the request that is refused, or 0.
@@ -35,6 +37,7 @@ impl Filling {
             nexts: 0,
             hints: 0,
             cause: None,
+            placed: 0,
             held: 0,
             refused,
         }
@@ -98,6 +101,7 @@ impl Filling {
                     return;
                 }
             }
+            self.placed = self.placed.saturating_add(1);
         }
         self.nexts = self.nexts.saturating_add(1);
     }
@@ -166,13 +170,16 @@ impl Source {
         rt: &R,
         ledger: &'static Ledger,
     ) -> Claims<'static, T> {
-        let items = numbered_items(ledger, ledger.global, 0, self.count).expect(rt, "memory");
+        let items = numbered_items(ledger, ledger.global, NEW, self.count).expect(rt, "memory");
         if self.is_exact {
             return Claims::exact(ledger, items);
         }
         Claims::new(ledger, items, self.lower, self.is_bounded)
     }
 }
+
+// The number of the first item of an iterator, which differs from those of short lists.
+const NEW: u64 = 100;
 
 /// The numbers of items that are tried. The last one is tried with few hints.
 const COUNTS: [usize; 12] = [0, 1, 2, 3, 4, 5, 9, 17, 50, 100, 300, 5000];
@@ -248,9 +255,13 @@ impl<T: Numbered, G: Growth> Fills<T, G> for Extend {
         let Err(refused) = case.list.extend(claims) else {
             return None;
         };
-        let held = usize::from(refused.in_hand.is_some());
-        assert_same(rt, case.at, "items in hand", held, due.held);
-        Some(refused.cause)
+        let ExtendRefused {
+            cause,
+            in_hand,
+            rest,
+        } = refused;
+        check_left(rt, case, source, due, &[], in_hand, rest);
+        Some(cause)
     }
 }
 
@@ -297,10 +308,15 @@ impl<T: Numbered> Fills<T, Doubling> for FromIter {
                 None
             }
             Err(refused) => {
-                let held = usize::from(refused.in_hand.is_some());
-                assert_same(rt, case.at, "items in hand", held, due.held);
-                case.list = refused.list;
-                Some(refused.cause)
+                let CollectRefused {
+                    list,
+                    cause,
+                    in_hand,
+                    rest,
+                } = refused;
+                check_left(rt, case, source, due, &[], in_hand, rest);
+                case.list = list;
+                Some(cause)
             }
         }
     }
@@ -409,21 +425,108 @@ fn fill<F: Fills<T, G>, T: Numbered, G: Ruled, R: Abort>(
     due.append::<T, G>(at.length, hinted, source.count);
     if F::IS_ALL_OR_NOTHING && due.cause.is_some() {
         due.capacity = 0;
+        due.placed = 0;
     }
     if due.is_too_much::<T>() {
         return 1;
     }
     let mut case: Case<T, G> = Case::new(ledger, at).expect(rt, "memory");
     let cause = F::fill(rt, &mut case, source, &due);
-    check_filling(rt, &case, cause, &due);
+    check_filling(rt, &case, (at.length, at.length), cause, &due);
     assert_right(rt, case.end());
     due.requests
 }
 
+// Counts items with consecutive numbers.
+#[derive(Drop)]
+struct Run {
+    ledger: &'static Ledger,
+    next: u64,
+    right: usize,
+}
+
+impl Run {
+    // Counts the item if it has the next number.
+    fn count<T: Numbered>(&mut self, item: &T) {
+        if *item == T::numbered(self.ledger, self.next) {
+            self.right = self.right.saturating_add(1);
+        }
+        self.next = self.next.wrapping_add(1);
+    }
+}
+
+/// Asserts that an error holds as many items as `due` says, and that these items, and those that
+/// are left in the iterator, are all that the call has not placed, in order.
+pub fn check_left<T: Numbered, G: Growth, R: Abort>(
+    rt: &R,
+    case: &Case<T, G>,
+    source: Source,
+    due: &Filling,
+    held: &[T],
+    in_hand: Option<T>,
+    rest: Claims<'static, T>,
+) {
+    let mut run = Run {
+        ledger: case.ledger,
+        next: NEW.wrapping_add(due.placed as u64),
+        right: 0,
+    };
+    for item in held {
+        run.count(item);
+    }
+    let mut holds = held.len();
+    if let Some(item) = in_hand {
+        run.count(&item);
+        holds = holds.saturating_add(1);
+    }
+    for item in rest.into_left() {
+        run.count(&item);
+    }
+    let left = source.count.saturating_sub(due.placed);
+    assert_same(
+        rt,
+        case.at,
+        "items held and in hand; right ones of them and of the rest",
+        (holds, run.right),
+        (due.held, left),
+    );
+}
+
+// Asserts that the list is the old one, with the placed items instead of the range.
+fn check_items<T: Numbered, G: Growth, R: Abort>(
+    rt: &R,
+    case: &Case<T, G>,
+    (start, end): (usize, usize),
+    placed: usize,
+) {
+    let mut run = Run {
+        ledger: case.ledger,
+        next: 0,
+        right: 0,
+    };
+    let mut index: usize = 0;
+    let after = start.saturating_add(placed);
+    for item in case.list.as_slice() {
+        if index == start {
+            run.next = NEW;
+        }
+        if index == after {
+            run.next = end as u64;
+        }
+        run.count(item);
+        index = index.saturating_add(1);
+    }
+    let len = after.saturating_add(case.at.length.saturating_sub(end));
+    let found = (case.list.len(), run.right);
+    assert_same(rt, case.at, "items; right ones", found, (len, len));
+}
+
 /// Asserts that the call did what `due` says, and that nothing exists but the list and its items.
+/// `range` is the range that the new items replace.
 pub fn check_filling<T: Numbered, G: Ruled, R: Abort>(
     rt: &R,
     case: &Case<T, G>,
+    range: (usize, usize),
     cause: Option<ThinVecError>,
     due: &Filling,
 ) {
@@ -450,5 +553,6 @@ pub fn check_filling<T: Numbered, G: Ruled, R: Abort>(
     let lent = ledger.alloc.lent();
     assert_same(rt, case.at, "bytes requested", lent, due.bytes);
     assert_same(rt, case.at, "clones", ledger.clones.get(), 0);
+    check_items(rt, case, range, due.placed);
     assert_right(rt, case.check_live(case.list.len(), case.list.capacity()));
 }

@@ -3,19 +3,19 @@ ghost use Rattle.std.specs.Iterator.{IsFinite};
 ghost use Rattle.std.specs.Prelude.{◌≤◌, length};
 ghost use Rattle.thin_vec.specs.Edits.Splice.{SpliceKeeps};
 
-use crate::asserts::{assert_range, assert_right, assert_same};
-use crate::filling::fill::{Filling, HINTS, Source, check_filling, nth_source};
+use crate::asserts::{assert_range, assert_right};
+use crate::filling::fill::{Filling, HINTS, Source, check_filling, check_left, nth_source};
 use std::alloc::Allocator;
 use std::iter::Iterator;
 use std::process::Abort;
 use thin_testing::{At, Case, Ledger, Numbered, Ruled};
-use thin_vec::{Growth, Splice, SpliceRefused, ThinVec, ThinVecError};
+use thin_vec::{Growth, Splice, SpliceRefused, ThinVec};
 
 // The number of choices for the number of new items.
 const NEW: usize = 12;
 
 // The number of sequences of calls to `next` and `next_back` before `finish`.
-const WALKS: usize = 4;
+const WALKS: usize = 8;
 
 // Returns the number of new items for a range of `width` items. On a long list, it is once in the
 // thousands.
@@ -56,10 +56,12 @@ fn due_before_tail<T: Numbered, G: Ruled>(
 ) {
     if source.count < width {
         due.nexts = (source.count as u64).saturating_add(1);
+        due.placed = source.count;
         return;
     }
     let source = source.after(width);
     due.nexts = width as u64;
+    due.placed = width;
     due.hints = 1;
     let hinted = due.ruled::<T, G>(length, source.lower);
     if !due.grow::<T>(hinted) {
@@ -67,6 +69,7 @@ fn due_before_tail<T: Numbered, G: Ruled>(
     }
     let room = width.saturating_add(source.lower);
     due.nexts = (source.count.min(room) as u64).saturating_add(1);
+    due.placed = source.count.min(room);
     if source.count <= room {
         return;
     }
@@ -76,7 +79,9 @@ fn due_before_tail<T: Numbered, G: Ruled>(
     }
     due.nexts = (source.count as u64).saturating_add(1);
     let whole = due.ruled::<T, G>(length.saturating_add(source.lower), beyond);
-    if !due.grow::<T>(whole) {
+    if due.grow::<T>(whole) {
+        due.placed = source.count;
+    } else {
         due.held = beyond;
     }
 }
@@ -165,17 +170,20 @@ fn splice_case<T: Numbered, G: Ruled, R: Abort>(rt: &R, ledger: &'static Ledger,
         claims,
         &ledger.alloc,
     );
-    let mut held: usize = 0;
     let cause = match answer {
         Ok(()) => None,
         Err(refused) => {
-            let in_hand = usize::from(refused.in_hand.is_some());
-            held = refused.held.len().saturating_add(in_hand);
-            Some(refused.cause)
+            let SpliceRefused {
+                cause,
+                held,
+                in_hand,
+                rest,
+            } = refused;
+            check_left(rt, &case, source, &due, held.as_slice(), in_hand, rest);
+            Some(cause)
         }
     };
-    assert_same(rt, case.at, "items held and in hand", held, due.held);
-    check_filling(rt, &case, cause, &due);
+    check_filling(rt, &case, (start, end), cause, &due);
     assert_right(rt, case.end());
     due.requests
 }
@@ -198,7 +206,7 @@ fn splice<T: Numbered, A: Allocator, G: Growth, I: Iterator<Item = T>>(
     splice.finish(alloc)
 }
 
-// Calls `next` and `next_back`, as `walk` chooses, and drops the items.
+// Calls `next` up to twice and `next_back` up to once, as `walk` chooses, and drops the items.
 fn take_some<T: Numbered, A: Allocator, G: Growth, I>(
     splice: &mut Splice<'_, I, T, A, G>,
     walk: usize,
@@ -208,7 +216,10 @@ fn take_some<T: Numbered, A: Allocator, G: Growth, I>(
     if walk % 2 == 1 {
         drop(splice.next());
     }
-    if walk / 2 == 1 {
+    if walk / 2 % 2 == 1 {
         drop(splice.next_back());
+    }
+    if walk >= 4 {
+        drop(splice.next());
     }
 }

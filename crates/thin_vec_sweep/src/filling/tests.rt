@@ -68,6 +68,7 @@ fn fill_all<T: Numbered, G: Ruled, R: Abort>(rt: &R, alloc: Global) {
 #[test]
 fn fills_lists_of_units_and_bytes(rt: HostRuntime) {
     fill_all::<(), Doubling, _>(&rt, rt.alloc());
+    fill_all::<u8, Doubling, _>(&rt, rt.alloc());
     fill_all::<u8, PowerBytes, _>(&rt, rt.alloc());
 }
 
@@ -89,14 +90,20 @@ fn fills_lists_of_counted_items(rt: HostRuntime) {
 fn splices_units_and_bytes(rt: HostRuntime) {
     let ledger = Ledger::leaked(rt.alloc()).expect(&rt, "memory");
     splices::<(), Doubling, _>(&rt, ledger, &[0, 1, 2, 3, 4], &[0, 3]);
+    splices::<u8, Doubling, _>(&rt, ledger, &[0, 1, 2, 3, 4], &[0, 3]);
     splices::<u8, PowerBytes, _>(&rt, ledger, &[0, 1, 2, 3, 4], &[0, 3]);
 }
 
 #[test]
-fn splices_numbers_and_items_of_320_bytes(rt: HostRuntime) {
+fn splices_numbers(rt: HostRuntime) {
     let ledger = Ledger::leaked(rt.alloc()).expect(&rt, "memory");
     splices::<i32, Doubling, _>(&rt, ledger, &[0, 1, 2, 3, 4], &[0, 3]);
     splices::<u128, Doubling, _>(&rt, ledger, &[0, 1, 2, 3, 4], &[0, 3]);
+}
+
+#[test]
+fn splices_items_of_320_bytes(rt: HostRuntime) {
+    let ledger = Ledger::leaked(rt.alloc()).expect(&rt, "memory");
     splices::<[u64; 40], Doubling, _>(&rt, ledger, &[0, 1, 2, 3, 4], &[0, 3]);
 }
 
@@ -128,6 +135,7 @@ fn capacities_overflow_without_a_request(rt: HostRuntime) {
     limits::<u64, Doubling, _>(&rt, ledger);
     limits::<u128, Doubling, _>(&rt, ledger);
     limits::<ThreeWords, Doubling, _>(&rt, ledger);
+    limits::<[u64; 6], Doubling, _>(&rt, ledger);
     limits::<Large, Doubling, _>(&rt, ledger);
 }
 
