@@ -14,7 +14,7 @@ import sys
 
 TOP = pathlib.Path(__file__).resolve().parent.parent
 # The versions of Rattle's kit that the tools know.
-KITS = "rattle-kit-13b and rattle-kit-13f"
+KITS = "rattle-kit-13f"
 CLAUSE = re.compile(r"^\s*(requires|ensures\*?)\s+(?:(\w+)\s+)?\{")
 MEMBER = re.compile(r"^    ghost (\w+) = \{")
 DEFINITION = re.compile(

@@ -1,4 +1,7 @@
-"""Reads the wrong bodies of tools/mutants.d, and finds what they replace. It is not a program."""
+"""Reads the wrong bodies of tools/mutants.d, finds what they replace, and chooses some of them.
+
+It is not a program."""
+import hashlib
 import itertools
 import re
 import tomllib
@@ -118,3 +121,30 @@ def wrong_bodies(path=None):
                 raise Failed(f"{body.place}: {body.name} is also in {found[body.name].place}")
             found[body.name] = body
     return list(found.values())
+
+
+def digest(*parts):
+    """A checksum of some values."""
+    return hashlib.sha256(repr(parts).encode()).hexdigest()
+
+
+def checksum(bodies):
+    """A checksum of what the bodies are, and of what sees them, whatever their order."""
+    return digest(*sorted((it.name, it.file, it.alone, it.seen, it.pairs) for it in bodies))
+
+
+def sample(bodies, commit, most):
+    """At most so many of the bodies, which the commit chooses, and which one build can try.
+
+    Those are bodies that one test or one program sees, or a single one that has to be built alone.
+    Each body comes first for some commits."""
+    built = [it for it in bodies if it.seen[0] not in ("edit", "audit")]
+    order = sorted(built, key=lambda it: digest(commit, it.name))
+    if not order or order[0].alone:
+        return order[:1]
+    return [it for it in order if not it.alone and it.seen == order[0].seen][:most]
+
+
+def where(body):
+    """The crate of the test that sees the body, and `output` if its program does."""
+    return body.seen[0], "output" if body.seen[1] == "output" else ""

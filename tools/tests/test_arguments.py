@@ -65,7 +65,6 @@ class Arguments(ToolTest):
             ),
             ("evidence", (), "docs/evidence.toml", "docs/evidence.toml: No such file or directory"),
             ("evidence", (), "tools/mutants.d", "there is no folder tools/mutants.d"),
-            ("index", ("--check",), "crates/bench/src", "there is no folder crates/bench/src"),
             ("mutants", ("--check",), "tools/mutants.d", "there is no folder tools/mutants.d"),
             ("mutants", ("--check",), "crates", "crates: No such file or directory"),
             ("pages", (), "crates/thin_examples", "no folder crates/thin_examples/src"),

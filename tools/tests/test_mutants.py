@@ -1,17 +1,19 @@
 """tools/mutants: wrong bodies fit the sources, and what does not is told. Nothing is built."""
+import contextlib
+import io
 import re
 import shutil
 import types
 import unittest
 from unittest import mock
 
-from tool import ToolTest, load
+from tool import ToolTest, change, load
 
 
 class Mutants(ToolTest):
     def test_the_repository(self):
         said = self.passes("mutants", "--check")
-        count = re.fullmatch(
+        count = re.match(
             r"(\d+) bodies and \d+ must-fail edits, 0 of them do not fit\n", said
         ).group(1)
         self.assertEqual(len(self.passes("mutants", "--list").splitlines()), int(count))
@@ -100,6 +102,80 @@ seen = "thin_tests drops_each_value_once"
             trial.took[tests, test] = took
         found = [trial.quickest(number) for number in (0, 1, 2)]
         self.assertEqual(found, [None, "one slow", "one quick"])
+
+    def test_a_sample_is_of_one_test_and_another_one_for_each_commit(self):
+        mutants = load("mutants")
+        bodies = mutants.wrong_bodies()
+        seen, samples = set(), set()
+        for number in range(200):
+            found = mutants.sample(bodies, f"commit {number}", 12)
+            self.assertEqual(found, mutants.sample(bodies[::-1], f"commit {number}", 12))
+            self.assertLessEqual(len(found), 12)
+            if any(it.alone for it in found):
+                self.assertEqual(len(found), 1)
+            self.assertEqual(len({it.seen for it in found}), 1)
+            self.assertFalse({"edit", "audit"} & {it.seen[0] for it in found})
+            names = tuple(it.name for it in found)
+            samples.add(names)
+            seen.update(names)
+        self.assertGreater(len(samples), 140)
+        self.assertGreater(len(seen), len(bodies) * 2 // 3)
+
+    def test_the_gate_fails_if_a_body_of_the_sample_is_not_seen(self):
+        mutants = load("mutants")
+        options = types.SimpleNamespace(jobs=1, sample=True, all=False)
+        body = mutants.wrong_bodies()[0]
+        body.seen, body.alone = ("one", "blind"), False
+        tests = mock.Mock(crate="one", panics={"blind": None})
+        tests.named = lambda pattern: [it for it in tests.panics if pattern in (it, "*")]
+        for seen, bad in ((None, 1), (1, 0)):
+            tests.fails = lambda test, number, *_, seen=seen: number == seen
+            with self.subTest(bad), mock.patch.object(mutants, "built", return_value=tests):
+                with contextlib.redirect_stdout(io.StringIO()) as said:
+                    trial = mutants.Trial([body], options, self.folder())
+                    self.assertEqual(trial.try_all(), bad)
+                told = f"NOT SEEN {body.name}: no test blind of one fails\n"
+                self.assertEqual(said.getvalue() == told, bool(bad), said.getvalue())
+
+    def test_a_sample_is_built_with_the_tests_that_it_names(self):
+        mutants = load("mutants")
+        seen = {("ported_tests", "drain_yields_ranges*"), ("thin_bench", "output")}
+        copy = mutants.Copy(self.folder() / "copy", [], True, None)
+        copy.leave_out_tests(seen)
+        source = copy.folder / "crates" / "ported_tests" / "src" / "tests" / "edits.rt"
+        text = source.read_text(encoding="utf-8")
+        self.assertEqual(re.findall(r"#\[test\]\nfn (\w+)", text), ["drain_yields_ranges_of_texts"])
+        self.assertIn("const TENS", text)
+        others = (copy.folder / "crates" / "ported_tests").rglob("*.rt")
+        self.assertEqual(sum(it.read_text(encoding="utf-8").count("#[test]") for it in others), 1)
+        main = copy.folder / "crates" / "thin_bench" / "src" / "main.rt"
+        same = mutants.TOP / "crates" / "thin_bench" / "src" / "main.rt"
+        self.assertEqual(main.read_bytes(), same.read_bytes())
+
+    def test_the_record_of_the_last_trial_of_all_bodies(self):
+        top = self.copy("proofs", "specs", "out")
+        path = top / "docs" / "wrong_bodies.toml"
+        path.unlink()
+        again = "`tools/mutants --write` tries all\n"
+        none = f"no trial of all bodies is recorded: {again}"
+        self.assertTrue(self.passes("mutants", "--check", top=top).endswith(none))
+        mutants = load("mutants")
+        bodies = mutants.wrong_bodies()
+        with mock.patch.multiple(mutants, RECORD=path, said_by=lambda *words: words[0]):
+            mutants.record(bodies, 3)
+        said = path.read_text(encoding="utf-8")
+        self.assertIn(f"bodies = {len(bodies)}\nseen = {len(bodies) - 3}\n", said)
+        self.assertNotIn(again, self.passes("mutants", "--check", top=top))
+        runner = top / "tools" / "mutants.d" / "thin_runner" / "runner.toml"
+        change(runner, "[run_always_out_of_memory]", "[planted]")
+        more = self.passes("mutants", "--check", top=top)
+        self.assertIn(f" was of {len(bodies)} other bodies: {again}", more)
+        path.write_text("day =", encoding="utf-8")
+        self.assertEqual(self.run_tool("mutants", "--check", top=top).returncode, 2)
+
+    def test_the_record_is_of_all_bodies(self):
+        says = "--write is for a trial of all bodies (--help lists the options)"
+        self.refuses(says, "mutants", "--write", "--sample", RT="/no/rt")
 
     def test_an_unknown_body(self):
         self.refuses("there is no such body: typo", "mutants", "--only", "typo", RT="/no/rt")

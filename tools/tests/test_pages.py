@@ -12,7 +12,42 @@ README = (
     "# One\n\n# One\n\n[one](#one-1) [an example](crates/thin_examples/README.md#one)\n\n"
     "```rust\nlet a = 1;\n```\n"
 )
+MAP = "# One\n\n## The map\n\n- `crates/thin_examples/`\n\n## Two\n"
 EXAMPLES = "# One\n\n| Example | Prints |\n|---|---|\n| [`one`](src/main.rt) | `1` |\n"
+
+
+# A type with three parameters, of which one has a default.
+FUNCTIONS = """//! One.
+pub struct Pair<A: Copy, B, C = u8> {
+    one: A,
+}
+
+fn add() {}
+
+impl<A: Copy, B, C> Pair<A, B, C> {
+    fn get() {}
+}
+
+impl<A: Copy, B> Pair<A, B> {
+    fn first() {}
+}
+
+impl<B> Pair<u8, B> {
+    fn second() {}
+}
+
+impl<A: Copy, B, C> Drop for Pair<A, B, C> {
+    fn drop() {}
+}
+
+impl<A: Copy, B, C> ops::Index<usize> for Pair<A, B, C> {
+    fn index() {}
+}
+
+impl<B, C> Clone for Pair<u8, B, C> {
+    fn clone() {}
+}
+"""
 
 
 class Pages(ToolTest):
@@ -22,9 +57,9 @@ class Pages(ToolTest):
         examples = top / "crates" / "thin_examples"
         (examples / "src").mkdir(parents=True)
         (top / "tools").mkdir()
-        for name in ("pages", "rattle_source.py"):
+        for name in ("pages", "proof_folders.py", "rattle_source.py"):
             shutil.copy(TOP / "tools" / name, top / "tools")
-        for name in ("reference", "index", "evidence"):
+        for name in ("reference", "evidence"):
             (top / "tools" / name).write_text(
                 STUB.format(status=status, says=says), encoding="utf-8"
             )
@@ -36,6 +71,7 @@ class Pages(ToolTest):
         for name, text in texts.items():
             (examples / name).write_text(text, encoding="utf-8")
         (top / "README.md").write_text(README, encoding="utf-8")
+        (top / "CONTRIBUTING.md").write_text(MAP, encoding="utf-8")
         return top
 
     def test_right_pages(self):
@@ -59,6 +95,7 @@ class Pages(ToolTest):
                 "crates/thin_examples/src/main.rt:3: this line has 101 columns",
             ),
             ("README.md", "\nSee `src/no.rt`.\n", "README.md:11: there is no file src/no.rt"),
+            ("README.md", "\nSee `src/no/`.\n", "README.md:11: there is no folder src/no/"),
             ("README.md", "\nRun `tools/no`.\n", "README.md:11: there is no tool no"),
             (
                 "README.md",
@@ -78,6 +115,72 @@ class Pages(ToolTest):
                 said = self.finds("pages", top=top)
                 (top / name).write_text(text, encoding="utf-8")
                 self.assertTrue(said.startswith(says) and said.endswith("\npages: 1 wrong\n"), said)
+
+    def test_a_crate_that_the_map_lacks(self):
+        top = self.repository()
+        (top / "crates" / "lost").mkdir()
+        says = "CONTRIBUTING.md:3: the map lacks crates/lost/\npages: 1 wrong\n"
+        self.assertEqual(self.finds("pages", top=top), says)
+        page = top / "CONTRIBUTING.md"
+        page.write_text(MAP + "\n- `crates/lost/`\n", encoding="utf-8")
+        self.assertEqual(self.finds("pages", top=top), says)
+        page.write_text(MAP.replace("\n\n## Two", "\n- `crates/lost/`\n"), encoding="utf-8")
+        self.assertEqual(self.passes("pages", top=top), "pages: ok\n")
+
+    def test_a_library_of_an_older_version(self):
+        top = self.repository()
+        root = top / "crates" / "thin_vec" / "src"
+        root.mkdir(parents=True)
+        (top / "CONTRIBUTING.md").write_text(
+            MAP.replace("\n\n## Two", "\n- `crates/thin_vec/`\n\n## Two"), encoding="utf-8"
+        )
+        (top / "CHANGELOG.md").write_text(
+            "# One\n\n## Version 2: 3 May 2026\n\n## Version 1: 2 May 2026\n", encoding="utf-8"
+        )
+        (root / "lib.rt").write_text("//! One.\n//! Version 1 of 2 May 2026.\n", encoding="utf-8")
+        says = "crates/thin_vec/src/lib.rt does not name the newest version of CHANGELOG.md, 2 of "
+        self.assertIn(says + "3 May 2026\npages: 1 wrong\n", self.finds("pages", top=top))
+        (root / "lib.rt").write_text("//! One.\n//! Version 2 of 3 May 2026.\n", encoding="utf-8")
+        self.assertEqual(self.passes("pages", top=top), "pages: ok\n")
+
+    def test_a_proof_in_another_folder(self):
+        top = self.repository()
+        crate = top / "crates" / "thin_examples"
+        (crate / "src" / "one.rt").write_text(FUNCTIONS, encoding="utf-8")
+        right = (
+            "one/add",
+            "one/+add",
+            "one/Pair/get",
+            "one/Pair/drop",
+            "one/Pair+A+B/first",
+            "one/Pair+u8+B/second",
+            "one/PairIndexUsize/index",
+            "one/PairU8Clone/clone",
+            "one/Pair/TheLaw",
+        )
+        for name in right:
+            (crate / "proofs" / name).mkdir(parents=True)
+            (crate / "proofs" / name / "Answers.antt").write_text("", encoding="utf-8")
+        self.assertEqual(self.passes("pages", top=top), "pages: ok\n")
+        wrong = [
+            ("add", "proofs/one/add"),
+            ("two/add", "proofs/one/add"),
+            ("one/Pair/add", "proofs/one/add"),
+            ("one/get", "proofs/one/Pair/get"),
+            ("one/PairDrop/drop", "proofs/one/Pair/drop"),
+            ("one/Pair/first", "proofs/one/Pair+A+B/first"),
+            ("one/Pair/clone", "proofs/one/PairU8Clone/clone"),
+            ("one/PairIndex/index", "proofs/one/PairIndexUsize/index"),
+            ("one/Pair/lost", "a folder of its name"),
+        ]
+        for name, place in wrong:
+            planted = crate / "proofs" / name
+            planted.mkdir(parents=True)
+            (planted / "Proof.antt").write_text("", encoding="utf-8")
+            with self.subTest(name):
+                says = f"proofs/{name}: a proof of a function stands in {place}\npages: 1 wrong\n"
+                self.assertEqual(self.finds("pages", top=top), f"crates/thin_examples/{says}")
+            shutil.rmtree(planted)
 
     def test_members_and_labels(self):
         top = self.repository()
@@ -106,7 +209,7 @@ class Pages(ToolTest):
 
     def test_what_another_tool_finds_is_wrong(self):
         self.assertEqual(
-            self.finds("pages", top=self.repository(1)), "told\n" * 3 + "pages: 3 wrong\n"
+            self.finds("pages", top=self.repository(1)), "told\n" * 2 + "pages: 2 wrong\n"
         )
 
     def test_another_tool_that_cannot_run(self):

@@ -1,4 +1,4 @@
-"""tools/index and tools/reference: a page is as the code is, and --write follows a change."""
+"""tools/reference: a page is as the code is, and --write follows a change."""
 import unittest
 
 from tool import ToolTest, change, load
@@ -6,25 +6,21 @@ from tool import ToolTest, change, load
 
 class MadePages(ToolTest):
     def test_the_repository(self):
-        for name in ("index", "reference"):
-            with self.subTest(name):
-                self.assertEqual(self.passes(name, "--check"), "")
+        self.assertEqual(self.passes("reference", "--check"), "")
 
     def test_a_page_follows_the_code(self):
         top = self.copy("mutants.d")
-        source = top / "crates" / "thin_rows" / "src" / "lib.rt"
-        change(source, "//! ", "//! Planted. ")
-        for name, page in (
-            ("index", "docs/INDEX.md"),
-            ("reference", "crates/thin_vec/DEFINITIONS.md"),
-        ):
-            change(top / page, "The ", "The planted ")
-            with self.subTest(name):
-                said = self.finds(name, "--check", top=top)
-                self.assertIn(f"{page} is not as the code is: run tools/{name} --write\n", said)
-                self.passes(name, "--write", top=top)
-                self.assertNotIn(" planted ", (top / page).read_text(encoding="utf-8"))
-        self.assertIn("Planted.", (top / "docs" / "INDEX.md").read_text(encoding="utf-8"))
+        source = top / "crates" / "thin_rows" / "src" / "table.rt"
+        change(source, "    /// ", "    /// Planted. ")
+        page = "crates/thin_vec/DEFINITIONS.md"
+        change(top / page, "The ", "The planted ")
+        said = self.finds("reference", "--check", top=top)
+        for name in (page, "crates/thin_rows/REFERENCE.md"):
+            self.assertIn(f"{name} is not as the code is: run tools/reference --write\n", said)
+        self.passes("reference", "--write", top=top)
+        self.assertNotIn(" planted ", (top / page).read_text(encoding="utf-8"))
+        made = (top / "crates" / "thin_rows" / "REFERENCE.md").read_text(encoding="utf-8")
+        self.assertIn("Planted.", made)
 
     def test_the_definitions_that_a_contract_uses(self):
         reference = load("reference")
@@ -34,6 +30,12 @@ class MadePages(ToolTest):
         # One is opaque, and one is named in a trait.
         self.assertIn("IsAllocatable", found["IsBounded"][3])
         self.assertIn("IsValidGrowth", found["IsLawful"][3])
+
+    def test_a_word_of_the_library_without_a_meaning(self):
+        top = self.copy("mutants.d", "proofs")
+        change(top / "tools" / "std_words.toml", "IsOk = ", "IsPlanted = ")
+        says = "tools/std_words.toml: IsOk has no meaning; IsPlanted is used by no contract"
+        self.refuses(says, "reference", "--check", top=top)
 
     def test_a_field_hides_a_word_in_the_fields_after_it(self):
         text = "record Pair (a : A) where\n  pub fits : Fits a\n  pub fits_too : fits → more"
@@ -51,9 +53,8 @@ class MadePages(ToolTest):
 
     def test_a_missing_crate(self):
         top = self.copy("mutants.d", "proofs", "specs", "thin_rows")
-        for name in ("index", "reference"):
-            with self.subTest(name):
-                self.refuses("there is no folder crates/thin_rows/src", name, "--check", top=top)
+        says = "there is no folder crates/thin_rows/src"
+        self.refuses(says, "reference", "--check", top=top)
 
 
 if __name__ == "__main__":

@@ -17,12 +17,18 @@ sys.dont_write_bytecode = True
 TOP = pathlib.Path(__file__).resolve().parents[2]
 sys.path.insert(0, str(TOP / "tools"))
 # The files of the folder that are no programs.
-OWN_MODULES = ("picture", "rattle_source", "unproved", "wrong_bodies")
+OWN_MODULES = (
+    "figures",
+    "picture",
+    "proof_folders",
+    "rattle_source",
+    "unproved",
+    "wrong_bodies",
+)
 NAMES = (
     "audit",
     "differ",
     "evidence",
-    "index",
     "mutants",
     "pages",
     "reference",
@@ -39,12 +45,20 @@ def load(name):
     return module
 
 
+def put_back(kept):
+    """Puts back the modules of this repository, in place of those of a copy."""
+    for module, it in kept.items():
+        sys.modules.pop(module, None)
+        if it:
+            sys.modules[module] = it
+
+
 def run(top, name, arguments, environment):
     """Runs a tool of the repository `top` in this process, which is quicker than in another one."""
     path, out, errors = str(top / "tools" / name), io.StringIO(), io.StringIO()
     kept = {module: sys.modules.pop(module, None) for module in OWN_MODULES}
     with contextlib.ExitStack() as stack:
-        stack.callback(sys.modules.update, {module: it for module, it in kept.items() if it})
+        stack.callback(put_back, kept)
         stack.enter_context(mock.patch.object(sys, "path", [str(top / "tools"), *sys.path]))
         stack.enter_context(contextlib.redirect_stdout(out))
         stack.enter_context(contextlib.redirect_stderr(errors))
