@@ -11,7 +11,8 @@ use Rattle.std.specs.Align.{type_align}
 use Rattle.core.proofs.ptr.Rows.{times_below}
 use Rattle.thin_block.specs.Capacity.{fits, Fits}
 use Rattle.thin_block.specs.Growth.{GrowthRule, IsLawful, IsValidGrowth, exact_capacity, checked_capacity, grown_capacity}
-use Rattle.thin_block.proofs.sizes.SizesLemmas.{opened, closed, fits_none, fits_tells, fits_yes, rounded}
+use Rattle.thin_block.proofs.sizes.SizesLemmas.{fits_tells, fits_yes, rounded}
+pub use Rattle.thin_block.proofs.sizes.SizesLemmas.{fits-none}
 
 pub ruled-same : (rule : GrowthRule) (s a c w : ℕ) → w ≤ c → grown_capacity rule s a c w ≡ Some c
 unfolding grown_capacity
@@ -35,22 +36,19 @@ ruled-grows rule s a c w n law more e = elim (dec_lt w (2 ^ 64)) [
 ]
 
 pub fits-small : (R : RattleType) (c : ℕ) → Fits R c → c < 2 ^ 63
-fits-small R c e = (fits_tells R c (opened R c e)).few
+fits-small R c e = (fits_tells R c e).few
 
 pub fits-bytes : (R : RattleType) (c : ℕ) → Fits R c → c * type_size R < 2 ^ 63
-fits-bytes R c e = let room = (fits_tells R c (opened R c e)).room in omega arith
+fits-bytes R c e = let room = (fits_tells R c e).room in omega arith
 
 pub fits-part : (R : RattleType) (i c : ℕ) → Fits R c → i ≤ c → i * type_size R < 2 ^ 63
 fits-part R i c e less = times_below i c (type_size R) (2 ^ 63) less (fits-bytes R c e)
 
 pub fits-less : (R : RattleType) (c d : ℕ) → Fits R d → c ≤ d → Fits R c
 fits-less R c d e less =
-    let told = fits_tells R d (opened R d e) in
+    let told = fits_tells R d e in
     let under : c * type_size R ≤ d * type_size R = mul-le-mul_right (type_size R) less in
-    closed R c (fits_yes R c (omega arith) (omega arith))
-
-pub fits-none : (R : RattleType) → Fits R 0
-fits-none R = closed R 0 (fits_none R)
+    fits_yes R c (omega arith) (omega arith)
 
 -- The next lemmas are about fewer than `2 ^ 31` items of fewer than `2 ^ 31` bytes each. A block
 -- for these items is far below every size limit.
@@ -65,7 +63,7 @@ pub small_fits : (R : RattleType) (c : ℕ) → c < 2 ^ 31 → type_size R < 2 ^
 small_fits R c few small =
     let bytes : c * type_size R < 2 ^ 62 = few_bytes c (type_size R) few small in
     let about = rounded R 0 in
-    closed R c (fits_yes R c (omega arith) (omega (arith, about.most)))
+    fits_yes R c (omega arith) (omega (arith, about.most))
 
 pub exact-same : (s a c w : ℕ) → w ≤ c → exact_capacity s a c w ≡ Some c
 unfolding exact_capacity

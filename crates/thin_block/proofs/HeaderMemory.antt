@@ -14,7 +14,7 @@ use denote.Steps.{opens, closes}
 use borrow.Author.Tests.{clash}
 use Rattle.std.specs.Option.{is_some}
 use Rattle.thin_block.specs.Ownership.{is_nonempty, fits_block, slots_own, unjoined_room, block_type, header_owns, header_room, dealloc_right, block_owns}
-use Rattle.thin_block.proofs.sizes.SizesLemmas.{fits_none}
+use Rattle.thin_block.proofs.sizes.SizesLemmas.{fits-none}
 use Rattle.thin_block.specs.contracts.block.Block as block
 
 -- `plainly Rs` is the struct type with the field types `Rs` and an empty name. What a struct owns
@@ -198,7 +198,7 @@ module _ {D : Type 0} (t : D → Ty → Ptr → Fml) (R : RattleType) {M : Type 
       fsplit k $ move k (1 ∷ []) $ fsplit k $ move k (1 ∷ []) $ fsplit k $ feq_l k (λ fits.
       feq_i k Bool (fits_block R (length xs)) true fits $ fjoin k $ move k (1 ∷ 0 ∷ []) $ fjoin k $
       move k (1 ∷ 0 ∷ []) $ fjoin k $ next fits)
-  header_fits k n [] None b o is next = next (fits_none R)
+  header_fits k n [] None b o is next = next (fits-none R)
   header_fits k n (x ∷ xs) None b o is next = absurd (clash is)
 
 module _ (E : El) (Y : Al) where

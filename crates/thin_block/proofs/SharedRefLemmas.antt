@@ -10,7 +10,7 @@ use denote.Struct.Lending.{lent_out}
 use denote.Struct.Owning.{shape}
 use borrow.Author.Tests.{clash}
 use Rattle.std.specs.Option.{is_some}
-use Rattle.thin_block.proofs.sizes.SizesLemmas.{fits_none}
+use Rattle.thin_block.proofs.sizes.SizesLemmas.{fits-none}
 use Rattle.thin_block.proofs.HeaderMemory.{Br}
 use Rattle.thin_block.proofs.SlotMemory.{Slot, sz}
 use Rattle.core.specs.contracts.marker.PhantomData as marker
@@ -37,7 +37,7 @@ module _ (R : RattleType) {D : Type 0} {M : Type 1} {𝓤 : Ura M} (𝓛 : Logic
       rewrite ! 1 (λ (u : ℕ × ℕ). ‵ (shared_of usize u.0 b u.1 κ))
       (let turned : o + 8 ≡ 8 + o = omega arith in let zero_is : 0 ≡ n = omega arith in
       λ k. (zero_is k, turned k)) refl $
-      feq_i ! Bool (fits_block R 0) true (fits_none R) $ nothing ! $
+      feq_i ! Bool (fits_block R 0) true (fits-none R) $ nothing ! $
       keep ! (5 ∷ 3 ∷ 1 ∷ 0 ∷ []) $ done !
   words_lent n (x ∷ xs) None b o is le = absurd (clash is)
 

@@ -22,15 +22,12 @@ block_align a = max 8 a
 abbrev pub block_bytes : ℕ → ℕ → ℕ → ℕ
 block_bytes s a c = next_multiple_of (items_offset a + c * s) (block_align a)
 
--- `fits_isize s a c` is true if the capacity `c` and the size of a block for `c` items of size `s`
--- and alignment `a` are at most `isize::MAX`.
-abbrev pub fits_isize : ℕ → ℕ → ℕ → Bool
-fits_isize s a c = nat_lt c (2 ^ 63) && nat_lt (block_bytes s a c) (2 ^ 63)
-
 -- `fits s a c` is true if a block for `c` items of size `s` and alignment `a` is small enough to be
--- allocated. The prover unfolds this definition only on request.
+-- allocated: the capacity `c` and the size of the block (`block_bytes s a c`, written out here) are
+-- at most `isize::MAX`. The prover unfolds this definition only on request.
 unfoldable pub fits : ℕ → ℕ → ℕ → Bool
-fits s a c = fits_isize s a c
+fits s a c = nat_lt c (2 ^ 63)
+    && nat_lt (next_multiple_of (max 16 a + c * s) (max 8 a)) (2 ^ 63)
 
 -- `Fits R c` holds if a block for `c` items of the type `R` is small enough to be allocated.
 abbrev pub Fits : RattleType → ℕ → Type 0

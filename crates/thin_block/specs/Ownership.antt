@@ -19,7 +19,7 @@ use denote.Memory.{lone}
 use denote.RawPtr.{Ptr, block_ptr, null_ptr, lies_at, room_for}
 use denote.Sharing.{nothing, said, beside}
 use denote.Struct.Lending.{lent_at}
-use Rattle.thin_block.specs.Capacity.{fits_isize, has_padding, in_words}
+use Rattle.thin_block.specs.Capacity.{fits, has_padding, in_words}
 
 -- `is_nonempty xs` is true if the list `xs` is non-empty.
 abbrev pub is_nonempty : {X : Type 0} → List X → Bool
@@ -36,7 +36,7 @@ is_nonempty_same (x ∷ xs) (y ∷ ys) e = refl
 -- `fits_block R c` is true if a block of `c` slots for items of the type `R` is small enough to be
 -- allocated.
 abbrev pub fits_block : RattleType → ℕ → Bool
-fits_block R c = fits_isize (type_size R) (type_align R) c
+fits_block R c = fits (type_size R) (type_align R) c
 
 -- `slot_owns R x b o` is the memory of the slot `x` at the offset `o` of the allocation `b`. A
 -- filled slot contains an item of the type `R`. An empty slot is uninitialized.

@@ -20,7 +20,7 @@ use Rattle.thin_block.specs.Growth.{GrowthRule, IsLawful, checked_capacity, doub
 use Rattle.thin_vec.specs.Edits.Splice.{IsAfterSplice, SplicesCapacity, StopsBeforeTail, cost_after_growth}
 use Rattle.thin_vec.specs.declared.errors.SpliceRefused.{SpliceRefused}
 use Rattle.thin_vec.specs.List.Extend.{CostsExtending, CostsInserting, ExtendsCapacity, IsAfterCollect, IsAfterExtend, IsAfterPushes, capacity_after_pushes, cost_after_pushes}
-use Rattle.thin_vec.specs.ThinVec.{HasRoomFor, IsBounded, ListView, fits_allocatable, capacity_after_reserve, cost_after_resize, cost_of_new}
+use Rattle.thin_vec.specs.ThinVec.{HasRoomFor, IsBounded, ListView, capacity_after_reserve, cost_after_resize, cost_of_new}
 use Rattle.thin_block.specs.GrowthLaws.{doubling_law}
 use Rattle.thin_vec.proofs.CallerLemmas.{doubling-twice}
 use Rattle.thin_vec.proofs.RetainLemmas.{moving-more, moving-none}
@@ -790,8 +790,7 @@ collected-ruled rule R w h law bounds p =
     elim (pushes-ruled rule R law h (length w.items) w.capacity p.capacity) [
       | inl same ↦ inr (elim (cases_lt 0 h) [
         | inl some ↦
-            exact-fits R 0 h some (subst (Fits R) same
-            (fits_allocatable R w.capacity bounds.allocatable))
+            exact-fits R 0 h some (subst (Fits R) same bounds.fits)
             ∙ ap Some (sym same)
         | inr none ↦
             exact-same _ _ 0 h none ∙ ap Some (let zero : 0 ≡ w.capacity = omega arith in zero)

@@ -2,9 +2,7 @@
 -- and copied items. They are also meant for other crates.
 use Rattle.thin_block.proofs.ResultLemmas.{some-same}
 use Rattle.std.proofs.Common.{if◌then◌else◌, Bool, ◌≡◌, ℕ, zero, suc, ◌+◌, ◌*◌, ◌^◌, ◌<◌, ◌≤◌, true, false, Some, ap, List, [], arith, eqb, inl, inr, length, refl, subst, sym, ◌∙◌}
-use Rattle.std.specs.Align.{type_align}
 use Rattle.std.specs.Borrow.{RattleType}
-use Rattle.std.specs.Mem.{type_size}
 use Rattle.std.proofs.lemmas.Bool.{cases_lt}
 use Rattle.std.proofs.lemmas.Bool.Decides.{nat_tests}
 use Rattle.std.proofs.lemmas.Grind.{pow_more}
@@ -12,15 +10,10 @@ use Rattle.thin_block.specs.Cost.{Cost, add_realloc}
 use Rattle.thin_block.specs.Growth.{GrowthRule, IsLawful}
 use Rattle.thin_block.specs.Capacity.{Fits}
 use Rattle.thin_block.specs.declared.block.Block.{Block}
-use Rattle.thin_block.proofs.CapacityLemmas.{fits-less, fits-none, fits-small, ruled-same, ruled-grows}
+use Rattle.thin_block.proofs.CapacityLemmas.{fits-none, fits-small, ruled-same, ruled-grows}
 use Rattle.thin_vec.proofs.ListLemmas.{RestoresInvariant, thin-room}
 use Rattle.thin_vec.specs.Cheap.{IsCheap, IsCheapAt}
-use Rattle.thin_vec.specs.ThinVec.{IsAllocatable, IsListBlock, IsBounded, ListView, allocatable, capacity_after_reserve, cost_after_resize, fits_allocatable, list_view}
-
-pub allocatable-less : (R : RattleType) (c d : ℕ) → IsAllocatable (type_size R) (type_align R) d
-    → c ≤ d → IsAllocatable (type_size R) (type_align R) c
-allocatable-less R c d fit less =
-    allocatable R c (fits-less R c d (fits_allocatable R d fit) less)
+use Rattle.thin_vec.specs.ThinVec.{IsListBlock, IsBounded, ListView, capacity_after_reserve, cost_after_resize, list_view}
 
 module _ {T A : Type 0} (R : RattleType) (b : Block T A) (a : A) where
   pub within-of : (v : ListView T A) → IsListBlock b a → list_view b a ≡ v
@@ -30,7 +23,7 @@ module _ {T A : Type 0} (R : RattleType) (b : Block T A) (a : A) where
       record {
         room = thin-room b a thin;
         small = fits-small R (length b.slots) fits;
-        allocatable = allocatable R (length b.slots) fits;
+        fits = fits;
       } in
       subst (IsBounded R) is here
 
@@ -45,9 +38,7 @@ module _ {T A : Type 0} (R : RattleType) (b : Block T A) (a : A) where
   within-stays b' v xs kept is after = record {
     room = thin-room b' a after.thin;
     small = omega (arith, after.cap, ap (λ (w : ListView T A). w.capacity) is, kept.small);
-    allocatable = subst (IsAllocatable (type_size R) (type_align R))
-        (sym (after.cap ∙ ap (λ (w : ListView T A). w.capacity) is))
-        kept.allocatable;
+    fits = subst (Fits R) (sym (after.cap ∙ ap (λ (w : ListView T A). w.capacity) is)) kept.fits;
   }
 
   pub within-kept : (b' : Block T A) (v : ListView T A) (xs : List T) → IsListBlock b a
@@ -59,7 +50,7 @@ module _ {T A : Type 0} (R : RattleType) (b : Block T A) (a : A) where
     record {
       room = thin-room b' a after.thin;
       small = fits-small R (length b'.slots) (subst (Fits R) (sym after.cap) fits);
-      allocatable = allocatable R (length b'.slots) (subst (Fits R) (sym after.cap) fits);
+      fits = subst (Fits R) (sym after.cap) fits;
     },
   )
 
@@ -68,8 +59,7 @@ module _ {T A : Type 0} (R : RattleType) (w : ListView T A) where
   within-none none nothing = record {
     room = omega (arith, ap length none);
     small = omega arith;
-    allocatable = subst (IsAllocatable (type_size R) (type_align R)) (sym nothing)
-        (allocatable R 0 (fits-none R));
+    fits = subst (Fits R) (sym nothing) (fits-none R);
   }
 
   pub within-like : (v : ListView T A) → IsBounded R v → w.capacity ≡ v.capacity
@@ -78,8 +68,7 @@ module _ {T A : Type 0} (R : RattleType) (w : ListView T A) where
       record {
         room = omega arith;
         small = omega (arith, kept.small);
-        allocatable = subst (IsAllocatable (type_size R) (type_align R)) (sym same)
-            kept.allocatable;
+        fits = subst (Fits R) (sym same) kept.fits;
       }
 
 -- In this module, the capacity of the list `v` changes to `c`.

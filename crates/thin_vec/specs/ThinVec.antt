@@ -1,6 +1,6 @@
 -- This file defines `ListView`, the view of a `ThinVec` that contracts use, and basic statements
 -- about lists.
-use Rattle.std.specs.Prelude.{◌≡◌, ℕ, ◌+◌, ◌^◌, ◌<◌, ◌≤◌, ◌==◌, IsTrue, List, [], Option, if◌then◌else◌, length, refl}
+use Rattle.std.specs.Prelude.{◌≡◌, ℕ, ◌+◌, ◌^◌, ◌<◌, ◌≤◌, ◌==◌, List, [], Option, if◌then◌else◌, length, refl}
 use Rattle.std.specs.declared.option.Option.TheVariants.{None}
 use Rattle.thin_block.specs.declared.errors.ThinVecError.{ThinVecError}
 use Rattle.thin_block.specs.declared.errors.ThinVecError.TheVariants.{CapacityOverflow}
@@ -9,7 +9,7 @@ use Rattle.std.specs.Align.{type_align}
 use Rattle.std.specs.Mem.{type_size}
 use Rattle.std.specs.Coded.{Coded, code_by, coded×, coded_ℕ, coded_list}
 use Rattle.thin_block.specs.Block.{IsAllocatedBy}
-use Rattle.thin_block.specs.Capacity.{Fits, fits}
+use Rattle.thin_block.specs.Capacity.{Fits}
 use Rattle.thin_block.specs.Cost.{Cost, cost_code, no_cost, add_realloc}
 use Rattle.thin_block.specs.Growth.{GrowthRule, exact_capacity, grown_capacity}
 use Rattle.thin_block.specs.Slots.{IsPacked, items_in}
@@ -30,22 +30,6 @@ list_view_code {T} {A} t a =
     (coded× (coded_list t) (coded× coded_ℕ (coded× a cost_code)))
     (λ v. (v.items, (v.capacity, (v.alloc, v.cost))))
     (λ p. record { items = p.0; capacity = p.1.0; alloc = p.1.1.0; cost = p.1.1.1 }) (λ _. refl)
-
--- `IsAllocatable s a c` holds if a block for `c` items of the size `s` and the alignment `a` takes
--- less than 2^63 bytes, so that it may be allocated. The prover never unfolds this definition. For
--- items of a type `R`, the lemmas `allocatable` and `fits_allocatable` convert it from and to
--- `Fits R c`.
-pub IsAllocatable : ℕ → ℕ → ℕ → Type 0
-IsAllocatable s a c = IsTrue (fits s a c)
-
-module _ (R : RattleType) (c : ℕ) where
-  pub allocatable : Fits R c → IsAllocatable (type_size R) (type_align R) c
-  unfolding IsAllocatable
-  allocatable fit = fit
-
-  pub fits_allocatable : IsAllocatable (type_size R) (type_align R) c → Fits R c
-  unfolding IsAllocatable
-  fits_allocatable fit = fit
 
 module _ {T A : Type 0} where
   -- `IsListBlock b a` holds if `b` is the block of a list with the allocator `a`: its items fill
@@ -77,8 +61,7 @@ module _ {T A : Type 0} where
   pub record IsBounded (R : RattleType) (v : ListView T A) : Type 0 where
     pub room : length v.items ≤ v.capacity
     pub small : v.capacity < 2 ^ 63
-    -- A block of this capacity takes less than 2^63 bytes.
-    pub allocatable : IsAllocatable (type_size R) (type_align R) v.capacity
+    pub fits : Fits R v.capacity
 
   -- `HasRoomFor v k` states that the list `v` has room for `k` more items without growing.
   abbrev pub HasRoomFor : ListView T A → ℕ → Type 0

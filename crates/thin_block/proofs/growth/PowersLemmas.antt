@@ -14,7 +14,7 @@ use Rattle.thin_block.specs.Growth.{FillsPowerOfTwo, checked_capacity, power_byt
 use Rattle.thin_block.specs.PowerLaws.{least_power_is, powers_filled, powers_of_some}
 use Rattle.thin_block.proofs.CapacityLemmas.{fitting_none}
 use Rattle.thin_block.proofs.padded.PaddedLemmas.{full_unpadded, small_unpadded}
-use Rattle.thin_block.proofs.sizes.SizesLemmas.{capped_le, fits_tells, opened, rounded}
+use Rattle.thin_block.proofs.sizes.SizesLemmas.{capped_le, fits_tells, rounded}
 
 -- The code uses the item size `size`, which is `s` capped at `usize::MAX`.
 pub takes_none : (s size : ℕ) → size ≡ capped s → size ≡ 0 → s ≡ 0
@@ -93,6 +93,6 @@ module _ (R : RattleType) (c w size : ℕ) (is : size ≡ capped (type_size R))
       mul-le-mul_left items (let low : size ≤ s = omega (arith, is, capped_le s) in low) in
       let more : items * s ≤ n * s =
       mul-le-mul_right s (let few : items ≤ n = omega (arith, held) in few) in
-      let never : Fits R n → ⊥ = λ fit. (let room = (fits_tells R n (opened R n fit)).room in
+      let never : Fits R n → ⊥ = λ fit. (let room = (fits_tells R n fit).room in
       omega (arith, room, large, less, more)) in
       sym (powers_of_some s a c w takes ∙ fitting_none R n never)

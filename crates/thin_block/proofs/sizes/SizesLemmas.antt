@@ -19,7 +19,7 @@ use Rattle.std.specs.Mem.{type_size}
 use Rattle.std.specs.Align.{type_align}
 use Rattle.std.proofs.lemmas.Nat.{div-add-mod', le-div}
 use Rattle.std.proofs.lemmas.Bool.Decides.{nat_tests}
-use Rattle.thin_block.specs.Capacity.{items_offset, block_align, block_bytes, fits_isize, fits, Fits, min_non_zero_cap}
+use Rattle.thin_block.specs.Capacity.{items_offset, block_align, block_bytes, fits, Fits, min_non_zero_cap}
 use Rattle.thin_block.specs.Growth.{checked_capacity, doubling}
 
 -- The next lemmas are about rounding a size up to a multiple of an alignment.
@@ -98,13 +98,15 @@ pub record Told (s a c : ℕ) : Type 0 where
   pub short : block_bytes s a c < 2 ^ 63
 
 module _ (s a c : ℕ) (is : IsAlign a) where
-  pub small_yes : c < 2 ^ 63 → Small s a c → fits_isize s a c ≡ true
+  pub small_yes : c < 2 ^ 63 → Small s a c → fits s a c ≡ true
+  unfolding fits
   small_yes few room =
       let whole : block_bytes s a c < 2 ^ 63 = (rounded_at a (c * s) is).short room in
       and_from (ltb c (2 ^ 63)) (ltb (block_bytes s a c) (2 ^ 63)) (lt-ltb c (2 ^ 63) few)
       (lt-ltb (block_bytes s a c) (2 ^ 63) whole)
 
-  pub small_tells : fits_isize s a c ≡ true → Told s a c
+  pub small_tells : fits s a c ≡ true → Told s a c
+  unfolding fits
   small_tells e =
       let both = and_parts (ltb c (2 ^ 63)) (ltb (block_bytes s a c) (2 ^ 63)) e in
       let few : c < 2 ^ 63 = ltb-true c (2 ^ 63) both.0 in
@@ -113,23 +115,11 @@ module _ (s a c : ℕ) (is : IsAlign a) where
 
 -- This module restates the lemmas `small_yes` and `small_tells` for an item type `R`.
 module _ (R : RattleType) (c : ℕ) where
-  abbrev IsSmall : Type 0
-  IsSmall = fits_isize (type_size R) (type_align R) c ≡ true
-
-  pub fits_yes : c < 2 ^ 63 → Small (type_size R) (type_align R) c → IsSmall
+  pub fits_yes : c < 2 ^ 63 → Small (type_size R) (type_align R) c → Fits R c
   fits_yes few room = small_yes (type_size R) (type_align R) c (align_known R) few room
 
-  pub fits_tells : IsSmall → Told (type_size R) (type_align R) c
+  pub fits_tells : Fits R c → Told (type_size R) (type_align R) c
   fits_tells e = small_tells (type_size R) (type_align R) c (align_known R) e
-
-  -- `opened` and `closed` convert between `Fits R c` and `IsSmall`, which differ by an unfolding.
-  pub opened : Fits R c → IsSmall
-  unfolding fits
-  opened e = e
-
-  pub closed : IsSmall → Fits R c
-  unfolding fits
-  closed e = e
 
   -- The code of `fits` compares `c` with this quotient. `size` is the size of an item, capped at
   -- `usize::MAX`.
@@ -155,8 +145,8 @@ module _ (R : RattleType) (c : ℕ) where
       let same' : c * size ≡ c * type_size R = ap (λ (k : ℕ). c * k) is ∙ same in
       le-div c (2 ^ 63 - block_align (type_align R) - 16) size some (omega arith)
 
-pub fits_none : (R : RattleType) → fits_isize (type_size R) (type_align R) 0 ≡ true
-fits_none R =
+pub fits-none : (R : RattleType) → Fits R 0
+fits-none R =
     let about = rounded R 0 in
     let nothing = zero-mul (type_size R) in
     fits_yes R 0 (omega arith) (omega arith)

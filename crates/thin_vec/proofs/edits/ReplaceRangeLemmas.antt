@@ -8,7 +8,7 @@ use Rattle.thin_block.specs.Growth.{GrowthRule, IsLawful}
 use Rattle.thin_block.specs.declared.errors.ThinVecError.{ThinVecError}
 use Rattle.thin_block.specs.declared.errors.ThinVecError.TheVariants.{CapacityOverflow}
 use Rattle.thin_block.proofs.CapacityLemmas.{fits-less, ruled-grows}
-use Rattle.thin_vec.specs.ThinVec.{IsBounded, IsCauseOf, ListView, capacity_after_reserve, fits_allocatable}
+use Rattle.thin_vec.specs.ThinVec.{IsBounded, IsCauseOf, ListView, capacity_after_reserve}
 
 never-some : (o : Option ℕ) → ((c : ℕ) → o ≡ Some c → ⊥) → o ≡ None
 never-some None never = refl
@@ -24,8 +24,7 @@ too-many rule R v k n law bounded never some =
           (λ c is. let grown = ruled-grows rule _ _ v.capacity (length v.items + k) c law more is in
           never (fits-less R n c grown.fits (omega (arith, grown.enough, some))))
       | inr spare ↦ absurd
-          (never (fits-less R n v.capacity (fits_allocatable R v.capacity bounded.allocatable)
-          (omega (arith, spare, some))))
+          (never (fits-less R n v.capacity bounded.fits (omega (arith, spare, some))))
     ]
 
 -- If a call returns `CapacityOverflow` only if no capacity is chosen, the cause of each of its

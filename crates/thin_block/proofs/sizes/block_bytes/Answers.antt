@@ -5,7 +5,7 @@ use Rattle.std.specs.Mem.{type_size}
 use Rattle.std.specs.Align.{type_align}
 use Rattle.std.specs.Int.{next_multiple_of}
 use Rattle.thin_block.specs.Capacity.{items_offset, block_bytes, Fits}
-use Rattle.thin_block.proofs.sizes.SizesLemmas.{opened, fits_tells, rounded, capped_product}
+use Rattle.thin_block.proofs.sizes.SizesLemmas.{fits_tells, rounded, capped_product}
 use prog.Memory.{capped}
 use denote.Param.{param}
 use denote.RattleType.{RattleType}
@@ -14,7 +14,7 @@ use Rattle.thin_block.proofs.sizes.block_bytes.Goals as goal
 summed : (R : RattleType) (c size : ℕ) → Fits R c → size ≡ capped (type_size R)
     → 16 + c * size ≡ items_offset (type_align R) + c * type_size R
 summed R c size fits is =
-    let room = (fits_tells R c (opened R c fits)).room in
+    let room = (fits_tells R c fits).room in
     let start = (rounded R 0).offset in
     let same : c * size ≡ c * type_size R = ap (λ (k : ℕ). c * k) is
     ∙ capped_product c (type_size R) (omega arith) in
@@ -23,7 +23,7 @@ summed R c size fits is =
 low : (R : RattleType) (c size : ℕ) → Fits R c → size ≡ capped (type_size R)
     → 16 + c * size < 2 ^ 63
 low R c size fits is =
-    let told = fits_tells R c (opened R c fits) in
+    let told = fits_tells R c fits in
     let start = (rounded R 0).offset in
     let sum = summed R c size fits is in
     omega arith
@@ -43,7 +43,7 @@ overflow_add-cap g c =
 pub next_multiple_of-requires-clause-fits : goal.next_multiple_of-requires-clause-fits
 next_multiple_of-requires-clause-fits g c =
     let short = (fits_tells (param 0 g.row.T) c.args.cap
-    (opened (param 0 g.row.T) c.args.cap c.requires)).short in
+    c.requires).short in
     let sum = summed (param 0 g.row.T) c.args.cap c.item_size.result c.requires
     c.item_size.ensures.value in
     let value : next_multiple_of (16 + c.args.cap * c.item_size.result) c.block_align.result

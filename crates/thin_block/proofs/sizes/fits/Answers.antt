@@ -4,7 +4,7 @@ use Rattle.std.proofs.Common.{◌≡◌, ℕ, ◌-◌, ◌*◌, ◌/◌, ◌^◌
 use Rattle.std.specs.Mem.{type_size}
 use Rattle.std.specs.Align.{type_align}
 use Rattle.thin_block.specs.Capacity.{block_align, Fits}
-use Rattle.thin_block.proofs.sizes.SizesLemmas.{opened, closed, fits_yes, fits_tells, divided, dividing, rounded, whole_product, positive}
+use Rattle.thin_block.proofs.sizes.SizesLemmas.{fits_yes, fits_tells, divided, dividing, rounded, whole_product, positive}
 use borrow.Author.Tests.{leb-true, le-leb}
 use prog.Memory.{capped}
 use denote.Param.{param}
@@ -25,7 +25,7 @@ returns-then-cap g c =
       value = (
         λ no. cc,
         λ fits. let few = (fits_tells (param 0 g.row.T) c.args.cap
-            (opened (param 0 g.row.T) c.args.cap fits)).few in absurd (omega arith),
+            fits).few in absurd (omega arith),
       );
     }
 
@@ -36,8 +36,7 @@ returns-then-size-eq0 g c =
     c.item_size-size.ensures.value c.if-size-eq0.true in
     record {
       value = (
-        λ yes. closed (param 0 g.row.T) c.args.cap
-            (fits_yes (param 0 g.row.T) c.args.cap (omega arith) (omega arith)),
+        λ yes. fits_yes (param 0 g.row.T) c.args.cap (omega arith) (omega arith),
         λ fits. refl,
       );
     }
@@ -59,11 +58,11 @@ by_division : (R : RattleType) (c size align : ℕ) → align ≡ block_align (t
     × (Fits R c → leb c ((2 ^ 63 - align - 16) / size) ≡ true)
 by_division R c size align is_align is some few =
     let limit = same_limit R c size align is_align in (
-      λ yes. closed R c (fits_yes R c few
+      λ yes. fits_yes R c few
           (divided R c size is some
-          (leb-true c ((2 ^ 63 - block_align (type_align R) - 16) / size) (sym limit ∙ yes)))),
+          (leb-true c ((2 ^ 63 - block_align (type_align R) - 16) / size) (sym limit ∙ yes))),
       λ fits. limit ∙ le-leb c ((2 ^ 63 - block_align (type_align R) - 16) / size)
-          (dividing R c size is some (fits_tells R c (opened R c fits)).room),
+          (dividing R c size is some (fits_tells R c fits).room),
     )
 
 pub returns : goal.returns

@@ -5,7 +5,7 @@ use Rattle.thin_block.proofs.WalkPrelude.{Ty, Body, ty_int, Val, WT, vint, vptr,
 use types.Kit.{post}
 use contract.Lifetimes.{toks}
 use Rattle.thin_block.specs.Ownership.{fits_block, slots_own, header_owns, dealloc_right, dealloc_right_if, words_of, erased_type, pads, memory_type}
-use Rattle.thin_block.proofs.sizes.SizesLemmas.{fits_tells, opened, rounded}
+use Rattle.thin_block.proofs.sizes.SizesLemmas.{fits_tells, rounded}
 use Rattle.thin_block.proofs.BlockMemory.{Unaddressed, front_tells, memory_size, memory_align, memory_short, memory_apart}
 use Rattle.thin_block.proofs.padded.PaddedMemory.{padded_right_in}
 use Rattle.thin_block.proofs.MethodSignatures.{item, source, others, dropped, all_go, arrives, heard_each, enters, blank, still, word, args, Br, any_some, block_val, block_made, header_written, reach, slot_found}
@@ -48,7 +48,7 @@ allocate_sized_spec 𝓤 𝓛 𝓜 𝓡 wired T A LT LA g d dd met md =
     fsplit ! $ drop ! $ keep ! (0 ∷ 1 ∷ 2 ∷ []) $
     -- The context is now: the shared reference to the allocator; its lifetime token; the other
     -- tokens.
-    let fits : fits_block Rt cap ≡ true = opened Rt cap small in
+    let fits : fits_block Rt cap ≡ true = small in
     let about = front_tells Rt cap front front_is in
     let short = memory_short Rt cap fits in
     let sized : capped (size τ) ≡ bytes = ap capped (memory_size Rt cap ∙ sym bytes_are)

@@ -3,7 +3,6 @@
 use Rattle.std.proofs.Common.{ℕ, ◌+◌, ◌^◌, List, ◌∷◌, [], ◌++◌, length, refl, w64}
 use Rattle.thin_block.proofs.WalkPrelude.{Val, vint, vptr, inst_fn, ◌$◌, !, move, keep, fjoin, feq_i, flt_i, suffices, done, stop, fld, look, load, of_opd, first, blocks, returns, alloc_all, pass_all, free_all, look_at, through, sets, sets_last, get, walk_of, ends_at, proved_at, R, pointer_in, pointer_out, says_all, word_in, word_out}
 use Rattle.thin_block.proofs.SharedRefLemmas.{block_seen}
-use Rattle.thin_block.proofs.sizes.SizesLemmas.{closed}
 use Rattle.thin_block.proofs.MethodSignatures.{item, source, others, dropped, all_go, seen, enters, leaves, continues, args}
 use Rattle.thin_block.specs.contracts.block.Block.cap.{ended, clauses}
 use Rattle.thin_block.specs.contracts.block.Block.cap.Key.{name as #self}
@@ -41,4 +40,4 @@ cap_spec 𝓤 𝓛 𝓜 𝓡 wired T A LT LA g d dd met md =
     fjoin ! $ move ! (1 ∷ 0 ∷ 2 ∷ []) $ leaves ! 1 $
     suffices ! _ (ends_at 𝓛 En₀ hs c z (vint w64 n) n (tt, tt) (tt, tt)) $
     says_all ! (_ ∷ _ ∷ _ ∷ [])
-    (refl, (x.sound.0, closed (R E) n small)) $ done !))))))
+    (refl, (x.sound.0, small)) $ done !))))))

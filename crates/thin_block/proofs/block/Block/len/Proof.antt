@@ -4,7 +4,6 @@ use Rattle.std.proofs.Common.{ℕ, ◌+◌, ◌^◌, List, ◌∷◌, [], ◌++�
 use Rattle.thin_block.proofs.WalkPrelude.{Val, vint, vptr, inst_fn, ◌$◌, !, move, keep, fjoin, feq_i, flt_i, suffices, done, stop, fld, look, load, lit, bin, of_opd, first, blocks, returns, alloc_all, pass_all, free_all, look_at, through, sets, sets_last, get, walk_of, ends_at, proved_at, R, pointer_in, pointer_out, says_all, word_in, word_out}
 use Rattle.thin_block.proofs.SharedRefLemmas.{block_seen}
 use Rattle.thin_block.proofs.CapacityLemmas.{fits-less}
-use Rattle.thin_block.proofs.sizes.SizesLemmas.{closed}
 use Rattle.thin_block.proofs.MethodSignatures.{item, source, others, dropped, all_go, seen, enters, leaves, continues, args}
 use Rattle.thin_block.specs.contracts.block.Block.len.{ended, clauses}
 use Rattle.thin_block.specs.contracts.block.Block.len.Key.{name as #self}
@@ -47,8 +46,8 @@ len_spec 𝓤 𝓛 𝓜 𝓡 wired T A LT LA g d dd met md =
       (
         x.sound.0,
         (
-          fits-less (R E) n (length x.slots) (closed (R E) (length x.slots) small) x.sound.0,
-          closed (R E) (length x.slots) small,
+          fits-less (R E) n (length x.slots) small x.sound.0,
+          small,
         ),
       ),
     ) $ done !))))))

@@ -3,7 +3,7 @@
 use Rattle.std.proofs.Common.{◌≡◌, ℕ, ◌+◌, ◌-◌, ◌*◌, ◌^◌, ◌<◌, ◌≤◌, List, [], ◌∷◌, ◌++◌, length, true, refl, sym, ap, subst, ◌∙◌, arith, lit<, w64, Some, Option}
 use Rattle.thin_block.proofs.WalkPrelude.{Body, id⊢, ftrue, ty_int, Val, WT, vint, vptr, vstruct, vcons, vnil, vunit, inst_fn, SProp, ex, Fml, Share, froom, flft, Env, tables, After, Item, ‵, raw, ◌⊛◌, exists, given, pick, learn, later, at_ret, ◌$◌, !, move, keep, drop, group, use0, use1, use2, split, split3, join, rewrite, fsplit, fjoin, feq_i, await, suffices, done, whole, sub, agg, stop, fld, lit, bin, init, store_in, look, load, unit_lit, of_opd, no_more, and_then, assigns, first, blocks, exec, returns, alloc_all, pass_all, free_all, look_at, get, get_in, through, sets, sets_last, lands_as, env, unit, RattleType, Ptr, block_ptr, calls_at, walk_of, ends_at, token, fm, proved_at, type_align, R, then_runs, out_of_block, after, head, inside, arm_body, says_all, refused_made, Ty, ty_ptr, ⊑_static, live, vrt, in_variant, switches_on, get_tag, type_at, Flagged, flagged, Ok, Err, ok_of, err_of, add_realloc, items_in, filled_slots, empty_slots, write_slots, slot_range, fits_block, slots_own, header_owns, dealloc_right, end_of, FitsGap, gapped_items, block_view}
 use base.Share as Shares
-use Rattle.thin_block.proofs.sizes.SizesLemmas.{fits_tells, opened}
+use Rattle.thin_block.proofs.sizes.SizesLemmas.{fits_tells}
 use Rattle.thin_block.proofs.padded.PaddedLemmas.{Padded, padded_tells}
 use Rattle.thin_block.proofs.padded.PaddedMemory.{Kept, Opened, padded_apart, padded_right_in, array_in, array_out}
 use Rattle.thin_block.proofs.in_place.ResizedCall.{Resizing, at_resizing, leaves, Resizing-goes, Resizing-gives}
@@ -68,7 +68,7 @@ resize_padded_spec 𝓤 𝓛 𝓜 𝓡 wired T A LT LA g d dd met md =
     let wide' : Padded s (type_align Rt) cap = padded_tells s (type_align Rt) cap pad' in
     let near_end : old * s < 2 ^ 64 =
     let low = reach Rt old (length x.slots) fits (omega arith) in omega arith in
-    let fits_cap : fits_block Rt cap ≡ true = opened Rt cap small in
+    let fits_cap : fits_block Rt cap ≡ true = small in
     let near_end' : cap * s < 2 ^ 64 =
     let low = reach Rt cap cap fits_cap (omega arith) in omega arith in
     let tok : Ty → Ptr → Fml = token Y h in

@@ -6,7 +6,7 @@ use contract.BorrowLft.{⊑_meet, ⊑_static}
 use denote.Param.{arg}
 use denote.Param.Laws.{arg_laws}
 use Rattle.core.specs.Simd.{first_chunks}
-use Rattle.thin_block.proofs.sizes.SizesLemmas.{fits_tells, opened}
+use Rattle.thin_block.proofs.sizes.SizesLemmas.{fits_tells}
 use Rattle.thin_block.proofs.WordConversionLemmas.{Kept, header_apart, right_in, words_apart}
 use Rattle.thin_block.proofs.words.WordsLemmas.{InWords, words_told}
 use Rattle.thin_block.proofs.words.MadeCall.{Making, at_making, Making-goes, Making-gives}
@@ -114,7 +114,7 @@ resize_words_spec 𝓤 𝓛 𝓜 𝓡 wired T A m k LT LA fits_m fits_k g d dd m
     ∙ (sym (mul_assoc count m (type_size Rt)) ∙ ap (λ (n : ℕ). n * type_size Rt) count_is) in
     let near : len * type_size Rt < 2 ^ 63 = reach Rt len (length x.slots) fits (omega arith) in
     let short : count * s < 2 ^ 64 = omega arith in
-    let fits_cap : fits_block Rt cap ≡ true = opened Rt cap small in
+    let fits_cap : fits_block Rt cap ≡ true = small in
     let told_cap = fits_tells Rt cap fits_cap in
     let tok : Ty → Ptr → Fml = token Y h in
     let fits_old : fits_block Rt old ≡ true =

@@ -3,7 +3,6 @@ use Rattle.std.proofs.Common.{◌≡◌, ◌++◌, ◌∷◌, [], ap, ◌∙◌,
 use Rattle.std.proofs.lemmas.List.{length_push}
 use Rattle.thin_block.specs.Capacity.{Fits}
 use Rattle.thin_block.specs.Slots.{items_in}
-use Rattle.thin_vec.specs.ThinVec.{fits_allocatable}
 use Rattle.thin_vec.proofs.ListLemmas.{RestoresInvariant, restores-push}
 use Rattle.thin_vec.proofs.list.ReservesLemmas.{keeps-settled}
 use denote.Param.{param}
@@ -44,5 +43,5 @@ pub returns-clause-preserved : goal.returns-clause-preserved
 returns-clause-preserved g c =
     keeps-settled _ _ c.self.invariant c.self.view_is
     (subst (Fits (param 0 g.row.T)) (sym (ap (λ v. v.capacity) c.self.view_is))
-    (fits_allocatable (param 0 g.row.T) _ c.requires.bounds.allocatable)) (facts g c)
+    c.requires.bounds.fits) (facts g c)
     (ap (λ v. v.cost) c.put_and_set_len.ensures.changes) (refl, refl)

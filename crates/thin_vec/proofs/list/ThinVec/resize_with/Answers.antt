@@ -3,7 +3,7 @@
 use Rattle.std.proofs.Common.{Some, ◌≡◌, ◌-◌, ◌++◌, ap, arith, length, length-append, refl, subst, sym, take, take_all, ◌∙◌}
 use denote.Param.{param}
 use Rattle.thin_vec.specs.List.Capacity.{OverflowsIff}
-use Rattle.thin_vec.specs.ThinVec.{capacity_after_reserve, fits_allocatable}
+use Rattle.thin_vec.specs.ThinVec.{capacity_after_reserve}
 use Rattle.thin_block.proofs.BlockLemmas.{slots-are, then-len}
 use Rattle.thin_block.specs.Capacity.{Fits}
 use Rattle.thin_block.specs.Slots.{items_in}
@@ -103,7 +103,7 @@ returns-clause-preserved g c =
     keeps-join kept
     (keeps-settled T c.reserve.new.self c.self.invariant c.self.view_is
     (subst (λ n. Fits T n) (sym (ap (λ z. z.capacity) c.self.view_is))
-    (fits_allocatable T c.reserve.new.self.capacity kept.within.1.allocatable))
+    kept.within.1.fits)
     (facts g c)
     (ap (λ z. z.cost) c.set_len.ensures.changes ∙ ap (λ z. z.cost) c.put_results.ensures.changes)
     (refl, refl))

@@ -6,7 +6,6 @@ use Rattle.thin_block.specs.Slots.{items_in}
 use Rattle.thin_vec.proofs.ListLemmas.{RestoresInvariant}
 use Rattle.thin_vec.proofs.ThinVecLemmas.{within-none, within-settled}
 use Rattle.thin_vec.proofs.list.CapacityChangeLemmas.{restores-shrink}
-use Rattle.thin_vec.specs.ThinVec.{fits_allocatable}
 use Rattle.thin_vec.proofs.list.ThinVec.shrink_to.Goals as goal
 
 facts : (g : _) (c : goal.In_ok-shrink g) → RestoresInvariant c.shrink.new.self c.self.inside.alloc
@@ -32,7 +31,6 @@ returns-clause-bounds g c =
     let before = c.len.ensures.bounds in (
       before,
       within-settled _ _ _ _ _
-          (fits-less (param 0 g.row.T) _ _
-          (fits_allocatable (param 0 g.row.T) c.args.self.now.capacity before.allocatable)
+          (fits-less (param 0 g.row.T) _ _ before.fits
           (omega (arith, c.if-wanted-capacity.false, c.capacity.ensures.value))) (facts g c),
     )

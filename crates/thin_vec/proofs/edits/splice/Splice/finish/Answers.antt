@@ -4,7 +4,7 @@ use denote.Param.{param}
 use Rattle.thin_vec.specs.Edits.Finish.{FinishesSplice}
 use Rattle.thin_vec.specs.OpenView.{tail_end}
 use Rattle.thin_vec.specs.Edits.Splice.{left_by_splice, splice_front, splice_iter, splice_list, splice_tail}
-use Rattle.thin_vec.proofs.ThinVecLemmas.{allocatable-less}
+use Rattle.thin_block.proofs.CapacityLemmas.{fits-less}
 use Rattle.thin_vec.proofs.PushesLemmas.{splices-costs}
 use Rattle.thin_vec.proofs.list.ExtendLemmas.{run_of_ok}
 use Rattle.thin_vec.proofs.edits.splice.Splice.finish.Goals.{else-has_tail, then-has_tail}
@@ -75,7 +75,7 @@ returns g c =
           record {
             room = omega (arith, room);
             small = omega (arith, within.small, le);
-            allocatable = allocatable-less T v.capacity w.capacity within.allocatable le;
+            fits = fits-less T v.capacity w.capacity within.fits le;
           },
           within,
         );
