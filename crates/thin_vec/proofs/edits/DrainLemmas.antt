@@ -18,11 +18,11 @@ module _ {T A G H : Type 0} {g : Ghosts G} {h : IntoInnerGhosts H (OpenView T A)
       record {
         lender = q.lender ∙ p.lender;
         meanwhile = q.meanwhile ∙ p.meanwhile;
-        left = q.left ∙ p.left;
+        after_drop = q.after_drop ∙ p.after_drop;
       }
 
   same : (d : Drain T A G H g h) → DrainKeeps d d
-  same d = record { lender = refl; meanwhile = refl; left = refl }
+  same d = record { lender = refl; meanwhile = refl; after_drop = refl }
 
   drain_keeps_yielding : (d : Drain T A G H g h) (items : List T) (later : Drain T A G H g h)
       → Yields DrainSteps d items later → DrainKeeps d later

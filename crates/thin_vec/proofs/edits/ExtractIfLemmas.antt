@@ -8,7 +8,7 @@ use Rattle.std.specs.Option.{option_to_list}
 use Rattle.std.specs.Prelude.{◌==◌, MatchBool, cond, if◌then◌else◌, not, slice_range}
 use Rattle.thin_block.specs.Cost.{Cost, add_moves}
 use Rattle.thin_block.specs.declared.growth.Growth.{Ghosts}
-use Rattle.thin_vec.specs.Edits.ExtractIf.{ExtractKeepsAlong, ExtractLeaves, ExtractSteps, ExtractsInTurn, ExtractsToEnd, extract_block, extract_callee, extract_rest, left_by_extract_if}
+use Rattle.thin_vec.specs.Edits.ExtractIf.{ExtractKeepsAlong, ExtractLeaves, ExtractSteps, ExtractsInTurn, ExtractsToEnd, extract_block, extract_closure, extract_rest, left_by_extract_if}
 use Rattle.thin_vec.specs.Edits.Retain.{all_kept}
 use Rattle.thin_vec.specs.List.Capacity.{MovesAtMost}
 use Rattle.thin_vec.specs.OpenBlock.Retain.{TestsUpTo, IsRemovedFirst, TestsInTurn}
@@ -208,11 +208,11 @@ module _ {T F A G H : Type 0} {g : Ghosts G} {h : IntoInnerGhosts H (ExtractStat
     front = sym (append-nil (extract_block d).front);
     gone = omega arith;
     tail = refl;
-    left = λ i. record (left_by_extract_if d) {
+    after_drop = λ i. record (left_by_extract_if d) {
       items = sym (append-nil (extract_block d).front) i
           ++ (extract_rest d ++ (extract_block d).tail);
     };
-    moves = moves-if ((extract_block d).gap_before == 0)
+    moves_at_most = moves-if ((extract_block d).gap_before == 0)
         (length (extract_rest d) + length (extract_block d).tail) _ _ _ refl (omega arith);
     unmoved = λ _. refl;
   }
@@ -223,7 +223,7 @@ module _ {T F A G H : Type 0} {g : Ghosts G} {h : IntoInnerGhosts H (ExtractStat
       → ExtractLeaves R d (option_to_list item ++ xs) later
   leaves-first d m later item xs one on =
       let s = one.extracts in
-      let turn = picked-turn R (extract_callee d) (extract_rest d) item (extract_callee m) s.kept
+      let turn = picked-turn R (extract_closure d) (extract_rest d) item (extract_closure m) s.kept
       (extract_rest m) s.asked in
       let both = length-append s.kept on.kept in
       let out = length-append (option_to_list item) xs in
@@ -237,19 +237,19 @@ module _ {T F A G H : Type 0} {g : Ghosts G} {h : IntoInnerGhosts H (ExtractStat
         kept = s.kept ++ on.kept;
         rest = turn.1 ∙ (ap (λ l. turn.0 ++ l) on.rest
             ∙ sym (append_assoc turn.0 on.tested (extract_rest later)));
-        calls = extracts-append R (extract_callee m) (extract_callee later) on.tested xs on.kept
-            on.calls turn.0 (extract_callee d) (option_to_list item) s.kept turn.2;
+        calls = extracts-append R (extract_closure m) (extract_closure later) on.tested xs on.kept
+            on.calls turn.0 (extract_closure d) (option_to_list item) s.kept turn.2;
         count = omega (arith, on.count, s.count, both, out);
         front = on.front ∙ front;
         gone = omega (arith, on.gone, s.gap_before, out);
         tail = on.tail ∙ s.tail;
-        left = cc (on.left, front, s.tail, s.capacity, one.meanwhile);
-        moves = moves-join (length s.kept)
+        after_drop = cc (on.after_drop, front, s.tail, s.capacity, one.meanwhile);
+        moves_at_most = moves-join (length s.kept)
             (length on.kept + length (extract_rest later) + length (extract_block m).tail)
             _ _ _ _ (omega (arith, both, ap length s.tail))
             (moves-if ((extract_block d).gap_before == 0) (length s.kept) _ _ _ s.cost
             (omega arith))
-            on.moves;
+            on.moves_at_most;
         unmoved = λ none. on.unmoved (nil_from_length xs (omega (arith, ap length none, out)))
             ∙ still (omega (arith, ap length none, out));
       }
@@ -275,7 +275,7 @@ module _ {T F A G H : Type 0} {g : Ghosts G} {h : IntoInnerGhosts H (ExtractStat
       let end = subst (λ t. ExtractSteps R t None last) (sym e) one in
       let s = end.extracts in (
         leaves-first d last last None [] end (leaves-none last),
-        (picked-turn R (extract_callee d) (extract_rest d) None (extract_callee last) s.kept
+        (picked-turn R (extract_closure d) (extract_rest d) None (extract_closure last) s.kept
             (extract_rest last) s.asked).3 refl,
       )
   extracts_to_end d (x ∷ xs) last (m, (j, one, e), end) =

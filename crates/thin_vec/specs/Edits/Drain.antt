@@ -49,7 +49,7 @@ module _ {T A G H : Type 0} {g : Ghosts G} {h : IntoInnerGhosts H (OpenView T A)
   pub record DrainKeeps (old new : Drain T A G H g h) : Type 0 where
     pub lender : drain_lender new ≡ drain_lender old
     pub meanwhile : drain_list new ≡ drain_list old
-    pub left : left_by_drain new ≡ left_by_drain old
+    pub after_drop : left_by_drain new ≡ left_by_drain old
 
   -- `DrainSteps old item new` holds if a call to `next` returned `item` and changed the `Drain`
   -- from `old` to `new`: `item` is the first of the remaining items, or `None` if there was none.

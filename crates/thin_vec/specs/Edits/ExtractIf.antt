@@ -71,9 +71,9 @@ module _ {T F A G H : Type 0} {g : Ghosts G} {h : IntoInnerGhosts H (ExtractStat
         (length (extract_rest e) + length (extract_block e).tail) (extract_block e).cost;
   }
 
-  -- `extract_callee e` is the closure that the `ExtractIf` owns, in its present state.
-  abbrev pub extract_callee : ExtractIf T F A G H g h → F
-  extract_callee e = (h.inner e.holder).picks.pick
+  -- `extract_closure e` is the closure that the `ExtractIf` owns, in its present state.
+  abbrev pub extract_closure : ExtractIf T F A G H g h → F
+  extract_closure e = (h.inner e.holder).picks.pick
 
   -- `extract_list e` is the list that the `ExtractIf` `e` borrows, as it is until `e` is dropped.
   -- It stays as it is if `e` is leaked (this is tested, not proved).
@@ -95,7 +95,7 @@ module _ {T F A G H : Type 0} {g : Ghosts G} {h : IntoInnerGhosts H (ExtractStat
     -- If `new` is dropped, the list has the items `extracts.kept`, and the items that `new` has not
     -- tested, in place of those that `old` had not tested. Capacity and allocator stay. The drop
     -- moves each item after the gap, if there is one.
-    pub left : left_by_extract_if new ≡ record (left_by_extract_if old) {
+    pub after_drop : left_by_extract_if new ≡ record (left_by_extract_if old) {
       items = ((extract_block old).front ++ extracts.kept)
           ++ (extract_rest new ++ (extract_block old).tail);
       cost = if (extract_block new).gap_before == 0 then (extract_block new).cost else add_moves
@@ -113,7 +113,7 @@ module _ {T F A G H : Type 0} {g : Ghosts G} {h : IntoInnerGhosts H (ExtractStat
     pub tested : List T
     pub kept : List T
     pub rest : extract_rest first ≡ tested ++ extract_rest later
-    pub calls : ExtractsInTurn R (extract_callee first) tested yielded kept (extract_callee later)
+    pub calls : ExtractsInTurn R (extract_closure first) tested yielded kept (extract_closure later)
     pub count : length kept + length yielded + length (extract_rest later)
         ≡ length (extract_rest first)
     pub front : (extract_block later).front ≡ (extract_block first).front ++ kept
@@ -122,7 +122,7 @@ module _ {T F A G H : Type 0} {g : Ghosts G} {h : IntoInnerGhosts H (ExtractStat
     pub tail : (extract_block later).tail ≡ (extract_block first).tail
     -- If `later` is dropped, the list has the items `kept`, and the items that `later` has not
     -- tested, in place of those that `first` had not tested. Capacity and allocator stay.
-    pub left : left_by_extract_if later ≡ record (left_by_extract_if first) {
+    pub after_drop : left_by_extract_if later ≡ record (left_by_extract_if first) {
       items = ((extract_block first).front ++ kept)
           ++ (extract_rest later ++ (extract_block first).tail);
       cost = if (extract_block later).gap_before == 0 then (extract_block later).cost else add_moves
@@ -131,7 +131,7 @@ module _ {T F A G H : Type 0} {g : Ghosts G} {h : IntoInnerGhosts H (ExtractStat
     }
     -- From `first` on, and with the moves of the drop, at most each item after the front of `first`
     -- that stays in the list is moved, once. If no item was yielded, the calls cost nothing.
-    pub moves : MovesAtMost (length kept + length (extract_rest later)
+    pub moves_at_most : MovesAtMost (length kept + length (extract_rest later)
         + length (extract_block first).tail) (extract_block first).cost
         (left_by_extract_if later).cost
     pub unmoved : yielded ≡ [] → (left_by_extract_if later).cost ≡ (left_by_extract_if first).cost

@@ -17,7 +17,7 @@ impl<T: Drop, A: Allocator, G: Growth> ThinVec<T, A, G> {
 
     /// Removes and drops each item for which `same` returns true. Calls `same` once for each item
     /// except the first, in order: the first argument is the item, and the second is the last item
-    /// kept before it.
+    /// kept before it. (As for `retain`, the contract does not say that no call follows.)
     pub fn dedup_by<F: FnMut(&mut T, &mut T) -> bool>(&mut self, same: F)
         requires callable { F.IsAlwaysCallable same }
 
@@ -25,9 +25,11 @@ impl<T: Drop, A: Allocator, G: Growth> ThinVec<T, A, G> {
         ensures filtered { IsDeduped (CalledAtPairMut F.FnMut) same self.old.items self.new.items }
         ensures bound { length self.new.items ≤ length self.old.items }
 
-        // The same, and how many items are moved. The clauses above and `moves` follow from it.
+        // The same, and how many items are moved. The clauses above and `moves_at_most` follow from
+        // it.
         ensures deduped { IsDedupedBy (CalledAtPairMut F.FnMut) same self.old self.new }
-        ensures moves { MovesAtMost (length self.new.items) self.old.cost self.new.cost }
+        ensures moves_at_most { MovesAtMost (length self.new.items) self.old.cost
+            self.new.cost }
 
         // What does not change.
         ensures capacity { self.new.capacity ≡ self.old.capacity }
@@ -59,7 +61,7 @@ impl<T: Drop, A: Allocator, G: Growth> ThinVec<T, A, G> {
 
     /// Removes and drops each item whose key is equal to the key of the last item kept before it.
     /// Calls `key` twice for each item except the first: with this item, and then with the last
-    /// item kept.
+    /// item kept. (As for `retain`, the contract does not say that no call follows.)
     pub fn dedup_by_key<K: PartialEq + Drop, F: FnMut(&mut T) -> K>(&mut self, key: F)
         requires callable { F.IsAlwaysCallable key }
 
@@ -67,9 +69,11 @@ impl<T: Drop, A: Allocator, G: Growth> ThinVec<T, A, G> {
         ensures filtered { IsDeduped (ComparesKeys F.FnMut K.eq) key self.old.items self.new.items }
         ensures bound { length self.new.items ≤ length self.old.items }
 
-        // The same, and how many items are moved. The clauses above and `moves` follow from it.
+        // The same, and how many items are moved. The clauses above and `moves_at_most` follow from
+        // it.
         ensures deduped { IsDedupedBy (ComparesKeys F.FnMut K.eq) key self.old self.new }
-        ensures moves { MovesAtMost (length self.new.items) self.old.cost self.new.cost }
+        ensures moves_at_most { MovesAtMost (length self.new.items) self.old.cost
+            self.new.cost }
 
         // What does not change.
         ensures capacity { self.new.capacity ≡ self.old.capacity }
@@ -92,7 +96,8 @@ impl<T: PartialEq + Drop, A: Allocator, G: Growth> ThinVec<T, A, G> {
         ensures items { self.new.items ≡ dedup T.eq self.old.items }
         ensures cost { self.new.cost
             ≡ add_moves (moves_of_retain (map not (dedup_flags T.eq self.old.items))) self.old.cost }
-        ensures moves { MovesAtMost (length self.new.items) self.old.cost self.new.cost }
+        ensures moves_at_most { MovesAtMost (length self.new.items) self.old.cost
+            self.new.cost }
         ensures bound { length self.new.items ≤ length self.old.items }
 
         // What does not change.

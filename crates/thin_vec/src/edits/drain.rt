@@ -35,7 +35,7 @@ impl<'a, T: Drop, A: Allocator, G: Growth, H: IntoInner<Inner = OpenBlock<T, A>>
     #[inline(always)]
     #[tactic(auto, unfolding(crate::specs::Edits::Drain::left_by_drain))]
     fn drop(self)
-        ensures left { self.exit.0.now ≡ left_by_drain self.entry }
+        ensures after_drop { self.exit.0.now ≡ left_by_drain self.entry }
     {
         let Drain { list, holder } = self;
         let mut block = holder.into_inner();
@@ -71,7 +71,7 @@ impl<T: Drop, A: Allocator, G: Growth> ThinVec<T, A, G> {
             ≡ record self.old { items = []; capacity = 0; cost = no_cost } }
 
         // `Drain::drop` leaves exactly this list, whatever was yielded.
-        ensures left { left_by_drain result ≡ record self.old {
+        ensures after_drop { left_by_drain result ≡ record self.old {
           items = remove_range self.old.items start end;
           cost = if start == end then self.old.cost else add_moves
               (length self.old.items - end) self.old.cost;

@@ -64,7 +64,7 @@ impl<
     ghost use Rattle.thin_vec.specs.Edits.ExtractIf.{left_by_extract_if};
 
     fn drop(self)
-        ensures left { self.exit.0.now ≡ left_by_extract_if self.entry }
+        ensures after_drop { self.exit.0.now ≡ left_by_extract_if self.entry }
     {
         let ExtractIf { list, holder } = self;
         let ExtractState { block, picks } = holder.into_inner();
@@ -97,7 +97,7 @@ impl<T, F: FnMut(&mut T) -> bool, A: Allocator> ExtractState<T, F, A> {
 }
 
 impl<T: Drop, A: Allocator, G: Growth> ThinVec<T, A, G> {
-    ghost use Rattle.thin_vec.specs.Edits.ExtractIf.{ExtractKeepsAlong, ExtractsToEnd, extract_block, extract_callee, extract_lender, extract_list, extract_rest, left_by_extract_if};
+    ghost use Rattle.thin_vec.specs.Edits.ExtractIf.{ExtractKeepsAlong, ExtractsToEnd, extract_block, extract_closure, extract_lender, extract_list, extract_rest, left_by_extract_if};
 
     /// Returns an iterator that removes the items in the range `start..end` for which `pick`
     /// returns true, and yields them in order.
@@ -122,14 +122,14 @@ impl<T: Drop, A: Allocator, G: Growth> ThinVec<T, A, G> {
         ensures rest { extract_rest result ≡ slice_range self.old.items start end }
         ensures tail { (extract_block result).tail ≡ drop end self.old.items }
         ensures gap { (extract_block result).gap_before ≡ 0 }
-        ensures value { extract_callee result ≡ pick }
+        ensures value { extract_closure result ≡ pick }
 
         // The list until the `ExtractIf` is dropped.
         ensures meanwhile { extract_list result
             ≡ record self.old { items = []; capacity = 0; cost = no_cost } }
 
         // What `ExtractIf::drop` leaves. If it is dropped now, the list is unchanged.
-        ensures left { left_by_extract_if result ≡ self.old }
+        ensures after_drop { left_by_extract_if result ≡ self.old }
 
         // Which list is borrowed.
         ensures same_reference { extract_lender result ≡ self.entry.ghost_name }
@@ -150,15 +150,15 @@ impl<T: Drop, A: Allocator, G: Growth> ThinVec<T, A, G> {
 }
 
 impl<'a, T, F: FnMut(&mut T) -> bool, A: Allocator, G: Growth> ExtractIf<'a, T, F, A, G> {
-    ghost use Rattle.thin_vec.specs.Edits.ExtractIf.{ExtractSteps, extract_callee};
+    ghost use Rattle.thin_vec.specs.Edits.ExtractIf.{ExtractSteps, extract_closure};
 
     /// Tests the remaining items, in order, until the closure returns true for one of them. Then
     /// removes that item and returns it. If the closure returns true for none of them, this call
     /// and all later calls to `next` return `None`.
     pub fn next(&mut self) -> Option<T>
-        requires callable { F.IsAlwaysCallable (extract_callee self.old) }
+        requires callable { F.IsAlwaysCallable (extract_closure self.old) }
         ensures steps { ExtractSteps (CalledAtMut F.FnMut) self.old result self.new }
-        ensures callable { F.IsAlwaysCallable (extract_callee self.new) }
+        ensures callable { F.IsAlwaysCallable (extract_closure self.new) }
     {
         self.holder.value.next_picked()
     }
@@ -166,12 +166,12 @@ impl<'a, T, F: FnMut(&mut T) -> bool, A: Allocator, G: Growth> ExtractIf<'a, T, 
 
 impl<'a, T: Drop, F: FnMut(&mut T) -> bool, A: Allocator, G: Growth> Iterator
     for ExtractIf<'a, T, F, A, G> {
-    ghost use Rattle.thin_vec.specs.Edits.ExtractIf.{ExtractSteps, extract_callee, extract_rest};
+    ghost use Rattle.thin_vec.specs.Edits.ExtractIf.{ExtractSteps, extract_closure, extract_rest};
     ghost use denote.Param.Always.{always_mut};
 
     type Item = T;
 
-    ghost can_next = { λ extract. always_mut F.FnMut (extract_callee extract) };
+    ghost can_next = { λ extract. always_mut F.FnMut (extract_closure extract) };
 
     ghost next_gives = { ExtractSteps (CalledAtMut F.FnMut) };
 

@@ -20,7 +20,7 @@ loop-number-init g c = (
     c.in_ok-reserve.ensures.room,
     c.len-len.ensures.value,
     length-extract_rest odd c.extract_if-odd.result,
-    ap (λ v. length v.items) c.extract_if-odd.ensures.left,
+    ap (λ v. length v.items) c.extract_if-odd.ensures.after_drop,
   ),
 )
 
@@ -50,8 +50,8 @@ returns-clause-items g c =
     let done = extract_end_all odd _ (λ s x b t y k. search rules) made.front last
     c.loop-number.invariant.0 c.next.ensures.steps c.in_default.is in
     let left : c.drop-odd.new.self.0.items ≡ others odd c.args.list.now.items =
-    ap (λ v. v.items) c.drop-odd.ensures.left
-    ∙ (done.1 ∙ ap (λ v. others odd v.items) made.left) in
+    ap (λ v. v.items) c.drop-odd.ensures.after_drop
+    ∙ (done.1 ∙ ap (λ v. others odd v.items) made.after_drop) in
     search (rules, left)
 
 pub returns-clause-other_items : goal.returns-clause-other_items
@@ -63,4 +63,4 @@ returns-clause-other_items g c =
     )) in
     let done = extract_end_all odd _ (λ s x b t y k. search rules) made.front last
     c.loop-number.invariant.0 c.next.ensures.steps c.in_default.is in
-    done.0 ∙ (λ i. c.in_ok-reserve.ensures.items i ++ filter odd (made.left i).items)
+    done.0 ∙ (λ i. c.in_ok-reserve.ensures.items i ++ filter odd (made.after_drop i).items)

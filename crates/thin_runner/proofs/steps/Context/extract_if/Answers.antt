@@ -4,7 +4,7 @@ use Rattle.std.proofs.Common.{ℕ, ◌≡◌, ◌+◌, ◌-◌, ◌++◌, ◌∷
 use Rattle.std.proofs.lemmas.List.{append-nil}
 use Rattle.std.specs.Prelude.{◌==◌, if◌then◌else◌}
 use Rattle.thin_vec.specs.Cost.{add_moves}
-use Rattle.thin_vec.specs.Edits.ExtractIf.{extract_block, extract_callee, extract_rest}
+use Rattle.thin_vec.specs.Edits.ExtractIf.{extract_block, extract_closure, extract_rest}
 use Rattle.thin_vec.specs.Edits.Retain.{items_where, all_kept}
 use Rattle.thin_runner.specs.commands.Filters.{extract_results}
 use Rattle.thin_runner.proofs.CallbackExtractLemmas.{extracting-ends, extracting-none, extracting-step, extracts-by, goes, handed-by, handed_out}
@@ -20,13 +20,13 @@ loop-init g c =
     let free : block.cost ≡ a.list.now.cost =
     sym (ap (λ n. if n == 0 then block.cost else add_moves
     (length block.middle + length block.tail) block.cost) e.gap)
-    ∙ ap (λ v. v.cost) e.left in
+    ∙ ap (λ v. v.cost) e.after_drop in
     let results =
     extract_results ask a.self.judge a.count (slice_range a.list.now.items a.start a.end) in
     let all : a.count - 0 ≡ a.count = omega arith in
     let none : c.reserve.new.self.items ≡ [] = c.reserve.ensures.items
     ∙ c.new-answers.ensures.items in
-    let same : extract_results ask (extract_callee extract).0 (a.count - 0) (extract_rest extract)
+    let same : extract_results ask (extract_closure extract).0 (a.count - 0) (extract_rest extract)
     ≡ results =
     λ i. extract_results ask (e.value i).0 (all i) (e.rest i) in
     record {
@@ -36,8 +36,8 @@ loop-init g c =
           _ same e.front e.gap free;
       tail = e.tail;
       lender = refl;
-      capacity = ap (λ v. v.capacity) e.left;
-      alloc = ap (λ v. v.alloc) e.left;
+      capacity = ap (λ v. v.capacity) e.after_drop;
+      alloc = ap (λ v. v.alloc) e.after_drop;
     }
 
 pub loop-preserved : goal.loop-preserved
@@ -53,20 +53,20 @@ loop-preserved g c =
     let results =
     extract_results ask a.self.judge a.count (slice_range a.list.now.items a.start a.end) in
     let one : a.count - c.loop.counter ≡ suc k = omega (arith, c.loop-test.true) in
-    let left = extract_results ask (extract_callee now).0 k (extract_rest now) in
-    let next : extract_results ask (extract_callee was).0 (a.count - c.loop.counter)
+    let left = extract_results ask (extract_closure now).0 k (extract_rest now) in
+    let next : extract_results ask (extract_closure was).0 (a.count - c.loop.counter)
     (extract_rest was)
     ≡ all_kept s.kept ++ (goes c.next.result ++ left) =
-    ap (λ n. extract_results ask (extract_callee was).0 n (extract_rest was)) one
+    ap (λ n. extract_results ask (extract_closure was).0 n (extract_rest was)) one
     ∙ extracts-by _ (λ f. f.0) ask
     (λ f x b f' y called. ap (λ z. (b, z, f'.0)) (sym called.leaves)
     ∙ (called.called.met ∙ ap (ask f.0) called.shows)) _ k _ _ _ _ s.kept s.asked in
     let handed : handed_out (a.count - c.loop.counter)
-    (items_where false (extract_results ask (extract_callee was).0 (a.count - c.loop.counter)
+    (items_where false (extract_results ask (extract_closure was).0 (a.count - c.loop.counter)
     (extract_rest was)))
     ≡ c.next.result ∷ handed_out k (items_where false left) =
     ap (λ n. handed_out n (items_where false
-    (extract_results ask (extract_callee was).0 n (extract_rest was)))) one
+    (extract_results ask (extract_closure was).0 n (extract_rest was)))) one
     ∙ handed-by _ (λ f. f.0) ask
     (λ f x b f' y called. ap (λ z. (b, z, f'.0)) (sym called.leaves)
     ∙ (called.called.met ∙ ap (ask f.0) called.shows)) _ k _ _ _ _ s.kept s.asked in
@@ -86,8 +86,8 @@ loop-preserved g c =
           _ _ s.kept c.next.result at.extracting next s.front s.gap_before s.cost;
       tail = s.tail ∙ at.tail;
       lender = steps.lender ∙ at.lender;
-      capacity = ap (λ v. v.capacity) steps.left ∙ at.capacity;
-      alloc = ap (λ v. v.alloc) steps.left ∙ at.alloc;
+      capacity = ap (λ v. v.capacity) steps.after_drop ∙ at.capacity;
+      alloc = ap (λ v. v.alloc) steps.after_drop ∙ at.alloc;
     }
 
 pub returns : goal.returns
@@ -100,7 +100,7 @@ returns g c =
     extract_results ask a.self.judge a.count (slice_range a.list.now.items a.start a.end) in
     let none : a.count - c.loop.counter ≡ 0 =
     omega (arith, c.loop-test.false, c.loop.auto.counter-end) in
-    let left = λ (n : ℕ). extract_results ask (extract_callee end).0 n (extract_rest end) in
+    let left = λ (n : ℕ). extract_results ask (extract_closure end).0 n (extract_rest end) in
     let stays : left (a.count - c.loop.counter) ≡ all_kept (extract_rest end) = ap left none in
     let all = sym (append-nil c.loop.answers.items)
     ∙ (sym (ap (λ n. c.loop.answers.items ++ handed_out n (items_where false (left n))) none)

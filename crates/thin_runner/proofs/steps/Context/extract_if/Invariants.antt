@@ -1,7 +1,7 @@
 -- `answers` contains the results so far, and has room for those of the remaining calls.
 use Rattle.std.proofs.Common.{◌≡◌, ◌++◌, ◌≤◌, ◌+◌, ◌-◌, drop, take, false, slice_range, vec_len}
 use Rattle.std.specs.Vec.{vec_capacity}
-use Rattle.thin_vec.specs.Edits.ExtractIf.{extract_block, extract_callee, extract_lender, extract_rest, left_by_extract_if}
+use Rattle.thin_vec.specs.Edits.ExtractIf.{extract_block, extract_closure, extract_lender, extract_rest, left_by_extract_if}
 use Rattle.thin_vec.specs.Edits.Retain.{items_where}
 use Rattle.thin_runner.specs.commands.Filters.{extract_results}
 use Rattle.thin_runner.proofs.CallbackExtractLemmas.{IsExtracting, handed_out}
@@ -12,7 +12,7 @@ invariant-loop g l =
     let ask = g.J.Judge.model.take in
     let results = extract_results ask l.fn.self.judge l.fn.count
     (slice_range l.fn.list.items l.fn.start l.fn.end) in
-    let left = extract_results ask (extract_callee l.extract).0 (l.fn.count - l.counter)
+    let left = extract_results ask (extract_closure l.extract).0 (l.fn.count - l.counter)
     (extract_rest l.extract) in
     record {
       room : vec_len l.answers + (l.fn.count - l.counter) ≤ vec_capacity l.answers;

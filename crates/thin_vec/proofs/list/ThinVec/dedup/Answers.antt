@@ -23,6 +23,6 @@ pub returns-clause-bound : goal.returns-clause-bound
 returns-clause-bound g c =
     few-deduped _ _ c.args.self.now c.dedup_with.new.self c.dedup_with.ensures.deduped
 
-pub returns-clause-moves : goal.returns-clause-moves
-returns-clause-moves g c =
+pub returns-clause-moves_at_most : goal.returns-clause-moves_at_most
+returns-clause-moves_at_most g c =
     deduped-moves _ _ c.args.self.now c.dedup_with.new.self c.dedup_with.ensures.deduped

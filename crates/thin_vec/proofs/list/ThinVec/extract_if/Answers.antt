@@ -6,8 +6,8 @@ use Rattle.thin_block.specs.Cost.{add_moves}
 use Rattle.thin_vec.proofs.edits.ExtractIfLemmas.{extract_keeps_along, extracts_to_end, in-parts}
 use Rattle.thin_vec.proofs.list.ThinVec.extract_if.Goals as goal
 
-pub returns-clause-left : goal.returns-clause-left
-returns-clause-left g c =
+pub returns-clause-after_drop : goal.returns-clause-after_drop
+returns-clause-after_drop g c =
     let e = c.open-block.ensures in
     let b = c.open-block.result in
     let v = c.args.self.now in

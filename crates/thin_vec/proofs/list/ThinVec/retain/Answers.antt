@@ -18,6 +18,6 @@ pub returns-clause-bound : goal.returns-clause-bound
 returns-clause-bound g c =
     few-retained _ _ c.args.self.now c.retain_with.new.self c.retain_with.ensures.retained
 
-pub returns-clause-moves : goal.returns-clause-moves
-returns-clause-moves g c =
+pub returns-clause-moves_at_most : goal.returns-clause-moves_at_most
+returns-clause-moves_at_most g c =
     retained-moves _ _ c.args.self.now c.retain_with.new.self c.retain_with.ensures.retained
