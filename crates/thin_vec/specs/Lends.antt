@@ -1,7 +1,6 @@
 -- These definitions say what a list contains after a `&mut` borrow of its items has ended.
-use Rattle.std.specs.Prelude.{List, Option, ℕ, length, slice_set}
+use Rattle.std.specs.Prelude.{List, Option, ℕ}
 use Rattle.std.specs.declared.alloc.Allocator.{Ghosts as AllocatorGhosts}
-use Rattle.std.specs.List.{refill}
 use Rattle.std.specs.Borrow.{Lends, LendsIf, MutBor, Fml, RattleType, Array, follows}
 use Rattle.std.specs.declared.slice.IterMut.{IterMut}
 use Rattle.std.specs.Slice.Iter.{iter_mut_name}
@@ -9,16 +8,7 @@ use Rattle.thin_block.specs.declared.growth.Growth.{Ghosts as GrowthGhosts}
 use Rattle.thin_vec.specs.ThinVec.{ListView}
 use Rattle.thin_vec.specs.contracts.convert.into_iter.IntoIter.{the_row as iterator_row}
 use Rattle.thin_vec.specs.contracts.list.ThinVec.{the_row}
-
-module _ {T A : Type 0} where
-  -- `with_items v ws` is the list `v` after its first items were replaced with the items `ws`. The
-  -- length does not change, so items of `ws` beyond the length of `v` are ignored.
-  abbrev pub with_items : ListView T A → List T → ListView T A
-  with_items v ws = record v { items = refill (length v.items) v.items ws }
-
-  -- `with_item v i w` is the list `v` after the item at index `i` was replaced with `w`.
-  abbrev pub with_item : ListView T A → ℕ → T → ListView T A
-  with_item v i w = record v { items = slice_set v.items i w }
+pub use Rattle.thin_vec.specs.VecWords.{with_item, with_items}
 
 module _ (T A G : RattleType) (a : AllocatorGhosts A.Denot) (g : GrowthGhosts G.Denot)
     (v : MutBor (ListView T.Denot A.Denot)) where

@@ -50,6 +50,10 @@ impl<T, A: Allocator, G: Growth> ThinVec<T, A, G> {
         ensures bounds { length self.items < 2 ^ 64 }
         ensures runs { IntoIterYieldsInOrder T A }
         ensures runs_back { IntoIterYieldsInReverse T A }
+
+        // These follow from `value`.
+        ensures rest { result.items ≡ self.items }
+        ensures len { length result.items ≡ length self.items }
     {
         let end = self.len();
         let (block, alloc) = self.into_parts();

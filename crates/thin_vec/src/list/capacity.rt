@@ -1,6 +1,6 @@
 //! The methods that reserve room in a list. Only the function `grow_to` grows a list, and only the
 //! function `grow_for` calls the growth rule.
-ghost use Rattle.std.specs.Prelude.{◌≡◌, ◌+◌, ◌<◌, ◌≤◌, [], IfErr, IfOk, IsOk, OnErr, OnOk, Some, length};
+ghost use Rattle.std.specs.Prelude.{◌≡◌, ◌+◌, ◌<◌, ◌≤◌, [], IfErr, IfOk, IsOk, OnErr, OnOk, Some, length, max};
 ghost use Rattle.thin_block.specs.Capacity.{Fits};
 ghost use Rattle.thin_block.specs.Cost.{add_realloc};
 ghost use Rattle.thin_block.specs.Growth.{GrowsValidly};
@@ -82,10 +82,15 @@ impl<T, A: Allocator, G: Growth> ThinVec<T, A, G> {
 
         // In every case.
         ensures items { self.new.items ≡ self.old.items }
+        ensures len { length self.new.items ≡ length self.old.items }
         ensures had_room { HasRoomFor self.old additional → self.new.capacity ≡ self.old.capacity }
         ensures alloc { self.new.alloc ≡ self.old.alloc }
         ensures never_less { self.old.capacity ≤ self.new.capacity }
         ensures bounds { IsBounded T.row self.old × IsBounded T.row self.new }
+
+        // This follows from `capacity`.
+        ensures capacity_exact { OnOk result (self.new.capacity
+            ≡ max self.old.capacity (length self.old.items + additional)) }
     {
         if additional <= self.capacity() - self.len() {
             return Ok(());
