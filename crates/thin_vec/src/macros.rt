@@ -95,7 +95,7 @@ pub fn repeated<T: Clone, A: Allocator>(
     ensures cost { IfOk result (λ list. list.cost ≡ add_moves count (cost_of_new list.capacity)) }
     ensures fresh { IfOk result (IsFreshList T.row alloc) }
 
-    // When it must succeed.
+    // When it must succeed. In every other case it may fail.
     ensures succeeds { count ≡ 0 → IsOk result }
 
     // On failure.

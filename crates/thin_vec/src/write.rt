@@ -28,7 +28,7 @@ impl<A: Allocator, G: Growth> Write for ThinVec<u8, A, G> {
             (capacity_after_reserve G.rule u8 self.old (length buf.now) ≡ Some self.new.capacity) }
         ensures cost { OnOk result (CostsMoves (length buf.now) self.old self.new) }
 
-        // When it must succeed.
+        // When it must succeed. In every other case it may fail.
         ensures succeeds { HasRoomFor self.old (length buf.now) → IsOk result }
 
         // On failure.
@@ -53,7 +53,7 @@ impl<A: Allocator, G: Growth> Write for ThinVec<u8, A, G> {
             (capacity_after_reserve G.rule u8 self.old (length buf.now) ≡ Some self.new.capacity) }
         ensures cost { OnOk result (CostsMoves (length buf.now) self.old self.new) }
 
-        // When it must succeed.
+        // When it must succeed. In every other case it may fail.
         ensures succeeds { HasRoomFor self.old (length buf.now) → IsOk result }
 
         // On failure.

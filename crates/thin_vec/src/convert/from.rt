@@ -15,14 +15,15 @@ use std::boxed::BoxedSlice;
 use thin_block::{ThinVecError, fits};
 
 impl<T, A: Allocator> ThinVec<T, A> {
-    /// Moves the items of an array into a new list.
+    /// Moves the items of an array into a new list, or fails and returns the array in the error if
+    /// there is no memory for the list.
     ///
     /// If `T` is a type parameter of the caller, the caller needs the precondition
     /// `N * type_size T.row < 2 ^ 63`. The macro `thin_vec!` does not need it.
     ///
     /// # Errors
     ///
-    /// Fails as `with_capacity` does, and returns the array in the error.
+    /// Fails as `with_capacity` does.
     pub fn from_array<const N: usize>(
         alloc: A,
         items: [T; N],
@@ -33,7 +34,7 @@ impl<T, A: Allocator> ThinVec<T, A> {
         ensures cost { IfOk result (λ list. list.cost ≡ add_moves N (cost_of_new N)) }
         ensures fresh { IfOk result (IsFreshList T.row alloc) }
 
-        // When it must succeed.
+        // When it must succeed. In every other case it may fail.
         ensures succeeds { N ≡ 0 → IsOk result }
 
         // On failure.
@@ -54,11 +55,12 @@ impl<T, A: Allocator> ThinVec<T, A> {
         }
     }
 
-    /// Moves the items of a vector into a new list, and frees the allocation of the vector.
+    /// Moves the items of a vector into a new list and frees the allocation of the vector, or fails
+    /// and returns the vector in the error if there is no memory for the list.
     ///
     /// # Errors
     ///
-    /// Fails as `with_capacity` does, and returns the vector in the error.
+    /// Fails as `with_capacity` does.
     pub fn from_vec<B: Allocator>(
         alloc: A,
         items: Vec<T, B>,
@@ -71,7 +73,7 @@ impl<T, A: Allocator> ThinVec<T, A> {
             (cost_of_new (length items.items))) }
         ensures fresh { IfOk result (IsFreshList T.row alloc) }
 
-        // When it must succeed.
+        // When it must succeed. In every other case it may fail.
         ensures succeeds_empty { length items.items ≡ 0 → IsOk result }
 
         // On failure.
@@ -90,12 +92,12 @@ impl<T, A: Allocator> ThinVec<T, A> {
         }
     }
 
-    /// Moves the items of a boxed slice into a new list, and frees the allocation of the boxed
-    /// slice.
+    /// Moves the items of a boxed slice into a new list and frees the allocation of the boxed
+    /// slice, or fails and returns the boxed slice in the error if there is no memory for the list.
     ///
     /// # Errors
     ///
-    /// Fails as `with_capacity` does, and returns the boxed slice in the error.
+    /// Fails as `with_capacity` does.
     pub fn from_boxed_slice<B: Allocator>(
         alloc: A,
         items: BoxedSlice<T, B>,
@@ -108,7 +110,7 @@ impl<T, A: Allocator> ThinVec<T, A> {
             (cost_of_new (length (boxed_slice_items items)))) }
         ensures fresh { IfOk result (IsFreshList T.row alloc) }
 
-        // When it must succeed.
+        // When it must succeed. In every other case it may fail.
         ensures succeeds_empty { length (boxed_slice_items items) ≡ 0 → IsOk result }
 
         // On failure.
@@ -146,7 +148,8 @@ impl<T, A: Allocator> ThinVec<T, A> {
 }
 
 impl<T: Copy, A: Allocator> ThinVec<T, A> {
-    /// Makes a list of copies of the items of a slice, faster than `from_slice`.
+    /// Makes a list of copies of the items of a slice, or fails if there is no memory for it. This
+    /// is faster than `from_slice`.
     ///
     /// # Errors
     ///
@@ -160,7 +163,7 @@ impl<T: Copy, A: Allocator> ThinVec<T, A> {
             (λ list. list.cost ≡ add_moves (length items.now) (cost_of_new (length items.now))) }
         ensures fresh { IfOk result (IsFreshList T.row alloc) }
 
-        // When it must succeed.
+        // When it must succeed. In every other case it may fail.
         ensures succeeds_empty { length items.now ≡ 0 → IsOk result }
 
         // On failure.
@@ -179,7 +182,7 @@ impl<T: Copy, A: Allocator> ThinVec<T, A> {
 impl<A: Allocator> ThinVec<u8, A> {
     ghost use Rattle.std.specs.Borrow.{u8};
 
-    /// Makes a list of the bytes of `text`.
+    /// Makes a list of the bytes of `text`, or fails if there is no memory for it.
     ///
     /// # Errors
     ///
@@ -192,7 +195,7 @@ impl<A: Allocator> ThinVec<u8, A> {
             (λ list. list.cost ≡ add_moves (length text.now) (cost_of_new (length text.now))) }
         ensures fresh { IfOk result (IsFreshList u8 alloc) }
 
-        // When it must succeed.
+        // When it must succeed. In every other case it may fail.
         ensures succeeds_empty { length text.now ≡ 0 → IsOk result }
 
         // On failure.
@@ -203,7 +206,8 @@ impl<A: Allocator> ThinVec<u8, A> {
 }
 
 impl<T: Clone, A: Allocator> ThinVec<T, A> {
-    /// Makes a list of clones of the items of a slice. For `Copy` items, `from_copies` is faster.
+    /// Makes a list of clones of the items of a slice, or fails if there is no memory for it or an
+    /// item cannot be cloned. For `Copy` items, `from_copies` is faster.
     ///
     /// # Errors
     ///
@@ -220,7 +224,7 @@ impl<T: Clone, A: Allocator> ThinVec<T, A> {
             (λ list. list.cost ≡ add_moves (length items.now) (cost_of_new (length items.now))) }
         ensures fresh { IfOk result (IsFreshList T.row alloc) }
 
-        // When it must succeed.
+        // When it must succeed. In every other case it may fail.
         ensures succeeds_empty { length items.now ≡ 0 → IsOk result }
 
         // On failure.

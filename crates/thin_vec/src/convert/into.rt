@@ -10,20 +10,19 @@ use std::boxed::BoxedSlice;
 use thin_block::{Growth, ThinVecError};
 
 impl<T, A: Allocator, G: Growth> ThinVec<T, A, G> {
-    /// Moves the items of the list into a new `Vec` with the allocator `alloc`, and frees the
-    /// allocation of the list.
+    /// Moves the items of the list into a new `Vec` with the allocator `alloc` and frees the
+    /// allocation of the list, or fails and returns the list in the error if `alloc` fails.
     ///
     /// # Errors
     ///
-    /// Fails with `OutOfMemory` if `alloc` fails. The error returns the unchanged list to the
-    /// caller, and `alloc` is dropped.
+    /// The cause is `OutOfMemory`. The list is unchanged, and `alloc` is dropped.
     pub fn into_vec(self, alloc: A) -> Result<Vec<T, A>, Rejected<ThinVec<T, A, G>>>
         // On success.
         ensures items { IfOk result (λ vec. vec.items ≡ self.items) }
         ensures len { IfOk result (λ vec. vec_len vec ≡ length self.items) }
         ensures capacity { IfOk result (λ vec. vec_capacity vec ≡ length self.items) }
 
-        // When it must succeed.
+        // When it must succeed. In every other case it may fail.
         ensures succeeds_empty { length self.items ≡ 0 → IsOk result }
 
         // On failure.
@@ -48,7 +47,8 @@ impl<T, A: Allocator, G: Growth> ThinVec<T, A, G> {
         Ok(vec)
     }
 
-    /// Moves the items of the list into a new boxed slice, like `into_vec`.
+    /// Moves the items of the list into a new boxed slice, like `into_vec`, or fails and returns
+    /// the list in the error if `alloc` fails.
     ///
     /// # Errors
     ///
@@ -58,7 +58,7 @@ impl<T, A: Allocator, G: Growth> ThinVec<T, A, G> {
         ensures items { IfOk result (λ boxed. boxed_slice_items boxed ≡ self.items) }
         ensures len { IfOk result (λ boxed. boxed_slice_len boxed ≡ length self.items) }
 
-        // When it must succeed.
+        // When it must succeed. In every other case it may fail.
         ensures succeeds_empty { length self.items ≡ 0 → IsOk result }
 
         // On failure.
@@ -69,15 +69,15 @@ impl<T, A: Allocator, G: Growth> ThinVec<T, A, G> {
         Ok(self.into_vec(alloc)?.into_boxed_slice())
     }
 
-    /// Moves the items into an array, if there are exactly `N`, and frees the allocation of the
-    /// list.
+    /// Moves the items into an array and frees the allocation of the list, or fails and returns the
+    /// list as the error if it does not have exactly `N` items.
     ///
     /// If `T` is a type parameter of the caller, the caller needs the precondition of `from_array`.
     /// The methods `into_vec` and `into_iter` do not need it.
     ///
     /// # Errors
     ///
-    /// Fails if the number of items is not `N`, and returns the list as the error.
+    /// Fails if and only if the number of items is not `N`.
     pub fn into_array<const N: usize>(self) -> Result<[T; N], ThinVec<T, A, G>>
         // On success.
         ensures items { IfOk result (λ items. items ≡ self.items) }

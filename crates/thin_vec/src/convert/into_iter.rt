@@ -178,7 +178,8 @@ impl<T: Clone, A: Allocator, G: Growth> IntoIter<T, A, G> {
     ghost use Rattle.thin_vec.specs.Cheap.{IsCheap};
     ghost use Rattle.thin_vec.specs.ThinVec.{cost_of_new};
 
-    /// Makes an iterator that yields clones of the remaining items.
+    /// Makes an iterator that yields clones of the remaining items, or fails if there is no memory
+    /// for them or an item cannot be cloned.
     ///
     /// # Errors
     ///
@@ -194,7 +195,7 @@ impl<T: Clone, A: Allocator, G: Growth> IntoIter<T, A, G> {
             (cost_of_new (length self.now.items))) }
         ensures cheap { IfOk result (λ it. IsCheap it) }
 
-        // When it must succeed.
+        // When it must succeed. In every other case it may fail.
         ensures succeeds_empty { length self.now.items ≡ 0 → IsOk result }
 
         // On failure.

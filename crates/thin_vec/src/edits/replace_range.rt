@@ -10,8 +10,9 @@ use std::alloc::Allocator;
 use thin_block::{Growth, ThinVecError, fits};
 
 impl<T: Clone, A: Allocator, G: Growth> ThinVec<T, A, G> {
-    /// Replaces the items `start..end` with clones of `items`, in order. First makes the clones, in
-    /// a block of their own, which `alloc` allocates. For items that are `Copy`,
+    /// Replaces the items `start..end` with clones of `items`, in order, or fails and changes
+    /// nothing if there is no memory for them or an item cannot be cloned. First makes the clones,
+    /// in a block of their own, which `alloc` allocates. For items that are `Copy`,
     /// `replace_range_from_copies` is faster.
     ///
     /// # Errors
@@ -39,7 +40,7 @@ impl<T: Clone, A: Allocator, G: Growth> ThinVec<T, A, G> {
         ensures cost { OnOk result (CostsMoves
             (moves_replacing self.old start end (length items.now)) self.old self.new) }
 
-        // When it must succeed.
+        // When it must succeed. In every other case it may fail.
         ensures succeeds_empty { length items.now ≡ 0 → IsOk result }
 
         // On failure.

@@ -9,7 +9,8 @@ use std::alloc::Allocator;
 use thin_block::{Growth, ThinVecError};
 
 impl<T: Copy, A: Allocator, G: Growth> ThinVec<T, A, G> {
-    /// Replaces the items `start..end` with copies of `items`, in order.
+    /// Replaces the items `start..end` with copies of `items`, in order, or fails and changes
+    /// nothing if the list has to grow and cannot.
     ///
     /// # Errors
     ///
@@ -32,7 +33,7 @@ impl<T: Copy, A: Allocator, G: Growth> ThinVec<T, A, G> {
         ensures cost { OnOk result (CostsMoves
             (moves_replacing self.old start end (length items.now)) self.old self.new) }
 
-        // When it must succeed.
+        // When it must succeed. In every other case it may fail.
         ensures succeeds { HasRoomFor self.old (length items.now - (end - start)) → IsOk result }
         ensures succeeds_shorter { length items.now ≤ end - start → IsOk result }
 
@@ -61,11 +62,12 @@ impl<T: Copy, A: Allocator, G: Growth> ThinVec<T, A, G> {
 
 impl<T: Drop, A: Allocator, G: Growth> ThinVec<T, A, G> {
     /// Replaces the items `start..end` with the items of `other`, in order, and drops the old items
-    /// of the range. After the call, `other` is empty, and keeps its capacity.
+    /// of the range, or fails and changes neither list if this one has to grow and cannot. After a
+    /// successful call, `other` is empty, and keeps its capacity.
     ///
     /// # Errors
     ///
-    /// Fails in the same cases as `replace_range_from_copies`, and changes neither list.
+    /// Fails in the same cases as `replace_range_from_copies`.
     pub fn replace_range_from_list(
         &mut self,
         start: usize,
@@ -84,7 +86,7 @@ impl<T: Drop, A: Allocator, G: Growth> ThinVec<T, A, G> {
             (moves_replacing self.old start end (length other.old.items)) self.old self.new) }
         ensures other_changes { OnOk result (other.new ≡ record other.old { items = [] }) }
 
-        // When it must succeed.
+        // When it must succeed. In every other case it may fail.
         ensures succeeds { HasRoomFor self.old (length other.old.items - (end - start))
             → IsOk result }
         ensures succeeds_shorter { length other.old.items ≤ end - start → IsOk result }

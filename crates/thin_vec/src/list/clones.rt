@@ -14,8 +14,8 @@ use thin_block::{Growth, ThinVecError};
 impl<T: Clone, A: Allocator, G: Growth> ThinVec<T, A, G> {
     ghost use Rattle.thin_vec.specs.ThinVec.{HasRoomFor, IsBounded, capacity_after_reserve, cost_of_new};
 
-    /// Appends a clone of each item of `items`, in order. For `Copy` items, `extend_from_copies` is
-    /// faster.
+    /// Appends a clone of each item of `items`, in order, or fails if there is no room for them or
+    /// an item cannot be cloned. For `Copy` items, `extend_from_copies` is faster.
     ///
     /// # Errors
     ///
@@ -30,7 +30,7 @@ impl<T: Clone, A: Allocator, G: Growth> ThinVec<T, A, G> {
             (length items.now) ≡ Some self.new.capacity) }
         ensures cost { OnOk result (CostsMoves (length items.now) self.old self.new) }
 
-        // When it must succeed.
+        // When it must succeed. In every other case it may fail.
         ensures succeeds { HasRoomFor self.old (length items.now) → All T.is_infallible items.now
             → IsOk result }
 
@@ -116,11 +116,11 @@ impl<T: Clone, A: Allocator, G: Growth> ThinVec<T, A, G> {
     }
 
     /// Appends a clone of each item of `items` to a list that has room for them, for example after
-    /// `reserve`.
+    /// `reserve`, or fails if an item cannot be cloned.
     ///
     /// # Errors
     ///
-    /// Fails with `OutOfMemory` if an item cannot be cloned, and then drops all clones.
+    /// The cause is `OutOfMemory`, and all clones are dropped.
     pub fn extend_from_slice_reserved(&mut self, items: &[T]) -> Result<(), ThinVecError>
         requires room { HasRoomFor self.old (length items.now) }
 
@@ -131,7 +131,7 @@ impl<T: Clone, A: Allocator, G: Growth> ThinVec<T, A, G> {
             → self.new.items ≡ self.old.items ++ items.now) }
         ensures cost { OnOk result (self.new.cost ≡ add_moves (length items.now) self.old.cost) }
 
-        // When it must succeed.
+        // When it must succeed. In every other case it may fail.
         ensures succeeds { All T.is_infallible items.now → IsOk result }
 
         // On failure.
@@ -172,7 +172,8 @@ impl<T: Clone, A: Allocator, G: Growth> ThinVec<T, A, G> {
         placed
     }
 
-    /// Appends clones of the items `start..end` of the list, in order.
+    /// Appends clones of the items `start..end` of the list, in order, or fails if there is no room
+    /// for them or an item cannot be cloned.
     ///
     /// # Errors
     ///
@@ -189,7 +190,7 @@ impl<T: Clone, A: Allocator, G: Growth> ThinVec<T, A, G> {
             (end - start) ≡ Some self.new.capacity) }
         ensures cost { OnOk result (CostsMoves (end - start) self.old self.new) }
 
-        // When it must succeed.
+        // When it must succeed. In every other case it may fail.
         ensures succeeds { HasRoomFor self.old (end - start)
             → All T.is_infallible (slice_range self.old.items start end) → IsOk result }
 

@@ -68,8 +68,8 @@ impl<T, A: Allocator, G: Growth> ThinVec<T, A, G> {
         self.block.put_and_set_len(index, value, len + 1);
     }
 
-    /// Inserts `value` at `index`, like `insert`, and returns a mutable reference to the new item.
-    /// Fails if the list is full and cannot grow.
+    /// Inserts `value` at `index`, like `insert`, and returns a mutable reference to the new item,
+    /// or fails if the list is full and cannot grow.
     ///
     /// # Errors
     ///

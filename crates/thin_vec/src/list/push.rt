@@ -81,8 +81,8 @@ impl<T, A: Allocator, G: Growth> ThinVec<T, A, G> {
         self.block.put_and_set_len(len, value, len + 1);
     }
 
-    /// Appends `value`, and returns a mutable reference to the new item. Fails if the list is full
-    /// and cannot grow.
+    /// Appends `value`, and returns a mutable reference to the new item, or fails if the list is
+    /// full and cannot grow.
     ///
     /// # Errors
     ///

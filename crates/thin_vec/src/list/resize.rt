@@ -13,9 +13,10 @@ use thin_block::{Growth, ThinVecError};
 impl<T: Clone, A: Allocator, G: Growth> ThinVec<T, A, G> {
     ghost use Rattle.thin_vec.specs.ThinVec.{HasRoomFor, IsBounded, capacity_after_reserve};
 
-    /// Changes the length to `len`. If the list is longer, the items from index `len` onward are
-    /// dropped. If it is shorter, clones of `value` are appended, and then `value` itself. If no
-    /// item is appended, `value` is dropped.
+    /// Changes the length to `len`, or fails if there is no room for the new items or `value`
+    /// cannot be cloned. If the list is longer, the items from index `len` onward are dropped. If
+    /// it is shorter, clones of `value` are appended, and then `value` itself. If no item is
+    /// appended, `value` is dropped.
     ///
     /// # Errors
     ///
@@ -28,7 +29,7 @@ impl<T: Clone, A: Allocator, G: Growth> ThinVec<T, A, G> {
             (len - length self.old.items) ≡ Some self.new.capacity) }
         ensures cost { OnOk result (CostsMoves (len - length self.old.items) self.old self.new) }
 
-        // When it must succeed.
+        // When it must succeed. In every other case it may fail.
         ensures succeeds { len ≤ self.old.capacity → T.is_infallible value → IsOk result }
         ensures succeeds_shorter { len ≤ length self.old.items → IsOk result }
         ensures succeeds_by_one { len ≡ length self.old.items + 1 → HasRoomFor self.old 1
@@ -114,7 +115,7 @@ impl<T: Drop, A: Allocator, G: Growth> ThinVec<T, A, G> {
             (len - length self.old.items) ≡ Some self.new.capacity) }
         ensures cost { OnOk result (CostsMoves (len - length self.old.items) self.old self.new) }
 
-        // When it must succeed.
+        // When it must succeed. In every other case it may fail.
         ensures succeeds { len ≤ self.old.capacity → IsOk result }
 
         // On failure.

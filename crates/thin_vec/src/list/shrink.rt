@@ -9,9 +9,9 @@ use thin_block::{Block, Growth, ThinVecError};
 impl<T, A: Allocator, G: Growth> ThinVec<T, A, G> {
     ghost use Rattle.thin_vec.specs.ThinVec.{IsBounded, cost_shrunk, cost_after_shrink};
 
-    /// Shrinks the capacity to `min_capacity`, or to the length if the length is greater. Fails and
-    /// changes nothing if the allocator refuses the smaller block. If the call would not reduce the
-    /// capacity, nothing changes. At capacity 0, the block is freed.
+    /// Shrinks the capacity to `min_capacity`, or to the length if the length is greater, or fails
+    /// and changes nothing if the allocator refuses the smaller block. If the call would not reduce
+    /// the capacity, nothing changes. At capacity 0, the block is freed.
     ///
     /// # Errors
     ///
@@ -49,8 +49,8 @@ impl<T, A: Allocator, G: Growth> ThinVec<T, A, G> {
         Ok(())
     }
 
-    /// Shrinks the capacity to the length. Fails and changes nothing if the allocator refuses the
-    /// smaller block.
+    /// Shrinks the capacity to the length, or fails and changes nothing if the allocator refuses
+    /// the smaller block.
     ///
     /// # Errors
     ///

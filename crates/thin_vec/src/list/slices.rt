@@ -13,8 +13,9 @@ use std::cmp::Ordering;
 use thin_block::Growth;
 
 impl<T, A: Allocator, G: Growth> ThinVec<T, A, G> {
-    /// Sorts the items. Equal items keep their order. More than 20 items need memory for the time
-    /// of the call, which the allocator of the list gives.
+    /// Sorts the items, or fails if the memory for it is refused. Equal items keep their order.
+    /// More than 20 items need memory for the time of the call, which the allocator of the list
+    /// gives.
     ///
     /// # Errors
     ///
@@ -25,7 +26,7 @@ impl<T, A: Allocator, G: Growth> ThinVec<T, A, G> {
         // On success.
         ensures sorted { OnOk result (IsSorted T.cmp self.new.items) }
 
-        // When it must succeed.
+        // When it must succeed. In every other case it may fail.
         ensures succeeds { length self.old.items ≤ 20 → IsOk result }
 
         // On failure.
@@ -54,7 +55,7 @@ impl<T, A: Allocator, G: Growth> ThinVec<T, A, G> {
         // On success.
         ensures sorted { OnOk result (IsSortedByClosure F.FnMut compare self.new.items) }
 
-        // When it must succeed.
+        // When it must succeed. In every other case it may fail.
         ensures succeeds { length self.old.items ≤ 20 → IsOk result }
 
         // On failure.
@@ -85,7 +86,7 @@ impl<T, A: Allocator, G: Growth> ThinVec<T, A, G> {
         // On success.
         ensures sorted { OnOk result (IsSortedByKeyClosure F.FnMut K.cmp f self.new.items) }
 
-        // When it must succeed.
+        // When it must succeed. In every other case it may fail.
         ensures succeeds { length self.old.items ≤ 20 → IsOk result }
 
         // On failure.
@@ -117,7 +118,7 @@ impl<T, A: Allocator, G: Growth> ThinVec<T, A, G> {
         // On success.
         ensures sorted { OnOk result (IsSortedByKeyClosure F.FnMut K.cmp f self.new.items) }
 
-        // When it must succeed.
+        // When it must succeed. In every other case it may fail.
         ensures succeeds { length self.old.items ≤ 1 → IsOk result }
 
         // On failure.
