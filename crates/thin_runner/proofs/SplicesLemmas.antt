@@ -3,20 +3,22 @@ use Rattle.std.proofs.Common.{◌≡◌, ◌≤◌, ℕ, ◌-◌, ◌*◌, ◌<�
 use Rattle.std.proofs.lemmas.Bool.{false≢true}
 use Rattle.std.proofs.Math.Seq.{drop-length, take-length}
 use Rattle.std.proofs.lemmas.List.{append-nil, length-drop, take-append-drop}
-use Rattle.std.specs.Iterator.{Count, at_most}
+use Rattle.std.specs.Iterator.{Count, at_most, size}
+use Rattle.std.specs.Iterator.SizeHint.{IsWithinCount}
+use Rattle.std.specs.declared.result.Result.{Result}
 use Rattle.std.specs.Borrow.{RattleType}
 use Rattle.std.specs.declared.iter.Iterator.{can_next-default}
 use Rattle.std.specs.Option.{option_to_list}
 use Rattle.std.specs.Prelude.{◌⊎◌, IsSome, MatchOption}
-use Rattle.thin_vec.specs.List.Extend.{CostsInserting}
+use Rattle.thin_vec.specs.List.Extend.{CostsInserting, IsAfterExtend}
 use Rattle.thin_vec.specs.List.Capacity.{PreservesList}
-use Rattle.thin_vec.specs.Edits.Splice.{SpliceErrorAccountsFor, SplicesCapacity}
+use Rattle.thin_vec.specs.Edits.Splice.{FinishesAtEnd, FinishesBeforeTail, SpliceErrorAccountsFor}
 use Rattle.thin_vec.specs.declared.SpliceRefused.{SpliceRefused}
 use Rattle.thin_vec.specs.Growth.{GrowthRule}
 use Rattle.thin_vec.specs.ThinVec.{HasRoomFor, ListView}
 use Rattle.thin_vec.specs.declared.ThinVecError.{ThinVecError}
 use Rattle.thin_runner.specs.Hinted.{HintedSteps, hinted_claim, hinted_count, hinted_items}
-use Rattle.thin_runner.specs.commands.Splices.{Replaces, StopsBetween, without_range}
+use Rattle.thin_runner.specs.commands.Splices.{Replaces, SplicesCapacity, StopsBetween, without_range}
 use Rattle.thin_runner.specs.declared.hinted.Hinted.{Hinted}
 use Rattle.thin_runner.proofs.HintedLemmas.{yields-claim, yields-items}
 
@@ -83,6 +85,30 @@ module _ {T : Type 0} (xs tail : List T) (b : ℕ) (is : tail ≡ drop b xs) whe
 
   pub no-tail : b ≡ length xs → tail ≡ []
   no-tail all = no-items tail (omega (arith, tail-count, all))
+
+module _ {T A : Type 0} {rule : GrowthRule} {R : RattleType} {tail : List T} {k : ℕ}
+    {v w : ListView T A} {limit : Count} where
+  -- A call to `extend` is like a splice at the end of the list.
+  pub extends-splices : tail ≡ [] → (HasRoomFor v (size limit) → w.capacity ≡ v.capacity)
+      → (h : ℕ) × IsWithinCount h limit × IsAfterExtend rule R v h w
+      → SplicesCapacity rule R tail k v w limit
+  extends-splices none room grew = record {
+    had_room = room;
+    at_end = λ _. grew;
+    before_tail = λ some. absurd (omega (arith, some, ap length none));
+  }
+
+  pub finishes-splices : {S : Type 0} {s : S} {r : Result (Unit {0}) (SpliceRefused T S A)}
+      → (HasRoomFor v (size limit)
+      → (w.capacity ≡ v.capacity) × (w.cost.blocks ≡ v.cost.blocks))
+      → (tail ≡ [] → FinishesAtEnd rule R v w s limit r)
+      → (0 < length tail → FinishesBeforeTail rule R k (length tail) v w limit r)
+      → SplicesCapacity rule R tail k v w limit
+  finishes-splices room at_end before_tail = record {
+    had_room = λ fit. (room fit).0;
+    at_end = λ none. (at_end none).after;
+    before_tail = λ some. (before_tail some).after;
+  }
 
 module _ {T A : Type 0} {rule : GrowthRule} {R : RattleType} {old : ListView T A} {a b : ℕ} where
   -- The clauses of `extend` and `finish` speak of a list `v` that is `old` without the range

@@ -1,6 +1,6 @@
 -- These lemmas are about the capacity of a list after pushes (`capacity_after_pushes`), after
 -- `extend` and after `finish` of a `Splice`. They are also meant for other crates.
-use Rattle.std.proofs.Common.{if◌then◌else◌, Bool, true, false, ◌≡◌, ℕ, zero, suc, ◌+◌, ◌-◌, ◌*◌, eqb, ◌<◌, ◌≤◌, List, [], ◌∷◌, Option, None, Some, ap, arith, inl, inr, length, refl, subst, sym, ◌∙◌}
+use Rattle.std.proofs.Common.{if◌then◌else◌, Bool, true, false, ◌≡◌, ℕ, zero, suc, ◌+◌, ◌-◌, ◌*◌, eqb, ◌<◌, ◌≤◌, List, [], ◌∷◌, ◌++◌, Option, None, Some, ap, arith, inl, inr, length, length-append, refl, subst, sym, ◌∙◌}
 use borrow.Author.Tests.{lt-leb}
 use Rattle.std.proofs.lemmas.Bool.{cases_lt}
 use Rattle.std.proofs.lemmas.Bool.Decides.{nat_tests}
@@ -9,7 +9,7 @@ use Rattle.thin_block.specs.Cost.{Cost, add_moves, add_realloc, no_cost}
 use Rattle.std.proofs.lemmas.Option.{option_and_then_some}
 use Rattle.std.specs.Align.{type_align}
 use Rattle.std.specs.Borrow.{RattleType}
-use Rattle.std.specs.Iterator.{Count, size}
+use Rattle.std.specs.Iterator.{Count}
 use Rattle.std.specs.Iterator.SizeHint.{IsWithinCount}
 use Rattle.std.specs.Mem.{type_size}
 use Rattle.std.specs.Prelude.{◌⊎◌, option_and_then}
@@ -17,9 +17,15 @@ use Rattle.thin_block.proofs.CapacityLemmas.{exact-fits, exact-same, ruled-grows
 use Rattle.thin_block.proofs.ResultLemmas.{none-some, some-same}
 use Rattle.thin_block.specs.Capacity.{Fits, fits}
 use Rattle.thin_block.specs.Growth.{GrowthRule, IsLawful, checked_capacity, doubling, exact_capacity, grown_capacity}
-use Rattle.thin_vec.specs.Edits.Splice.{IsAfterSplice, SplicesCapacity, StopsBeforeTail, cost_after_growth}
+use Rattle.thin_vec.specs.Edits.Splice.{FinishesAtEnd, FinishesBeforeTail, IsAfterSplice, cost_after_growth, left_by_splice, splice_front, splice_iter, splice_range_len, splice_tail}
+use Rattle.thin_block.specs.declared.growth.Growth.{Ghosts}
+use Rattle.std.specs.declared.result.Result.{Result}
+use Rattle.thin_vec.specs.OpenView.{OpenView}
+use Rattle.thin_vec.specs.declared.edits.holder.IntoInner.{Ghosts as IntoInnerGhosts}
+use Rattle.thin_vec.specs.declared.edits.splice.Splice.{Splice}
 use Rattle.thin_vec.specs.declared.errors.SpliceRefused.{SpliceRefused}
-use Rattle.thin_vec.specs.List.Extend.{CostsExtending, CostsInserting, ExtendsCapacity, IsAfterCollect, IsAfterExtend, IsAfterPushes, capacity_after_pushes, cost_after_pushes}
+use Rattle.thin_vec.specs.List.Capacity.{PreservesList}
+use Rattle.thin_vec.specs.List.Extend.{CostsInserting, IsAfterCollect, IsAfterExtend, IsAfterPushes, capacity_after_pushes, cost_after_pushes}
 use Rattle.thin_vec.specs.ThinVec.{HasRoomFor, IsBounded, ListView, capacity_after_reserve, cost_after_resize, cost_of_new}
 use Rattle.thin_block.specs.GrowthLaws.{doubling_law}
 use Rattle.thin_vec.proofs.CallerLemmas.{doubling-twice}
@@ -30,15 +36,23 @@ pub growth-same : (n c d : ℕ) (cost : Cost) → d ≡ c → cost_after_growth 
 growth-same n c d cost same = let t : eqb d c ≡ true = grind (arith, nat_tests) in rw t refl
 
 -- A list that does not change has the cost after a change of its capacity to the same.
-pub resized-none : {T A : Type 0} (v : ListView T A) (q : ℕ)
+resized-now : {T A : Type 0} (v : ListView T A) (q : ℕ)
     → v.cost ≡ add_moves (length v.items - length v.items
     + (if eqb (length v.items) (length v.items) then 0 else q)) (cost_after_resize v v.capacity)
-resized-none v q =
+resized-now v q =
     let t : eqb (length v.items) (length v.items) ≡ true = grind (arith, nat_tests) in
     let none : length v.items - length v.items + 0 ≡ 0 = omega arith in
     rw t (sym (ap (λ k. add_moves k (cost_after_resize v v.capacity)) none
     ∙ (moving-none (cost_after_resize v v.capacity)
     ∙ cost_after_resize-same v v.capacity refl)))
+
+pub resized-none : {T A : Type 0} (v w : ListView T A) (q : ℕ) → w ≡ v
+    → w.cost ≡ add_moves (length w.items - length v.items
+    + (if eqb (length w.items) (length v.items) then 0 else q)) (cost_after_resize v w.capacity)
+resized-none v w q same =
+    subst (λ z. z.cost ≡ add_moves (length z.items - length v.items
+    + (if eqb (length z.items) (length v.items) then 0 else q)) (cost_after_resize v z.capacity))
+    (sym same) (resized-now v q)
 
 -- The `t` items after `n` others move, unless `n` is `k`.
 pub tail-moves : (n k t m : ℕ) → (n < k → m ≡ t) → (n ≡ k → m ≡ 0) → n ≤ k
@@ -48,20 +62,6 @@ tail-moves n k t m short full low = elim (cases_lt n k) [
   | inr all ↦
       let same : n ≡ k = omega arith in let f : eqb n k ≡ true = grind (arith, nat_tests) in
       rw f (sym (full same))
-]
-
--- Making no slots moves no item, and then there are as many items as before.
-hinted-moves : (h m n t : ℕ) → n ≡ m + h
-    → (if eqb h 0 then 0 else t) ≡ (if eqb n m then 0 else t)
-hinted-moves h m n t long = elim (cases_lt 0 h) [
-  | inl some ↦
-      let f : eqb h 0 ≡ false = grind (arith, nat_tests) in
-      let g : eqb n m ≡ false = grind (arith, nat_tests) in
-      ap (λ b. if b then 0 else t) (f ∙ sym g)
-  | inr none ↦
-      let f : eqb h 0 ≡ true = grind (arith, nat_tests) in
-      let g : eqb n m ≡ true = grind (arith, nat_tests) in
-      ap (λ b. if b then 0 else t) (f ∙ sym g)
 ]
 
 -- A list of `n` items with the capacity `c` and the cost `add_moves a k` grows, and moves are made.
@@ -239,21 +239,49 @@ module _ (rule : GrowthRule) (R : RattleType) where
               ∙ (λ i. add_moves (all i) (now i)))));
         }
 
+    -- The pushes begin with a new list of the capacity `h`.
+    pub collected-from : (h : ℕ) (w : ListView T A)
+        → IsAfterPushes rule R (record w { items = []; capacity = h; cost = cost_of_new h }) w
+        → IsAfterCollect rule R h w
+    collected-from h w p =
+        let all : length w.items - 0 ≡ length w.items = omega arith in
+        record {
+          capacity = p.capacity;
+          cost = p.cost ∙ ap (λ n. add_moves n
+              (cost_after_pushes rule R h (length w.items) (cost_of_new h))) all;
+        }
+
   module _ {T A : Type 0} (v : ListView T A) where
+    -- The pushes follow a call to `reserve(h)`, which changed the capacity to `c`.
+    pub extended-from : (c : ℕ) (w : ListView T A) (h : ℕ)
+        → capacity_after_reserve rule R v h ≡ Some c
+        → IsAfterPushes rule R (record v { capacity = c; cost = cost_after_resize v c }) w
+        → IsAfterExtend rule R v h w
+    extended-from c w h reserves p = record {
+      reserved = c;
+      reserves = reserves;
+      capacity = p.capacity;
+      cost = p.cost;
+    }
+
     -- Nothing was reserved, and no item was added.
     pub extended-none : (w : ListView T A) (left : Count) → length v.items ≤ v.capacity → w ≡ v
         → (h : ℕ) × IsWithinCount h left × IsAfterExtend rule R v h w
     extended-none w left room same = (
       0,
       (λ _. omega arith),
-      (
-        v.capacity,
-        ruled-same rule _ _ v.capacity (length v.items + 0) (omega (arith, room)),
-        after-none (record v { capacity = v.capacity; cost = cost_after_resize v v.capacity }) w
-            room (same ∙ (λ i. record v
-            { cost = sym (cost_after_resize-same v v.capacity refl) i })),
-      ),
+      extended-from v.capacity w 0
+          (ruled-same rule _ _ v.capacity (length v.items + 0) (omega (arith, room)))
+          (after-none (record v { capacity = v.capacity; cost = cost_after_resize v v.capacity }) w
+          room (same ∙ (λ i. record v
+          { cost = sym (cost_after_resize-same v v.capacity refl) i }))),
     )
+
+    pub grown-none : (w : ListView T A) → length v.items ≤ v.capacity → w ≡ v
+        → grown v.capacity (length w.items) ≡ Some w.capacity
+    grown-none w room same =
+        subst (λ z. grown v.capacity (length z.items) ≡ Some z.capacity) (sym same)
+        (ruled-same rule _ _ v.capacity (length v.items) room)
 
     pub reserved-none : (k : ℕ) → length v.items + k ≤ v.capacity
         → capacity_after_reserve rule R v k ≡ Some v.capacity
@@ -275,7 +303,7 @@ module _ (rule : GrowthRule) (R : RattleType) where
           record {
             hint = 0;
             within = inl refl;
-            in_range = λ _. refl;
+            short = λ _. refl;
             reserved = v.capacity;
             reserves = reserved-none (k + 0) (omega (arith, room));
             capacity = ruled-same rule _ _ v.capacity (length w.items) (omega (arith, low, room))
@@ -288,27 +316,6 @@ module _ (rule : GrowthRule) (R : RattleType) where
           },
           refl,
         )
-
--- A call to `extend` is like a splice at the end of the list.
-pub extends-splices : {T A : Type 0} {rule : GrowthRule} {R : RattleType} {tail : List T}
-    {k : ℕ} {v w : ListView T A} {limit : Count} → tail ≡ [] → ExtendsCapacity rule R v w limit
-    → SplicesCapacity rule R tail k v w limit
-extends-splices none grew = record {
-  had_room = grew.had_room;
-  at_end = λ _. grew.pushed;
-  before_tail = λ some. absurd (omega (arith, some, ap length none));
-}
-
--- Items follow the range of the splice.
-pub splices-before : {T A : Type 0} {rule : GrowthRule} {R : RattleType} {tail : List T}
-    {k : ℕ} {v w : ListView T A} {limit : Count} → 0 < length tail
-    → (HasRoomFor v (size limit) → w.capacity ≡ v.capacity)
-    → IsAfterSplice rule R k (length tail) v w limit → SplicesCapacity rule R tail k v w limit
-splices-before some room grew = record {
-  had_room = room;
-  at_end = λ none. absurd (omega (arith, some, ap length none));
-  before_tail = λ _. grew;
-}
 
 -- A new list that was made with room for `h` items has exactly this capacity.
 pub exact-is : (s a h d : ℕ) → exact_capacity s a 0 h ≡ Some d → d ≡ h
@@ -344,6 +351,14 @@ abbrev pub IsChosenByRule : GrowthRule → RattleType → ℕ → ℕ → Type 0
 IsChosenByRule rule R d n =
     (e want : ℕ) × (e < want) × (want ≤ n)
     × (grown_capacity rule (type_size R) (type_align R) e want ≡ Some d)
+
+module _ {T A : Type 0} where
+  -- `CostsExtending v w` bounds the recorded cost of a call that appended the items of an iterator,
+  -- and changed the list from `v` to `w`.
+  pub record CostsExtending (v w : ListView T A) : Type 0 where
+    pub inserting : CostsInserting 0 v w
+    -- There was at most one request for memory, and one more for each added item.
+    pub requests : w.cost.blocks ≤ v.cost.blocks + 1 + (length w.items - length v.items)
 
 module _ (rule : GrowthRule) (R : RattleType) (law : IsLawful rule) where
   grown-kept : (c n d : ℕ) → grown rule R c n ≡ Some d → IsKeptOrGrown rule R c d
@@ -514,17 +529,17 @@ module _ (rule : GrowthRule) (R : RattleType) (law : IsLawful rule) where
   pub extended-costs : {T A : Type 0} (v w : ListView T A) (h : ℕ) → length v.items ≤ v.capacity
       → length v.items ≤ length w.items → IsAfterExtend rule R v h w → CostsExtending v w
   extended-costs v w h room longer p =
-      let c = p.0 in let k = cost_after_resize v c in
+      let c = p.reserved in let k = cost_after_resize v c in
       let q = cost_after_pushes rule R c (length w.items) k in
-      let m = pushes-costs c (length w.items) w.capacity k p.2.capacity in
-      let grew = grown-le v.capacity (length v.items + h) c p.1 in
+      let m = pushes-costs c (length w.items) w.capacity k p.capacity in
+      let grew = grown-le v.capacity (length v.items + h) c p.reserves in
       let once = cost_after_resize-blocks v c in
       let still = cost_after_resize-moves v c in
-      let copied = cost_after_resize-copied rule R law v h c room p.1 in
-      let blocks : w.cost.blocks ≡ q.blocks = ap (λ x. x.blocks) p.2.cost in
-      let grown : w.cost.grown ≡ q.grown = ap (λ x. x.grown) p.2.cost in
+      let copied = cost_after_resize-copied rule R law v h c room p.reserves in
+      let blocks : w.cost.blocks ≡ q.blocks = ap (λ x. x.blocks) p.cost in
+      let grown : w.cost.grown ≡ q.grown = ap (λ x. x.grown) p.cost in
       let moves : w.cost.moves ≡ q.moves + (length w.items - length v.items) =
-      ap (λ x. x.moves) p.2.cost in
+      ap (λ x. x.moves) p.cost in
       let low = m.never_less in let same = m.moves in
       record {
         inserting = record {
@@ -596,14 +611,15 @@ module _ (rule : GrowthRule) (R : RattleType) (law : IsLawful rule) where
     pub extended-at_least : (w : ListView T A) → IsAfterExtend rule R v h w
         → IsKeptOrGrown rule R v.capacity w.capacity
     extended-at_least w p =
-        kept-join v.capacity p.0 w.capacity (grown-kept v.capacity (length v.items + h) p.0 p.1)
-        (pushes-at_least p.0 (length w.items) w.capacity p.2.capacity)
+        kept-join v.capacity p.reserved w.capacity
+        (grown-kept v.capacity (length v.items + h) p.reserved p.reserves)
+        (pushes-at_least p.reserved (length w.items) w.capacity p.capacity)
 
     pub extended-ruled : (w : ListView T A) → IsAfterExtend rule R v h w
         → IsChosenByRule rule R w.capacity (length w.items)
         ⊎ (capacity_after_reserve rule R v h ≡ Some w.capacity)
-    extended-ruled w p = elim (pushes-ruled p.0 (length w.items) w.capacity p.2.capacity) [
-      | inl same ↦ inr (p.1 ∙ ap Some (sym same))
+    extended-ruled w p = elim (pushes-ruled p.reserved (length w.items) w.capacity p.capacity) [
+      | inl same ↦ inr (p.reserves ∙ ap Some (sym same))
       | inr chosen ↦ inl chosen
     ]
 
@@ -671,60 +687,6 @@ module _ (rule : GrowthRule) (R : RattleType) (law : IsLawful rule) where
         at-most true = omega arith
         at-most false = omega arith
 
-    -- If a call to `finish` fails, it has filled all slots that it reserved for the hint.
-    pub spliced-stops : {S : Type 0} (error : SpliceRefused T S A)
-        → length v.items + k ≤ v.capacity → length w.items ≡ length v.items + k + p.hint
-        → (error.held.items ≡ [] → error.in_hand ≡ None → p.hint ≡ 0)
-        → StopsBeforeTail rule R k t v w error
-    spliced-stops error room long none =
-        let n = length w.items - length v.items in
-        let start = length v.items + k in
-        let fit : length w.items ≤ p.reserved =
-        omega (
-          arith,
-          long,
-          grown-room v.capacity (length v.items + (k + p.hint)) p.reserved p.reserves,
-        ) in
-        let same : w.capacity ≡ p.reserved =
-        some-same (sym p.capacity ∙ ruled-same rule _ _ p.reserved (length w.items) fit) in
-        let all : eqb (length w.items) (start + p.hint) ≡ true = grind (arith, nat_tests, long) in
-        let done : (if eqb (length w.items) (start + p.hint) then 0 else t) ≡ 0 =
-        ap (λ b. if b then 0 else t) all in
-        let once = hinted-moves p.hint start (length w.items) t long in
-        let moves = if eqb (length w.items) start then 0 else t in
-        let grows : cost_after_growth (start + p.hint) p.reserved w.capacity
-        (cost_after_growth start v.capacity p.reserved v.cost)
-        ≡ cost_after_growth start v.capacity w.capacity v.cost =
-        growth-same (start + p.hint) p.reserved w.capacity
-        (cost_after_growth start v.capacity p.reserved v.cost) same
-        ∙ ap (λ d. cost_after_growth start v.capacity d v.cost) (sym same) in
-        let count = (λ i. n + once i + done i)
-        ∙ (let z : n + moves + 0 ≡ n + moves = omega arith in z) in
-        let paid : w.cost ≡ add_moves (n + moves)
-        (cost_after_growth start v.capacity w.capacity v.cost) =
-        p.cost ∙ (λ i. add_moves (count i) (grows i)) in
-        let more : k + p.hint ≡ n = omega (arith, long) in
-        record {
-          filled = omega (arith, long);
-          capacity = subst (λ q. capacity_after_reserve rule R v q ≡ Some w.capacity) more
-              (p.reserves ∙ ap Some (sym same));
-          cost = paid;
-          at_hint = λ held hand.
-              let zero = none held hand in
-              let kept : w.capacity ≡ v.capacity = same
-              ∙ cap-kept rule R law v (k + p.hint) p.reserved (omega (arith, room, zero))
-              p.reserves in
-              let at : eqb (length w.items) start ≡ true = grind (arith, nat_tests, long, zero) in
-              let few : n + moves ≡ k =
-              ap (λ b. n + (if b then 0 else t)) at
-              ∙ (let z : n + 0 ≡ k = omega (arith, long, zero) in z) in (
-                omega (arith, long, zero),
-                kept,
-                paid ∙ (λ i. add_moves (few i)
-                    (growth-same start v.capacity w.capacity v.cost kept i)),
-              );
-        }
-
 -- Under `Doubling`, a full list that gets at most as many items as it has doubles its capacity, by
 -- one request. The iterator could yield no more than these.
 module _ (R : RattleType) {T A : Type 0} (v w : ListView T A) (h : ℕ) where
@@ -733,15 +695,15 @@ module _ (R : RattleType) {T A : Type 0} (v w : ListView T A) (h : ℕ) where
       → (w.capacity ≡ 2 * v.capacity) × (w.cost.blocks ≡ v.cost.blocks + 1)
       × (w.cost.grown ≡ v.cost.grown + v.capacity)
   doubled_once some full more few hint p =
-      let c = p.0 in let n = length w.items in let k = cost_after_resize v c in
-      let blocks = ap (λ x. x.blocks) p.2.cost in let copies = ap (λ x. x.grown) p.2.cost in
+      let c = p.reserved in let n = length w.items in let k = cost_after_resize v c in
+      let blocks = ap (λ x. x.blocks) p.cost in let copies = ap (λ x. x.grown) p.cost in
       elim (cases_lt 0 h) [
         | inl hinted ↦
             let twice = doubling-twice _ _ v.capacity (length v.items + h) c some (omega arith)
-            (omega arith) p.1 in
+            (omega arith) p.reserves in
             let room : n ≤ c = omega arith in
             let same : w.capacity ≡ c =
-            some-same (sym p.2.capacity ∙ pushes-none doubling R c n room) in
+            some-same (sym p.capacity ∙ pushes-none doubling R c n room) in
             let paid = paid-none doubling R c n k room
             ∙ cost_after_resize-more v c (omega arith) in (
               omega arith,
@@ -750,15 +712,15 @@ module _ (R : RattleType) {T A : Type 0} (v w : ListView T A) (h : ℕ) where
             )
         | inr none ↦
             let kept : c ≡ v.capacity =
-            cap-kept doubling R doubling_law v h c (omega arith) p.1 in
+            cap-kept doubling R doubling_law v h c (omega arith) p.reserves in
             let all : c ≤ c = omega arith in
-            let first = pushes-before doubling R c (suc c) n w.capacity p.2.capacity
+            let first = pushes-before doubling R c (suc c) n w.capacity p.capacity
             (let less : suc c ≤ n = omega arith in less) in
             let twice = doubling-twice _ _ c (suc c) first.0 (omega arith) (omega arith)
             (omega arith) (pushes-first doubling R c first.0 first.1) in
             let low : suc c ≤ n = omega arith in let high : n ≤ first.0 = omega arith in
             let same : w.capacity ≡ first.0 =
-            some-same (sym p.2.capacity
+            some-same (sym p.capacity
             ∙ pushes-kept doubling R c (suc c) n first.0 first.1 low high) in
             let paid = paid-kept doubling R c (suc c) n first.0 k first.1 low high
             ∙ (paid-full doubling R c c k (pushes-none doubling R c c all)
@@ -771,15 +733,50 @@ module _ (R : RattleType) {T A : Type 0} (v w : ListView T A) (h : ℕ) where
       ]
 
 -- The bounds on the cost of `finish` follow from its exact cost.
-pub splices-costs : {T A : Type 0} (rule : GrowthRule) (R : RattleType) (tail : List T) (k : ℕ)
-    (v w : ListView T A) (limit : Count) → IsLawful rule → SplicesCapacity rule R tail k v w limit
+pub finished-costs : {S T A : Type 0} (rule : GrowthRule) (R : RattleType) (tail : List T) (k : ℕ)
+    (v w : ListView T A) (s : S) (limit : Count) (r : Result (Unit {0}) (SpliceRefused T S A))
+    → IsLawful rule → (tail ≡ [] → FinishesAtEnd rule R v w s limit r)
+    → (0 < length tail → FinishesBeforeTail rule R k (length tail) v w limit r)
     → length v.items + k ≤ v.capacity → length v.items ≤ length w.items
     → CostsInserting (2 * length tail) v w
-splices-costs rule R [] k v w limit law p room longer =
-    let after = p.at_end refl in
+finished-costs rule R [] k v w s limit r law at_end before_tail room longer =
+    let after = (at_end refl).after in
     (extended-costs rule R law v w after.0 (omega (arith, room)) longer after.2).inserting
-splices-costs rule R (x ∷ xs) k v w limit law p room longer =
-    spliced-costs rule R law k (length (x ∷ xs)) v w limit (p.before_tail (omega arith)) room longer
+finished-costs rule R (x ∷ xs) k v w s limit r law at_end before_tail room longer =
+    spliced-costs rule R law k (length (x ∷ xs)) v w limit (before_tail (omega arith)).after room
+    longer
+
+-- The same for the clauses of `extend`, which appended the items `xs`.
+pub extend-costs : {T A : Type 0} {rule : GrowthRule} {R : RattleType} {v w : ListView T A} {h : ℕ}
+    → IsLawful rule → (xs : List T) → w.items ≡ v.items ++ xs → PreservesList R v w
+    → IsAfterExtend rule R v h w → CostsExtending v w
+extend-costs {rule = rule} {R} {v} {w} {h} law xs items kept after =
+    extended-costs rule R law v w h kept.within.0.room
+    (omega (arith, ap length items, length-append v.items xs)) after
+
+-- The same for the clauses of `finish` of the `Splice` `s`, which inserted the items `xs`.
+module _ {I T A G H : Type 0} {g : Ghosts G} {h : IntoInnerGhosts H (OpenView T A)}
+    (s : Splice I T A G H g h) where
+  pub finish-costs : {rule : GrowthRule} {R : RattleType} {w : ListView T A} {limit : Count}
+      {r : Result (Unit {0}) (SpliceRefused T I A)} → IsLawful rule
+      → (xs : List T) → w.items ≡ (splice_front s ++ xs) ++ splice_tail s
+      → (splice_tail s ≡ [] → FinishesAtEnd rule R (left_by_splice s) w (splice_iter s) limit r)
+      → (0 < length (splice_tail s) → FinishesBeforeTail rule R (splice_range_len s)
+      (length (splice_tail s)) (left_by_splice s) w limit r)
+      → HasRoomFor (left_by_splice s) (splice_range_len s)
+      → CostsInserting (2 * length (splice_tail s)) (left_by_splice s) w
+  unfolding left_by_splice
+  finish-costs {rule} {R} {w} {limit} {r} law xs items at_end before_tail room =
+      let front = splice_front s in let tail = splice_tail s in
+      finished-costs rule R tail (splice_range_len s) (left_by_splice s) w (splice_iter s) limit r
+      law at_end before_tail room
+      (omega (
+        arith,
+        ap length items,
+        length-append (front ++ xs) tail,
+        length-append front xs,
+        length-append front tail,
+      ))
 
 -- The capacity after `from_iter` is one that the growth rule chose, or the one in the size hint.
 pub collected-ruled : {T A : Type 0} (rule : GrowthRule) (R : RattleType) (w : ListView T A) (h : ℕ)

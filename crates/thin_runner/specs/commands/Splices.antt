@@ -2,19 +2,31 @@
 -- iterator, like `Vec::splice` of std. An `extend` is a splice at the end of the list.
 use Rattle.std.specs.Prelude.{◌≡◌, ◌↔◌, ◌⊎◌, ℕ, ◌+◌, ◌-◌, ◌*◌, ◌<◌, ◌≤◌, List, [], ◌++◌, IsSome, None, Option, drop, length, take}
 use Rattle.std.specs.Borrow.{RattleType}
-use Rattle.std.specs.Iterator.{at_most}
+use Rattle.std.specs.Iterator.{Count, at_most, size}
 use Rattle.std.specs.Iterator.SizeHint.{IsWithinCount}
 use Rattle.std.specs.List.{remove_range}
 use Rattle.std.specs.Option.{option_to_list}
 use Rattle.std.specs.Vec.Iter.{into_iter_items}
-use Rattle.thin_vec.specs.Edits.Splice.{SplicesCapacity}
-use Rattle.thin_vec.specs.List.Extend.{CostsInserting}
+use Rattle.thin_vec.specs.Edits.Splice.{IsAfterSplice}
+use Rattle.thin_vec.specs.List.Extend.{CostsInserting, IsAfterExtend}
 use Rattle.thin_vec.specs.List.Capacity.{FailsForRoom, PreservesList}
 use Rattle.thin_vec.specs.Growth.{GrowthRule}
 use Rattle.thin_vec.specs.ThinVec.{HasRoomFor, ListView, capacity_after_reserve}
 use Rattle.thin_vec.specs.declared.ThinVecError.{ThinVecError}
 use Rattle.thin_vec.specs.declared.ThinVecError.TheVariants.{CapacityOverflow, OutOfMemory}
 use Rattle.thin_runner.specs.declared.hinted.Hinted.{Hinted}
+
+-- `SplicesCapacity rule R tail k v w limit` says which capacity and which cost the list `w` has. It
+-- is the list `v` after items of an iterator were inserted before the items `tail`. The range has
+-- `k` slots, the growth rule is `rule`, the item type is `R`, and the iterator could yield at most
+-- `limit` items.
+pub record SplicesCapacity {T A : Type 0} (rule : GrowthRule) (R : RattleType) (tail : List T)
+    (k : ℕ) (v w : ListView T A) (limit : Count) : Type 0 where
+  -- If `v` has room for all items that the iterator could yield, the capacity is unchanged.
+  pub had_room : HasRoomFor v (size limit) → w.capacity ≡ v.capacity
+  -- If no item follows the range, the capacity and the cost are those after `extend`.
+  pub at_end : tail ≡ [] → (h : ℕ) × IsWithinCount h limit × IsAfterExtend rule R v h w
+  pub before_tail : 0 < length tail → IsAfterSplice rule R k (length tail) v w limit
 
 module _ {T A : Type 0} (old : ListView T A) (a b : ℕ) where
   -- `without_range` is the list `old` without the items `a..b`, and otherwise unchanged.

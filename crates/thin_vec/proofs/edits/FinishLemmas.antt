@@ -12,16 +12,17 @@ use Rattle.std.specs.declared.result.Result.TheVariants.{Ok, Err}
 use Rattle.std.specs.Iterator.{Count, Drains, IsFinite, Yields, size}
 use Rattle.std.specs.Iterator.SizeHint.{IsWithinCount}
 use Rattle.thin_block.specs.Cost.{add_moves}
-use Rattle.thin_block.specs.Growth.{IsLawful, GrowthRule, grown_capacity}
+use Rattle.thin_block.specs.Growth.{GrowthRule, grown_capacity}
 use Rattle.thin_vec.specs.Put.{YieldsThenMayEnd, IsFilledBy}
 use Rattle.thin_vec.specs.declared.put.Filled.{Filled}
-use Rattle.thin_vec.specs.Edits.Splice.{IsSpliceCause, SpliceErrorAccountsFor, SplicesCapacity, IsAfterSplice, cost_after_growth}
+use Rattle.thin_vec.specs.Edits.Splice.{IsAfterSplice, IsSpliceCause, SpliceErrorAccountsFor, cost_after_growth}
+use Rattle.thin_vec.specs.List.Extend.{IsAfterExtend}
 use Rattle.thin_vec.specs.Edits.Finish.{AddsFromIter, FinishesSplice, without_middle, with_replacement}
 use Rattle.thin_vec.specs.OpenView.{OpenView, cost_closed, items_of}
 use Rattle.thin_vec.specs.ThinVec.{ListView, capacity_after_reserve, cost_after_resize}
 use Rattle.thin_vec.specs.declared.errors.SpliceRefused.{SpliceRefused}
 use Rattle.thin_vec.proofs.list.ExtendLemmas.{yields-join}
-use Rattle.thin_vec.proofs.PushesLemmas.{growth-once, spliced-stops, splices-before}
+use Rattle.thin_vec.proofs.PushesLemmas.{growth-once}
 use Rattle.thin_vec.proofs.PutLemmas.{filled-fits}
 use Rattle.thin_vec.proofs.edits.SpliceLemmas.{between-length, between-more, closed-moves, drains-more, run-moves, stopped-more, taken-join, taken-spare}
 
@@ -283,11 +284,13 @@ module _ {S T A : Type 0} {steps : S → Option T → S → Type 0} {can : S →
     pub finished-ok : (x : Unit {0})
         → (xs : List T) × Drains steps s xs × (w.items ≡ with_replacement v xs)
         → AddsFromIter (without_middle v a) w (remaining s)
-        → SplicesCapacity rule R v.tail v.gap_before (without_middle v a) w (remaining s)
+        → (v.tail ≡ [] → (h : ℕ) × IsWithinCount h (remaining s)
+        × IsAfterExtend rule R (without_middle v a) h w)
+        → (0 < length v.tail → IsAfterSplice rule R v.gap_before (length v.tail)
+        (without_middle v a) w (remaining s))
         → FinishesSplice steps can remaining rule R v a s w (Ok x)
-    finished-ok x items taken capacity = record {
+    finished-ok x items taken at_end before_tail = record {
       succeeds = λ _. refl;
-      succeeds_at_end = λ _ _. refl;
       items = items;
       longer = omega (
         arith,
@@ -296,18 +299,20 @@ module _ {S T A : Type 0} {steps : S → Option T → S → Type 0} {can : S →
         length-append v.front v.tail,
       );
       taken = taken;
-      capacity = capacity;
+      at_end = λ none. record {
+        succeeds = λ _. refl;
+        after = at_end none;
+        held = tt;
+        in_hand = tt;
+      };
+      before_tail = λ some. record { after = before_tail some; filled = tt; at_hint = tt };
       placed = tt;
-      stops = tt;
-      held = tt;
-      in_hand = tt;
       cause = tt;
     }
 
     pub finished-from : {t : S} {u : ListView T A} {xs : List T} {end : ℕ}
-        (r : Result (Unit {0}) (SpliceRefused T S A)) → IsLawful rule
+        (r : Result (Unit {0}) (SpliceRefused T S A))
         → IsReached steps can remaining v s u xs end t → 0 < length v.tail
-        → length (v.front ++ v.tail) + v.gap_before ≤ v.capacity
         → (size (remaining t) ≡ 0 → IsOk r)
         → OnOk r ((ys : List T) × Drains steps t ys
         × (w.items ≡ (take end u.items ++ ys) ++ drop end u.items))
@@ -320,19 +325,16 @@ module _ {S T A : Type 0} {steps : S → Option T → S → Type 0} {can : S →
         → IfErr r (λ error. (length u.items ≡ length (v.front ++ v.tail) + v.gap_before + grew.hint)
         × (error.held.items ≡ [] → error.in_hand ≡ None → grew.hint ≡ 0))
         → FinishesSplice steps can remaining rule R v a s w r
-    finished-from {t} {u} {xs} {end} (Ok x) law p some room ends items placed cause err taken grew
-        stops =
+    finished-from {t} {u} {xs} {end} (Ok x) p some ends items placed cause err taken grew stops =
         finished-ok x (
           xs ++ items.0,
           drains-more steps s t xs items.0 p.gave items.1,
           items.2 ∙ between-more v u.items xs items.0 end p.items p.ends,
         )
-        taken (splices-before some taken.had_room grew)
-    finished-from {t} {u} {xs} (Err e) law p some room ends items placed cause err taken grew
-        stops =
+        taken (λ none. absurd (omega (arith, some, ap length none))) (λ _. grew)
+    finished-from {t} {u} {xs} (Err e) p some ends items placed cause err taken grew stops =
         record {
           succeeds = λ few. ends (omega (arith, few, p.full, p.nearer));
-          succeeds_at_end = λ no_tail _. absurd (omega (arith, some, ap length no_tail));
           items = tt;
           longer = omega (
             arith,
@@ -342,15 +344,16 @@ module _ {S T A : Type 0} {steps : S → Option T → S → Type 0} {can : S →
             length-append v.front v.tail,
           );
           taken = taken;
-          capacity = splices-before some taken.had_room grew;
+          at_end = λ none. absurd (omega (arith, some, ap length none));
+          before_tail = λ _. record {
+            after = grew;
+            filled = ap (λ z. length z.items) err ∙ stops.0;
+            at_hint = stops.1;
+          };
           placed = (
             xs,
             ap (λ z. z.items) err ∙ p.items,
             stopped-more steps can remaining s t xs e p.gave placed,
           );
-          stops = λ _. spliced-stops rule R law v.gap_before (length v.tail) (without_middle v a) w
-              (remaining s) grew e room (ap (λ z. length z.items) err ∙ stops.0) stops.1;
-          held = λ no_tail. absurd (omega (arith, some, ap length no_tail));
-          in_hand = λ no_tail. absurd (omega (arith, some, ap length no_tail));
           cause = cause;
         }

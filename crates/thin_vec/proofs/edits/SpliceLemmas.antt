@@ -10,7 +10,7 @@ use Rattle.std.specs.declared.result.Result.TheVariants.{Ok, Err}
 use Rattle.std.specs.Iterator.{Count, Drains, Yields, YieldsThen, size}
 use Rattle.std.specs.Iterator.SizeHint.{IsWithinCount}
 use Rattle.thin_vec.specs.Cheap.{IsCheap}
-use Rattle.thin_vec.specs.List.Extend.{IsExtendCause, YieldsAndCanContinue}
+use Rattle.thin_vec.specs.List.Extend.{YieldsAndCanContinue}
 use Rattle.std.proofs.lemmas.Bool.Decides.{nat_tests}
 use Rattle.thin_block.specs.declared.errors.ThinVecError.TheVariants.{OutOfMemory}
 use Rattle.thin_block.specs.Cost.{Cost, add_moves}
@@ -21,7 +21,6 @@ use Rattle.thin_vec.specs.Edits.Splice.{IsSpliceCause, SpliceErrorAccountsFor}
 use Rattle.thin_vec.specs.Edits.Finish.{AddsFromIter, without_middle, with_replacement}
 use Rattle.thin_vec.specs.List.Capacity.{FailsForRoom}
 use Rattle.thin_vec.specs.ThinVec.{HasRoomFor, ListView, capacity_after_reserve, cost_after_resize}
-use Rattle.thin_vec.specs.declared.errors.ExtendRefused.{ExtendRefused}
 use Rattle.thin_vec.specs.declared.errors.SpliceRefused.{SpliceRefused}
 use Rattle.thin_vec.proofs.list.ExtendLemmas.{yields-join}
 use Rattle.thin_vec.proofs.PushesLemmas.{grown-le}
@@ -79,17 +78,18 @@ run-moves count n k m c d e = go (eqb count 0) e
         ∙ ap (λ j. add_moves j c) (let f : n + (k + m) ≡ k + n + m = omega arith in f))
 
 module _ {S X : Type 0} (steps : S → Option X → S → Type 0) where
-  -- The item in `o`, if there is one, was yielded last. If there is none, the iterator has ended.
-  pub drawn-after : (s t u : S) (x : X) (xs held : List X) (o : Option X) → steps s (Some x) t
-      → held ++ option_to_list o ≡ x ∷ xs
-      → MatchOption o (YieldsThen steps t xs None u) (λ _. Yields steps t xs u)
+  -- The iterator `s` yielded `x`, and then the other items of `held` and the item in `o`, if there
+  -- is one. If there is none, the iterator has ended.
+  pub drawn-after : (s t u : S) (x : X) (held : List X) (o : Option X) → steps s (Some x) t
+      → (xs : List X) × (held ++ option_to_list o ≡ x ∷ xs)
+      × MatchOption o (YieldsThen steps t xs None u) (λ _. Yields steps t xs u)
       → MatchOption o (YieldsThen steps s held None u) (λ y. Yields steps s (held ++ y ∷ []) u)
-  drawn-after s t u x xs held None one parts now = (
+  drawn-after s t u x held None one (xs, parts, now) = (
     now.0,
     subst (λ l. Yields steps s l now.0) (sym (sym (append-nil held) ∙ parts)) (t, one, now.1),
     now.2,
   )
-  drawn-after s t u x xs held (Some y) one parts now =
+  drawn-after s t u x held (Some y) one (xs, parts, now) =
       subst (λ l. Yields steps s l u) (sym parts) (t, one, now)
 
 pub if-err : {X E : Type 0} {P Q : E → Type 0} (r : Result X E) → ((e : E) → r ≡ Err e → P e → Q e)
@@ -156,10 +156,14 @@ module _ {S X A : Type 0} (steps : S → Option X → S → Type 0) (can : S →
         λ _. none,
       )
 
-pub when-some : {X : Type 0} (P Q : Type 0) (o : Option X) → MatchOption o P (λ _. Q) → IsSome o
+when-some : {X : Type 0} (P Q : Type 0) (o : Option X) → MatchOption o P (λ _. Q) → IsSome o
     → Q
 when-some P Q (Some x) q some = q
 when-some P Q None p some = absurd (false≢true some)
+
+when-none : {X : Type 0} (P Q : Type 0) (o : Option X) → MatchOption o P (λ _. Q) → o ≡ None → P
+when-none P Q (Some x) q none = cc
+when-none P Q None p none = p
 
 -- The lemmas in this module are about a call to `finish` that failed with `error`. `rule` is the
 -- growth rule, `R` is the type of the items, and `v` is the list after the call. `tail` contains
@@ -190,18 +194,16 @@ module _ {S T A : Type 0} (rule : GrowthRule) (R : RattleType) (v : ListView T A
     by_push = λ no_tail. absurd (omega (arith, some, ap length no_tail));
   }
 
-  pub stop-at-end : (e : ExtendRefused T S) → tail ≡ [] → error.held.items ≡ []
-      → error.cause ≡ e.cause → error.in_hand ≡ e.in_hand
-      → (IsSome error.in_hand → ¬ (HasRoomFor v 1)) → IsExtendCause rule R v left e
+  pub stop-at-end : tail ≡ [] → error.held.items ≡ []
+      → (k : ℕ) × MatchOption error.in_hand (IsWithinCount k left) (λ _. k ≡ 1)
+      × FailsForRoom rule R v k error.cause
       → IsSpliceCause rule R v tail left error
-  stop-at-end e no_tail none same hand full by = record {
-    by_hint = λ _ empty.
-        subst (λ cause. (h : ℕ) × IsWithinCount h left × FailsForRoom rule R v h cause) (sym same)
-        (by.by_hint (sym hand ∙ empty));
+  stop-at-end no_tail none fails = record {
+    by_hint = λ _ empty. (fails.0, when-none _ _ error.in_hand fails.1 empty, fails.2);
     by_held = λ more _. absurd (omega (arith, more, ap length none));
     by_in_hand = λ some _. absurd (omega (arith, some, ap length no_tail));
-    by_push = λ _ some. let push = by.by_push (subst IsSome hand some) in
-        (full some, (λ is. push.1.0 (sym same ∙ is), λ now. same ∙ push.1.1 now));
+    by_push = λ _ some. subst (λ k. FailsForRoom rule R v k error.cause)
+        (when-some _ _ error.in_hand fails.1 some) fails.2;
   }
 
 unmoved : (b : Bool) (c : Cost) (n : ℕ) → n ≡ 0 → (if b then c else add_moves n c) ≡ c

@@ -14,6 +14,7 @@ use Rattle.std.specs.Prelude.{OnErr, OnOk, IfErr, IsSome, MatchOption}
 use Rattle.std.specs.Option.{option_to_list}
 use lib.ListN.{set}
 use Rattle.thin_block.specs.Block.{BlockView}
+use Rattle.thin_block.specs.declared.errors.ThinVecError.{ThinVecError}
 use Rattle.thin_block.specs.Cost.{add_moves}
 use Rattle.thin_block.specs.Growth.{exact_capacity}
 use Rattle.thin_block.specs.Slots.{filled_slots, write_slots}
@@ -76,15 +77,22 @@ pub match-some : {X : Type 0} (P Q : Type 0) (o : Option X) → IsSome o → P
 match-some P Q (Some x) some p = p
 match-some P Q None some p = absurd (false≢true some)
 
-pub hand-empty : {X : Type 0} {o : Option X} → IsSome o → o ≡ None → ⊥
-hand-empty some none = false≢true (subst IsSome none some)
-
 pub full-in-hand : {T S : Type 0} (P : Type 0) (Q : ExtendRefused T S → Type 0)
     (r : Result (Unit {0}) (ExtendRefused T S)) → IfErr r (λ error. IsSome error.in_hand)
     → OnErr r P → IfErr r (λ error. MatchOption error.in_hand (Q error) (λ _. P))
 full-in-hand P Q (Ok _) some at_capacity = tt
 full-in-hand P Q (Err error) some at_capacity =
     match-some P (Q error) error.in_hand some at_capacity
+
+-- With an item in hand, the list had no room for one more.
+pub fails-in-hand : {T S : Type 0} (Q : ExtendRefused T S → ℕ → Type 0)
+    (P : ℕ → ThinVecError → Type 0) (r : Result (Unit {0}) (ExtendRefused T S))
+    → IfErr r (λ error. IsSome error.in_hand) → IfErr r (λ error. P 1 error.cause)
+    → IfErr r (λ error. (k : ℕ) × MatchOption error.in_hand (Q error k) (λ _. k ≡ 1)
+    × P k error.cause)
+fails-in-hand Q P (Ok _) some fails = tt
+fails-in-hand Q P (Err error) some fails =
+    (1, match-some (1 ≡ 1) (Q error 1) error.in_hand some refl, fails)
 
 -- A call that appends items makes the list no shorter, whether it succeeds or fails.
 pub placed-longer : {T E : Type 0} (old new : List T) (r : Result (Unit {0}) E)

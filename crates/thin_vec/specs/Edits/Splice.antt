@@ -1,10 +1,11 @@
 -- These definitions name the parts of a `Splice`, and describe the list and the error after a call
 -- to `finish`. (std: `Vec::splice`)
-use Rattle.std.specs.Prelude.{◌≡◌, ◌⊎◌, ◌+◌, ◌-◌, ◌<◌, ◌≤◌, [], ◌++◌, IsSome, List, Option, if◌then◌else◌, ◌==◌, length, vec_capacity, ℕ}
+use Rattle.std.specs.Prelude.{◌≡◌, ◌⊎◌, ◌+◌, ◌-◌, ◌<◌, [], ◌++◌, IfErr, IsOk, IsSome, List, MatchOption, OnErr, Option, if◌then◌else◌, ◌==◌, length, vec_capacity, ℕ}
 use Rattle.std.specs.Iterator.{Count, YieldsFirst, YieldsLast, YieldsThen, size}
 use Rattle.std.specs.Iterator.SizeHint.{IsWithinCount}
 use Rattle.std.specs.Option.{option_to_list}
 use Rattle.std.specs.declared.option.Option.TheVariants.{None, Some}
+use Rattle.std.specs.declared.result.Result.{Result}
 use Rattle.std.specs.Align.{type_align}
 use Rattle.std.specs.Borrow.{GName, RattleType}
 use Rattle.std.specs.Mem.{type_size}
@@ -55,7 +56,7 @@ module _ {T A : Type 0} where
     pub hint : ℕ
     pub within : (hint ≡ 0) ⊎ IsWithinCount (k + hint) limit
     -- If the new items do not fill the range, nothing was reserved.
-    pub in_range : length w.items < length v.items + k → hint ≡ 0
+    pub short : length w.items < length v.items + k → hint ≡ 0
     -- The capacity after slots were reserved for the hint.
     pub reserved : ℕ
     pub reserves : capacity_after_reserve rule R v (k + hint) ≡ Some reserved
@@ -69,37 +70,34 @@ module _ {T A : Type 0} where
         (cost_after_growth (length v.items + k + hint) reserved w.capacity
         (cost_after_growth (length v.items + k) v.capacity reserved v.cost))
 
-  -- `SplicesCapacity rule R tail k v w limit` says which capacity and which cost the list `w` has.
-  -- It is the list `v` after `finish` inserted items of an iterator before the items `tail`. The
-  -- range has `k` slots, the growth rule is `rule`, the item type is `R`, and the iterator could
-  -- yield at most `limit` items.
-  pub record SplicesCapacity (rule : GrowthRule) (R : RattleType) (tail : List T) (k : ℕ)
-      (v w : ListView T A) (limit : Count) : Type 0 where
-    -- If `v` has room for all items that the iterator could yield, the capacity is unchanged.
-    pub had_room : HasRoomFor v (size limit) → w.capacity ≡ v.capacity
-    -- If no item follows the range, the capacity and the cost are as after `extend`.
-    pub at_end : tail ≡ [] → (h : ℕ) × IsWithinCount h limit × IsAfterExtend rule R v h w
-    pub before_tail : 0 < length tail → IsAfterSplice rule R k (length tail) v w limit
+  -- `FinishesAtEnd rule R v w s limit result` describes a call to `finish` that returned `result`,
+  -- if no item follows the range. It appended items of the iterator `s` to the list `v`, which
+  -- became `w`. The growth rule is `rule`, the item type is `R`, and `s` could yield at most
+  -- `limit` items.
+  pub record FinishesAtEnd {S : Type 0} (rule : GrowthRule) (R : RattleType) (v w : ListView T A)
+      (s : S) (limit : Count) (result : Result (Unit {0}) (SpliceRefused T S A)) : Type 0 where
+    pub succeeds : HasRoomFor v (size limit) → IsOk result
+    -- The number `h` stands for the lower bound in the size hint. If nothing was reserved, it is 0.
+    pub after : (h : ℕ) × IsWithinCount h limit × IsAfterExtend rule R v h w
+    pub held : IfErr result (λ error. error.held.items ≡ [])
+    -- With no item in hand, the call took none from `s`. Otherwise, the list is full.
+    pub in_hand : IfErr result (λ error. MatchOption error.in_hand
+        ((w ≡ v) × (error.rest ≡ s))
+        (λ _. length w.items ≡ w.capacity))
 
-  -- `StopsBeforeTail rule R k t v w error` describes the list `w` that a call to `finish` left when
-  -- it failed with `error`. The list without the range is `v`, the range has `k` slots, and `t`
-  -- items follow it. The growth rule is `rule`, and the item type is `R`.
-  pub record StopsBeforeTail {S : Type 0} (rule : GrowthRule) (R : RattleType) (k t : ℕ)
-      (v w : ListView T A) (error : SpliceRefused T S A) : Type 0 where
-    -- The slots of the range are filled.
-    pub filled : length v.items + k ≤ length w.items
-    -- The capacity is the one after reserving the slots of all new items at once.
-    pub capacity : capacity_after_reserve rule R v (length w.items - length v.items)
-        ≡ Some w.capacity
-    -- The items after the range moved at most once, to make room for the new items beyond it.
-    pub cost : w.cost ≡ add_moves (length w.items - length v.items
-        + (if length w.items == length v.items + k then 0 else t))
-        (cost_after_growth (length v.items + k) v.capacity w.capacity v.cost)
-    -- If the error contains no item, only the slots of the range are filled, and the list did not
-    -- request memory.
-    pub at_hint : error.held.items ≡ [] → error.in_hand ≡ None
-        → (length w.items ≡ length v.items + k) × (w.capacity ≡ v.capacity)
-        × (w.cost ≡ add_moves k v.cost)
+  -- `FinishesBeforeTail rule R k t v w limit result` describes a call to `finish` that returned
+  -- `result`, if items follow the range. It inserted items of an iterator before the last `t` items
+  -- of the list `v`, which became `w`. The range has `k` slots, the growth rule is `rule`, the item
+  -- type is `R`, and the iterator could yield at most `limit` items.
+  pub record FinishesBeforeTail {S : Type 0} (rule : GrowthRule) (R : RattleType) (k t : ℕ)
+      (v w : ListView T A) (limit : Count) (result : Result (Unit {0}) (SpliceRefused T S A))
+      : Type 0 where
+    pub after : IsAfterSplice rule R k t v w limit
+    -- A call that fails has filled the slots of the range and those that it reserved.
+    pub filled : OnErr result (length w.items ≡ length v.items + k + after.hint)
+    -- If the error contains no item, nothing was reserved.
+    pub at_hint : IfErr result
+        (λ error. error.held.items ≡ [] → error.in_hand ≡ None → after.hint ≡ 0)
 
   -- `IsSpliceCause rule R w tail limit error` states why a call to `finish` failed with `error`.
   -- The growth rule is `rule`, the item type is `R`, the list after the call is `w`, and the items
@@ -109,7 +107,7 @@ module _ {T A : Type 0} where
       (tail : List T)
       (limit : Count) (error : SpliceRefused T S A) : Type 0 where
     -- If the error contains no item, there was no room for `h` more items in the list, where `h`
-    -- is a possible lower bound in the size hint (see `IsExtendCause`).
+    -- is a possible lower bound in the size hint (see `cause` of `extend`).
     pub by_hint : error.held.items ≡ [] → error.in_hand ≡ None
         → (h : ℕ) × IsWithinCount h limit × FailsForRoom rule R w h error.cause
     -- If the error contains only items in `held`, there was no room for these items in the list.
@@ -167,15 +165,6 @@ module _ {I T A G H : Type 0} {g : Ghosts G} {h : IntoInnerGhosts H (OpenView T 
   -- References with equal ghost names borrow the same list.
   abbrev pub splice_lender : Splice I T A G H g h → GName
   splice_lender s = s.list.ghost_name
-
-  -- `HasSlotsFor s n` states that `finish` of the `Splice` `s` cannot fail to insert `n` items,
-  -- because it requests no memory for them. It holds in two cases:
-  --
-  -- - The range has at least `n` slots.
-  -- - No item follows the range, and the list without the range has room for `n` more items.
-  abbrev pub HasSlotsFor : Splice I T A G H g h → ℕ → Type 0
-  HasSlotsFor s n =
-      (n ≤ splice_range_len s) ⊎ ((splice_tail s ≡ []) × HasRoomFor (left_by_splice s) n)
 
   -- `SpliceKeeps old new` states that `old` and `new` borrow the same list, which is unchanged, own
   -- the same iterator, and would leave the same list.

@@ -3,22 +3,19 @@
 -- call, and `R` is the type of the items. The number `limit` is an upper bound on the number of
 -- items that the iterator may still yield. `IsWithinCount h limit` is std's: `h` is at most
 -- `limit`, if `limit` is finite.
-use Rattle.std.specs.Prelude.{◌≡◌, ◌↔◌, ℕ, zero, suc, ◌+◌, ◌-◌, ◌<◌, ◌≤◌, IsSome, List, [], ◌++◌, Option, false, if◌then◌else◌, ◌==◌, length, option_and_then}
+use Rattle.std.specs.Prelude.{◌≡◌, ℕ, zero, suc, ◌+◌, ◌-◌, ◌<◌, ◌≤◌, List, ◌++◌, Option, false, if◌then◌else◌, ◌==◌, length, option_and_then}
 use Rattle.std.specs.Option.{option_map_or}
 use Rattle.std.specs.Iterator.{Count, IsFinite, Yields, size}
 use Rattle.std.specs.Iterator.SizeHint.{IsWithinCount}
-use Rattle.std.specs.declared.option.Option.TheVariants.{None, Some}
+use Rattle.std.specs.declared.option.Option.TheVariants.{Some}
 use Rattle.std.specs.Align.{type_align}
 use Rattle.std.specs.Borrow.{RattleType}
 use Rattle.std.specs.Mem.{type_size}
-use Rattle.thin_block.specs.declared.errors.ThinVecError.TheVariants.{CapacityOverflow}
 use Rattle.thin_block.specs.Cost.{Cost, add_moves, add_realloc}
-use Rattle.thin_block.specs.Growth.{GrowthRule, doubling, exact_capacity, grown_capacity}
+use Rattle.thin_block.specs.Growth.{GrowthRule, doubling, grown_capacity}
 use Rattle.thin_vec.specs.Cheap.{IsCheap}
-use Rattle.thin_vec.specs.List.Capacity.{IsFreshList, FailsForRoom}
-use Rattle.thin_vec.specs.ThinVec.{HasRoomFor, IsBounded, ListView, capacity_after_reserve, cost_after_resize, cost_of_new}
-use Rattle.thin_vec.specs.declared.errors.CollectRefused.{CollectRefused}
-use Rattle.thin_vec.specs.declared.errors.ExtendRefused.{ExtendRefused}
+use Rattle.thin_vec.specs.List.Capacity.{IsFreshList, PreservesList}
+use Rattle.thin_vec.specs.ThinVec.{IsBounded, ListView, capacity_after_reserve, cost_after_resize, cost_of_new}
 
 -- `YieldsAndCanContinue steps can remaining s ys t` states that the iterator `s` yielded the items
 -- `ys` and became `t`, and that `next` may be called on `t`.
@@ -55,40 +52,68 @@ cost_after_pushes rule R c (suc n) cost =
 module _ {T A : Type 0} where
   -- `IsAfterPushes rule R v w` holds if the list `w` has the capacity and the cost of the list `v`
   -- after items were pushed one by one until it had as many items as `w`. The growth rule is
-  -- `rule`, and the item type is `R`.
+  -- `rule`, and the item type is `R`. No public contract uses this definition.
   pub record IsAfterPushes (rule : GrowthRule) (R : RattleType) (v w : ListView T A) : Type 0 where
     pub capacity : capacity_after_pushes rule R v.capacity (length w.items) ≡ Some w.capacity
     pub cost : w.cost ≡ add_moves (length w.items - length v.items)
         (cost_after_pushes rule R v.capacity (length w.items) v.cost)
 
-  -- `IsAfterExtend rule R v h w` holds if the list `w` has the capacity and the cost of the list
-  -- `v` after `reserve(h)`, which changed the capacity to `c`, and then pushes.
-  abbrev pub IsAfterExtend : GrowthRule → RattleType → ListView T A → ℕ → ListView T A → Type 0
-  IsAfterExtend rule R v h w =
-      (c : ℕ) × (capacity_after_reserve rule R v h ≡ Some c)
-      × IsAfterPushes rule R (record v { capacity = c; cost = cost_after_resize v c }) w
+  -- `IsAfterExtend rule R v h w` states which capacity and which cost the list `w` has. It is the
+  -- list `v` after `reserve(h)`, and then a `push` of each new item. The growth rule is `rule`, and
+  -- the item type is `R`.
+  pub record IsAfterExtend (rule : GrowthRule) (R : RattleType) (v : ListView T A) (h : ℕ)
+      (w : ListView T A) : Type 0 where
+    -- The capacity after `reserve(h)`.
+    pub reserved : ℕ
+    pub reserves : capacity_after_reserve rule R v h ≡ Some reserved
+    pub capacity : capacity_after_pushes rule R reserved (length w.items) ≡ Some w.capacity
+    -- Each pushed item moves once.
+    pub cost : w.cost ≡ add_moves (length w.items - length v.items)
+        (cost_after_pushes rule R reserved (length w.items) (cost_after_resize v reserved))
 
-  -- `IsAfterCollect rule R h w` holds if the list `w` has the capacity and the cost of a new list
-  -- that was made with the capacity `h`, after pushes.
-  abbrev pub IsAfterCollect : GrowthRule → RattleType → ℕ → ListView T A → Type 0
-  IsAfterCollect rule R h w =
-      IsAfterPushes rule R (record w { items = []; capacity = h; cost = cost_of_new h }) w
+  -- `IsAfterCollect rule R h w` states which capacity and which cost the list `w` has. It was made
+  -- with the capacity `h`, and then got each item by `push`. The growth rule is `rule`, and the
+  -- item type is `R`.
+  pub record IsAfterCollect (rule : GrowthRule) (R : RattleType) (h : ℕ)
+      (w : ListView T A) : Type 0 where
+    pub capacity : capacity_after_pushes rule R h (length w.items) ≡ Some w.capacity
+    -- Each item moves once.
+    pub cost : w.cost ≡ add_moves (length w.items)
+        (cost_after_pushes rule R h (length w.items) (cost_of_new h))
 
-  -- `ExtendsCapacity rule R v w limit` says which capacity the list `w` has, which is the list `v`
-  -- after `extend`. The growth rule is `rule`, the item type is `R`, and the iterator could yield
-  -- at most `limit` items.
-  pub record ExtendsCapacity (rule : GrowthRule) (R : RattleType) (v w : ListView T A)
-      (limit : Count) : Type 0 where
-    -- If `v` has room for all items that the iterator could yield, the capacity is unchanged. In
-    -- particular, it is unchanged if the iterator cannot yield any item.
-    pub had_room : HasRoomFor v (size limit) → w.capacity ≡ v.capacity
-    -- The number `h` stands for the lower bound in the size hint. If nothing was reserved, it is 0.
-    pub pushed : (h : ℕ) × IsWithinCount h limit × IsAfterExtend rule R v h w
+  -- `IsCollectedList rule R a w limit` describes a new list `w` that was made from the items of an
+  -- iterator. The allocator is `a`, the growth rule is `rule`, and the item type is `R`. The
+  -- iterator could yield at most `limit` items.
+  pub record IsCollectedList (rule : GrowthRule) (R : RattleType) (a : A) (w : ListView T A)
+      (limit : Count)
+      : Type 0 where
+    -- In this case, nothing was allocated.
+    pub none : size limit ≡ 0 → w.capacity ≡ 0
+    -- The number `h` stands for the lower bound in the size hint. If nothing was allocated before
+    -- the pushes, it is 0.
+    pub pushed : (h : ℕ) × IsWithinCount h limit × IsAfterCollect rule R h w
+    pub made : IsFreshList R a w
+
+  -- `ExtendsList rule R v xs w` describes a call that appended the items `xs` to a list, and
+  -- changed the list from `v` to `w`. The growth rule is `rule`, and the item type is `R`. The call
+  -- may have succeeded, or it may have failed after it had appended `xs`.
+  abbrev pub ExtendsList : GrowthRule → RattleType → ListView T A → List T → ListView T A → Type 0
+  ExtendsList rule R v xs w =
+      (w.items ≡ v.items ++ xs) × (length w.items ≡ length v.items + length xs)
+      × ((h : ℕ) × IsAfterExtend rule R v h w) × PreservesList R v w
+
+  -- `IsCollectedFrom R xs v` states what std's `FromIterator` guarantees about a list `v` that was
+  -- made from the items `xs`. `R` is the type of the items, and the growth rule is `doubling`.
+  abbrev pub IsCollectedFrom : RattleType → List T → ListView T A → Type 0
+  IsCollectedFrom R xs v =
+      (v.items ≡ xs) × (length v.items ≡ length xs) × IsCheap v × IsBounded R v
+      × ((h : ℕ) × IsAfterCollect doubling R h v)
 
   -- `CostsInserting n v w` bounds the recorded cost of a call that added items to a list, and
   -- changed the list from `v` to `w`. Each added item costs one move, and moving the items that
   -- were already in `v` costs at most `n` moves in total. The fields add on both sides of `≤`
-  -- rather than subtract, because a subtraction on `ℕ` ends at 0.
+  -- rather than subtract, because a subtraction on `ℕ` ends at 0. No contract of this crate says
+  -- this: lemmas of `PushesLemmas` derive it.
   pub record CostsInserting (n : ℕ) (v w : ListView T A) : Type 0 where
     -- There were at least as many moves as added items.
     pub least : v.cost.moves + length w.items ≤ w.cost.moves + length v.items
@@ -102,71 +127,3 @@ module _ {T A : Type 0} where
         × (v.cost.grown + length v.items ≤ w.cost.grown)
     -- The call copied at most as many items as the capacity has grown by.
     pub copied : w.cost.grown + v.capacity ≤ v.cost.grown + w.capacity
-
-  -- `CostsExtending v w` bounds the recorded cost of a call that appended the items of an iterator,
-  -- and changed the list from `v` to `w`.
-  pub record CostsExtending (v w : ListView T A) : Type 0 where
-    pub inserting : CostsInserting 0 v w
-    -- There was at most one request for memory, and one more for each added item.
-    pub requests : w.cost.blocks ≤ v.cost.blocks + 1 + (length w.items - length v.items)
-
-  -- `IsCollectedList rule R a w limit` describes a new list `w` that was made from the items of an
-  -- iterator. The allocator is `a`, the growth rule is `rule`, and the item type is `R`. The
-  -- iterator could yield at most `limit` items.
-  pub record IsCollectedList (rule : GrowthRule) (R : RattleType) (a : A) (w : ListView T A)
-      (limit : Count)
-      : Type 0 where
-    -- In this case, nothing was allocated.
-    pub none : size limit ≡ 0 → w.capacity ≡ 0
-    -- The number `h` stands for the lower bound in the size hint. If nothing was allocated before
-    -- the pushes, it is 0.
-    pub pushed : (h : ℕ) × IsWithinCount h limit × IsAfterCollect rule R h w
-    -- This follows from `pushed`, and so does `requests`.
-    pub moves : w.cost.moves ≡ length w.items
-    -- There was at most one request for memory, and one more for each item.
-    pub requests : w.cost.blocks ≤ 1 + length w.items
-    pub made : IsFreshList R a w
-
-  -- `ExtendsList rule R v xs w` describes a call that appended the items `xs` to a list, and
-  -- changed the list from `v` to `w`. The growth rule is `rule`, and the item type is `R`. The call
-  -- may have succeeded, or it may have failed after it had appended `xs`.
-  abbrev pub ExtendsList : GrowthRule → RattleType → ListView T A → List T → ListView T A → Type 0
-  ExtendsList rule R v xs w =
-      (w.items ≡ v.items ++ xs) × (length w.items ≡ length v.items + length xs)
-      × (v.capacity ≤ w.capacity)
-      × ((h : ℕ) × IsAfterExtend rule R v h w)
-      × CostsInserting 0 v w
-      × (w.alloc ≡ v.alloc) × (IsCheap v → IsCheap w) × IsBounded R w
-
-  -- `IsCollectedFrom R xs v` states what std's `FromIterator` guarantees about a list `v` that was
-  -- made from the items `xs`. `R` is the type of the items, and the growth rule is `doubling`.
-  abbrev pub IsCollectedFrom : RattleType → List T → ListView T A → Type 0
-  IsCollectedFrom R xs v =
-      (v.items ≡ xs) × (length v.items ≡ length xs) × (v.cost.moves ≡ length xs) × IsCheap v
-      × IsBounded R v × ((h : ℕ) × IsAfterCollect doubling R h v)
-
-  -- `IsExtendCause rule R w limit error` states why a call to `extend` failed with `error`. The
-  -- growth rule is `rule`, the item type is `R`, and the list after the call is `w`. The rest of
-  -- the iterator may yield at most `limit` items.
-  pub record IsExtendCause {S : Type 0} (rule : GrowthRule) (R : RattleType) (w : ListView T A)
-      (limit : Count) (error : ExtendRefused T S) : Type 0 where
-    -- The list had no room for the item in `in_hand`.
-    pub by_push : IsSome error.in_hand → FailsForRoom rule R w 1 error.cause
-    -- The list had no room for `h` more items, where `h` is a possible lower bound in the size
-    -- hint, so at most `limit`. The contract cannot say which number `h` it was: std's contract of
-    -- `size_hint` bounds the result, but gives it no name.
-    pub by_hint : error.in_hand ≡ None
-        → (h : ℕ) × IsWithinCount h limit × FailsForRoom rule R w h error.cause
-
-  -- `IsCollectCause rule R limit error` states why a call to `from_iter` failed with `error`. The
-  -- growth rule is `rule`, and the item type is `R`. The rest of the iterator may yield at most
-  -- `limit` items.
-  pub record IsCollectCause {S : Type 0} (rule : GrowthRule) (R : RattleType) (limit : Count)
-      (error : CollectRefused T S A) : Type 0 where
-    -- The list had no room for the item in `in_hand`.
-    pub by_push : IsSome error.in_hand → FailsForRoom rule R error.list 1 error.cause
-    -- The call could not allocate a block of capacity `h`, a possible lower bound in the size hint.
-    pub by_hint : error.in_hand ≡ None
-        → (h : ℕ) × IsWithinCount h limit × (0 < h)
-        × ((error.cause ≡ CapacityOverflow)
-        ↔ (exact_capacity (type_size R) (type_align R) 0 h ≡ None))

@@ -1,10 +1,9 @@
 //! The method `splice`, which replaces the items of a range with the items of an iterator.
-ghost use Rattle.std.specs.Prelude.{◌≡◌, ◌+◌, ◌-◌, ◌*◌, ◌<◌, ◌≤◌, ◌++◌, List, [], IfErr, IsOk, MatchOption, OnErr, OnOk, Some, drop, length, slice_range, take};
+ghost use Rattle.std.specs.Prelude.{◌≡◌, ◌+◌, ◌-◌, ◌*◌, ◌<◌, ◌≤◌, ◌++◌, List, [], IfErr, IsOk, OnOk, Some, drop, length, slice_range, take};
 ghost use Rattle.std.specs.Iterator.{Drains, IsFinite, size};
 ghost use Rattle.std.specs.Iterator.Runs.{WholeRun};
 ghost use Rattle.std.specs.List.{remove_range};
 ghost use Rattle.thin_vec.specs.List.Capacity.{PreservesList};
-ghost use Rattle.thin_vec.specs.List.Extend.{CostsInserting};
 ghost use Rattle.thin_vec.specs.ThinVec.{HasRoomFor, IsBounded};
 ghost use Rattle.thin_block.specs.Block.{IsAllocatedBy};
 ghost use Rattle.thin_block.specs.Cost.{no_cost};
@@ -124,7 +123,7 @@ impl<
     G: Growth,
     H: IntoInner<Inner = OpenBlock<T, A>>,
 > Splice<'a, I, T, A, G, H> {
-    ghost use Rattle.thin_vec.specs.Edits.Splice.{HasSlotsFor, IsSpliceCause, SpliceErrorAccountsFor, SplicesCapacity, StopsBeforeTail, left_by_splice, splice_front, splice_iter, splice_range_len, splice_tail};
+    ghost use Rattle.thin_vec.specs.Edits.Splice.{FinishesAtEnd, FinishesBeforeTail, IsSpliceCause, SpliceErrorAccountsFor, left_by_splice, splice_front, splice_iter, splice_range_len, splice_tail};
 
     /// Drops the items of the range that were not yielded, and puts the items of the iterator in
     /// their place, up to its first `None`.
@@ -156,10 +155,9 @@ impl<
             (λ p. self.exit.0.now.items
             ≡ (splice_front self.entry ++ p.items) ++ splice_tail self.entry)) }
 
-        // When it must succeed, and when the list makes no request for memory. `had_room` follows
-        // from `capacity`.
-        ensures succeeds { HasSlotsFor self.entry (size (I.remaining (splice_iter self.entry)))
-            → IsOk result }
+        // When it must succeed, and when the list makes no request for memory.
+        ensures succeeds { size (I.remaining (splice_iter self.entry))
+            ≤ splice_range_len self.entry → IsOk result }
         ensures had_room { HasRoomFor (left_by_splice self.entry)
             (size (I.remaining (splice_iter self.entry)))
             → (self.exit.0.now.capacity ≡ (left_by_splice self.entry).capacity)
@@ -172,25 +170,19 @@ impl<
             (splice_iter self.entry) xs error) }
         ensures cause { IfErr result (λ error. IsSpliceCause G.rule T.row self.exit.0.now
             (splice_tail self.entry) (I.remaining error.rest) error) }
-        ensures at_end_held { IfErr result (λ error. splice_tail self.entry ≡ []
-            → error.held.items ≡ []) }
-        ensures at_end_in_hand { IfErr result (λ error. splice_tail self.entry ≡ []
-            → MatchOption error.in_hand
-            ((self.exit.0.now ≡ left_by_splice self.entry)
-            × (error.rest ≡ splice_iter self.entry))
-            (λ _. length self.exit.0.now.items ≡ self.exit.0.now.capacity)) }
-        ensures before_tail { IfErr result (λ error. 0 < length (splice_tail self.entry)
-            → StopsBeforeTail G.rule T.row (splice_range_len self.entry)
-            (length (splice_tail self.entry)) (left_by_splice self.entry) self.exit.0.now error) }
 
-        // In every case.
-        ensures capacity { SplicesCapacity G.rule T.row (splice_tail self.entry)
-            (splice_range_len self.entry) (left_by_splice self.entry) self.exit.0.now
-            (I.remaining (splice_iter self.entry)) }
-        // `cost` follows from `capacity`.
-        ensures cost { CostsInserting (2 * length (splice_tail self.entry))
-            (left_by_splice self.entry) self.exit.0.now }
+        // In every case. `moves` follows from `at_end` and `before_tail`.
+        ensures at_end { splice_tail self.entry ≡ [] → FinishesAtEnd G.rule T.row
+            (left_by_splice self.entry) self.exit.0.now (splice_iter self.entry)
+            (I.remaining (splice_iter self.entry)) result }
+        ensures before_tail { 0 < length (splice_tail self.entry) → FinishesBeforeTail G.rule T.row
+            (splice_range_len self.entry) (length (splice_tail self.entry))
+            (left_by_splice self.entry) self.exit.0.now
+            (I.remaining (splice_iter self.entry)) result }
         ensures preserved { PreservesList T.row (left_by_splice self.entry) self.exit.0.now }
+        ensures moves { self.exit.0.now.cost.moves + length (left_by_splice self.entry).items
+            ≤ (left_by_splice self.entry).cost.moves + 2 * length (splice_tail self.entry)
+            + length self.exit.0.now.items }
 
         // The slots of the range are a part of the capacity.
         ensures range_room { HasRoomFor (left_by_splice self.entry)

@@ -1,13 +1,16 @@
 //! The methods `extend` and `from_iter`, which move the items of an iterator into a list.
-ghost use Rattle.std.specs.Prelude.{◌≡◌, ◌+◌, ◌-◌, ◌<◌, ◌≤◌, List, ◌++◌, IfErr, IfOk, IsOk, IsSome, MatchOption, None, OnErr, OnOk, Some, length};
+ghost use Rattle.std.specs.Prelude.{◌≡◌, ◌↔◌, ℕ, ◌+◌, ◌-◌, ◌<◌, ◌≤◌, List, ◌++◌, IfErr, IfOk, IsOk, IsSome, MatchOption, None, OnErr, OnOk, Some, length};
+ghost use Rattle.std.specs.Align.{type_align};
 ghost use Rattle.std.specs.Iterator.Runs.{SomeRun, WholeRun};
+ghost use Rattle.std.specs.Iterator.SizeHint.{IsWithinCount};
 ghost use Rattle.std.specs.Iterator.{Drains, IsFinite, size};
+ghost use Rattle.std.specs.Mem.{type_size};
 ghost use Rattle.std.specs.Option.{option_to_list};
 ghost use Rattle.thin_block.specs.Cost.{add_moves};
-ghost use Rattle.thin_block.specs.Growth.{doubling};
+ghost use Rattle.thin_block.specs.Growth.{doubling, exact_capacity};
 ghost use Rattle.thin_vec.specs.Cheap.{IsCheap};
-ghost use Rattle.thin_vec.specs.List.Capacity.{PreservesList};
-ghost use Rattle.thin_vec.specs.List.Extend.{ExtendsList, ExtendsCapacity, IsCollectCause, IsCollectedList, IsExtendCause, CostsExtending, IsAfterPushes, IsCollectedFrom, YieldsAndCanContinue};
+ghost use Rattle.thin_vec.specs.List.Capacity.{FailsForRoom, PreservesList};
+ghost use Rattle.thin_vec.specs.List.Extend.{ExtendsList, IsAfterExtend, IsAfterPushes, IsCollectedFrom, IsCollectedList, YieldsAndCanContinue};
 ghost use Rattle.thin_vec.specs.Put.{IsFilledBy};
 ghost use Rattle.thin_vec.specs.ThinVec.{HasRoomFor, IsNew, IsBounded};
 
@@ -53,13 +56,20 @@ impl<T, A: Allocator, G: Growth> ThinVec<T, A, G> {
         ensures in_hand { IfErr result (λ error. MatchOption error.in_hand
             ((self.new ≡ self.old) × (error.rest ≡ iter))
             (λ _. length self.new.items ≡ self.new.capacity)) }
-        ensures cause { IfErr result
-            (λ error. IsExtendCause G.rule T.row self.new (I.remaining error.rest) error) }
+        // The list had no room for `k` more items: for the item in hand, or for a possible lower
+        // bound in the size hint. Which bound it was, the contract of `size_hint` does not say.
+        ensures cause { IfErr result (λ error. (k : ℕ)
+            × MatchOption error.in_hand (IsWithinCount k (I.remaining error.rest)) (λ _. k ≡ 1)
+            × FailsForRoom G.rule T.row self.new k error.cause) }
 
-        // In every case.
-        ensures capacity { ExtendsCapacity G.rule T.row self.old self.new (I.remaining iter) }
-        // `cost` follows from `capacity`.
-        ensures cost { CostsExtending self.old self.new }
+        // In every case. The number `h` stands for the lower bound in the size hint. If nothing was
+        // reserved, it is 0. `moves` follows from `capacity`.
+        ensures had_room { HasRoomFor self.old (size (I.remaining iter))
+            → self.new.capacity ≡ self.old.capacity }
+        ensures capacity { (h : ℕ) × IsWithinCount h (I.remaining iter)
+            × IsAfterExtend G.rule T.row self.old h self.new }
+        ensures moves { self.new.cost.moves + length self.old.items
+            ≡ self.old.cost.moves + length self.new.items }
         ensures preserved { PreservesList T.row self.old self.new }
     {
         match self.reserve(iter.size_hint().0) {
@@ -95,8 +105,7 @@ impl<T, A: Allocator, G: Growth> ThinVec<T, A, G> {
             (xs ++ option_to_list error.in_hand) error.rest) }
         ensures in_hand { IfErr result (λ error. IsSome error.in_hand) }
         ensures err_full { OnErr result (length self.new.items ≡ self.new.capacity) }
-        ensures cause { IfErr result
-            (λ error. IsExtendCause G.rule T.row self.new (I.remaining error.rest) error) }
+        ensures cause { IfErr result (λ error. FailsForRoom G.rule T.row self.new 1 error.cause) }
 
         // In every case.
         ensures had_room { HasRoomFor self.old (size (I.remaining iter))
@@ -193,8 +202,13 @@ impl<T, A: Allocator> ThinVec<T, A> {
             (λ _. length error.list.items ≡ error.list.capacity)) }
         ensures err { IfErr result
             (λ error. IsCollectedList doubling T.row alloc error.list (I.remaining iter)) }
-        ensures cause { IfErr result
-            (λ error. IsCollectCause doubling T.row (I.remaining error.rest) error) }
+        // The list had no room for the item in hand, or the call could not allocate a block of
+        // capacity `h`, a possible lower bound in the size hint.
+        ensures cause { IfErr result (λ error. MatchOption error.in_hand
+            ((h : ℕ) × IsWithinCount h (I.remaining error.rest) × (0 < h)
+            × ((error.cause ≡ ThinVecError.CapacityOverflow)
+            ↔ (exact_capacity (type_size T.row) (type_align T.row) 0 h ≡ None)))
+            (λ _. FailsForRoom doubling T.row error.list 1 error.cause)) }
     {
         let mut list = ThinVec::new(alloc);
         match list.reserve_exact(iter.size_hint().0) {

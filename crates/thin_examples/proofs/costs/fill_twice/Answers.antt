@@ -12,7 +12,7 @@ doubled : (g : _) (c : In-Ok g)
     × (c.extend.new.self.cost.grown ≡ c.args.list.now.cost.grown + c.args.list.now.capacity)
 doubled g c =
     let v = c.args.list.now in let w = c.extend.new.self in
-    let pushed = c.in-Ok.ensures.capacity.pushed in
+    let pushed = c.in-Ok.ensures.capacity in
     let items : w.items ≡ v.items ++ c.args.numbers.now = search rules in
     let within : pushed.0 ≤ length c.args.numbers.now = search rules in
     let long = length-append v.items c.args.numbers.now in

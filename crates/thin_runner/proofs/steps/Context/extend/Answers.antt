@@ -6,9 +6,11 @@ use Rattle.std.specs.Iterator.{at_most, size}
 use Rattle.std.specs.Option.{option_to_list}
 use Rattle.thin_runner.specs.Hinted.{hinted_count, hinted_items}
 use Rattle.thin_runner.proofs.HintedLemmas.{drains-items, yields-claim, yields-items}
-use Rattle.thin_runner.proofs.SplicesLemmas.{at-end, at-no-in-hand, at-some-in-hand, places-end, replaces, without_range-end}
-use Rattle.thin_vec.proofs.PushesLemmas.{extends-splices}
+use Rattle.thin_runner.proofs.SplicesLemmas.{at-end, at-no-in-hand, at-some-in-hand, extends-splices, places-end, replaces, without_range-end}
+use Rattle.thin_vec.proofs.PushesLemmas.{extend-costs}
+use Rattle.thin_vec.specs.List.Capacity.{FailsForRoom}
 use Rattle.thin_vec.specs.ThinVec.{HasRoomFor}
+use denote.Param.{param}
 use Rattle.thin_runner.proofs.steps.Context.extend.Goals as goal
 
 pub returns-in-Ok : goal.returns-in-Ok
@@ -22,7 +24,9 @@ returns-in-Ok g c =
       allowed = (
         tt,
         replaces ((e.items.2 ∙ ap (λ l. old.items ++ l) items) ∙ sym (at-end old.items _))
-            (extends-splices (drop-length old.items) e.capacity) e.cost.inserting e.preserved
+            (extends-splices (drop-length old.items) e.had_room e.capacity)
+            (extend-costs g.met.G.Growth.law e.items.0 e.items.2 e.preserved e.capacity.2).inserting
+            e.preserved
             (sym (without_range-end old)) count (omega arith) refl refl,
       );
     }
@@ -32,7 +36,8 @@ returns-in-Err g c =
     let e = c.in-Err.ensures in
     let old = c.args.list.now in
     let rest = c.in-Err.refused.rest in
-    let one = option_to_list c.in-Err.refused.in_hand in
+    let hand = c.in-Err.refused.in_hand in
+    let one = option_to_list hand in
     let all = yields-items c.new.result rest (e.placed.0 ++ one) e.placed.2.gave in
     let claim = yields-claim c.new.result rest (e.placed.0 ++ one) e.placed.2.gave in
     let none = c.new-in-Err-2.ensures.items in
@@ -54,20 +59,25 @@ returns-in-Err g c =
                 ∙ sym (ap (λ h. e.placed.0 ++ (h ++ (one ++ hinted_items rest))) none)));
             claim = claim ∙ c.new.ensures.lower;
             filled = replaces (e.placed.1 ∙ sym (at-end old.items e.placed.0))
-                (extends-splices (drop-length old.items) e.capacity) e.cost.inserting e.preserved
-                (sym (without_range-end old)) count (omega arith) refl refl;
+                (extends-splices (drop-length old.items) e.had_room e.capacity)
+                (extend-costs g.met.G.Growth.law e.placed.0 e.placed.1 e.preserved
+                e.capacity.2).inserting
+                e.preserved (sym (without_range-end old)) count (omega arith) refl refl;
             no_room = places-end old ⊥ may
                 (λ nothing. false≢true
                 (e.succeeds (omega (arith, nothing, most, e.preserved.within.0.room)))) full;
-            by_hint = λ _ empty. e.cause.by_hint empty;
+            by_hint = λ _ empty. (e.cause.0, at-no-in-hand _ _ hand e.cause.1 empty, e.cause.2);
             by_held = λ some _. absurd (omega (arith, ap length none, some));
             by_in_hand = λ more. absurd (omega (arith, more));
-            by_push = λ _ some. (e.cause.by_push some).1;
+            by_push = λ _ some. (subst
+                (λ k. FailsForRoom g.G.Growth.rule (param 0 g.row.T) c.extend.new.self k
+                c.in-Err.refused.cause)
+                (at-some-in-hand _ _ hand e.cause.1 some) e.cause.2).1;
             ended = λ nothing some. absurd (omega (arith, ap length none, some));
             range = λ more. absurd (omega (arith, more));
-            at_end = λ end. (none, at-some-in-hand _ _ c.in-Err.refused.in_hand e.in_hand);
+            at_end = λ end. (none, at-some-in-hand _ _ hand e.in_hand);
             unchanged = λ end empty.
-                (at-no-in-hand _ _ c.in-Err.refused.in_hand e.in_hand empty).0
+                (at-no-in-hand _ _ hand e.in_hand empty).0
                 ∙ sym (without_range-end old);
           },
         ),

@@ -1,14 +1,15 @@
 -- If a splice fails, each item of the iterator is in the list, in `held`, in `in_hand` or in
 -- `rest`.
-use Rattle.std.proofs.Common.{rules, inl, inr, ◌≡◌, ◌≤◌, ◌+◌, ◌*◌, ◌-◌, ◌++◌, ◌∙◌, ap, arith, drop, length, length-append, sym, take}
+use Rattle.std.proofs.Common.{rules, ◌≡◌, ◌≤◌, ◌+◌, ◌*◌, ◌-◌, ◌++◌, ◌∙◌, ap, arith, drop, length, length-append, sym, take}
 use Rattle.std.proofs.lemmas.Bool.{false≢true}
 use Rattle.std.specs.Iterator.{at_most, size}
 use mathlib.Core.Logic.{⊎_elim}
 use Rattle.thin_runner.specs.Hinted.{hinted_claim, hinted_count, hinted_items}
 use Rattle.thin_runner.proofs.HintedLemmas.{drains-items}
-use Rattle.thin_runner.proofs.SplicesLemmas.{at-no-in-hand, at-some-in-hand, no-tail, replaces, replaces-of, some-tail, stops-of, stopped-claim, stopped-ended, stopped-items, tail-count}
+use Rattle.thin_runner.proofs.SplicesLemmas.{at-no-in-hand, at-some-in-hand, finishes-splices, no-tail, replaces, replaces-of, some-tail, stops-of, stopped-claim, stopped-ended, stopped-items, tail-count}
 use Rattle.thin_runner.specs.commands.Splices.{without_range}
 use Rattle.thin_vec.specs.Edits.Splice.{left_by_splice, splice_front, splice_iter, splice_range_len, splice_tail}
+use Rattle.thin_vec.proofs.PushesLemmas.{finish-costs}
 use Rattle.thin_vec.specs.ThinVec.{HasRoomFor}
 use Rattle.thin_runner.proofs.steps.Context.splice.Goals.{After-take_ends}
 use Rattle.thin_runner.proofs.steps.Context.splice.Goals as goal
@@ -63,8 +64,10 @@ returns-in-Ok-finish g c =
           search rules,
           replaces-of written
               (replaces (e.items.2 ∙ (λ i. (front g at i ++ all i) ++ tail g at i))
-              e.capacity e.cost e.preserved (left g at) (count g at) (moved g at)
-              (tail g at) (range g at)),
+              (finishes-splices e.had_room e.at_end e.before_tail)
+              (finish-costs c.take_ends.new.splice g.met.G.Growth.law e.items.0 e.items.2 e.at_end
+              e.before_tail e.range_room)
+              e.preserved (left g at) (count g at) (moved g at) (tail g at) (range g at)),
         ),
       );
     }
@@ -99,21 +102,20 @@ returns-in-Err-finish g c =
             all = sym (items g at) ∙ stopped-items drawn placed refused e.placed.2;
             claim = stopped-claim drawn placed refused e.placed.2 ∙ claim g at;
             filled = replaces (e.placed.1 ∙ (λ i. (front g at i ++ placed) ++ tail g at i))
-                e.capacity e.cost e.preserved (left g at) (count g at) (moved g at)
-                (tail g at) (range g at);
+                (finishes-splices e.had_room e.at_end e.before_tail)
+                (finish-costs c.take_ends.new.splice g.met.G.Growth.law placed e.placed.1 e.at_end
+                e.before_tail e.range_room)
+                e.preserved (left g at) (count g at) (moved g at) (tail g at) (range g at);
             no_room = λ places. false≢true (⊎_elim
-                (λ (few : may ≤ end - start). e.succeeds (inl (omega (arith, few, most, width))))
+                (λ (few : may ≤ end - start). e.succeeds (omega (arith, few, most, width)))
                 (λ (room : (end ≡ length xs)
                 × HasRoomFor (without_range c.args.list.now start end) may).
-                e.succeeds (inr (
-                  no-tail xs after end (tail g at) room.0,
-                  omega (
-                    arith,
-                    room.1,
-                    most,
-                    ap (λ v. length v.items) (left g at),
-                    ap (λ v. v.capacity) (left g at),
-                  ),
+                (e.at_end (no-tail xs after end (tail g at) room.0)).succeeds (omega (
+                  arith,
+                  room.1,
+                  most,
+                  ap (λ v. length v.items) (left g at),
+                  ap (λ v. v.capacity) (left g at),
                 ))) places);
             by_hint = e.cause.by_hint;
             by_held = e.cause.by_held;
@@ -135,11 +137,11 @@ returns-in-Err-finish g c =
               length-append (take start xs) (drop end xs),
             );
             at_end = λ full.
-                let none = no-tail xs after end (tail g at) full in
-                (e.at_end_held none, at-some-in-hand _ _ refused.in_hand (e.at_end_in_hand none));
+                let last = e.at_end (no-tail xs after end (tail g at) full) in
+                (last.held, at-some-in-hand _ _ refused.in_hand last.in_hand);
             unchanged = λ full none.
                 (at-no-in-hand _ _ refused.in_hand
-                (e.at_end_in_hand (no-tail xs after end (tail g at) full)) none).0
+                (e.at_end (no-tail xs after end (tail g at) full)).in_hand none).0
                 ∙ left g at;
           }),
         ),

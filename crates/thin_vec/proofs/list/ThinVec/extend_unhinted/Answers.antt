@@ -11,7 +11,6 @@ use Rattle.thin_vec.specs.Put.{YieldsThenMayEnd}
 use Rattle.thin_vec.proofs.list.ExtendLemmas.{spare-kept, yields-join, yields-more}
 use Rattle.thin_vec.proofs.PushesLemmas.{after-filled, after-none, after-pushed}
 use Rattle.thin_vec.proofs.list.ReservesLemmas.{keeps-join}
-use Rattle.thin_block.proofs.ResultLemmas.{none-some}
 use Rattle.thin_vec.proofs.list.ThinVec.extend_unhinted.Goals.{After-fill_spare-left, Else-ended}
 use Rattle.thin_vec.proofs.list.ThinVec.extend_unhinted.Goals as goal
 
@@ -205,12 +204,8 @@ returns-in-Err-clause-succeeds g c = λ fit.
 
 pub returns-in-Err-clause-cause : goal.returns-in-Err-clause-cause
 returns-in-Err-clause-cause g c =
-    record {
-      by_push = λ _. subst
-          (λ v. FailsForRoom g.G.Growth.rule (param 0 g.row.T) v 1 c.in-Err.refused.cause)
-          (sym c.in-Err.ensures.err) c.in-Err.ensures.cause;
-      by_hint = λ none. absurd (none-some none refl);
-    }
+    subst (λ v. FailsForRoom g.G.Growth.rule (param 0 g.row.T) v 1 c.in-Err.refused.cause)
+    (sym c.in-Err.ensures.err) c.in-Err.ensures.cause
 
 kept : (g : _) (c : After-fill_spare-left g) → PreservesList (param 0 g.row.T) c.args.self.now
     c.fill_spare-left.new.self

@@ -1,14 +1,15 @@
 -- `close` leaves only the items before the range, and `extend` appends the items of the iterator.
-use Rattle.std.proofs.Common.{◌≡◌, ◌++◌, ◌∙◌, ap, arith, length, length-append, refl, subst, sym}
+use Rattle.std.proofs.Common.{◌≡◌, ◌++◌, ◌∙◌, ℕ, ap, arith, length, length-append, subst, sym}
 use Rattle.std.specs.Iterator.{size}
+use Rattle.std.specs.Iterator.SizeHint.{IsWithinCount}
 use Rattle.std.specs.Prelude.{MatchOption}
 use denote.Param.{param}
 use Rattle.thin_vec.specs.Edits.Finish.{AddsFromIter, without_middle}
-use Rattle.thin_vec.specs.Edits.Splice.{SplicesCapacity}
-use Rattle.thin_vec.specs.List.Extend.{ExtendsCapacity}
+use Rattle.thin_vec.specs.List.Extend.{IsAfterExtend}
 use Rattle.thin_vec.specs.ThinVec.{HasRoomFor}
-use Rattle.thin_vec.proofs.edits.SpliceLemmas.{after-items, closed-left, stop-at-end, stopped-now, when-some}
-use Rattle.thin_vec.proofs.PushesLemmas.{extends-splices}
+use Rattle.thin_vec.proofs.edits.SpliceLemmas.{after-items, closed-left, stop-at-end, stopped-now}
+use Rattle.thin_vec.proofs.PushesLemmas.{extended-costs}
+use Rattle.thin_vec.proofs.list.ExtendLemmas.{placed-longer}
 use Rattle.thin_vec.proofs.edits.FinishLemmas.{finished-ok}
 use Rattle.thin_vec.specs.declared.errors.SpliceRefused.{SpliceRefused}
 use Rattle.thin_vec.proofs.list.ThinVec.finish_at_end.Goals.{After-extend}
@@ -25,23 +26,27 @@ taken : (g : _) (c : After-extend g)
     (g.I.Iterator.remaining c.args.iter)
 taken g c =
     let w = c.extend.new.self in let more = g.I.Iterator.remaining c.args.iter in
+    let e = c.extend.ensures in
+    let costs = extended-costs g.G.Growth.rule (param 0 g.row.T) g.met.G.Growth.law c.close.new.self w
+    e.capacity.0 e.preserved.within.0.room (placed-longer _ _ c.extend.result _ _ e.items e.placed)
+    e.capacity.2 in
     let now : AddsFromIter c.close.new.self w more = record {
-      never_less = c.extend.ensures.preserved.never_less;
-      had_room = c.extend.ensures.capacity.had_room;
-      kept = λ same. (c.extend.ensures.cost.inserting.kept same).0;
-      alloc = c.extend.ensures.preserved.alloc;
-      cheap = c.extend.ensures.preserved.cheap;
+      never_less = e.preserved.never_less;
+      had_room = e.had_room;
+      kept = λ same. (costs.inserting.kept same).0;
+      alloc = e.preserved.alloc;
+      cheap = e.preserved.cheap;
     } in
     subst (λ z. AddsFromIter z w more) (left g c) now
 
-capacity : (g : _) (c : After-extend g)
-    → SplicesCapacity g.G.Growth.rule (param 0 g.row.T) c.args.block.tail c.args.block.gap_before
-    (without_middle c.args.block c.args.self.now.alloc) c.extend.new.self
-    (g.I.Iterator.remaining c.args.iter)
-capacity g c =
-    extends-splices c.requires.no_tail
-    (subst (λ z. ExtendsCapacity g.G.Growth.rule (param 0 g.row.T) z c.extend.new.self
-    (g.I.Iterator.remaining c.args.iter)) (left g c) c.extend.ensures.capacity)
+after : (g : _) (c : After-extend g)
+    → (h : ℕ) × IsWithinCount h (g.I.Iterator.remaining c.args.iter)
+    × IsAfterExtend g.G.Growth.rule (param 0 g.row.T)
+    (without_middle c.args.block c.args.self.now.alloc) h c.extend.new.self
+after g c =
+    subst (λ z. (h : ℕ) × IsWithinCount h (g.I.Iterator.remaining c.args.iter)
+    × IsAfterExtend g.G.Growth.rule (param 0 g.row.T) z h c.extend.new.self) (left g c)
+    c.extend.ensures.capacity
 
 pub returns-in-Ok : goal.returns-in-Ok
 returns-in-Ok g c =
@@ -53,7 +58,8 @@ returns-in-Ok g c =
       gave.2 ∙ (ap (λ z. z.items ++ gave.0) (left g at)
           ∙ after-items v gave.0 c.requires.no_tail),
     )
-    (taken g at) (capacity g at)
+    (taken g at) (λ _. after g at)
+    (λ some. absurd (omega (arith, some, ap length c.requires.no_tail)))
 
 pub returns-in-Err : goal.returns-in-Err
 returns-in-Err g c =
@@ -75,8 +81,6 @@ returns-in-Err g c =
         ap (λ z. z.capacity) is,
         length-append v.front v.tail,
       ));
-      succeeds_at_end = λ _ fit. c.in-Err.ensures.succeeds
-          (subst (λ z. HasRoomFor z (size (g.I.Iterator.remaining c.args.iter))) (sym is) fit);
       items = tt;
       longer = omega (
         arith,
@@ -85,7 +89,17 @@ returns-in-Err g c =
         ap (λ z. length z.items) is,
       );
       taken = taken g at;
-      capacity = capacity g at;
+      at_end = λ _. record {
+        succeeds = λ fit. c.in-Err.ensures.succeeds
+            (subst (λ z. HasRoomFor z (size (g.I.Iterator.remaining c.args.iter))) (sym is) fit);
+        after = after g at;
+        held = none;
+        in_hand = subst (λ z. MatchOption refused.in_hand
+            ((c.extend.new.self ≡ z) × (refused.rest ≡ c.args.iter))
+            (λ _. length c.extend.new.self.items ≡ c.extend.new.self.capacity)) is
+            c.in-Err.ensures.in_hand;
+      };
+      before_tail = λ some. absurd (omega (arith, some, ap length c.requires.no_tail));
       placed = (
         gave.0,
         gave.1 ∙ (ap (λ z. z.items ++ gave.0) is
@@ -93,15 +107,7 @@ returns-in-Err g c =
         stopped-now g.I.Iterator.next_gives g.I.Iterator.can_next g.I.Iterator.remaining
             c.args.iter gave.0 error none gave.2,
       );
-      stops = λ some. absurd (omega (arith, some, ap length c.requires.no_tail));
-      held = λ _. none;
-      in_hand = λ _. subst (λ z. MatchOption refused.in_hand
-          ((c.extend.new.self ≡ z) × (refused.rest ≡ c.args.iter))
-          (λ _. length c.extend.new.self.items ≡ c.extend.new.self.capacity)) is
-          c.in-Err.ensures.in_hand;
       cause = stop-at-end g.G.Growth.rule (param 0 g.row.T) c.extend.new.self v.tail
-          (g.I.Iterator.remaining refused.rest) error refused c.requires.no_tail none refl refl
-          (λ some room. let full = when-some _ _ refused.in_hand c.in-Err.ensures.in_hand some in
-          omega (arith, room, full))
+          (g.I.Iterator.remaining refused.rest) error c.requires.no_tail none
           c.in-Err.ensures.cause;
     }

@@ -9,7 +9,7 @@ use Rattle.thin_vec.specs.List.Capacity.{FailsForRoom}
 use Rattle.thin_vec.specs.List.Extend.{YieldsAndCanContinue}
 use Rattle.thin_vec.specs.Put.{YieldsThenMayEnd}
 use Rattle.thin_block.proofs.CapacityLemmas.{ruled-same}
-use Rattle.thin_vec.proofs.PushesLemmas.{growth-once, growth-same, spliced-none, splices-before}
+use Rattle.thin_vec.proofs.PushesLemmas.{growth-once, growth-same, spliced-none}
 use Rattle.thin_vec.proofs.PutLemmas.{filled-fits}
 use Rattle.thin_vec.specs.Edits.Splice.{IsAfterSplice, cost_after_growth}
 use Rattle.thin_block.specs.Cost.{add_moves}
@@ -62,10 +62,10 @@ returns-then-ended g c =
     let v = c.args.block in
     let here = (goal.at.returns-then-ended g c).After-close in
     let p = filled g here in
-    let taken = filled-taken p (param 0 g.row.T) (g.I.Iterator.remaining c.args.iter) in
     finished-ok v c.args.self.now.alloc c.args.iter c.close.new.self tt
-    (p.0.items, filled-drains p c.if-ended.true, p.1.items) taken
-    (splices-before c.requires.nonempty taken.had_room (kept g here).0)
+    (p.0.items, filled-drains p c.if-ended.true, p.1.items)
+    (filled-taken p (param 0 g.row.T) (g.I.Iterator.remaining c.args.iter))
+    (λ none. absurd (omega (arith, c.requires.nonempty, ap length none))) (λ _. (kept g here).0)
 
 -- If the iterator has not ended, all slots of the range are full.
 slots : (g : _) (c : After-close g) → c.fill-rest.result.ended ≡ false
@@ -101,7 +101,7 @@ returns-in-Err g c =
     let grew = subst (λ z. (q : IsAfterSplice rule T v.gap_before (length v.tail)
     (without_middle v a) z (left c.args.iter)) × (q.hint ≡ 0)) (sym same) (kept g at) in
     finished-from v a c.args.iter w
-    (Err error) g.met.G.Growth.law here c.requires.nonempty (room g at)
+    (Err error) here c.requires.nonempty
     c.in-Err.ensures.succeeds tt
     (stopped-now steps can left t [] error c.new.ensures.items
     (subst (λ r. YieldsAndCanContinue steps can left t [] r) (sym rest) (record {
@@ -135,8 +135,7 @@ returns-then-ended-2 g c =
     let at = c.fill-rest.result.end in
     let tails = reached-long first in
     let long = ap length q.4 ∙ inserted-long u.items q.3.items at (omega (arith, tails)) in
-    finished-from v a c.args.iter w (Ok tt) g.met.G.Growth.law first c.requires.nonempty
-    (room g here) (λ _. refl) (
+    finished-from v a c.args.iter w (Ok tt) first c.requires.nonempty (λ _. refl) (
       q.3.items,
       (f.rest, subst (λ b. YieldsThenMayEnd g.I.Iterator.next_gives t q.3.items b f.rest) c.if-ended-2.true q.3.gave),
       q.4,
@@ -147,7 +146,7 @@ returns-then-ended-2 g c =
     (record {
       hint = q.0;
       within = inr reserved.0;
-      in_range = λ few. absurd (omega (arith, few, long, slots g here c.if-ended.false));
+      short = λ few. absurd (omega (arith, few, long, slots g here c.if-ended.false));
       reserved = w.capacity;
       reserves = reserved.1;
       capacity = ruled-same rule _ _ w.capacity (length w.items) c.in-Ok.ensures.room;
@@ -184,8 +183,7 @@ returns-else-ended-2 g c =
     let held = length w.items - length y.items
     + (if eqb (length w.items) (length y.items) then 0
     else length y.items - c.in-Ok.filled.end) in
-    finished-from v a c.args.iter w c.insert_held.result g.met.G.Growth.law last
-    c.requires.nonempty (room g here)
+    finished-from v a c.args.iter w c.insert_held.result last c.requires.nonempty
     c.insert_held.ensures.succeeds c.insert_held.ensures.items c.insert_held.ensures.placed
     (if-err c.insert_held.result (λ refused is now. now v.tail c.requires.nonempty)
     c.insert_held.ensures.cause)
@@ -197,7 +195,7 @@ returns-else-ended-2 g c =
     (record {
       hint = q.0;
       within = inr reserved.0;
-      in_range = λ few. absurd (omega (arith, few, full, c.insert_held.ensures.longer));
+      short = λ few. absurd (omega (arith, few, full, c.insert_held.ensures.longer));
       reserved = y.capacity;
       reserves = reserved.1;
       capacity = c.insert_held.ensures.capacity;

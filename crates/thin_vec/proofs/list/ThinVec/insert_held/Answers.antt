@@ -1,7 +1,7 @@
 -- `collect_rest` collects the items of the iterator in a vector. `open_with_gap` makes a gap with
 -- one slot for each of these items, and `fill_from_vec` moves the items into the gap. If memory
 -- runs out, the error contains the vector, and the item that did not fit into it, if there is one.
-use Rattle.std.proofs.Common.{if◌then◌else◌, false, Err, Some, ◌++◌, drop, take, inl, inr, ◌≡◌, ◌+◌, ◌-◌, ◌<◌, ◌∙◌, ap, arith, eqb, length, length-append, refl, subst, sym}
+use Rattle.std.proofs.Common.{if◌then◌else◌, false, Err, Some, ◌++◌, drop, take, inl, inr, ◌≡◌, ℕ, ◌+◌, ◌-◌, ◌<◌, ◌∙◌, ap, arith, eqb, length, length-append, refl, subst, sym}
 use Rattle.std.proofs.lemmas.Bool.{cases_lt, false≢true}
 use Rattle.std.proofs.lemmas.Bool.Decides.{nat_tests}
 use Rattle.std.specs.Option.{option_len, option_to_list}
@@ -18,6 +18,9 @@ use Rattle.thin_block.proofs.CapacityLemmas.{ruled-same}
 use Rattle.thin_block.proofs.ResultLemmas.{err-same}
 use Rattle.thin_vec.proofs.list.ThinVec.insert_held.Goals.{After-close, In-Err}
 use Rattle.thin_vec.proofs.list.ThinVec.insert_held.Goals as goal
+
+longer-not : (m n : ℕ) → n < m → eqb m n ≡ false
+longer-not m n more = grind (arith, nat_tests)
 
 count : (g : _) (c : In-Err g) → c.len-count.result ≡ length c.collect_rest-held.result.held.items
 count g c = c.len-count.ensures ∙ c.collect_rest-held.result.held.ok.0
@@ -78,8 +81,7 @@ cost g c =
     (ap (λ v. v.middle) c.fill_from_vec.ensures ∙ c.open_with_gap-block.ensures.middle)
     (ap (λ v. v.tail) c.fill_from_vec.ensures)
     all in
-    let more : 0 < c.len-count.result = omega (arith, count, some g c) in
-    let opened : eqb c.len-count.result 0 ≡ false = grind (arith, nat_tests, more) in
+    let opened = longer-not c.len-count.result 0 (omega (arith, count, some g c)) in
     let moves : k + (if eqb c.len-count.result 0 then 0 else n) + put.0 ≡ k + n =
     ap (λ b. k + (if b then 0 else n) + put.0) opened
     ∙ (let z : k + n + put.0 ≡ k + n = omega (arith, put.3 none) in z) in
@@ -89,10 +91,9 @@ cost g c =
 
 pub returns-in-Some-in_hand-clause-placed : goal.returns-in-Some-in_hand-clause-placed
 returns-in-Some-in_hand-clause-placed g c =
-    let gave = drawn-after g.I.Iterator.next_gives c.args.iter c.next.new.self
-    c.collect_rest-held.result.rest c.in-Some.first c.collect_rest-held.ensures.runs.0
-    c.collect_rest-held.result.held.items c.collect_rest-held.result.in_hand c.in-Some.ensures.steps
-    c.collect_rest-held.ensures.runs.1 c.collect_rest-held.ensures.runs.2 in
+    let r = c.collect_rest-held.result in
+    let gave = drawn-after g.I.Iterator.next_gives c.args.iter c.next.new.self r.rest c.in-Some.first
+    r.held.items r.in_hand c.in-Some.ensures.steps c.collect_rest-held.ensures.runs in
     let asked = c.collect_rest-held.ensures.can_next
     (subst IsSome (sym c.in-Some-in_hand.is) refl) in
     inl (
@@ -128,10 +129,9 @@ returns-in-Some-in_hand-clause-added g c =
 pub returns-in-Err-clause-placed : goal.returns-in-Err-clause-placed
 returns-in-Err-clause-placed g c =
     let here = (goal.at.returns-in-Err-clause-placed g c).In-Err in
-    let gave = drawn-after g.I.Iterator.next_gives c.args.iter c.next.new.self
-    c.collect_rest-held.result.rest c.in-Some.first c.collect_rest-held.ensures.runs.0
-    c.collect_rest-held.result.held.items c.collect_rest-held.result.in_hand c.in-Some.ensures.steps
-    c.collect_rest-held.ensures.runs.1 c.collect_rest-held.ensures.runs.2 in
+    let r = c.collect_rest-held.result in
+    let gave = drawn-after g.I.Iterator.next_gives c.args.iter c.next.new.self r.rest c.in-Some.first
+    r.held.items r.in_hand c.in-Some.ensures.steps c.collect_rest-held.ensures.runs in
     inr (refl, more g here, rw c.in_default-in_hand.is at gave)
 
 pub returns-in-Err-clause-succeeds : goal.returns-in-Err-clause-succeeds
@@ -177,7 +177,7 @@ pub returns-in-Err-clause-longer : goal.returns-in-Err-clause-longer
 returns-in-Err-clause-longer g c = omega (arith, ap (λ z. length z.items) c.in-Err.ensures.err)
 
 pub returns-in-Err-clause-err : goal.returns-in-Err-clause-err
-returns-in-Err-clause-err g c = search (arith, ◌∙◌)
+returns-in-Err-clause-err g c = c.in-Err.ensures.err
 
 long : (g : _) (c : After-close g) → length c.close.new.self.items
     ≡ length c.args.self.now.items + length c.collect_rest-held.result.held.items
@@ -212,8 +212,8 @@ returns-clause-paid g c =
     let v = c.args.self.now in let u = c.reserve.new.self in let w = c.close.new.self in
     let n = length c.collect_rest-held.result.held.items in
     let last = length v.items - c.args.at in
-    let longer : length v.items < length w.items = omega (arith, long g here, some g here) in
-    let other : eqb (length w.items) (length v.items) ≡ false = grind (arith, nat_tests, longer) in
+    let other = longer-not (length w.items) (length v.items)
+    (omega (arith, long g here, some g here)) in
     let count : n + (length u.items - c.args.at) ≡ length w.items - length v.items + last =
     omega (arith, long g here, ap length c.reserve.ensures.items) in
     let paid = c.in_default-reserve.ensures.cost ∙ ap (cost_after_resize v) (sym (capacity g here)) in
@@ -270,14 +270,12 @@ returns-clause-added g c =
 
 pub returns-clause-items : goal.returns-clause-items
 returns-clause-items g c =
-    let gave = drawn-after g.I.Iterator.next_gives c.args.iter c.next.new.self
-    c.collect_rest-held.result.rest c.in-Some.first c.collect_rest-held.ensures.runs.0
-    c.collect_rest-held.result.held.items c.collect_rest-held.result.in_hand c.in-Some.ensures.steps
-    c.collect_rest-held.ensures.runs.1 c.collect_rest-held.ensures.runs.2 in (
-      c.collect_rest-held.result.held.items,
-      (c.collect_rest-held.result.rest, rw c.in_default-in_hand.is at gave),
+    let r = c.collect_rest-held.result in
+    let gave = drawn-after g.I.Iterator.next_gives c.args.iter c.next.new.self r.rest c.in-Some.first
+    r.held.items r.in_hand c.in-Some.ensures.steps c.collect_rest-held.ensures.runs in (
+      r.held.items,
+      (r.rest, rw c.in_default-in_hand.is at gave),
       items g ((goal.at.returns-clause-items g c).After-close)
-          ∙ ap (λ l. (take c.args.at l ++ c.collect_rest-held.result.held.items) ++ drop
-          c.args.at l)
+          ∙ ap (λ l. (take c.args.at l ++ r.held.items) ++ drop c.args.at l)
           c.reserve.ensures.items,
     )

@@ -1,11 +1,11 @@
 -- `finish` drops the rest of the range, and then calls `finish_before_tail` or `finish_at_end`.
-use Rattle.std.proofs.Common.{[], inl, inr, ◌≡◌, ◌+◌, ◌≤◌, ◌++◌, ◌∙◌, ap, arith, length, length-append, subst}
+use Rattle.std.proofs.Common.{[], ◌≡◌, ◌+◌, ◌≤◌, ◌++◌, ◌∙◌, ap, arith, length, length-append, subst}
 use denote.Param.{param}
 use Rattle.thin_vec.specs.Edits.Finish.{FinishesSplice}
 use Rattle.thin_vec.specs.OpenView.{tail_end}
 use Rattle.thin_vec.specs.Edits.Splice.{left_by_splice, splice_front, splice_iter, splice_list, splice_tail}
 use Rattle.thin_block.proofs.CapacityLemmas.{fits-less}
-use Rattle.thin_vec.proofs.PushesLemmas.{splices-costs}
+use Rattle.thin_vec.proofs.PushesLemmas.{finished-costs}
 use Rattle.thin_vec.proofs.list.ExtendLemmas.{run_of_ok}
 use Rattle.thin_vec.proofs.edits.splice.Splice.finish.Goals.{else-has_tail, then-has_tail}
 use Rattle.thin_vec.proofs.edits.splice.Splice.finish.Goals as goal
@@ -51,22 +51,17 @@ returns g c =
       items = f.items;
       runs = run_of_ok steps s
           (λ xs. w.items ≡ (splice_front c.args.self ++ xs) ++ splice_tail c.args.self) r f.items;
-      succeeds = λ places. elim places [
-        | inl few ↦ f.succeeds few
-        | inr room ↦ f.succeeds_at_end room.0 room.1
-      ];
+      succeeds = f.succeeds;
       had_room = λ fit.
           let same = f.taken.had_room fit in
           (same, f.taken.kept same);
       range_room = room;
       placed = f.placed;
-      at_end_held = f.held;
-      at_end_in_hand = f.in_hand;
-      before_tail = f.stops;
       cause = f.cause;
-      capacity = f.capacity;
-      cost = splices-costs rule T (splice_tail c.args.self) _ left w _ g.met.G.Growth.law f.capacity
-          room f.longer;
+      at_end = f.at_end;
+      before_tail = f.before_tail;
+      moves_at_most = (finished-costs rule T (splice_tail c.args.self) _ left w s
+          (g.I.Iterator.remaining s) r g.met.G.Growth.law f.at_end f.before_tail room f.longer).moves;
       preserved = record {
         alloc = f.taken.alloc;
         never_less = le;

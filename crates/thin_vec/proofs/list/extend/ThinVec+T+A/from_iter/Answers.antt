@@ -6,9 +6,8 @@ use Rattle.std.proofs.lemmas.Bool.{cases_lt, false≢true}
 use denote.Param.{param}
 use Rattle.thin_block.proofs.ResultLemmas.{err-same}
 use Rattle.thin_block.specs.Growth.{doubling}
-use Rattle.thin_vec.proofs.list.ExtendLemmas.{exact-new, hand-empty, match-some, run_given, run_of}
-use Rattle.thin_vec.proofs.PushesLemmas.{after-none, collected-costs, exact-is}
-use Rattle.thin_block.specs.GrowthLaws.{doubling_law}
+use Rattle.thin_vec.proofs.list.ExtendLemmas.{exact-new, match-some, run_given, run_of}
+use Rattle.thin_vec.proofs.PushesLemmas.{after-none, collected-from, exact-is}
 use Rattle.thin_block.specs.Cost.{add_realloc}
 use Rattle.thin_vec.specs.ThinVec.{cost_after_resize, cost_of_new}
 use Rattle.thin_vec.specs.List.Extend.{IsAfterCollect, IsAfterPushes, IsCollectedList}
@@ -26,25 +25,23 @@ pushed g c =
     let paid : cost_after_resize c.new-list.result u.capacity ≡ cost_of_new hint =
     λ i. if made i == new.capacity i then new.cost i else add_realloc (length (new.items i))
     (new.cost i) in
-    subst (λ z. IsAfterPushes doubling (param 0 g.row.T) z c.extend_unhinted.new.self)
+    collected-from doubling (param 0 g.row.T) hint c.extend_unhinted.new.self
+    (subst (λ z. IsAfterPushes doubling (param 0 g.row.T) z c.extend_unhinted.new.self)
     (λ i. record {
       items = (c.reserve_exact.ensures.items ∙ new.items) i;
       capacity = made i;
       alloc = sym c.extend_unhinted.ensures.preserved.alloc i;
       cost = (c.in-Ok.ensures.cost ∙ paid) i;
     })
-    c.extend_unhinted.ensures.after
+    c.extend_unhinted.ensures.after)
 
 collected : (g : _) (c : After-extend_unhinted g)
     → IsCollectedList doubling (param 0 g.row.T) c.args.alloc c.extend_unhinted.new.self
     (g.I.Iterator.remaining c.args.iter)
 collected g c =
-    let w = c.extend_unhinted.new.self in
     let e = c.extend_unhinted.ensures in
     let items = ap length c.reserve_exact.ensures.items
     ∙ ap length c.new-list.ensures.new.items in
-    let after = pushed g c in
-    let paid = collected-costs doubling (param 0 g.row.T) doubling_law w c.size_hint.result.0 after in
     record {
       none = λ none.
           e.had_room (omega (arith, none, items))
@@ -54,9 +51,7 @@ collected g c =
             ap length c.new-list.ensures.new.items,
           ))
           ∙ c.new-list.ensures.new.capacity);
-      pushed = (c.size_hint.result.0, c.size_hint.ensures.lower, after);
-      moves = paid.0;
-      requests = paid.1;
+      pushed = (c.size_hint.result.0, c.size_hint.ensures.lower, pushed g c);
       made = record {
         alloc = search (arith, ◌∙◌);
         cheap = search (arith, ◌∙◌);
@@ -81,19 +76,13 @@ returns-in-Err-clause-err g c =
       pushed = (
         0,
         (λ _. omega arith),
-        after-none doubling (param 0 g.row.T)
+        collected-from doubling (param 0 g.row.T) 0 w (after-none doubling (param 0 g.row.T)
             (record w { items = []; capacity = 0; cost = cost_of_new 0 }) w (omega arith)
             (λ i. record w {
               items = (c.reserve_exact.ensures.items ∙ new.items) i;
               capacity = none i;
               cost = (ap (λ v. v.cost) c.in-Err.ensures.err ∙ new.cost) i;
-            }),
-      );
-      moves = search (arith, ◌∙◌);
-      requests = omega (
-        arith,
-        ap (λ v. v.cost.blocks) c.in-Err.ensures.err,
-        ap (λ k. k.blocks) c.new-list.ensures.new.cost,
+            })),
       );
       made = record {
         alloc = search (arith, ◌∙◌);
@@ -105,33 +94,25 @@ returns-in-Err-clause-err g c =
 pub returns-in-Err-clause-cause : goal.returns-in-Err-clause-cause
 returns-in-Err-clause-cause g c =
     let hint = c.size_hint.result.0 in let new = c.new-list.ensures.new in
-    let named = exact-new (param 0 g.row.T) _ _ hint new in
-    record {
-      by_push = λ some. absurd (false≢true some);
-      by_hint = λ _. (
-        hint,
-        c.size_hint.ensures.lower,
-        elim (cases_lt 0 hint) [
-          | inl some ↦ some
-          | inr none ↦
-              absurd (false≢true
-              (c.in-Err.ensures.succeeds (omega (arith, none, ap length new.items))))
-        ],
-        (
-          λ over. sym named ∙ c.in-Err.ensures.overflow.overflow.0 (ap Err over),
-          λ none. err-same (c.in-Err.ensures.overflow.overflow.1 (named ∙ none)),
-        ),
-      );
-    }
+    let named = exact-new (param 0 g.row.T) _ _ hint new in (
+      hint,
+      c.size_hint.ensures.lower,
+      elim (cases_lt 0 hint) [
+        | inl some ↦ some
+        | inr none ↦
+            absurd (false≢true
+            (c.in-Err.ensures.succeeds (omega (arith, none, ap length new.items))))
+      ],
+      (
+        λ over. sym named ∙ c.in-Err.ensures.overflow.overflow.0 (ap Err over),
+        λ none. err-same (c.in-Err.ensures.overflow.overflow.1 (named ∙ none)),
+      ),
+    )
 
 pub returns-in-Err-extend_unhinted-clause-cause : goal.returns-in-Err-extend_unhinted-clause-cause
 returns-in-Err-extend_unhinted-clause-cause g c =
-    let cause = c.in-Err-extend_unhinted.ensures.cause in
-    let in_hand = c.in-Err-extend_unhinted.ensures.in_hand in
-    record {
-      by_push = cause.by_push;
-      by_hint = λ none. absurd (hand-empty in_hand none);
-    }
+    match-some _ _ c.in-Err-extend_unhinted.refused.in_hand c.in-Err-extend_unhinted.ensures.in_hand
+    c.in-Err-extend_unhinted.ensures.cause
 
 pub returns-in-Err-extend_unhinted-clause-in_hand :
     goal.returns-in-Err-extend_unhinted-clause-in_hand

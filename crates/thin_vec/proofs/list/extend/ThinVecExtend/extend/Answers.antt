@@ -14,12 +14,8 @@ returns-in-Ok g c =
         (
           e.items.2,
           ap length e.items.2 ∙ length-append old xs,
-          e.preserved.never_less,
-          (e.capacity.pushed.0, e.capacity.pushed.2),
-          e.cost.inserting,
-          e.preserved.alloc,
-          e.preserved.cheap,
-          e.preserved.within.1,
+          (e.capacity.0, e.capacity.2),
+          e.preserved,
         ),
         e.items.1,
       );
@@ -39,12 +35,8 @@ returns-in-Err g c =
         (
           placed.1,
           ap length placed.1 ∙ length-append old placed.0,
-          e.preserved.never_less,
-          (e.capacity.pushed.0, e.capacity.pushed.2),
-          e.cost.inserting,
-          e.preserved.alloc,
-          e.preserved.cheap,
-          e.preserved.within.1,
+          (e.capacity.0, e.capacity.2),
+          e.preserved,
         ),
         first,
       );

@@ -17,7 +17,6 @@ returns-in-Ok g c =
         (
           refl,
           refl,
-          e.new.moves,
           e.new.made.cheap,
           e.new.made.within,
           (e.new.pushed.0, e.new.pushed.2),
