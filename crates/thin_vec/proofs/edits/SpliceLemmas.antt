@@ -13,6 +13,7 @@ use Rattle.thin_vec.specs.Cheap.{IsCheap}
 use Rattle.thin_vec.specs.List.Extend.{YieldsAndCanContinue}
 use Rattle.std.proofs.lemmas.Bool.Decides.{nat_tests}
 use Rattle.thin_block.specs.declared.errors.ThinVecError.TheVariants.{OutOfMemory}
+use Rattle.thin_block.proofs.ResultLemmas.{some-same}
 use Rattle.thin_block.specs.Cost.{Cost, add_moves}
 use Rattle.thin_block.specs.Growth.{IsLawful, GrowthRule}
 use Rattle.std.proofs.lemmas.Bool.{false≢true}
@@ -78,19 +79,27 @@ run-moves count n k m c d e = go (eqb count 0) e
         ∙ ap (λ j. add_moves j c) (let f : n + (k + m) ≡ k + n + m = omega arith in f))
 
 module _ {S X : Type 0} (steps : S → Option X → S → Type 0) where
-  -- The iterator `s` yielded `x`, and then the other items of `held` and the item in `o`, if there
-  -- is one. If there is none, the iterator has ended.
-  pub drawn-after : (s t u : S) (x : X) (held : List X) (o : Option X) → steps s (Some x) t
+  -- If there is no item in hand, the iterator `s` has yielded the items `held`, and has ended.
+  pub drawn-end : (s t u : S) (x : X) (held : List X) (o : Option X) → steps s (Some x) t
       → (xs : List X) × (held ++ option_to_list o ≡ x ∷ xs)
       × MatchOption o (YieldsThen steps t xs None u) (λ _. Yields steps t xs u)
-      → MatchOption o (YieldsThen steps s held None u) (λ y. Yields steps s (held ++ y ∷ []) u)
-  drawn-after s t u x held None one (xs, parts, now) = (
+      → o ≡ None → YieldsThen steps s held None u
+  drawn-end s t u x held None one (xs, parts, now) none = (
     now.0,
     subst (λ l. Yields steps s l now.0) (sym (sym (append-nil held) ∙ parts)) (t, one, now.1),
     now.2,
   )
-  drawn-after s t u x held (Some y) one (xs, parts, now) =
-      subst (λ l. Yields steps s l u) (sym parts) (t, one, now)
+  drawn-end s t u x held (Some y) one (xs, parts, now) none = cc
+
+  -- Otherwise, it has yielded the items `held`, and then the item `y` in hand.
+  pub drawn-next : (s t u : S) (x y : X) (held : List X) (o : Option X) → steps s (Some x) t
+      → (xs : List X) × (held ++ option_to_list o ≡ x ∷ xs)
+      × MatchOption o (YieldsThen steps t xs None u) (λ _. Yields steps t xs u)
+      → o ≡ Some y → Yields steps s (held ++ y ∷ []) u
+  drawn-next s t u x y held None one (xs, parts, now) is = cc
+  drawn-next s t u x y held (Some z) one (xs, parts, now) is =
+      subst (λ l. Yields steps s l u) (sym parts ∙ ap (λ w. held ++ w ∷ []) (some-same is))
+      (t, one, now)
 
 pub if-err : {X E : Type 0} {P Q : E → Type 0} (r : Result X E) → ((e : E) → r ≡ Err e → P e → Q e)
     → IfErr r P → IfErr r Q

@@ -12,10 +12,9 @@ use Rattle.std.specs.Align.{type_align}
 use Rattle.std.specs.Mem.{type_size}
 use Rattle.thin_block.specs.Growth.{grown_capacity}
 use Rattle.thin_vec.specs.ThinVec.{capacity_after_reserve, cost_after_resize}
-use Rattle.thin_vec.proofs.PushesLemmas.{resized-none}
-use Rattle.thin_vec.proofs.edits.SpliceLemmas.{closed-moves, drawn-after, inserted-long, run-moves, stop-at-held, taken-join, taken-none, taken-reserved, taken-spare}
-use Rattle.thin_block.proofs.CapacityLemmas.{ruled-same}
-use Rattle.thin_block.proofs.ResultLemmas.{err-same}
+use Rattle.thin_vec.proofs.PushesLemmas.{grown-none, resized-none}
+use Rattle.thin_vec.proofs.edits.SpliceLemmas.{closed-moves, drawn-end, drawn-next, inserted-long, run-moves, stop-at-held, taken-join, taken-none, taken-reserved, taken-spare}
+use Rattle.thin_block.proofs.ResultLemmas.{err-same, none-some}
 use Rattle.thin_vec.proofs.list.ThinVec.insert_held.Goals.{After-close, In-Err}
 use Rattle.thin_vec.proofs.list.ThinVec.insert_held.Goals as goal
 
@@ -92,17 +91,17 @@ cost g c =
 pub returns-in-Some-in_hand-clause-placed : goal.returns-in-Some-in_hand-clause-placed
 returns-in-Some-in_hand-clause-placed g c =
     let r = c.collect_rest-held.result in
-    let gave = drawn-after g.I.Iterator.next_gives c.args.iter c.next.new.self r.rest c.in-Some.first
-    r.held.items r.in_hand c.in-Some.ensures.steps c.collect_rest-held.ensures.runs in
     let asked = c.collect_rest-held.ensures.can_next
     (subst IsSome (sym c.in-Some-in_hand.is) refl) in
     inl (
       record {
-        gave = rw c.in-Some-in_hand.is at gave;
+        gave = drawn-next g.I.Iterator.next_gives c.args.iter c.next.new.self r.rest c.in-Some.first
+            c.in-Some-in_hand.item r.held.items r.in_hand c.in-Some.ensures.steps
+            c.collect_rest-held.ensures.runs c.in-Some-in_hand.is;
         can_next = asked.0;
         finite = asked.1;
       },
-      λ none. cc,
+      λ none. absurd (none-some none refl),
     )
 
 pub returns-in-Some-in_hand-clause-succeeds : goal.returns-in-Some-in_hand-clause-succeeds
@@ -116,7 +115,8 @@ returns-in-Some-in_hand-clause-succeeds g c = λ none.
 pub returns-in-Some-in_hand-clause-cause : goal.returns-in-Some-in_hand-clause-cause
 returns-in-Some-in_hand-clause-cause g c = λ tail some.
     stop-at-held g.G.Growth.rule (param 0 g.row.T) c.args.self.now tail
-    (g.I.Iterator.remaining c.collect_rest-held.result.rest) _ some (λ none. cc) (λ none. cc)
+    (g.I.Iterator.remaining c.collect_rest-held.result.rest) _ some
+    (λ none. absurd (none-some none refl)) (λ none. absurd (none-some none refl))
     (λ _. (
       refl,
       c.collect_rest-held.ensures.full (subst IsSome (sym c.in-Some-in_hand.is) refl),
@@ -130,9 +130,13 @@ pub returns-in-Err-clause-placed : goal.returns-in-Err-clause-placed
 returns-in-Err-clause-placed g c =
     let here = (goal.at.returns-in-Err-clause-placed g c).In-Err in
     let r = c.collect_rest-held.result in
-    let gave = drawn-after g.I.Iterator.next_gives c.args.iter c.next.new.self r.rest c.in-Some.first
-    r.held.items r.in_hand c.in-Some.ensures.steps c.collect_rest-held.ensures.runs in
-    inr (refl, more g here, rw c.in_default-in_hand.is at gave)
+    inr (
+      refl,
+      more g here,
+      drawn-end g.I.Iterator.next_gives c.args.iter c.next.new.self r.rest c.in-Some.first
+          r.held.items r.in_hand c.in-Some.ensures.steps c.collect_rest-held.ensures.runs
+          c.in_default-in_hand.is,
+    )
 
 pub returns-in-Err-clause-succeeds : goal.returns-in-Err-clause-succeeds
 returns-in-Err-clause-succeeds g c = λ none.
@@ -195,16 +199,16 @@ returns-clause-longer g c = omega (arith, long g ((goal.at.returns-clause-longer
 -- The list is unchanged.
 pub returns-in_default-clause-paid : goal.returns-in_default-clause-paid
 returns-in_default-clause-paid g c =
-    resized-none c.args.self.now (length c.args.self.now.items - c.args.at)
+    resized-none c.args.self.now c.args.self.now (length c.args.self.now.items - c.args.at) refl
 
 pub returns-in-Some-in_hand-clause-paid : goal.returns-in-Some-in_hand-clause-paid
 returns-in-Some-in_hand-clause-paid g c =
-    resized-none c.args.self.now (length c.args.self.now.items - c.args.at)
+    resized-none c.args.self.now c.args.self.now (length c.args.self.now.items - c.args.at) refl
 
 pub returns-in-Err-clause-paid : goal.returns-in-Err-clause-paid
 returns-in-Err-clause-paid g c =
-    rw c.in-Err.ensures.err
-    (resized-none c.args.self.now (length c.args.self.now.items - c.args.at))
+    resized-none c.args.self.now c.reserve.new.self (length c.args.self.now.items - c.args.at)
+    c.in-Err.ensures.err
 
 pub returns-clause-paid : goal.returns-clause-paid
 returns-clause-paid g c =
@@ -225,19 +229,16 @@ returns-clause-paid g c =
 -- The list is unchanged, and its items fit into its capacity.
 pub returns-in_default-clause-capacity : goal.returns-in_default-clause-capacity
 returns-in_default-clause-capacity g c =
-    ruled-same g.G.Growth.rule _ _ c.args.self.now.capacity (length c.args.self.now.items)
-    c.requires.room
+    grown-none g.G.Growth.rule (param 0 g.row.T) c.args.self.now c.args.self.now c.requires.room refl
 
 pub returns-in-Some-in_hand-clause-capacity : goal.returns-in-Some-in_hand-clause-capacity
 returns-in-Some-in_hand-clause-capacity g c =
-    ruled-same g.G.Growth.rule _ _ c.args.self.now.capacity (length c.args.self.now.items)
-    c.requires.room
+    grown-none g.G.Growth.rule (param 0 g.row.T) c.args.self.now c.args.self.now c.requires.room refl
 
 pub returns-in-Err-clause-capacity : goal.returns-in-Err-clause-capacity
 returns-in-Err-clause-capacity g c =
-    rw c.in-Err.ensures.err
-    (ruled-same g.G.Growth.rule _ _ c.args.self.now.capacity (length c.args.self.now.items)
-    c.requires.room)
+    grown-none g.G.Growth.rule (param 0 g.row.T) c.args.self.now c.reserve.new.self c.requires.room
+    c.in-Err.ensures.err
 
 pub returns-clause-capacity : goal.returns-clause-capacity
 returns-clause-capacity g c =
@@ -270,11 +271,14 @@ returns-clause-added g c =
 
 pub returns-clause-items : goal.returns-clause-items
 returns-clause-items g c =
-    let r = c.collect_rest-held.result in
-    let gave = drawn-after g.I.Iterator.next_gives c.args.iter c.next.new.self r.rest c.in-Some.first
-    r.held.items r.in_hand c.in-Some.ensures.steps c.collect_rest-held.ensures.runs in (
+    let r = c.collect_rest-held.result in (
       r.held.items,
-      (r.rest, rw c.in_default-in_hand.is at gave),
+      (
+        r.rest,
+        drawn-end g.I.Iterator.next_gives c.args.iter c.next.new.self r.rest c.in-Some.first
+            r.held.items r.in_hand c.in-Some.ensures.steps c.collect_rest-held.ensures.runs
+            c.in_default-in_hand.is,
+      ),
       items g ((goal.at.returns-clause-items g c).After-close)
           ∙ ap (λ l. (take c.args.at l ++ r.held.items) ++ drop c.args.at l)
           c.reserve.ensures.items,
