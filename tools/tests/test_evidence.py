@@ -13,13 +13,13 @@ class Evidence(ToolTest):
         path = top / "docs" / "evidence.toml"
         text = path.read_text(encoding="utf-8")
         path.write_text(
-            text + '\n[promise.planted]\nsays = "Planted."\ntests = ["thin_tests planted"]\n',
+            text + '\n[promise.planted]\nsays = "Planted."\ntests = ["list_tests planted"]\n',
             encoding="utf-8",
         )
         place = f"docs/evidence.toml:{text.count(chr(10)) + 2}"
         self.assertEqual(
             self.finds("evidence", top=top),
-            f"{place}: promise planted, tests: no test thin_tests planted\n",
+            f"{place}: promise planted, tests: no test list_tests planted\n",
         )
 
     def test_a_promise_that_only_a_page_says(self):
@@ -113,7 +113,7 @@ class Evidence(ToolTest):
 
     def test_it_follows_what_is_in_another_crate_now(self):
         top = self.copy("proofs", "specs")
-        tests = top / "crates" / "memory_tests" / "src"
+        tests = top / "crates" / "drop_tests" / "src"
         moved = next(
             path
             for path in tests.rglob("*.rt")
@@ -123,13 +123,13 @@ class Evidence(ToolTest):
         said = self.passes("evidence", "--follow", top=top)
         for name in ("alloc", "io", "thin_vec"):
             test = f"converting_to_{name}_error_drops_the_refusal"
-            self.assertIn(f"\nmemory_tests {test} is run_tests {test}\n", f"\n{said}")
+            self.assertIn(f"\ndrop_tests {test} is run_tests {test}\n", f"\n{said}")
         test = "converting_to_«error»_drops_the_refusal"
-        self.assertIn(f"memory_tests {test} is run_tests {test}\n", said)
+        self.assertIn(f"drop_tests {test} is run_tests {test}\n", said)
         kept = (top / "tools" / "mutants.d" / "thin_vec" / "errors.toml").read_text(
             encoding="utf-8"
         )
-        self.assertNotIn('"memory_tests converting_to_', kept)
+        self.assertNotIn('"drop_tests converting_to_', kept)
         self.assertEqual(self.passes("evidence", "--follow", top=top), "")
 
     def test_no_file_of_promises(self):

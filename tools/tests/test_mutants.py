@@ -39,7 +39,7 @@ what = "Planted."
 mark = "allowed"
 old = "mod runner;"
 new = "mod run;"
-seen = "thin_tests drops_each_value_once"
+seen = "table_tests drops_each_value_once"
 """
         named = right.replace('"allowed"', '"named"')
         place = "tools/mutants.d/thin_runner/lib.toml"
@@ -64,7 +64,7 @@ seen = "thin_tests drops_each_value_once"
             (f"[planted]{right.replace('mod runner', 'none')}", "has the old text 0 times"),
             (
                 f"[planted]{right.replace('drops_each', 'typo')}",
-                "there is no thin_tests typo_value",
+                "there is no table_tests typo_value",
             ),
             (f"[planted]{named}", "planted: no promise of docs/evidence.toml names this body"),
         ):
@@ -76,7 +76,7 @@ seen = "thin_tests drops_each_value_once"
         )
         said = self.passes("mutants", "--list", top=top)
         for word in "ab":
-            self.assertIn(f"planted_{word}: thin_tests drops_each_value_once: Planted.\n", said)
+            self.assertIn(f"planted_{word}: table_tests drops_each_value_once: Planted.\n", said)
 
     def test_bodies_of_another_file(self):
         path = self.folder() / "more.toml"

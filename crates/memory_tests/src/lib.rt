@@ -1,5 +1,6 @@
 //! Tests of memory: from which allocator a call takes it, which request it makes, how an allocation
-//! grows and shrinks where it is, and what is left and dropped if a request is refused.
+//! grows and shrinks where it is, and that it is freed. Also tests the allocator of
+//! `thin_testing`.
 #![tactic(auto)]
 
 #[cfg(test)]

@@ -3,5 +3,6 @@ mod commands;
 mod given_up;
 pub mod judges;
 pub mod made;
+mod requests;
 mod shown;
 mod worked;

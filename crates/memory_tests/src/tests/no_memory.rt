@@ -13,7 +13,6 @@ use std::ops::Bound;
 use std::panic::Expect;
 use std::process::Abort;
 use std::test::Fail;
-use thin_rows::Rows;
 use thin_testing::{Refusing, list_of, splice};
 use thin_vec::{PowerBytes, ThinVec, bounds, thin_vec};
 
@@ -229,42 +228,5 @@ fn calls_that_read_and_write_items_take_no_memory(rt: HostRuntime) -> Result<(),
         write(&rt, &mut list, last);
         assert_same(&rt, (last, lender.requests()), (last, 0));
     }
-    Ok(())
-}
-
-// Asserts how many rows the table has. The prover knows it afterwards.
-fn assert_rows<A: Allocator>(rt: &impl Abort, table: &Rows<u32, A>, rows: usize)
-    ensures rows { length table.now ≡ rows }
-{
-    assert_eq!(rt; table.rows(), rows);
-}
-
-#[test]
-fn calls_of_a_table_take_no_memory(rt: HostRuntime) -> Result<(), Fail> {
-    let lender = Refusing::leaked(rt.alloc(), 0)?;
-    let mut table: Rows<u32, Lender> = Rows::with_rows(lender, 2)?;
-    for column in 0..5 {
-        assert_rows(&rt, &table, 2);
-        assert_same(&rt, table.set(0, column, 7)?, None);
-    }
-    lender.refuse_all();
-    assert_rows(&rt, &table, 2);
-    assert_same(&rt, table.set(0, 3, 8)?, Some(7));
-    assert_same(&rt, (table.get(0, 3), table.get(1, 3)), (Some(&8), None));
-    assert_same(&rt, table.get_mut(0, 4).is_some(), true);
-    assert_same(
-        &rt,
-        (table.remove(0, 0), table.remove(0, 0)),
-        (Some(7), None),
-    );
-    assert_same(&rt, (table.len(), table.row(0).len()), (4, 4));
-    assert_same(
-        &rt,
-        (table.owns_block(0), table.owns_block(1)),
-        (true, false),
-    );
-    table.clear_row(0);
-    drop(table);
-    assert_same(&rt, (lender.requests(), lender.blocks()), (0, 0));
     Ok(())
 }

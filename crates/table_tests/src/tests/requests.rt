@@ -1,35 +1,14 @@
-//! Tests of the sparse table `Rows`: when it requests memory, when it drops its values, and how it
-//! is printed.
-ghost use Rattle.std.specs.Prelude.{◌<◌, length};
-
-use crate::tests::support::{assert_counts, assert_prints_as, assert_same, assert_texts};
+//! Tests of when a table requests memory, and of what a refused request leaves.
+use crate::tests::rows::{assert_row, assert_rows, assert_set};
+use crate::tests::support::{assert_counts, assert_items, assert_same};
 use std::alloc::{Allocator, Global};
-use std::collections::BTreeMap;
 use std::fmt::Debug;
 use std::process::Abort;
 use std::test::Fail;
 use thin_rows::{Rows, ThinVecError};
-use thin_testing::{Counted, Ledger, Refusing};
+use thin_testing::Refusing;
 
-// Asserts that the table has a row with this index, which most methods ask for.
-fn assert_row<V, A: Allocator>(rt: &impl Abort, table: &Rows<V, A>, row: usize)
-    ensures in_bounds { row < length table.now }
-{
-    assert!(rt; row < table.rows());
-}
-
-// Sets a value, and asserts that the old value was `old`.
-fn assert_set<V: PartialEq + Debug + Drop, A: Allocator>(
-    rt: &impl Abort,
-    table: &mut Rows<V, A>,
-    (row, column): (usize, usize),
-    value: V,
-    old: Option<V>,
-) -> Result<(), ThinVecError> {
-    assert_row(rt, table, row);
-    assert_same(rt, table.set(row, column, value)?, old);
-    Ok(())
-}
+type Lender = &'static Refusing<Global>;
 
 // Removes a value, and asserts that it was `old`.
 fn assert_removed<V: PartialEq + Debug + Drop, A: Allocator>(
@@ -51,162 +30,6 @@ fn with_rows_returns_the_cause(rt: HostRuntime) -> Result<(), Fail> {
     for rows in [usize::MAX, 1 << 60] {
         let refused = Rows::<u32, Global>::with_rows(rt.alloc(), rows).err();
         assert_same(&rt, refused, Some(ThinVecError::CapacityOverflow));
-    }
-    Ok(())
-}
-
-// Asserts that as many values are alive as the table has entries.
-fn assert_live<V>(rt: &impl Abort, ledger: &Ledger, table: &Rows<V>) {
-    assert_same(rt, ledger.live.get(), table.len() as u64);
-}
-
-// Sets `count` counted values in each row.
-fn set_counted<'a>(
-    rt: &impl Abort,
-    table: &mut Rows<Counted<'a>>,
-    ledger: &'a Ledger,
-    count: usize,
-) -> Result<(), ThinVecError> {
-    for row in 0..table.rows() {
-        for column in 0..count {
-            assert_row(rt, table, row);
-            table.set(row, column, Counted::new(ledger, 7, ()))?;
-        }
-    }
-    assert_live(rt, ledger, table);
-    Ok(())
-}
-
-// Sets, removes and drops the values of a table whose rows have `count` entries each. Asserts after
-// each call how many values are alive.
-fn assert_drops(rt: &impl Abort, alloc: Global, rows: usize, count: usize) -> Result<(), Fail> {
-    let ledger = Ledger::leaked(alloc)?;
-    let mut table = Rows::with_rows(alloc, rows)?;
-    set_counted(rt, &mut table, ledger, count)?;
-    set_counted(rt, &mut table, ledger, count)?;
-    for row in 0..rows {
-        for column in 0..count {
-            assert_row(rt, &table, row);
-            drop(table.remove(row, column));
-            assert_live(rt, ledger, &table);
-        }
-    }
-    set_counted(rt, &mut table, ledger, count)?;
-    for row in 0..rows {
-        assert_row(rt, &table, row);
-        if let Some(value) = table.get_mut(row, 0) {
-            *value = Counted::new(ledger, 7, ());
-        }
-        assert_live(rt, ledger, &table);
-        assert_row(rt, &table, row);
-        table.clear_row(row);
-        assert_live(rt, ledger, &table);
-    }
-    set_counted(rt, &mut table, ledger, count)?;
-    drop(table);
-    assert_same(rt, ledger.live.get(), 0);
-    Ok(())
-}
-
-#[test]
-fn drops_each_value_once(rt: HostRuntime) -> Result<(), Fail> {
-    for (rows, count) in [
-        (0, 0),
-        (1, 0),
-        (1, 1),
-        (2, 1),
-        (3, 2),
-        (1, 4),
-        (2, 5),
-        (2, 50),
-        (2, 300),
-        (100, 2),
-    ] {
-        assert_drops(&rt, rt.alloc(), rows, count)?;
-    }
-    Ok(())
-}
-
-#[test]
-fn clear_row_drops_the_values_in_the_order_of_the_columns(rt: HostRuntime) -> Result<(), Fail> {
-    let ledger = Ledger::leaked(rt.alloc())?;
-    let mut table = Rows::with_rows(rt.alloc(), 1)?;
-    for len in [2, 5, 300] {
-        let mut wanted = 0;
-        for column in 0..len {
-            assert_row(&rt, &table, 0);
-            let value = Counted::new(ledger, column as u64, ());
-            drop(table.set(0, column, value)?);
-            wanted = Ledger::add_drop(wanted, column as u64);
-        }
-        ledger.begin(0);
-        assert_row(&rt, &table, 0);
-        table.clear_row(0);
-        assert_same(&rt, (len, ledger.dropped.get()), (len, wanted));
-    }
-    Ok(())
-}
-
-#[test]
-fn prints_each_row_as_a_map(rt: HostRuntime) -> Result<(), Fail> {
-    let mut table = Rows::with_rows(rt.alloc(), 2)?;
-    assert_set(&rt, &mut table, (1, 7), 10, None)?;
-    assert_set(&rt, &mut table, (1, 2), 20, None)?;
-    assert_set(&rt, &mut table, (1, 9), 30, None)?;
-    let lines = "[\n    {},\n    {\n        2: 20,\n        7: 10,\n        9: 30,\n    },\n]";
-    let wide = "[{}, {0002: 0020, 0007: 0010, 0009: 0030}]";
-    assert_texts(
-        &rt,
-        rt.alloc(),
-        &table,
-        ["[{}, {2: 20, 7: 10, 9: 30}]", lines, wide],
-    )
-}
-
-// Asserts that a table, of which the rows with odd numbers have `count` entries each, is printed as
-// a list of maps. Also asserts that printing requests no memory from the allocator of the table.
-fn assert_printed_as_maps(
-    rt: &impl Abort,
-    alloc: Global,
-    rows: usize,
-    count: usize,
-) -> Result<(), Fail> {
-    let refusing = Refusing::leaked(alloc, 0)?;
-    let mut table = Rows::with_rows(refusing, rows)?;
-    let mut maps: Vec<BTreeMap<usize, i32>> = Vec::new(alloc);
-    for row in 0..rows {
-        let mut map = BTreeMap::new(alloc);
-        if row % 2 == 1 {
-            for index in 0..count {
-                let value = if index % 3 == 0 { -8 } else { 9 };
-                assert_row(rt, &table, row);
-                table.set(row, count.wrapping_sub(index), value)?;
-                map.insert(count.wrapping_sub(index), value)
-                    .ok()
-                    .ok_or("memory")?;
-            }
-        }
-        maps.push(map).ok().ok_or("memory")?;
-    }
-    refusing.refuse(1);
-    assert_prints_as(rt, alloc, &table, &maps)?;
-    assert_same(rt, refusing.requests(), 0);
-    Ok(())
-}
-
-#[test]
-fn prints_the_rows_as_maps_with_each_option(rt: HostRuntime) -> Result<(), Fail> {
-    for (rows, count) in [
-        (0, 0),
-        (1, 0),
-        (2, 0),
-        (2, 1),
-        (3, 2),
-        (4, 5),
-        (120, 2),
-        (12, 400),
-    ] {
-        assert_printed_as_maps(&rt, rt.alloc(), rows, count)?;
     }
     Ok(())
 }
@@ -359,5 +182,49 @@ fn only_a_new_entry_in_a_full_row_makes_a_request(rt: HostRuntime) -> Result<(),
         assert_row_requests(&rt, refusing, 7_u8, count, 1)?;
         assert_row_requests(&rt, refusing, [7_u64; 40], count, 3)?;
     }
+    Ok(())
+}
+
+#[test]
+fn refused_set_leaves_an_empty_row_without_a_block(rt: HostRuntime) -> Result<(), Fail> {
+    let refusing = Refusing::leaked(rt.alloc(), 2)?;
+    let mut table: Rows<u32, Lender> = Rows::with_rows(refusing, 2)?;
+    assert_rows(&rt, &table, 2);
+    let refused = table.set(1, 4, 8).err().ok_or("set")?;
+    let memory = ThinVecError::OutOfMemory;
+    assert_same(&rt, (refused.value, refused.cause), (8, memory));
+    assert_items(&rt, table.row(1), &[]);
+    assert_same(&rt, table.owns_block(1), false);
+    assert_counts(&rt, refusing, 2, 1);
+    Ok(())
+}
+
+#[test]
+fn calls_of_a_table_take_no_memory(rt: HostRuntime) -> Result<(), Fail> {
+    let lender = Refusing::leaked(rt.alloc(), 0)?;
+    let mut table: Rows<u32, Lender> = Rows::with_rows(lender, 2)?;
+    for column in 0..5 {
+        assert_rows(&rt, &table, 2);
+        assert_same(&rt, table.set(0, column, 7)?, None);
+    }
+    lender.refuse_all();
+    assert_rows(&rt, &table, 2);
+    assert_same(&rt, table.set(0, 3, 8)?, Some(7));
+    assert_same(&rt, (table.get(0, 3), table.get(1, 3)), (Some(&8), None));
+    assert_same(&rt, table.get_mut(0, 4).is_some(), true);
+    assert_same(
+        &rt,
+        (table.remove(0, 0), table.remove(0, 0)),
+        (Some(7), None),
+    );
+    assert_same(&rt, (table.len(), table.row(0).len()), (4, 4));
+    assert_same(
+        &rt,
+        (table.owns_block(0), table.owns_block(1)),
+        (true, false),
+    );
+    table.clear_row(0);
+    drop(table);
+    assert_same(&rt, (lender.requests(), lender.blocks()), (0, 0));
     Ok(())
 }

@@ -1,4 +1,5 @@
-//! Tests of lists whose items are compared and hashed by their last decimal digit alone.
+//! Tests of how lists are compared and hashed: as the slices of their items, also if an item is
+//! compared and hashed by its last decimal digit alone.
 ghost use Rattle.std.proofs.Common.{rules};
 ghost use Rattle.std.specs.Cmp.{partial_order_from_own_ties};
 ghost use Rattle.std.specs.Cmp.Rules.{comparing, hashing};
@@ -12,6 +13,7 @@ use std::cmp::Ordering;
 use std::hash::{DefaultHasher, Hash, Hasher};
 use std::process::Abort;
 use std::test::Fail;
+use thin_testing::list_of;
 use thin_vec::{ThinVec, ThinVecError};
 
 // A number of which only the last decimal digit is compared and hashed.
@@ -114,5 +116,34 @@ fn lists_of_equal_items_are_equal_and_hash_alike(rt: HostRuntime) -> Result<(), 
         assert_same(&rt, (list == other, list.cmp(&other)), (is_equal, order));
         assert_same(&rt, hash_of(&list) == hash_of(&other), is_equal);
     }
+    Ok(())
+}
+
+fn hash_of_list(list: &ThinVec<i32>) -> u64 {
+    let mut hasher = DefaultHasher::new();
+    list.hash(&mut hasher);
+    hasher.finish()
+}
+
+fn hash_of_slice(items: &[i32]) -> u64 {
+    let mut hasher = DefaultHasher::new();
+    items.hash(&mut hasher);
+    hasher.finish()
+}
+
+#[test]
+fn a_list_and_its_slice_hash_alike(rt: HostRuntime) -> Result<(), Fail> {
+    for items in [&[][..], &[7], &[1, 2, 3], &[5; 100]] {
+        let mut list = list_of(rt.alloc(), items)?;
+        list.reserve(9)?;
+        assert_same(&rt, hash_of_list(&list), hash_of_slice(items));
+    }
+    Ok(())
+}
+
+#[test]
+fn lists_of_nan_are_not_ordered(rt: HostRuntime) -> Result<(), Fail> {
+    let list = list_of(rt.alloc(), &[1.0, f64::NAN])?;
+    assert_same(&rt, (list == list, list.partial_cmp(&list)), (false, None));
     Ok(())
 }

@@ -2,7 +2,7 @@
 //! reply uses the allocator that was passed.
 ghost use Rattle.std.specs.Prelude.{false};
 
-use crate::tests::support::assert_same;
+use crate::tests::made::assert_same;
 use std::alloc::{Allocator, Global};
 use std::test::Fail;
 use thin_runner::command::{Command, Step};

@@ -1,12 +1,10 @@
-//! Tests that calls drop their closures, and with them what the closures own. Also tests what a
-//! closure leaves in a variable that it borrows.
-use crate::tests::support::{assert_items, assert_len, assert_same};
+//! Tests that calls drop their closures, and with them what the closures own.
+use crate::tests::support::{assert_len, assert_same};
 use std::alloc::Global;
-use std::cell::Cell;
 use std::process::Abort;
 use std::rc::Rc;
 use std::test::Fail;
-use thin_testing::{Counted, Ledger, Refusing, list_of};
+use thin_testing::{Counted, Ledger, list_of};
 use thin_vec::ThinVec;
 
 // Tests an item in a closure that owns a `Counted`.
@@ -99,66 +97,5 @@ fn extract_if_drops_its_closure(rt: HostRuntime) -> Result<(), Fail> {
             assert_same(&rt, Rc::strong_count(&kept), 1);
         }
     }
-    Ok(())
-}
-
-// Counts a call, and returns 1.
-fn one(calls: &Cell<u32>) -> i32 {
-    calls.set(calls.get().wrapping_add(1));
-    1
-}
-
-#[test]
-fn resize_with_calls_no_closure_if_refused(rt: HostRuntime) {
-    let (refusing, calls) = (Refusing::new(rt.alloc(), 1), Cell::new(0));
-    let mut list: ThinVec<i32, &Refusing<Global>> = ThinVec::new(&refusing);
-    let refused = list.resize_with(3, || one(&calls)).is_err();
-    assert_same(&rt, (refused, calls.get()), (true, 0));
-}
-
-#[test]
-fn retain_mut_numbers_the_items(rt: HostRuntime) -> Result<(), Fail> {
-    let mut list = list_of(rt.alloc(), &[9, 9, 9, 9])?;
-    let mut number: i32 = 0;
-    list.retain_mut(|item| {
-        number = number.saturating_add(1);
-        *item = number;
-        number != 4
-    });
-    assert_items(&rt, &list, &[1, 2, 3]);
-    assert_same(&rt, number, 4);
-    Ok(())
-}
-
-#[test]
-fn closures_count_their_calls_in_a_variable(rt: HostRuntime) -> Result<(), Fail> {
-    let mut list = list_of(rt.alloc(), &[1, 2, 2, 3])?;
-    let mut calls: u32 = 0;
-    list.retain(|item| {
-        calls = calls.wrapping_add(1);
-        *item < 9
-    });
-    assert_same(&rt, calls, 4);
-    list.dedup_by(|later, kept| {
-        calls = calls.wrapping_add(1);
-        *later == *kept
-    });
-    assert_same(&rt, calls, 7);
-    list.dedup_by_key(|item| {
-        calls = calls.wrapping_add(1);
-        *item
-    });
-    assert_same(&rt, calls, 11);
-    let last = list.pop_if(|item| {
-        calls = calls.wrapping_add(1);
-        *item == 3
-    });
-    assert_same(&rt, (last, calls), (Some(3), 12));
-    list.resize_with(4, || {
-        calls = calls.wrapping_add(1);
-        9
-    })?;
-    assert_same(&rt, calls, 14);
-    assert_items(&rt, &list, &[1, 2, 9, 9]);
     Ok(())
 }

@@ -6,7 +6,6 @@ use crate::tests::support::{assert_len, assert_same};
 use std::alloc::{Allocator, Global};
 use std::marker::{Send, Sync};
 use std::test::Fail;
-use thin_rows::Rows;
 use thin_vec::{Growth, PowerBytes, ThinVec, thin_vec};
 
 // A node of a tree, with a list of its child nodes.
@@ -79,8 +78,6 @@ fn iterators_over_lists_can_be_sent_and_shared(rt: HostRuntime) -> Result<(), Fa
 
 #[test]
 fn types_with_lists_can_be_sent_and_shared(rt: HostRuntime) -> Result<(), Fail> {
-    let table: Rows<u8> = Rows::with_rows(rt.alloc(), 3)?;
-    assert_same(&rt, needs_sync(&needs_send(table)).rows(), 3);
     let children = ThinVec::new(rt.alloc());
     let node = needs_send(Node { value: 1, children });
     assert_same(&rt, needs_sync(&node).value, 1);

@@ -50,13 +50,6 @@ fn or_default_makes_a_list_without_a_block(rt: HostRuntime) -> Result<(), Fail> 
 }
 
 #[test]
-fn lists_of_nan_are_not_ordered(rt: HostRuntime) -> Result<(), Fail> {
-    let list = list_of(rt.alloc(), &[1.0, f64::NAN])?;
-    assert_same(&rt, (list == list, list.partial_cmp(&list)), (false, None));
-    Ok(())
-}
-
-#[test]
 fn iteration_by_value_makes_no_request(rt: HostRuntime) -> Result<(), Fail> {
     let refusing = Refusing::leaked(rt.alloc(), 0)?;
     for len in [0, 1, 3, 1000] {
@@ -163,12 +156,14 @@ fn sort_by_way<A: Allocator>(way: u32, list: &mut ThinVec<i32, A>) -> Result<(),
     }
 }
 
+// Two runs, since a list that is one run, rising or falling, is sorted without memory.
 #[test]
 fn stable_sorts_use_the_allocator_of_the_list(rt: HostRuntime) -> Result<(), Fail> {
     let refusing = Refusing::leaked(rt.alloc(), 0)?;
     for way in 0..4 {
         let mut list = ThinVec::new(refusing);
-        list.extend((0..30).rev())?;
+        list.extend(0..20)?;
+        list.extend(0..10)?;
         let unsorted = list.clone(refusing)?;
         refusing.refuse(1);
         assert_same(&rt, sort_by_way(way, &mut list).is_err(), true);

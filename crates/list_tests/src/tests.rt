@@ -1,14 +1,13 @@
 //! One file for each topic.
 mod closures;
+mod conversions;
 mod edits;
+mod filling;
+mod growth;
+mod hints;
 mod macros;
-mod names;
-mod report;
-mod runs;
-mod scripts;
+mod refused;
+mod splices;
 mod support;
-mod tables;
-mod texts;
-mod threads;
-mod traits;
 pub mod widths;
+mod writes;

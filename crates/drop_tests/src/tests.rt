@@ -1,0 +1,5 @@
+//! One file for each topic.
+mod closures;
+mod errors;
+mod order;
+mod support;

@@ -1,0 +1,3 @@
+//! One file for each topic.
+mod report;
+mod scripts;

@@ -1,0 +1,7 @@
+//! One file for each topic.
+mod drops;
+mod entries;
+mod requests;
+mod rows;
+mod support;
+mod texts;

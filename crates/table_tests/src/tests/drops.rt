@@ -1,0 +1,100 @@
+//! Tests of when a table drops its values.
+use crate::tests::rows::assert_row;
+use crate::tests::support::assert_same;
+use std::alloc::Global;
+use std::process::Abort;
+use std::test::Fail;
+use thin_rows::{Rows, ThinVecError};
+use thin_testing::{Counted, Ledger};
+
+// Asserts that as many values are alive as the table has entries.
+fn assert_live<V>(rt: &impl Abort, ledger: &Ledger, table: &Rows<V>) {
+    assert_same(rt, ledger.live.get(), table.len() as u64);
+}
+
+// Sets `count` counted values in each row.
+fn set_counted<'a>(
+    rt: &impl Abort,
+    table: &mut Rows<Counted<'a>>,
+    ledger: &'a Ledger,
+    count: usize,
+) -> Result<(), ThinVecError> {
+    for row in 0..table.rows() {
+        for column in 0..count {
+            assert_row(rt, table, row);
+            table.set(row, column, Counted::new(ledger, 7, ()))?;
+        }
+    }
+    assert_live(rt, ledger, table);
+    Ok(())
+}
+
+// Sets, removes and drops the values of a table whose rows have `count` entries each. Asserts after
+// each call how many values are alive.
+fn assert_drops(rt: &impl Abort, alloc: Global, rows: usize, count: usize) -> Result<(), Fail> {
+    let ledger = Ledger::leaked(alloc)?;
+    let mut table = Rows::with_rows(alloc, rows)?;
+    set_counted(rt, &mut table, ledger, count)?;
+    set_counted(rt, &mut table, ledger, count)?;
+    for row in 0..rows {
+        for column in 0..count {
+            assert_row(rt, &table, row);
+            drop(table.remove(row, column));
+            assert_live(rt, ledger, &table);
+        }
+    }
+    set_counted(rt, &mut table, ledger, count)?;
+    for row in 0..rows {
+        assert_row(rt, &table, row);
+        if let Some(value) = table.get_mut(row, 0) {
+            *value = Counted::new(ledger, 7, ());
+        }
+        assert_live(rt, ledger, &table);
+        assert_row(rt, &table, row);
+        table.clear_row(row);
+        assert_live(rt, ledger, &table);
+    }
+    set_counted(rt, &mut table, ledger, count)?;
+    drop(table);
+    assert_same(rt, ledger.live.get(), 0);
+    Ok(())
+}
+
+#[test]
+fn drops_each_value_once(rt: HostRuntime) -> Result<(), Fail> {
+    for (rows, count) in [
+        (0, 0),
+        (1, 0),
+        (1, 1),
+        (2, 1),
+        (3, 2),
+        (1, 4),
+        (2, 5),
+        (2, 50),
+        (2, 300),
+        (100, 2),
+    ] {
+        assert_drops(&rt, rt.alloc(), rows, count)?;
+    }
+    Ok(())
+}
+
+#[test]
+fn clear_row_drops_the_values_in_the_order_of_the_columns(rt: HostRuntime) -> Result<(), Fail> {
+    let ledger = Ledger::leaked(rt.alloc())?;
+    let mut table = Rows::with_rows(rt.alloc(), 1)?;
+    for len in [2, 5, 300] {
+        let mut wanted = 0;
+        for column in 0..len {
+            assert_row(&rt, &table, 0);
+            let value = Counted::new(ledger, column as u64, ());
+            drop(table.set(0, column, value)?);
+            wanted = Ledger::add_drop(wanted, column as u64);
+        }
+        ledger.begin(0);
+        assert_row(&rt, &table, 0);
+        table.clear_row(0);
+        assert_same(&rt, (len, ledger.dropped.get()), (len, wanted));
+    }
+    Ok(())
+}

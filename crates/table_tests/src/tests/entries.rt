@@ -1,0 +1,37 @@
+//! Tests of the entries of a row, and that a table is `Send` and `Sync`.
+use crate::tests::rows::assert_rows;
+use crate::tests::support::{assert_counts, assert_items, assert_same};
+use std::alloc::Global;
+use std::marker::{Send, Sync};
+use std::test::Fail;
+use thin_rows::Rows;
+use thin_testing::Refusing;
+
+type Table = Rows<u32, &'static Refusing<Global>>;
+
+#[test]
+fn row_is_in_the_order_of_the_columns(rt: HostRuntime) -> Result<(), Fail> {
+    let refusing = Refusing::leaked(rt.alloc(), 0)?;
+    let mut table = Table::with_rows(refusing, 1)?;
+    assert_rows(&rt, &table, 1);
+    assert_same(&rt, table.set(0, usize::MAX, 1)?, None);
+    assert_same(&rt, table.set(0, 0, 2)?, None);
+    assert_items(&rt, table.row(0), &[(0, 2), (usize::MAX, 1)]);
+    assert_same(&rt, table.get(0, 5), None);
+    assert_same(&rt, table.remove(0, 5), None);
+    assert_same(&rt, table.get(0, 0), Some(&2));
+    refusing.refuse(1);
+    assert_same(&rt, table.set(0, 0, 3)?, Some(2));
+    assert_counts(&rt, refusing, 0, 2);
+    assert_items(&rt, table.row(0), &[(0, 3), (usize::MAX, 1)]);
+    Ok(())
+}
+
+fn assert_send_and_sync<X: Send + Sync>(_value: &X) {}
+
+// The compiler checks this, so no thread is started.
+#[test]
+fn tables_can_be_sent_and_shared(rt: HostRuntime) -> Result<(), Fail> {
+    assert_send_and_sync(&Rows::<u8>::with_rows(rt.alloc(), 3)?);
+    Ok(())
+}

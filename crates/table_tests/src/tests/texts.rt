@@ -1,0 +1,73 @@
+//! Tests of how a table is printed: as a list of maps.
+use crate::tests::rows::{assert_row, assert_set};
+use crate::tests::support::{assert_prints_as, assert_same, assert_texts};
+use std::alloc::Global;
+use std::collections::BTreeMap;
+use std::process::Abort;
+use std::test::Fail;
+use thin_rows::Rows;
+use thin_testing::Refusing;
+
+#[test]
+fn prints_each_row_as_a_map(rt: HostRuntime) -> Result<(), Fail> {
+    let mut table = Rows::with_rows(rt.alloc(), 2)?;
+    assert_set(&rt, &mut table, (1, 7), 10, None)?;
+    assert_set(&rt, &mut table, (1, 2), 20, None)?;
+    assert_set(&rt, &mut table, (1, 9), 30, None)?;
+    let lines = "[\n    {},\n    {\n        2: 20,\n        7: 10,\n        9: 30,\n    },\n]";
+    let wide = "[{}, {0002: 0020, 0007: 0010, 0009: 0030}]";
+    assert_texts(
+        &rt,
+        rt.alloc(),
+        &table,
+        ["[{}, {2: 20, 7: 10, 9: 30}]", lines, wide],
+    )
+}
+
+// Asserts that a table, of which the rows with odd numbers have `count` entries each, is printed as
+// a list of maps. Also asserts that printing requests no memory from the allocator of the table.
+fn assert_printed_as_maps(
+    rt: &impl Abort,
+    alloc: Global,
+    rows: usize,
+    count: usize,
+) -> Result<(), Fail> {
+    let refusing = Refusing::leaked(alloc, 0)?;
+    let mut table = Rows::with_rows(refusing, rows)?;
+    let mut maps: Vec<BTreeMap<usize, i32>> = Vec::new(alloc);
+    for row in 0..rows {
+        let mut map = BTreeMap::new(alloc);
+        if row % 2 == 1 {
+            for index in 0..count {
+                let value = if index % 3 == 0 { -8 } else { 9 };
+                assert_row(rt, &table, row);
+                table.set(row, count.wrapping_sub(index), value)?;
+                map.insert(count.wrapping_sub(index), value)
+                    .ok()
+                    .ok_or("memory")?;
+            }
+        }
+        maps.push(map).ok().ok_or("memory")?;
+    }
+    refusing.refuse(1);
+    assert_prints_as(rt, alloc, &table, &maps)?;
+    assert_same(rt, refusing.requests(), 0);
+    Ok(())
+}
+
+#[test]
+fn prints_the_rows_as_maps_with_each_option(rt: HostRuntime) -> Result<(), Fail> {
+    for (rows, count) in [
+        (0, 0),
+        (1, 0),
+        (2, 0),
+        (2, 1),
+        (3, 2),
+        (4, 5),
+        (120, 2),
+        (12, 400),
+    ] {
+        assert_printed_as_maps(&rt, rt.alloc(), rows, count)?;
+    }
+    Ok(())
+}

@@ -1,0 +1,7 @@
+//! One file for each topic.
+mod comparing;
+mod names;
+mod support;
+mod texts;
+mod threads;
+mod traits;
