@@ -2,4 +2,3 @@
 mod closures;
 mod errors;
 mod order;
-mod support;

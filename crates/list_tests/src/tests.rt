@@ -8,6 +8,5 @@ mod hints;
 mod macros;
 mod refused;
 mod splices;
-mod support;
 pub mod widths;
 mod writes;

@@ -1,5 +1,5 @@
 //! Tests of memory: from which allocator a call takes it, which request it makes, how an allocation
-//! grows and shrinks where it is, and that it is freed. Also tests the allocator of
+//! grows and shrinks where it is, and that it is freed. Also tests the allocator and the checks of
 //! `thin_testing`.
 #![tactic(auto)]
 

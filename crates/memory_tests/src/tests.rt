@@ -1,8 +1,8 @@
 //! One file for each topic.
 mod allocators;
+mod checks;
 mod in_place;
 mod no_memory;
 mod over_global;
 mod padded;
 mod requests;
-mod support;

@@ -4,7 +4,6 @@ mod drops;
 mod edits;
 mod into_iter;
 mod items;
-mod support;
 
 use std::alloc::{AllocError, Global};
 use thin_vec::ThinVec;

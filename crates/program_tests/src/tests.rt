@@ -1,3 +1,4 @@
 //! One file for each topic.
+mod page;
 mod report;
 mod scripts;

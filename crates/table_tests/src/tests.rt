@@ -3,5 +3,4 @@ mod drops;
 mod entries;
 mod requests;
 mod rows;
-mod support;
 mod texts;

@@ -3,10 +3,11 @@
 //! Items of the types `Numbered` are made from numbers, and those of the type `Counted` are
 //! counted. `Claims` is an iterator whose size hint may be wrong. `Fourfold` and `Threefold` are
 //! growth rules that only tests use. The trait `Ruled` computes the capacities that tests expect. A
-//! `Case` is a call of a sweep on a list.
+//! `Case` is a call of a sweep on a list. Checks such as `same` and `holds` return what is wrong.
 #![tactic(auto)]
 
 mod case;
+mod checks;
 mod claims;
 mod ledger;
 mod lists;
@@ -14,8 +15,10 @@ mod multiples;
 mod numbered;
 mod refusing;
 mod ruled;
+mod texts;
 
 pub use case::{Answer, At, Case, Due, Lender, List, Pattern, Wrong, filled_list, numbered_items};
+pub use checks::{Different, counts, has_len, holds, same, same_items};
 pub use claims::Claims;
 pub use ledger::{Counted, CountedWord, Ledger};
 pub use lists::{counted_list, list_of, splice};
@@ -23,3 +26,4 @@ pub use multiples::{Fourfold, Threefold};
 pub use numbered::{Numbered, block_bytes};
 pub use refusing::Refusing;
 pub use ruled::{Ruled, least_power};
+pub use texts::{Misprinted, prints, prints_as};

@@ -1,10 +1,9 @@
 //! Tests that calls drop their closures, and with them what the closures own.
-use crate::tests::support::{assert_len, assert_same};
 use std::alloc::Global;
 use std::process::Abort;
 use std::rc::Rc;
 use std::test::Fail;
-use thin_testing::{Counted, Ledger, list_of};
+use thin_testing::{Counted, Ledger, check, has_len, list_of, same};
 use thin_vec::ThinVec;
 
 // Tests an item in a closure that owns a `Counted`.
@@ -20,16 +19,16 @@ fn assert_filters_drop(rt: &impl Abort, alloc: Global, len: usize) -> Result<(),
     list.resize(len, 3)?;
     let owned = Counted::new(ledger, 7, ());
     list.retain(move |item| !is_two(&owned, *item));
-    assert_same(rt, ledger.live.get(), 0);
+    check!(rt; same(ledger.live.get(), 0));
     let owned = Counted::new(ledger, 7, ());
     list.retain_mut(move |item| is_two(&owned, 2) && *item == 3);
-    assert_same(rt, ledger.live.get(), 0);
+    check!(rt; same(ledger.live.get(), 0));
     let owned = Counted::new(ledger, 7, ());
     list.dedup_by(move |later, _kept| is_two(&owned, 2) && *later == 4);
-    assert_same(rt, (ledger.live.get(), list.len()), (0, len));
+    check!(rt; same((ledger.live.get(), list.len()), (0, len)));
     let owned = Counted::new(ledger, 7, ());
     list.dedup_by_key(move |item| is_two(&owned, 2) && *item == 1);
-    assert_same(rt, (ledger.live.get(), list.len()), (0, len.min(1)));
+    check!(rt; same((ledger.live.get(), list.len()), (0, len.min(1))));
     Ok(())
 }
 
@@ -53,20 +52,20 @@ fn assert_pop_if_and_resize_with_drop(
     list.resize(len, 2)?;
     let owned = Counted::new(ledger, 7, ());
     let popped = list.pop_if(move |item| is_two(&owned, *item)).is_some();
-    assert_same(rt, (popped, ledger.live.get()), (len > 0, 0));
+    check!(rt; same((popped, ledger.live.get()), (len > 0, 0)));
     let owned = Counted::new(ledger, 7, ());
     let popped = list
         .pop_if(move |item| is_two(&owned, 3) && *item == 2)
         .is_some();
-    assert_same(rt, (popped, ledger.live.get()), (false, 0));
+    check!(rt; same((popped, ledger.live.get()), (false, 0)));
     for new_len in [len, len, len.saturating_add(40), len / 2, 0] {
         let owned = Counted::new(ledger, 7, ());
         list.resize_with(new_len, move || if is_two(&owned, 2) { 8 } else { 9 })?;
-        assert_same(rt, (ledger.live.get(), list.len()), (0, new_len));
+        check!(rt; same((ledger.live.get(), list.len()), (0, new_len)));
     }
     let owned = Counted::new(ledger, 7, ());
     let refused = list.resize_with(usize::MAX, move || if is_two(&owned, 2) { 8 } else { 9 });
-    assert_same(rt, (refused.is_err(), ledger.live.get()), (true, 0));
+    check!(rt; same((refused.is_err(), ledger.live.get()), (true, 0)));
     Ok(())
 }
 
@@ -87,14 +86,14 @@ fn extract_if_drops_its_closure(rt: HostRuntime) -> Result<(), Fail> {
             let kept = Rc::new(rt.alloc(), 2)?;
             let owned = kept.clone()?;
             let mut list = list_of(rt.alloc(), &[1, 2, 3])?;
-            assert_len(&rt, &list, 3);
+            check!(rt; has_len(&list, 3));
             let mut twos = list.extract_if(0, end, move |item: &mut i32| *item == *owned.as_ref());
             for _ in 0..calls {
                 let _two = twos.next();
             }
-            assert_same(&rt, Rc::strong_count(&kept), 2);
+            check!(rt; same(Rc::strong_count(&kept), 2));
             drop(twos);
-            assert_same(&rt, Rc::strong_count(&kept), 1);
+            check!(rt; same(Rc::strong_count(&kept), 1));
         }
     }
     Ok(())

@@ -1,11 +1,10 @@
 //! Tests of the errors: their trait, and that `?` drops what they hold.
-use crate::tests::support::assert_same;
 use std::alloc::{AllocError, Global};
 use std::error::Error;
 use std::io;
 use std::process::Abort;
 use std::test::Fail;
-use thin_testing::{Counted, Ledger, counted_list};
+use thin_testing::{Counted, Ledger, check, counted_list, same};
 use thin_vec::{CollectRefused, ExtendRefused, Rejected, SpliceRefused, ThinVec, ThinVecError};
 
 // Converts the error with `?`, and returns the new error.
@@ -21,9 +20,9 @@ fn assert_dropped<E: From<R> + Drop, R: Error>(
     refused: R,
     held: u64,
 ) {
-    assert_same(rt, ledger.live.get(), held);
-    assert_same(rt, convert::<R, E>(refused).is_err(), true);
-    assert_same(rt, ledger.live.get(), 0);
+    check!(rt; same(ledger.live.get(), held));
+    check!(rt; same(convert::<R, E>(refused).is_err(), true));
+    check!(rt; same(ledger.live.get(), 0));
 }
 
 // Converts an error of each of the four types, for each cause, with and without an item in hand,

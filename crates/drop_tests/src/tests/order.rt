@@ -3,13 +3,12 @@ ghost use Rattle.std.specs.Iterator.{IsFinite};
 ghost use Rattle.std.specs.Prelude.{◌≤◌, length};
 ghost use Rattle.thin_vec.specs.Edits.Splice.{SpliceKeeps};
 
-use crate::tests::support::assert_same;
 use std::alloc::Allocator;
 use std::cell::Cell;
 use std::iter::Iterator;
 use std::process::Abort;
 use std::test::Fail;
-use thin_testing::{Counted, Ledger, List, Numbered, filled_list, numbered_items};
+use thin_testing::{Counted, Ledger, List, Numbered, check, filled_list, numbered_items, same};
 use thin_vec::{Doubling, Splice, SpliceRefused, ThinVec, ThinVecError};
 
 // A call that removes the items of a range.
@@ -303,7 +302,7 @@ fn assert_range<T: Numbered>(
                 };
                 if case.is_possible() {
                     let dropped = drops_of::<T>(rt, ledger, case)?;
-                    assert_same(rt, (case, dropped), (case, case.dropped()));
+                    check!(rt; same((case, dropped), (case, case.dropped())));
                 }
             }
         }
@@ -350,7 +349,7 @@ fn assert_taken<T: Numbered>(rt: &impl Abort, ledger: &'static Ledger) -> Result
                 };
                 if case.is_possible() {
                     let dropped = drops_of::<T>(rt, ledger, case)?;
-                    assert_same(rt, (case, dropped), (case, case.dropped()));
+                    check!(rt; same((case, dropped), (case, case.dropped())));
                 }
             }
         }
@@ -400,7 +399,7 @@ fn assert_prompt<T: Numbered>(
         } else {
             list.retain(|_item| reject(ledger, len as u64, &late));
         }
-        assert_same(rt, (len, is_mut, late.get()), (len, is_mut, 0));
+        check!(rt; same((len, is_mut, late.get()), (len, is_mut, 0)));
     }
     Ok(())
 }
@@ -444,7 +443,7 @@ fn assert_clones_in_order<T: Numbered>(
             ledger.begin((clones as u64).saturating_add(2));
             let is_refused = is_clone_refused(ledger, call, &mut list);
             let found = (call, clones, is_refused, ledger.dropped.get());
-            assert_same(rt, found, (call, clones, true, then(0, 0, clones)));
+            check!(rt; same(found, (call, clones, true, then(0, 0, clones))));
         }
     }
     Ok(())
@@ -472,7 +471,7 @@ fn the_sum_over_drops_depends_on_their_order(rt: HostRuntime) -> Result<(), Fail
     let ledger = Ledger::leaked(rt.alloc())?;
     for (one, two) in [(0, 1), (1, 2), (7, 17), (0, 1000)] {
         let is_same = sum_of(ledger, [one, two]) == sum_of(ledger, [two, one]);
-        assert_same(&rt, (one, two, is_same), (one, two, false));
+        check!(rt; same((one, two, is_same), (one, two, false)));
     }
     Ok(())
 }

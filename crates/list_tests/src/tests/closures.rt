@@ -1,10 +1,9 @@
 //! Tests of how often and in which order calls ask their closures, and of what a closure leaves in
 //! a variable that it borrows.
-use crate::tests::support::{assert_items, assert_list, assert_same};
 use std::alloc::Global;
 use std::cell::Cell;
 use std::test::Fail;
-use thin_testing::{Refusing, list_of};
+use thin_testing::{Refusing, check, holds, list_of, same, same_items};
 use thin_vec::ThinVec;
 
 // Appends the two digits of the item to the decimal number in `asked`, and returns the first digit.
@@ -18,14 +17,14 @@ fn key(asked: &Cell<u64>, item: i32) -> i32 {
 fn dedup_by_key_asks_the_later_item_and_then_the_kept_one(rt: HostRuntime) -> Result<(), Fail> {
     let (mut list, asked) = (list_of(rt.alloc(), &[10, 11, 20])?, Cell::new(0));
     list.dedup_by_key(|item| key(&asked, *item));
-    assert_same(&rt, asked.get(), 11_10_20_10);
-    assert_list(&rt, &list, &[10, 20], 3);
+    check!(rt; same(asked.get(), 11_10_20_10));
+    check!(rt; holds(&list, &[10, 20], 3));
     let (mut list, asked) = (
         list_of(rt.alloc(), &[[10; 40], [11; 40], [20; 40]])?,
         Cell::new(0),
     );
     list.dedup_by_key(|item| key(&asked, item[0]));
-    assert_same(&rt, (asked.get(), list.len()), (11_10_20_10, 2));
+    check!(rt; same((asked.get(), list.len()), (11_10_20_10, 2)));
     Ok(())
 }
 
@@ -40,7 +39,7 @@ fn resize_with_calls_no_closure_if_refused(rt: HostRuntime) {
     let (refusing, calls) = (Refusing::new(rt.alloc(), 1), Cell::new(0));
     let mut list: ThinVec<i32, &Refusing<Global>> = ThinVec::new(&refusing);
     let refused = list.resize_with(3, || one(&calls)).is_err();
-    assert_same(&rt, (refused, calls.get()), (true, 0));
+    check!(rt; same((refused, calls.get()), (true, 0)));
 }
 
 #[test]
@@ -52,8 +51,8 @@ fn retain_mut_numbers_the_items(rt: HostRuntime) -> Result<(), Fail> {
         *item = number;
         number != 4
     });
-    assert_items(&rt, &list, &[1, 2, 3]);
-    assert_same(&rt, number, 4);
+    check!(rt; same_items(&list, &[1, 2, 3]));
+    check!(rt; same(number, 4));
     Ok(())
 }
 
@@ -65,27 +64,27 @@ fn closures_count_their_calls_in_a_variable(rt: HostRuntime) -> Result<(), Fail>
         calls = calls.wrapping_add(1);
         *item < 9
     });
-    assert_same(&rt, calls, 4);
+    check!(rt; same(calls, 4));
     list.dedup_by(|later, kept| {
         calls = calls.wrapping_add(1);
         *later == *kept
     });
-    assert_same(&rt, calls, 7);
+    check!(rt; same(calls, 7));
     list.dedup_by_key(|item| {
         calls = calls.wrapping_add(1);
         *item
     });
-    assert_same(&rt, calls, 11);
+    check!(rt; same(calls, 11));
     let last = list.pop_if(|item| {
         calls = calls.wrapping_add(1);
         *item == 3
     });
-    assert_same(&rt, (last, calls), (Some(3), 12));
+    check!(rt; same((last, calls), (Some(3), 12)));
     list.resize_with(4, || {
         calls = calls.wrapping_add(1);
         9
     })?;
-    assert_same(&rt, calls, 14);
-    assert_items(&rt, &list, &[1, 2, 9, 9]);
+    check!(rt; same(calls, 14));
+    check!(rt; same_items(&list, &[1, 2, 9, 9]));
     Ok(())
 }

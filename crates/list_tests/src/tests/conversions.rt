@@ -1,7 +1,6 @@
 //! Tests of conversions from and to arrays, vectors and boxed slices, granted and refused.
-use crate::tests::support::{assert_counts, assert_items, assert_list, assert_same};
 use std::test::Fail;
-use thin_testing::{Refusing, list_of};
+use thin_testing::{Refusing, check, counts, holds, list_of, same, same_items};
 use thin_vec::{ThinVec, ThinVecError};
 
 const OUT_OF_MEMORY: ThinVecError = ThinVecError::OutOfMemory;
@@ -9,9 +8,9 @@ const OUT_OF_MEMORY: ThinVecError = ThinVecError::OutOfMemory;
 #[test]
 fn into_array_returns_all_items(rt: HostRuntime) -> Result<(), Fail> {
     let items = list_of(rt.alloc(), &[1, 2, 3])?.into_array::<3>().ok();
-    assert_same(&rt, items, Some([1, 2, 3]));
+    check!(rt; same(items, Some([1, 2, 3])));
     let nothing = ThinVec::<i32>::new(rt.alloc()).into_array::<0>().ok();
-    assert_same(&rt, nothing, Some([]));
+    check!(rt; same(nothing, Some([])));
     Ok(())
 }
 
@@ -26,8 +25,8 @@ fn converted_lists_have_no_spare_capacity(rt: HostRuntime) -> Result<(), Fail> {
         ThinVec::from_vec(alloc, roomy)?,
         ThinVec::from_boxed_slice(alloc, items.to_vec(alloc)?.into_boxed_slice())?,
     ] {
-        assert_list(&rt, &list, &items, 3);
-        assert_items(&rt, list.into_boxed_slice(alloc)?.as_slice(), &items);
+        check!(rt; holds(&list, &items, 3));
+        check!(rt; same_items(list.into_boxed_slice(alloc)?.as_slice(), &items));
     }
     Ok(())
 }
@@ -36,26 +35,18 @@ fn converted_lists_have_no_spare_capacity(rt: HostRuntime) -> Result<(), Fail> {
 fn refused_conversions_into_a_list_return_their_source(rt: HostRuntime) -> Result<(), Fail> {
     let (refusing, items) = (Refusing::leaked(rt.alloc(), 1)?, [1, 2, 3]);
     let refused = ThinVec::from_array(refusing, items).err().ok_or("made")?;
-    assert_same(&rt, (refused.value, refused.cause), (items, OUT_OF_MEMORY));
+    check!(rt; same((refused.value, refused.cause), (items, OUT_OF_MEMORY)));
     refusing.refuse(1);
     let vec = items.to_vec(rt.alloc())?;
     let refused = ThinVec::from_vec(refusing, vec).err().ok_or("made")?;
-    assert_same(
-        &rt,
-        (refused.value.as_slice(), refused.cause),
-        (&items, OUT_OF_MEMORY),
-    );
+    check!(rt; same((refused.value.as_slice(), refused.cause), (&items, OUT_OF_MEMORY)));
     refusing.refuse(1);
     let boxed = items.to_vec(rt.alloc())?.into_boxed_slice();
     let refused = ThinVec::from_boxed_slice(refusing, boxed)
         .err()
         .ok_or("made")?;
-    assert_same(
-        &rt,
-        (refused.value.as_slice(), refused.cause),
-        (&items, OUT_OF_MEMORY),
-    );
-    assert_counts(&rt, refusing, 1, 0);
+    check!(rt; same((refused.value.as_slice(), refused.cause), (&items, OUT_OF_MEMORY)));
+    check!(rt; counts(refusing, 1, 0));
     Ok(())
 }
 
@@ -67,19 +58,19 @@ fn refused_conversions_of_a_list_return_the_list(rt: HostRuntime) -> Result<(), 
     );
     let list = list_of(own, &[1, 2, 3, 4, 5])?;
     let refused = list.into_vec(other).err().ok_or("converted")?;
-    assert_same(&rt, refused.cause, OUT_OF_MEMORY);
-    assert_list(&rt, &refused.value, &[1, 2, 3, 4, 5], 5);
+    check!(rt; same(refused.cause, OUT_OF_MEMORY));
+    check!(rt; holds(&refused.value, &[1, 2, 3, 4, 5], 5));
     other.refuse(1);
     let refused = refused
         .value
         .into_boxed_slice(other)
         .err()
         .ok_or("converted")?;
-    assert_same(&rt, refused.cause, OUT_OF_MEMORY);
-    assert_list(&rt, &refused.value, &[1, 2, 3, 4, 5], 5);
-    assert_counts(&rt, own, 1, 1);
-    assert_counts(&rt, other, 1, 0);
+    check!(rt; same(refused.cause, OUT_OF_MEMORY));
+    check!(rt; holds(&refused.value, &[1, 2, 3, 4, 5], 5));
+    check!(rt; counts(own, 1, 1));
+    check!(rt; counts(other, 1, 0));
     let list = refused.value.into_array::<2>().err().ok_or("converted")?;
-    assert_list(&rt, &list, &[1, 2, 3, 4, 5], 5);
+    check!(rt; holds(&list, &[1, 2, 3, 4, 5], 5));
     Ok(())
 }

@@ -1,39 +1,38 @@
 //! Tests of what no contract states of a list that another call edits: one whose `Drain` or
 //! `ExtractIf` is passed to a call or forgotten, and one over which a loop iterates.
-use crate::tests::support::{assert_items, assert_len, assert_list, assert_same};
 use std::mem;
 use std::process::Abort;
 use std::test::Fail;
-use thin_testing::{Refusing, list_of};
+use thin_testing::{Refusing, check, has_len, holds, list_of, same, same_items};
 use thin_vec::ThinVec;
 
 #[test]
 fn collect_removes_the_drained_items(rt: HostRuntime) -> Result<(), Fail> {
     let mut list = list_of(rt.alloc(), &[1, 2, 3, 4, 5, 6])?;
-    assert_len(&rt, &list, 6);
+    check!(rt; has_len(&list, 6));
     let front: Vec<i32> = list.drain(1, 3).collect(rt.alloc())?;
-    assert_items(&rt, &front, &[2, 3]);
-    assert_items(&rt, &list, &[1, 4, 5, 6]);
-    assert_len(&rt, &list, 4);
+    check!(rt; same_items(&front, &[2, 3]));
+    check!(rt; same_items(&list, &[1, 4, 5, 6]));
+    check!(rt; has_len(&list, 4));
     let back: Vec<i32> = list.drain(0, 2).rev().collect(rt.alloc())?;
-    assert_items(&rt, &back, &[4, 1]);
-    assert_items(&rt, &list, &[5, 6]);
-    assert_len(&rt, &list, 2);
+    check!(rt; same_items(&back, &[4, 1]));
+    check!(rt; same_items(&list, &[5, 6]));
+    check!(rt; has_len(&list, 2));
     let last: ThinVec<i32> = list.drain(1, 2).collect(rt.alloc())?;
-    assert_items(&rt, &last, &[6]);
-    assert_items(&rt, &list, &[5]);
+    check!(rt; same_items(&last, &[6]));
+    check!(rt; same_items(&list, &[5]));
     Ok(())
 }
 
 #[test]
 fn collect_removes_the_extracted_items(rt: HostRuntime) -> Result<(), Fail> {
     let mut list = list_of(rt.alloc(), &[1, 2, 3, 4])?;
-    assert_len(&rt, &list, 4);
+    check!(rt; has_len(&list, 4));
     let even: ThinVec<i32> = list
         .extract_if(0, 4, |x: &mut i32| *x % 2 == 0)
         .collect(rt.alloc())?;
-    assert_items(&rt, &even, &[2, 4]);
-    assert_items(&rt, &list, &[1, 3]);
+    check!(rt; same_items(&even, &[2, 4]));
+    check!(rt; same_items(&list, &[1, 3]));
     Ok(())
 }
 
@@ -41,71 +40,71 @@ fn collect_removes_the_extracted_items(rt: HostRuntime) -> Result<(), Fail> {
 fn extend_removes_the_drained_items(rt: HostRuntime) -> Result<(), Fail> {
     let mut list = list_of(rt.alloc(), &[1, 2, 3, 4])?;
     let mut other = list_of(rt.alloc(), &[9])?;
-    assert_len(&rt, &list, 4);
+    check!(rt; has_len(&list, 4));
     other.extend(list.drain(1, 3))?;
-    assert_items(&rt, &list, &[1, 4]);
-    assert_items(&rt, &other, &[9, 2, 3]);
+    check!(rt; same_items(&list, &[1, 4]));
+    check!(rt; same_items(&other, &[9, 2, 3]));
     Ok(())
 }
 
 #[test]
 fn from_iter_removes_the_drained_items(rt: HostRuntime) -> Result<(), Fail> {
     let mut list = list_of(rt.alloc(), &[1, 2, 3, 4])?;
-    assert_len(&rt, &list, 4);
+    check!(rt; has_len(&list, 4));
     let made = ThinVec::from_iter(rt.alloc(), list.drain(1, 3))?;
-    assert_items(&rt, &list, &[1, 4]);
-    assert_items(&rt, &made, &[2, 3]);
+    check!(rt; same_items(&list, &[1, 4]));
+    check!(rt; same_items(&made, &[2, 3]));
     Ok(())
 }
 
 #[test]
 fn extend_and_from_iter_remove_the_extracted_items(rt: HostRuntime) -> Result<(), Fail> {
     let mut list = list_of(rt.alloc(), &[1, 2, 3, 4, 5, 6])?;
-    assert_len(&rt, &list, 6);
+    check!(rt; has_len(&list, 6));
     let mut other = list_of(rt.alloc(), &[9])?;
     other.extend(list.extract_if(1, 5, |x: &mut i32| *x % 2 == 0))?;
-    assert_items(&rt, &list, &[1, 3, 5, 6]);
-    assert_items(&rt, &other, &[9, 2, 4]);
-    assert_len(&rt, &list, 4);
+    check!(rt; same_items(&list, &[1, 3, 5, 6]));
+    check!(rt; same_items(&other, &[9, 2, 4]));
+    check!(rt; has_len(&list, 4));
     let made = ThinVec::from_iter(rt.alloc(), list.extract_if(0, 4, |x: &mut i32| *x > 4))?;
-    assert_items(&rt, &list, &[1, 3]);
-    assert_items(&rt, &made, &[5, 6]);
+    check!(rt; same_items(&list, &[1, 3]));
+    check!(rt; same_items(&made, &[5, 6]));
     Ok(())
 }
 
 #[test]
 fn a_refused_extend_removes_the_drained_items(rt: HostRuntime) -> Result<(), Fail> {
     let mut list = list_of(rt.alloc(), &[1, 2, 3, 4])?;
-    assert_len(&rt, &list, 4);
+    check!(rt; has_len(&list, 4));
     let mut other = ThinVec::new(Refusing::leaked(rt.alloc(), 1)?);
     let refused = other.extend(list.drain(1, 3)).is_err();
-    assert_same(&rt, (refused, other.len()), (true, 0));
-    assert_items(&rt, &list, &[1, 4]);
+    check!(rt; same((refused, other.len()), (true, 0)));
+    check!(rt; same_items(&list, &[1, 4]));
     Ok(())
 }
 
 #[test]
 fn a_refused_extend_leaves_what_was_not_extracted(rt: HostRuntime) -> Result<(), Fail> {
     let mut list = list_of(rt.alloc(), &[1, 2, 3, 4])?;
-    assert_len(&rt, &list, 4);
+    check!(rt; has_len(&list, 4));
     let mut other = ThinVec::new(Refusing::leaked(rt.alloc(), 1)?);
     let in_hand = match other.extend(list.extract_if(0, 4, |x: &mut i32| *x % 2 == 0)) {
         Ok(()) => None,
         Err(refused) => refused.in_hand,
     };
-    assert_same(&rt, in_hand, Some(2));
-    assert_items(&rt, &list, &[1, 3, 4]);
+    check!(rt; same(in_hand, Some(2)));
+    check!(rt; same_items(&list, &[1, 3, 4]));
     Ok(())
 }
 
 // Asserts that the list has no items and no block, and that it can be used.
 fn assert_usable(rt: &impl Abort, list: &mut ThinVec<i32>) -> Result<(), Fail> {
-    assert_list(rt, list, &[], 0);
+    check!(rt; holds(list, &[], 0));
     list.push(9)?;
     list.insert(0, 8)?;
-    assert_list(rt, list, &[8, 9], 4);
-    assert_same(rt, list.drain(0, 1).next(), Some(8));
-    assert_list(rt, list, &[9], 4);
+    check!(rt; holds(list, &[8, 9], 4));
+    check!(rt; same(list.drain(0, 1).next(), Some(8)));
+    check!(rt; holds(list, &[9], 4));
     Ok(())
 }
 
@@ -114,7 +113,7 @@ fn list_is_empty_and_usable_if_its_drain_is_forgotten(rt: HostRuntime) -> Result
     for start in 0..=3 {
         for end in start..=3 {
             let mut list = list_of(rt.alloc(), &[1, 2, 3])?;
-            assert_len(&rt, &list, 3);
+            check!(rt; has_len(&list, 3));
             mem::forget(list.drain(start, end));
             assert_usable(&rt, &mut list)?;
         }
@@ -127,7 +126,7 @@ fn list_is_empty_and_usable_if_its_extract_if_is_forgotten(rt: HostRuntime) -> R
     for start in 0..=3 {
         for end in start..=3 {
             let mut list = list_of(rt.alloc(), &[1, 2, 3])?;
-            assert_len(&rt, &list, 3);
+            check!(rt; has_len(&list, 3));
             mem::forget(list.extract_if(start, end, |x: &mut i32| *x == 1));
             assert_usable(&rt, &mut list)?;
         }
@@ -139,15 +138,15 @@ fn list_is_empty_and_usable_if_its_extract_if_is_forgotten(rt: HostRuntime) -> R
 #[test]
 fn list_is_empty_and_usable_if_a_begun_edit_is_forgotten(rt: HostRuntime) -> Result<(), Fail> {
     let mut list = list_of(rt.alloc(), &[1, 2, 3, 4])?;
-    assert_len(&rt, &list, 4);
+    check!(rt; has_len(&list, 4));
     let mut drain = list.drain(1, 4);
-    assert_same(&rt, (drain.next(), drain.next_back()), (Some(2), Some(4)));
+    check!(rt; same((drain.next(), drain.next_back()), (Some(2), Some(4))));
     mem::forget(drain);
     assert_usable(&rt, &mut list)?;
     let mut list = list_of(rt.alloc(), &[1, 2, 3, 4])?;
-    assert_len(&rt, &list, 4);
+    check!(rt; has_len(&list, 4));
     let mut extracted = list.extract_if(0, 4, |x: &mut i32| *x % 2 == 0);
-    assert_same(&rt, extracted.next(), Some(2));
+    check!(rt; same(extracted.next(), Some(2)));
     mem::forget(extracted);
     assert_usable(&rt, &mut list)
 }
@@ -158,17 +157,17 @@ fn a_loop_writes_to_each_item(rt: HostRuntime) -> Result<(), Fail> {
     for item in &mut list {
         *item = item.saturating_add(1);
     }
-    assert_items(&rt, &list, &[2, 3, 4]);
+    check!(rt; same_items(&list, &[2, 3, 4]));
     Ok(())
 }
 
 #[test]
 fn a_loop_over_extracted_items_removes_them(rt: HostRuntime) -> Result<(), Fail> {
     let mut list = list_of(rt.alloc(), &[1, 2, 3])?;
-    assert_len(&rt, &list, 3);
+    check!(rt; has_len(&list, 3));
     for item in list.extract_if(0, 3, |x: &mut i32| *x == 2) {
-        assert_same(&rt, item, 2);
+        check!(rt; same(item, 2));
     }
-    assert_items(&rt, &list, &[1, 3]);
+    check!(rt; same_items(&list, &[1, 3]));
     Ok(())
 }

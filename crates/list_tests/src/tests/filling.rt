@@ -2,17 +2,16 @@
 ghost use Rattle.std.specs.Iterator.{at_most};
 ghost use Rattle.std.specs.Prelude.{◌+◌, length};
 
-use crate::tests::support::{assert_list, assert_same};
 use std::cell::Cell;
 use std::test::Fail;
-use thin_testing::list_of;
+use thin_testing::{check, holds, list_of, same};
 use thin_vec::ThinVec;
 
 #[test]
 fn extend_from_slice_grows_to_the_first_capacity(rt: HostRuntime) -> Result<(), Fail> {
     let mut list = list_of(rt.alloc(), &[1])?;
     list.extend_from_slice(&[2, 3, 4])?;
-    assert_list(&rt, &list, &[1, 2, 3, 4], 4);
+    check!(rt; holds(&list, &[1, 2, 3, 4], 4));
     Ok(())
 }
 
@@ -20,7 +19,7 @@ fn extend_from_slice_grows_to_the_first_capacity(rt: HostRuntime) -> Result<(), 
 fn resize_grows_past_twice_the_capacity(rt: HostRuntime) -> Result<(), Fail> {
     let mut list = list_of(rt.alloc(), &[1, 2])?;
     list.resize(5, 0)?;
-    assert_list(&rt, &list, &[1, 2, 0, 0, 0], 5);
+    check!(rt; holds(&list, &[1, 2, 0, 0, 0], 5));
     Ok(())
 }
 
@@ -33,7 +32,7 @@ fn long_lists_double_their_capacity(rt: HostRuntime) -> Result<(), Fail> {
     let mut bytes = list_of(rt.alloc(), &[7_u8; 10_001])?;
     bytes.push(7)?;
     let capacities = (list.capacity(), appended.capacity(), bytes.capacity());
-    assert_same(&rt, capacities, (6000, 600, 20_002));
+    check!(rt; same(capacities, (6000, 600, 20_002)));
     Ok(())
 }
 
@@ -70,14 +69,14 @@ fn extend_and_from_iter_end_at_the_first_none(rt: HostRuntime) -> Result<(), Fai
         answers: &answers,
         asked: &asked,
     })?;
-    assert_list(&rt, &list, &[1], 4);
-    assert_same(&rt, asked.take(), 2);
+    check!(rt; holds(&list, &[1], 4));
+    check!(rt; same(asked.take(), 2));
     let items = Answers {
         answers: &answers,
         asked: &asked,
     };
     let list = ThinVec::from_iter(rt.alloc(), items)?;
-    assert_list(&rt, &list, &[1], 3);
-    assert_same(&rt, asked.take(), 2);
+    check!(rt; holds(&list, &[1], 3));
+    check!(rt; same(asked.take(), 2));
     Ok(())
 }

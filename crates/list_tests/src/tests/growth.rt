@@ -3,11 +3,11 @@
 ghost use Rattle.std.specs.Prelude.{◌≡◌, IsTrue, IsFalse, ◌^◌, ◌-◌, ◌+◌};
 ghost use Rattle.thin_block.specs.Capacity.{items_offset, fits as fits_at};
 
-use crate::tests::support::{assert_items, assert_same};
 use std::alloc::Global;
 use std::process::Abort;
 use std::test::Fail;
 use thin_block::{Growth, PowerBytes, first_capacity, fits, next_capacity};
+use thin_testing::{check, same, same_items};
 use thin_vec::{ThinVec, ThinVecError};
 
 #[test]
@@ -19,23 +19,23 @@ fn fits_accepts_capacities_up_to_the_greatest(rt: HostRuntime) {
         (fits::<u64>((1 << 60) - 3), fits::<u64>((1 << 60) - 2)),
         (fits::<()>((1 << 63) - 1), fits::<()>(1 << 63)),
     ] {
-        assert_same(&rt, (fitting, past), (true, false));
+        check!(rt; same((fitting, past), (true, false)));
     }
 }
 
 #[test]
 fn next_capacity_follows_doubling(rt: HostRuntime) {
-    assert_same(&rt, first_capacity::<u8>(), 4);
+    check!(rt; same(first_capacity::<u8>(), 4));
     for &(cap, want, next) in &[(0, 1, 4), (3, 4, 6), (3, 13, 13), (4, 4, 4)] {
         let answer = (cap, want, next_capacity::<i32>(cap, want));
-        assert_same(&rt, answer, (cap, want, Some(next)));
+        check!(rt; same(answer, (cap, want, Some(next))));
     }
     let last = [
         next_capacity::<u8>((1 << 62) - 12, (1 << 62) - 11),
         next_capacity::<u8>(1 << 62, (1 << 62) + 1),
         next_capacity::<()>(1 << 62, (1 << 62) + 1),
     ];
-    assert_same(&rt, last, [Some((1 << 63) - 24), None, None]);
+    check!(rt; same(last, [Some((1 << 63) - 24), None, None]));
 }
 
 // A block of 2^62 bytes has room for 2^62 - 16 items of one byte.
@@ -47,8 +47,8 @@ fn power_bytes_has_no_capacity_past_2_to_62_bytes(rt: HostRuntime) {
         (last + 1, None, Some(last + 1)),
     ] {
         let next = PowerBytes::next_capacity::<u8>(0, want);
-        assert_same(&rt, (want, next), (want, of_powers));
-        assert_same(&rt, (want, next_capacity::<u8>(0, want)), (want, doubled));
+        check!(rt; same((want, next), (want, of_powers)));
+        check!(rt; same((want, next_capacity::<u8>(0, want)), (want, doubled)));
     }
 }
 
@@ -64,7 +64,7 @@ fn assert_grows<T: Copy + Drop>(
     for &capacity in capacities {
         for _ in list.len()..capacity {
             list.push(item)?;
-            assert_same(rt, list.capacity(), capacity);
+            check!(rt; same(list.capacity(), capacity));
         }
     }
     Ok(())
@@ -86,8 +86,8 @@ fn power_bytes_fills_blocks_of_power_of_two_sizes(rt: HostRuntime) -> Result<(),
 fn resize_fills_a_block_of_a_power_of_two(rt: HostRuntime) -> Result<(), Fail> {
     let mut list = ThinVec::<u32, Global, PowerBytes>::ruled(rt.alloc());
     list.resize(5, 0)?;
-    assert_items(&rt, &list, &[0; 5]);
-    assert_same(&rt, list.capacity(), 12);
+    check!(rt; same_items(&list, &[0; 5]));
+    check!(rt; same(list.capacity(), 12));
     Ok(())
 }
 

@@ -1,11 +1,10 @@
 //! Tests that no call reserves room for the upper bound of a size hint.
 ghost use Rattle.std.specs.Iterator.{IsFinite};
 
-use crate::tests::support::{assert_len, assert_list};
 use std::alloc::Global;
 use std::iter::{Extend, Iterator};
 use std::test::Fail;
-use thin_testing::{list_of, splice};
+use thin_testing::{check, has_len, holds, list_of, splice};
 use thin_vec::ThinVec;
 
 // Yields the items of the iterator that are divisible by 500. The lower bound of its size hint is
@@ -40,7 +39,7 @@ fn list_by_way<I: Iterator<Item = i32>>(
 fn extend_and_from_iter_ignore_the_upper_bound(rt: HostRuntime) -> Result<(), Fail> {
     for way in 0..4 {
         let list = list_by_way(way, rt.alloc(), few!(0_i32..1000))?;
-        assert_list(&rt, &list, &[0, 500], 4);
+        check!(rt; holds(&list, &[0, 500], 4));
     }
     Ok(())
 }
@@ -50,7 +49,7 @@ fn extend_and_from_iter_reserve_for_the_lower_bound(rt: HostRuntime) -> Result<(
     for (way, capacity) in [(0, 4), (1, 4), (2, 6), (3, 6)] {
         let items = (1_i32..4).chain(few!(4_i32..1000));
         let list = list_by_way(way, rt.alloc(), items)?;
-        assert_list(&rt, &list, &[1, 2, 3, 500], capacity);
+        check!(rt; holds(&list, &[1, 2, 3, 500], capacity));
     }
     Ok(())
 }
@@ -59,12 +58,12 @@ fn extend_and_from_iter_reserve_for_the_lower_bound(rt: HostRuntime) -> Result<(
 fn finish_ignores_the_upper_bound(rt: HostRuntime) -> Result<(), Fail> {
     let alloc = rt.alloc();
     let mut list = list_of(alloc, &[1, 2, 3])?;
-    assert_len(&rt, &list, 3);
+    check!(rt; has_len(&list, 3));
     splice(&mut list, (1, 2), few!(0_i32..1000), alloc)?;
-    assert_list(&rt, &list, &[1, 0, 500, 3], 6);
+    check!(rt; holds(&list, &[1, 0, 500, 3], 6));
     splice(&mut list, (4, 4), few!(1_i32..1500), alloc)?;
-    assert_list(&rt, &list, &[1, 0, 500, 3, 500, 1000], 6);
+    check!(rt; holds(&list, &[1, 0, 500, 3, 500, 1000], 6));
     splice(&mut list, (6, 6), few!(1_i32..1500), alloc)?;
-    assert_list(&rt, &list, &[1, 0, 500, 3, 500, 1000, 500, 1000], 12);
+    check!(rt; holds(&list, &[1, 0, 500, 3, 500, 1000, 500, 1000], 12));
     Ok(())
 }

@@ -1,9 +1,8 @@
 //! Tests of `thin_vec!`: in which order it evaluates its arguments, and that it evaluates no item
 //! if the memory is refused. Also tests `from_array` with thousands of items.
-use crate::tests::support::{assert_counts, assert_list, assert_same};
 use std::cell::Cell;
 use std::test::Fail;
-use thin_testing::{Counted, Ledger, Refusing};
+use thin_testing::{Counted, Ledger, Refusing, check, counts, holds, same};
 use thin_vec::{ThinVec, ThinVecError, thin_vec};
 
 // Returns `value`, and appends `digit` to the decimal number in `order`.
@@ -16,36 +15,36 @@ fn note<V>(order: &Cell<u32>, digit: u32, value: V) -> V {
 fn evaluates_each_argument_once_and_in_order(rt: HostRuntime) -> Result<(), Fail> {
     let (alloc, order) = (rt.alloc(), Cell::new(0));
     let list = thin_vec![note(&order, 1, alloc) => note(&order, 2, 7), note(&order, 3, 8),]?;
-    assert_list(&rt, &list, &[7, 8], 2);
-    assert_same(&rt, order.take(), 123);
+    check!(rt; holds(&list, &[7, 8], 2));
+    check!(rt; same(order.take(), 123));
     let list = thin_vec![note(&order, 1, alloc) => note(&order, 2, 7); note(&order, 3, 2)]?;
-    assert_list(&rt, &list, &[7, 7], 4);
-    assert_same(&rt, order.take(), 123);
-    assert_list(&rt, &thin_vec![note(&order, 1, alloc) =>]?, &[], 0);
-    assert_same(&rt, order.take(), 1);
+    check!(rt; holds(&list, &[7, 7], 4));
+    check!(rt; same(order.take(), 123));
+    check!(rt; holds(&thin_vec![note(&order, 1, alloc) =>]?, &[], 0));
+    check!(rt; same(order.take(), 1));
     Ok(())
 }
 
 #[test]
 fn lists_of_one_to_forty_items_need_one_request(rt: HostRuntime) -> Result<(), Fail> {
     let (one, seven) = (1, 7);
-    assert_list(&rt, &thin_vec![rt.alloc() => seven]?, &[7], 1);
+    check!(rt; holds(&thin_vec![rt.alloc() => seven]?, &[7], 1));
     let items = [1, 2, 3, 4, 5, 6, 7, 8, 9, 10, 11, 12];
     let refusing = Refusing::leaked(rt.alloc(), 2)?;
     let list = thin_vec![refusing => one, 2, 3, 4, 5, 6, 7, 8, 9, 10, 11, 12]?;
-    assert_list(&rt, &list, &items, 12);
+    check!(rt; holds(&list, &items, 12));
     refusing.refuse(2);
     let list = thin_vec![in refusing;
         7, 7, 7, 7, 7, 7, 7, 7, 7, 7, 7, 7, 7, 7, 7, 7, 7, 7, 7, 7, 7, 7, 7, 7, 7, 7, 7, 7, 7, 7,
         7, 7, 7, 7, 7, 7, 7, 7, 7, seven,
     ]?;
-    assert_list(&rt, &list, &[7; 40], 40);
+    check!(rt; holds(&list, &[7; 40], 40));
     Ok(())
 }
 
 #[test]
 fn lists_of_one_to_two_hundred_literals_need_one_request(rt: HostRuntime) -> Result<(), Fail> {
-    assert_list(&rt, &thin_vec![rt.alloc() => -7]?, &[-7], 1);
+    check!(rt; holds(&thin_vec![rt.alloc() => -7]?, &[-7], 1));
     let refusing = Refusing::leaked(rt.alloc(), 2)?;
     let list = thin_vec![refusing =>
         0, 1, 2, 3, 4, 5, 6, 7, 8, 9, 10, 11, 12, 13, 14, 15, 16, 17, 18, 19, 20, 21, 22, 23, 24,
@@ -60,11 +59,11 @@ fn lists_of_one_to_two_hundred_literals_need_one_request(rt: HostRuntime) -> Res
         185, 186, 187, 188, 189, 190, 191, 192, 193, 194, 195, 196, 197, 198, 199,
     ]?;
     let items: Vec<i32> = (0..200).collect(rt.alloc())?;
-    assert_list(&rt, &list, items.as_slice(), 200);
+    check!(rt; holds(&list, items.as_slice(), 200));
     refusing.refuse(1);
     let refused = thin_vec![in refusing; 1, 2, 3,].err();
-    assert_same(&rt, refused, Some(ThinVecError::OutOfMemory));
-    assert_counts(&rt, refusing, 1, 1);
+    check!(rt; same(refused, Some(ThinVecError::OutOfMemory)));
+    check!(rt; counts(refusing, 1, 1));
     Ok(())
 }
 
@@ -72,13 +71,13 @@ fn lists_of_one_to_two_hundred_literals_need_one_request(rt: HostRuntime) -> Res
 fn evaluates_each_argument_of_the_form_with_in(rt: HostRuntime) -> Result<(), Fail> {
     let (alloc, order) = (rt.alloc(), Cell::new(0));
     let list = thin_vec![in note(&order, 1, alloc); note(&order, 2, 7), note(&order, 3, 8),]?;
-    assert_list(&rt, &list, &[7, 8], 2);
-    assert_same(&rt, order.take(), 123);
+    check!(rt; holds(&list, &[7, 8], 2));
+    check!(rt; same(order.take(), 123));
     let list = thin_vec![in note(&order, 1, alloc); note(&order, 2, 7); note(&order, 3, 2)]?;
-    assert_list(&rt, &list, &[7, 7], 4);
-    assert_same(&rt, order.take(), 123);
-    assert_list(&rt, &thin_vec![in note(&order, 1, alloc)]?, &[], 0);
-    assert_same(&rt, order.take(), 1);
+    check!(rt; holds(&list, &[7, 7], 4));
+    check!(rt; same(order.take(), 123));
+    check!(rt; holds(&thin_vec![in note(&order, 1, alloc)]?, &[], 0));
+    check!(rt; same(order.take(), 1));
     Ok(())
 }
 
@@ -86,20 +85,12 @@ fn evaluates_each_argument_of_the_form_with_in(rt: HostRuntime) -> Result<(), Fa
 fn evaluates_no_item_if_refused(rt: HostRuntime) {
     let (refusing, order) = (Refusing::new(rt.alloc(), 1), Cell::new(0));
     let refused = thin_vec![&refusing => note(&order, 1, 7), note(&order, 2, 8)].err();
-    assert_same(
-        &rt,
-        (refused, order.get()),
-        (Some(ThinVecError::OutOfMemory), 0),
-    );
-    assert_counts(&rt, &refusing, 1, 0);
+    check!(rt; same((refused, order.get()), (Some(ThinVecError::OutOfMemory), 0)));
+    check!(rt; counts(&refusing, 1, 0));
     refusing.refuse(1);
     let refused = thin_vec![in &refusing; note(&order, 1, 7), note(&order, 2, 8)].err();
-    assert_same(
-        &rt,
-        (refused, order.get()),
-        (Some(ThinVecError::OutOfMemory), 0),
-    );
-    assert_counts(&rt, &refusing, 1, 0);
+    check!(rt; same((refused, order.get()), (Some(ThinVecError::OutOfMemory), 0)));
+    check!(rt; counts(&refusing, 1, 0));
 }
 
 #[test]
@@ -113,7 +104,7 @@ fn drops_the_repeated_value_if_the_capacity_overflows(rt: HostRuntime) -> Result
             thin_vec![in rt.alloc(); value; usize::MAX].err()
         };
         let overflow = Some(ThinVecError::CapacityOverflow);
-        assert_same(&rt, (refused, ledger.live.get()), (overflow, 0));
+        check!(rt; same((refused, ledger.live.get()), (overflow, 0)));
     }
     Ok(())
 }
@@ -121,6 +112,6 @@ fn drops_the_repeated_value_if_the_capacity_overflows(rt: HostRuntime) -> Result
 #[test]
 fn from_array_moves_thousands_of_items(rt: HostRuntime) -> Result<(), Fail> {
     let list = ThinVec::from_array(rt.alloc(), [7; 5000])?;
-    assert_same(&rt, (list.len(), list.capacity()), (5000, 5000));
+    check!(rt; same((list.len(), list.capacity()), (5000, 5000)));
     Ok(())
 }

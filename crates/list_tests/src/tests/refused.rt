@@ -1,11 +1,10 @@
 //! Tests of what a call returns if a request for memory or a clone is refused, and of the list
 //! afterwards.
-use crate::tests::support::{assert_counts, assert_list, assert_same};
 use std::alloc::Global;
 use std::process::Abort;
 use std::test::Fail;
 use thin_runner::hinted::Hinted;
-use thin_testing::{Counted, Ledger, Refusing, counted_list, splice};
+use thin_testing::{Counted, Ledger, Refusing, check, counted_list, counts, holds, same, splice};
 use thin_vec::{ExtendRefused, SpliceRefused, ThinVec, ThinVecError, thin_vec};
 
 const OUT_OF_MEMORY: ThinVecError = ThinVecError::OutOfMemory;
@@ -18,12 +17,12 @@ fn refused_push_returns_its_value(rt: HostRuntime) -> Result<(), Fail> {
         list.push(item)?;
     }
     let refused = list.push(5).err().ok_or("pushed")?;
-    assert_same(&rt, (refused.value, refused.cause), (5, OUT_OF_MEMORY));
-    assert_list(&rt, &list, &[1, 2, 3, 4], 4);
-    assert_counts(&rt, refusing, 2, 1);
+    check!(rt; same((refused.value, refused.cause), (5, OUT_OF_MEMORY)));
+    check!(rt; holds(&list, &[1, 2, 3, 4], 4));
+    check!(rt; counts(refusing, 2, 1));
     list.push(5)?;
-    assert_list(&rt, &list, &[1, 2, 3, 4, 5], 8);
-    assert_counts(&rt, refusing, 3, 1);
+    check!(rt; holds(&list, &[1, 2, 3, 4, 5], 8));
+    check!(rt; counts(refusing, 3, 1));
     Ok(())
 }
 
@@ -32,13 +31,13 @@ fn refused_append_changes_neither_list(rt: HostRuntime) -> Result<(), Fail> {
     let refusing = Refusing::leaked(rt.alloc(), 3)?;
     let mut list = thin_vec![refusing => 1, 2]?;
     let mut other = thin_vec![refusing => 3]?;
-    assert_same(&rt, list.append(&mut other), Err(OUT_OF_MEMORY));
-    assert_list(&rt, &list, &[1, 2], 2);
-    assert_list(&rt, &other, &[3], 1);
-    assert_counts(&rt, refusing, 3, 2);
+    check!(rt; same(list.append(&mut other), Err(OUT_OF_MEMORY)));
+    check!(rt; holds(&list, &[1, 2], 2));
+    check!(rt; holds(&other, &[3], 1));
+    check!(rt; counts(refusing, 3, 2));
     list.append(&mut other)?;
-    assert_list(&rt, &list, &[1, 2, 3], 4);
-    assert_counts(&rt, refusing, 4, 2);
+    check!(rt; holds(&list, &[1, 2, 3], 4));
+    check!(rt; counts(refusing, 4, 2));
     Ok(())
 }
 
@@ -48,20 +47,20 @@ fn extend_from_slice_drops_its_clones_if_one_is_refused(rt: HostRuntime) -> Resu
     let three = counted_list(ledger, rt.alloc(), 3)?;
     let mut list = thin_vec![rt.alloc() => Counted::new(ledger, 7, ())]?;
     ledger.begin(2);
-    assert_same(&rt, list.extend_from_slice(&three), Err(OUT_OF_MEMORY));
-    assert_same(&rt, (list.len(), list.capacity()), (1, 4));
-    assert_same(&rt, (ledger.clones.get(), ledger.live.get()), (1, 4));
+    check!(rt; same(list.extend_from_slice(&three), Err(OUT_OF_MEMORY)));
+    check!(rt; same((list.len(), list.capacity()), (1, 4)));
+    check!(rt; same((ledger.clones.get(), ledger.live.get()), (1, 4)));
     list.extend_from_slice(&three)?;
-    assert_same(&rt, (list.len(), list.capacity()), (4, 4));
-    assert_same(&rt, (ledger.clones.get(), ledger.live.get()), (4, 7));
+    check!(rt; same((list.len(), list.capacity()), (4, 4)));
+    check!(rt; same((ledger.clones.get(), ledger.live.get()), (4, 7)));
     Ok(())
 }
 
 // Asserts the numbers of the items.
 fn assert_numbers(rt: &impl Abort, items: &[Counted<'_>], numbers: &[u64]) {
-    assert_same(rt, items.len(), numbers.len());
+    check!(rt; same(items.len(), numbers.len()));
     for (item, number) in items.iter().zip(numbers) {
-        assert_same(rt, item.number(), *number);
+        check!(rt; same(item.number(), *number));
     }
 }
 
@@ -72,10 +71,10 @@ fn resize_grows_before_its_second_clone_is_refused(rt: HostRuntime) -> Result<()
     list.push(Counted::new(ledger, 7, ()))?;
     ledger.begin(2);
     let refused = list.resize(5, Counted::new(ledger, 8, ()));
-    assert_same(&rt, refused, Err(OUT_OF_MEMORY));
+    check!(rt; same(refused, Err(OUT_OF_MEMORY)));
     assert_numbers(&rt, &list, &[7]);
-    assert_same(&rt, list.capacity(), 5);
-    assert_same(&rt, (ledger.clones.get(), ledger.live.get()), (1, 1));
+    check!(rt; same(list.capacity(), 5));
+    check!(rt; same((ledger.clones.get(), ledger.live.get()), (1, 1)));
     Ok(())
 }
 
@@ -102,15 +101,15 @@ fn assert_clones_refused(
     let list = counted_list(ledger, alloc, 3)?;
     for way in 0..2 {
         ledger.begin(refused);
-        assert_same(rt, clone_by_way(way, &list, alloc), Err(OUT_OF_MEMORY));
+        check!(rt; same(clone_by_way(way, &list, alloc), Err(OUT_OF_MEMORY)));
         let made = refused.saturating_sub(1);
-        assert_same(rt, (ledger.clones.get(), ledger.live.get()), (made, 3));
+        check!(rt; same((ledger.clones.get(), ledger.live.get()), (made, 3)));
         assert_numbers(rt, &list, &[0, 1, 2]);
     }
     let items = list.into_iter();
     ledger.begin(refused);
-    assert_same(rt, items.clone(alloc).err(), Some(OUT_OF_MEMORY));
-    assert_same(rt, ledger.live.get(), 3);
+    check!(rt; same(items.clone(alloc).err(), Some(OUT_OF_MEMORY)));
+    check!(rt; same(ledger.live.get(), 3));
     assert_numbers(rt, items.as_slice(), &[0, 1, 2]);
     Ok(())
 }
@@ -120,7 +119,7 @@ fn a_refused_clone_makes_no_list(rt: HostRuntime) -> Result<(), Fail> {
     let ledger = Ledger::leaked(rt.alloc())?;
     for refused in 1..4 {
         assert_clones_refused(&rt, ledger, rt.alloc(), refused)?;
-        assert_same(&rt, ledger.live.get(), 0);
+        check!(rt; same(ledger.live.get(), 0));
     }
     Ok(())
 }
@@ -135,13 +134,9 @@ fn refused_extend_returns_the_item_in_hand(rt: HostRuntime) -> Result<(), Fail> 
         in_hand,
         mut rest,
     } = list.extend(items).err().ok_or("extended")?;
-    assert_same(
-        &rt,
-        (cause, in_hand, rest.next()),
-        (OUT_OF_MEMORY, Some(5), None),
-    );
-    assert_list(&rt, &list, &[1, 2, 3, 4], 4);
-    assert_counts(&rt, refusing, 2, 1);
+    check!(rt; same((cause, in_hand, rest.next()), (OUT_OF_MEMORY, Some(5), None)));
+    check!(rt; holds(&list, &[1, 2, 3, 4], 4));
+    check!(rt; counts(refusing, 2, 1));
     Ok(())
 }
 
@@ -158,13 +153,9 @@ fn refused_finish_returns_the_item_in_hand(rt: HostRuntime) -> Result<(), Fail> 
     } = splice(&mut list, (2, 4), items, refusing)
         .err()
         .ok_or("finished")?;
-    assert_same(
-        &rt,
-        (cause, in_hand, rest.next()),
-        (OUT_OF_MEMORY, Some(12), None),
-    );
-    assert_same(&rt, held.len(), 0);
-    assert_list(&rt, &list, &[1, 2, 10, 11, 5], 5);
+    check!(rt; same((cause, in_hand, rest.next()), (OUT_OF_MEMORY, Some(12), None)));
+    check!(rt; same(held.len(), 0));
+    check!(rt; holds(&list, &[1, 2, 10, 11, 5], 5));
     Ok(())
 }
 
@@ -183,12 +174,8 @@ fn refused_finish_returns_the_held_items(rt: HostRuntime) -> Result<(), Fail> {
     } = splice(&mut list, (1, 2), items, refusing)
         .err()
         .ok_or("finished")?;
-    assert_same(
-        &rt,
-        (cause, in_hand, rest.next()),
-        (OUT_OF_MEMORY, None, None),
-    );
-    assert_same(&rt, held.as_slice(), &[8, 9][..]);
-    assert_list(&rt, &list, &[1, 7, 3], 3);
+    check!(rt; same((cause, in_hand, rest.next()), (OUT_OF_MEMORY, None, None)));
+    check!(rt; same(held.as_slice(), &[8, 9][..]));
+    check!(rt; holds(&list, &[1, 7, 3], 3));
     Ok(())
 }

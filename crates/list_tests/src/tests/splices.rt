@@ -1,12 +1,11 @@
 //! Tests of `splice`: what the list has after `finish`, and what a refused `finish` returns.
 ghost use Rattle.std.specs.Prelude.{◌≤◌, length};
 
-use crate::tests::support::{assert_counts, assert_items, assert_len, assert_list, assert_same};
 use std::alloc::Global;
 use std::process::Abort;
 use std::test::Fail;
 use thin_runner::hinted::Hinted;
-use thin_testing::{Refusing, list_of, splice};
+use thin_testing::{Refusing, check, counts, has_len, holds, list_of, same, same_items, splice};
 use thin_vec::{SpliceRefused, ThinVec, ThinVecError};
 
 const NEW: [i32; 5] = [10, 11, 12, 13, 14];
@@ -30,11 +29,11 @@ fn finish_inserts_the_items(rt: HostRuntime) -> Result<(), Fail> {
     for &(new, lower, items, capacity, requests) in &FINISHED {
         let refusing = Refusing::leaked(rt.alloc(), 0)?;
         let mut list = list_of(refusing, &[1, 2, 3, 4, 5])?;
-        assert_len(&rt, &list, 5);
+        check!(rt; has_len(&list, 5));
         let iter = Hinted::new(new.to_vec(rt.alloc())?, lower);
         splice(&mut list, (2, 4), iter, refusing)?;
-        assert_list(&rt, &list, items, capacity);
-        assert_counts(&rt, refusing, requests, 1);
+        check!(rt; holds(&list, items, capacity));
+        check!(rt; counts(refusing, requests, 1));
     }
     Ok(())
 }
@@ -65,13 +64,13 @@ fn assert_left(
         in_hand,
         mut rest,
     } = refused;
-    assert_list(rt, list, left.items, left.capacity);
-    assert_same(rt, (cause, in_hand), (left.cause, left.in_hand));
-    assert_items(rt, held.as_slice(), left.held);
+    check!(rt; holds(list, left.items, left.capacity));
+    check!(rt; same((cause, in_hand), (left.cause, left.in_hand)));
+    check!(rt; same_items(held.as_slice(), left.held));
     for item in left.rest {
-        assert_same(rt, rest.next(), Some(*item));
+        check!(rt; same(rest.next(), Some(*item)));
     }
-    assert_same(rt, rest.next(), None);
+    check!(rt; same(rest.next(), None));
 }
 
 // Replaces the items `range.0..range.1` of a list of `old` by those of `new`, and asserts what the
@@ -158,7 +157,7 @@ fn finish_returns_each_item_if_a_growth_is_refused(rt: HostRuntime) -> Result<()
         let lender = Refusing::leaked(rt.alloc(), request)?;
         let iter = Hinted::new(NEW.to_vec(rt.alloc())?, lower);
         assert_refused(&rt, lender, &[1, 2, 3, 4, 5], (2, 4), iter, left)?;
-        assert_counts(&rt, lender, request, 0);
+        check!(rt; counts(lender, request, 0));
     }
     Ok(())
 }
@@ -166,10 +165,10 @@ fn finish_returns_each_item_if_a_growth_is_refused(rt: HostRuntime) -> Result<()
 #[test]
 fn finish_does_not_ask_for_the_hint_before_the_range_is_full(rt: HostRuntime) -> Result<(), Fail> {
     let mut list = list_of(rt.alloc(), &[1, 2, 3])?;
-    assert_len(&rt, &list, 3);
+    check!(rt; has_len(&list, 3));
     let iter = Hinted::new([9].to_vec(rt.alloc())?, usize::MAX);
     splice(&mut list, (0, 2), iter, rt.alloc())?;
-    assert_list(&rt, &list, &[9, 3], 3);
+    check!(rt; holds(&list, &[9, 3], 3));
     Ok(())
 }
 

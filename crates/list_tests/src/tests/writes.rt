@@ -1,10 +1,9 @@
 //! Tests of a list of bytes to which `write`, `write_all`, `write_vectored` or `write!` appends.
-use crate::tests::support::assert_same;
 use std::alloc::Global;
 use std::io::{ErrorKind, IoSlice, Write};
 use std::process::Abort;
 use std::test::Fail;
-use thin_testing::{Refusing, list_of};
+use thin_testing::{Refusing, check, list_of, same};
 use thin_vec::ThinVec;
 
 // Asserts that `write_all` and `write` fail if the memory is refused, and leave the list.
@@ -13,11 +12,11 @@ fn assert_write_refused(rt: &impl Abort, alloc: Global, bytes: &[u8]) -> Result<
     let mut list = list_of(refusing, bytes)?;
     refusing.refuse(1);
     let error = list.write_all(&[7, 8]).err().ok_or("written")?;
-    assert_same(rt, error.kind(), ErrorKind::OutOfMemory);
+    check!(rt; same(error.kind(), ErrorKind::OutOfMemory));
     refusing.refuse(1);
     let error = list.write(&[7, 8]).err().ok_or("written")?;
-    assert_same(rt, error.kind(), ErrorKind::OutOfMemory);
-    assert_same(rt, (list.as_slice(), list.capacity()), (bytes, bytes.len()));
+    check!(rt; same(error.kind(), ErrorKind::OutOfMemory));
+    check!(rt; same((list.as_slice(), list.capacity()), (bytes, bytes.len())));
     Ok(())
 }
 
@@ -32,12 +31,8 @@ fn write_macro_and_write_vectored_append_their_bytes(rt: HostRuntime) -> Result<
     let mut list: ThinVec<u8> = ThinVec::new(rt.alloc());
     write!(list, "{}-{:?}", 7, "x")?;
     let slices = [IoSlice::new(b"ab"), IoSlice::new(b""), IoSlice::new(b"cd")];
-    assert_same(&rt, list.write_vectored(&slices)?, 4);
-    assert_same(&rt, list.as_slice() == b"7-\"x\"abcd".as_slice(), true);
-    assert_same(
-        &rt,
-        (list.write(&[7; 20_000])?, list.len()),
-        (20_000, 20_009),
-    );
+    check!(rt; same(list.write_vectored(&slices)?, 4));
+    check!(rt; same(list.as_slice() == b"7-\"x\"abcd".as_slice(), true));
+    check!(rt; same((list.write(&[7; 20_000])?, list.len()), (20_000, 20_009)));
     Ok(())
 }

@@ -3,7 +3,6 @@
 ghost use Rattle.std.specs.Mem.{type_size};
 ghost use Rattle.std.specs.Prelude.{◌*◌, ◌<◌, ◌^◌};
 
-use crate::tests::support::{assert_counts, assert_len, assert_same};
 use std::alloc::{Allocator, Global};
 use std::default::Emptied;
 use std::io;
@@ -11,7 +10,10 @@ use std::process::Abort;
 use std::rc::Rc;
 use std::test::Fail;
 use thin_runner::hinted::Hinted;
-use thin_testing::{Counted, Ledger, Numbered, Refusing, list_of, numbered_items, splice};
+use thin_testing::{
+    Counted, Ledger, Numbered, Refusing, check, counts, has_len, list_of, numbered_items, same,
+    splice,
+};
 use thin_vec::{ThinVec, ThinVecError, thin_vec};
 
 // Makes a `Vec` of the items of the list with the allocator `alloc`, by one of six calls. The
@@ -49,10 +51,10 @@ fn assert_each_way_uses_the_allocator(
     for way in 0..6 {
         let mut made = made_by_way(way, list_of(own, items)?, other)?;
         made.push(9)?;
-        assert_same(rt, made.len(), items.len().saturating_add(1));
-        assert_same(rt, (way, own.blocks(), other.blocks()), (way, 0, 1));
+        check!(rt; same(made.len(), items.len().saturating_add(1)));
+        check!(rt; same((way, own.blocks(), other.blocks()), (way, 0, 1)));
     }
-    assert_counts(rt, own, if items.is_empty() { 0 } else { 6 }, 0);
+    check!(rt; counts(own, if items.is_empty() { 0 } else { 6 }, 0));
     Ok(())
 }
 
@@ -67,11 +69,11 @@ fn finish_holds_items_back_on_the_allocator_passed(rt: HostRuntime) -> Result<()
     let own = Refusing::leaked(rt.alloc(), 0)?;
     let other = Refusing::leaked(rt.alloc(), 0)?;
     let mut list = list_of(own, &[1, 2, 3])?;
-    assert_len(&rt, &list, 3);
+    check!(rt; has_len(&list, 3));
     let items = Hinted::new([7, 8, 9].to_vec(rt.alloc())?, 0);
     splice(&mut list, (1, 2), items, other)?;
-    assert_counts(&rt, own, 2, 1);
-    assert_counts(&rt, other, 1, 0);
+    check!(rt; counts(own, 2, 1));
+    check!(rt; counts(other, 1, 0));
     Ok(())
 }
 
@@ -281,10 +283,10 @@ fn assert_dropped<T: Numbered>(rt: &impl Abort, ledger: &'static Ledger) -> Resu
                     let made = (function, call, count, own, passed);
                     if own == 0 && passed == 0 {
                         let found = (ledger.alloc.requests(), ledger.alloc.lent());
-                        assert_same(rt, (made, is_ok, found), (made, true, due));
+                        check!(rt; same((made, is_ok, found), (made, true, due)));
                     }
                     let left = (Rc::strong_count(&owner), ledger.alloc.blocks());
-                    assert_same(rt, (made, left, ledger.live.get()), (made, (1, 0), 0));
+                    check!(rt; same((made, left, ledger.live.get()), (made, (1, 0), 0)));
                 }
             }
             function = function.saturating_add(1);
@@ -321,7 +323,7 @@ fn assert_dropped_by_copies<T: Numbered + Copy>(
             drop(ThinVec::from_copies(two, list.as_slice()).is_ok());
             drop(list);
             let left = (Rc::strong_count(&owner), ledger.alloc.blocks());
-            assert_same(rt, (count, passed, left), (count, passed, (1, 0)));
+            check!(rt; same((count, passed, left), (count, passed, (1, 0))));
         }
     }
     Ok(())
@@ -358,8 +360,8 @@ fn a_refused_capacity_drops_the_allocator(rt: HostRuntime) -> Result<(), Fail> {
         ] {
             let alloc = Refusing::leaked(rt.alloc(), 1)?;
             let owning = Refusing::owning(alloc, owner.clone()?);
-            assert_same(&rt, reserved(call, owning, capacity), Err(cause));
-            assert_same(&rt, (call, Rc::strong_count(&owner)), (call, 1));
+            check!(rt; same(reserved(call, owning, capacity), Err(cause)));
+            check!(rt; same((call, Rc::strong_count(&owner)), (call, 1)));
         }
     }
     Ok(())
@@ -372,8 +374,8 @@ fn a_refused_collection_drops_the_allocator(rt: HostRuntime) -> Result<(), Fail>
         let alloc = Refusing::leaked(rt.alloc(), refused)?;
         let owning = Refusing::owning(alloc, owner.clone()?);
         let items = Hinted::new([7; 20].to_vec(rt.alloc())?, 0);
-        assert_same(&rt, ThinVec::from_iter(owning, items).is_err(), true);
-        assert_same(&rt, (Rc::strong_count(&owner), alloc.blocks()), (1, 0));
+        check!(rt; same(ThinVec::from_iter(owning, items).is_err(), true));
+        check!(rt; same((Rc::strong_count(&owner), alloc.blocks()), (1, 0)));
     }
     Ok(())
 }
@@ -386,7 +388,7 @@ fn assert_emptied<T: Numbered>(rt: &impl Abort, ledger: &'static Ledger) -> Resu
         list.allocator().refuse(0);
         let empty: ThinVec<T, Owned> = Emptied::emptied(&list)?;
         let requests = list.allocator().requests();
-        assert_same(rt, (len, requests, empty.has_capacity()), (len, 1, false));
+        check!(rt; same((len, requests, empty.has_capacity()), (len, 1, false)));
     }
     Ok(())
 }

@@ -1,11 +1,10 @@
 //! Tests of lists whose blocks grow and shrink. A block whose items take 256 bytes or more can do
 //! so in place if an item takes 1, 2, 4, 8 or 16 bytes, and a block of 32 slots or more if its
 //! items are larger and aligned to 8. Each request is refused once and then granted.
-use crate::tests::support::assert_same;
 use std::alloc::{Allocator, Global};
 use std::process::Abort;
 use std::test::Fail;
-use thin_testing::{Ledger, Numbered, Refusing};
+use thin_testing::{Ledger, Numbered, Refusing, check, same};
 use thin_vec::{Growth, ThinVec, ThinVecError};
 
 // Asserts the length and the capacity of the list, and that each item is made from its index.
@@ -22,11 +21,7 @@ fn assert_numbered<T: Numbered, A: Allocator, G: Growth>(
             right = right.saturating_add(1);
         }
     }
-    assert_same(
-        rt,
-        (right, list.len(), list.capacity()),
-        (len, len, capacity),
-    );
+    check!(rt; same((right, list.len(), list.capacity()), (len, len, capacity)));
 }
 
 // Pushes items until the list is full.
@@ -71,7 +66,7 @@ fn assert_capacities<T: Numbered, A: Allocator>(
             let before = list.capacity();
             ledger.begin(1);
             let refused = make_capacity(&mut list, capacity);
-            assert_same(rt, refused, Err(ThinVecError::OutOfMemory));
+            check!(rt; same(refused, Err(ThinVecError::OutOfMemory)));
             assert_numbered(rt, ledger, &list, len, before);
         }
         make_capacity(&mut list, capacity)?;
@@ -91,7 +86,7 @@ fn assert_type<T: Numbered>(rt: &impl Abort, ledger: &'static Ledger) -> Result<
             assert_capacities::<T, _>(rt, ledger, ledger.global, len, more, false)?;
         }
     }
-    assert_same(rt, ledger.alloc.blocks(), 0);
+    check!(rt; same(ledger.alloc.blocks(), 0));
     Ok(())
 }
 
@@ -138,7 +133,7 @@ fn a_list_of_triples_grows_and_shrinks_around_32_slots(rt: HostRuntime) -> Resul
             assert_capacities::<[u64; 3], _>(&rt, ledger, ledger.global, len, more, false)?;
         }
     }
-    assert_same(&rt, ledger.alloc.blocks(), 0);
+    check!(rt; same(ledger.alloc.blocks(), 0));
     Ok(())
 }
 

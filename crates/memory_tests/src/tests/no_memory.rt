@@ -2,7 +2,6 @@
 //! that refuses all requests from then on. None of them fails, and none makes a request.
 ghost use Rattle.std.specs.Prelude.{◌≡◌, IfOk, length};
 
-use crate::tests::support::{assert_len, assert_list, assert_same};
 use std::alloc::{Allocator, Global};
 use std::cmp::Ordering;
 use std::fmt::Debug;
@@ -13,7 +12,7 @@ use std::ops::Bound;
 use std::panic::Expect;
 use std::process::Abort;
 use std::test::Fail;
-use thin_testing::{Refusing, list_of, splice};
+use thin_testing::{Refusing, check, has_len, holds, list_of, same, splice};
 use thin_vec::{PowerBytes, ThinVec, bounds, thin_vec};
 
 type Lender = &'static Refusing<Global>;
@@ -34,7 +33,7 @@ fn roomy(lender: Lender) -> Result<List, Fail>
 // Asserts that the call made a list without items and without an allocation.
 fn assert_empty<E: Debug>(rt: &impl Abort, made: Result<List, E>) {
     let list = made.expect(rt, "no list");
-    assert_list(rt, &list, &[], 0);
+    check!(rt; holds(&list, &[], 0));
 }
 
 #[test]
@@ -43,14 +42,9 @@ fn lists_without_items_take_no_memory(rt: HostRuntime) -> Result<(), Fail> {
     lender.refuse_all();
     let list = List::new(lender);
     assert_empty(&rt, list.clone(lender));
-    assert_same(&rt, list.into_iter().clone(lender)?.len(), 0);
-    assert_list(&rt, &ThinVec::default_in(lender), &[], 0);
-    assert_list(
-        &rt,
-        &ThinVec::<i32, Lender, PowerBytes>::ruled(lender),
-        &[],
-        0,
-    );
+    check!(rt; same(list.into_iter().clone(lender)?.len(), 0));
+    check!(rt; holds(&ThinVec::default_in(lender), &[], 0));
+    check!(rt; holds(&ThinVec::<i32, Lender, PowerBytes>::ruled(lender), &[], 0));
     assert_empty(&rt, ThinVec::with_capacity(lender, 0));
     assert_empty(&rt, thin_vec![lender =>]);
     assert_empty(&rt, ThinVec::from_slice(lender, &[]));
@@ -60,8 +54,8 @@ fn lists_without_items_take_no_memory(rt: HostRuntime) -> Result<(), Fail> {
     assert_empty(&rt, ThinVec::from_boxed_slice(lender, boxed));
     let vec = List::new(lender).into_vec(lender)?;
     let bytes = ThinVec::from_str(lender, "")?;
-    assert_same(&rt, (vec.capacity(), bytes.capacity()), (0, 0));
-    assert_same(&rt, lender.requests(), 0);
+    check!(rt; same((vec.capacity(), bytes.capacity()), (0, 0)));
+    check!(rt; same(lender.requests(), 0));
     Ok(())
 }
 
@@ -79,7 +73,7 @@ fn calls_that_fit_the_capacity_take_no_memory(rt: HostRuntime) -> Result<(), Fai
     assert_ok(&rt, list.reserve(2));
     assert_ok(&rt, list.reserve_exact(2));
     assert_ok(&rt, list.append(&mut other));
-    assert_list(&rt, &list, &[1, 2, 3, 1, 2], 5);
+    check!(rt; holds(&list, &[1, 2, 3, 1, 2], 5));
     assert_ok(&rt, list.shrink_to_fit());
     assert_ok(&rt, list.resize(5, 7));
     assert_ok(&rt, list.resize(2, 7));
@@ -87,19 +81,19 @@ fn calls_that_fit_the_capacity_take_no_memory(rt: HostRuntime) -> Result<(), Fai
     assert_ok(&rt, list.extend_from_slice(&[]));
     assert_ok(&rt, list.push(8));
     assert_ok(&rt, list.insert(0, 9));
-    assert_list(&rt, &list, &[9, 1, 2, 7, 8], 5);
+    check!(rt; holds(&list, &[9, 1, 2, 7, 8], 5));
     assert_empty(&rt, list.split_off(lender, 5));
     list.clear();
     assert_ok(&rt, list.extend(1..6));
-    assert_list(&rt, &list, &[1, 2, 3, 4, 5], 5);
+    check!(rt; holds(&list, &[1, 2, 3, 4, 5], 5));
     assert_ok(&rt, splice(&mut list, (1, 4), 7..9, lender));
-    assert_list(&rt, &list, &[1, 7, 8, 5], 5);
+    check!(rt; holds(&list, &[1, 7, 8, 5], 5));
     assert_ok(&rt, splice(&mut list, (3, 4), 3..5, lender));
-    assert_list(&rt, &list, &[1, 7, 8, 3, 4], 5);
+    check!(rt; holds(&list, &[1, 7, 8, 3, 4], 5));
     list.clear();
     assert_ok(&rt, list.shrink_to_fit());
-    assert_list(&rt, &list, &[], 0);
-    assert_same(&rt, lender.requests(), 0);
+    check!(rt; holds(&list, &[], 0));
+    check!(rt; same(lender.requests(), 0));
     Ok(())
 }
 
@@ -108,19 +102,19 @@ fn writes_that_fit_the_capacity_take_no_memory(rt: HostRuntime) -> Result<(), Fa
     let lender = Refusing::leaked(rt.alloc(), 0)?;
     let mut bytes: ThinVec<u8, Lender> = ThinVec::with_capacity(lender, 4)?;
     lender.refuse_all();
-    assert_same(&rt, bytes.write(&[1, 2])?, 2);
+    check!(rt; same(bytes.write(&[1, 2])?, 2));
     bytes.write_all(&[3, 4])?;
     bytes.flush()?;
-    assert_same(&rt, bytes.as_slice(), &[1, 2, 3, 4][..]);
-    assert_same(&rt, lender.requests(), 0);
+    check!(rt; same(bytes.as_slice(), &[1, 2, 3, 4][..]));
+    check!(rt; same(lender.requests(), 0));
     Ok(())
 }
 
 // Removes items of the list 1, 2, 3 by one of several calls, and drops what is left.
 fn remove_by_way<A: Allocator>(rt: &impl Abort, way: u32, mut list: ThinVec<i32, A>, alloc: A) {
     match way {
-        0 => assert_same(rt, list.pop(), Some(3)),
-        1 => assert_same(rt, list.pop_if(|item| *item == 3), Some(3)),
+        0 => check!(rt; same(list.pop(), Some(3))),
+        1 => check!(rt; same(list.pop_if(|item| *item == 3), Some(3))),
         2 => list.truncate(1),
         3 => list.clear(),
         4 => list.retain(|item| *item == 2),
@@ -128,43 +122,39 @@ fn remove_by_way<A: Allocator>(rt: &impl Abort, way: u32, mut list: ThinVec<i32,
         6 => list.dedup(),
         7 => list.dedup_by(|later, kept| *later > *kept),
         8 => list.dedup_by_key(|item| *item / 2),
-        9 => assert_same(rt, list.into_array::<3>().ok(), Some([1, 2, 3])),
-        10 => assert_same(rt, list.into_array::<2>().is_ok(), false),
+        9 => check!(rt; same(list.into_array::<3>().ok(), Some([1, 2, 3]))),
+        10 => check!(rt; same(list.into_array::<2>().is_ok(), false)),
         _ => remove_at_indices(rt, way, list, alloc),
     }
 }
 
 // Removes items of the list 1, 2, 3 by a call that takes an index or a range, or by `into_iter`.
 fn remove_at_indices<A: Allocator>(rt: &impl Abort, way: u32, mut list: ThinVec<i32, A>, alloc: A) {
-    assert_len(rt, &list, 3);
+    check!(rt; has_len(&list, 3));
     match way {
-        11 => assert_same(rt, list.remove(0), 1),
-        12 => assert_same(rt, list.swap_remove(0), 1),
+        11 => check!(rt; same(list.remove(0), 1)),
+        12 => check!(rt; same(list.swap_remove(0), 1)),
         13 => {
             let mut drain = list.drain(0, 3);
-            assert_same(rt, (drain.next(), drain.next_back()), (Some(1), Some(3)));
-            assert_same(rt, (drain.len(), drain.as_slice().len()), (1, 1));
-            assert_same(rt, drain.size_hint(), (1, Some(1)));
+            check!(rt; same((drain.next(), drain.next_back()), (Some(1), Some(3))));
+            check!(rt; same((drain.len(), drain.as_slice().len()), (1, 1)));
+            check!(rt; same(drain.size_hint(), (1, Some(1))));
         }
         14 => {
             let mut odd = list.extract_if(0, 3, |item: &mut i32| *item % 2 == 1);
-            assert_same(rt, (odd.next(), odd.size_hint()), (Some(1), (0, Some(2))));
+            check!(rt; same((odd.next(), odd.size_hint()), (Some(1), (0, Some(2)))));
         }
         15 => {
             let mut splice = list.splice(0, 2, empty());
-            assert_same(rt, (splice.len(), splice.size_hint()), (2, (2, Some(2))));
-            assert_same(rt, (splice.next(), splice.next_back()), (Some(1), Some(2)));
-            assert_same(rt, splice.finish(alloc).is_ok(), true);
+            check!(rt; same((splice.len(), splice.size_hint()), (2, (2, Some(2)))));
+            check!(rt; same((splice.next(), splice.next_back()), (Some(1), Some(2))));
+            check!(rt; same(splice.finish(alloc).is_ok(), true));
         }
         _ => {
             let mut rest = list.into_iter();
-            assert_same(rt, (rest.next(), rest.next_back()), (Some(1), Some(3)));
-            assert_same(rt, (rest.len(), rest.as_slice().len()), (1, 1));
-            assert_same(
-                rt,
-                (rest.size_hint(), rest.as_mut_slice().len()),
-                ((1, Some(1)), 1),
-            );
+            check!(rt; same((rest.next(), rest.next_back()), (Some(1), Some(3))));
+            check!(rt; same((rest.len(), rest.as_slice().len()), (1, 1)));
+            check!(rt; same((rest.size_hint(), rest.as_mut_slice().len()), ((1, Some(1)), 1)));
         }
     }
 }
@@ -174,31 +164,23 @@ fn calls_that_remove_items_take_no_memory(rt: HostRuntime) -> Result<(), Fail> {
     let lender = Refusing::leaked(rt.alloc(), 0)?;
     for way in 0..17 {
         remove_by_way(&rt, way, roomy(lender)?, lender);
-        assert_same(&rt, (way, lender.requests(), lender.blocks()), (way, 0, 0));
+        check!(rt; same((way, lender.requests(), lender.blocks()), (way, 0, 0)));
     }
     Ok(())
 }
 
 // Reads the list of the numbers from 1 to `last`, and compares it with an equal list.
 fn read<A: Allocator>(rt: &impl Abort, list: &ThinVec<i32, A>, other: &ThinVec<i32, A>, last: i32) {
-    assert_same(rt, (list.is_empty(), list.has_capacity()), (false, true));
-    assert_same(
-        rt,
-        (*list == *other, list.cmp(other)),
-        (true, Ordering::Equal),
-    );
-    assert_same(rt, list.partial_cmp(other), Some(Ordering::Equal));
+    check!(rt; same((list.is_empty(), list.has_capacity()), (false, true)));
+    check!(rt; same((*list == *other, list.cmp(other)), (true, Ordering::Equal)));
+    check!(rt; same(list.partial_cmp(other), Some(Ordering::Equal)));
     list.hash(&mut DefaultHasher::new());
     let mut item: i32 = 0;
     for number in list {
         item = *number;
     }
-    assert_same(rt, (item, list.first()), (last, Some(&1)));
-    assert_same(
-        rt,
-        bounds(Bound::Excluded(0), Bound::Unbounded, 3),
-        Some((1, 3)),
-    );
+    check!(rt; same((item, list.first()), (last, Some(&1))));
+    check!(rt; same(bounds(Bound::Excluded(0), Bound::Unbounded, 3), Some((1, 3))));
 }
 
 // Writes to the list of the numbers from 1 to `last`.
@@ -207,10 +189,10 @@ fn write<A: Allocator>(rt: &impl Abort, list: &mut ThinVec<i32, A>, last: i32) {
         *item = item.saturating_add(1);
     }
     list.as_mut_slice().reverse();
-    assert_same(rt, list.get_mut(90).is_none(), true);
+    check!(rt; same(list.get_mut(90).is_none(), true));
     assert!(rt; list.len() > 1);
     list[0] = 7;
-    assert_same(rt, (list[0], list[1]), (7, last));
+    check!(rt; same((list[0], list[1]), (7, last)));
 }
 
 #[test]
@@ -226,7 +208,7 @@ fn calls_that_read_and_write_items_take_no_memory(rt: HostRuntime) -> Result<(),
         lender.refuse_all();
         read(&rt, &list, &other, last);
         write(&rt, &mut list, last);
-        assert_same(&rt, (last, lender.requests()), (last, 0));
+        check!(rt; same((last, lender.requests()), (last, 0)));
     }
     Ok(())
 }

@@ -3,12 +3,11 @@
 ghost use Rattle.std.specs.Mem.{type_size};
 ghost use Rattle.std.specs.Prelude.{◌*◌, ◌<◌, ◌^◌};
 
-use crate::tests::support::assert_same;
 use std::alloc::Global;
 use std::io;
 use std::process::Abort;
 use std::test::Fail;
-use thin_testing::{Ledger, Numbered};
+use thin_testing::{Ledger, Numbered, check, same};
 use thin_vec::ThinVec;
 
 // The size of each block in bytes, 8 GiB, of which little is written. A process can have 2^47
@@ -59,7 +58,7 @@ fn assert_freed<T: Numbered>(rt: &impl Abort, ledger: &'static Ledger, alloc: Gl
                 made = made.saturating_add(1);
             }
         }
-        assert_same(rt, (T::SIZE, way, len, made), (T::SIZE, way, len, ROUNDS));
+        check!(rt; same((T::SIZE, way, len, made), (T::SIZE, way, len, ROUNDS)));
     }
 }
 

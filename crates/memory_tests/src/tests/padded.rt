@@ -3,11 +3,10 @@
 //! tests compare the number of allocated bytes, so they see which blocks are padded, and that each
 //! block is freed with its size. Each request for a padded block is refused once and then granted.
 use crate::tests::in_place::make_capacity;
-use crate::tests::support::assert_same;
 use std::alloc::{Allocator, Global};
 use std::process::Abort;
 use std::test::Fail;
-use thin_testing::{Counted, Ledger, Numbered, Refusing, Ruled};
+use thin_testing::{Counted, Ledger, Numbered, Refusing, Ruled, check, same};
 use thin_vec::{Doubling, PowerBytes, ThinVec, ThinVecError};
 
 // The lists of these tests.
@@ -69,18 +68,18 @@ fn assert_filled<T: Numbered, A: Allocator>(
         }
     }
     let found = (right, list.len(), list.capacity());
-    assert_same(rt, found, (wanted.0, wanted.0, wanted.1));
+    check!(rt; same(found, (wanted.0, wanted.0, wanted.1)));
 }
 
 // Asserts how many bytes of memory are allocated.
 fn assert_bytes(rt: &impl Abort, ledger: &Ledger, bytes: usize) {
-    assert_same(rt, ledger.alloc.bytes(), bytes as u64);
+    check!(rt; same(ledger.alloc.bytes(), bytes as u64));
 }
 
 // Asserts that there is no block, no allocated byte, and no item.
 fn assert_nothing(rt: &impl Abort, ledger: &Ledger) {
     let left = (ledger.alloc.blocks(), ledger.alloc.bytes());
-    assert_same(rt, (left, ledger.live.get()), ((0, 0), 0));
+    check!(rt; same((left, ledger.live.get()), ((0, 0), 0)));
 }
 
 // Changes the capacity of a list of `len` items from `from` to `to`, first with a refused request,
@@ -99,7 +98,7 @@ fn assert_resized<T: Numbered>(
     fill(ledger, &mut list, 0, len)?;
     ledger.begin(1);
     let refused = make_capacity(&mut list, to);
-    assert_same(rt, refused, Err(ThinVecError::OutOfMemory));
+    check!(rt; same(refused, Err(ThinVecError::OutOfMemory)));
     assert_filled(rt, ledger, &list, 0, (len, from));
     assert_bytes(rt, ledger, bytes_of::<T>(from, least));
     make_capacity(&mut list, to)?;
@@ -210,7 +209,7 @@ fn assert_call<T: Numbered>(
     fill(ledger, &mut other, len, len)?;
     ledger.begin(refused);
     let is_ok = make_call(call, ledger, &mut list, &mut other).is_ok();
-    assert_same(rt, is_ok, refused == 0 || ledger.alloc.requests() < refused);
+    check!(rt; same(is_ok, refused == 0 || ledger.alloc.requests() < refused));
     let (double, roomy) = (len.saturating_mul(2), len.saturating_add(2));
     let rest = len.saturating_sub(2);
     let (wanted, first, wanted_other) = match call {
@@ -282,7 +281,7 @@ fn assert_requests<T: Numbered, G: Ruled>(
             (capacity, 0, 0)
         };
         let (requests, bytes) = (ledger.alloc.requests(), ledger.alloc.lent() as usize);
-        assert_same(rt, (list.capacity(), requests, bytes), wanted);
+        check!(rt; same((list.capacity(), requests, bytes), wanted));
     }
     drop(list);
     assert_nothing(rt, ledger);

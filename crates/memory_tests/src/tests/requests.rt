@@ -1,29 +1,28 @@
 //! Tests of the allocator `Refusing`: which requests it refuses, and what it counts.
-use crate::tests::support::{assert_counts, assert_same};
 use std::test::Fail;
-use thin_testing::Refusing;
+use thin_testing::{Refusing, check, counts, same};
 
 #[test]
 fn counts_live_blocks(rt: HostRuntime) -> Result<(), Fail> {
     let refusing = Refusing::new(rt.alloc(), 0);
     let mut one = Vec::new(&refusing);
-    assert_counts(&rt, &refusing, 0, 0);
+    check!(rt; counts(&refusing, 0, 0));
     one.push(1_u8)?;
-    assert_counts(&rt, &refusing, 1, 1);
-    assert_same(&rt, refusing.lent(), refusing.bytes());
+    check!(rt; counts(&refusing, 1, 1));
+    check!(rt; same(refusing.lent(), refusing.bytes()));
     one.reserve(1000)?;
-    assert_counts(&rt, &refusing, 2, 1);
-    assert_same(&rt, refusing.lent() > refusing.bytes(), true);
+    check!(rt; counts(&refusing, 2, 1));
+    check!(rt; same(refusing.lent() > refusing.bytes(), true));
     refusing.refuse(1);
     let mut other = Vec::new(&refusing);
-    assert_same(&rt, other.push(2_u8).is_ok(), false);
-    assert_counts(&rt, &refusing, 1, 1);
-    assert_same(&rt, refusing.lent(), 0);
+    check!(rt; same(other.push(2_u8).is_ok(), false));
+    check!(rt; counts(&refusing, 1, 1));
+    check!(rt; same(refusing.lent(), 0));
     other.push(2)?;
-    assert_counts(&rt, &refusing, 2, 2);
+    check!(rt; counts(&refusing, 2, 2));
     drop(one);
     drop(other);
-    assert_counts(&rt, &refusing, 2, 0);
+    check!(rt; counts(&refusing, 2, 0));
     Ok(())
 }
 
@@ -35,15 +34,15 @@ fn refuses_only_the_nth_request(rt: HostRuntime) -> Result<(), Fail> {
         for request in 1..10 {
             let mut one = Vec::new(&refusing);
             let answer = (refused, request, one.push(request).is_ok());
-            assert_same(&rt, answer, (refused, request, request != refused));
+            check!(rt; same(answer, (refused, request, request != refused)));
             kept.push(one)?;
         }
-        assert_counts(&rt, &refusing, 9, 8);
+        check!(rt; counts(&refusing, 9, 8));
         let twin = refusing.clone()?;
         for request in 1..10 {
-            assert_same(&rt, (request, twin.request().is_ok()), (request, true));
+            check!(rt; same((request, twin.request().is_ok()), (request, true)));
         }
-        assert_counts(&rt, &refusing, 10, 8);
+        check!(rt; counts(&refusing, 10, 8));
     }
     Ok(())
 }

@@ -1,33 +1,32 @@
 //! The capacity after each call.
-use crate::tests::support::{assert_list, assert_same};
 use std::alloc::Global;
 use std::mem::size_of;
 use std::process::Abort;
 use std::test::Fail;
-use thin_testing::Refusing;
+use thin_testing::{Refusing, check, holds, same};
 use thin_vec::{ThinVec, ThinVecError};
 
 #[test]
 fn a_list_is_one_pointer_wide(rt: HostRuntime) {
     let width = size_of::<ThinVec<u8, Global>>();
-    assert_same(&rt, width, size_of::<*const u8>());
-    assert_same(&rt, width < size_of::<Vec<u8, Global>>(), true);
+    check!(rt; same(width, size_of::<*const u8>()));
+    check!(rt; same(width < size_of::<Vec<u8, Global>>(), true));
 }
 
 #[test]
 fn clear_keeps_the_capacity(rt: HostRuntime) -> Result<(), Fail> {
     let mut list = ThinVec::new(rt.alloc());
     list.clear();
-    assert_list(&rt, &list, &[], 0);
+    check!(rt; holds(&list, &[], 0));
     for items in &[[1, 2], [3, 4]] {
         list.push(items[0])?;
         list.push(items[1])?;
-        assert_list(&rt, &list, items, 4);
+        check!(rt; holds(&list, items, 4));
         list.clear();
-        assert_list(&rt, &list, &[], 4);
+        check!(rt; holds(&list, &[], 4));
     }
     list.clear();
-    assert_list(&rt, &list, &[], 4);
+    check!(rt; holds(&list, &[], 4));
     Ok(())
 }
 
@@ -62,8 +61,8 @@ fn reserve(
 
 #[test]
 fn reserve_doubles_and_reserve_exact_does_not(rt: HostRuntime) -> Result<(), Fail> {
-    assert_same(&rt, reserved(rt.alloc(), false)?, [4, 16, 32, 32, 64]);
-    assert_same(&rt, reserved(rt.alloc(), true)?, [2, 16, 32, 32, 33]);
+    check!(rt; same(reserved(rt.alloc(), false)?, [4, 16, 32, 32, 64]));
+    check!(rt; same(reserved(rt.alloc(), true)?, [2, 16, 32, 32, 33]));
     Ok(())
 }
 
@@ -71,7 +70,7 @@ fn reserve_doubles_and_reserve_exact_does_not(rt: HostRuntime) -> Result<(), Fai
 fn assert_overflows<T: Drop>(rt: &impl Abort, alloc: &'static Refusing<Global>, capacity: usize) {
     let refused = ThinVec::<T, &'static Refusing<Global>>::with_capacity(alloc, capacity).err();
     let overflow = Some(ThinVecError::CapacityOverflow);
-    assert_same(rt, (capacity, refused), (capacity, overflow));
+    check!(rt; same((capacity, refused), (capacity, overflow)));
 }
 
 #[test]
@@ -84,24 +83,24 @@ fn with_capacity_detects_overflow_before_any_request(rt: HostRuntime) -> Result<
     for capacity in [most / 2 + 1, most + 1] {
         assert_overflows::<u16>(&rt, refusing, capacity);
     }
-    assert_same(&rt, refusing.requests(), 0);
+    check!(rt; same(refusing.requests(), 0));
     Ok(())
 }
 
 #[test]
 fn has_capacity_tells_whether_a_list_has_a_block(rt: HostRuntime) -> Result<(), Fail> {
     let mut list = ThinVec::new(rt.alloc());
-    assert_same(&rt, list.has_capacity(), false);
+    check!(rt; same(list.has_capacity(), false));
     list.push(0)?;
-    assert_same(&rt, list.has_capacity(), true);
-    assert_same(&rt, (list.pop(), list.has_capacity()), (Some(0), true));
+    check!(rt; same(list.has_capacity(), true));
+    check!(rt; same((list.pop(), list.has_capacity()), (Some(0), true)));
     list.shrink_to_fit()?;
-    assert_same(&rt, list.has_capacity(), false);
+    check!(rt; same(list.has_capacity(), false));
     list.reserve(64)?;
-    assert_same(&rt, list.has_capacity(), true);
+    check!(rt; same(list.has_capacity(), true));
     for (capacity, has_block) in [(64, true), (0, false)] {
         let list = ThinVec::<u32>::with_capacity(rt.alloc(), capacity)?;
-        assert_same(&rt, list.has_capacity(), has_block);
+        check!(rt; same(list.has_capacity(), has_block));
     }
     Ok(())
 }
@@ -110,7 +109,7 @@ fn has_capacity_tells_whether_a_list_has_a_block(rt: HostRuntime) -> Result<(), 
 fn calls_on_a_new_list_make_no_block(rt: HostRuntime) -> Result<(), Fail> {
     let alloc = rt.alloc();
     let mut list: ThinVec<i32> = ThinVec::new(alloc);
-    assert_same(&rt, list.pop(), None);
+    check!(rt; same(list.pop(), None));
     list.truncate(1);
     list.truncate(0);
     list.append(&mut ThinVec::new(alloc))?;
@@ -118,10 +117,10 @@ fn calls_on_a_new_list_make_no_block(rt: HostRuntime) -> Result<(), Fail> {
     list.reserve_exact(0)?;
     list.retain_mut(|_item| true);
     list.dedup_by_key(|item| *item);
-    assert_list(&rt, &list, &[], 0);
-    assert_same(&rt, list.into_iter().next(), None);
-    assert_list(&rt, &ThinVec::with_capacity(alloc, 0)?, &[], 0);
-    assert_list(&rt, &ThinVec::default_in(alloc), &[], 0);
+    check!(rt; holds(&list, &[], 0));
+    check!(rt; same(list.into_iter().next(), None));
+    check!(rt; holds(&ThinVec::with_capacity(alloc, 0)?, &[], 0));
+    check!(rt; holds(&ThinVec::default_in(alloc), &[], 0));
     Ok(())
 }
 
@@ -132,9 +131,9 @@ fn reallocation_keeps_an_item_of_the_largest_alignment(rt: HostRuntime) -> Resul
     list.push(273_u128)?;
     for additional in 0..4096 {
         list.reserve_exact(additional)?;
-        assert_same(&rt, list.as_slice(), &[273]);
+        check!(rt; same(list.as_slice(), &[273]));
         list.shrink_to_fit()?;
-        assert_same(&rt, list.as_slice(), &[273]);
+        check!(rt; same(list.as_slice(), &[273]));
     }
     Ok(())
 }

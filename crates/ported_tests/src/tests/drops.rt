@@ -1,10 +1,9 @@
 //! When items are dropped: each one once. Dropping an empty list makes no request.
-use crate::tests::support::{assert_len, assert_same};
 use std::iter::once;
 use std::process::Abort;
 use std::rc::Rc;
 use std::test::Fail;
-use thin_testing::{Counted, Ledger, Refusing, counted_list};
+use thin_testing::{Counted, Ledger, Refusing, check, counted_list, has_len, same};
 use thin_vec::ThinVec;
 
 #[test]
@@ -13,10 +12,10 @@ fn truncate_drops_each_removed_item_once(rt: HostRuntime) -> Result<(), Fail> {
     let mut list = counted_list(ledger, rt.alloc(), 5)?;
     for len in [3, 0] {
         list.truncate(len);
-        assert_same(&rt, ledger.live.get(), len as u64);
+        check!(rt; same(ledger.live.get(), len as u64));
     }
     drop(list);
-    assert_same(&rt, ledger.live.get(), 0);
+    check!(rt; same(ledger.live.get(), 0));
     Ok(())
 }
 
@@ -33,11 +32,11 @@ fn dropping_a_moved_list_drops_its_item_once(rt: HostRuntime) -> Result<(), Fail
         early: counted_list(ledger, rt.alloc(), 1)?,
         late: counted_list(ledger, rt.alloc(), 1)?,
     };
-    assert_same(&rt, ledger.live.get(), 2);
+    check!(rt; same(ledger.live.get(), 2));
     drop(lists.early);
-    assert_same(&rt, ledger.live.get(), 1);
+    check!(rt; same(ledger.live.get(), 1));
     drop(lists.late);
-    assert_same(&rt, ledger.live.get(), 0);
+    check!(rt; same(ledger.live.get(), 0));
     Ok(())
 }
 
@@ -46,9 +45,9 @@ fn extend_moves_an_item_without_dropping_it(rt: HostRuntime) -> Result<(), Fail>
     let ledger = Ledger::leaked(rt.alloc())?;
     let mut list: ThinVec<Counted<'static>> = ThinVec::new(rt.alloc());
     list.extend(once(Counted::new(ledger, 1, ())))?;
-    assert_same(&rt, ledger.live.get(), 1);
+    check!(rt; same(ledger.live.get(), 1));
     drop(list);
-    assert_same(&rt, ledger.live.get(), 0);
+    check!(rt; same(ledger.live.get(), 0));
     Ok(())
 }
 
@@ -56,12 +55,12 @@ fn extend_moves_an_item_without_dropping_it(rt: HostRuntime) -> Result<(), Fail>
 fn dropping_an_empty_list_makes_no_request(rt: HostRuntime) {
     let refusing = Refusing::new(rt.alloc(), 1);
     drop(ThinVec::<u64, _>::new(&refusing));
-    assert_same(&rt, refusing.requests(), 0);
+    check!(rt; same(refusing.requests(), 0));
 }
 
 // Removes the items of a list of three items by one of several calls, and drops the list.
 fn remove_by_way(rt: &impl Abort, way: u32, mut list: ThinVec<Rc<u32>>) {
-    assert_len(rt, &list, 3);
+    check!(rt; has_len(&list, 3));
     match way {
         0 => list.truncate(1),
         1 => list.retain(|_item| false),
@@ -85,7 +84,7 @@ fn each_call_drops_items_of_eight_bytes(rt: HostRuntime) -> Result<(), Fail> {
             list.push(item.clone()?)?;
         }
         remove_by_way(&rt, way, list);
-        assert_same(&rt, (way, Rc::strong_count(&item)), (way, 1));
+        check!(rt; same((way, Rc::strong_count(&item)), (way, 1)));
     }
     Ok(())
 }

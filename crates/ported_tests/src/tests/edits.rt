@@ -1,6 +1,5 @@
 //! `drain`, `splice`, and the calls that test items.
 use crate::tests::boxes_of;
-use crate::tests::support::{assert_items, assert_len, assert_list, assert_same};
 use std::alloc::{Allocator, Global};
 use std::fmt::Debug;
 use std::iter::empty;
@@ -8,7 +7,7 @@ use std::ops::Bound;
 use std::ops::Bound::{Excluded, Included, Unbounded};
 use std::process::Abort;
 use std::test::Fail;
-use thin_testing::list_of;
+use thin_testing::{check, has_len, holds, list_of, same, same_items};
 use thin_vec::{Drain, ThinVec, bounds};
 
 type Range = (Bound<usize>, Bound<usize>);
@@ -29,8 +28,8 @@ fn assert_drained<T: Copy + PartialEq + Debug + Drop>(
             return Err(Fail::new("no range"));
         };
         assert_yields(rt, &mut list.drain(start, end), is_reverse, drained);
-        assert_items(rt, &list, left);
-        assert_same(rt, list.capacity(), items.len());
+        check!(rt; same_items(&list, left));
+        check!(rt; same(list.capacity(), items.len()));
     }
     Ok(())
 }
@@ -42,18 +41,18 @@ fn assert_yields<T: PartialEq + Debug + Drop, A: Allocator>(
     is_reverse: bool,
     wanted: &[T],
 ) {
-    assert_items(rt, drain.as_slice(), wanted);
-    assert_same(rt, drain.size_hint(), (wanted.len(), Some(wanted.len())));
+    check!(rt; same_items(drain.as_slice(), wanted));
+    check!(rt; same(drain.size_hint(), (wanted.len(), Some(wanted.len()))));
     let mut items = wanted.iter();
     for _ in 0..wanted.len() {
         if is_reverse {
-            assert_same(rt, drain.next_back().as_ref(), items.next_back());
+            check!(rt; same(drain.next_back().as_ref(), items.next_back()));
         } else {
-            assert_same(rt, drain.next().as_ref(), items.next());
+            check!(rt; same(drain.next().as_ref(), items.next()));
         }
     }
     let ended = (drain.len(), drain.next(), drain.next_back());
-    assert_same(rt, ended, (0, None, None));
+    check!(rt; same(ended, (0, None, None)));
 }
 
 #[test]
@@ -131,11 +130,11 @@ fn drain_yields_ranges_of_texts(rt: HostRuntime) -> Result<(), Fail> {
 fn splice_yields_zero_sized_items(rt: HostRuntime) -> Result<(), Fail> {
     let alloc = rt.alloc();
     let mut list = list_of(alloc, &[(), (), ()])?;
-    assert_len(&rt, &list, 3);
+    check!(rt; has_len(&list, 3));
     let mut splice = list.splice(1, 2, empty());
-    assert_same(&rt, (splice.next(), splice.next()), (Some(()), None));
+    check!(rt; same((splice.next(), splice.next()), (Some(()), None)));
     splice.finish(alloc)?;
-    assert_same(&rt, list.len(), 2);
+    check!(rt; same(list.len(), 2));
     Ok(())
 }
 
@@ -143,7 +142,7 @@ fn splice_yields_zero_sized_items(rt: HostRuntime) -> Result<(), Fail> {
 fn retain_keeps_the_items_tested_true(rt: HostRuntime) -> Result<(), Fail> {
     let mut list = list_of(rt.alloc(), &[1, 2, 3, 4])?;
     list.retain(|item| item % 2 == 0);
-    assert_list(&rt, &list, &[2, 4], 4);
+    check!(rt; holds(&list, &[2, 4], 4));
     Ok(())
 }
 
@@ -166,12 +165,12 @@ fn dedup_removes_equal_neighbours(rt: HostRuntime) -> Result<(), Fail> {
     for (items, wanted) in &SHORT {
         let mut list = list_of(rt.alloc(), items)?;
         list.dedup();
-        assert_list(&rt, &list, wanted, items.len());
+        check!(rt; holds(&list, wanted, items.len()));
     }
     for items in &REPEATED {
         let mut list = list_of(rt.alloc(), items)?;
         list.dedup();
-        assert_list(&rt, &list, &[1, 2, 3], items.len());
+        check!(rt; holds(&list, &[1, 2, 3], items.len()));
     }
     Ok(())
 }
@@ -182,13 +181,13 @@ fn dedup_compares_boxes_by_their_values(rt: HostRuntime) -> Result<(), Fail> {
         let mut list = boxes_of(rt.alloc(), items)?;
         list.dedup();
         let wanted = boxes_of(rt.alloc(), wanted)?;
-        assert_same(&rt, list.as_slice(), wanted.as_slice());
+        check!(rt; same(list.as_slice(), wanted.as_slice()));
     }
     let wanted = boxes_of(rt.alloc(), &[1, 2, 3])?;
     for items in &REPEATED {
         let mut list = boxes_of(rt.alloc(), items)?;
         list.dedup();
-        assert_same(&rt, list.as_slice(), wanted.as_slice());
+        check!(rt; same(list.as_slice(), wanted.as_slice()));
     }
     Ok(())
 }
@@ -209,7 +208,7 @@ fn dedup_by_key_removes_neighbours_with_equal_keys(rt: HostRuntime) -> Result<()
     for (items, wanted) in &TENS {
         let mut list = list_of(rt.alloc(), items)?;
         list.dedup_by_key(|item| *item / 10);
-        assert_list(&rt, &list, wanted, items.len());
+        check!(rt; holds(&list, wanted, items.len()));
     }
     Ok(())
 }
@@ -218,6 +217,6 @@ fn dedup_by_key_removes_neighbours_with_equal_keys(rt: HostRuntime) -> Result<()
 fn dedup_by_removes_neighbours_that_its_closure_equates(rt: HostRuntime) -> Result<(), Fail> {
     let mut list = list_of(rt.alloc(), &["foo", "bar", "Bar", "baz", "bar"])?;
     list.dedup_by(|later, kept| later.eq_ignore_ascii_case(*kept));
-    assert_items(&rt, &list, &["foo", "bar", "baz", "bar"]);
+    check!(rt; same_items(&list, &["foo", "bar", "baz", "bar"]));
     Ok(())
 }

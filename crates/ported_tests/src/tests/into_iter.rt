@@ -1,33 +1,33 @@
 //! The iterator `IntoIter`.
-use crate::tests::support::{assert_items, assert_list, assert_same, assert_text};
 use std::alloc::Global;
 use std::process::Abort;
 use std::test::Fail;
-use thin_testing::list_of;
+use thin_testing::{check, holds, list_of, same, same_items};
 use thin_vec::{IntoIter, ThinVec, ThinVecError};
 
 #[test]
 fn into_iter_as_slice_returns_the_remaining_items(rt: HostRuntime) -> Result<(), Fail> {
     let mut items = list_of(rt.alloc(), &['a', 'b', 'c'])?.into_iter();
-    assert_items(&rt, items.as_slice(), &['a', 'b', 'c']);
-    assert_same(&rt, items.next(), Some('a'));
-    assert_items(&rt, items.as_slice(), &['b', 'c']);
-    assert_same(&rt, [items.next(), items.next()], [Some('b'), Some('c')]);
-    assert_items(&rt, items.as_slice(), &[]);
-    assert_same(&rt, (items.next(), items.next_back()), (None, None));
+    check!(rt; same_items(items.as_slice(), &['a', 'b', 'c']));
+    check!(rt; same(items.next(), Some('a')));
+    check!(rt; same_items(items.as_slice(), &['b', 'c']));
+    check!(rt; same([items.next(), items.next()], [Some('b'), Some('c')]));
+    check!(rt; same_items(items.as_slice(), &[]));
+    check!(rt; same((items.next(), items.next_back()), (None, None)));
     Ok(())
 }
 
 #[test]
 fn into_iter_yields_items_written_through_its_slice(rt: HostRuntime) -> Result<(), Fail> {
     let mut items = list_of(rt.alloc(), &['a', 'b', 'c'])?.into_iter();
-    assert_text(&rt, rt.alloc(), &items, "IntoIter(['a', 'b', 'c'])")?;
+    let text = format!(in rt.alloc(); "{items:?}")?;
+    check!(rt; same(text.as_str(), "IntoIter(['a', 'b', 'c'])"));
     assert_eq!(rt; items.len(), 3);
     items.as_mut_slice()[0] = 'x';
     items.as_mut_slice()[1] = 'y';
-    assert_same(&rt, items.next(), Some('x'));
-    assert_items(&rt, items.as_slice(), &['y', 'c']);
-    assert_same(&rt, list_of(rt.alloc(), &[1, 2, 3])?.into_iter().count(), 3);
+    check!(rt; same(items.next(), Some('x')));
+    check!(rt; same_items(items.as_slice(), &['y', 'c']));
+    check!(rt; same(list_of(rt.alloc(), &[1, 2, 3])?.into_iter().count(), 3));
     Ok(())
 }
 
@@ -38,7 +38,7 @@ fn assert_cloned(
     alloc: Global,
     wanted: &[i32],
 ) -> Result<(), ThinVecError> {
-    assert_items(rt, items.clone(alloc)?.as_slice(), wanted);
+    check!(rt; same_items(items.clone(alloc)?.as_slice(), wanted));
     Ok(())
 }
 
@@ -46,11 +46,11 @@ fn assert_cloned(
 fn into_iter_clone_has_the_remaining_items(rt: HostRuntime) -> Result<(), Fail> {
     let mut items = list_of(rt.alloc(), &[1, 2, 3])?.into_iter();
     assert_cloned(&rt, &items, rt.alloc(), &[1, 2, 3])?;
-    assert_same(&rt, items.next(), Some(1));
+    check!(rt; same(items.next(), Some(1)));
     assert_cloned(&rt, &items, rt.alloc(), &[2, 3])?;
-    assert_same(&rt, items.next_back(), Some(3));
+    check!(rt; same(items.next_back(), Some(3)));
     assert_cloned(&rt, &items, rt.alloc(), &[2])?;
-    assert_same(&rt, items.next(), Some(2));
+    check!(rt; same(items.next(), Some(2)));
     assert_cloned(&rt, &items, rt.alloc(), &[])?;
     Ok(())
 }
@@ -66,8 +66,8 @@ fn moved_twice<T: Copy + Drop>(alloc: Global, items: &[T]) -> Result<ThinVec<T>,
 #[test]
 fn extend_moves_the_items_of_an_into_iter(rt: HostRuntime) -> Result<(), Fail> {
     let moved = moved_twice(rt.alloc(), &[1, 2, 3])?;
-    assert_list(&rt, &moved, &[1, 2, 3, 3, 2, 1], 8);
+    check!(rt; holds(&moved, &[1, 2, 3, 3, 2, 1], 8));
     let units = moved_twice(rt.alloc(), &[(), (), ()])?;
-    assert_same(&rt, units.len(), 6);
+    check!(rt; same(units.len(), 6));
     Ok(())
 }

@@ -1,18 +1,17 @@
 //! The items after each call, and when they are dropped.
 use crate::tests::boxes_of;
-use crate::tests::support::{assert_items, assert_list, assert_same};
 use std::alloc::Global;
 use std::process::Abort;
 use std::test::Fail;
-use thin_testing::{Refusing, list_of};
+use thin_testing::{Refusing, check, holds, list_of, same, same_items};
 use thin_vec::{ThinVec, ThinVecError};
 
 #[test]
 fn index_reads_and_writes_an_item(rt: HostRuntime) -> Result<(), Fail> {
     let mut list = list_of(rt.alloc(), &[1, 2, 3])?;
-    assert_same(&rt, list[1], 2);
+    check!(rt; same(list[1], 2));
     list[1] = 22;
-    assert_items(&rt, &list, &[1, 22, 3]);
+    check!(rt; same_items(&list, &[1, 22, 3]));
     Ok(())
 }
 
@@ -26,23 +25,23 @@ fn add(amount: i32, items: &mut [i32]) {
 fn writes_through_parts_of_the_slice(rt: HostRuntime) -> Result<(), Fail> {
     let mut list = list_of(rt.alloc(), &[1, 2, 3, 4, 5])?;
     add(2, &mut list.as_mut_slice()[2..]);
-    assert_items(&rt, &list, &[1, 2, 5, 6, 7]);
+    check!(rt; same_items(&list, &[1, 2, 5, 6, 7]));
     let mut list = list_of(rt.alloc(), &[1, 2, 3, 4, 5])?;
     add(1, &mut list.as_mut_slice()[..2]);
-    assert_items(&rt, &list, &[2, 3, 3, 4, 5]);
+    check!(rt; same_items(&list, &[2, 3, 3, 4, 5]));
     let mut list = list_of(rt.alloc(), &[1, 2, 3, 4, 5])?;
     let (left, right) = list.as_mut_slice().split_at_mut(2);
     add(1, left);
     add(2, right);
-    assert_items(&rt, &list, &[2, 3, 5, 6, 7]);
+    check!(rt; same_items(&list, &[2, 3, 5, 6, 7]));
     Ok(())
 }
 
 #[test]
 fn compares_lists_by_their_items(rt: HostRuntime) -> Result<(), Fail> {
     let zero = list_of(rt.alloc(), &[0])?;
-    assert_same(&rt, zero == list_of(rt.alloc(), &[0])?, true);
-    assert_same(&rt, zero == list_of(rt.alloc(), &[1])?, false);
+    check!(rt; same(zero == list_of(rt.alloc(), &[0])?, true));
+    check!(rt; same(zero == list_of(rt.alloc(), &[1])?, false));
     Ok(())
 }
 
@@ -51,8 +50,8 @@ fn append_moves_all_items(rt: HostRuntime) -> Result<(), Fail> {
     let mut list = list_of(rt.alloc(), &[1, 2, 3])?;
     let mut other = list_of(rt.alloc(), &[4, 5, 6])?;
     list.append(&mut other)?;
-    assert_list(&rt, &list, &[1, 2, 3, 4, 5, 6], 6);
-    assert_list(&rt, &other, &[], 3);
+    check!(rt; holds(&list, &[1, 2, 3, 4, 5, 6], 6));
+    check!(rt; holds(&other, &[], 3));
     Ok(())
 }
 
@@ -65,10 +64,10 @@ fn extend_appends_all_items(rt: HostRuntime) -> Result<(), Fail> {
     let clone = list.clone(rt.alloc())?;
     list.extend(clone.as_slice().iter().copied())?;
     let twice = [0, 1, 2, 3, 4, 5, 6, 7, 8, 9, 0, 1, 2, 3, 4, 5, 6, 7, 8, 9];
-    assert_list(&rt, &list, &twice, 20);
+    check!(rt; holds(&list, &twice, 20));
     let mut units = ThinVec::new(rt.alloc());
     units.extend((0..2).map(|_| ()))?;
-    assert_same(&rt, (units.len(), units.capacity()), (2, 4));
+    check!(rt; same((units.len(), units.capacity()), (2, 4)));
     Ok(())
 }
 
@@ -76,7 +75,7 @@ fn extend_appends_all_items(rt: HostRuntime) -> Result<(), Fail> {
 fn clones_equal_their_lists(rt: HostRuntime) -> Result<(), Fail> {
     for items in [&[][..], &[1, 2, 3][..]] {
         let list = list_of(rt.alloc(), items)?;
-        assert_list(&rt, &list.clone(rt.alloc())?, items, items.len());
+        check!(rt; holds(&list.clone(rt.alloc())?, items, items.len()));
     }
     Ok(())
 }
@@ -89,7 +88,7 @@ fn clones_of_boxed_items_are_assigned(rt: HostRuntime) -> Result<(), Fail> {
     let mut list = ThinVec::new(alloc);
     for source in [&three, &three, &two, &three] {
         list = source.clone(alloc)?;
-        assert_same(&rt, list.as_slice(), source.as_slice());
+        check!(rt; same(list.as_slice(), source.as_slice()));
     }
     Ok(())
 }
@@ -101,12 +100,12 @@ fn pushes_pops_and_clears_zero_sized_items(rt: HostRuntime) -> Result<(), Fail> 
         list.push(())?;
     }
     let popped = [list.pop(), list.pop(), list.pop()];
-    assert_same(&rt, popped, [Some(()), Some(()), None]);
+    check!(rt; same(popped, [Some(()), Some(()), None]));
     for _ in 0..4 {
         list.push(())?;
     }
-    assert_same(&rt, list.iter().count(), 4);
+    check!(rt; same(list.iter().count(), 4));
     list.clear();
-    assert_same(&rt, list.iter().count(), 0);
+    check!(rt; same(list.iter().count(), 0));
     Ok(())
 }

@@ -1,41 +1,12 @@
 //! Tests of the report about rows: a write fails, memory runs out, or a row fails. Also tests that
 //! a comparison of a row finds a wrong value.
+use crate::tests::page::Page;
 use bench::{Checks, Outcome, report, report_rows};
 use std::alloc::{Allocator, Global};
-use std::io;
-use std::io::{ErrorKind, Write};
 use std::process::Abort;
 use std::test::Fail;
 use thin_testing::Refusing;
 use thin_vec::{ThinVec, ThinVecError, thin_vec};
-
-// A writer that appends the written bytes to `text`. The calls to `write` are numbered from 1, and
-// call number `failing` fails, with an error of a kind other than `Interrupted`, after which
-// `write_all` would try again. If `failing` is 0, no call fails.
-#[derive(Drop)]
-struct Failing<'a> {
-    text: &'a mut String,
-    calls: usize,
-    failing: usize,
-}
-
-impl Write for Failing<'_> {
-    fn write(&mut self, buf: &[u8]) -> io::Result<usize> {
-        self.calls = self.calls.saturating_add(1);
-        if self.calls == self.failing {
-            return Err(io::Error::from(ErrorKind::BrokenPipe));
-        }
-        let text = std::str::from_utf8(buf).unwrap_or("?");
-        match self.text.push_str(text) {
-            Ok(()) => Ok(buf.len()),
-            Err(_refused) => Err(io::Error::from(ErrorKind::OutOfMemory)),
-        }
-    }
-
-    fn flush(&mut self) -> io::Result<()> {
-        Ok(())
-    }
-}
 
 // Returns what `report` writes if every row is ok. Only tests run the rows that are missing here.
 fn usual_text(rt: &impl Abort, alloc: Global) -> String {
@@ -53,7 +24,7 @@ fn usual_text(rt: &impl Abort, alloc: Global) -> String {
 // Calls `report`, which writes to `text`. Call number `failing` to `write` fails. Returns the
 // status, and the number of calls to `write`.
 fn report_into<A: Allocator + Copy>(alloc: A, text: &mut String, failing: usize) -> (u8, usize) {
-    let mut out = Failing {
+    let mut out = Page {
         text,
         calls: 0,
         failing,
@@ -144,7 +115,7 @@ fn made_up_row(number: u32) -> Outcome {
 // Writes a report of the made-up rows `numbers` to `text`. Call number `failing` to `write` fails.
 // Returns the status, and the number of calls to `write`.
 fn report_made_up(numbers: &[u32], text: &mut String, failing: usize) -> (u8, usize) {
-    let mut out = Failing {
+    let mut out = Page {
         text,
         calls: 0,
         failing,

@@ -1,12 +1,12 @@
 //! Tests of the crate `replay`: the error messages, the exit status, and reads and writes that
 //! fail. The files `stdin` and `stdout` of the program `thin_replay` test the answers.
-
+use crate::tests::page::Page;
 use replay::line::Line;
 use replay::{exit_code, replay};
 use std::alloc::Global;
 use std::cell::Cell;
 use std::fmt::Display;
-use std::io::{self, BufReader, ErrorKind, Read, Write};
+use std::io::{self, BufReader, ErrorKind, Read};
 use std::process::Abort;
 use std::test::Fail;
 
@@ -148,33 +148,6 @@ fn says_what_is_wrong_with_a_line_of_each_form(rt: HostRuntime) -> Result<(), Fa
     }
     assert_eq!(rt; forms, 28);
     Ok(())
-}
-
-// Where the answers of a test are written. The calls to `write` are numbered from 1, and call
-// number `failing` fails. If `failing` is 0, no call fails.
-#[derive(Drop)]
-struct Page<'a> {
-    text: &'a mut String,
-    calls: usize,
-    failing: usize,
-}
-
-impl Write for Page<'_> {
-    fn write(&mut self, buf: &[u8]) -> io::Result<usize> {
-        self.calls = self.calls.saturating_add(1);
-        if self.calls == self.failing {
-            return Err(io::Error::from(ErrorKind::BrokenPipe));
-        }
-        let text = std::str::from_utf8(buf).unwrap_or("?");
-        match self.text.push_str(text) {
-            Ok(()) => Ok(buf.len()),
-            Err(_refused) => Err(io::Error::from(ErrorKind::OutOfMemory)),
-        }
-    }
-
-    fn flush(&mut self) -> io::Result<()> {
-        Ok(())
-    }
 }
 
 // How many bytes a call to `read` reads.

@@ -1,12 +1,12 @@
 //! Random commands, which `run` of `thin_runner` executes. As in a sweep, the list itself says what
 //! is right.
 use crate::tests::judges::{Digits, Swaps};
-use crate::tests::made::{assert_same, items, steps};
+use crate::tests::made::{items, steps};
 use std::alloc::{AllocError, Allocator};
 use std::process::Abort;
 use thin_runner::command::{Command, Reply, Step};
 use thin_runner::runner::run;
-use thin_testing::{Ledger, Lender, List, Numbered, filled_list};
+use thin_testing::{Ledger, Lender, List, Numbered, check, filled_list, same};
 use thin_vec::{Growth, ThinVec, ThinVecError};
 
 // A generator of pseudorandom numbers.
@@ -313,25 +313,17 @@ pub fn assert_long_run_right<T: Numbered, G: Growth, R: Abort>(rt: &R, ledger: &
     let commands = pushes(ledger, 5000).ok().expect(rt, "memory");
     ledger.begin(0);
     let ran = run(alloc, &mut list, commands, &mut replies, &judge);
-    assert_same(rt, (alloc.requests(), replies.capacity()), (13, 5000));
+    check!(rt; same((alloc.requests(), replies.capacity()), (13, 5000)));
     let done = replies
         .as_slice()
         .iter()
         .filter(|reply| matches!(reply, Reply::Done));
-    assert_same(
-        rt,
-        (ran.is_ok(), list.len(), done.count()),
-        (true, 5000, 5000),
-    );
+    check!(rt; same((ran.is_ok(), list.len(), done.count()), (true, 5000, 5000)));
     let commands = pushes(ledger, 9000).ok().expect(rt, "memory");
     ledger.begin(1);
     let ran = run(alloc, &mut list, commands, &mut replies, &judge);
-    assert_same(rt, ran, Err(ThinVecError::OutOfMemory));
-    assert_same(
-        rt,
-        (alloc.requests(), list.len(), replies.len()),
-        (1, 5000, 5000),
-    );
+    check!(rt; same(ran, Err(ThinVecError::OutOfMemory)));
+    check!(rt; same((alloc.requests(), list.len(), replies.len()), (1, 5000, 5000)));
     drop(replies);
     assert!(rt; is_clean::<T>(ledger, list.len(), list.capacity()));
 }

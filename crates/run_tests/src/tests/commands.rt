@@ -1,15 +1,14 @@
 //! Tests each command with each of its requests refused in turn.
 use crate::tests::judges::Evens;
 use crate::tests::made::{
-    Asked, Item, List, Ran, assert_clean, assert_same, items, leaked_ledger, list_of, run_single,
-    steps,
+    Asked, Item, List, Ran, assert_clean, items, leaked_ledger, list_of, run_single, steps,
 };
 use crate::tests::shown::{command_text, list_text, reply_text};
 use std::alloc::{AllocError, Global};
 use std::process::Abort;
 use std::test::Fail;
 use thin_runner::command::{Command, Reply};
-use thin_testing::{Ledger, Numbered};
+use thin_testing::{Ledger, Numbered, check, same};
 
 // What each command does on a list of the items 1, 2, 2, 3. A line has the capacity before and the
 // command, and then the outcomes: with the first request refused, with the second one, and so on,
@@ -205,7 +204,7 @@ fn outcome<R: Abort>(
     let ran = run_single(rt, ledger, &mut list, command, &Evens { ledger }, refused);
     let requests = ran.requests;
     let asked = if requests < refused { asked(number) } else { 0 };
-    assert_same(rt, (number, ledger.calls.get()), (number, asked));
+    check!(rt; same((number, ledger.calls.get()), (number, asked)));
     let reply = last_text(rt, ledger.global, ran)?;
     let after = list_text(ledger.global, &list)?;
     assert_clean(rt, ledger, list);
@@ -242,7 +241,7 @@ fn outcomes<R: Abort>(
     number: usize,
 ) -> Result<String, AllocError> {
     let (no_room, _requests) = outcome(rt, ledger, number, 1)?;
-    assert_same(rt, no_room.as_str(), "no room: OutOfMemory =");
+    check!(rt; same(no_room.as_str(), "no room: OutOfMemory ="));
     let mut line = title(rt, ledger, number)?;
     let mut last = String::new(ledger.global);
     for granted in 0..MOST {
@@ -277,7 +276,7 @@ fn each_command_with_each_request_refused(rt: HostRuntime) -> Result<(), Fail> {
     let mut number: usize = 0;
     for wanted in &OUTCOMES {
         let line = outcomes(&rt, ledger, number)?;
-        assert_same(&rt, line.as_str(), *wanted);
+        check!(rt; same(line.as_str(), *wanted));
         number = number.saturating_add(1);
     }
     Ok(())

@@ -2,14 +2,14 @@
 //! steps, in each order of ends, one step past the range among them.
 use crate::tests::judges::Digits;
 use crate::tests::made::{
-    Asked, Item, List, Told, assert_clean, assert_same, is_one, leaked_ledger, list_of, room,
-    run_of_items, steps,
+    Asked, Item, List, Told, assert_clean, is_one, leaked_ledger, list_of, room, run_of_items,
+    steps,
 };
 use std::alloc::Global;
 use std::process::Abort;
 use thin_runner::command::{Command, Reply};
 use thin_runner::runner::step;
-use thin_testing::{Counted, CountedWord, Ledger, Numbered};
+use thin_testing::{Counted, CountedWord, Ledger, Numbered, check, same};
 
 // The number of the first new item of a splice.
 const NEW: u64 = 200;
@@ -128,7 +128,7 @@ fn assert_edit<T: Numbered, R: Abort>(rt: &R, ledger: &'static Ledger, edit: Edi
     let reply = step(&ledger.alloc, &mut list, command, &judge);
     let removed = assert_answers(rt, ledger, edit, reply);
     if edit.new == 0 {
-        assert_same(rt, (edit, list.capacity()), (edit, edit.len));
+        check!(rt; same((edit, list.capacity()), (edit, edit.len)));
     }
     assert_left(rt, ledger, edit, removed, &list);
     assert_clean(rt, ledger, list);
@@ -147,14 +147,14 @@ fn assert_answers<T: Numbered, R: Abort>(
         Reply::Done => room(rt, &ledger.alloc, 0),
         _ => panic!(rt; "{edit:?} failed"),
     };
-    assert_same(rt, (edit, answers.len()), (edit, edit.steps));
+    check!(rt; same((edit, answers.len()), (edit, edit.steps)));
     // A `Vec` has no room, or room for 8 small items.
     let most = if edit.steps == 0 {
         0
     } else {
         edit.steps.max(8)
     };
-    assert_same(rt, (edit, answers.capacity() <= most), (edit, true));
+    check!(rt; same((edit, answers.capacity() <= most), (edit, true)));
     let is_extract = edit.kind == Kind::ExtractIf;
     let mut rest = Rest {
         first: edit.start,
@@ -172,7 +172,7 @@ fn assert_answers<T: Numbered, R: Abort>(
             removed |= 1 << (number % 64);
         }
         let wanted = wanted.map(|number| T::numbered(ledger, number as u64));
-        assert_same(rt, (edit, step, answer == wanted), (edit, step, true));
+        check!(rt; same((edit, step, answer == wanted), (edit, step, true)));
         step = step.saturating_add(1);
     }
     if !is_extract {
@@ -206,7 +206,7 @@ fn assert_left<T: Numbered, R: Abort>(
             index = index.saturating_add(1);
         }
     }
-    assert_same(rt, (edit, list.len()), (edit, index));
+    check!(rt; same((edit, list.len()), (edit, index)));
 }
 
 // Asserts that the item has the given number.
@@ -218,7 +218,7 @@ fn assert_item<T: Numbered, R: Abort>(
     number: u64,
 ) {
     let is_right = item == Some(&T::numbered(ledger, number));
-    assert_same(rt, (edit, number, is_right), (edit, number, true));
+    check!(rt; same((edit, number, is_right), (edit, number, true)));
 }
 
 // Executes the edit with each number of steps up to `most`, and each order of ends.
@@ -282,7 +282,7 @@ fn assert_room<T: Drop, R: Abort>(rt: &R, edit: Edit, reply: &Told<T>) {
         Reply::Answers(answers) => answers.capacity(),
         _ => 0,
     };
-    assert_same(rt, (edit, room), (edit, edit.steps));
+    check!(rt; same((edit, room), (edit, edit.steps)));
 }
 
 // Executes edits of a list of 300 items with many steps, and asserts that nothing is left behind.

@@ -1,11 +1,10 @@
 //! Makes the lists, vectors and steps of the tests. The test ends if there is no memory for them.
 use std::alloc::{Allocator, Global};
-use std::fmt::Debug;
 use std::process::Abort;
 use thin_runner::command::{Command, Reply, Step};
 use thin_runner::judge::Judge;
 use thin_runner::runner::run;
-use thin_testing::{Counted, Ledger, Numbered, Refusing};
+use thin_testing::{Counted, Ledger, Numbered, Refusing, check, same};
 use thin_vec::{ThinVec, ThinVecError};
 
 /// An item that the ledger counts. A clone of it is a request.
@@ -158,11 +157,6 @@ pub fn run_single<T: Numbered, J: Judge<T>, R: Abort>(
     run_all(rt, ledger, list, commands, judge, refused)
 }
 
-/// Asserts that the two values are equal.
-pub fn assert_same<T: PartialEq + Debug + Drop, R: Abort>(rt: &R, value: T, wanted: T) {
-    assert_eq!(rt; value, wanted);
-}
-
 /// Asserts that exactly the items of the list exist, and one block if it has a capacity. Then drops
 /// the list, and asserts that nothing is left.
 pub fn assert_clean<T: Numbered, R: Abort>(rt: &R, ledger: &'static Ledger, list: List<T>) {
@@ -179,9 +173,6 @@ fn assert_live<T: Numbered, R: Abort>(
     has_block: bool,
 ) {
     let items = if T::IS_COUNTED { items as u64 } else { 0 };
-    assert_eq!(rt;
-        (ledger.live.get(), ledger.alloc.blocks()),
-        (items, u64::from(has_block)),
-        "items and blocks"
-    );
+    let found = (ledger.live.get(), ledger.alloc.blocks());
+    check!(rt; same(found, (items, u64::from(has_block))));
 }

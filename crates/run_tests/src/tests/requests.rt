@@ -1,49 +1,15 @@
 //! Tests of `run` and `step`: `run` makes no request for replies for which there is room, and a
 //! reply uses the allocator that was passed.
-ghost use Rattle.std.specs.Prelude.{false};
-
-use crate::tests::made::assert_same;
+use crate::tests::judges::Digits;
 use std::alloc::{Allocator, Global};
 use std::test::Fail;
 use thin_runner::command::{Command, Step};
-use thin_runner::judge::Judge;
 use thin_runner::runner::{run, step};
-use thin_testing::{Refusing, list_of};
+use thin_testing::{Refusing, check, list_of, same};
 use thin_vec::ThinVec;
 
 // A judge that answers `false`.
-#[derive(Clone, Copy)]
-struct Never;
-
-impl<T> Judge<T> for Never {
-    ghost model = { record {
-      look = λ j x. (false, j);
-      keep = λ j x. (false, x, j);
-      same = λ j x y. (false, x, y, j);
-      key = λ j x. (0, x, j);
-      take = λ j x. (false, x, j);
-    } };
-
-    fn look(&mut self, _item: &T) -> bool {
-        false
-    }
-
-    fn keep(&mut self, _item: &mut T) -> bool {
-        false
-    }
-
-    fn same(&mut self, _later: &mut T, _kept: &mut T) -> bool {
-        false
-    }
-
-    fn key(&mut self, _item: &mut T) -> u64 {
-        0
-    }
-
-    fn take(&mut self, _item: &mut T) -> bool {
-        false
-    }
-}
+const NEVER: Digits = Digits { digits: 0 };
 
 #[test]
 fn run_makes_no_request_without_commands(rt: HostRuntime) -> Result<(), Fail> {
@@ -51,12 +17,8 @@ fn run_makes_no_request_without_commands(rt: HostRuntime) -> Result<(), Fail> {
     let mut list = ThinVec::<i32, &'static Refusing<Global>>::new(refusing);
     let mut replies = Vec::new(refusing);
     let commands = Vec::new(refusing);
-    assert_same(
-        &rt,
-        run(refusing, &mut list, commands, &mut replies, &Never),
-        Ok(()),
-    );
-    assert_same(&rt, refusing.requests(), 0);
+    check!(rt; same(run(refusing, &mut list, commands, &mut replies, &NEVER), Ok(())));
+    check!(rt; same(refusing.requests(), 0));
     Ok(())
 }
 
@@ -72,9 +34,9 @@ fn run_makes_no_request_if_there_is_room_for_its_replies(rt: HostRuntime) -> Res
             commands.push(Command::Pop).map_err(|_full| "room")?;
         }
         refusing.refuse(1);
-        let ran = run(refusing, &mut list, commands, &mut replies, &Never);
+        let ran = run(refusing, &mut list, commands, &mut replies, &NEVER);
         let found = (ran, refusing.requests(), replies.len());
-        assert_same(&rt, found, (Ok(()), 0, count));
+        check!(rt; same(found, (Ok(()), 0, count)));
     }
     Ok(())
 }
@@ -104,9 +66,9 @@ fn a_reply_uses_the_allocator_passed(rt: HostRuntime) -> Result<(), Fail> {
         let mut list = list_of(own, &[1, 2, 3])?;
         let command = nth_command(number, own, Vec::new(own))?;
         own.refuse(0);
-        let reply = step(other, &mut list, command, &Never);
+        let reply = step(other, &mut list, command, &NEVER);
         let found = (number, own.requests(), other.blocks());
-        assert_same(&rt, found, (number, 0, 1));
+        check!(rt; same(found, (number, 0, 1)));
         drop(reply);
     }
     Ok(())

@@ -1,8 +1,8 @@
 //! Tests of one run of six commands, and of the commands that ask a judge.
 use crate::tests::judges::{Digits, Evens, Swaps, TURNS};
 use crate::tests::made::{
-    Asked, Item, Lender, List, Told, assert_clean, assert_same, items, leaked_ledger, list_of, put,
-    room, run_all, run_of_items, run_single, steps,
+    Asked, Item, Lender, List, Told, assert_clean, items, leaked_ledger, list_of, put, room,
+    run_all, run_of_items, run_single, steps,
 };
 use crate::tests::shown::{list_text, reply_text};
 use std::alloc::AllocError;
@@ -11,7 +11,7 @@ use std::test::Fail;
 use thin_runner::command::Command;
 use thin_runner::judge::Judge;
 use thin_runner::runner::step;
-use thin_testing::{Ledger, Numbered};
+use thin_testing::{Ledger, Numbered, check, same};
 use thin_vec::{ThinVec, ThinVecError};
 
 // Returns a command of the run.
@@ -94,11 +94,7 @@ fn six_commands<T: Numbered, R: Abort>(rt: &R, ledger: &'static Ledger) -> Vec<A
 
 // Asserts that the text is number `number` of the texts.
 fn assert_nth<R: Abort>(rt: &R, texts: &[&str], number: usize, text: &str) {
-    assert_same(
-        rt,
-        (number, Some(text)),
-        (number, texts.get(number).copied()),
-    );
+    check!(rt; same((number, Some(text)), (number, texts.get(number).copied())));
 }
 
 // Executes the six commands by one call to `run`, with request number `refused` refused. Asserts
@@ -120,7 +116,7 @@ fn assert_run<R: Abort>(
         refused,
     );
     let is_refused = 0 < refused && refused <= ran.requests;
-    assert_same(rt, ran.cause.is_some(), refused == 1);
+    check!(rt; same(ran.cause.is_some(), refused == 1));
     let mut number: usize = 0;
     for reply in ran.replies {
         let is_short = reply.refusal() == Some(ThinVecError::OutOfMemory);
@@ -134,7 +130,7 @@ fn assert_run<R: Abort>(
         number = number.saturating_add(1);
     }
     assert_nth(rt, texts, number, list_text(ledger.global, &list)?.as_str());
-    assert_same(rt, number.saturating_add(1), texts.len());
+    check!(rt; same(number.saturating_add(1), texts.len()));
     assert_clean(rt, ledger, list);
     Ok(is_refused)
 }
@@ -153,7 +149,7 @@ fn six_commands_with_each_request_refused(rt: HostRuntime) -> Result<(), Fail> {
     for texts in &REFUSED {
         refused = refused.saturating_add(1);
         let is_refused = assert_run(&rt, ledger, refused, texts)?;
-        assert_same(&rt, (refused, is_refused), (refused, refused < 5));
+        check!(rt; same((refused, is_refused), (refused, refused < 5)));
     }
     Ok(())
 }
@@ -187,8 +183,8 @@ fn assert_single<J: Judge<Item>, R: Abort>(
     let reply = single(rt, ledger, list, command, judge, is_step).expect(rt, "a reply");
     let reply = reply_text(ledger.global, reply)?;
     let left = list_text(ledger.global, list)?;
-    assert_same(rt, reply.as_str(), texts.0);
-    assert_same(rt, left.as_str(), texts.1);
+    check!(rt; same(reply.as_str(), texts.0));
+    check!(rt; same(left.as_str(), texts.1));
     Ok(())
 }
 
@@ -264,7 +260,7 @@ fn assert_asked<R: Abort>(
     let mut list = list_of(rt, ledger, run_of_items(rt, ledger, 1, len), 0);
     ledger.begin(0);
     drop(step(&ledger.alloc, &mut list, command, &Evens { ledger }));
-    assert_same(rt, (len, ledger.calls.get()), (len, asked as u64));
+    check!(rt; same((len, ledger.calls.get()), (len, asked as u64)));
     assert_clean(rt, ledger, list);
 }
 

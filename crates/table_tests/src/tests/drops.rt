@@ -1,15 +1,14 @@
 //! Tests of when a table drops its values.
 use crate::tests::rows::assert_row;
-use crate::tests::support::assert_same;
 use std::alloc::Global;
 use std::process::Abort;
 use std::test::Fail;
 use thin_rows::{Rows, ThinVecError};
-use thin_testing::{Counted, Ledger};
+use thin_testing::{Counted, Ledger, check, same};
 
 // Asserts that as many values are alive as the table has entries.
 fn assert_live<V>(rt: &impl Abort, ledger: &Ledger, table: &Rows<V>) {
-    assert_same(rt, ledger.live.get(), table.len() as u64);
+    check!(rt; same(ledger.live.get(), table.len() as u64));
 }
 
 // Sets `count` counted values in each row.
@@ -56,7 +55,7 @@ fn assert_drops(rt: &impl Abort, alloc: Global, rows: usize, count: usize) -> Re
     }
     set_counted(rt, &mut table, ledger, count)?;
     drop(table);
-    assert_same(rt, ledger.live.get(), 0);
+    check!(rt; same(ledger.live.get(), 0));
     Ok(())
 }
 
@@ -94,7 +93,7 @@ fn clear_row_drops_the_values_in_the_order_of_the_columns(rt: HostRuntime) -> Re
         ledger.begin(0);
         assert_row(&rt, &table, 0);
         table.clear_row(0);
-        assert_same(&rt, (len, ledger.dropped.get()), (len, wanted));
+        check!(rt; same((len, ledger.dropped.get()), (len, wanted)));
     }
     Ok(())
 }

@@ -1,11 +1,10 @@
 //! Tests of the entries of a row, and that a table is `Send` and `Sync`.
 use crate::tests::rows::assert_rows;
-use crate::tests::support::{assert_counts, assert_items, assert_same};
 use std::alloc::Global;
 use std::marker::{Send, Sync};
 use std::test::Fail;
 use thin_rows::Rows;
-use thin_testing::Refusing;
+use thin_testing::{Refusing, check, counts, same, same_items};
 
 type Table = Rows<u32, &'static Refusing<Global>>;
 
@@ -14,16 +13,16 @@ fn row_is_in_the_order_of_the_columns(rt: HostRuntime) -> Result<(), Fail> {
     let refusing = Refusing::leaked(rt.alloc(), 0)?;
     let mut table = Table::with_rows(refusing, 1)?;
     assert_rows(&rt, &table, 1);
-    assert_same(&rt, table.set(0, usize::MAX, 1)?, None);
-    assert_same(&rt, table.set(0, 0, 2)?, None);
-    assert_items(&rt, table.row(0), &[(0, 2), (usize::MAX, 1)]);
-    assert_same(&rt, table.get(0, 5), None);
-    assert_same(&rt, table.remove(0, 5), None);
-    assert_same(&rt, table.get(0, 0), Some(&2));
+    check!(rt; same(table.set(0, usize::MAX, 1)?, None));
+    check!(rt; same(table.set(0, 0, 2)?, None));
+    check!(rt; same_items(table.row(0), &[(0, 2), (usize::MAX, 1)]));
+    check!(rt; same(table.get(0, 5), None));
+    check!(rt; same(table.remove(0, 5), None));
+    check!(rt; same(table.get(0, 0), Some(&2)));
     refusing.refuse(1);
-    assert_same(&rt, table.set(0, 0, 3)?, Some(2));
-    assert_counts(&rt, refusing, 0, 2);
-    assert_items(&rt, table.row(0), &[(0, 3), (usize::MAX, 1)]);
+    check!(rt; same(table.set(0, 0, 3)?, Some(2)));
+    check!(rt; counts(refusing, 0, 2));
+    check!(rt; same_items(table.row(0), &[(0, 3), (usize::MAX, 1)]));
     Ok(())
 }
 

@@ -1,12 +1,11 @@
 //! Tests of when a table requests memory, and of what a refused request leaves.
 use crate::tests::rows::{assert_row, assert_rows, assert_set};
-use crate::tests::support::{assert_counts, assert_items, assert_same};
 use std::alloc::{Allocator, Global};
 use std::fmt::Debug;
 use std::process::Abort;
 use std::test::Fail;
 use thin_rows::{Rows, ThinVecError};
-use thin_testing::Refusing;
+use thin_testing::{Refusing, check, counts, same, same_items};
 
 type Lender = &'static Refusing<Global>;
 
@@ -18,18 +17,18 @@ fn assert_removed<V: PartialEq + Debug + Drop, A: Allocator>(
     old: Option<V>,
 ) {
     assert_row(rt, table, row);
-    assert_same(rt, table.remove(row, column), old);
+    check!(rt; same(table.remove(row, column), old));
 }
 
 #[test]
 fn with_rows_returns_the_cause(rt: HostRuntime) -> Result<(), Fail> {
     let refusing = Refusing::leaked(rt.alloc(), 1)?;
     let refused = Rows::<u32, &Refusing<Global>>::with_rows(refusing, 3).err();
-    assert_same(&rt, refused, Some(ThinVecError::OutOfMemory));
-    assert_counts(&rt, refusing, 1, 0);
+    check!(rt; same(refused, Some(ThinVecError::OutOfMemory)));
+    check!(rt; counts(refusing, 1, 0));
     for rows in [usize::MAX, 1 << 60] {
         let refused = Rows::<u32, Global>::with_rows(rt.alloc(), rows).err();
-        assert_same(&rt, refused, Some(ThinVecError::CapacityOverflow));
+        check!(rt; same(refused, Some(ThinVecError::CapacityOverflow)));
     }
     Ok(())
 }
@@ -51,15 +50,11 @@ fn set_adds_thousands_of_columns_to_a_row(rt: HostRuntime) -> Result<(), Fail> {
         )?;
         assert_set(&rt, &mut table, (4999, column), 7, None)?;
     }
-    assert_counts(&rt, refusing, 23, 3);
+    check!(rt; counts(refusing, 23, 3));
     let row = 4096_u64.saturating_mul(16).saturating_add(16);
     let rows = 5000_u64.saturating_mul(16).saturating_add(16);
-    assert_same(
-        &rt,
-        refusing.bytes(),
-        rows.saturating_add(row.saturating_mul(2)),
-    );
-    assert_same(&rt, table.len(), 8000);
+    check!(rt; same(refusing.bytes(), rows.saturating_add(row.saturating_mul(2))));
+    check!(rt; same(table.len(), 8000));
     Ok(())
 }
 
@@ -72,11 +67,11 @@ fn assert_table_requests<V: Drop>(rt: &impl Abort, alloc: Global) -> Result<(), 
         let table = Rows::<V, &Refusing<Global>>::with_rows(refusing, rows)?;
         let blocks = rows.min(1) as u64;
         let bytes = rows.saturating_add(1).saturating_mul(16) as u64;
-        assert_same(rt, (table.rows(), table.len()), (rows, 0));
-        assert_counts(rt, refusing, blocks, blocks);
-        assert_same(rt, refusing.bytes(), bytes.saturating_mul(blocks));
+        check!(rt; same((table.rows(), table.len()), (rows, 0)));
+        check!(rt; counts(refusing, blocks, blocks));
+        check!(rt; same(refusing.bytes(), bytes.saturating_mul(blocks)));
         drop(table);
-        assert_counts(rt, refusing, blocks, 0);
+        check!(rt; counts(refusing, blocks, 0));
     }
     Ok(())
 }
@@ -103,16 +98,9 @@ fn assert_row_reads<V: Drop>(
     assert_row(rt, table, 1);
     let is_there = table.get_mut(1, column).is_some();
     assert_row(rt, table, 1);
-    assert_same(
-        rt,
-        (
-            is_there,
-            table.get(1, column).is_some(),
-            table.owns_block(1),
-        ),
-        (true, true, true),
-    );
-    assert_same(rt, (table.row(1).len(), table.len()), (count, count));
+    let is_there = (is_there, table.get(1, column).is_some());
+    check!(rt; same((is_there, table.owns_block(1)), ((true, true), true)));
+    check!(rt; same((table.row(1).len(), table.len()), (count, count)));
 }
 
 // Fills a row with `count` entries. From then on, only a new entry in a full row makes a request,
@@ -136,20 +124,20 @@ fn assert_row_requests<V: Copy + PartialEq + Debug + Drop>(
     }
     let new = column(count, gap);
     assert_row(rt, &table, 1);
-    assert_same(rt, table.get(1, new).is_none(), true);
+    check!(rt; same(table.get(1, new).is_none(), true));
     let answer = table
         .set(1, new, value)
         .map_err(|refused| (refused.value, refused.cause));
     let is_full = [0, 4, 8, 16, 32, 64, 128].contains(&count);
     if is_full {
-        assert_same(rt, answer, Err((value, ThinVecError::OutOfMemory)));
-        assert_counts(rt, refusing, 1, if count == 0 { 1 } else { 2 });
-        assert_same(rt, table.len(), count);
+        check!(rt; same(answer, Err((value, ThinVecError::OutOfMemory))));
+        check!(rt; counts(refusing, 1, if count == 0 { 1 } else { 2 }));
+        check!(rt; same(table.len(), count));
         assert_set(rt, &mut table, (1, new), value, None)?;
-        assert_counts(rt, refusing, 2, 2);
+        check!(rt; counts(refusing, 2, 2));
     } else {
-        assert_same(rt, answer, Ok(None));
-        assert_counts(rt, refusing, 0, 2);
+        check!(rt; same(answer, Ok(None)));
+        check!(rt; counts(refusing, 0, 2));
     }
     refusing.refuse(1);
     assert_removed(rt, &mut table, (1, 12_345), None);
@@ -158,15 +146,15 @@ fn assert_row_requests<V: Copy + PartialEq + Debug + Drop>(
         assert_removed(rt, &mut table, (1, column(index, gap)), Some(value));
     }
     assert_removed(rt, &mut table, (1, 12_345), None);
-    assert_same(rt, table.len(), count.min(1));
+    check!(rt; same(table.len(), count.min(1)));
     if count > 0 {
         assert_set(rt, &mut table, (1, 12_345), value, None)?;
     }
     assert_row(rt, &table, 1);
     table.clear_row(1);
-    assert_counts(rt, refusing, 0, 1);
+    check!(rt; counts(refusing, 0, 1));
     drop(table);
-    assert_counts(rt, refusing, 0, 0);
+    check!(rt; counts(refusing, 0, 0));
     Ok(())
 }
 
@@ -192,10 +180,10 @@ fn refused_set_leaves_an_empty_row_without_a_block(rt: HostRuntime) -> Result<()
     assert_rows(&rt, &table, 2);
     let refused = table.set(1, 4, 8).err().ok_or("set")?;
     let memory = ThinVecError::OutOfMemory;
-    assert_same(&rt, (refused.value, refused.cause), (8, memory));
-    assert_items(&rt, table.row(1), &[]);
-    assert_same(&rt, table.owns_block(1), false);
-    assert_counts(&rt, refusing, 2, 1);
+    check!(rt; same((refused.value, refused.cause), (8, memory)));
+    check!(rt; same_items(table.row(1), &[]));
+    check!(rt; same(table.owns_block(1), false));
+    check!(rt; counts(refusing, 2, 1));
     Ok(())
 }
 
@@ -205,26 +193,18 @@ fn calls_of_a_table_take_no_memory(rt: HostRuntime) -> Result<(), Fail> {
     let mut table: Rows<u32, Lender> = Rows::with_rows(lender, 2)?;
     for column in 0..5 {
         assert_rows(&rt, &table, 2);
-        assert_same(&rt, table.set(0, column, 7)?, None);
+        check!(rt; same(table.set(0, column, 7)?, None));
     }
     lender.refuse_all();
     assert_rows(&rt, &table, 2);
-    assert_same(&rt, table.set(0, 3, 8)?, Some(7));
-    assert_same(&rt, (table.get(0, 3), table.get(1, 3)), (Some(&8), None));
-    assert_same(&rt, table.get_mut(0, 4).is_some(), true);
-    assert_same(
-        &rt,
-        (table.remove(0, 0), table.remove(0, 0)),
-        (Some(7), None),
-    );
-    assert_same(&rt, (table.len(), table.row(0).len()), (4, 4));
-    assert_same(
-        &rt,
-        (table.owns_block(0), table.owns_block(1)),
-        (true, false),
-    );
+    check!(rt; same(table.set(0, 3, 8)?, Some(7)));
+    check!(rt; same((table.get(0, 3), table.get(1, 3)), (Some(&8), None)));
+    check!(rt; same(table.get_mut(0, 4).is_some(), true));
+    check!(rt; same((table.remove(0, 0), table.remove(0, 0)), (Some(7), None)));
+    check!(rt; same((table.len(), table.row(0).len()), (4, 4)));
+    check!(rt; same((table.owns_block(0), table.owns_block(1)), (true, false)));
     table.clear_row(0);
     drop(table);
-    assert_same(&rt, (lender.requests(), lender.blocks()), (0, 0));
+    check!(rt; same((lender.requests(), lender.blocks()), (0, 0)));
     Ok(())
 }

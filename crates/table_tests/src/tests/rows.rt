@@ -1,11 +1,11 @@
 //! Asserts which rows and entries a table has. Most methods ask for a row that is there.
 ghost use Rattle.std.specs.Prelude.{◌<◌, ◌≡◌, length};
 
-use crate::tests::support::assert_same;
 use std::alloc::Allocator;
 use std::fmt::Debug;
 use std::process::Abort;
 use thin_rows::{Rows, ThinVecError};
+use thin_testing::{check, same};
 
 /// Asserts how many rows the table has. The prover knows it afterwards.
 pub fn assert_rows<V, A: Allocator>(rt: &impl Abort, table: &Rows<V, A>, rows: usize)
@@ -30,6 +30,6 @@ pub fn assert_set<V: PartialEq + Debug + Drop, A: Allocator>(
     old: Option<V>,
 ) -> Result<(), ThinVecError> {
     assert_row(rt, table, row);
-    assert_same(rt, table.set(row, column, value)?, old);
+    check!(rt; same(table.set(row, column, value)?, old));
     Ok(())
 }

@@ -1,12 +1,11 @@
 //! Tests of how a table is printed: as a list of maps.
 use crate::tests::rows::{assert_row, assert_set};
-use crate::tests::support::{assert_prints_as, assert_same, assert_texts};
 use std::alloc::Global;
 use std::collections::BTreeMap;
 use std::process::Abort;
 use std::test::Fail;
 use thin_rows::Rows;
-use thin_testing::Refusing;
+use thin_testing::{Refusing, check, prints, prints_as, same};
 
 #[test]
 fn prints_each_row_as_a_map(rt: HostRuntime) -> Result<(), Fail> {
@@ -16,12 +15,8 @@ fn prints_each_row_as_a_map(rt: HostRuntime) -> Result<(), Fail> {
     assert_set(&rt, &mut table, (1, 9), 30, None)?;
     let lines = "[\n    {},\n    {\n        2: 20,\n        7: 10,\n        9: 30,\n    },\n]";
     let wide = "[{}, {0002: 0020, 0007: 0010, 0009: 0030}]";
-    assert_texts(
-        &rt,
-        rt.alloc(),
-        &table,
-        ["[{}, {2: 20, 7: 10, 9: 30}]", lines, wide],
-    )
+    check!(rt; prints(rt.alloc(), &table, ["[{}, {2: 20, 7: 10, 9: 30}]", lines, wide]));
+    Ok(())
 }
 
 // Asserts that a table, of which the rows with odd numbers have `count` entries each, is printed as
@@ -50,8 +45,8 @@ fn assert_printed_as_maps(
         maps.push(map).ok().ok_or("memory")?;
     }
     refusing.refuse(1);
-    assert_prints_as(rt, alloc, &table, &maps)?;
-    assert_same(rt, refusing.requests(), 0);
+    check!(rt; prints_as(alloc, &table, &maps));
+    check!(rt; same(refusing.requests(), 0));
     Ok(())
 }
 

@@ -7,13 +7,12 @@ ghost use Rattle.std.specs.Hash as fed;
 ghost use Rattle.std.specs.Ordering.{as_partial_cmp, nat_cmp};
 ghost use Rattle.std.specs.Prelude.{◌%◌, ◌==◌};
 
-use crate::tests::support::assert_same;
 use std::alloc::Global;
 use std::cmp::Ordering;
 use std::hash::{DefaultHasher, Hash, Hasher};
 use std::process::Abort;
 use std::test::Fail;
-use thin_testing::list_of;
+use thin_testing::{check, list_of, same};
 use thin_vec::{ThinVec, ThinVecError};
 
 // A number of which only the last decimal digit is compared and hashed.
@@ -88,9 +87,9 @@ fn hash_of(list: &ThinVec<LastDigit>) -> u64 {
 
 // Asserts the numbers of the list. A comparison of the items would not see their first digits.
 fn assert_numbers(rt: &impl Abort, list: &ThinVec<LastDigit>, numbers: &[u32]) {
-    assert_same(rt, list.len(), numbers.len());
+    check!(rt; same(list.len(), numbers.len()));
     for (item, number) in list.iter().zip(numbers) {
-        assert_same(rt, item.number, *number);
+        check!(rt; same(item.number, *number));
     }
 }
 
@@ -113,8 +112,8 @@ fn lists_of_equal_items_are_equal_and_hash_alike(rt: HostRuntime) -> Result<(), 
         let list = digits(rt.alloc(), &[10, 31])?;
         let other = digits(rt.alloc(), &others)?;
         let is_equal = order == Ordering::Equal;
-        assert_same(&rt, (list == other, list.cmp(&other)), (is_equal, order));
-        assert_same(&rt, hash_of(&list) == hash_of(&other), is_equal);
+        check!(rt; same((list == other, list.cmp(&other)), (is_equal, order)));
+        check!(rt; same(hash_of(&list) == hash_of(&other), is_equal));
     }
     Ok(())
 }
@@ -136,7 +135,7 @@ fn a_list_and_its_slice_hash_alike(rt: HostRuntime) -> Result<(), Fail> {
     for items in [&[][..], &[7], &[1, 2, 3], &[5; 100]] {
         let mut list = list_of(rt.alloc(), items)?;
         list.reserve(9)?;
-        assert_same(&rt, hash_of_list(&list), hash_of_slice(items));
+        check!(rt; same(hash_of_list(&list), hash_of_slice(items)));
     }
     Ok(())
 }
@@ -144,6 +143,6 @@ fn a_list_and_its_slice_hash_alike(rt: HostRuntime) -> Result<(), Fail> {
 #[test]
 fn lists_of_nan_are_not_ordered(rt: HostRuntime) -> Result<(), Fail> {
     let list = list_of(rt.alloc(), &[1.0, f64::NAN])?;
-    assert_same(&rt, (list == list, list.partial_cmp(&list)), (false, None));
+    check!(rt; same((list == list, list.partial_cmp(&list)), (false, None)));
     Ok(())
 }

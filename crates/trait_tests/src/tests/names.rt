@@ -1,6 +1,5 @@
 //! Tests that the public names of `thin_vec` exist, and that its types have the traits that
 //! programs rely on. The compiler checks this.
-use crate::tests::support::assert_same;
 use std::alloc::{AllocError, Allocator, Global};
 use std::convert::AsSlice;
 use std::default::{Emptied, MadeWith};
@@ -11,6 +10,7 @@ use std::io::Write;
 use std::iter::{ExactSizeIterator, Extend, FromIterator, FusedIterator};
 use std::ops::{DerefSlice, DerefSliceMut, Index, IndexMut};
 use std::test::Fail;
+use thin_testing::{check, same};
 use thin_vec::{
     Doubling, ExtractIf, Growth, IntoIter, Rejected, ThinVec, ThinVecError, fits, thin_vec,
 };
@@ -45,9 +45,9 @@ fn capacity_under_rule<G: Growth, A: Allocator>(list: &ThinVec<u8, A, G>) -> usi
 fn public_names_and_traits_exist(rt: HostRuntime) -> Result<(), Fail> {
     let list: ThinVec<u8, Global, Doubling> = thin_vec![rt.alloc() => 1, 2]?;
     assert_list_traits(&list);
-    assert_same(&rt, capacity_under_rule::<Doubling, Global>(&list), 2);
+    check!(rt; same(capacity_under_rule::<Doubling, Global>(&list), 2));
     assert_error_traits(&ThinVecError::OutOfMemory);
-    assert_same(&rt, fits::<u8>(3), true);
+    check!(rt; same(fits::<u8>(3), true));
     Ok(())
 }
 
@@ -75,6 +75,6 @@ fn derived_clone_clones_each_item(rt: HostRuntime) -> Result<(), Fail> {
         all: thin_vec![rt.alloc() => word]?,
     };
     let other = names.clone()?;
-    assert_same(&rt, other.all == names.all, true);
+    check!(rt; same(other.all == names.all, true));
     Ok(())
 }

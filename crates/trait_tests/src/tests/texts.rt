@@ -1,13 +1,12 @@
 //! Tests how lists, iterators and errors are printed: on one line, on several lines, with the other
 //! options of `{:?}`, and to a writer that fails.
-use crate::tests::support::{assert_len, assert_prints_as, assert_same, assert_texts};
 use std::alloc::{AllocError, Allocator, Global};
 use std::error::Error;
 use std::fmt::{self, Debug};
 use std::io::{self, Write};
 use std::process::Abort;
 use std::test::Fail;
-use thin_testing::{Refusing, list_of};
+use thin_testing::{Refusing, check, has_len, list_of, prints, prints_as, same};
 use thin_vec::{
     CollectRefused, ExtendRefused, PowerBytes, Rejected, SpliceRefused, ThinVec, ThinVecError,
 };
@@ -33,8 +32,8 @@ fn assert_prints_items<D: Debug, T: Debug + Drop>(
     iter: &D,
     name: &str,
     items: &[T],
-) -> Result<(), Fail> {
-    assert_prints_as(rt, alloc, iter, &Left { name, items })
+) {
+    check!(rt; prints_as(alloc, iter, &Left { name, items }));
 }
 
 // Drains the list, and asserts how the `Drain` is printed while items are taken from both ends.
@@ -42,16 +41,15 @@ fn assert_drain_prints<T: Copy + Debug + Drop, A: Allocator>(
     rt: &impl Abort,
     alloc: Global,
     list: &mut ThinVec<T, A>,
-) -> Result<(), Fail> {
+) {
     let len = list.len();
     let mut drain = list.drain(0, len);
     for _ in 0..2 {
-        assert_prints_items(rt, alloc, &drain, "Drain", drain.as_slice())?;
+        assert_prints_items(rt, alloc, &drain, "Drain", drain.as_slice());
         drop(drain.next());
-        assert_prints_items(rt, alloc, &drain, "Drain", drain.as_slice())?;
+        assert_prints_items(rt, alloc, &drain, "Drain", drain.as_slice());
         drop(drain.next_back());
     }
-    Ok(())
 }
 
 // Asserts how the iterator over the list is printed while items are taken from both ends.
@@ -59,15 +57,14 @@ fn assert_into_iter_prints<T: Copy + Debug + Drop, A: Allocator>(
     rt: &impl Abort,
     alloc: Global,
     list: ThinVec<T, A>,
-) -> Result<(), Fail> {
+) {
     let mut rest = list.into_iter();
     for _ in 0..2 {
-        assert_prints_items(rt, alloc, &rest, "IntoIter", rest.as_slice())?;
+        assert_prints_items(rt, alloc, &rest, "IntoIter", rest.as_slice());
         drop(rest.next_back());
-        assert_prints_items(rt, alloc, &rest, "IntoIter", rest.as_slice())?;
+        assert_prints_items(rt, alloc, &rest, "IntoIter", rest.as_slice());
         drop(rest.next());
     }
-    Ok(())
 }
 
 // Asserts that a list of `items` is printed as their slice, with and without spare capacity, and
@@ -81,15 +78,15 @@ fn assert_printed_as_slices<T: Copy + Debug + Drop>(
     let mut powers: ThinVec<T, Global, PowerBytes> = ThinVec::ruled(alloc);
     powers.reserve(300)?;
     powers.extend_from_copies(items)?;
-    assert_prints_as(rt, alloc, &powers, &items)?;
+    check!(rt; prints_as(alloc, &powers, &items));
     let refusing = Refusing::leaked(alloc, 0)?;
     let mut list = list_of(refusing, items)?;
     let other = list_of(refusing, items)?;
     refusing.refuse(1);
-    assert_prints_as(rt, alloc, &list, &items)?;
-    assert_drain_prints(rt, alloc, &mut list)?;
-    assert_into_iter_prints(rt, alloc, other)?;
-    assert_same(rt, refusing.requests(), 0);
+    check!(rt; prints_as(alloc, &list, &items));
+    assert_drain_prints(rt, alloc, &mut list);
+    assert_into_iter_prints(rt, alloc, other);
+    check!(rt; same(refusing.requests(), 0));
     Ok(())
 }
 
@@ -110,9 +107,10 @@ fn prints_the_items_as_a_slice_with_each_option(rt: HostRuntime) -> Result<(), F
 fn prints_a_list_in_each_form(rt: HostRuntime) -> Result<(), Fail> {
     let list = list_of(rt.alloc(), &[1, 2])?;
     let texts = ["[1, 2]", "[\n    1,\n    2,\n]", "[0001, 0002]"];
-    assert_texts(&rt, rt.alloc(), &list, texts)?;
+    check!(rt; prints(rt.alloc(), &list, texts));
     let empty = ThinVec::<i32>::new(rt.alloc());
-    assert_texts(&rt, rt.alloc(), &empty, ["[]", "[]", "[]"])
+    check!(rt; prints(rt.alloc(), &empty, ["[]", "[]", "[]"]));
+    Ok(())
 }
 
 #[test]
@@ -120,23 +118,25 @@ fn prints_an_into_iter_in_each_form(rt: HostRuntime) -> Result<(), Fail> {
     let mut items = list_of(rt.alloc(), &[1, 2])?.into_iter();
     let lines = "IntoIter(\n    [\n        1,\n        2,\n    ],\n)";
     let texts = ["IntoIter([1, 2])", lines, "IntoIter([0001, 0002])"];
-    assert_texts(&rt, rt.alloc(), &items, texts)?;
-    assert_same(&rt, (items.next(), items.next()), (Some(1), Some(2)));
+    check!(rt; prints(rt.alloc(), &items, texts));
+    check!(rt; same((items.next(), items.next()), (Some(1), Some(2))));
     let texts = ["IntoIter([])", "IntoIter(\n    [],\n)", "IntoIter([])"];
-    assert_texts(&rt, rt.alloc(), &items, texts)
+    check!(rt; prints(rt.alloc(), &items, texts));
+    Ok(())
 }
 
 #[test]
 fn prints_a_drain_in_each_form(rt: HostRuntime) -> Result<(), Fail> {
     let mut list = list_of(rt.alloc(), &[1, 2, 3])?;
-    assert_len(&rt, &list, 3);
+    check!(rt; has_len(&list, 3));
     let mut drain = list.drain(1, 3);
     let lines = "Drain(\n    [\n        2,\n        3,\n    ],\n)";
     let texts = ["Drain([2, 3])", lines, "Drain([0002, 0003])"];
-    assert_texts(&rt, rt.alloc(), &drain, texts)?;
-    assert_same(&rt, (drain.next(), drain.next()), (Some(2), Some(3)));
+    check!(rt; prints(rt.alloc(), &drain, texts));
+    check!(rt; same((drain.next(), drain.next()), (Some(2), Some(3))));
     let texts = ["Drain([])", "Drain(\n    [],\n)", "Drain([])"];
-    assert_texts(&rt, rt.alloc(), &drain, texts)
+    check!(rt; prints(rt.alloc(), &drain, texts));
+    Ok(())
 }
 
 #[test]
@@ -146,9 +146,10 @@ fn prints_lists_in_a_list_and_in_an_into_iter(rt: HostRuntime) -> Result<(), Fai
     lists.push(ThinVec::new(rt.alloc()))?;
     let lines = "[\n    [\n        1,\n        2,\n    ],\n    [],\n]";
     let texts = ["[[1, 2], []]", lines, "[[0001, 0002], []]"];
-    assert_texts(&rt, rt.alloc(), &lists, texts)?;
+    check!(rt; prints(rt.alloc(), &lists, texts));
     let rest = lists.into_iter();
-    assert_prints_items(&rt, rt.alloc(), &rest, "IntoIter", rest.as_slice())
+    assert_prints_items(&rt, rt.alloc(), &rest, "IntoIter", rest.as_slice());
+    Ok(())
 }
 
 #[test]
@@ -158,20 +159,16 @@ fn errors_print_their_texts(rt: HostRuntime) -> Result<(), Fail> {
         (ThinVecError::OutOfMemory, "out of memory"),
     ] {
         let printed = format!(in rt.alloc(); "{error}")?;
-        assert_same(&rt, printed.as_str(), text);
+        check!(rt; same(printed.as_str(), text));
     }
-    assert_same(
-        &rt,
-        ThinVecError::from(AllocError),
-        ThinVecError::OutOfMemory,
-    );
+    check!(rt; same(ThinVecError::from(AllocError), ThinVecError::OutOfMemory));
     Ok(())
 }
 
 // Asserts the texts of an `io::Error` that was made of an error of this crate.
 fn assert_io_error<E: Error>(rt: &impl Abort, alloc: Global, error: E) -> Result<(), Fail> {
     let printed = format!(in alloc; "{error}, {error:?}")?;
-    assert_same(rt, printed.as_str(), "out of memory, Kind(OutOfMemory)");
+    check!(rt; same(printed.as_str(), "out of memory, Kind(OutOfMemory)"));
     Ok(())
 }
 
@@ -218,8 +215,8 @@ fn assert_refusal<R: Error, E: From<R> + Error>(
 ) -> Result<(), Fail> {
     let printed = format!(in alloc; "{refused}, {refused:?}")?;
     let wanted = format!(in alloc; "{cause}, {name} {{ cause: {cause:?}, .. }}")?;
-    assert_same(rt, printed.as_str(), wanted.as_str());
-    assert_prints_as(rt, alloc, &refused, &Named { name, cause })?;
+    check!(rt; same(printed.as_str(), wanted.as_str()));
+    check!(rt; prints_as(alloc, &refused, &Named { name, cause }));
     assert_io_error(rt, alloc, E::from(refused))
 }
 

@@ -2,10 +2,10 @@
 //! bounds, so no thread is started.
 ghost use Rattle.std.specs.Prelude.{◌≡◌};
 
-use crate::tests::support::{assert_len, assert_same};
 use std::alloc::{Allocator, Global};
 use std::marker::{Send, Sync};
 use std::test::Fail;
+use thin_testing::{check, has_len, same};
 use thin_vec::{Growth, PowerBytes, ThinVec, thin_vec};
 
 // A node of a tree, with a list of its child nodes.
@@ -49,30 +49,30 @@ fn share_list<T: Sync, A: Allocator + Sync, G: Growth + Sync>(
 fn lists_can_be_sent_and_shared(rt: HostRuntime) -> Result<(), Fail> {
     let list: ThinVec<u8> = thin_vec![rt.alloc() => 1, 2]?;
     let list = needs_send(send_list(list));
-    assert_same(&rt, needs_sync(share_list(&list)).len(), 2);
+    check!(rt; same(needs_sync(share_list(&list)).len(), 2));
     let lists = thin_vec![rt.alloc() => list]?;
-    assert_same(&rt, needs_sync(&needs_send(lists)).len(), 1);
+    check!(rt; same(needs_sync(&needs_send(lists)).len(), 1));
     let powers: ThinVec<u8, Global, PowerBytes> = ThinVec::ruled(rt.alloc());
-    assert_same(&rt, needs_send(powers).len(), 0);
+    check!(rt; same(needs_send(powers).len(), 0));
     Ok(())
 }
 
 #[test]
 fn iterators_over_lists_can_be_sent_and_shared(rt: HostRuntime) -> Result<(), Fail> {
     let mut list: ThinVec<u8> = thin_vec![rt.alloc() => 1, 2, 3]?;
-    assert_len(&rt, &list, 3);
-    assert_same(&rt, needs_sync(&needs_send(list.drain(0, 1))).len(), 1);
-    assert_len(&rt, &list, 2);
+    check!(rt; has_len(&list, 3));
+    check!(rt; same(needs_sync(&needs_send(list.drain(0, 1))).len(), 1));
+    check!(rt; has_len(&list, 2));
     let extract = needs_send(list.extract_if(0, 1, |_item: &mut u8| true));
-    assert_same(&rt, needs_sync(&extract).size_hint(), (0, Some(1)));
+    check!(rt; same(needs_sync(&extract).size_hint(), (0, Some(1))));
     drop(extract);
-    assert_len(&rt, &list, 2);
+    check!(rt; has_len(&list, 2));
     let other: ThinVec<u8> = thin_vec![rt.alloc() => 4, 5]?;
     let splice = needs_send(list.splice(0, 1, other.into_iter()));
-    assert_same(&rt, needs_sync(&splice).len(), 1);
+    check!(rt; same(needs_sync(&splice).len(), 1));
     splice.finish(rt.alloc())?;
     let items = needs_send(list.into_iter());
-    assert_same(&rt, needs_sync(&items).len(), 3);
+    check!(rt; same(needs_sync(&items).len(), 3));
     Ok(())
 }
 
@@ -80,7 +80,7 @@ fn iterators_over_lists_can_be_sent_and_shared(rt: HostRuntime) -> Result<(), Fa
 fn types_with_lists_can_be_sent_and_shared(rt: HostRuntime) -> Result<(), Fail> {
     let children = ThinVec::new(rt.alloc());
     let node = needs_send(Node { value: 1, children });
-    assert_same(&rt, needs_sync(&node).value, 1);
-    assert_same(&rt, node.children.len(), 0);
+    check!(rt; same(needs_sync(&node).value, 1));
+    check!(rt; same(node.children.len(), 0));
     Ok(())
 }

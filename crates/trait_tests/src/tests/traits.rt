@@ -1,6 +1,5 @@
 //! Tests of a list through the traits of std: `clone_from` and `or_default` with the capacities of
 //! their lists, and which calls make no request.
-use crate::tests::support::{assert_counts, assert_len, assert_list, assert_same};
 use std::alloc::{AllocError, Allocator, Global};
 use std::cmp::Ordering;
 use std::collections::HashMap;
@@ -10,7 +9,7 @@ use std::hash::{DefaultHasher, Hash};
 use std::iter::ExactSizeIterator;
 use std::process::Abort;
 use std::test::Fail;
-use thin_testing::{Refusing, list_of};
+use thin_testing::{Refusing, check, counts, has_len, holds, list_of, same};
 use thin_vec::{ThinVec, ThinVecError};
 
 #[test]
@@ -22,15 +21,15 @@ fn clone_from_replaces_the_block(rt: HostRuntime) -> Result<(), Fail> {
     let mut source = list_of(other, &[1, 2, 3])?;
     source.reserve(5)?;
     other.refuse(1);
-    assert_same(&rt, list.clone_from(&source).is_err(), true);
-    assert_list(&rt, &list, &[7], 9);
+    check!(rt; same(list.clone_from(&source).is_err(), true));
+    check!(rt; holds(&list, &[7], 9));
     list.clone_from(&source)?;
-    assert_list(&rt, &list, &[1, 2, 3], 3);
-    assert_counts(&rt, own, 1, 0);
-    assert_counts(&rt, other, 2, 2);
+    check!(rt; holds(&list, &[1, 2, 3], 3));
+    check!(rt; counts(own, 1, 0));
+    check!(rt; counts(other, 2, 2));
     list.clone_from(&ThinVec::new(own))?;
-    assert_list(&rt, &list, &[], 0);
-    assert_counts(&rt, other, 2, 1);
+    check!(rt; holds(&list, &[], 0));
+    check!(rt; counts(other, 2, 1));
     Ok(())
 }
 
@@ -38,14 +37,14 @@ fn clone_from_replaces_the_block(rt: HostRuntime) -> Result<(), Fail> {
 fn or_default_makes_a_list_without_a_block(rt: HostRuntime) -> Result<(), Fail> {
     let mut lists: HashMap<u32, ThinVec<i32>> = HashMap::new(rt.alloc());
     let list = lists.entry(1)?.or_default();
-    assert_same(&rt, list.capacity(), 0);
+    check!(rt; same(list.capacity(), 0));
     list.push(10)?;
     let list = lists.entry(1)?.or_default();
-    assert_list(&rt, list, &[10], 4);
+    check!(rt; holds(list, &[10], 4));
     let mut wide: HashMap<u32, ThinVec<[u64; 40]>> = HashMap::new(rt.alloc());
-    assert_same(&rt, wide.entry(1)?.or_default().capacity(), 0);
+    check!(rt; same(wide.entry(1)?.or_default().capacity(), 0));
     let mut units: HashMap<u32, ThinVec<()>> = HashMap::new(rt.alloc());
-    assert_same(&rt, units.entry(1)?.or_default().capacity(), 0);
+    check!(rt; same(units.entry(1)?.or_default().capacity(), 0));
     Ok(())
 }
 
@@ -57,8 +56,8 @@ fn iteration_by_value_makes_no_request(rt: HostRuntime) -> Result<(), Fail> {
         let mut list = ThinVec::new(refusing);
         list.resize(len, 1_u32)?;
         refusing.refuse(1);
-        assert_same(&rt, count(list), len);
-        assert_counts(&rt, refusing, 0, 0);
+        check!(rt; same(count(list), len));
+        check!(rt; counts(refusing, 0, 0));
     }
     Ok(())
 }
@@ -94,8 +93,8 @@ fn assert_slice_requests<T: Copy + Ord + Hash + Debug + Drop>(
     let mut other = ThinVec::new(refusing);
     other.resize(len, item)?;
     refusing.refuse(1);
-    assert_len(rt, &list, len);
-    assert_len(rt, &other, len);
+    check!(rt; has_len(&list, len));
+    check!(rt; has_len(&other, len));
     if len > 0 {
         list[len - 1] = other[0];
         list.swap(0, len - 1);
@@ -106,9 +105,9 @@ fn assert_slice_requests<T: Copy + Ord + Hash + Debug + Drop>(
     list.sort_unstable();
     list.sort_unstable_by(|x, y| y.cmp(x));
     list.sort_unstable_by_key(|x| *x);
-    assert_len(rt, &list, len);
+    check!(rt; has_len(&list, len));
     let ends = (list.first_mut().is_some(), list.last_mut().is_some());
-    assert_same(rt, ends, (len > 0, len > 0));
+    check!(rt; same(ends, (len > 0, len > 0)));
     let mut seen = 0_usize;
     for _item in &list {
         seen = seen.saturating_add(1);
@@ -117,21 +116,21 @@ fn assert_slice_requests<T: Copy + Ord + Hash + Debug + Drop>(
         seen = seen.saturating_add(1);
     }
     let found = (seen, list.iter().count(), len_as_slice::<T, _>(&list));
-    assert_same(rt, found, (len.saturating_mul(2), len, len));
+    check!(rt; same(found, (len.saturating_mul(2), len, len)));
     let found = (list == other, list.cmp(&other), list.partial_cmp(&other));
     let equal = Ordering::Equal;
-    assert_same(rt, found, (true, equal, Some(equal)));
-    assert_same(rt, list.first(), other.last());
-    assert_same(rt, list.get_mut(0).is_some(), len > 0);
+    check!(rt; same(found, (true, equal, Some(equal))));
+    check!(rt; same(list.first(), other.last()));
+    check!(rt; same(list.get_mut(0).is_some(), len > 0));
     list.hash(&mut DefaultHasher::new());
-    assert_len(rt, &list, len);
+    check!(rt; has_len(&list, len));
     let mut drain = list.drain(0, len);
     let _ends = (drain.next(), drain.next_back());
     let drained = (lens(&drain), drain.rev().count());
     let mut rest = other.into_iter();
     let _ends = (rest.next(), rest.next_back());
-    assert_same(rt, drained, (lens(&rest), rest.rev().count()));
-    assert_same(rt, refusing.requests(), 0);
+    check!(rt; same(drained, (lens(&rest), rest.rev().count())));
+    check!(rt; same(refusing.requests(), 0));
     Ok(())
 }
 
@@ -166,10 +165,10 @@ fn stable_sorts_use_the_allocator_of_the_list(rt: HostRuntime) -> Result<(), Fai
         list.extend(0..10)?;
         let unsorted = list.clone(refusing)?;
         refusing.refuse(1);
-        assert_same(&rt, sort_by_way(way, &mut list).is_err(), true);
-        assert_same(&rt, (list == unsorted, refusing.blocks()), (true, 2));
-        assert_same(&rt, sort_by_way(way, &mut list).is_ok(), true);
-        assert_same(&rt, (list.is_sorted(), refusing.blocks()), (true, 2));
+        check!(rt; same(sort_by_way(way, &mut list).is_err(), true));
+        check!(rt; same((list == unsorted, refusing.blocks()), (true, 2)));
+        check!(rt; same(sort_by_way(way, &mut list).is_ok(), true));
+        check!(rt; same((list.is_sorted(), refusing.blocks()), (true, 2)));
     }
     Ok(())
 }

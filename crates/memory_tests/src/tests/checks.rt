@@ -1,0 +1,63 @@
+//! Tests of the checks of `thin_testing`: each finds what is wrong, and `check!` stops the test.
+use std::test::Fail;
+use thin_testing::{
+    Refusing, check, counts, has_len, holds, list_of, prints, prints_as, same, same_items,
+};
+
+#[test]
+fn detects_a_wrong_value(rt: HostRuntime) {
+    check!(rt; same(1, 1));
+    check!(rt; same(same(1, 2).is_err(), true));
+    for wrong in [&[][..], &[1], &[1, 3], &[1, 2, 2]] {
+        check!(rt; same(same_items(&[1, 2], wrong).is_err(), true));
+    }
+}
+
+#[test]
+fn detects_a_wrong_length(rt: HostRuntime) -> Result<(), Fail> {
+    let list = list_of(rt.alloc(), &[1, 2])?;
+    for len in 0..4 {
+        let found = (len, has_len(&list, len).is_ok(), list.len() == len);
+        check!(rt; same(found, (len, len == 2, len == 2)));
+    }
+    Ok(())
+}
+
+#[test]
+fn detects_a_wrong_capacity(rt: HostRuntime) -> Result<(), Fail> {
+    let list = list_of(rt.alloc(), &[1, 2])?;
+    check!(rt; holds(&list, &[1, 2], 2));
+    check!(rt; same(holds(&list, &[1, 2], 3).is_err(), true));
+    for wrong in [&[][..], &[1], &[1, 3], &[1, 2, 2]] {
+        check!(rt; same(holds(&list, wrong, 2).is_err(), true));
+    }
+    Ok(())
+}
+
+#[test]
+fn detects_a_wrong_number_of_blocks(rt: HostRuntime) -> Result<(), Fail> {
+    let refusing = Refusing::leaked(rt.alloc(), 0)?;
+    let _list = list_of(refusing, &[1])?;
+    check!(rt; counts(refusing, 1, 1));
+    check!(rt; same(counts(refusing, 1, 0).is_err(), true));
+    check!(rt; same(counts(refusing, 0, 1).is_err(), true));
+    Ok(())
+}
+
+#[test]
+fn detects_a_wrong_text(rt: HostRuntime) {
+    let texts = ["7", "7", "0007"];
+    check!(rt; prints(rt.alloc(), &7, texts));
+    for wrong in 0..3 {
+        let mut texts = texts;
+        texts[wrong] = "8";
+        check!(rt; same(prints(rt.alloc(), &7, texts).is_err(), true));
+    }
+    check!(rt; same(prints_as(rt.alloc(), &7, &8).is_err(), true));
+}
+
+#[test]
+#[should_panic]
+fn a_check_stops_the_test(rt: HostRuntime) {
+    check!(rt; same(1, 2));
+}
