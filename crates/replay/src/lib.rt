@@ -3,7 +3,7 @@
 //! its standard input and output.
 #![tactic(auto)]
 
-mod answer;
+pub mod answer;
 pub mod call;
 mod carried_out;
 pub mod divisor_judge;
@@ -130,8 +130,8 @@ fn answer_line(
     Ok(())
 }
 
-// Returns whether the reply says that there was not enough memory.
-fn lacks_memory(reply: &Reply<Item>) -> bool {
+/// Returns whether the reply says that there was not enough memory. `replay` ends at such a reply.
+pub fn lacks_memory(reply: &Reply<Item>) -> bool {
     let cause = match reply {
         Reply::Returned(_item, cause) => cause,
         Reply::Refused(cause) => cause,

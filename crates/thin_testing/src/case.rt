@@ -26,6 +26,28 @@ pub struct At {
     pub refused: u64,
 }
 
+/// What the argument of a random case chooses. Each choice is drawn for itself.
+#[derive(Clone, Copy)]
+pub enum Choice {
+    Length,
+    Spare,
+    /// An index, or the start of a range.
+    Start,
+    End,
+    /// A number of new items.
+    Count,
+    /// The number of items of an iterator.
+    Items,
+    /// How the lower bound of a size hint is drawn.
+    HintKind,
+    Hint,
+    IsBounded,
+    /// Whether the items of an iterator just fill the list.
+    JustFills,
+    OtherSpare,
+    IsExact,
+}
+
 impl At {
     /// Returns a random case of lists of `T`: the length, the spare capacity, and what `Case`
     /// chooses.
@@ -40,8 +62,8 @@ impl At {
             refused: 0,
         };
         At {
-            length: at.drawn_size(0),
-            spare: at.drawn_size(1),
+            length: at.drawn_size(Choice::Length),
+            spare: at.drawn_size(Choice::Spare),
             ..at
         }
     }
@@ -56,26 +78,44 @@ impl At {
         self.argument >= RANDOM
     }
 
-    /// Returns a number below `limit`, or 0 if `limit` is 0. The argument and `what` determine it.
-    pub fn drawn(self, what: u64, limit: usize) -> usize {
+    // Returns a number below `limit`, or 0 if `limit` is 0. The argument and `stream` determine it.
+    fn number(self, stream: u64, limit: usize) -> usize {
         if limit == 0 {
             return 0;
         }
-        let seed = (self.argument as u64).wrapping_mul(128).wrapping_add(what);
+        let seed = (self.argument as u64)
+            .wrapping_mul(128)
+            .wrapping_add(stream);
         (mixed(seed) >> 33) as usize % limit
     }
 
+    /// Returns a number below `limit`, or 0 if `limit` is 0.
+    pub fn drawn(self, what: Choice, limit: usize) -> usize {
+        self.number(what as u64, limit)
+    }
+
+    // Returns a second number for the same choice.
+    fn drawn_again(self, what: Choice, limit: usize) -> usize {
+        self.number(AGAIN.wrapping_add(what as u64), limit)
+    }
+
     /// Returns a number below 2048, which is small in most cases.
-    pub fn drawn_size(self, what: u64) -> usize {
+    pub fn drawn_size(self, what: Choice) -> usize {
         let limits: [usize; 12] = [1, 2, 4, 8, 16, 32, 64, 128, 256, 512, 1024, 2048];
         let limit = limits[self.drawn(what, 12) % 12];
-        self.drawn(what.wrapping_add(50), limit)
+        self.drawn_again(what, limit)
+    }
+
+    /// Returns whether a request is drawn, of which `earlier` is the number of requests before it.
+    /// One of 32 is.
+    pub fn is_drawn(self, earlier: u64) -> bool {
+        self.number(earlier.wrapping_add(REQUESTS), 64) < 2
     }
 
     // Returns an index of at most `length`, which is near one of the ends in many cases.
-    fn drawn_index(self, what: u64) -> usize {
+    fn drawn_index(self, what: Choice) -> usize {
         let near = self.drawn(what, 8).min(self.length);
-        match self.drawn(what.wrapping_add(50), 4) {
+        match self.drawn_again(what, 4) {
             0 => near,
             1 => self.length.saturating_sub(near),
             _ => self.drawn(what, self.length.saturating_add(1)),
@@ -248,7 +288,7 @@ impl<T: Numbered, G: Growth> Case<T, G> {
     /// Returns the spare capacity of a second list.
     pub fn other_spare(&self) -> usize {
         if self.at.is_random() {
-            return self.at.drawn_size(10);
+            return self.at.drawn_size(Choice::OtherSpare);
         }
         self.at.argument / 8 % 2
     }
@@ -273,7 +313,7 @@ impl<T: Numbered, G: Growth> Case<T, G> {
     pub fn index(&self) -> usize {
         let length = self.at.length;
         if self.at.is_random() {
-            return self.at.drawn_index(2);
+            return self.at.drawn_index(Choice::Start);
         }
         if length <= SHORT {
             return length.min(self.at.argument % 5);
@@ -292,7 +332,8 @@ impl<T: Numbered, G: Growth> Case<T, G> {
     pub fn range(&self) -> (usize, usize) {
         let length = self.at.length;
         if self.at.is_random() {
-            let (one, two) = (self.at.drawn_index(2), self.at.drawn_index(3));
+            let one = self.at.drawn_index(Choice::Start);
+            let two = self.at.drawn_index(Choice::End);
             return (one.min(two), one.max(two));
         }
         let (one, two) = (self.at.argument % 5, self.at.argument / 5 % 5);
@@ -332,7 +373,7 @@ impl<T: Numbered, G: Growth> Case<T, G> {
     /// Returns a number of new items that the argument chooses, with few on a long list.
     pub fn count(&self) -> usize {
         if self.at.is_random() {
-            return self.at.drawn_size(4);
+            return self.at.drawn_size(Choice::Count);
         }
         let counts: [usize; 8] = if self.at.length <= SHORT {
             [0, 1, 2, 3, 5, 9, 17, 45]
@@ -351,7 +392,7 @@ impl<T: Numbered, G: Growth> Case<T, G> {
         let (start, end) = self.range();
         let width = end.saturating_sub(start);
         match self.at.argument / 5 % 8 {
-            0 if self.at.is_random() => self.at.drawn_size(4),
+            0 if self.at.is_random() => self.at.drawn_size(Choice::Count),
             0 => width.saturating_add(45),
             1 => width.saturating_add(2),
             2 => width.saturating_add(1),
@@ -367,7 +408,7 @@ impl<T: Numbered, G: Growth> Case<T, G> {
     pub fn spare(&self) -> usize {
         let spare = self.list.capacity().saturating_sub(self.list.len());
         if self.at.is_random() {
-            return self.at.drawn(4, spare.saturating_add(1));
+            return self.at.drawn(Choice::Count, spare.saturating_add(1));
         }
         spare.saturating_sub(self.at.argument % 5)
     }
@@ -455,6 +496,12 @@ const SHORT: usize = 4;
 
 // The least argument of a random case.
 const RANDOM: usize = 1 << 32;
+
+// The first streams of the second numbers of choices, and of the requests of a case. A choice has
+// the stream of its number.
+const AGAIN: u64 = 50;
+
+const REQUESTS: u64 = 60;
 
 // The number of the first new item. It differs from the numbers of the items of all short lists.
 const FRESH: u64 = 200;

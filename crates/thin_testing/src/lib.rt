@@ -17,7 +17,9 @@ mod refusing;
 mod ruled;
 mod texts;
 
-pub use case::{Answer, At, Case, Due, Lender, List, Pattern, Wrong, filled_list, numbered_items};
+pub use case::{
+    Answer, At, Case, Choice, Due, Lender, List, Pattern, Wrong, filled_list, numbered_items,
+};
 pub use checks::{Different, counts, has_len, holds, same, same_items};
 pub use claims::Claims;
 pub use ledger::{Counted, CountedWord, Ledger};

@@ -1,13 +1,13 @@
 //! A sweep makes each call of a group on many lists, with several arguments, and with each of its
 //! requests refused in turn.
-use crate::asserts::assert_right;
+use crate::asserts::{assert_right, assert_same};
 use std::process::Abort;
 use thin_testing::{Answer, At, Case, Ledger, Numbered};
 use thin_vec::Growth;
 
 /// A group of calls on a list of `T` with the growth rule `G`.
 pub trait Calls<T: Numbered, G: Growth> {
-    /// The number of calls in the group.
+    /// The number of calls in the group. A sweep asserts that this is right.
     const CALLS: usize;
 
     /// Returns the number of arguments with which the call is tried. `is_short` says whether the
@@ -15,7 +15,8 @@ pub trait Calls<T: Numbered, G: Growth> {
     fn arguments(call: usize, is_short: bool) -> usize;
 
     /// Makes one of the calls on the list of `case`, with the argument that `case` chooses. Drops
-    /// whatever the call returned. Returns `None` if the call does not suit the case.
+    /// whatever the call returned. Returns `None` if the call does not suit the case, or if no call
+    /// has this number.
     fn call<R: Abort>(rt: &R, case: &mut Case<T, G>, call: usize) -> Option<Answer>;
 }
 
@@ -29,6 +30,7 @@ pub fn sweep<C: Calls<T, G>, T: Numbered, G: Growth, R: Abort>(
     spares: &[usize],
     most: usize,
 ) -> (u64, u64) {
+    assert_counted::<C, T, G, R>(rt, ledger);
     let (mut cases, mut refusals) = (0_u64, 0_u64);
     for length in lengths {
         for spare in spares {
@@ -69,6 +71,31 @@ pub fn sweep_at_random<C: Calls<T, G>, T: Numbered, G: Growth, R: Abort>(
     (cases, refusals)
 }
 
+// Asserts that the last call of the group has the number before `CALLS`.
+fn assert_counted<C: Calls<T, G>, T: Numbered, G: Growth, R: Abort>(
+    rt: &R,
+    ledger: &'static Ledger,
+) {
+    for (call, is_there) in [(C::CALLS.saturating_sub(1), true), (C::CALLS, false)] {
+        let at = At {
+            call: "",
+            length: 1,
+            spare: 1,
+            argument: 0,
+            refused: 0,
+        };
+        let mut case = Case::new(ledger, at).expect(rt, "memory");
+        let is_made = C::call(rt, &mut case, call).is_some();
+        assert_same(
+            rt,
+            case.at,
+            "call of the last number, or of the next",
+            is_made,
+            is_there,
+        );
+    }
+}
+
 // Makes the call with enough memory, and then with each of its requests refused. If it makes many
 // requests, some of those in the middle are not refused. Returns the number of refusals.
 fn each_refusal<C: Calls<T, G>, T: Numbered, G: Growth, R: Abort>(
@@ -93,7 +120,7 @@ fn each_refusal<C: Calls<T, G>, T: Numbered, G: Growth, R: Abort>(
 // the number of requests from it on. In a random case, some of the requests are chosen at random.
 fn is_refused(at: At, earlier: u64, left: u64) -> bool {
     if at.is_random() {
-        return earlier < 2 || left < 2 || at.drawn(earlier.wrapping_add(60), 64) < 2;
+        return earlier < 2 || left < 2 || at.is_drawn(earlier);
     }
     match at.length {
         0..=50 => earlier < 12 || left < 3 || 40 <= earlier && earlier < 44,

@@ -5,7 +5,7 @@ ghost use Rattle.std.specs.Prelude.{◌*◌, ◌<◌, ◌^◌};
 
 use std::alloc::{Allocator, Global};
 use std::default::Emptied;
-use std::io;
+use std::io::{self, ErrorKind};
 use std::process::Abort;
 use std::rc::Rc;
 use std::test::Fail;
@@ -94,8 +94,13 @@ fn owning_list<T: Numbered>(
 }
 
 // The number of calls that each of five functions makes: `end_alone`, `convert`, `make`, `fill` and
-// `finish`.
+// `finish`. The test asserts that a call of this number fails.
 const CALLS: [u32; 5] = [7, 8, 5, 7, 16];
+
+// Returns the error for a number of which there is no call.
+fn no_call() -> io::Error {
+    io::Error::from(ErrorKind::InvalidInput)
+}
 
 // Ends the list by a call of one of the five functions. Drops the result, and the allocator
 // `alloc`.
@@ -135,11 +140,12 @@ fn end_alone<T: Numbered, A: Allocator>(call: u32, mut list: ThinVec<T, A>) -> i
             list.shrink_to_fit()?;
         }
         5 => list.retain(|_item| false),
-        _ => {
+        6 => {
             list.shrink_to_fit()?;
             list.reserve(1)?;
             list.reserve_exact(300)?;
         }
+        _ => return Err(no_call()),
     }
     Ok(())
 }
@@ -164,10 +170,11 @@ fn convert<T: Numbered, A: Allocator>(
             let mut other = ThinVec::new(alloc);
             other.append(&mut list)?;
         }
-        _ => {
+        7 => {
             let mut other = ThinVec::new(alloc);
             other.replace_range_from_list(0, 0, &mut list)?;
         }
+        _ => return Err(no_call()),
     }
     Ok(())
 }
@@ -187,7 +194,8 @@ fn make<T: Numbered, A: Allocator>(
         1 => drop(ThinVec::from_slice(alloc, list.as_slice())?),
         2 => drop(thin_vec![alloc => one; list.len()]?),
         3 => drop(thin_vec![alloc => one, two]?),
-        _ => drop(ThinVec::from_array(alloc, [one, two])?),
+        4 => drop(ThinVec::from_array(alloc, [one, two])?),
+        _ => return Err(no_call()),
     }
     Ok(())
 }
@@ -208,7 +216,8 @@ fn fill<T: Numbered, A: Allocator>(
         3 => drop(ThinVec::from_iter(alloc, Hinted::new(items, len))?),
         4 => list.replace_range(alloc, 0, 0, items.as_slice())?,
         5 => list.replace_range(alloc, 0, len, items.as_slice())?,
-        _ => list.replace_range(alloc, 0, len / 2, &[])?,
+        6 => list.replace_range(alloc, 0, len / 2, &[])?,
+        _ => return Err(no_call()),
     }
     Ok(())
 }
@@ -225,7 +234,8 @@ fn finish<T: Numbered, A: Allocator>(
         0 => (2, 2),
         1 => (2, 0),
         2 => (60, 1),
-        _ => (0, 0),
+        3 => (0, 0),
+        _ => return Err(no_call()),
     };
     let items = numbered_items(ledger, ledger.global, 7, count)?;
     let items = Hinted::new(items, lower);
@@ -242,6 +252,16 @@ fn finish<T: Numbered, A: Allocator>(
 // The requests that are refused: by the allocator of the list, and by the one that is passed. If a
 // number is 0, none is.
 const REFUSED: [(u64, u64); 6] = [(0, 0), (1, 0), (2, 0), (0, 1), (0, 2), (0, 3)];
+
+// Returns whether the function has a call of this number, which then succeeds for a list without
+// items.
+fn has_call<T: Numbered>(ledger: &'static Ledger, function: usize, call: u32) -> bool
+    requires small { 40 * type_size T.row < 2 ^ 63 }
+{
+    ledger.begin(0);
+    let list: ThinVec<T, &'static Refusing<Global>> = ThinVec::new(&ledger.alloc);
+    end(function, call, list, &ledger.alloc, ledger).is_ok()
+}
 
 // Returns how many requests the call makes, and for how many bytes, if the lists only refer to
 // their allocator.
@@ -271,6 +291,7 @@ fn assert_dropped<T: Numbered>(rt: &impl Abort, ledger: &'static Ledger) -> Resu
     for count in [0, 1, 2, 3, 40, 200] {
         let mut function: usize = 0;
         for calls in CALLS {
+            check!(rt; same((function, has_call::<T>(ledger, function, calls)), (function, false)));
             for call in 0..calls {
                 let due = requested::<T>(ledger, function, call, count)?;
                 for (own, passed) in REFUSED {

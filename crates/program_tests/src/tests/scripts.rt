@@ -1,14 +1,18 @@
 //! Tests of the crate `replay`: the error messages, the exit status, and reads and writes that
 //! fail. The files `stdin` and `stdout` of the program `thin_replay` test the answers.
 use crate::tests::page::Page;
+use replay::answer::write_reply;
 use replay::line::Line;
-use replay::{exit_code, replay};
+use replay::{exit_code, lacks_memory, replay};
 use std::alloc::Global;
 use std::cell::Cell;
 use std::fmt::Display;
 use std::io::{self, BufReader, ErrorKind, Read};
 use std::process::Abort;
 use std::test::Fail;
+use thin_runner::command::Reply;
+use thin_testing::{check, same};
+use thin_vec::{ThinVecError, thin_vec};
 
 // Asserts what is said about a line that has no form.
 fn assert_wrong(rt: &impl Abort, alloc: Global, line: &str, told: &str) -> Result<(), Fail> {
@@ -323,6 +327,40 @@ fn stops_at_a_reply_without_memory(rt: HostRuntime) -> Result<(), Fail> {
             front.push_str("pop\n")?;
             answers.push_str("item None; length 0; capacity 0\n")?;
         }
+    }
+    Ok(())
+}
+
+// Asserts whether the reply says that memory was missing, and what is written of it.
+fn assert_reply(rt: &impl Abort, alloc: Global, reply: Reply<u64>, lacks: bool, wanted: &str) {
+    check!(rt; same(lacks_memory(&reply), lacks));
+    let mut text = String::new(alloc);
+    let mut page = Page {
+        text: &mut text,
+        calls: 0,
+        failing: 0,
+    };
+    check!(rt; same(write_reply(&mut page, reply).is_ok(), true));
+    drop(page);
+    check!(rt; same(text.as_str(), wanted));
+}
+
+// No script has all of these replies: `replay` ends at one that lacks memory, and the capacity for
+// a `push` does not overflow.
+#[test]
+fn writes_the_replies_of_refused_commands(rt: HostRuntime) -> Result<(), Fail> {
+    let alloc = rt.alloc();
+    for (cause, lacks) in [
+        (ThinVecError::OutOfMemory, true),
+        (ThinVecError::CapacityOverflow, false),
+    ] {
+        let told = format!(in alloc; "failed: {cause}")?;
+        assert_reply(&rt, alloc, Reply::Refused(cause), lacks, told.as_str());
+        let told = format!(in alloc; "failed: {cause}; returned 7")?;
+        assert_reply(&rt, alloc, Reply::Returned(7, cause), lacks, told.as_str());
+        let told = format!(in alloc; "failed: {cause}; other [1, 2]; capacity 2")?;
+        let other = Reply::Other(thin_vec![alloc => 1, 2]?, Some(cause));
+        assert_reply(&rt, alloc, other, lacks, told.as_str());
     }
     Ok(())
 }

@@ -16,8 +16,10 @@ struct Twins {
     count: u64,
 }
 
-/// Compares the two kinds of lists after each call, for several lengths and arguments.
+/// Compares the two kinds of lists after each call, for several lengths and arguments. Also asserts
+/// that `CALLS` counts the calls: one of this number does not agree.
 pub fn assert_twins_agree<R: Abort>(rt: &R, alloc: Global) {
+    assert!(rt; !agree(alloc, 3, 0, CALLS), "more calls");
     for length in [0, 1, 2, 3, 4, 8, 33, 300] {
         for argument in 0..27 {
             for call in 0..CALLS {
@@ -30,7 +32,8 @@ pub fn assert_twins_agree<R: Abort>(rt: &R, alloc: Global) {
     }
 }
 
-// Makes the call on both, and returns whether they agree. They do not if a call fails.
+// Makes the call on both, and returns whether they agree. They do not if a call fails, or if there
+// is no call of this number.
 fn agree(alloc: Global, length: u64, argument: usize, call: usize) -> bool {
     let parts = [0, length / 3, length];
     let (one, two) = (parts[argument % 3], parts[argument / 3 % 3]);
@@ -300,10 +303,11 @@ impl Twins {
                 self.list = ThinVec::from_iter(alloc, 0..self.count)?;
                 self.vec = self.items()?;
             }
-            _ => {
+            33 => {
                 let list = mem::replace(&mut self.list, ThinVec::new(alloc));
                 self.list = ThinVec::from_vec(alloc, list.into_vec(alloc)?)?;
             }
+            _ => return Ok(false),
         }
         Ok(true)
     }

@@ -38,7 +38,8 @@ impl<T: Numbered, G: Growth> Calls<T, G> for Adding {
             10 => append(rt, case),
             11 => shrink_to(case),
             12 => shrink_to_fit(case),
-            _ => split_off(rt, case),
+            13 => split_off(rt, case),
+            _ => return None,
         })
     }
 }

@@ -20,7 +20,8 @@ impl<G: Growth> Calls<u8, G> for Bytes {
         Some(match call {
             0 => write(rt, case),
             1 => write_all(rt, case),
-            _ => from_str(rt, case),
+            2 => from_str(rt, case),
+            _ => return None,
         })
     }
 }

@@ -28,7 +28,8 @@ impl<T: Numbered + Copy, G: Growth> Calls<T, G> for Copying {
             1 => extend_from_copies_reserved(rt, case),
             2 => replace_range_from_copies(rt, case),
             3 => clone_copies(case),
-            _ => from_copies(case),
+            4 => from_copies(case),
+            _ => return None,
         })
     }
 }

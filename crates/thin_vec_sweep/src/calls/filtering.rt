@@ -37,7 +37,8 @@ impl<T: Numbered, G: Growth> Calls<T, G> for Filtering {
             3 => dedup(case),
             4 => dedup_by(case),
             5 => dedup_by_key(rt, case),
-            _ => extract_if(rt, case),
+            6 => extract_if(rt, case),
+            _ => return None,
         })
     }
 }

@@ -26,7 +26,8 @@ impl<T: Numbered> Calls<T, Doubling> for Making {
             5 => with_capacity(case),
             6 => from_slice(case),
             7 => from_vec(rt, case),
-            _ => from_boxed_slice(case),
+            8 => from_boxed_slice(case),
+            _ => return None,
         })
     }
 }

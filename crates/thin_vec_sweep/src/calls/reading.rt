@@ -26,7 +26,8 @@ impl<T: Numbered, G: Growth> Calls<T, G> for Reading {
             4 => get_mut(case),
             5 => iterate_mut(case),
             6 => clone(case),
-            _ => clone_of_trait(case),
+            7 => clone_of_trait(case),
+            _ => return None,
         })
     }
 }
@@ -191,7 +192,8 @@ impl<T: Numbered + Ord, G: Growth> Calls<T, G> for Comparing {
         let is_right = match call {
             0 => case.list.cmp(&other) == wanted,
             1 => case.list.partial_cmp(&other) == Some(wanted),
-            _ => (case.list == other) == (wanted == Ordering::Equal),
+            2 => (case.list == other) == (wanted == Ordering::Equal),
+            _ => return None,
         };
         assert_same(rt, case.at, "order", is_right, true);
         drop(other);

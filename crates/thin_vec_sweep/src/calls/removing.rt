@@ -43,7 +43,8 @@ impl<T: Numbered, G: Growth> Calls<T, G> for Removing {
             10 => into_vec(case),
             11 => into_boxed_slice(case),
             12 => try_take(rt, case),
-            _ => drain_for(rt, case),
+            13 => drain_for(rt, case),
+            _ => return None,
         })
     }
 }

@@ -25,7 +25,8 @@ impl<T: Numbered, G: Growth> Calls<T, G> for Replacing {
             0 => replace_range(rt, case),
             1 => replace_range_from_list(rt, case),
             2 => append_reserved(rt, case),
-            _ => extend_from_slice_reserved(rt, case),
+            3 => extend_from_slice_reserved(rt, case),
+            _ => return None,
         })
     }
 }

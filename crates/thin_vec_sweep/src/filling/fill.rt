@@ -4,7 +4,9 @@
 use crate::asserts::{assert_right, assert_same};
 use std::iter;
 use std::process::Abort;
-use thin_testing::{At, Case, Claims, Ledger, Numbered, Ruled, block_bytes, numbered_items};
+use thin_testing::{
+    At, Case, Choice, Claims, Ledger, Numbered, Ruled, block_bytes, numbered_items,
+};
 use thin_vec::{CollectRefused, Doubling, ExtendRefused, Growth, ThinVec, ThinVecError};
 
 /// What a call that fills a list has to do: the capacity of the list, the number of requests and of
@@ -144,22 +146,22 @@ impl Source {
 
     // Returns a random source, whose hint may be wrong. Its items may just fill the list.
     fn random(at: At) -> Source {
-        let count = if at.drawn(9, 8) == 0 {
+        let count = if at.drawn(Choice::JustFills, 8) == 0 {
             at.spare
         } else {
-            at.drawn_size(5)
+            at.drawn_size(Choice::Items)
         };
-        let lower = match at.drawn(6, 4) {
+        let lower = match at.drawn(Choice::HintKind, 4) {
             0 => 0,
             1 => count,
-            2 => at.drawn(7, count.saturating_add(1)),
-            _ => at.drawn_size(7),
+            2 => at.drawn(Choice::Hint, count.saturating_add(1)),
+            _ => at.drawn_size(Choice::Hint),
         };
-        let is_exact = at.drawn(11, 4) == 0;
+        let is_exact = at.drawn(Choice::IsExact, 4) == 0;
         Source {
             count,
             lower: if is_exact { count } else { lower },
-            is_bounded: at.drawn(8, 2) == 1,
+            is_bounded: at.drawn(Choice::IsBounded, 2) == 1,
             is_exact,
         }
     }

@@ -5,20 +5,35 @@ use thin_testing::{At, Case, Ledger, List, Numbered, Ruled};
 use thin_vec::{Doubling, ThinVec, ThinVecError};
 
 // The calls that are tried.
-const CALLS: usize = 5;
+#[derive(Clone, Copy, Debug)]
+enum Call {
+    WithCapacity,
+    Reserve,
+    ReserveExact,
+    Resize,
+    ResizeWith,
+}
+
+const CALLS: [Call; 5] = [
+    Call::WithCapacity,
+    Call::Reserve,
+    Call::ReserveExact,
+    Call::Resize,
+    Call::ResizeWith,
+];
 
 /// Asserts that calls which need a power of two, or the capacity `T::LIMIT`, make one request, and
 /// that calls which need a greater capacity fail without a request.
 pub fn limits<T: Numbered, G: Ruled, R: Abort>(rt: &R, ledger: &'static Ledger) {
     for length in 0..3 {
-        for call in 0..CALLS {
+        for call in CALLS {
             let mut capacity: usize = 8;
             for _ in 3..64 {
                 let needed = capacity.min(T::LIMIT);
                 let answer = limit::<T, G, R>(rt, ledger, length, call, needed, 1);
                 assert!(rt;
                     answer == (Err(ThinVecError::OutOfMemory), 1),
-                    "call {call}, capacity {needed}"
+                    "{call:?}, capacity {needed}"
                 );
                 capacity = capacity.saturating_mul(2);
             }
@@ -30,7 +45,7 @@ pub fn limits<T: Numbered, G: Ruled, R: Abort>(rt: &R, ledger: &'static Ledger) 
                 let answer = limit::<T, G, R>(rt, ledger, length, call, more, 0);
                 assert!(rt;
                     answer == (Err(ThinVecError::CapacityOverflow), 0),
-                    "call {call}"
+                    "{call:?}"
                 );
             }
         }
@@ -42,7 +57,7 @@ fn limit<T: Numbered, G: Ruled, R: Abort>(
     rt: &R,
     ledger: &'static Ledger,
     length: usize,
-    call: usize,
+    call: Call,
     capacity: usize,
     refused: u64,
 ) -> (Result<(), ThinVecError>, u64) {
@@ -50,18 +65,18 @@ fn limit<T: Numbered, G: Ruled, R: Abort>(
         call: "",
         length,
         spare: 1,
-        argument: call,
+        argument: 0,
         refused,
     };
     let mut case: Case<T, G> = Case::new(ledger, at).expect(rt, "memory");
     let additional = capacity.saturating_sub(length);
     case.begin("with_capacity, reserve, reserve_exact, resize, resize_with");
     let answer = match call {
-        0 => made::<T>(ledger, capacity),
-        1 => case.list.reserve(additional),
-        2 => case.list.reserve_exact(additional),
-        3 => case.list.resize(capacity, T::numbered(ledger, 7)),
-        _ => {
+        Call::WithCapacity => made::<T>(ledger, capacity),
+        Call::Reserve => case.list.reserve(additional),
+        Call::ReserveExact => case.list.reserve_exact(additional),
+        Call::Resize => case.list.resize(capacity, T::numbered(ledger, 7)),
+        Call::ResizeWith => {
             let token = case.token();
             case.list.resize_with(capacity, move || {
                 let _token = &token;
