@@ -6,18 +6,14 @@ import sys
 import unittest
 from unittest import mock
 
-from tool import NAMES, OWN_MODULES, TOP, ToolTest
-import rattle_source
+from tool import NAMES, TOP, ToolTest
+from lib import command
 
 
 class Arguments(ToolTest):
     def test_each_tool_is_named_here(self):
-        files = {
-            path.name for path in (TOP / "tools").iterdir() if path.is_file() and not path.suffix
-        }
+        files = {path.name for path in (TOP / "tools").iterdir() if path.is_file()}
         self.assertEqual(files, set(NAMES))
-        modules = {path.stem for path in (TOP / "tools").glob("*.py")}
-        self.assertEqual(modules, set(OWN_MODULES))
         for name in NAMES:
             self.assertTrue(os.access(TOP / "tools" / name, os.X_OK), name)
 
@@ -60,8 +56,8 @@ class Arguments(ToolTest):
             (
                 "differ",
                 (),
-                "tools/replay_rust",
-                "tools/replay_rust/build: No such file or directory",
+                "tools/rust",
+                "tools/rust/replay/build: No such file or directory",
             ),
             ("evidence", (), "docs/evidence.toml", "docs/evidence.toml: No such file or directory"),
             ("evidence", (), "tools/mutants.d", "there is no folder tools/mutants.d"),
@@ -75,7 +71,7 @@ class Arguments(ToolTest):
                 "tools/refused_programs.d",
                 "refused_programs.d: No such file",
             ),
-            ("speed", (), "tools/speed.json", "tools/speed.json: No such file or directory"),
+            ("speed", (), "tools/data", "tools/data/speed.json: No such file or directory"),
             ("speed", ("--picture",), "docs/FIGURES.md", "docs/FIGURES.md: No such file"),
         ]
         programs = self.folder()
@@ -100,7 +96,7 @@ class Ending(unittest.TestCase):
             sys, "argv", ["tools/tool"]
         ):
             with self.assertRaises(SystemExit) as ended:
-                rattle_source.run_tool(main)
+                command.run_tool(main)
         return ended.exception.code, said.getvalue()
 
     def test_the_status_of_a_tool_is_what_it_returns(self):
@@ -109,7 +105,7 @@ class Ending(unittest.TestCase):
 
     def test_a_tool_that_cannot_go_on_ends_with_one_line(self):
         told = [
-            (rattle_source.Stopped("no crate"), "no crate"),
+            (command.Stopped("no crate"), "no crate"),
             (KeyboardInterrupt(), "interrupted"),
             (FileNotFoundError(2, "No such file", "rt"), "rt: No such file"),
             (UnicodeDecodeError("utf-8", b"\xff", 0, 1, "odd"), "a file is not UTF-8: "),

@@ -14,7 +14,8 @@ class Audit(ToolTest):
         source.write_text(
             source.read_text(encoding="utf-8") + "\nunsafe fn planted() {}\n", encoding="utf-8"
         )
-        change(top / "tools" / "audit.expected", "# unsafe\n", "# unsafe\nnone.rt:gone: unsafe\n")
+        expected = top / "tools" / "data" / "audit.expected"
+        change(expected, "# unsafe\n", "# unsafe\nnone.rt:gone: unsafe\n")
         said = self.finds("audit", "--only", "unsafe", top=top)
         self.assertIn(
             "1 new, 1 gone\n  + thin_runner/src/lib.rt:planted: unsafe fn planted() {}\n"
@@ -22,7 +23,7 @@ class Audit(ToolTest):
             said,
         )
         self.passes("audit", "--write", top=top)
-        written = (top / "tools" / "audit.expected").read_text(encoding="utf-8")
+        written = expected.read_text(encoding="utf-8")
         self.assertIn("\nthin_runner/src/lib.rt:planted: unsafe fn planted() {}\n", written)
         self.assertNotIn("gone", written)
 
@@ -43,16 +44,16 @@ class Audit(ToolTest):
 
     def test_wrong_uses(self):
         top = self.copy("mutants.d", "proofs", "specs")
-        path = top / "tools" / "audit.expected"
+        path = top / "tools" / "data" / "audit.expected"
         text = path.read_text(encoding="utf-8")
         says = "argument --write: not allowed with argument --list (--help lists the options)"
         self.refuses(says, "audit", "--list", "--write", top=top)
         path.write_text(f"none.rt: a line\n{text}", encoding="utf-8")
-        says = "tools/audit.expected: the line 'none.rt: a line' is in no section"
+        says = "tools/data/audit.expected: the line 'none.rt: a line' is in no section"
         self.refuses(says, "audit", top=top)
         path.write_text(f"{text}\n# draws\n", encoding="utf-8")
         said = self.finds("audit", "--only", "unsafe", top=top)
-        self.assertIn("has a section 'draws', and no search is compared with it\n", said)
+        self.assertIn("has a section 'draws'; no search is compared with it\n", said)
 
     def test_it_reads_each_crate_of_the_product(self):
         top = self.copy("mutants.d", "docs")
@@ -84,7 +85,7 @@ class Audit(ToolTest):
 
     def test_no_file_of_expected_lines(self):
         top = self.copy("mutants.d", "proofs", "specs")
-        path = top / "tools" / "audit.expected"
+        path = top / "tools" / "data" / "audit.expected"
         path.unlink()
         ran = self.run_tool("audit", top=top)
         self.assertEqual(

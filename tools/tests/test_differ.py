@@ -11,7 +11,8 @@ from pathlib import Path
 from unittest import mock
 
 from tool import TOP, ToolTest, load
-import rattle_source
+from lib.command import Stopped
+from lib.random_lists import made_lists
 
 SCRIPT = TOP / "crates" / "thin_replay"
 differ = load("differ")
@@ -37,7 +38,7 @@ def given(folder, **changed):
 
 class Differ(ToolTest):
     def setUp(self):
-        self.made = differ.made_lists(differ.ITEM_TYPES["u64"], "1", 500, True, True)[1]
+        self.made = made_lists(differ.ITEM_TYPES["u64"], "1", 500, True, True)[1]
         answers = lines_of("stdout")
         self.help, self.answers = (
             answers[: -len(lines_of("stdin")) + 1],
@@ -78,7 +79,7 @@ class Differ(ToolTest):
             self.assertEqual(files[name].splitlines(), lines_of(name), name)
 
     def test_it_says_that_no_crate_confirms_the_capacities(self):
-        made = differ.made_lists(differ.ITEM_TYPES["u64"], "2", 3, False, True)[1]
+        made = made_lists(differ.ITEM_TYPES["u64"], "2", 3, False, True)[1]
         answers = ["done"] * sum(len(it.lines) for it in made)
         status, said, _ = self.written(answers, crate=None, seed="2", lists=3)
         self.assertEqual(status, 0)
@@ -127,11 +128,10 @@ class Differ(ToolTest):
                 differ.difference_of(self.made, self.answers)[0],
                 "thin_replay ended with status 7: told",
             )
-        with self.rust(status=7), self.assertRaises(rattle_source.Stopped) as why:
+        with self.rust(status=7), self.assertRaises(Stopped) as why:
             differ.wanted_answers(True, self.made)
-        self.assertEqual(
-            (str(why.exception), why.exception.status), ("replay_rust ended with status 7: told", 2)
-        )
+        said = "replay in Rust ended with status 7: told"
+        self.assertEqual((str(why.exception), why.exception.status), (said, 2))
 
     def test_wrong_lines_are_compared(self):
         answers = self.answer(self.answers[:3], 1)

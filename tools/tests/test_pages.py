@@ -57,8 +57,9 @@ class Pages(ToolTest):
         examples = top / "crates" / "thin_examples"
         (examples / "src").mkdir(parents=True)
         (top / "tools").mkdir()
-        for name in ("pages", "proof_folders.py", "rattle_source.py"):
-            shutil.copy(TOP / "tools" / name, top / "tools")
+        shutil.copy(TOP / "tools" / "pages", top / "tools")
+        unread = shutil.ignore_patterns("__pycache__")
+        shutil.copytree(TOP / "tools" / "lib", top / "tools" / "lib", ignore=unread)
         for name in ("reference", "evidence"):
             (top / "tools" / name).write_text(
                 STUB.format(status=status, says=says), encoding="utf-8"

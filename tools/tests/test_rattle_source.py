@@ -3,7 +3,8 @@ import unittest
 from unittest import mock
 
 from tool import ToolTest
-import rattle_source
+from lib import command, rattle_source
+from lib.markdown import slug
 
 SOURCE = """//! Doubles numbers. And more.
 use std::io;
@@ -207,7 +208,7 @@ class Reading(ToolTest):
     def test_a_brace_that_is_not_closed(self):
         self.path = self.folder() / "open.rt"
         self.path.write_text("fn open()\nrequires { 1\n{\n", encoding="utf-8")
-        with self.assertRaises(rattle_source.Stopped) as why:
+        with self.assertRaises(command.Stopped) as why:
             rattle_source.items_of(self.path)
         self.assertEqual(str(why.exception), "a brace is not closed: { 1")
 
@@ -221,16 +222,16 @@ class Reading(ToolTest):
             ("a-b, c_d ", "a-b-c_d"),
         ]
         for title, anchor in titles:
-            self.assertEqual(rattle_source.slug(title), anchor)
+            self.assertEqual(slug(title), anchor)
 
     def test_a_crate_that_is_not_there(self):
-        with self.assertRaises(rattle_source.Stopped) as why:
-            rattle_source.need_crates("thin_vec", "typo")
+        with self.assertRaises(command.Stopped) as why:
+            command.need_crates("thin_vec", "typo")
         self.assertEqual(str(why.exception), "there is no folder crates/typo/src")
 
     def test_a_program_that_is_not_there(self):
-        with self.assertRaises(rattle_source.Stopped) as why:
-            rattle_source.need("python3", "no_such_program")
+        with self.assertRaises(command.Stopped) as why:
+            command.need("python3", "no_such_program")
         self.assertEqual(str(why.exception), "there is no program no_such_program")
 
 

@@ -16,15 +16,6 @@ from unittest import mock
 sys.dont_write_bytecode = True
 TOP = pathlib.Path(__file__).resolve().parents[2]
 sys.path.insert(0, str(TOP / "tools"))
-# The files of the folder that are no programs.
-OWN_MODULES = (
-    "figures",
-    "picture",
-    "proof_folders",
-    "rattle_source",
-    "unproved",
-    "wrong_bodies",
-)
 NAMES = (
     "audit",
     "differ",
@@ -45,18 +36,22 @@ def load(name):
     return module
 
 
+def take_modules():
+    """Takes out the modules of tools/lib, so that the next import reads them again."""
+    own = [name for name in sys.modules if name.partition(".")[0] == "lib"]
+    return {name: sys.modules.pop(name) for name in own}
+
+
 def put_back(kept):
     """Puts back the modules of this repository, in place of those of a copy."""
-    for module, it in kept.items():
-        sys.modules.pop(module, None)
-        if it:
-            sys.modules[module] = it
+    take_modules()
+    sys.modules.update(kept)
 
 
 def run(top, name, arguments, environment):
     """Runs a tool of the repository `top` in this process, which is quicker than in another one."""
     path, out, errors = str(top / "tools" / name), io.StringIO(), io.StringIO()
-    kept = {module: sys.modules.pop(module, None) for module in OWN_MODULES}
+    kept = take_modules()
     with contextlib.ExitStack() as stack:
         stack.callback(put_back, kept)
         stack.enter_context(mock.patch.object(sys, "path", [str(top / "tools"), *sys.path]))

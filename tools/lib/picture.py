@@ -6,7 +6,7 @@ of the reader."""
 import html
 import re
 
-from rattle_source import Stopped
+from lib.command import Stopped
 
 # The contenders that have a bar, and how the tables call them.
 BARS = {"thin": "`ThinVec`", "kit": "Rattle's `Vec`"}

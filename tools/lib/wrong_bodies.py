@@ -6,7 +6,7 @@ import itertools
 import re
 import tomllib
 
-from rattle_source import TOP, Stopped
+from lib.command import TOP, Stopped
 
 BODIES = TOP / "tools" / "mutants.d"
 MARKS = ("allowed", "named")

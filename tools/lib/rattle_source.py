@@ -1,20 +1,10 @@
-"""What the tools of this folder share: how a tool ends, and how Rattle sources are read.
-
-Of the sources, it reads the items of a crate with their documentation and contracts, the lines of
-code, the tests, and the definitions and lemmas of its spec files. It is not a program.
-"""
-import argparse
+"""Reads Rattle sources: the items of a crate with their documentation and contracts, the lines of
+code, the tests, and the definitions and lemmas of its spec files. It is not a program."""
 import functools
-import os
-import pathlib
 import re
-import shutil
-import subprocess
-import sys
 
-TOP = pathlib.Path(__file__).resolve().parent.parent
-# The versions of Rattle's kit that the tools know.
-KITS = "rattle-kit-13f"
+from lib.command import TOP, Stopped
+
 CLAUSE = re.compile(r"^\s*(requires|ensures\*?)\s+(?:(\w+)\s+)?\{")
 MEMBER = re.compile(r"^    ghost (\w+) = \{")
 DEFINITION = re.compile(
@@ -28,79 +18,6 @@ KIND = re.compile(
 )
 # Ghost members that only the compiler asks for: laws that every implementation has.
 LAWS = {"laws", "total", "matches_partial_cmp", "matches_eq", "respects_eq", "from"}
-
-
-class Stopped(Exception):
-    """A tool cannot go on. It prints the message, which says why, and ends with the status."""
-
-    status = 2
-
-
-class Arguments(argparse.ArgumentParser):
-    """The arguments of a tool. A wrong one ends the tool with one line."""
-
-    def __init__(self, description, **more):
-        super().__init__(
-            description=description, formatter_class=argparse.RawDescriptionHelpFormatter, **more
-        )
-
-    def error(self, message):
-        raise Stopped(f"{message} (--help lists the options)")
-
-
-def positive(text):
-    """The number that an option gives, which is at least 1."""
-    if not text.isdecimal() or int(text) < 1:
-        raise argparse.ArgumentTypeError(f"{text} is not a number from 1")
-    return int(text)
-
-
-def need(*programs):
-    """Stops if this machine lacks one of the programs."""
-    for program in programs:
-        if not shutil.which(program):
-            raise Stopped(f"there is no program {program}")
-
-
-def need_crates(*crates):
-    """Stops if the repository lacks one of the crates."""
-    for crate in crates:
-        if not (TOP / "crates" / crate / "src").is_dir():
-            raise Stopped(f"there is no folder crates/{crate}/src")
-
-
-def kit_of(rt):
-    """Which kit the program `rt` is of, for a message about what it did not do."""
-    ran = shutil.which(rt) and subprocess.run([rt, "version"], capture_output=True, text=True)
-    found = ran.stdout.split()[0] if ran and ran.stdout.split() else "unknown"
-    return f"the kit is {found}; this tool was written for {KITS}"
-
-
-def run_tool(main):
-    """Runs a tool. Ends with the status that it returns, or with 2 and a line that says why."""
-    status = 2
-    try:
-        status = main()
-        sys.stdout.flush()
-        sys.exit(status)
-    except Stopped as why:
-        message, status = str(why), why.status
-    except OSError as error:
-        message = f"{error.filename}: {error.strerror}" if error.filename else str(error)
-        if isinstance(error, BrokenPipeError):
-            # Nobody reads what is still to be printed.
-            os.dup2(os.open(os.devnull, os.O_WRONLY), sys.stdout.fileno())
-    except UnicodeDecodeError as error:
-        message = f"a file is not UTF-8: {error}"
-    except KeyboardInterrupt:
-        message = "interrupted"
-    print(f"{pathlib.Path(sys.argv[0]).name}: {message}", file=sys.stderr)
-    sys.exit(status)
-
-
-def slug(title):
-    """The anchor that a heading gets on a page."""
-    return re.sub(r"[^\w\- ]", "", title.strip().lower()).replace(" ", "-")
 
 
 class Item:

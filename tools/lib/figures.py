@@ -2,7 +2,8 @@
 import functools
 import re
 
-from rattle_source import TOP, items_of, type_of
+from lib.command import TOP
+from lib.rattle_source import items_of, type_of
 
 # A word, or another character; so a text matches with any white space between its parts.
 PART = re.compile(r"\w+|\S")

@@ -3,7 +3,8 @@
 CONTRIBUTING has the rule in one sentence."""
 import re
 
-from rattle_source import TOP, after_angle, crates, items_of, sources, trait_of, type_of
+from lib.command import TOP
+from lib.rattle_source import after_angle, crates, items_of, sources, trait_of, type_of
 
 # The files in which the checker looks for what was written by hand for a function.
 FILES = ("Answers", "Invariants", "Proof")

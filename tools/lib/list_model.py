@@ -1,0 +1,136 @@
+"""The items and the capacity that a list should have after each command of `replay`, worked out in
+Python: the model with which tools/differ compares lists. It is not a program."""
+
+WORD = 2**64
+
+
+class ItemType:
+    """A type of items: its size in bytes, its name, how an item is made of a number and a number of
+    an item, and how many numbers have an item of their own."""
+
+    def __init__(self, size, name, from_number, to_number, modulus=WORD):
+        self.name, self.from_number, self.to_number = name, from_number, to_number
+        self.modulus = modulus
+        # How many items fill a word of 8 bytes, if an item does not fill it.
+        self.in_word = max(8 // size, 1)
+        # The greatest capacity: the block has a header of 16 bytes, and its size is rounded up.
+        self.limit = (2**63 - 8 - 16) // size
+        # Numbers of items for which no list has room.
+        self.huge = [2**63 // size, min(2**64 // size + 1, WORD - 1), 2**63, WORD - 1]
+
+
+# The texts are Rattle, where a cast of a number that does not fit is a fault.
+ITEM_TYPES = {
+    "u8": ItemType(1, "u8", f"(number % {2**8}) as Item", "item as u64", 2**8),
+    "u32": ItemType(4, "u32", f"(number % {2**32}) as Item", "item as u64", 2**32),
+    "u64": ItemType(8, "u64", "number", "item"),
+    "pair": ItemType(16, "(u64, u64)", "(number, number / 2)", "item.0"),
+}
+
+
+class Overflow(Exception):
+    """A capacity would be too large."""
+
+
+class Judge:
+    """The closure of a command, as `help` of crates/thin_replay describes it."""
+
+    def __init__(self, item_type, numbers):
+        self.modulus = item_type.modulus
+        self.divisor, self.stride, self.added = numbers
+        self.offset = 0
+
+    def number(self, item):
+        number = (item + self.offset) % WORD
+        self.offset = (self.offset + self.stride) % WORD
+        return number
+
+    def divides(self, item):
+        return self.number(item) % self.divisor == 0
+
+    def is_same(self, later, kept):
+        return self.number(later) % self.divisor == kept % self.divisor
+
+    def is_same_key(self, later, kept):
+        return self.number(later) // self.divisor == self.number(kept) // self.divisor
+
+    def written(self, item):
+        return (item + self.added) % self.modulus
+
+
+class Model:
+    """The items and the capacity of a list, after each command. A number stands for its item."""
+
+    def __init__(self, item_type):
+        self.item_type = item_type
+        self.items = []
+        self.capacity = 0
+
+    def reserve(self, count):
+        """Grows as the growth rule `Doubling` says, if there is no room for `count` more items."""
+        want = len(self.items) + count
+        if want > self.capacity:
+            self.grow_to(max(want, 2 * self.capacity or 4))
+
+    def reserve_exact(self, count):
+        self.grow_to(max(len(self.items) + count, self.capacity))
+
+    def grow_to(self, capacity):
+        if capacity > self.item_type.limit:
+            raise Overflow
+        self.capacity = capacity
+
+    def append(self, items):
+        self.reserve(len(items))
+        self.items += items
+
+    def extend(self, hint, items):
+        self.reserve(hint)
+        for item in items:
+            self.append([item])
+
+    def splice(self, start, end, hint, items):
+        """Takes the items `start..end` out, and then does what `finish` does."""
+        if end == len(self.items):
+            del self.items[start:]
+            self.extend(hint, items)
+            return
+        gap = end - start
+        self.items[start:end] = items[:gap]
+        if len(items) < gap:
+            return
+        # The gap is full. The iterator has not ended yet, even if it has no more items.
+        self.reserve(hint)
+        more, held = items[gap:][:hint], items[gap:][hint:]
+        self.items[end:end] = more
+        self.reserve(len(held))
+        self.items[end + len(more) : end + len(more)] = held
+
+    def keep(self, judge, is_written):
+        kept = []
+        for item in self.items:
+            keeps = judge.divides(item)
+            if keeps:
+                kept.append(judge.written(item) if is_written else item)
+        self.items = kept
+
+    def dedup(self, judge, is_same):
+        kept = self.items[:1]
+        for item in self.items[1:]:
+            same = is_same(item, kept[-1])
+            kept[-1] = judge.written(kept[-1])
+            if not same:
+                kept.append(judge.written(item))
+        self.items = kept
+
+    def extract(self, start, end, calls, judge):
+        left = []
+        for index in range(start, end):
+            if calls == 0:
+                left += self.items[index:end]
+                break
+            if judge.divides(self.items[index]):
+                calls -= 1
+            else:
+                left.append(judge.written(self.items[index]))
+        self.items[start:end] = left
