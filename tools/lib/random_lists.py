@@ -1,4 +1,4 @@
-"""Makes random lists of commands for `replay`, with the capacity that each answer should have. It is
+"""Makes random lists of commands for `replay`, and the capacity that each answer should have. It is
 not a program."""
 import random
 

@@ -65,12 +65,6 @@ class Arguments(ToolTest):
             ("mutants", ("--check",), "crates", "crates: No such file or directory"),
             ("pages", (), "crates/thin_examples", "no folder crates/thin_examples/src"),
             ("reference", (), "crates/thin_rows/src", "there is no folder crates/thin_rows/src"),
-            (
-                "refused_programs",
-                (),
-                "tools/refused_programs.d",
-                "refused_programs.d: No such file",
-            ),
             ("speed", (), "tools/data", "tools/data/speed.json: No such file or directory"),
             ("speed", ("--picture",), "docs/FIGURES.md", "docs/FIGURES.md: No such file"),
         ]

@@ -8,6 +8,7 @@ import unittest
 from unittest import mock
 
 from tool import ToolTest, change, load
+from lib.command import KITS
 
 
 class Mutants(ToolTest):
@@ -188,6 +189,29 @@ seen = "table_tests drops_each_value_once"
             if found
         )
         self.refuses("there is no program /no/rt", "mutants", "--only", name, RT="/no/rt")
+
+    def test_a_kit_whose_programs_are_not_kept(self):
+        rt = self.folder() / "rt"
+        rt.write_text("#!/bin/sh\necho some-kit logic 1\n", encoding="utf-8")
+        rt.chmod(0o755)
+        says = (
+            "first_list: `rt try` did not start what keeps its program; the kit is some-kit; this"
+            f" tool was written for {KITS}"
+        )
+        self.refuses(says, "mutants", "--only", "unfinished_splice", RT=str(rt))
+
+    def test_what_the_compiler_has_to_refuse(self):
+        mutants = load("mutants")
+        said = "src/main.rt:3:1: error[linear-value-let-go]: no\n"
+        for more, pattern, is_seen in (
+            ("", "compile linear-value-let-go", True),
+            ("", "compile", True),
+            ("", "compile other", False),
+            ("src/main.rt:4:1: error: no\n", "compile linear-value-let-go", False),
+            ("", "output", False),
+        ):
+            with self.subTest(pattern, more=more):
+                self.assertEqual(mutants.is_refused(f"one:\n{said}{more}", pattern), is_seen)
 
 
 if __name__ == "__main__":

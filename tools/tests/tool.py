@@ -23,7 +23,6 @@ NAMES = (
     "mutants",
     "pages",
     "reference",
-    "refused_programs",
     "speed",
 )
 
