@@ -4,7 +4,7 @@ CONTRIBUTING has the rule in one sentence."""
 import re
 
 from lib.command import TOP
-from lib.rattle_source import after_angle, crates, items_of, sources, trait_of, type_of
+from lib.rattle_source import after_angle, crates, items_of, sources_in, trait_of, type_of
 
 # The files in which the checker looks for what was written by hand for a function.
 FILES = ("Answers", "Invariants", "Proof")
@@ -58,39 +58,45 @@ def folder_of(item, module, types):
     return [*home, kind, item.name]
 
 
-def module_of(crate, path):
-    """The names of the modules that lead to a source file."""
-    parts = path.relative_to(TOP / "crates" / crate / "src").with_suffix("").parts
+def module_of(root, path):
+    """The names of the modules that lead to a source file of the crate in the folder `root`."""
+    parts = path.relative_to(root / "src").with_suffix("").parts
     return () if parts in (("lib",), ("main",)) else parts
 
 
-def folders_of(crate):
-    """The folders in which proofs of the functions of a crate may stand."""
-    types, found = {}, set()
-    for path in sources(crate):
+def functions_of(root):
+    """The functions of the crate in a folder, each with its file and the folder of its proof."""
+    types = {}
+    for path in sources_in(root):
         for item in items_of(path):
             if item.kind in ("struct", "enum"):
                 head = re.split(r"[{;(]|\bwhere\b", " ".join(item.text))[0]
-                types[item.name] = module_of(crate, path), arguments(head)
-    for path in sources(crate):
+                types[item.name] = module_of(root, path), arguments(head)
+    for path in sources_in(root):
         for item in items_of(path):
             if item.kind == "fn":
-                *place, name = folder_of(item, module_of(crate, path), types)
-                found |= {"/".join([*place, name]), "/".join([*place, f"+{name}"])}
-    return found
+                yield path, item, "/".join(folder_of(item, module_of(root, path), types))
+
+
+def function_of(root, place):
+    """The folder of a proof, below `proofs`. A function that calls itself has no `+` there."""
+    parts = place.relative_to(root / "proofs").parts
+    return "/".join([*parts[:-1], *(part.removeprefix("+") for part in parts[-1:])])
 
 
 def misplaced():
     """What is wrong with each folder of a proof that stands elsewhere."""
     for crate in crates():
-        root = TOP / "crates" / crate / "proofs"
-        right = folders_of(crate)
-        places = {path.parent for path in root.rglob("*.antt") if path.stem in FILES}
-        for place in sorted(places):
-            name = place.relative_to(root).as_posix()
+        root = TOP / "crates" / crate
+        right = {folder for _, _, folder in functions_of(root)}
+        files = (root / "proofs").rglob("*.antt")
+        for place in sorted({path.parent for path in files if path.stem in FILES}):
+            name = function_of(root, place)
             # A name with a capital letter is that of a law, and not of a function.
             if name not in right and not place.name[0].isupper():
-                others = sorted(it for it in right if it.rpartition("/")[2] == place.name)
+                others = sorted(
+                    it for it in right if it.rpartition("/")[2] == name.rpartition("/")[2]
+                )
                 yield f"{place.relative_to(TOP)}: a proof of a function stands in " + (
                     " or ".join(f"proofs/{it}" for it in others) or "a folder of its name"
                 )

@@ -356,8 +356,13 @@ def crates():
 
 
 def sources(crate):
-    """The source files of a crate: a module before its submodules."""
-    root = TOP / "crates" / crate / "src"
+    """The source files of a crate of the repository."""
+    return sources_in(TOP / "crates" / crate)
+
+
+def sources_in(folder):
+    """The source files of the crate in a folder: a module before its submodules."""
+    root = folder / "src"
     return sorted(root.rglob("*.rt"), key=lambda path: path.relative_to(root).with_suffix("").parts)
 
 

@@ -20,6 +20,7 @@ NAMES = (
     "audit",
     "differ",
     "evidence",
+    "from_vec",
     "mutants",
     "pages",
     "reference",

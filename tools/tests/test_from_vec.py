@@ -1,0 +1,112 @@
+"""tools/from_vec: a small crate before and after the move."""
+import pathlib
+import unittest
+
+from tool import ToolTest, change
+
+DATA = pathlib.Path(__file__).with_name("from_vec")
+
+
+def files(folder):
+    """The texts of the files below a folder, by their paths, without the suffix of the data."""
+    return {
+        path.relative_to(folder).as_posix().removesuffix(".txt"): path.read_text(encoding="utf-8")
+        for path in folder.rglob("*.*")
+    }
+
+
+class FromVec(ToolTest):
+    def crate(self):
+        """The crate before the move. The data has `.txt` behind each name, since the gate refuses a
+        source of Rattle outside of the crates."""
+        folder = self.folder()
+        for name, text in files(DATA / "before").items():
+            (folder / name).parent.mkdir(parents=True, exist_ok=True)
+            (folder / name).write_text(text, encoding="utf-8")
+        return folder
+
+    def test_it_prints_the_changes(self):
+        folder = self.crate()
+        said = self.passes("from_vec", folder)
+        self.assertIn("\n-    pub kept: Vec<u32>,\n+    pub kept: ThinVec<u32>,\n", said)
+        self.assertIn("\n-        self.kept.reserve(count)\n", said)
+        self.assertEqual(files(folder), files(DATA / "before"))
+
+    def test_it_writes_the_changes(self):
+        folder = self.crate()
+        said = self.passes("from_vec", folder, "--write")
+        self.assertEqual(files(folder), files(DATA / "after"))
+        self.assertEqual(said, self.passes("from_vec", self.crate()))
+        # A crate that has moved does not change once more.
+        self.assertEqual(self.passes("from_vec", folder), "")
+
+    def moved(self, old, new, file="src/lib.rt"):
+        """The file after the move of the crate with another text, and what the tool left."""
+        folder = self.crate()
+        change(folder / file, old, new)
+        said = self.passes("from_vec", folder, "--write")
+        return (folder / file).read_text(encoding="utf-8"), said.partition("\nleft: ")[2]
+
+    def test_what_it_leaves(self):
+        for call, why in (
+            ("shrink_to_fit()", "it returns a `Result`"),
+            ("clone()?", "`list.clone(alloc)?`, or `Clone::clone(&list)?`"),
+            ("leak()", "no counterpart"),
+        ):
+            with self.subTest(call):
+                _, left = self.moved("self.kept.len() - count;", f"self.kept.{call};")
+                line = f"src/lib.rt: let first = self.kept.{call};"
+                self.assertEqual(left, f"{line}\n    {why}\n")
+        answers = "proofs/Readings/count/Answers.antt"
+        _, left = self.moved("c.len.ensures", "of c.args.self.now.kept.ok", answers)
+        self.assertIn("    the clause `bounds` or `preserved` of an earlier call\n", left)
+        text, left = self.moved("self.kept.len()\n", "self.kept.len() + other.len()\n")
+        self.assertIn("    some calls of `len` are no calls of a list\n", left)
+        self.assertIn("self.kept.len() + other.len()\n", text)
+
+    def test_calls(self):
+        for old, new in (
+            ("self.kept.drain(..first)", "self.kept.drain(0, first)"),
+            ("self.kept.drain(first..)", "self.kept.drain(first, self.kept.len())"),
+            ("self.kept.drain(1..=first)", "self.kept.drain(1, first + 1)"),
+            ("other.drain(..first)", "other.drain(..first)"),
+            ("self.kept.extend_with_clones(list)", "self.kept.extend_from_slice(list)"),
+            ("self.kept.try_reserve(1)?", "self.kept.reserve(1)?"),
+            ("other.try_reserve(1)?", "other.try_reserve(1)?"),
+            ("Vec::from_clones(a, list)?", "ThinVec::from_slice(a, list)?"),
+            ("Vec::from_iter(a, items)?", "ThinVec::from_iter(a, items.into_iter())?"),
+            ("Vec::from_iter(a, list.iter())?", "ThinVec::from_iter(a, list.iter())?"),
+            ("Vec::from_elem(a, (1, 2), n)?", "thin_vec![a => (1, 2); n]?"),
+            ("Vec::from_elem(a, b')', n)?", "thin_vec![a => b')'; n]?"),
+            ("vec![in a; 1, 2]?", "thin_vec![in a; 1, 2]?"),
+            ('f("Vec::new", Vec::new(a))', 'f("Vec::new", ThinVec::new(a))'),
+        ):
+            with self.subTest(old):
+                text, _ = self.moved("self.kept.drain(..first)", old)
+                self.assertIn(f"        {new};\n", text)
+
+    def test_a_length_that_is_left_out(self):
+        answers = "proofs/Readings/count/Answers.antt"
+        for old, new in (
+            ("omega (arith, v.ok.0)", "omega arith"),
+            ("omega (arith, v.ok.0, c.e)", "omega (arith, c.e)"),
+            ("rw (← v.ok.0, c.e) d", "rw (c.e) d"),
+            ("v.ok.0 ∙ c.e", "c.e"),
+            ("c.e ∙ sym v.ok.0", "c.e"),
+            ("f (c.e, v.ok.0)", "f (c.e, v.ok.0)"),
+            ("c.f.ensures.ok.0 ∙ c.e", "c.f.ensures.ok.0 ∙ c.e"),
+            ("\n    let ok = v.ok.0 in\n    omega arith", "\n    omega arith"),
+            ("\n    let e = v.ok.0 in\n    f (e, v.ok.0)", "\n    let e = v.ok.0 in\n    f (e, v.ok.0)"),
+        ):
+            with self.subTest(old):
+                text, left = self.moved("c.len.ensures ∙ c.args.self.now.kept.ok.0", old, answers)
+                self.assertTrue(text.endswith(f"returns c = {new}\n"), text)
+                self.assertEqual(bool(left), " v.ok.0)" in new)
+
+    def test_a_folder_without_sources(self):
+        folder = self.folder()
+        self.refuses(f"there is no source file in {folder}/src", "from_vec", folder)
+
+
+if __name__ == "__main__":
+    unittest.main()
