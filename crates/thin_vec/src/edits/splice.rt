@@ -171,7 +171,7 @@ impl<
         ensures cause { IfErr result (λ error. IsSpliceCause G.rule T.row self.exit.0.now
             (splice_tail self.entry) (I.remaining error.rest) error) }
 
-        // In every case. `moves` follows from `at_end` and `before_tail`.
+        // In every case. `moves_at_most` follows from `at_end` and `before_tail`.
         ensures at_end { splice_tail self.entry ≡ [] → FinishesAtEnd G.rule T.row
             (left_by_splice self.entry) self.exit.0.now (splice_iter self.entry)
             (I.remaining (splice_iter self.entry)) result }
@@ -180,7 +180,7 @@ impl<
             (left_by_splice self.entry) self.exit.0.now
             (I.remaining (splice_iter self.entry)) result }
         ensures preserved { PreservesList T.row (left_by_splice self.entry) self.exit.0.now }
-        ensures moves { self.exit.0.now.cost.moves + length (left_by_splice self.entry).items
+        ensures moves_at_most { self.exit.0.now.cost.moves + length (left_by_splice self.entry).items
             ≤ (left_by_splice self.entry).cost.moves + 2 * length (splice_tail self.entry)
             + length self.exit.0.now.items }
 

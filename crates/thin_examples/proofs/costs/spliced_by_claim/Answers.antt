@@ -24,7 +24,7 @@ returns g c =
         arith,
         c.requires.five,
         three,
-        e.moves,
+        e.moves_at_most,
         ap length yielded,
         ap length e.items.2,
         ap (λ list. list.cost.moves) left,
