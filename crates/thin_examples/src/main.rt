@@ -19,7 +19,7 @@ mod tree;
 mod write;
 
 use crate::commands::Evens;
-use crate::structs::{Page, Style};
+use crate::structs::{Page, Percents, Style};
 use crate::tree::Node;
 use std::alloc::Global;
 use std::collections::BTreeMap;
@@ -42,6 +42,7 @@ fn main(rt: HostRuntime) -> io::Result<()> {
     show_transfer(&rt, rt.alloc())?;
     show_divide(&rt, rt.alloc())?;
     show_structs(&rt, rt.alloc())?;
+    show_percents(&rt, rt.alloc())?;
     show_maps(&rt, rt.alloc())?;
     show_errors(&rt, rt.alloc())?;
     show_tree(&rt, rt.alloc())?;
@@ -280,6 +281,17 @@ fn show_structs(rt: &impl Print, alloc: Global) -> io::Result<()> {
     let page = Page::new(ThinVec::from_array(alloc, [10, 20, 30])?);
     println!(rt; "Page::new: {} lines", page.lines.len())?;
     println!(rt; "Page::after: {}", page.after(1))
+}
+
+fn show_percents(rt: &impl Print, alloc: Global) -> io::Result<()> {
+    let mut percents = Percents::new(alloc);
+    println!(rt; "Percents::new: {percents:?}")?;
+    percents.push(40)?;
+    println!(rt; "Percents::push: {percents:?}")?;
+    println!(rt; "Percents::remaining: {}", percents.remaining(0))?;
+    percents.push(0)?;
+    percents.remove_zeros();
+    println!(rt; "Percents::remove_zeros: {percents:?}")
 }
 
 fn show_maps(rt: &impl Print, alloc: Global) -> io::Result<()> {

@@ -1,7 +1,9 @@
 //! Examples of structs that hold a list.
-ghost use Rattle.std.specs.Prelude.{◌≡◌, ◌+◌, ◌^◌, ◌<◌, ◌++◌, [], ◌∷◌, ◌↔◌, IfOk, IsTrue, OnErr, OnOk, length};
+ghost use Rattle.std.specs.List.{All, filter};
+ghost use Rattle.std.specs.Prelude.{◌≡◌, ℕ, ◌+◌, ◌-◌, ◌^◌, ◌<◌, ◌≤◌, ◌++◌, List, [], ◌∷◌, ◌↔◌, IfOk, IsTrue, OnErr, OnOk, length, nat_lt, slice_index};
 
 use std::alloc::{AllocError, Global};
+use std::marker::Model;
 use thin_vec::{ThinVec, ThinVecError};
 
 /// A style: its name, and its rules in order.
@@ -83,5 +85,60 @@ impl Page {
         ensures value { result ≡ line + 1 }
     {
         line + 1
+    }
+}
+
+/// A list of percentages, which are at most 100. In contracts, it is the list of these numbers.
+#[derive(Debug, Drop)]
+pub struct Percents {
+    list: ThinVec<u32>,
+}
+
+impl Model for Percents {
+    ghost Value = { List ℕ };
+
+    ghost view = { λ percents. percents.list.items };
+
+    ghost invariant = { λ percents. All (λ percent. percent ≤ 100) percents.list.items };
+}
+
+impl Percents {
+    /// Makes an empty list.
+    pub fn new(alloc: Global) -> Percents
+        ensures empty { result ≡ [] }
+    {
+        Percents {
+            list: ThinVec::new(alloc),
+        }
+    }
+
+    /// Appends `percent`.
+    ///
+    /// # Errors
+    ///
+    /// Fails if there is no room for it. On failure, nothing changes.
+    pub fn push(&mut self, percent: u32) -> Result<(), ThinVecError>
+        requires at_most { percent ≤ 100 }
+        ensures items { OnOk result (self.new ≡ self.old ++ percent ∷ []) }
+        ensures err { OnErr result (self.new ≡ self.old) }
+    {
+        self.list.push(percent)?;
+        Ok(())
+    }
+
+    /// Returns 100 less the percentage at `index`. The difference is not negative, because the
+    /// percentage is at most 100.
+    pub fn remaining(&self, index: usize) -> u32
+        requires in_bounds { index < length self.now }
+        ensures value { result ≡ 100 - slice_index self.now index }
+    {
+        100 - self.list[index]
+    }
+
+    /// Removes each percentage that is 0.
+    pub fn remove_zeros(&mut self)
+        ensures items { self.new ≡ filter (nat_lt 0) self.old }
+    {
+        self.list.retain(|percent| *percent > 0);
     }
 }
