@@ -175,6 +175,8 @@ fn show_read(rt: &impl Print, alloc: Global) -> io::Result<()> {
     println!(rt; "neighbours: {neighbours:?}")?;
     println!(rt; "run_end: {}", read::run_end(&list, 1, 2))?;
     println!(rt; "count_even: {}", read::count_even(&list))?;
+    println!(rt; "count_below: {}", read::count_below(&list, 3))?;
+    println!(rt; "find: {:?}", read::find(&list, 5))?;
     let other = make::joined(alloc, &[1, 2, 3], &[4])?;
     println!(rt; "same_numbers: {}", read::same_numbers(&list, &other))?;
     let same = read::hash_of(&list) == read::hash_of(&other);

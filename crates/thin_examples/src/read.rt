@@ -1,7 +1,10 @@
 //! Examples that read, compare and hash lists.
 ghost use Rattle.std.specs.Hash as fed;
 ghost use Rattle.std.specs.Hash.DefaultHasher as sip;
-ghost use Rattle.std.specs.Prelude.{◌≡◌, ◌+◌, ◌%◌, ◌<◌, ◌≤◌, ◌==◌, ◌↔◌, IsTrue, filter, fold, length, slice_index};
+ghost use Rattle.std.specs.List.{HoldsAt};
+ghost use Rattle.std.specs.List.Sorted.{IsPartitionPoint, IsSearchInRange};
+ghost use Rattle.std.specs.Ordering.{nat_cmp};
+ghost use Rattle.std.specs.Prelude.{◌≡◌, ◌+◌, ◌%◌, ◌<◌, ◌≤◌, ◌==◌, ◌↔◌, IfErr, IfOk, IsSorted, IsTrue, filter, fold, length, slice_index};
 ghost use Rattle.thin_vec.specs.ThinVec.{IsBounded};
 
 use std::alloc::Allocator;
@@ -46,6 +49,28 @@ pub fn count_even<A: Allocator, G: Growth>(list: &ThinVec<u32, A, G>) -> usize
         }
     }
     count
+}
+
+/// Returns how many numbers of a sorted list are less than `bound`. They are its first numbers.
+pub fn count_below<A: Allocator, G: Growth>(list: &ThinVec<u32, A, G>, bound: u32) -> usize
+    requires sorted { IsSorted nat_cmp list.now.items }
+    ensures point { IsPartitionPoint
+        (λ number. number < bound) (λ number. bound ≤ number) list.now.items result }
+    ensures in_bounds { result ≤ length list.now.items }
+{
+    list.partition_point(|number| *number < bound)
+}
+
+/// Returns an index of `number` in a sorted list. If the list does not contain it, returns in `Err`
+/// the index at which to insert it.
+pub fn find<A: Allocator, G: Growth>(list: &ThinVec<u32, A, G>, number: u32) -> Result<usize, usize>
+    requires sorted { IsSorted nat_cmp list.now.items }
+    ensures found { IfOk result (HoldsAt (λ item. item ≡ number) list.now.items) }
+    ensures absent { IfErr result (IsPartitionPoint
+        (λ item. item < number) (λ item. number < item) list.now.items) }
+    ensures in_bounds { IsSearchInRange result (length list.now.items) }
+{
+    list.binary_search(&number)
 }
 
 /// Returns whether the lists have the same numbers in the same order. Their capacities do not
