@@ -6,6 +6,7 @@ mod commands;
 mod common;
 mod costs;
 mod errors;
+mod graph;
 mod make;
 mod maps;
 mod read;
@@ -26,7 +27,7 @@ use std::collections::BTreeMap;
 use std::fmt::Debug;
 use std::io;
 use thin_runner::command::Command;
-use thin_vec::ThinVec;
+use thin_vec::{ThinVec, thin_vec};
 
 fn main(rt: HostRuntime) -> io::Result<()> {
     show_common(&rt, rt.alloc())?;
@@ -44,6 +45,7 @@ fn main(rt: HostRuntime) -> io::Result<()> {
     show_structs(&rt, rt.alloc())?;
     show_percents(&rt, rt.alloc())?;
     show_maps(&rt, rt.alloc())?;
+    show_graph(&rt, rt.alloc())?;
     show_errors(&rt, rt.alloc())?;
     show_tree(&rt, rt.alloc())?;
     show_tables(&rt, rt.alloc())?;
@@ -74,6 +76,7 @@ fn show_common(rt: &impl Print, alloc: Global) -> io::Result<()> {
 fn show_make(rt: &impl Print, alloc: Global) -> io::Result<()> {
     show(rt, "joined", make::joined(alloc, &[1, 2], &[3])?)?;
     show(rt, "zeros", make::zeros(alloc, 3)?)?;
+    show(rt, "codes", make::codes(alloc)?)?;
     let capacity = make::room_for_eight(alloc)?.capacity();
     println!(rt; "room_for_eight: capacity {capacity}")?;
     show(rt, "doubled", make::doubled(alloc, &[1, 2, 3])?)?;
@@ -137,6 +140,9 @@ fn show_remove(rt: &impl Print, alloc: Global) -> io::Result<()> {
     let mut list = ThinVec::from_array(alloc, [1, 2, 3, 4])?;
     remove::keep_even(&mut list);
     show(rt, "keep_even", list)?;
+    let mut list = ThinVec::from_array(alloc, [1, 2, 3, 4, 5])?;
+    let removed = remove::remove_odd(&mut list);
+    println!(rt; "remove_odd: {removed}, left {list:?}")?;
     let mut list = ThinVec::from_array(alloc, [1, 2, 3, 4])?;
     remove::keep_every_second(&mut list);
     show(rt, "keep_every_second", list)?;
@@ -301,6 +307,12 @@ fn show_maps(rt: &impl Print, alloc: Global) -> io::Result<()> {
     maps::append_to(&mut lists, 4, 10)?;
     maps::append_to(&mut lists, 4, 11)?;
     println!(rt; "append_to: {lists:?}")
+}
+
+fn show_graph(rt: &impl Print, alloc: Global) -> io::Result<()> {
+    let mut edges = thin_vec![alloc => ThinVec::new(alloc), ThinVec::new(alloc)]?;
+    graph::add_edge(&mut edges, 1, 0)?;
+    println!(rt; "add_edge: {edges:?}")
 }
 
 fn show_errors(rt: &impl Print, alloc: Global) -> io::Result<()> {

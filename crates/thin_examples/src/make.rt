@@ -1,9 +1,9 @@
 //! Examples that make a list.
 ghost use Rattle.std.specs.Box.{boxed_slice_items};
 ghost use Rattle.std.specs.Iterator.{Drains, IsFinite};
-ghost use Rattle.std.specs.List.{AllZip};
+ghost use Rattle.std.specs.List.{AllZip, list_all};
 ghost use Rattle.std.specs.Option.{option_to_list};
-ghost use Rattle.std.specs.Prelude.{◌≡◌, ◌*◌, ◌/◌, ◌++◌, [], IfErr, IfNone, IfOk, IfSome, IsOk, IsSome, OnErr, OnOk, length, map, replicate};
+ghost use Rattle.std.specs.Prelude.{◌≡◌, ◌*◌, ◌/◌, ◌++◌, [], IfErr, IfNone, IfOk, IfSome, IsOk, IsSome, IsTrue, OnErr, OnOk, length, map, nat_lt, replicate};
 ghost use Rattle.std.specs.Str.{chars};
 ghost use Rattle.thin_vec.specs.Growth.{doubling};
 ghost use Rattle.thin_vec.specs.List.Capacity.{OverflowsIffTooLarge};
@@ -41,6 +41,18 @@ pub fn zeros<A: Allocator>(alloc: A, count: usize) -> Result<ThinVec<u32, A>, Th
     ensures items { IfOk result (λ list. list.items ≡ replicate count 0) }
 {
     thin_vec![alloc => 0; count]
+}
+
+/// Makes a list of numbers that are written out, each of them below 1000. The clause is a test that
+/// the checker computes, however many numbers there are.
+///
+/// # Errors
+///
+/// Fails if the allocator fails.
+pub fn codes<A: Allocator>(alloc: A) -> Result<ThinVec<u32, A>, ThinVecError>
+    ensures below { IfOk result (λ list. IsTrue (list_all (λ code. nat_lt code 1000) list.items)) }
+{
+    thin_vec![alloc => 200, 301, 404]
 }
 
 /// Makes an empty list with room for eight numbers.

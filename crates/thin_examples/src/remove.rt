@@ -2,7 +2,7 @@
 ghost use Rattle.std.specs.List.{dedup, fold};
 ghost use Rattle.std.specs.List.Sorted.{IsSorted, IsStrictlyIncreasing};
 ghost use Rattle.std.specs.Ordering.{nat_cmp};
-ghost use Rattle.std.specs.Prelude.{◌≡◌, ◌%◌, ◌/◌, ◌==◌, ◌++◌, [], ◌∷◌, IfNone, IfOk, IfSome, IsOk, filter, map, min, reverse};
+ghost use Rattle.std.specs.Prelude.{◌≡◌, ◌+◌, ◌%◌, ◌/◌, ◌==◌, ◌++◌, [], ◌∷◌, IfNone, IfOk, IfSome, IsOk, filter, length, map, min, reverse};
 ghost use Rattle.thin_examples.specs.EverySecond.{every_second};
 
 use std::alloc::{AllocError, Allocator, Global};
@@ -14,6 +14,17 @@ pub fn keep_even<A: Allocator, G: Growth>(list: &mut ThinVec<u32, A, G>)
     ensures capacity { list.new.capacity ≡ list.old.capacity }
 {
     list.retain(|number| number % 2 == 0);
+}
+
+/// Keeps the even numbers, and returns how many numbers were removed. This is the old length less
+/// the new length. (A closure could count them in a variable, but no contract would say so.)
+pub fn remove_odd<A: Allocator, G: Growth>(list: &mut ThinVec<u32, A, G>) -> usize
+    ensures items { list.new.items ≡ filter (λ number. number % 2 == 0) list.old.items }
+    ensures removed { result + length list.new.items ≡ length list.old.items }
+{
+    let before = list.len();
+    list.retain(|number| number % 2 == 0);
+    before - list.len()
 }
 
 /// Keeps the first item, the third, the fifth, and so on. The closure has a state: it remembers
