@@ -357,7 +357,14 @@ fn show_tables(rt: &impl Print, alloc: Global) -> io::Result<()> {
     tables::halve(&mut counts, 2, 8);
     println!(rt; "halve: {counts:?}")?;
     tables::clear(&mut counts, 2);
-    println!(rt; "clear: {counts:?}")
+    println!(rt; "clear: {counts:?}")?;
+    println!(rt; "is_empty: {}", tables::is_empty(&counts))?;
+    tables::add(&mut counts, 4, 1, 9)?;
+    tables::add(&mut counts, 6, 0, 3)?;
+    println!(rt; "total: {}", tables::total(&counts))?;
+    let copy = tables::copied(alloc, &counts)?;
+    println!(rt; "copied: {copy:?}")?;
+    println!(rt; "is_same: {}", tables::is_same(&counts, &copy))
 }
 
 fn show_threads(rt: &impl Print, alloc: Global) -> io::Result<()> {

@@ -1,9 +1,9 @@
 //! Examples of a sparse table of counts. A place without an entry has the count 0.
 ghost use Rattle.std.specs.FinMap as columns;
 ghost use Rattle.std.specs.Option.{unwrap_or};
-ghost use Rattle.std.specs.Prelude.{◌≡◌, ◌↔◌, ◌+◌, ◌-◌, ◌^◌, ◌<◌, ◌/◌, IfErr, IfOk, IfSome, IsNone, IsOk, IsSome, IsTrue, OnErr, OnOk, Some, length, min, replicate};
+ghost use Rattle.std.specs.Prelude.{◌≡◌, ◌↔◌, [], ◌+◌, ◌-◌, ◌^◌, ◌<◌, ◌/◌, IfErr, IfOk, IfSome, IsNone, IsOk, IsSome, IsTrue, OnErr, OnOk, Some, length, map, min, replicate, sum};
 ghost use Rattle.thin_rows.specs.EntryType.{capacity_after_insert};
-ghost use Rattle.thin_rows.specs.Table.{row_at, value_at, with_empty_row, with_value, without_value};
+ghost use Rattle.thin_rows.specs.Table.{entries_of, row_at, value_at, with_empty_row, with_value, without_value};
 ghost use Rattle.thin_vec.specs.List.Capacity.{OverflowsIff, map_cause};
 
 use std::alloc::{AllocError, Allocator, Global};
@@ -127,4 +127,44 @@ pub fn halve<A: Allocator>(counts: &mut Rows<u32, A>, row: usize, column: usize)
     if let Some(count) = counts.get_mut(row, column) {
         *count /= 2;
     }
+}
+
+/// Returns whether the table has no counts.
+pub fn is_empty<A: Allocator>(counts: &Rows<u32, A>) -> bool
+    ensures value { IsTrue result ↔ (entries_of counts.now ≡ []) }
+{
+    counts.is_empty()
+}
+
+/// Adds up all counts. If the sum exceeds `u64::MAX`, returns `u64::MAX`. An iteration of the loop
+/// has the row, the column and the count of an entry.
+pub fn total<A: Allocator>(counts: &Rows<u32, A>) -> u64
+    ensures value { result
+        ≡ min (sum (map (λ entry. entry.2) (entries_of counts.now))) (2 ^ 64 - 1) }
+{
+    let mut total = 0u64;
+    for entry in counts {
+        total = total.saturating_add(u64::from(*entry.2));
+    }
+    total
+}
+
+/// Returns a copy of the table. It equals the table, since clones of numbers equal these.
+///
+/// # Errors
+///
+/// Fails only if the allocator fails, and not for a table without rows.
+pub fn copied(alloc: Global, counts: &Rows<u32>) -> Result<Rows<u32>, ThinVecError>
+    ensures table { IfOk result (λ copy. copy ≡ counts.now) }
+    ensures succeeds { length counts.now ≡ 0 → IsOk result }
+    ensures cause { IfErr result (λ cause. cause ≡ ThinVecError.OutOfMemory) }
+{
+    counts.clone(alloc)
+}
+
+/// Returns whether two tables have the same number of rows, and the same counts at the same places.
+pub fn is_same<A: Allocator>(counts: &Rows<u32, A>, others: &Rows<u32, A>) -> bool
+    ensures value { IsTrue result ↔ (counts.now ≡ others.now) }
+{
+    *counts == *others
 }

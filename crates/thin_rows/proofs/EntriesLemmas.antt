@@ -11,7 +11,7 @@ use Rattle.std.proofs.lemmas.List.{get_or-map}
 use lib.ListN.{length-map}
 use Rattle.thin_rows.specs.Entries.{IsInsertionPoint, IsFoundAt, IsSortedByColumn}
 
-both_hold : (a b : Bool) → T (a && b) → T a × T b
+pub both_hold : (a b : Bool) → T (a && b) → T a × T b
 both_hold true b h = (tt, h)
 both_hold false b h = absurd h
 

@@ -1,6 +1,8 @@
--- `TableLemmas` contains the lemmas about tables for the proofs of other crates. The other modules
--- are about rows, their entries and their type.
+-- `TableLemmas` and `WalkLemmas` have the lemmas about tables for the proofs of other crates. The
+-- other modules are about rows, their entries, their clones and their type.
 pub mod TableLemmas
+pub mod WalkLemmas
 pub mod EntriesLemmas
 pub mod RowLemmas
+pub mod ClonesLemmas
 mod RowTypeLemmas

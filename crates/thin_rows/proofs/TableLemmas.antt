@@ -1,16 +1,17 @@
 -- The values of a table after a call to one of its methods. Proofs of other crates cite these
 -- lemmas.
-use Rattle.std.proofs.Common.{◌≡◌, ◌≢◌, ℕ, suc, ◌<◌, ◌≤◌, List, [], ◌∷◌, Some, None, true, false, inl, inr, length, length-set, set, ap, refl, sym, ◌∙◌, nat_cmp, is_eq, Less, Equal, Greater, arith, cond}
+use Rattle.std.proofs.Common.{◌≡◌, ◌≢◌, ◌==◌, ◌&&◌, ℕ, suc, ◌<◌, ◌≤◌, Bool, Decides, List, [], ◌∷◌, Some, None, true, false, inl, inr, length, length-set, set, ap, refl, sym, ◌∙◌, nat_cmp, is_eq, Less, Equal, Greater, arith, cond}
 use Rattle.std.specs.FinMap as map
-use Rattle.std.specs.FinMap.{entries_sorted, find, get-empty, get-entries, get-insert, get-remove}
-use Rattle.std.specs.Cmp.{nat_cmp_total, ranked}
+use Rattle.std.specs.FinMap.{entries_sorted, find, get-empty, get-entries, get-insert, get-remove, same_entries_map}
+use Rattle.std.specs.Cmp.{first_so, nat_cmp_total, ranked, second_so, unsigned_Decides}
+use Rattle.std.specs.Cmp.Lexicographic.{pointwise_decides}
 use Rattle.std.specs.Ordering.{eq_by_cmp}
 use Rattle.std.specs.Prelude.{replicate, slice_index_or}
 use Rattle.std.proofs.lemmas.Bool.{cases_eq, cases_lt}
 use Rattle.std.proofs.lemmas.Bool.Decides.{nat_tests}
 use Rattle.std.proofs.lemmas.List.{get_or-replicate, get_or-set_other, get_or-set_same, get_or_default, get_or_past, length-replicate}
 use Rattle.std.proofs.lemmas.Option.{same_Some}
-use Rattle.thin_rows.specs.Table.{Columns, Table, row_at, value_at, with_empty_row, with_value, without_value}
+use Rattle.thin_rows.specs.Table.{Columns, Table, row_at, row_eq, table_eq, value_at, with_empty_row, with_value, without_value}
 use Rattle.thin_rows.proofs.EntriesLemmas.{columns_rise, find_at}
 
 same_column : (j : ℕ) → eq_by_cmp nat_cmp j j ≡ true
@@ -24,7 +25,7 @@ module _ {V : Type 0} where
   abbrev pub IsAmong : List (ℕ × V) → ℕ × V → Type 0
   IsAmong es e = (k : ℕ) × (k < length es) × ((d : ℕ × V) → slice_index_or es k d ≡ e)
 
-  later : (f : ℕ × V) (es : List (ℕ × V)) (e : ℕ × V) → IsAmong es e → IsAmong (f ∷ es) e
+  pub later : (f : ℕ × V) (es : List (ℕ × V)) (e : ℕ × V) → IsAmong es e → IsAmong (f ∷ es) e
   later f es e among = (suc among.0, omega (arith, among.1), among.2)
 
   found_at : (j : ℕ) (v : V) (es : List (ℕ × V)) → find nat_cmp j es ≡ Some v
@@ -131,6 +132,26 @@ module _ {V : Type 0} where
   pub is_listed : (row : Columns V) (j : ℕ) (v : V) → map.get row j ≡ Some v
       → IsAmong (map.entries row) (j, v)
   is_listed row j v there = found_at j v (map.entries row) (sym (get-entries row j) ∙ there)
+
+  -- `==` of two tables decides whether they are equal, if `==` of two values does.
+  pub table_eq-decides : (eq : V → V → Bool) → ((x y : V) → Decides (eq x y) (x ≡ y))
+      → (t u : Table V) → Decides (table_eq eq t u) (t ≡ u)
+  table_eq-decides eq decides = pointwise_decides row_decides
+    where
+      entry_decides : (e f : ℕ × V) → Decides ((e.0 == f.0) && eq e.1 f.1) (e ≡ f)
+      entry_decides e f = (
+        λ h i. (
+          (unsigned_Decides e.0 f.0).0 (first_so (e.0 == f.0) (eq e.1 f.1) h) i,
+          (decides e.1 f.1).0 (second_so (e.0 == f.0) (eq e.1 f.1) h) i,
+        ),
+        λ same i. (unsigned_Decides e.0 f.0).1 (ap (λ x. x.0) same) i
+            && (decides e.1 f.1).1 (ap (λ x. x.1) same) i,
+      )
+
+      row_decides : (r s : Columns V) → Decides (row_eq eq r s) (r ≡ s)
+      row_decides r s =
+          let told = pointwise_decides entry_decides (map.entries r) (map.entries s) in
+          (λ h. same_entries_map r s (told.0 h), λ same. told.1 (ap map.entries same))
 
   pub in_order : (row : Columns V) (k m : ℕ) (d : ℕ × V) → k < m → m < length (map.entries row)
       → (slice_index_or (map.entries row) k d).0 < (slice_index_or (map.entries row) m d).0

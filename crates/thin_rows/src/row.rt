@@ -8,7 +8,7 @@ ghost use Rattle.thin_rows.specs.Entries.{IsInsertionPoint, IsFoundAt, IsSortedB
 use std::alloc::Allocator;
 use std::marker::Model;
 use std::{fmt, mem};
-use thin_vec::{Rejected, ThinVec};
+use thin_vec::{Rejected, ThinVec, ThinVecError};
 
 // A finite map from columns to values. A row without entries owns no block.
 #[derive(Drop)]
@@ -141,6 +141,43 @@ impl<V, A: Allocator> Row<V, A> {
         free_if_empty(&mut self.entries);
         Some(value)
     }
+}
+
+impl<V: Clone, A: Allocator> Row<V, A> {
+    ghost use Rattle.thin_rows.specs.Table.{IsClonedRow};
+
+    // Makes a row of clones of all values, at the same columns. Its list owns `alloc`.
+    pub(crate) fn clone(&self, alloc: A) -> Result<Row<V, A>, ThinVecError>
+        ensures entries { IfOk result (IsClonedRow V.is_clone self.now) }
+        ensures cause { IfErr result (λ cause. cause ≡ ThinVecError.OutOfMemory) }
+    {
+        let entries = self.entries.clone(alloc)?;
+        Ok(Row { entries })
+    }
+}
+
+impl<V: PartialEq, A: Allocator> PartialEq for Row<V, A> {
+    ghost use Rattle.std.specs.Cmp.{and_per, nat_eq_equiv, on_per, partial_equiv_from_equiv};
+    ghost use Rattle.std.specs.Cmp.Lexicographic.{lists_per};
+    ghost use Rattle.thin_rows.specs.Table.{row_eq};
+
+    ghost eq = { row_eq V.eq };
+
+    ghost laws = { on_per map.entries (lists_per (and_per
+        (on_per (λ entry. entry.0) (partial_equiv_from_equiv nat_eq_equiv))
+        (on_per (λ entry. entry.1) V.laws))) };
+
+    fn eq(&self, other: &Self) -> bool {
+        self.entries == other.entries
+    }
+}
+
+impl<V: Eq, A: Allocator> Eq for Row<V, A> {
+    ghost use Rattle.std.specs.Cmp.{and_equiv, nat_eq_equiv, on_equiv};
+    ghost use Rattle.std.specs.Cmp.Lexicographic.{lists_equiv};
+
+    ghost laws = { on_equiv map.entries (lists_equiv (and_equiv
+        (on_equiv (λ entry. entry.0) nat_eq_equiv) (on_equiv (λ entry. entry.1) V.Eq.laws))) };
 }
 
 impl<V: Drop, A: Allocator> Row<V, A> {

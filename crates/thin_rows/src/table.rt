@@ -1,12 +1,14 @@
 //! Defines the type `Rows`, which is a sparse table. In contracts, a table is the list of its rows.
-ghost use Rattle.std.specs.Prelude.{◌≡◌, ◌↔◌, ◌+◌, ◌-◌, ◌^◌, ◌<◌, IfErr, IfOk, IsOk, IsSome, IsTrue, OnErr, OnOk, length, map, min, replicate, sum};
+ghost use Rattle.std.specs.Prelude.{◌≡◌, ◌↔◌, [], ◌+◌, ◌-◌, ◌^◌, ◌<◌, AllPairs, IfErr, IfOk, IsOk, IsSome, IsTrue, OnErr, OnOk, length, map, min, replicate, sum};
 ghost use Rattle.std.specs.FinMap as columns;
 ghost use Rattle.std.specs.List.Sorted.{IsStrictlyIncreasing};
 ghost use Rattle.std.specs.Option.{option_copied};
-ghost use Rattle.thin_rows.specs.Table.{row_at, value_at, with_empty_row, with_value, without_value};
+ghost use Rattle.thin_rows.specs.Table.{IsClonedTable, entries_of, row_at, value_at, with_empty_row, with_value, without_value};
+ghost use Rattle.thin_rows.specs.Walk.{IsBefore, YieldsEntriesInOrder};
 
+use crate::iter::Iter;
 use crate::row::Row;
-use std::alloc::{Allocator, Global};
+use std::alloc::{AllocError, Allocator, Global};
 use std::fmt;
 use std::marker::Model;
 use thin_vec::{Rejected, ThinVec, ThinVecError};
@@ -73,7 +75,7 @@ impl<V, A: Allocator> Rows<V, A> {
         self.rows.len()
     }
 
-    /// Returns the number of entries, but at most `usize::MAX`. Visits each row.
+    /// Visits each row, and returns the number of entries, but at most `usize::MAX`.
     pub fn len(&self) -> usize
         ensures value { result ≡ min (sum (map (λ row. columns.len row) self.now)) (2 ^ 64 - 1) }
     {
@@ -82,6 +84,24 @@ impl<V, A: Allocator> Rows<V, A> {
             count = count.saturating_add(row.len());
         }
         count
+    }
+
+    /// Returns whether the table has no entries. Visits the rows up to the first that has one.
+    pub fn is_empty(&self) -> bool
+        ensures value { IsTrue result ↔ (entries_of self.now ≡ []) }
+    {
+        self.iter().next().is_none()
+    }
+
+    /// Returns an iterator over all entries, sorted by row, and within a row by column. Each item
+    /// has the row, the column and a reference to the value. A loop over the iterator takes time
+    /// for each row and each entry.
+    pub fn iter(&self) -> Iter<'_, V, A>
+        ensures value { result ≡ entries_of self.now }
+        ensures sorted { AllPairs IsBefore result }
+        ensures runs { YieldsEntriesInOrder V }
+    {
+        Iter::new(self.rows.as_slice())
     }
 
     /// Returns the value at the given row and column, if there is one.
@@ -155,6 +175,87 @@ impl<V, A: Allocator> Rows<V, A> {
         ensures value { IsTrue result ↔ (0 < columns.len (row_at self.now row)) }
     {
         self.rows[row].owns_block()
+    }
+}
+
+impl<V: Clone, A: Allocator + Copy> Rows<V, A> {
+    ghost use Rattle.thin_vec.specs.List.Clones.{ClonesEqual};
+
+    /// Makes a table with clones of all values, at the same rows and columns. The new table and
+    /// each of its rows keep a copy of `alloc`.
+    ///
+    /// # Errors
+    ///
+    /// Fails with `OutOfMemory` if the allocator fails, or if a value cannot be cloned. In this
+    /// case, all clones are dropped.
+    pub fn clone(&self, alloc: A) -> Result<Rows<V, A>, ThinVecError>
+        // On success.
+        ensures table { IfOk result (IsClonedTable V.is_clone self.now) }
+        ensures table_if_clones_equal { IfOk result (λ table. ClonesEqual V.is_clone
+            → table ≡ self.now) }
+
+        // When it must succeed. In every other case it may fail.
+        ensures succeeds_empty { length self.now ≡ 0 → IsOk result }
+
+        // On failure.
+        ensures cause { IfErr result (λ cause. cause ≡ ThinVecError.OutOfMemory) }
+    {
+        let sources = self.rows.as_slice();
+        let mut rows = ThinVec::with_capacity(alloc, self.rows.len())?;
+        for source in sources {
+            rows.push_reserved(source.clone(alloc)?);
+        }
+        Ok(Rows { rows })
+    }
+}
+
+impl<V: Clone, A: Allocator + Copy> Clone for Rows<V, A> {
+    ghost is_clone = { IsClonedTable V.is_clone };
+
+    // The clone of a table without rows requests no memory; that of any other table may be refused.
+    ghost is_infallible = { λ table. table ≡ [] };
+
+    fn clone(&self) -> Result<Self, AllocError> {
+        match Rows::clone(self, *self.rows.allocator()) {
+            Ok(other) => Ok(other),
+            Err(_refused) => Err(AllocError),
+        }
+    }
+}
+
+impl<V: PartialEq, A: Allocator> PartialEq for Rows<V, A> {
+    ghost use Rattle.std.specs.Cmp.{and_per, nat_eq_equiv, on_per, partial_equiv_from_equiv};
+    ghost use Rattle.std.specs.Cmp.Lexicographic.{lists_per};
+    ghost use Rattle.thin_rows.specs.Table.{table_eq};
+
+    ghost eq = { table_eq V.eq };
+
+    ghost laws = { lists_per (on_per columns.entries (lists_per (and_per
+        (on_per (λ entry. entry.0) (partial_equiv_from_equiv nat_eq_equiv))
+        (on_per (λ entry. entry.1) V.laws)))) };
+
+    fn eq(&self, other: &Self) -> bool {
+        self.rows == other.rows
+    }
+}
+
+impl<V: Eq, A: Allocator> Eq for Rows<V, A> {
+    ghost use Rattle.std.specs.Cmp.{and_equiv, nat_eq_equiv, on_equiv};
+    ghost use Rattle.std.specs.Cmp.Lexicographic.{lists_equiv};
+
+    ghost laws = { lists_equiv (on_equiv columns.entries (lists_equiv (and_equiv
+        (on_equiv (λ entry. entry.0) nat_eq_equiv) (on_equiv (λ entry. entry.1) V.Eq.laws)))) };
+}
+
+impl<'a, V, A: Allocator> IntoIterator for &'a Rows<V, A> {
+    type Item = (usize, usize, &'a V);
+
+    type IntoIter = Iter<'a, V, A>;
+
+    ghost into_iter_gives = { λ table it. (it ≡ entries_of table.now) × YieldsEntriesInOrder V };
+
+    fn into_iter(self) -> Iter<'a, V, A> {
+        self.iter()
     }
 }
 
