@@ -4,3 +4,4 @@ mod entries;
 mod requests;
 mod rows;
 mod texts;
+mod walks;
