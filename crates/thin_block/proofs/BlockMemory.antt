@@ -2,7 +2,7 @@
 -- give its size and alignment, split it into the header, the slots and the right to free it, and
 -- join it again.
 use Rattle.std.proofs.Common.{◌≡◌, ℕ, ◌+◌, ◌-◌, ◌*◌, ◌^◌, ◌<◌, [], ◌∷◌, Bool, true, false, Option, Some, None, refl, sym, ap, ◌∙◌, arith, zero-mul}
-use Rattle.thin_block.proofs.WalkPrelude.{Ura, SProp, ent, sep, apply∗, Fml, ftrue, fsep, froom, fwand, Ty, ty_ptr, size, align, Logic, sem, ‵, ◌⊛◌, ◌$◌, ◌∵◌, !, qed, by, move, drop, use1, use2, split, split3, fsplit, fsplit3, fjoin, fjoin3, rewrite, done, RattleType, Ptr, block_ptr, El, R, div_ceil, type_size, type_align, block_align, block_bytes, array_of, gapped_items, if◌then◌else◌}
+use Rattle.thin_block.proofs.WalkPrelude.{Ura, SProp, ent, sep, apply∗, Fml, ftrue, fsep, froom, fwand, Ty, ty_ptr, size, align, Logic, sem, ‵, ◌⊛◌, ◌$◌, ◌∵◌, !, qed, by, move, drop, use1, use2, split, split3, fsplit, fjoin, fjoin3, rewrite, done, RattleType, Ptr, block_ptr, El, R, div_ceil, type_size, type_align, block_align, block_bytes, array_of, gapped_items, if◌then◌else◌}
 use borrow.Author.Tests.{clash}
 use Rattle.thin_block.specs.Capacity.{front_bytes, in_words, memory_bytes}
 use Rattle.thin_block.specs.Ownership.{block_type, dealloc_right, dealloc_right_if, dealloc_right_of, end_of, erased_type, fits_block, header_owns, header_room, memory_type, memory_type_if, padded_type, pads, rejoin_wand, requested_type_of, slots_own, slots_wand, unjoined_room, words_of}
@@ -13,7 +13,7 @@ use Rattle.thin_block.proofs.SlotMemory.{of_raw, to_raw}
 use Rattle.thin_block.proofs.words.WordRooms.{half}
 use Rattle.thin_block.proofs.words.WordsLemmas.{words_told}
 use Rattle.thin_block.proofs.words.WordsMemory.{word_el, words_in}
-use Rattle.thin_block.proofs.WordConversionLemmas.{same_words, asked_size, asked_align, Kept, header_apart, words_apart}
+use Rattle.thin_block.proofs.WordConversionLemmas.{same_words, asked_size, asked_align, header_apart, words_apart}
 use Rattle.thin_block.proofs.in_place.ArrayMemory.{memory_in, memory_out}
 use Rattle.thin_block.proofs.padded.PaddedLemmas.{padded_tells}
 use Rattle.thin_block.proofs.padded.PaddedMemory.{padded_size, padded_align, array_out}
@@ -134,12 +134,10 @@ module _ {M : Type 1} {𝓤 : Ura M} (𝓛 : Logic 𝓤) (E : El) (b c : ℕ) (t
       use2 𝓛 (‵ (gapped_items t (R W) (block_ptr b o) w.1 0 n []))
       (memory_in 𝓛 W t b o w.1 n (omega arith)) $
       use1 𝓛 (‵ (froom half b o) ⊛ ‵ (froom half b (8 + o)) ⊛ ‵
-      (slots_own (R E) (empty_slots c) b (o + 16)) ⊛ ‵
-      (Kept 𝓛 E.row E.laws b w.0 w.1 is o t 0 c n refl))
+      (dealloc_right_of t (Some w) τ c b o) ⊛ ‵ (slots_own (R E) (empty_slots c) b (o + 16)))
       (words_apart 𝓛 E.row E.laws b w.0 w.1 is o t 0 c n refl [] 0 c (sym (zero-mul w.0)) slots
       (omega arith)) $
-      split3 ! $ move ! (2 ∷ []) $ split ! $ move ! (1 ∷ []) $ fsplit3 ! $ fjoin ! $ fjoin ! $
-      move ! (2 ∷ 3 ∷ 1 ∷ 0 ∷ []) $ done !
+      split3 ! $ move ! (2 ∷ []) $ split ! $ move ! (2 ∷ 3 ∷ 1 ∷ 0 ∷ []) $ done !
 
   joined_if : (w : Option (ℕ × ℕ)) → words_of (R E) ≡ w → pads (R E) c ≡ false → (n : ℕ)
       → ent 𝓤 (sep 𝓤 (sem 𝓛 (header_owns t (R E) n c b o))

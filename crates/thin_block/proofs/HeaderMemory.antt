@@ -31,8 +31,9 @@ abbrev pub block_own : Ptr → List Val → Fml
 block_own p = (plainly (RawPtr ∷ plainly [] ∷ plainly [] ∷ [])).own_val (p, (tt, (tt, tt)))
 
 pub block_told : (p : Ptr) (vs : List Val) → shadow (block_own p vs) → vs ≡ block_val p ∷ []
-block_told p vs s = s.1.0
-    ∙ (λ i. vstruct (of_list (s.1.1.0 i ++ (s.1.1.1.0.1.0 i ++ (s.1.1.1.1.0.1.0 i ++ [])))) ∷ [])
+block_told p vs s =
+    let (_, (whole, (at, ((_, (item, _)), ((_, (handle, _)), _))))) = s in
+    whole ∙ (λ i. vstruct (of_list (at i ++ (item i ++ (handle i ++ [])))) ∷ [])
 
 block_own_made : {M : Type 1} {𝓤 : Ura M} (𝓛 : Logic 𝓤) (p : Ptr)
     → ent 𝓤 (emp 𝓤) (sem 𝓛 (block_own p (block_val p ∷ [])))

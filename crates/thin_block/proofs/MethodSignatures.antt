@@ -1,8 +1,8 @@
 -- These lemmas begin and end the proofs of methods that take `&mut self` or `&self`. They also say
 -- which arguments a method gives back to its caller.
 -- `pub use` lines export lemmas of other files that several of these proofs cite.
-use Rattle.std.proofs.Common.{◌≡◌, true, ℕ, zero, suc, ◌+◌, ◌^◌, ◌<◌, List, [], ◌∷◌, length, refl, sym, w64, T, Some, Option}
-use Rattle.thin_block.proofs.WalkPrelude.{Ura, Fn, ty_int, Args, a_type, a_number, dcons, dnil, named, Val, vint, vptr, vunit, WT, has_ty, full_share, SProp, ent, sep, id⊢, Fml, Lft, Share, ftrue, fsep, feq, flft, fbor, Calls, Loops, Wp, WpFn, fact, tables, Logic, sem, Item, Goal, Seq, Sq, Step, step, ‵, raw, ◌⊛◌, prop, runs, at_ret, keep, ◌$◌, ◌∵◌, !, qed, move, use1, use3, split, join, fat, header_owns, dealloc_right, fsplit, fsplit3, fjoin, fjoin3, feq_i, rewrite, regoal, drop, enter, exec, env, yes, cell_at, mem, bounded, number, Laws, RattleType, owns, usize, block_ptr, Slot, plain, types_at, nothing, heard, Stays, stay_ref, stay_dropped, Goes-ref, Goes-dropped, Al, El, R, Facts, after, Dict, fobs, fauth, fobor, hidden_shr, fits_block, slots_own}
+use Rattle.std.proofs.Common.{◌≡◌, true, ℕ, zero, suc, ◌+◌, ◌^◌, ◌<◌, List, [], ◌∷◌, length, refl, sym, lit<, w64, T, Some, Option}
+use Rattle.thin_block.proofs.WalkPrelude.{Ura, Fn, ty_int, Args, a_type, a_number, dcons, dnil, named, Val, vint, vptr, vunit, WT, has_ty, full_share, SProp, ent, sep, id⊢, Fml, Lft, Share, ftrue, fsep, feq, flft, fbor, Calls, Loops, Wp, WpFn, fact, tables, Logic, sem, Item, Goal, Seq, Sq, Step, step, ‵, raw, ◌⊛◌, prop, runs, at_ret, keep, ◌$◌, ◌∵◌, !, qed, move, use1, use3, split, join, fat, header_owns, dealloc_right, fsplit, fsplit3, fjoin, fjoin3, feq_i, rewrite, regoal, drop, enter, exec, env, yes, cell_at, mem, bounded, number, Laws, RattleType, owns, usize, block_ptr, Slot, plain, types_at, nothing, heard, Stays, stay_ref, stay_dropped, Goes-ref, Goes-dropped, Al, El, R, Facts, after, Dict, fobs, fauth, fobor, hidden_shr, fits_block, slots_own, Err, Ok, err_of, live, ok_of, refused_made, unit, use0, vcons, vnil, vstruct}
 use base.Stored.{Gv}
 use prog.Model.{Model}
 use contract.Lifetimes.{Lfts, Shares, toks}
@@ -15,6 +15,8 @@ use denote.Signature.{mut_ref_to, shr_ref_to}
 use denote.Triple.End.{Kepts}
 use denote.Triple.Walked.{AllGo, Silent}
 use Rattle.core.specs.declared.alloc.Allocator.{Ghosts}
+use Rattle.core.specs.contracts.alloc.AllocError as AE
+use Rattle.core.specs.contracts.result.Result as RS
 pub use Rattle.thin_block.proofs.HeaderMemory.{alloc_there, args, Br, header, t, block_val, block_had, items, any_some, block_made, header_written}
 use Rattle.thin_block.proofs.HeaderMemory.{Header, Slots, block_opens, block_closes}
 pub use Rattle.thin_block.proofs.SlotMemory.{sz, slot_in, reach, around, run_out, run_in, of_items, to_room}
@@ -147,6 +149,34 @@ module _ {n : ℕ} (s : Slot (suc n)) (ss : List (Slot (suc n))) where
       (owns (types_at (s ∷ ss) x.0) x.3 x.4)) ∷ raw Q ∷ []) ∵
       split ! $ split ! $ move ! (2 ∷ []) $ fsplit ! $ move ! (0 ∷ 2 ∷ 3 ∷ 1 ∷ []) $ next
 
+-- `blanks m` is trivially true. It stands for `m` arguments that are not given back to the caller.
+abbrev pub blanks : ℕ → Fml
+blanks zero = ftrue
+blanks (suc m) = fsep ftrue (blanks m)
+
+module _ (E : El) (Y : Al) {M : Type 1} {𝓤 : Ura M} (κ : Lft) (q : Share)
+    (r : MutBor (Br E Y).Denot) where
+  -- `Borrowed y Γ` is a proof context that begins with the borrow of the block `y` behind `r`. This
+  -- borrow has three entries, the last of which is its lifetime token.
+  abbrev Borrowed : (Br E Y).Denot → List (Item 𝓤) → List (Item 𝓤)
+  Borrowed y Γ = ‵ (fobs r.ghost_name ((Br E Y).coded.code y)) ∷ ‵
+      (fbor κ (Body (mem (Br E Y)) r.ref_ptr.0 r.ref_ptr.1 r.ghost_name)) ∷ ‵ (flft κ q) ∷ Γ
+
+  -- `Open b o u v Γ` is a proof context that begins with four entries that the comments in the
+  -- proofs of the methods call the open borrow: the memory that holds the block's pointer; the
+  -- right to close the borrow, with its lifetime token; two ghost resources that record the value.
+  abbrev Open : ℕ → ℕ → Gv → Gv → List (Item 𝓤) → List (Item 𝓤)
+  Open b o u v Γ = ‵
+      (cell_at full_share (Br E Y).mir (block_val (block_ptr b o) ∷ []) r.ref_ptr.0 r.ref_ptr.1)
+      ∷ ‵ (fobor κ q (Body (mem (Br E Y)) r.ref_ptr.0 r.ref_ptr.1 r.ghost_name)) ∷ ‵
+      (fobs r.ghost_name u) ∷ ‵ (fauth r.ghost_name v) ∷ Γ
+
+  -- `Left y us T m F` is what a method leaves that gives none of its `m` other arguments back. Its
+  -- result owns `F`. The machine values of `r` are `us`, and `T` are the other lifetime tokens.
+  abbrev Left : (Br E Y).Denot → List Val → Item 𝓤 → ℕ → Fml → List (Item 𝓤)
+  Left y us T m F = ((‵ (flft κ q) ⊛ T) ⊛ ‵
+      (fsep ((MutRef (named 0) κ (Br E Y)).own_val (at_last r y) us) (blanks m)) ⊛ ‵ F) ∷ []
+
 module _ (E : El) (Y : Al) {M : Type 1} {𝓤 : Ura M} (𝓛 : Logic 𝓤) {n : ℕ}
     (ss : List (Slot (suc n))) where
   abbrev lent : Slot (suc n)
@@ -158,10 +188,8 @@ module _ (E : El) (Y : Al) {M : Type 1} {𝓤 : Ura M} (𝓛 : Logic 𝓤) {n : 
   -- `Entered x Γ` is the proof context at the start of a method that takes `&mut self`: what the
   -- method owns, and the entries `Γ`.
   abbrev Entered : {Bd : Lfts (suc n) → Type 0} → Passed lent ss Bd → List (Item 𝓤) → List (Item 𝓤)
-  Entered x Γ = ‵ (fobs x.3.0.ghost_name ((Br E Y).coded.code x.3.0.now)) ∷ ‵
-      (fbor x.0.0 (Body (mem (Br E Y)) x.3.0.ref_ptr.0 x.3.0.ref_ptr.1 x.3.0.ghost_name))
-      ∷ ‵ (flft x.0.0 x.1.0) ∷ raw (toks 𝓛 n x.0.1 x.1.1) ∷ ‵
-      (owns (types_at ss x.0) x.3.1 x.4.1) ∷ Γ
+  Entered x Γ = Borrowed E Y x.0.0 x.1.0 x.3.0 x.3.0.now (raw (toks 𝓛 n x.0.1 x.1.1) ∷ ‵
+      (owns (types_at ss x.0) x.3.1 x.4.1) ∷ Γ)
 
   -- Begins the proof of a method that takes `&mut self`.
   pub starts : {Bd : Lfts (suc n) → Type 0} {P : SProp 𝓤} (x : Passed lent ss Bd) (Q : SProp 𝓤)
@@ -180,9 +208,8 @@ module _ (E : El) (Y : Al) {M : Type 1} {𝓤 : Ura M} (𝓛 : Logic 𝓤) {n : 
   -- own.
   pub begins : {Bd : Lfts (suc n) → Type 0} {P : SProp 𝓤} (x : Passed lent ss Bd)
       (φs : List (Type 0))
-      → Each φs (Sq 𝓛 (‵ (fobs x.3.0.ghost_name ((Br E Y).coded.code x.3.0.now)) ∷ ‵
-      (fbor x.0.0 (Body (mem (Br E Y)) x.3.0.ref_ptr.0 x.3.0.ref_ptr.1 x.3.0.ghost_name))
-      ∷ ‵ (flft x.0.0 x.1.0) ∷ raw (toks 𝓛 n x.0.1 x.1.1) ∷ []) (prop P))
+      → Each φs (Sq 𝓛 (Borrowed E Y x.0.0 x.1.0 x.3.0 x.3.0.now (raw (toks 𝓛 n x.0.1 x.1.1) ∷ []))
+      (prop P))
       → ent 𝓤 (sep 𝓤 (Entry lent ss 𝓛 x) (Facts 𝓤 φs)) P
   begins x φs next =
       begins_with x φs (each φs (λ s. keep ! (0 ∷ 1 ∷ 2 ∷ 3 ∷ []) $ s) next)
@@ -204,11 +231,6 @@ module _ {M : Type 1} {𝓤 : Ura M} {𝓛 : Logic 𝓤} {K : Type 0} {Γ : List
   token_out k n κs qs = step (λ s.
       use1 𝓛 (‵ (flft κs.0 qs.0) ⊛ raw (toks 𝓛 n κs.1 qs.1)) (id⊢ 𝓤 _) $ split k $ s)
 
--- `blanks m` is trivially true. It stands for `m` arguments that are not given back to the caller.
-abbrev pub blanks : ℕ → Fml
-blanks zero = ftrue
-blanks (suc m) = fsep ftrue (blanks m)
-
 module _ {M : Type 1} {𝓤 : Ura M} {𝓛 : Logic 𝓤} {K : Type 0} {Γ : List (Item 𝓤)}
     {G : Goal 𝓤 𝓛.H} where
   pub blank : K → (m : ℕ) → Step K 𝓛 (‵ (blanks m) ∷ Γ) G Γ G
@@ -222,21 +244,32 @@ module _ {M : Type 1} {𝓤 : Ura M} {𝓛 : Logic 𝓤} {K : Type 0} {G : Goal 
   leaves k m = step (λ s. move k (0 ∷ 2 ∷ []) $ join k $ blank k m $ move k (0 ∷ 2 ∷ []) $ join k $
       move k (1 ∷ 0 ∷ []) $ join k $ s)
 
+-- `Answer` is the type `Result<(), AllocError>`. `ok_val` and `err_val` are the machine values of
+-- `Ok(())` and `Err(AllocError)`.
+abbrev Answer : RattleType
+Answer = RS.the_row unit AE.the_row
+
+abbrev pub ok_val : Val
+ok_val = live 0 (vcons vunit vnil)
+
+abbrev pub err_val : Val
+err_val = live 1 (vcons (vstruct vnil) vnil)
+
+pub ok_typed : WT ok_val
+ok_typed = (record { fits = lit< tt }, (tt, tt))
+
+pub err_typed : WT err_val
+err_typed = (record { fits = lit< tt }, (tt, tt))
+
 module _ (E : El) (Y : Al) {M : Type 1} {𝓤 : Ura M} {𝓛 : Logic 𝓤} {K : Type 0}
     {G : Goal 𝓤 𝓛.H} where
-  -- Splits the block behind `r` into its header, its slots and four entries that the comments in
-  -- the proofs of the methods call the open borrow: the memory that holds the block's pointer; the
-  -- right to close the borrow, with its lifetime token; two ghost resources that record the value.
+  -- Splits the block behind `r` into its header, its slots and the open borrow.
   pub opens_self : K → Soaks G → {Γ : List (Item 𝓤)} {κ : Lft} {q : Share}
       (r : MutBor (Br E Y).Denot)
       → ((b o : ℕ) → r.now.at ≡ block_ptr b o → fits_block (R E) (length r.now.slots) ≡ true
-      → Seq K 𝓛 (‵ (Header E Y r.now b o) ∷ ‵ (Slots E Y r.now b o) ∷ ‵
-      (cell_at full_share (Br E Y).mir (block_val (block_ptr b o) ∷ []) r.ref_ptr.0 r.ref_ptr.1)
-      ∷ ‵ (fobor κ q (Body (mem (Br E Y)) r.ref_ptr.0 r.ref_ptr.1 r.ghost_name)) ∷ ‵
-      (fobs r.ghost_name ((Br E Y).coded.code r.now)) ∷ ‵
-      (fauth r.ghost_name ((Br E Y).coded.code r.now)) ∷ Γ) G)
-      → Seq K 𝓛 (‵ (fobs r.ghost_name ((Br E Y).coded.code r.now)) ∷ ‵
-      (fbor κ (Body (mem (Br E Y)) r.ref_ptr.0 r.ref_ptr.1 r.ghost_name)) ∷ ‵ (flft κ q) ∷ Γ) G
+      → Seq K 𝓛 (‵ (Header E Y r.now b o) ∷ ‵ (Slots E Y r.now b o) ∷ Open E Y κ q r b o
+      ((Br E Y).coded.code r.now) ((Br E Y).coded.code r.now) Γ) G)
+      → Seq K 𝓛 (Borrowed E Y κ q r r.now Γ) G
   opens_self k z r next = block_opens E Y k z r.now r.ref_ptr.0 r.ref_ptr.1 next
 
   -- Puts the block behind `r` back together as the block `y`. The proof context has to begin with
@@ -244,12 +277,9 @@ module _ (E : El) (Y : Al) {M : Type 1} {𝓤 : Ura M} {𝓛 : Logic 𝓤} {K : 
   pub closes_over : K → Soaks G → {Γ : List (Item 𝓤)} {κ : Lft} {q : Share} {u v : Gv} {c : ℕ}
       (r : MutBor (Br E Y).Denot) (y : (Br E Y).Denot) (b o : ℕ) → y.at ≡ block_ptr b o
       → length y.slots ≡ c
-      → Step K 𝓛 (‵ (fobs r.ghost_name ((Br E Y).coded.code y)) ∷ ‵
-      (fbor κ (Body (mem (Br E Y)) r.ref_ptr.0 r.ref_ptr.1 r.ghost_name)) ∷ ‵ (flft κ q) ∷ Γ) G
-      (‵ (slots_own (R E) y.slots b (o + 16)) ∷ ‵ (header (t E Y) (R E) y.len c y.alloc b o) ∷ ‵
-      (cell_at full_share (Br E Y).mir (block_val (block_ptr b o) ∷ []) r.ref_ptr.0 r.ref_ptr.1)
-      ∷ ‵ (fobor κ q (Body (mem (Br E Y)) r.ref_ptr.0 r.ref_ptr.1 r.ghost_name)) ∷ ‵
-      (fobs r.ghost_name u) ∷ ‵ (fauth r.ghost_name v) ∷ Γ) G
+      → Step K 𝓛 (Borrowed E Y κ q r y Γ) G
+      (‵ (slots_own (R E) y.slots b (o + 16)) ∷ ‵ (header (t E Y) (R E) y.len c y.alloc b o)
+      ∷ Open E Y κ q r b o u v Γ) G
   closes_over k z r y b o at long = step (λ s.
       rewrite k 1 (λ (c : ℕ). ‵ (header (t E Y) (R E) y.len c y.alloc b o)) (sym long) refl $
       move k (1 ∷ 0 ∷ []) $ block_closes E Y k z y b o r.ref_ptr.0 r.ref_ptr.1 at $ s)
@@ -260,14 +290,11 @@ module _ (E : El) (Y : Al) {M : Type 1} {𝓤 : Ura M} {𝓛 : Logic 𝓤} {K : 
       (r : MutBor (Br E Y).Denot) (y : (Br E Y).Denot) (a : Y.row.Denot) (b o n m : ℕ)
       → y.at ≡ block_ptr b o → y.alloc ≡ Some a → length y.slots ≡ n → y.len ≡ m
       → fits_block (R E) n ≡ true
-      → Step K 𝓛 (‵ (fobs r.ghost_name ((Br E Y).coded.code y)) ∷ ‵
-      (fbor κ (Body (mem (Br E Y)) r.ref_ptr.0 r.ref_ptr.1 r.ghost_name)) ∷ ‵ (flft κ q) ∷ Γ) G
+      → Step K 𝓛 (Borrowed E Y κ q r y Γ) G
       (‵ (fat full_share (ty_int w64) b o (vint w64 n)) ∷ ‵
       (fat full_share (ty_int w64) b (8 + o) (vint w64 m)) ∷ ‵
-      (dealloc_right (t E Y a) (R E) n b o) ∷ ‵ (slots_own (R E) y.slots b (o + 16)) ∷ ‵
-      (cell_at full_share (Br E Y).mir (block_val (block_ptr b o) ∷ []) r.ref_ptr.0 r.ref_ptr.1)
-      ∷ ‵ (fobor κ q (Body (mem (Br E Y)) r.ref_ptr.0 r.ref_ptr.1 r.ghost_name)) ∷ ‵
-      (fobs r.ghost_name u) ∷ ‵ (fauth r.ghost_name v) ∷ Γ) G
+      (dealloc_right (t E Y a) (R E) n b o) ∷ ‵ (slots_own (R E) y.slots b (o + 16))
+      ∷ Open E Y κ q r b o u v Γ) G
   header_closes k z r y a b o n m at from long counted fits = step (λ s.
       use3 𝓛 (‵ (header_owns (t E Y a) (R E) m n b o))
       (header_written 𝓛 (t E Y a) (R E) m n b o fits) $
@@ -279,11 +306,7 @@ module _ (E : El) (Y : Al) {M : Type 1} {𝓤 : Ura M} {𝓛 : Logic 𝓤} {K : 
   -- Ends the proof of a method that takes `&mut self` and `m` further parameters.
   pub leaves_with : K → {κ : Lft} {q : Share} {us : List Val} {F : Fml} {T : Item 𝓤}
       (r : MutBor (Br E Y).Denot) (y : (Br E Y).Denot) (m : ℕ) → us ≡ mut_vals r
-      → Step K 𝓛 (((‵ (flft κ q) ⊛ T) ⊛ ‵
-      (fsep ((MutRef (named 0) κ (Br E Y)).own_val (at_last r y) us) (blanks m)) ⊛ ‵ F) ∷ []) G
-      (‵ (fobs r.ghost_name ((Br E Y).coded.code y)) ∷ ‵
-      (fbor κ (Body (mem (Br E Y)) r.ref_ptr.0 r.ref_ptr.1 r.ghost_name)) ∷ ‵ (flft κ q) ∷ ‵ F
-      ∷ T ∷ []) G
+      → Step K 𝓛 (Left E Y κ q r y us T m F) G (Borrowed E Y κ q r y (‵ F ∷ T ∷ [])) G
   leaves_with k {us = us} r y m e = step (λ s.
       feq_i k (List Val) us (mut_vals r) e $ fjoin3 k $ blank k m $ move k (1 ∷ 0 ∷ []) $ fjoin k $
       move k (0 ∷ 2 ∷ []) $ join k $ move k (1 ∷ 2 ∷ []) $ join k $ join k $ s)
@@ -291,11 +314,29 @@ module _ (E : El) (Y : Al) {M : Type 1} {𝓤 : Ura M} {𝓛 : Logic 𝓤} {K : 
   -- Does the same as `leaves_with`, but for a method that returns `()`.
   pub leaves_unit : K → {κ : Lft} {q : Share} {us : List Val} {T : Item 𝓤}
       (r : MutBor (Br E Y).Denot) (y : (Br E Y).Denot) (m : ℕ) → us ≡ mut_vals r
-      → Step K 𝓛 (((‵ (flft κ q) ⊛ T) ⊛ ‵
-      (fsep ((MutRef (named 0) κ (Br E Y)).own_val (at_last r y) us) (blanks m)) ⊛ ‵
-      (feq (List Val) (vunit ∷ []) (vunit ∷ []))) ∷ []) G
-      (‵ (fobs r.ghost_name ((Br E Y).coded.code y)) ∷ ‵
-      (fbor κ (Body (mem (Br E Y)) r.ref_ptr.0 r.ref_ptr.1 r.ghost_name)) ∷ ‵ (flft κ q) ∷ T ∷ []) G
+      → Step K 𝓛 (Left E Y κ q r y us T m (feq (List Val) (vunit ∷ []) (vunit ∷ []))) G
+      (Borrowed E Y κ q r y (T ∷ [])) G
   leaves_unit k r y m e = step (λ s.
       feq_i k (List Val) (vunit ∷ []) (vunit ∷ []) refl $ move k (1 ∷ 2 ∷ 3 ∷ 0 ∷ []) $
       leaves_with k r y m e $ s)
+
+  -- Does the same as `leaves_with`, but for a method that returns `Ok(())`.
+  pub leaves_ok : K → {κ : Lft} {q : Share} {us : List Val} {T : Item 𝓤}
+      (r : MutBor (Br E Y).Denot) (y : (Br E Y).Denot) (m : ℕ) → us ≡ mut_vals r
+      → Step K 𝓛 (Left E Y κ q r y us T m (Answer.own_val (Ok tt) (ok_val ∷ []))) G
+      (Borrowed E Y κ q r y (T ∷ [])) G
+  leaves_ok k r y m e = step (λ s.
+      feq_i k (List Val) (vunit ∷ []) (vunit ∷ []) refl $
+      use1 𝓛 (‵ (Answer.own_val (Ok tt) (ok_val ∷ []))) (ok_of 𝓛 unit AE.the_row tt vunit) $
+      move k (1 ∷ 2 ∷ 3 ∷ 0 ∷ []) $ leaves_with k r y m e $ s)
+
+  -- Does the same as `leaves_with`, but for a method that returns `Err(AllocError)`.
+  pub leaves_err : K → {κ : Lft} {q : Share} {us : List Val} {T : Item 𝓤}
+      (r : MutBor (Br E Y).Denot) (y : (Br E Y).Denot) (m : ℕ) → us ≡ mut_vals r
+      → Step K 𝓛 (Left E Y κ q r y us T m (Answer.own_val (Err (record {})) (err_val ∷ []))) G
+      (Borrowed E Y κ q r y (T ∷ [])) G
+  leaves_err k r y m e = step (λ s.
+      use0 𝓛 (‵ (AE.the_row.own_val (record {}) (vstruct vnil ∷ []))) (refused_made 𝓛) $
+      use1 𝓛 (‵ (Answer.own_val (Err (record {})) (err_val ∷ [])))
+      (err_of 𝓛 unit AE.the_row (record {}) (vstruct vnil)) $
+      move k (1 ∷ 2 ∷ 3 ∷ 0 ∷ []) $ leaves_with k r y m e $ s)

@@ -1,7 +1,7 @@
 -- These lemmas convert a block into one array of words, which an allocator can grow or shrink, and
 -- back. A word is a struct of whole items that takes 8 or 16 bytes.
 use Rattle.std.proofs.Common.{◌≡◌, false, ℕ, Some, None, ◌+◌, ◌-◌, ◌*◌, ◌≤◌, List, [], ◌∷◌, ◌++◌, length, refl, sym, ap, ◌∙◌, arith, Bool, Option}
-use Rattle.thin_block.proofs.WalkPrelude.{Ura, Ty, size, align, size-raw, ent, sep, Fml, fsep, froom, Logic, sem, ‵, ◌⊛◌, ◌$◌, ◌∵◌, !, qed, move, use1, use3, split, split3, fsplit, fsplit3, fjoin, rewrite, done, lone, param, Laws, RattleType, Ptr, block_ptr, El, R, elτ, array_of, div_ceil, type_size, type_align, align-raw, gapped_items, filled_slots, empty_slots}
+use Rattle.thin_block.proofs.WalkPrelude.{Ura, Ty, size, align, size-raw, ent, sep, Fml, froom, Logic, sem, ‵, ◌⊛◌, ◌$◌, ◌∵◌, !, qed, move, use1, use3, split, split3, fsplit, fsplit3, fjoin, rewrite, done, lone, param, Laws, RattleType, Ptr, block_ptr, El, R, elτ, array_of, div_ceil, type_size, type_align, align-raw, gapped_items, filled_slots, empty_slots}
 use Rattle.thin_block.specs.Capacity.{in_words, block_align, block_bytes}
 use Rattle.thin_block.specs.Ownership.{slots_own, header_owns, erased_type, words_of, requested_type_of, header_room, header_wand, slots_wand, dealloc_right, dealloc_right_of, dealloc_right_if, pads}
 use Rattle.thin_block.proofs.HeaderMemory.{whole_size, whole_align, header_unwritten}
@@ -93,15 +93,13 @@ module _ {M : Type 1} {𝓤 : Ura M} (𝓛 : Logic 𝓤) (T : RattleType) (L : L
         rewrite ! 0 (λ (j : ℕ). ‵ (t (array_of (R W) j) (block_ptr b o))) (sym total) refl $
         move ! (1 ∷ 2 ∷ 0 ∷ []) $ done !
 
-    -- `Kept` is the right to free the block, without the right for the case that it is padded.
+    -- `Kept` is the right to free the block, which is not padded.
     abbrev pub Kept : Fml
-    Kept = fsep (header_wand (erased_type (R Item)) m k b o) (fsep Rest Right)
+    Kept = dealloc_right_of t (Some (m, k)) (erased_type (R Item)) c b o
 
     pub right_in : ent 𝓤 (sem 𝓛 Kept) (sem 𝓛 (dealloc_right t (R Item) c b o))
     right_in =
-        qed 𝓛 (‵ Kept ∷ []) ∵ fsplit3 ! $ move ! (2 ∷ []) $
-        rewrite ! 0 (λ (j : ℕ). ‵ (t (array_of (R W) j) (block_ptr b o))) total refl $
-        move ! (1 ∷ 2 ∷ []) $ fjoin ! $ fjoin ! $
+        qed 𝓛 (‵ Kept ∷ []) ∵
         rewrite ! 0 (λ (w : Option (ℕ × ℕ)). ‵ (dealloc_right_of t w (erased_type (R Item)) c b o))
         (sym asked_words) refl $
         rewrite ! 0 (λ (p : Bool). ‵ (dealloc_right_if p t (words_of (R Item))
@@ -113,12 +111,12 @@ module _ {M : Type 1} {𝓤 : Ura M} (𝓛 : Logic 𝓤) (T : RattleType) (L : L
       abbrev v : ℕ
       v = all - (k + count)
 
-      -- Splits the words into memory for the header, the slots with the items, and `Kept`.
+      -- Splits the words into memory for the header, `Kept`, and the slots with the items.
       pub words_apart : ent 𝓤 (sem 𝓛 (gapped_items t (R W) (block_ptr b o) k count all
           (words_made T m count xs)))
           (sep 𝓤 (H.room half b o) (sep 𝓤 (H.room half b (8 + o))
-          (sep 𝓤 (sem 𝓛 (slots_own (R Item) (filled_slots xs ++ empty_slots j) b (o + 16)))
-          (sem 𝓛 Kept))))
+          (sep 𝓤 (sem 𝓛 Kept)
+          (sem 𝓛 (slots_own (R Item) (filled_slots xs ++ empty_slots j) b (o + 16))))))
       words_apart =
           let told = words_told (R Item) m k is in
           let place : o + k * type_size (R W) ≡ o + 16 =
@@ -139,5 +137,6 @@ module _ {M : Type 1} {𝓤 : Ura M} (𝓛 : Logic 𝓤) (T : RattleType) (L : L
           -- The context is now: the slots; the right to convert the slots into words; memory for
           -- the capacity; memory for the length; the right to convert the memory of the header into
           -- words; the right to free the words.
-          move ! (1 ∷ 5 ∷ []) $ fjoin ! $ move ! (4 ∷ 0 ∷ []) $ fjoin ! $
-          move ! (2 ∷ 3 ∷ 1 ∷ 0 ∷ []) $ done !
+          rewrite ! 5 (λ (i : ℕ). ‵ (t (array_of (R W) i) (block_ptr b o))) total refl $
+          move ! (4 ∷ 1 ∷ []) $ fjoin ! $ move ! (0 ∷ 4 ∷ []) $ fjoin ! $
+          move ! (2 ∷ 3 ∷ 0 ∷ 1 ∷ []) $ done !

@@ -1,3 +1,4 @@
 -- These are the lemma files about `src/in_place.rt`. Rattle includes this file automatically.
 pub mod ArrayMemory
+pub mod ResizedBlock
 pub mod ResizedCall

@@ -1,9 +1,12 @@
 -- These lemmas verify a call of the function `resize_array`. They state what the caller owns before
 -- and after the call.
 use Rattle.std.proofs.Common.{ℕ, List, [], ◌∷◌, refl, w64, ◌^◌, ◌<◌}
-use Rattle.thin_block.proofs.WalkPrelude.{Ura, Val, vint, vptr, SProp, ent, sep, ex, emp, never, id⊢, Lft, Share, Fml, ftrue, fsep, flft, ◌⊑◌, Fun, fact, fact_i, Memory, Routine, Logic, sem, ‵, raw, ◌⊛◌, exists, later, pick, updating, await, ◌$◌, ◌∵◌, !, qed, move, keep, drop, use0, use1, use2, split, split3, join, fjoin, feq_i, flt_i, done, block_ptr, nothing, triple_of, number, Al, token, El, R, el_x, FitsGap, gapped_items, gapped_if_ok}
-use types.Kit.{now as at_once}
-use denote.Triple.Statement.{Contract}
+use Rattle.thin_block.proofs.WalkPrelude.{Ura, Val, vint, vptr, SProp, ent, sep, ex, emp, never, id⊢, Lft, Share, Fml, ftrue, fsep, flft, ◌⊑◌, Fun, fact, fact_i, Memory, Routine, Logic, sem, ‵, raw, ◌⊛◌, exists, later, pick, updating, await, ◌$◌, ◌∵◌, !, qed, move, keep, drop, use0, use1, use2, split, split3, join, fjoin, feq_i, flt_i, done, block_ptr, nothing, triple_of, number, Al, token, El, R, el_x, FitsGap, gapped_items, gapped_if_ok, After, Body, Calls, Env, Item, Loops, Seq, calls_at, group, runs, seq}
+use mir.Syntax.{Callee, Opd as Operand, Place, call}
+use sound.WpLaws.{FmC}
+use types.Kit.{lands, now as at_once}
+use types.Run.{Opds}
+use denote.Triple.Statement.{Contract, Triple}
 use Rattle.core.proofs.alloc.Calls.{seen, Answer}
 use Rattle.core.proofs.alloc.Resizes.{Flagged, by_flag}
 use Rattle.thin_block.specs.contracts.in_place.resize_array as F
@@ -86,3 +89,23 @@ module _ (E : El) (Y : Al) (k : ℕ) {M : Type 1} {𝓤 : Ura M} (𝓛 : Logic �
         drop ! $ move ! (1 ∷ []) $ split ! $ split3 ! $ move ! (3 ∷ 4 ∷ []) $
         use2 𝓛 (raw (ex 𝓤 (Flagged 𝓛 leaves v))) (by_flag 𝓛 leaves (id⊢ 𝓤 (never 𝓤)) v r) $
         move ! (3 ∷ []) $ split3 ! $ keep ! (3 ∷ 4 ∷ 5 ∷ 0 ∷ 1 ∷ []) $ at_once ! $ done !))
+
+    module _ {K : Type 0} {Γ : List (Item 𝓤)} {En : Env 𝓤 H} {C : Calls 𝓤 H} {Λ : Loops 𝓤 H}
+        {f : Callee} {os : List Operand} {d : Place} {rest : Body} {P : After 𝓤 H} where
+      -- Verifies a call of `resize_array`, which gives the lifetime tokens back. The rest of the
+      -- proof may use the returned value.
+      pub resizes : K → FmC 𝓤 H 𝓛.laws C → Triple 𝓤 (C f) Resizing → κT ⊑ E.row.lives
+          → κA ⊑ Y.row.lives → κK ⊑ [] → FitsGap (R E) k len held wanted xs → len < 2 ^ 64
+          → held < 2 ^ 64 → wanted < 2 ^ 64
+          → Opds K 𝓛 (raw (Resizing.pre at_resizing) ∷ Γ) En os (Resizing.args at_resizing)
+          → ((v : Val) → Seq K 𝓛 (raw (ex 𝓤 (Flagged 𝓛 leaves v)) ∷ ‵ (flft κ q) ∷ ‵ (flft κT qT)
+          ∷ ‵ (flft κA qA) ∷ ‵ (flft κK qK) ∷ Γ) (lands C Λ En d v rest P))
+          → Seq K 𝓛 (‵ Block ∷ ‵ (seen Y κ p a) ∷ ‵ (flft κ q) ∷ ‵ (flft κT qT) ∷ ‵ (flft κA qA)
+          ∷ ‵ (flft κK qK) ∷ Γ) (runs C Λ En (seq (call f os d) rest) P)
+      resizes t fm met leT leA leK fits fl fh fw reads next =
+          group t 6 $
+          use1 𝓛 (raw (Resizing.pre at_resizing)) (Resizing-goes leT leA leK fits fl fh fw) $
+          calls_at t fm Resizing met at_resizing reads (λ v.
+          use1 𝓛 (later (raw (ex 𝓤 (Flagged 𝓛 leaves v)) ⊛ ‵ (flft κ q) ⊛ ‵ (flft κT qT) ⊛ ‵
+          (flft κA qA) ⊛ ‵ (flft κK qK))) (Resizing-gives v) $
+          await t tt $ split3 t $ move t (2 ∷ []) $ split3 t $ move t (3 ∷ 4 ∷ []) $ next v)

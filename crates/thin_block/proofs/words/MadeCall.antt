@@ -1,9 +1,12 @@
 -- These lemmas verify a call of the function `make_words`. They state what the caller owns before
 -- and after the call.
-use Rattle.std.proofs.Common.{◌≡◌, ℕ, ◌*◌, ◌^◌, ◌<◌, List, [], ◌∷◌, length, map, refl, w64}
-use Rattle.thin_block.proofs.WalkPrelude.{Ura, Val, vint, vptr, SProp, ent, sep, emp, id⊢, Lft, Share, Fml, ftrue, fsep, flft, ◌⊑◌, Fun, fact, fact_i, Memory, Routine, Logic, sem, ‵, raw, ◌⊛◌, exists, later, pick, updating, await, ◌$◌, ◌∵◌, !, qed, move, keep, drop, use0, use1, split, split3, join, done, pure_i, usize, unit, RattleType, owns, param, number, Laws, RawPtr, block_ptr, nothing, triple_of, type_size, R, filled_slots, slots_own, runs_at, word}
-use types.Kit.{now as at_once}
-use denote.Triple.Statement.{Contract}
+use Rattle.std.proofs.Common.{◌≡◌, ℕ, ◌*◌, ◌^◌, ◌<◌, List, [], ◌∷◌, length, map, refl, ap, w64}
+use Rattle.thin_block.proofs.WalkPrelude.{Ura, Val, vint, vptr, SProp, ent, sep, emp, id⊢, Lft, Share, Fml, ftrue, fsep, flft, ◌⊑◌, Fun, fact, fact_i, Memory, Routine, Logic, sem, ‵, raw, ◌⊛◌, exists, later, pick, updating, await, ◌$◌, ◌∵◌, !, qed, move, keep, drop, use0, use1, split, split3, join, done, pure_i, usize, unit, RattleType, owns, param, number, Laws, RawPtr, block_ptr, nothing, triple_of, type_size, R, filled_slots, slots_own, runs_at, word, After, Body, Calls, Env, Item, Loops, Step, calls_at, feq_l, group, only, regoal, runs, seq, step, vunit}
+use mir.Syntax.{Callee, Opd as Operand, Place, call}
+use sound.WpLaws.{FmC}
+use types.Kit.{lands, now as at_once}
+use types.Run.{Opds}
+use denote.Triple.Statement.{Contract, Triple}
 use Rattle.thin_block.proofs.words.WordsMemory.{word_el, number_of_items}
 use Rattle.thin_block.specs.contracts.words.make_words as F
 
@@ -67,3 +70,20 @@ module _ (T : RattleType) (L : Laws T) (m : ℕ) {M : Type 1} {𝓤 : Ura M} (�
         Words)))) (id⊢ 𝓤 _) $ await ! tt $ pick ! (λ r. split ! $ split ! $ move ! (2 ∷ []) $
         pick ! (λ ws. split ! $ drop ! $ move ! (1 ∷ []) $ split3 ! $
         keep ! (4 ∷ 0 ∷ 1 ∷ 3 ∷ []) $ at_once ! $ done !))
+
+    module _ {K : Type 0} {Γ : List (Item 𝓤)} {En : Env 𝓤 H} {C : Calls 𝓤 H} {Λ : Loops 𝓤 H}
+        {f : Callee} {os : List Operand} {d : Place} {rest : Body} {P : After 𝓤 H} where
+      -- Verifies a call of `make_words`, which returns `()` and gives the lifetime tokens back.
+      pub makes : K → FmC 𝓤 H 𝓛.laws C → Triple 𝓤 (C f) Making → κ ⊑ T.lives → κ' ⊑ []
+          → length xss ≡ count → type_size Word ≡ m * type_size (param 0 T)
+          → count * (m * type_size (param 0 T)) < 2 ^ 64 → count < 2 ^ 64
+          → Opds K 𝓛 (raw (Making.pre at_making) ∷ Γ) En os (Making.args at_making)
+          → Step K 𝓛 (‵ Words ∷ ‵ (flft κ q) ∷ ‵ (flft κ' q') ∷ Γ) (lands C Λ En d vunit rest P)
+          (‵ Runs ∷ ‵ (flft κ q) ∷ ‵ (flft κ' q') ∷ Γ) (runs C Λ En (seq (call f os d) rest) P)
+      makes t fm met leT leM counted dense short fits reads = step (λ s.
+          group t 3 $
+          use1 𝓛 (raw (Making.pre at_making)) (Making-goes leT leM counted dense short fits) $
+          calls_at t fm Making met at_making reads (λ v.
+          use1 𝓛 (later (‵ (unit.own_val tt (v ∷ [])) ⊛ ‵ (flft κ q) ⊛ ‵ (flft κ' q') ⊛ ‵ Words))
+          (Making-gives v) $ await t tt $ split t $ feq_l t (λ is. split3 t $ move t (2 ∷ []) $
+          regoal t (λ (u : Val). lands C Λ En d u rest P) (ap only is) refl $ s)))

@@ -1,6 +1,6 @@
 -- These arithmetic lemmas are about words. A word is a struct of whole items that takes 8 or 16
 -- bytes.
-use Rattle.std.proofs.Common.{◌≡◌, true, false, ℕ, Some, None, ◌+◌, ◌*◌, ◌<◌, ◌≤◌, refl, sym, ap, subst, arith}
+use Rattle.std.proofs.Common.{◌≡◌, true, false, ℕ, Some, None, ◌+◌, ◌*◌, ◌^◌, ◌<◌, ◌≤◌, refl, sym, ap, subst, ◌∙◌, arith}
 use Rattle.std.proofs.lemmas.Bool.{eqb-true}
 use Rattle.std.specs.Prelude.{◌==◌, if◌then◌else◌, Bool, Option, max}
 use Rattle.std.specs.Int.{div_ceil}
@@ -96,6 +96,14 @@ pub record InWords (s a m k : ℕ) : Type 0 where
   pub bytes_are : (c : ℕ) → (k + div_ceil c m) * (m * s) ≡ block_bytes s a c
   pub room : k * (m * s) ≡ 16
   pub any : 0 < k
+
+-- If `c` items fit into a block, then the header and these items take less than `2 ^ 63` bytes as
+-- words.
+pub words_short : {s a m k : ℕ} (c n : ℕ) → InWords s a m k → n ≡ k + div_ceil c m
+    → block_bytes s a c < 2 ^ 63 → n * word_size s a m < 2 ^ 63
+words_short {s} {a} {m} {k} c n h is small =
+    subst (λ (i : ℕ). i < 2 ^ 63) (sym (ap (λ (i : ℕ). i * word_size s a m) is
+    ∙ (ap (λ (i : ℕ). (k + div_ceil c m) * i) h.size ∙ h.bytes_are c))) small
 
 in_words_by : (s a m k : ℕ) → Counts m → 0 < k → k * (m * s) ≡ 16 → Laid s a m k → InWords s a m k
 in_words_by s a m k c any room l =

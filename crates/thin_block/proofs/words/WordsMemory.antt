@@ -1,9 +1,11 @@
 -- These lemmas convert the memory of items into memory of words, and back. Here, a word is a struct
 -- of `m` items, which takes 8 or 16 bytes.
 use Rattle.std.proofs.Common.{◌≡◌, ℕ, zero, suc, Some, ◌+◌, ◌-◌, ◌*◌, ◌≤◌, List, [], ◌∷◌, ◌++◌, length, map, take, drop as rest, refl, sym, ap, ◌∙◌, arith, zero-mul, suc-mul, Option, w64}
-use Rattle.thin_block.proofs.WalkPrelude.{length-take, Ura, full_share, SProp, ent, sep, apply∗, Fml, ftrue, froom, Ty, ty_int, ty_array, bare, size, align, size-raw, Logic, sem, ‵, raw, ◌⊛◌, ◌$◌, ◌∵◌, !, qed, by, move, keep, use0, use1, use2, use3, split, split3, join, fsplit, fjoin, rewrite, assume, done, Array, part_at, layout, param, number, ArrayAt, Laws, param_laws, array_at_laws, RattleType, nothing, Struct, El, R, el_x, add_times, type_size, mul_assoc, up, u64, slots_own, word_of, word_wand, word_wands, slots_wand, filled_slots, empty_slots, word, runs_at}
+use Rattle.thin_block.proofs.WalkPrelude.{length-take, Ura, full_share, SProp, ent, sep, apply∗, Fml, ftrue, froom, Ty, ty_int, ty_array, bare, size, align, size-raw, Logic, sem, ‵, raw, ◌⊛◌, ◌$◌, ◌∵◌, !, qed, by, move, keep, use0, use1, use2, use3, split, split3, join, fsplit, fjoin, rewrite, assume, done, Array, part_at, layout, param, number, ArrayAt, Laws, param_laws, array_at_laws, RattleType, nothing, Struct, El, R, el_x, add_times, type_size, mul_assoc, up, u64, slots_own, word_of, word_wand, word_wands, slots_wand, filled_slots, empty_slots, word, runs_at, yes}
 use Rattle.std.proofs.lemmas.List.{take-append-drop, length-drop, length-map, map-append}
 use contract.Monad.{conj, conj_r}
+use denote.Param.{arg}
+use denote.Param.Laws.{arg_laws}
 use denote.Array.{Array-Lawful}
 use denote.RawPtr.Room.{past, room_cut, room_glue}
 use denote.Struct.Declared.{shape}
@@ -32,6 +34,14 @@ abbrev pub word_el : (T : RattleType) → Laws T → ℕ → El
 word_el T L m = record {
   row = word_row T m;
   laws = the_row_laws (param 0 T) (number_of_items m) (param_laws 0 T L) refl;
+}
+
+-- `array_el T L m` is the type argument of a call to `resize_array`, with its laws: the type of
+-- these words, with its layout.
+abbrev pub array_el : (T : RattleType) → Laws T → ℕ → El
+array_el T L m = record {
+  row = arg (word_of (layout T) m) yes (word_row T m);
+  laws = arg_laws (word_of (layout T) m) yes (word_row T m) (word_el T L m).laws refl;
 }
 
 -- `words_made T m n xs` is the list of the first `n` words of `m` items that are made from `xs`.

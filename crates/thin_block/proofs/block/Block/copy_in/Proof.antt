@@ -38,7 +38,8 @@ copy_in_spec 𝓤 𝓛 𝓜 𝓡 wired T A LT LA copies gc dc g d dd metc met md
     (#self args) fn (compiled.unfolded 𝓤 𝓛.H 𝓜 𝓡 wired (T, (A, tt)) dc d dd) (λ z are.
     let (self, (i, (items, _))) = z.0.3 in let x = self.now in
     let ((is₀, _), ((is₁, fi), (((is₂, roomy), _), _))) = are in
-    let (_, (κ₁, (κ₂, _))) = z.0.0 in let (_, (q₁, (q₂, _))) = z.0.1 in
+    let (_, κs) = z.0.0 in let (κ₁, κs₁) = κs in let (κ₂, _) = κs₁ in
+    let (_, qs) = z.0.1 in let (q₁, qs₁) = qs in let (q₂, _) = qs₁ in
     let (_, (_, (out, _))) = z.0.2 in
     let xs : List T.Denot = items.now in
     let n : ℕ = length xs in
@@ -67,8 +68,8 @@ copy_in_spec 𝓤 𝓛 𝓜 𝓡 wired T A LT LA copies gc dc g d dd metc met md
     split ! $
     use1 𝓛 (‵ (froom (ty_array (layout T) n) b here)) (to_room E 𝓛 b n here) $
     use1 𝓛 (‵ (all V b here xs (replicate n false))) (of_space E 𝓛 b here n xs refl) $
-    move ! (7 ∷ []) $ token_out ! 2 z.0.0.1 z.0.1.1 $ move ! (1 ∷ []) $
-    token_out ! 1 z.0.0.1.1 z.0.1.1.1 $ move ! (3 ∷ 0 ∷ 2 ∷ 1 ∷ []) $
+    move ! (7 ∷ []) $ token_out ! 2 κs qs $ move ! (1 ∷ []) $
+    token_out ! 1 κs₁ qs₁ $ move ! (3 ∷ 0 ∷ 2 ∷ 1 ∷ []) $
     -- The context is now: the empty slots for the copies; the lifetime tokens of `T`, of `items`
     -- and of `A`; the other slots; the header; the open borrow (4 entries); the slice `items`.
     let y₁ = at_from V 𝓛 𝓜.mem 𝓡.returns κ₂ q₂ b here n xs (replicate n false) in

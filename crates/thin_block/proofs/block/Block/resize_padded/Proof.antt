@@ -1,18 +1,18 @@
 -- This file proves the contract of `resize_padded`, which uses a padded block as an array of items,
 -- resizes the array, and uses it as a padded block again.
-use Rattle.std.proofs.Common.{◌≡◌, ℕ, ◌+◌, ◌-◌, ◌*◌, ◌^◌, ◌<◌, ◌≤◌, List, [], ◌∷◌, ◌++◌, length, true, refl, sym, ap, subst, ◌∙◌, arith, lit<, w64, Some, Option}
-use Rattle.thin_block.proofs.WalkPrelude.{Body, id⊢, ftrue, ty_int, Val, WT, vint, vptr, vstruct, vcons, vnil, vunit, inst_fn, SProp, ex, Fml, Share, froom, flft, Env, tables, After, Item, ‵, raw, ◌⊛◌, exists, given, pick, learn, later, at_ret, ◌$◌, !, move, keep, drop, group, use0, use1, use2, split, split3, join, rewrite, fsplit, fjoin, feq_i, await, suffices, done, whole, sub, agg, stop, fld, lit, bin, init, store_in, look, load, unit_lit, of_opd, no_more, and_then, assigns, first, blocks, exec, returns, alloc_all, pass_all, free_all, look_at, get, get_in, through, sets, sets_last, lands_as, env, unit, RattleType, Ptr, block_ptr, calls_at, walk_of, ends_at, token, fm, proved_at, type_align, R, then_runs, out_of_block, after, head, inside, arm_body, says_all, refused_made, Ty, ty_ptr, ⊑_static, live, vrt, in_variant, switches_on, get_tag, type_at, Flagged, flagged, Ok, Err, ok_of, err_of, add_realloc, items_in, filled_slots, empty_slots, write_slots, slot_range, fits_block, slots_own, header_owns, dealloc_right, end_of, FitsGap, gapped_items, block_view}
+use Rattle.std.proofs.Common.{◌≡◌, ℕ, ◌+◌, ◌-◌, ◌*◌, ◌^◌, ◌<◌, ◌≤◌, List, [], ◌∷◌, ◌++◌, length, true, refl, sym, subst, ◌∙◌, arith, lit<, w64, Option}
+use Rattle.thin_block.proofs.WalkPrelude.{Body, id⊢, ftrue, ty_int, Val, vint, vptr, inst_fn, SProp, Fml, Share, froom, flft, Env, tables, After, Item, ‵, ◌⊛◌, exists, given, pick, learn, at_ret, ◌$◌, !, move, keep, drop, group, use1, use2, split, split3, rewrite, fsplit, fjoin, suffices, done, whole, sub, agg, stop, fld, lit, bin, init, store_in, look, load, unit_lit, of_opd, no_more, and_then, assigns, first, blocks, exec, returns, alloc_all, pass_all, free_all, look_at, get, get_in, through, sets, sets_last, lands_as, env, RattleType, Ptr, block_ptr, walk_of, ends_at, token, fm, add_realloc, proved_at, type_align, R, then_runs, out_of_block, after, head, inside, arm_body, says_all, Ty, ty_ptr, ⊑_static, vrt, in_variant, switches_on, get_tag, flagged, Ok, Err, items_in, filled_slots, empty_slots, fits_block, slots_own, header_owns, dealloc_right, end_of, FitsGap, gapped_items}
 use base.Share as Shares
 use Rattle.thin_block.proofs.sizes.SizesLemmas.{fits_tells}
 use Rattle.thin_block.proofs.padded.PaddedLemmas.{Padded, padded_tells}
 use Rattle.thin_block.proofs.padded.PaddedMemory.{Kept, Opened, padded_apart, padded_right_in, array_in, array_out}
-use Rattle.thin_block.proofs.in_place.ResizedCall.{Resizing, at_resizing, leaves, Resizing-goes, Resizing-gives}
-use Rattle.thin_block.proofs.MethodSignatures.{item, source, others, block_stays, goes, starts, enters, heard_each, still, word, ptr_of, args, Br, header, t, any_some, its_ptr, opens_self, header_closes, leaves_with, sz, reach, slot_found, packed-carried, packed-le, packed-long, packed-parted}
+use Rattle.thin_block.proofs.in_place.ResizedBlock.{new_long, resized, resized_view}
+use Rattle.thin_block.proofs.in_place.ResizedCall.{leaves, resizes}
+use Rattle.thin_block.proofs.MethodSignatures.{item, source, ok_val, err_val, ok_typed, err_typed, leaves_ok, leaves_err, others, block_stays, goes, starts, enters, heard_each, still, word, ptr_of, args, Br, header, t, its_ptr, opens_self, header_closes, sz, reach, slot_found, packed-le, packed-parted}
 use Rattle.thin_block.specs.contracts.block.Block.resize_padded.{ended, clauses}
 use Rattle.thin_block.specs.contracts.block.Block.resize_padded.Key.{name as #self}
 use Rattle.thin_block.proofs.block.Block.resize_padded.Statement.{statement}
 use Rattle.thin_block.proofs.in_place.resize_array.Met as resize_array_met
-use Rattle.core.specs.contracts.alloc.AllocError as AE
 use Rattle.thin_block.proofs.block.Block.resize_padded.Code as compiled
 
 pub resize_padded_spec : {M : Type 1} → statement M
@@ -27,7 +27,7 @@ resize_padded_spec 𝓤 𝓛 𝓜 𝓡 wired T A LT LA g d dd met md =
     (goes E Y ss 𝓛 En₀.kept.1 ((λ κs x f. refl), (q, (q, (q, (q, (q, (q, tt))))))))
     (#self (args E Y)) fn (compiled.unfolded 𝓤 H 𝓜 𝓡 wired (T, (A, tt)) d dd) (λ z are.
     let Post : Val → SProp 𝓤 = (walk_of 𝓛 En₀ hs c).post z in
-    let B : RattleType = Br E Y in let Rt : RattleType = R E in let s : ℕ = sz E in
+    let Rt : RattleType = R E in let s : ℕ = sz E in
     let (_, (κ, (κT, (κA, _)))) = z.0.0 in
     let (_, (q, (qT, (qA, _)))) = z.0.1 in
     let (_, (_, (out, _))) = z.0.2 in
@@ -35,8 +35,6 @@ resize_padded_spec 𝓤 𝓛 𝓜 𝓡 wired T A LT LA g d dd met md =
     let ((is₀, _), ((is₁, _), ((is₂, fl), ((is₃, fo), are')))) = are in
     let ((is₄, fc), ((is₅, fh), ((is₆, fw), ((is₇, ff), _)))) = are' in
     let x = r.now in let h = a.now in let handle_at = a.ref_ptr in
-    let Out : RattleType = type_at En₀.signature.result z.0.0 in
-    let V = Resizing E Y 1 𝓛 𝓜.mem 𝓡.returns in
     let Tokens : Item 𝓤 = ‵ (flft κ q) ⊛ ‵ (flft κT qT) ⊛ ‵ (flft κA qA) ⊛ ‵ ftrue in
     starts E Y 𝓛 ss z.0 ((c z.0.0 z.0.3).requires z.1) (move ! (5 ∷ []) $
     heard_each ! (_ ∷ _ ∷ _ ∷ _ ∷ _ ∷ _ ∷ _ ∷ _ ∷ _ ∷ _ ∷ _ ∷ _ ∷ _ ∷ _ ∷ [])
@@ -95,8 +93,6 @@ resize_padded_spec 𝓤 𝓛 𝓜 𝓡 wired T A LT LA g d dd met md =
     (array_in 𝓛 E b old pad tok start o place len j held items slots_are (sym all) held_is) $
     let qL : Share = Shares.left qT in
     let qR : Share = Shares.right qT in
-    let y = at_resizing E Y 1 𝓛 𝓜.mem 𝓡.returns κ κT κA κT q qL qA qR out handle_at h b
-    start len held wanted items in
     let left = leaves E Y 1 𝓛 𝓜.mem 𝓡.returns κ κT κA κT q qL qA qR out handle_at h b start
     len held wanted items in
     let sizes : FitsGap Rt 1 len held wanted items =
@@ -111,23 +107,16 @@ resize_padded_spec 𝓤 𝓛 𝓜 𝓡 wired T A LT LA g d dd met md =
     -- Splits the lifetime token of `T` into two parts. The second part is used as the lifetime
     -- token of the const argument `K` of `resize_array`.
     move ! (7 ∷ []) $ use1 𝓛 (‵ (flft κT qL) ⊛ ‵ (flft κT qR)) (𝓛.lfts.lft_split κT qT) $ split ! $
-    move ! (2 ∷ 7 ∷ 8 ∷ 0 ∷ 9 ∷ 1 ∷ []) $ group ! 6 $
-    use1 𝓛 (raw (V.pre y))
-    (Resizing-goes E Y 1 𝓛 𝓜.mem 𝓡.returns κ κT κA κT q qL qA qR out handle_at h b start len
-    held wanted items leT leA (⊑_static κT) sizes fl fh fw) $
-    calls_at ! (fm 𝓛 𝓜 𝓡) V
+    move ! (2 ∷ 7 ∷ 8 ∷ 0 ∷ 9 ∷ 1 ∷ []) $
+    resizes E Y 1 𝓛 𝓜.mem 𝓡.returns κ κT κA κT q qL qA qR out handle_at h b start len held wanted
+    items ! (fm 𝓛 𝓜 𝓡)
     (resize_array_met.met 𝓤 𝓛 𝓜 𝓡
     (compiled.calls-thin_block::in_place::resize_array 𝓡.env wired) T A 1 LT LA
-    (record { fits = lit< tt }) g d dd met md) y
+    (record { fits = lit< tt }) g d dd met md) leT leA (⊑_static κT) sizes fl fh fw
     (and_then ! (get ! refl) (and_then ! (get ! refl) (and_then ! (get ! refl)
     (and_then ! (get ! refl) (and_then ! (get ! refl) (no_more !)))))) (λ u.
-    use1 𝓛 (later (raw (ex 𝓤 (Flagged 𝓛 left u)) ⊛ ‵ (flft κ q) ⊛ ‵ (flft κT qL) ⊛ ‵ (flft κA qA)
-    ⊛ ‵ (flft κT qR)))
-    (Resizing-gives E Y 1 𝓛 𝓜.mem 𝓡.returns κ κT κA κT q qL qA qR out handle_at h b start
-    len held wanted items u) $ await ! tt $ split ! $ move ! (1 ∷ []) $ split3 ! $ move ! (2 ∷ [])
-    $ split ! $ move ! (3 ∷ 1 ∷ []) $ use2 𝓛 (‵ (flft κT qT)) (𝓛.lfts.lft_join κT qT) $
-    move ! (1 ∷ 8 ∷ []) $ join ! $ move ! (1 ∷ 0 ∷ []) $ join ! $ move ! (1 ∷ 0 ∷ []) $ join ! $
-    move ! (1 ∷ 2 ∷ 3 ∷ 4 ∷ 5 ∷ []) $
+    move ! (2 ∷ 4 ∷ []) $ use2 𝓛 (‵ (flft κT qT)) (𝓛.lfts.lft_join κT qT) $
+    move ! (2 ∷ 0 ∷ 3 ∷ 8 ∷ []) $ group ! 4 $ move ! (1 ∷ 2 ∷ 3 ∷ 4 ∷ 5 ∷ []) $
     -- The context is now: the resources that `resize_array` has returned; the open borrow (4
     -- entries); the lifetime tokens.
     let inner : Body = inside (head (after 1 fn.body)) in
@@ -139,25 +128,10 @@ resize_padded_spec 𝓤 𝓛 𝓜 𝓡 wired T A LT LA g d dd met md =
     (λ b' o' e.
     let header' : ℕ = front + o' in
     let place' : o' + s ≡ header' + 16 = omega arith in
-    let news : List (Option T.Denot) = filled_slots items ++ empty_slots j' in
-    let some_more : length news ≡ cap = packed-long x.slots x.len packed cap (omega arith) in
-    let few = (fits_tells Rt cap fits_cap).few in
-    let y' : B.Denot =
-    record {
-      at = block_ptr b' header';
-      item = record {};
-      handle = record {};
-      slots = news;
-      len = x.len;
-      alloc = Some h;
-      cost = add_realloc x.len x.cost;
-      sound = (omega arith, any_some news (omega arith), omega arith);
-    } in
-    let changes : block_view y' ≡ record
-    (block_view y') { slots = write_slots 0 (slot_range 0 x.len x.slots) (empty_slots cap) } =
-    ap (λ (l : List (Option T.Denot)). record (block_view y') { slots = l })
-    (sym (packed-carried x.slots x.len packed cap)) in
-    let good : WT (live 0 (vcons vunit vnil)) = (record { fits = lit< tt }, (tt, tt)) in
+    let more : x.len ≤ cap = omega arith in let some : 0 < cap = omega arith in
+    let few : cap < 2 ^ 63 = (fits_tells Rt cap fits_cap).few in
+    let cost = add_realloc x.len x.cost in
+    let y : (Br E Y).Denot = resized E Y x h cap packed more some few cost (block_ptr b' header') in
     lands_as ! e refl (tt, (record { fits = lit< tt }, (tt, tt))) $
     first ! $ switches_on ! (get_tag ! (vrt ! refl (fld ! refl (stop !))) (whole !)) $
     exec ! C Λ En (arm_body 0 both) Then $
@@ -166,7 +140,7 @@ resize_padded_spec 𝓤 𝓛 𝓜 𝓡 wired T A LT LA g d dd met md =
     let kept' : Fml = Kept 𝓛 E b' cap pad' tok o' header' place' len j' wanted items slots_are'
     (sym all) wanted_is in
     use1 𝓛 (‵ (froom (ty_int w64) b' header') ⊛ ‵ (froom (ty_int w64) b' (8 + header')) ⊛ ‵
-    (froom ty_ptr b' (end_of s cap header')) ⊛ ‵ (slots_own Rt news b' (header' + 16)) ⊛ ‵ kept')
+    (froom ty_ptr b' (end_of s cap header')) ⊛ ‵ (slots_own Rt y.slots b' (header' + 16)) ⊛ ‵ kept')
     (array_out 𝓛 E b' cap pad' tok o' header' place' len j' wanted items slots_are' (sym all)
     wanted_is) $
     split3 ! $ move ! (2 ∷ []) $ split3 ! $ move ! (3 ∷ 4 ∷ 0 ∷ []) $
@@ -189,24 +163,21 @@ resize_padded_spec 𝓤 𝓛 𝓜 𝓡 wired T A LT LA g d dd met md =
     move ! (2 ∷ 4 ∷ []) $ fjoin ! $
     use1 𝓛 (‵ (dealloc_right tok Rt cap b' header'))
     (padded_right_in 𝓛 E b' cap pad' tok len header' o' place') $ move ! (1 ∷ 2 ∷ 0 ∷ []) $
-    header_closes E Y ! tt r y' h b' header' cap len refl refl some_more (sym len_is) fits_cap $
+    header_closes E Y ! tt r y h b' header' cap len refl refl
+    (new_long E Y x h cap packed more some few) (sym len_is) fits_cap $
     sets_last ! (agg ! (and_then ! (lit ! tt) (and_then ! (unit_lit !) (no_more !)))) refl
-    (tt, good) $
+    (tt, ok_typed) $
     exec ! C Λ En (after 8 inner) Last $
-    sets_last ! (of_opd ! (get ! refl)) refl (tt, good) $
+    sets_last ! (of_opd ! (get ! refl)) refl (tt, ok_typed) $
     exec ! C Λ En (after 2 fn.body) (at_ret En Post) $
-    sets ! (of_opd ! (get ! refl)) refl (tt, good) $
-    returns ! (look_at ! 0 refl) $ free_all ! refl $
-    feq_i ! (List Val) (vunit ∷ []) (vunit ∷ []) refl $
-    use1 𝓛 (‵ (Out.own_val (Ok tt) (live 0 (vcons vunit vnil) ∷ [])))
-    (ok_of 𝓛 unit AE.the_row tt vunit) $
-    move ! (1 ∷ 2 ∷ 3 ∷ 0 ∷ []) $ leaves_with E Y ! r y' 7 is₀ $
-    suffices ! _ (ends_at 𝓛 En₀ hs c z (live 0 (vcons vunit vnil)) (Ok tt)
-    (y', (tt, (tt, (tt, (tt, (tt, (tt, (tt, tt))))))))
+    sets ! (of_opd ! (get ! refl)) refl (tt, ok_typed) $
+    returns ! (look_at ! 0 refl) $ free_all ! refl $ leaves_ok E Y ! r y 7 is₀ $
+    suffices ! _ (ends_at 𝓛 En₀ hs c z ok_val (Ok tt)
+    (y, (tt, (tt, (tt, (tt, (tt, (tt, (tt, tt))))))))
     (tt, (tt, (tt, (tt, (tt, (tt, (tt, (tt, tt))))))))) $
-    says_all ! (_ ∷ _ ∷ []) (changes, tt) $ done !)
+    says_all ! (_ ∷ _ ∷ [])
+    (resized_view E Y x h cap packed more some few cost (block_ptr b' header'), tt) $ done !)
     (λ e.
-    let none : WT (live 1 (vcons (vstruct vnil) vnil)) = (record { fits = lit< tt }, (tt, tt)) in
     lands_as ! e refl (tt, (record { fits = lit< tt }, (tt, tt))) $
     first ! $ switches_on ! (get_tag ! (vrt ! refl (fld ! refl (stop !))) (whole !)) $
     exec ! C Λ En (arm_body 1 both) Then $
@@ -233,17 +204,13 @@ resize_padded_spec 𝓤 𝓛 𝓜 𝓡 wired T A LT LA g d dd met md =
     (padded_right_in 𝓛 E b old pad tok len o start place) $ move ! (1 ∷ 2 ∷ 0 ∷ []) $
     header_closes E Y ! tt r x h b o old len at from (sym old_is) (sym len_is) fits_old $
     sets_last ! (agg ! (and_then ! (lit ! tt) (and_then ! (get ! refl) (no_more !)))) refl
-    (tt, none) $
+    (tt, err_typed) $
     exec ! C Λ En (after 8 inner) Last $
-    sets_last ! (of_opd ! (get ! refl)) refl (tt, none) $
+    sets_last ! (of_opd ! (get ! refl)) refl (tt, err_typed) $
     exec ! C Λ En (after 2 fn.body) (at_ret En Post) $
-    sets ! (of_opd ! (get ! refl)) refl (tt, none) $
-    returns ! (look_at ! 0 refl) $ free_all ! refl $
-    use0 𝓛 (‵ (AE.the_row.own_val (record {}) (vstruct vnil ∷ []))) (refused_made 𝓛) $
-    use1 𝓛 (‵ (Out.own_val (Err (record {})) (live 1 (vcons (vstruct vnil) vnil) ∷ [])))
-    (err_of 𝓛 unit AE.the_row (record {}) (vstruct vnil)) $
-    move ! (1 ∷ 2 ∷ 3 ∷ 0 ∷ []) $ leaves_with E Y ! r x 7 is₀ $
-    suffices ! _ (ends_at 𝓛 En₀ hs c z (live 1 (vcons (vstruct vnil) vnil)) (Err (record {}))
+    sets ! (of_opd ! (get ! refl)) refl (tt, err_typed) $
+    returns ! (look_at ! 0 refl) $ free_all ! refl $ leaves_err E Y ! r x 7 is₀ $
+    suffices ! _ (ends_at 𝓛 En₀ hs c z err_val (Err (record {}))
     (x, (tt, (tt, (tt, (tt, (tt, (tt, (tt, tt))))))))
     (tt, (tt, (tt, (tt, (tt, (tt, (tt, (tt, tt))))))))) $
     says_all ! (_ ∷ _ ∷ []) (tt, refl) $ done !)))))))))

@@ -1,40 +1,29 @@
 -- This file proves the contract of `resize_words`, which converts a block into an array of words,
 -- resizes the array, and converts it back into a block.
-use Rattle.std.proofs.Common.{◌≡◌, ℕ, ◌+◌, ◌-◌, ◌*◌, ◌^◌, ◌<◌, ◌≤◌, List, [], ◌∷◌, ◌++◌, length, true, refl, sym, ap, subst, ◌∙◌, arith, lit<, w64, Some, Option}
-use Rattle.thin_block.proofs.WalkPrelude.{div_ceil, Ty, Body, Args, ty_int, a_type, a_number, dcons, dnil, bare, Val, WT, vint, vptr, vstruct, vcons, vnil, vunit, inst_fn, SProp, ex, id⊢, Fml, ftrue, froom, flft, Env, ◌⊑◌, tables, After, Item, ‵, raw, ◌⊛◌, later, at_ret, ◌$◌, !, move, keep, drop, group, use0, use1, use2, split, split3, join, rewrite, fsplit, await, fjoin3, feq_i, feq_l, suffices, done, whole, sub, agg, stop, fld, lit, bin, init, store_in, unit_lit, of_opd, no_more, and_then, assigns, first, blocks, exec, returns, alloc_all, pass_all, free_all, look_at, get, get_in, through, is, sets, sets_last, lands_as, env, unit, RattleType, yes, layout, param, number, bounded, Ptr, block_ptr, only, calls_at, walk_of, ends_at, array_of, Al, token, fm, proved_at, type_size, type_align, El, R, then_runs, out_of_block, after, head, inside, arm_body, says_all, refused_made, mul_assoc, live, vrt, in_variant, switches_on, get_tag, type_at, Flagged, flagged, Ok, Err, ok_of, err_of, add_realloc, block_bytes, items_in, filled_slots, empty_slots, write_slots, slot_range, fits_block, slots_own, header_owns, dealloc_right, word_of, slots_wand, runs_at, FitsGap, block_view}
+use Rattle.std.proofs.Common.{◌≡◌, ℕ, ◌+◌, ◌-◌, ◌*◌, ◌^◌, ◌<◌, ◌≤◌, List, [], ◌∷◌, ◌++◌, length, true, refl, sym, ap, subst, ◌∙◌, arith, lit<, w64, Option}
+use Rattle.thin_block.proofs.WalkPrelude.{div_ceil, Ty, Body, Args, ty_int, a_type, a_number, dcons, dnil, bare, Val, vint, vptr, inst_fn, SProp, id⊢, Fml, ftrue, froom, flft, Env, ◌⊑◌, tables, After, Item, ‵, ◌⊛◌, at_ret, ◌$◌, !, move, keep, drop, group, use1, use2, split, split3, rewrite, fsplit, fjoin3, suffices, done, whole, sub, agg, stop, fld, lit, bin, init, store_in, unit_lit, of_opd, no_more, and_then, assigns, first, blocks, exec, returns, alloc_all, pass_all, free_all, look_at, get, get_in, through, is, sets, sets_last, lands_as, env, RattleType, layout, param, number, bounded, Ptr, block_ptr, walk_of, ends_at, array_of, token, fm, add_realloc, proved_at, type_size, type_align, El, R, then_runs, out_of_block, after, head, inside, arm_body, says_all, mul_assoc, vrt, in_variant, switches_on, get_tag, flagged, Ok, Err, items_in, filled_slots, empty_slots, fits_block, slots_own, header_owns, dealloc_right, slots_wand, runs_at, FitsGap}
 use contract.BorrowLft.{⊑_meet, ⊑_static}
-use denote.Param.{arg}
-use denote.Param.Laws.{arg_laws}
 use Rattle.core.specs.Simd.{first_chunks}
 use Rattle.thin_block.proofs.sizes.SizesLemmas.{fits_tells}
 use Rattle.thin_block.proofs.WordConversionLemmas.{Kept, header_apart, right_in, words_apart}
-use Rattle.thin_block.proofs.words.WordsLemmas.{InWords, words_told}
-use Rattle.thin_block.proofs.words.MadeCall.{Making, at_making, Making-goes, Making-gives}
-use Rattle.thin_block.proofs.words.WordsMemory.{word_el, words_made, words_long, chunks_long, words_in, words_joined}
-use Rattle.thin_block.proofs.in_place.ResizedCall.{Resizing, at_resizing, leaves, Resizing-goes, Resizing-gives}
-use Rattle.thin_block.proofs.MethodSignatures.{others, block_stays, goes, starts, enters, heard_each, still, word, ptr_of, Br, header, t, any_some, its_ptr, opens_self, header_closes, leaves_with, sz, reach, packed-carried, packed-le, packed-long, packed-parted}
+use Rattle.thin_block.proofs.words.WordsLemmas.{InWords, words_short, words_told}
+use Rattle.thin_block.proofs.words.MadeCall.{makes}
+use Rattle.thin_block.proofs.words.WordsMemory.{word_el, array_el, words_made, words_long, chunks_long, words_in, words_joined}
+use Rattle.thin_block.proofs.in_place.ResizedBlock.{new_long, resized, resized_view}
+use Rattle.thin_block.proofs.in_place.ResizedCall.{leaves, resizes}
+use Rattle.thin_block.proofs.MethodSignatures.{item, source, ok_val, err_val, ok_typed, err_typed, leaves_ok, leaves_err, others, block_stays, goes, starts, enters, heard_each, still, word, ptr_of, Br, header, t, its_ptr, opens_self, header_closes, sz, reach, packed-le, packed-parted}
 use Rattle.thin_block.specs.contracts.block.Block.resize_words.{ended, clauses}
 use Rattle.thin_block.specs.contracts.block.Block.resize_words.Key.{name as #self}
 use Rattle.thin_block.proofs.block.Block.resize_words.Statement.{statement}
 use Rattle.thin_block.proofs.in_place.resize_array.Met as resize_array_met
 use Rattle.thin_block.proofs.words.make_words.Met as make_met
-use Rattle.core.specs.contracts.alloc.AllocError as AE
 use Rattle.thin_block.proofs.block.Block.resize_words.Code as compiled
 
 pub resize_words_spec : {M : Type 1} → statement M
 resize_words_spec 𝓤 𝓛 𝓜 𝓡 wired T A m k LT LA fits_m fits_k g d dd met md =
     let H = 𝓛.H in
-    let E : El = record { row = T; laws = LT } in
-    let W : El = word_el T LT m in
-    -- `X` is the type argument of the call to `resize_array`: the type of a word, with its
-    -- layout.
-    let X : RattleType = arg (word_of (layout T) m) yes W.row in
-    let EX : El = record {
-      row = X;
-      laws = arg_laws (word_of (layout T) m) yes W.row W.laws refl;
-    } in
-    let Y : Al = record { row = A; laws = LA; g = g; d = d; drops = dd } in
-    let B : RattleType = Br E Y in
+    let E = item LT in let W : El = word_el T LT m in let X : El = array_el T LT m in
+    let Y = source LA g d dd in
     let Mr : RattleType = number m in
     let Kr : RattleType = number k in
     let args_MK : Args = bounded (a_type ∷ a_type ∷ a_number ∷ a_number ∷ [])
@@ -48,20 +37,14 @@ resize_words_spec 𝓤 𝓛 𝓜 𝓡 wired T A m k LT LA fits_m fits_k g d dd m
     (goes E Y ss 𝓛 En₀.kept.1 ((λ κs x f. refl), (q, (q, (q, (q, (q, (q, tt))))))))
     (#self args_MK) fn (compiled.unfolded 𝓤 H 𝓜 𝓡 wired (T, (A, (Mr, (Kr, tt)))) d dd) (λ z are.
     let Post : Val → SProp 𝓤 = (walk_of 𝓛 En₀ hs c).post z in
-    let Rt : RattleType = R E in
-    let Rw : RattleType = R W in
-    let s : ℕ = sz W in
+    let Rt : RattleType = R E in let Rw : RattleType = R W in let s : ℕ = sz W in
     let (_, (κ, (κT, (κA, (κM, (κK, _)))))) = z.0.0 in
     let (_, (q, (qT, (qA, (qM, (qK, _)))))) = z.0.1 in
     let (_, (_, (out, _))) = z.0.2 in
     let (r, (a, (len, (old, (cap, (count, (held, (wanted, _)))))))) = z.0.3 in
     let ((is₀, _), ((is₁, _), ((is₂, fl), ((is₃, fo), are')))) = are in
     let ((is₄, fc), ((is₅, fn_), ((is₆, fh), ((is₇, fw), _)))) = are' in
-    let x = r.now in
-    let h = a.now in
-    let handle_at = a.ref_ptr in
-    let Out : RattleType = type_at En₀.signature.result z.0.0 in
-    let V = Resizing EX Y k 𝓛 𝓜.mem 𝓡.returns in
+    let x = r.now in let h = a.now in let handle_at = a.ref_ptr in
     let Tokens : Item 𝓤 = ‵ (flft κ q) ⊛ ‵ (flft κT qT) ⊛ ‵ (flft κA qA) ⊛ ‵ (flft κM qM) ⊛ ‵
     (flft κK qK) ⊛ ‵ ftrue in
     starts E Y 𝓛 ss z.0 ((c z.0.0 z.0.3).requires z.1) (move ! (5 ∷ []) $
@@ -82,13 +65,10 @@ resize_words_spec 𝓤 𝓛 𝓜 𝓡 wired T A m k LT LA fits_m fits_k g d dd m
     let j : ℕ = length x.slots - x.len in
     let j' : ℕ = cap - x.len in
     let w : ℕ = div_ceil old m in
-    let w' : ℕ = div_ceil cap m in
-    let count_fits : count ≤ w = hd.counts.holds count old (omega arith) in
-    let count_fits' : count ≤ w' = hd.counts.holds count cap (omega arith) in
     let v : ℕ = held - (k + count) in
+    let count_fits : count ≤ w = hd.counts.holds count old (omega arith) in
+    let count_fits' : count ≤ div_ceil cap m = hd.counts.holds count cap (omega arith) in
     let fill : w ≡ v + count = omega arith in
-    let held_room : k + count ≤ held = omega arith in
-    let new_room : k + count ≤ wanted = omega arith in
     let slots_are : old ≡ length items + j = omega arith in
     let slots_are' : cap ≡ length items + j' = omega arith in
     let row : x.slots ≡ filled_slots items ++ empty_slots j = packed-parted x.slots x.len packed in
@@ -109,23 +89,31 @@ resize_words_spec 𝓤 𝓛 𝓜 𝓡 wired T A m k LT LA fits_m fits_k g d dd m
     ((tt, tt), ((tt, tt), (w₂, (w₃, (w₄, (w₅, (w₆, (w₇, tt)))))))) $
     let En : Env 𝓤 H = env fn.locals l in
     opens_self E Y ! tt r (λ b o at fits.
-    let here : Ptr = block_ptr b o in
-    let same_bytes : count * s ≡ len * type_size Rt = ap (λ (n : ℕ). count * n) hd.size
-    ∙ (sym (mul_assoc count m (type_size Rt)) ∙ ap (λ (n : ℕ). n * type_size Rt) count_is) in
+    let same_bytes : count * (m * type_size Rt) ≡ len * type_size Rt =
+    sym (mul_assoc count m (type_size Rt)) ∙ ap (λ (n : ℕ). n * type_size Rt) count_is in
     let near : len * type_size Rt < 2 ^ 63 = reach Rt len (length x.slots) fits (omega arith) in
-    let short : count * s < 2 ^ 64 = omega arith in
+    let short : count * (m * type_size Rt) < 2 ^ 64 = omega arith in
     let fits_cap : fits_block Rt cap ≡ true = small in
     let told_cap = fits_tells Rt cap fits_cap in
     let tok : Ty → Ptr → Fml = token Y h in
     let fits_old : fits_block Rt old ≡ true =
     subst (λ (n : ℕ). fits_block Rt n ≡ true) (sym old_is) fits in
     let told_old = fits_tells Rt old fits_old in
+    let sizes : FitsGap (R X) k count held wanted ws =
+    record {
+      count = words_long T m count items;
+      enough = room;
+      room = omega arith;
+      new_room = omega arith;
+      fits = words_short old held hd held_is told_old.short;
+      new_fits = words_short cap wanted hd wanted_is told_cap.short;
+    } in
     sets ! (of_opd ! (its_ptr E Y ! refl)) refl (tt, tt) $ first ! $ blocks ! $
     rewrite ! 0 (λ (u : Option A.Denot). ‵ (header (t E Y) Rt x.len (length x.slots) u b o)) from
     refl $
     rewrite ! 0 (λ (n : ℕ). ‵ (header_owns tok Rt x.len n b o)) (sym old_is) refl $
     use1 𝓛 (‵ (froom (array_of Rw k) b o) ⊛ ‵ (slots_wand (bare (layout T)) m w old b (o + 16)) ⊛ ‵
-    (tok (array_of Rw held) here))
+    (tok (array_of Rw held) (block_ptr b o)))
     (header_apart 𝓛 T LT b m k in_words o tok x.len old held held_is) $ split3 ! $
     move ! (3 ∷ 1 ∷ []) $
     rewrite ! 0 (λ (l : List (Option T.Denot)). ‵ (slots_own Rt l b (o + 16))) row refl $
@@ -143,21 +131,11 @@ resize_words_spec 𝓤 𝓛 𝓜 𝓡 wired T A m k LT LA fits_m fits_k g d dd m
     move ! (0 ∷ 10 ∷ 12 ∷ []) $
     -- The context begins with what the call to `make_words` needs: the items, and the lifetime
     -- tokens of `T` and `M`.
-    let G = Making T LT m 𝓛 𝓜.mem 𝓡.returns in
-    let made = at_making T LT m 𝓛 𝓜.mem 𝓡.returns κT κM qT qM b (o + 16) count xss in
-    let shorter : count * (m * type_size Rt) < 2 ^ 64 =
-    subst (λ (n : ℕ). count * n < 2 ^ 64) hd.size short in
-    group ! 3 $ use1 𝓛 (raw (G.pre made))
-    (Making-goes T LT m 𝓛 𝓜.mem 𝓡.returns κT κM qT qM b (o + 16) count xss leT leM
-    (chunks_long m count items) hd.size shorter fn_) $
-    calls_at ! (fm 𝓛 𝓜 𝓡) G
+    makes T LT m 𝓛 𝓜.mem 𝓡.returns κT κM qT qM b (o + 16) count xss ! (fm 𝓛 𝓜 𝓡)
     (make_met.met 𝓤 𝓛 𝓜 𝓡 (compiled.calls-thin_block::words::make_words 𝓡.env wired) T m LT fits_m)
-    made (and_then ! (get ! refl) (and_then ! (get ! refl) (no_more !))) (λ v₀.
-    use1 𝓛 (later (‵ (unit.own_val tt (v₀ ∷ [])) ⊛ ‵ (flft κT qT) ⊛ ‵ (flft κM qM) ⊛ ‵
-    (slots_own Rw (filled_slots ws) b (o + 16))))
-    (Making-gives T LT m 𝓛 𝓜.mem 𝓡.returns κT κM qT qM b (o + 16) count xss v₀) $ await ! tt $
-    split ! $ feq_l ! (λ is_unit. split3 ! $ lands_as ! (ap only is_unit) refl (tt, tt) $
-    move ! (2 ∷ 3 ∷ []) $
+    leT leM (chunks_long m count items) hd.size short fn_
+    (and_then ! (get ! refl) (and_then ! (get ! refl) (no_more !))) $
+    lands_as ! refl refl (tt, tt) $ move ! (0 ∷ 3 ∷ []) $
     -- The context is now: the words; the empty words; the lifetime tokens of `T` and `M`; memory
     -- for the header; the right to free the block; the open borrow (4 entries); the shared
     -- reference to the allocator and its lifetime token; the lifetime tokens of `A` and `K`; the
@@ -171,43 +149,17 @@ resize_words_spec 𝓤 𝓛 𝓜 𝓡 wired T A m k LT LA fits_m fits_k g d dd m
     -- The context is now: the words behind the memory for the header; the shared reference to the
     -- allocator; the lifetime tokens of this reference and of `T`, `A`, `K` and `M`; the other
     -- tokens; the open borrow (4 entries).
-    let fits_room : (c n : ℕ) → n ≡ k + div_ceil c m → block_bytes (type_size Rt) (type_align Rt) c
-    < 2 ^ 63 → n * s < 2 ^ 63 = λ c n is small. subst (λ (i : ℕ). i < 2 ^ 63)
-    (sym (ap (λ (i : ℕ). i * s) is ∙ (ap (λ (i : ℕ). (k + div_ceil c m) * i) hd.size
-    ∙ hd.bytes_are c))) small in
-    let y = at_resizing EX Y k 𝓛 𝓜.mem 𝓡.returns κ κT κA κK q qT qA qK out handle_at h b o
-    count held wanted ws in
-    let left = leaves EX Y k 𝓛 𝓜.mem 𝓡.returns κ κT κA κK q qT qA qK out handle_at h b o
-    count held wanted ws in
-    let sizes : FitsGap (R EX) k count held wanted ws =
-    record {
-      count = words_long T m count items;
-      enough = room;
-      room = held_room;
-      new_room = new_room;
-      fits = fits_room old held held_is told_old.short;
-      new_fits = fits_room cap wanted wanted_is told_cap.short;
-    } in
-    sets ! (of_opd ! (get ! refl)) refl (tt, tt) $ group ! 6 $
-    use1 𝓛 (raw (V.pre y))
-    (Resizing-goes EX Y k 𝓛 𝓜.mem 𝓡.returns κ κT κA κK q qT qA qK out handle_at h b o count
-    held wanted ws leW leA leK sizes fn_ fh fw) $
-    calls_at ! (fm 𝓛 𝓜 𝓡) V
+    let left = leaves X Y k 𝓛 𝓜.mem 𝓡.returns κ κT κA κK q qT qA qK out handle_at h b o count
+    held wanted ws in
+    sets ! (of_opd ! (get ! refl)) refl (tt, tt) $
+    resizes X Y k 𝓛 𝓜.mem 𝓡.returns κ κT κA κK q qT qA qK out handle_at h b o count held wanted ws
+    ! (fm 𝓛 𝓜 𝓡)
     (resize_array_met.met 𝓤 𝓛 𝓜 𝓡
-    (compiled.calls-thin_block::in_place::resize_array 𝓡.env wired) X A k EX.laws
-    LA fits_k g d dd met md) y
+    (compiled.calls-thin_block::in_place::resize_array 𝓡.env wired) X.row A k X.laws
+    LA fits_k g d dd met md) leW leA leK sizes fn_ fh fw
     (and_then ! (get ! refl) (and_then ! (get ! refl) (and_then ! (get ! refl)
     (and_then ! (get ! refl) (and_then ! (get ! refl) (no_more !)))))) (λ u.
-    use1 𝓛 (later (raw (ex 𝓤 (Flagged 𝓛 left u)) ⊛ ‵ (flft κ q) ⊛ ‵ (flft κT qT) ⊛ ‵ (flft κA qA)
-    ⊛ ‵ (flft κK qK)))
-    (Resizing-gives EX Y k 𝓛 𝓜.mem 𝓡.returns κ κT κA κK q qT qA qK out handle_at h b o count
-    held wanted ws u) $ await ! tt $ split ! $ move ! (1 ∷ []) $ split3 ! $ move ! (2 ∷ []) $
-    split ! $
-    -- The context is now: the lifetime tokens of `A`, `K`, the allocator reference and `T`; the
-    -- result of `resize_array`; the lifetime token of `M`; the other tokens; the open borrow.
-    move ! (1 ∷ 6 ∷ []) $ join ! $ move ! (5 ∷ 0 ∷ []) $ join ! $ move ! (1 ∷ 0 ∷ []) $ join ! $
-    move ! (2 ∷ 0 ∷ []) $ join ! $ move ! (1 ∷ 0 ∷ []) $ join ! $
-    move ! (1 ∷ 2 ∷ 3 ∷ 4 ∷ 5 ∷ []) $
+    move ! (1 ∷ 2 ∷ 3 ∷ 5 ∷ 4 ∷ 6 ∷ []) $ group ! 6 $ move ! (1 ∷ 2 ∷ 3 ∷ 4 ∷ 5 ∷ []) $
     -- The context is now: the resources that `resize_array` has returned; the open borrow (4
     -- entries); the lifetime tokens.
     let inner : Body = inside (head (after 1 fn.body)) in
@@ -217,36 +169,24 @@ resize_words_spec 𝓤 𝓛 𝓜 𝓡 wired T A m k LT LA fits_m fits_k g d dd m
     let Then : After 𝓤 H = then_runs 𝓛 C Λ En (after 6 inner) Last in
     flagged ! u left
     (λ b' o' e.
-    let news : List (Option T.Denot) = filled_slots items ++ empty_slots j' in
-    let some_more : length news ≡ cap = packed-long x.slots x.len packed cap (omega arith) in
-    let y' : B.Denot =
-    record {
-      at = block_ptr b' o';
-      item = record {};
-      handle = record {};
-      slots = news;
-      len = x.len;
-      alloc = Some h;
-      cost = add_realloc x.len x.cost;
-      sound = (omega arith, any_some news (omega arith), omega arith);
-    } in
-    let changes : block_view y' ≡ record
-    (block_view y') { slots = write_slots 0 (slot_range 0 x.len x.slots) (empty_slots cap) } =
-    ap (λ (l : List (Option T.Denot)). record (block_view y') { slots = l })
-    (sym (packed-carried x.slots x.len packed cap)) in
-    let good : WT (live 0 (vcons vunit vnil)) = (record { fits = lit< tt }, (tt, tt)) in
+    let more : x.len ≤ cap = omega arith in let some : 0 < cap = omega arith in
+    let few : cap < 2 ^ 63 = told_cap.few in
+    let cost = add_realloc x.len x.cost in
+    let y : (Br E Y).Denot = resized E Y x h cap packed more some few cost (block_ptr b' o') in
     lands_as ! e refl (tt, (record { fits = lit< tt }, (tt, tt))) $
     first ! $ switches_on ! (get_tag ! (vrt ! refl (fld ! refl (stop !))) (whole !)) $
     exec ! C Λ En (arm_body 0 both) Then $
     sets ! (of_opd ! (get_in ! (vrt ! refl (fld ! refl (stop !)))
     (in_variant ! 0 0 refl refl (whole !)))) refl (tt, tt) $
     let kept' : Fml = Kept 𝓛 T LT b' m k in_words o' tok len cap wanted wanted_is in
-    use1 𝓛 (‵ (froom (ty_int w64) b' o') ⊛ ‵ (froom (ty_int w64) b' (8 + o')) ⊛ ‵
-    (slots_own Rt news b' (o' + 16)) ⊛ ‵ kept')
+    use1 𝓛 (‵ (froom (ty_int w64) b' o') ⊛ ‵ (froom (ty_int w64) b' (8 + o')) ⊛ ‵ kept' ⊛ ‵
+    (slots_own Rt y.slots b' (o' + 16)))
     (words_apart 𝓛 T LT b' m k in_words o' tok len cap wanted wanted_is items count j' whole_words
-    slots_are' new_room) $ split3 ! $ move ! (2 ∷ []) $ split ! $ move ! (2 ∷ 3 ∷ []) $
+    slots_are' sizes.new_room) $ split3 ! $ move ! (2 ∷ []) $ split ! $
+    use1 𝓛 (‵ (dealloc_right tok Rt cap b' o'))
+    (right_in 𝓛 T LT b' m k in_words o' tok len cap wanted wanted_is) $ move ! (2 ∷ 3 ∷ []) $
     -- The call has succeeded. The context is now: memory for the capacity; memory for the length;
-    -- the slots; the right to free the block; the open borrow (4 entries); the lifetime tokens.
+    -- the right to free the block; the slots; the open borrow (4 entries); the lifetime tokens.
     sets ! (of_opd ! (get ! refl)) refl (tt, tt) $
     assigns ! (of_opd ! (get ! refl)) (through ! refl (stop !))
     (init ! 0 refl (tt, record { fits = fc })) $
@@ -255,36 +195,33 @@ resize_words_spec 𝓤 𝓛 𝓜 𝓡 wired T A m k LT LA fits_m fits_k g d dd m
     (init ! 1 refl (tt, record { fits = fl })) $
     assigns ! (of_opd ! (get ! refl)) (through ! refl (fld ! refl (stop !)))
     (store_in ! 4 (sub ! 0 refl (whole !)) (tt, tt)) $
-    move ! (3 ∷ []) $ use1 𝓛 (‵ (dealloc_right tok Rt cap b' o'))
-    (right_in 𝓛 T LT b' m k in_words o' tok len cap wanted wanted_is) $ move ! (1 ∷ 2 ∷ 0 ∷ []) $
-    header_closes E Y ! tt r y' h b' o' cap len refl refl some_more (sym len_is) fits_cap $
+    header_closes E Y ! tt r y h b' o' cap len refl refl
+    (new_long E Y x h cap packed more some few) (sym len_is) fits_cap $
     sets_last ! (agg ! (and_then ! (lit ! tt) (and_then ! (unit_lit !) (no_more !)))) refl
-    (tt, good) $
+    (tt, ok_typed) $
     exec ! C Λ En (after 6 inner) Last $
-    sets_last ! (of_opd ! (get ! refl)) refl (tt, good) $
+    sets_last ! (of_opd ! (get ! refl)) refl (tt, ok_typed) $
     exec ! C Λ En (after 2 fn.body) (at_ret En Post) $
-    sets ! (of_opd ! (get ! refl)) refl (tt, good) $
-    returns ! (look_at ! 0 refl) $ free_all ! refl $
-    feq_i ! (List Val) (vunit ∷ []) (vunit ∷ []) refl $
-    use1 𝓛 (‵ (Out.own_val (Ok tt) (live 0 (vcons vunit vnil) ∷ [])))
-    (ok_of 𝓛 unit AE.the_row tt vunit) $
-    move ! (1 ∷ 2 ∷ 3 ∷ 0 ∷ []) $ leaves_with E Y ! r y' 7 is₀ $
-    suffices ! _ (ends_at 𝓛 En₀ hs c z (live 0 (vcons vunit vnil)) (Ok tt)
-    (y', (tt, (tt, (tt, (tt, (tt, (tt, (tt, tt))))))))
+    sets ! (of_opd ! (get ! refl)) refl (tt, ok_typed) $
+    returns ! (look_at ! 0 refl) $ free_all ! refl $ leaves_ok E Y ! r y 7 is₀ $
+    suffices ! _ (ends_at 𝓛 En₀ hs c z ok_val (Ok tt)
+    (y, (tt, (tt, (tt, (tt, (tt, (tt, (tt, tt))))))))
     (tt, (tt, (tt, (tt, (tt, (tt, (tt, (tt, tt))))))))) $
-    says_all ! (_ ∷ _ ∷ []) (changes, tt) $ done !)
+    says_all ! (_ ∷ _ ∷ [])
+    (resized_view E Y x h cap packed more some few cost (block_ptr b' o'), tt) $ done !)
     (λ e.
-    let none : WT (live 1 (vcons (vstruct vnil) vnil)) = (record { fits = lit< tt }, (tt, tt)) in
     lands_as ! e refl (tt, (record { fits = lit< tt }, (tt, tt))) $
     first ! $ switches_on ! (get_tag ! (vrt ! refl (fld ! refl (stop !))) (whole !)) $
     exec ! C Λ En (arm_body 1 both) Then $
     sets ! (of_opd ! (get_in ! (vrt ! refl (fld ! refl (stop !)))
     (in_variant ! 1 0 refl refl (whole !)))) refl (tt, tt) $
     let kept : Fml = Kept 𝓛 T LT b m k in_words o tok len old held held_is in
-    use1 𝓛 (‵ (froom (ty_int w64) b o) ⊛ ‵ (froom (ty_int w64) b (8 + o)) ⊛ ‵
-    (slots_own Rt (filled_slots items ++ empty_slots j) b (o + 16)) ⊛ ‵ kept)
+    use1 𝓛 (‵ (froom (ty_int w64) b o) ⊛ ‵ (froom (ty_int w64) b (8 + o)) ⊛ ‵ kept ⊛ ‵
+    (slots_own Rt (filled_slots items ++ empty_slots j) b (o + 16)))
     (words_apart 𝓛 T LT b m k in_words o tok len old held held_is items count j whole_words
-    slots_are held_room) $ split3 ! $ move ! (2 ∷ []) $ split ! $ move ! (2 ∷ 3 ∷ []) $
+    slots_are sizes.room) $ split3 ! $ move ! (2 ∷ []) $ split ! $
+    use1 𝓛 (‵ (dealloc_right tok Rt old b o))
+    (right_in 𝓛 T LT b m k in_words o tok len old held held_is) $ move ! (2 ∷ 3 ∷ []) $
     -- The call has failed. From here on, the steps and the context are as in the case of success,
     -- with the old address and the old capacity.
     assigns ! (of_opd ! (get ! refl)) (through ! refl (stop !))
@@ -292,22 +229,16 @@ resize_words_spec 𝓤 𝓛 𝓜 𝓡 wired T A m k LT LA fits_m fits_k g d dd m
     sets ! (bin ! (get ! refl) (lit ! tt) tt) refl (tt, tt) $
     assigns ! (of_opd ! (get ! refl)) (through ! refl (stop !))
     (init ! 1 refl (tt, record { fits = fl })) $
-    rewrite ! 2 (λ (l : List (Option T.Denot)). ‵ (slots_own Rt l b (o + 16))) (sym row) refl $
-    move ! (3 ∷ []) $ use1 𝓛 (‵ (dealloc_right tok Rt old b o))
-    (right_in 𝓛 T LT b m k in_words o tok len old held held_is) $ move ! (1 ∷ 2 ∷ 0 ∷ []) $
+    rewrite ! 3 (λ (l : List (Option T.Denot)). ‵ (slots_own Rt l b (o + 16))) (sym row) refl $
     header_closes E Y ! tt r x h b o old len at from (sym old_is) (sym len_is) fits_old $
     sets_last ! (agg ! (and_then ! (lit ! tt) (and_then ! (get ! refl) (no_more !)))) refl
-    (tt, none) $
+    (tt, err_typed) $
     exec ! C Λ En (after 6 inner) Last $
-    sets_last ! (of_opd ! (get ! refl)) refl (tt, none) $
+    sets_last ! (of_opd ! (get ! refl)) refl (tt, err_typed) $
     exec ! C Λ En (after 2 fn.body) (at_ret En Post) $
-    sets ! (of_opd ! (get ! refl)) refl (tt, none) $
-    returns ! (look_at ! 0 refl) $ free_all ! refl $
-    use0 𝓛 (‵ (AE.the_row.own_val (record {}) (vstruct vnil ∷ []))) (refused_made 𝓛) $
-    use1 𝓛 (‵ (Out.own_val (Err (record {})) (live 1 (vcons (vstruct vnil) vnil) ∷ [])))
-    (err_of 𝓛 unit AE.the_row (record {}) (vstruct vnil)) $
-    move ! (1 ∷ 2 ∷ 3 ∷ 0 ∷ []) $ leaves_with E Y ! r x 7 is₀ $
-    suffices ! _ (ends_at 𝓛 En₀ hs c z (live 1 (vcons (vstruct vnil) vnil)) (Err (record {}))
+    sets ! (of_opd ! (get ! refl)) refl (tt, err_typed) $
+    returns ! (look_at ! 0 refl) $ free_all ! refl $ leaves_err E Y ! r x 7 is₀ $
+    suffices ! _ (ends_at 𝓛 En₀ hs c z err_val (Err (record {}))
     (x, (tt, (tt, (tt, (tt, (tt, (tt, (tt, tt))))))))
     (tt, (tt, (tt, (tt, (tt, (tt, (tt, (tt, tt))))))))) $
-    says_all ! (_ ∷ _ ∷ []) (tt, refl) $ done !)))))))))
+    says_all ! (_ ∷ _ ∷ []) (tt, refl) $ done !)))))))
