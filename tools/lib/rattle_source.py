@@ -31,7 +31,7 @@ class Item:
         self.docs = before.docs
         self.attributes = before.attributes
         self.clauses = []  # (kind, label, text)
-        self.public = False  # of a function
+        self.public = False  # of a function, a type or a macro
         # The lines of the item, counted from 1: the first one of its attributes, that of its name
         # and the last one.
         self.first = self.start = self.end = 0
@@ -184,6 +184,7 @@ def items_in(text):
             name = re.match(r"macro_rules! (\w+)", line).group(1)
             at = last_line(lines, at)
             item = Item("macro", name, "", lines[start:at], before)
+            item.public = "#[macro_export]" in item.attributes
         else:
             if line == "}":
                 owner = ""

@@ -126,6 +126,13 @@ class Reading(ToolTest):
             ["pub struct Pair {", "    pub first: u8,", "    // private fields", "}"],
         )
 
+    def test_a_macro_is_public_if_it_is_exported(self):
+        macro = "macro_rules! one {\n    () => {\n        1\n    };\n}\n"
+        items = rattle_source.items_in(f"{macro}\n#[macro_export]\n{macro}")
+        self.assertEqual(
+            [(item.kind, item.public) for item in items], [("macro", False), ("macro", True)]
+        )
+
     def test_the_lines_of_an_item(self):
         lines, found = SOURCE.splitlines(), {}
         for item in rattle_source.items_of(self.path):

@@ -10,6 +10,20 @@ use crate::shifts::copy_overlapping;
 use crate::sizes::HEADER_WORDS;
 use std::alloc::Allocator;
 
+// Evaluates `$constant` if `$gap` is one of the numbers, and `$other` otherwise. Each number has an
+// arm of its own, in which LLVM knows the gap, and so turns the move into a `memmove`.
+macro_rules! match_gap {
+    ($gap:ident, $constant:expr, $other:expr) => {
+        match_gap!(1 2 3 4 5 6 7 8 9 10 11 12 13 14 15; $gap, $constant, $other)
+    };
+    ($($number:literal)*; $gap:ident, $constant:expr, $other:expr) => {
+        match $gap {
+            $($number => $constant,)*
+            _ => $other,
+        }
+    };
+}
+
 impl<T, A: Allocator> Block<T, A> {
     ghost use Rattle.thin_block.specs.Block.{block_view};
 
@@ -79,25 +93,11 @@ impl<T, A: Allocator> Block<T, A> {
         ensures capacity { length result.slots ≡ length self.slots }
     {
         let mut block = self;
-        // In each arm whose pattern is a number, LLVM knows `gap`, and calls `memmove`.
-        match gap {
-            1 => block.move_down(to, gap, k),
-            2 => block.move_down(to, gap, k),
-            3 => block.move_down(to, gap, k),
-            4 => block.move_down(to, gap, k),
-            5 => block.move_down(to, gap, k),
-            6 => block.move_down(to, gap, k),
-            7 => block.move_down(to, gap, k),
-            8 => block.move_down(to, gap, k),
-            9 => block.move_down(to, gap, k),
-            10 => block.move_down(to, gap, k),
-            11 => block.move_down(to, gap, k),
-            12 => block.move_down(to, gap, k),
-            13 => block.move_down(to, gap, k),
-            14 => block.move_down(to, gap, k),
-            15 => block.move_down(to, gap, k),
-            _ => block.move_run(to + gap, to, k),
-        }
+        match_gap!(
+            gap,
+            block.move_down(to, gap, k),
+            block.move_run(to + gap, to, k)
+        );
         block
     }
 
@@ -114,11 +114,7 @@ impl<T, A: Allocator> Block<T, A> {
         ensures capacity { length result.slots ≡ length self.slots }
     {
         let mut block = self;
-        match gap {
-            1 => block.move_down(to, gap, k),
-            2 => block.move_down(to, gap, k),
-            _ => block = block.close_gap(to, gap, k),
-        }
+        match_gap!(1 2; gap, block.move_down(to, gap, k), block = block.close_gap(to, gap, k));
         block
     }
 
@@ -135,24 +131,11 @@ impl<T, A: Allocator> Block<T, A> {
         ensures capacity { length result.slots ≡ length self.slots }
     {
         let mut block = self;
-        match gap {
-            1 => block.move_up(from, gap, k),
-            2 => block.move_up(from, gap, k),
-            3 => block.move_up(from, gap, k),
-            4 => block.move_up(from, gap, k),
-            5 => block.move_up(from, gap, k),
-            6 => block.move_up(from, gap, k),
-            7 => block.move_up(from, gap, k),
-            8 => block.move_up(from, gap, k),
-            9 => block.move_up(from, gap, k),
-            10 => block.move_up(from, gap, k),
-            11 => block.move_up(from, gap, k),
-            12 => block.move_up(from, gap, k),
-            13 => block.move_up(from, gap, k),
-            14 => block.move_up(from, gap, k),
-            15 => block.move_up(from, gap, k),
-            _ => block.move_run(from, from + gap, k),
-        }
+        match_gap!(
+            gap,
+            block.move_up(from, gap, k),
+            block.move_run(from, from + gap, k)
+        );
         block
     }
 
