@@ -90,7 +90,7 @@ impl<T, A: Allocator> Block<T, A> {
     {
         if self.cap() == 0 {
             let block = self.replacement(alloc, cap)?;
-            replace(self, block).forget_unallocated();
+            self.replace_unallocated(block);
             return Ok(());
         }
         self.resize(alloc, self.len(), cap)
@@ -214,6 +214,15 @@ impl<T, A: Allocator> Block<T, A> {
         requires is_empty { self.slots ≡ [] }
     {
         let _none = unsafe { ManuallyDrop::new_unchecked(self) };
+    }
+
+    /// Puts `block` in the place of this block, which has no slots.
+    #[inline(always)]
+    pub fn replace_unallocated(&mut self, block: Block<T, A>)
+        requires is_empty { self.old.slots ≡ [] }
+        ensures value { self.new ≡ block }
+    {
+        replace(self, block).forget_unallocated();
     }
 
     // Allocates a block that is to replace the block `old`, as `replacement` does. At run time,

@@ -247,8 +247,7 @@ impl<T, A: Allocator> OpenBlock<T, A> {
         }
         let block = mem::replace(&mut self.block, Block::none());
         let block = block.close_gap(self.front_end, self.middle_start - self.front_end, k);
-        let none = mem::replace(&mut self.block, block);
-        none.forget_unallocated();
+        self.block.replace_unallocated(block);
         self.front_end += k;
         self.middle_start += k;
     }
@@ -320,8 +319,7 @@ impl<T, A: Allocator> OpenBlock<T, A> {
         let from = self.tail_start;
         let block = mem::replace(&mut self.block, Block::none());
         let block = block.open_gap(from, count, self.tail_end - from);
-        let none = mem::replace(&mut self.block, block);
-        none.forget_unallocated();
+        self.block.replace_unallocated(block);
         self.tail_start += count;
         self.tail_end += count;
     }

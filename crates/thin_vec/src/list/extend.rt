@@ -158,8 +158,7 @@ impl<T, A: Allocator, G: Growth> ThinVec<T, A, G> {
         let cap = self.block.cap();
         let block = mem::replace(&mut self.block, Block::none());
         let (block, filled) = put_iter(block, len, cap, iter);
-        let none = mem::replace(&mut self.block, block);
-        none.forget_unallocated();
+        self.block.replace_unallocated(block);
         self.block.set_len(filled.end);
         filled
     }

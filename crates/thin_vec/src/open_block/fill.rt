@@ -28,8 +28,7 @@ impl<T, A: Allocator> OpenBlock<T, A> {
     {
         let block = mem::replace(&mut self.block, Block::none());
         let (block, filled) = put_iter(block, self.front_end, self.middle_start, iter);
-        let none = mem::replace(&mut self.block, block);
-        none.forget_unallocated();
+        self.block.replace_unallocated(block);
         self.front_end = filled.end;
         filled
     }

@@ -11,7 +11,7 @@ use Rattle.thin_vec.proofs.PutLemmas.{filled-fits, filled-room}
 use Rattle.thin_vec.proofs.ThinVecLemmas.{within-kept}
 use Rattle.thin_vec.proofs.list.ThinVec.fill_spare.Goals as goal
 
-stored : (g : _) (c : goal.After-set_len g) → block_view c.replace-none.new.dest
+stored : (g : _) (c : goal.After-set_len g) → block_view c.replace_unallocated.new.self
     ≡ record (block_view c.self.inside.block) {
       slots = write_slots c.len-len.result (filled_slots c.put_iter-block.ensures.filled_by.0.items)
           c.self.inside.block.slots;
@@ -19,7 +19,7 @@ stored : (g : _) (c : goal.After-set_len g) → block_view c.replace-none.new.de
     }
 stored g c =
     cc (
-      c.replace-none.ensures.after,
+      c.replace_unallocated.ensures.value,
       c.put_iter-block.ensures.changes,
       c.put_iter-block.ensures.filled_by.1,
       c.replace-block.ensures.value,

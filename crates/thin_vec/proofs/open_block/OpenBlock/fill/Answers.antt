@@ -12,7 +12,7 @@ use Rattle.thin_vec.proofs.open_block.OpenBlock.fill.Goals as goal
 facts : (g : _) (c : goal.After-self-1 g)
     → let xs = c.put_iter-block.ensures.filled_by.0.items in
     Found (record c.self.inside {
-      block = c.replace-none.new.dest;
+      block = c.replace_unallocated.new.self;
       front_end = c.put_iter-block.result.1.end;
     })
     (record c.args.self.now {
@@ -26,9 +26,10 @@ facts g c =
     let xs = put.ensures.filled_by.0.items in
     let many : put.result.1.end - h.front_end ≡ length xs =
     omega (arith, put.ensures.filled_by.2) in
-    fill-view h c.self.invariant c.self.view_is c.replace-none.new.dest xs _ put.ensures.filled_by.2
+    fill-view h c.self.invariant c.self.view_is c.replace_unallocated.new.self xs _
+    put.ensures.filled_by.2
     (omega (arith, filled-fits put.ensures.filled_by.0, ap (λ v. v.gap_before) c.self.view_is))
-    (ap block_view c.replace-none.ensures.after
+    (ap block_view c.replace_unallocated.ensures.value
     ∙ (slots-are put.ensures.changes put.ensures.filled_by.1
     ∙ (λ i. let v = block_view (c.replace-block.ensures.value i) in record v {
       slots = write_slots h.front_end (filled_slots xs) v.slots;

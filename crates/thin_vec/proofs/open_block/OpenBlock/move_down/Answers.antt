@@ -26,8 +26,8 @@ close_gap-block-requires-clause-filled g c = λ j low high.
 facts : (g : _) (c : goal.After-self-2-1 g)
     → let low : c.args.k ≤ length (open_view c.self.inside).middle =
     omega (arith, c.requires.in_bounds, ap (λ v. length v.middle) c.self.view_is) in
-    Found (moved_run c.self.inside c.self.invariant c.args.k low c.replace-none.new.dest)
-    (moved_run-view c.self.inside c.self.invariant c.args.k low c.replace-none.new.dest)
+    Found (moved_run c.self.inside c.self.invariant c.args.k low c.replace_unallocated.new.self)
+    (moved_run-view c.self.inside c.self.invariant c.args.k low c.replace_unallocated.new.self)
 facts g c =
     let h = c.self.inside in
     let o = c.self.invariant in
@@ -35,8 +35,8 @@ facts g c =
     omega (arith, c.requires.in_bounds, ap (λ v. length v.middle) c.self.view_is) in
     let same : h.front_end + (h.middle_start - h.front_end) ≡ h.middle_start =
     omega (arith, o.gap_before) in
-    move_down-step h o c.args.k low c.replace-none.new.dest
-    (ap block_view c.replace-none.ensures.after
+    move_down-step h o c.args.k low c.replace_unallocated.new.self
+    (ap block_view c.replace_unallocated.ensures.value
     ∙ (c.close_gap-block.ensures.changes
     ∙ (λ i. let v = block_view (c.replace-block.ensures.value i) in record v {
       slots = move_slots (same i) h.front_end c.args.k v.slots;
@@ -48,8 +48,8 @@ invariant_of-self g c = (facts g c).lies
 
 pub returns : goal.returns
 returns g c =
-    let spent : c.replace-none.new.dest.cost ≡ add_moves c.args.k c.args.self.now.cost =
-    ap (λ b. b.cost) c.replace-none.ensures.after
+    let spent : c.replace_unallocated.new.self.cost ≡ add_moves c.args.k c.args.self.now.cost =
+    ap (λ b. b.cost) c.replace_unallocated.ensures.value
     ∙ (ap (λ v. v.cost) c.close_gap-block.ensures.changes
     ∙ (ap (λ b. add_moves c.args.k b.cost) c.replace-block.ensures.value
     ∙ ap (λ v. add_moves c.args.k v.cost) c.self.view_is)) in

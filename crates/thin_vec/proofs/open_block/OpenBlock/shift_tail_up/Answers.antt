@@ -34,14 +34,14 @@ open_gap-block-requires-clause-filled g c = λ j low high.
 
 stored : (g : _) (c : goal.After-self-2-1 g)
     → let h = c.self.inside in
-    block_view c.replace-none.new.dest ≡ record (block_view h.block) {
+    block_view c.replace_unallocated.new.self ≡ record (block_view h.block) {
       slots = move_slots h.tail_start (h.tail_start + c.args.count)
           (h.tail_end - h.tail_start) h.block.slots;
       cost = add_moves (h.tail_end - h.tail_start) h.block.cost;
     }
 stored g c =
     cc (
-      c.replace-none.ensures.after,
+      c.replace_unallocated.ensures.value,
       c.open_gap-block.ensures.changes,
       c.replace-block.ensures.value,
     )
@@ -49,9 +49,9 @@ stored g c =
 facts : (g : _) (c : goal.After-self-2-1 g)
     → let room = fits c.self.inside c.args.self.now c.args.count c.self.invariant
     c.self.view_is c.requires.room in
-    Found (widened c.self.inside c.self.invariant c.replace-none.new.dest c.args.count room)
-    (widened-view c.self.inside c.self.invariant c.replace-none.new.dest c.args.count room)
-facts g c = widen-step c.self.inside c.self.invariant c.replace-none.new.dest c.args.count
+    Found (widened c.self.inside c.self.invariant c.replace_unallocated.new.self c.args.count room)
+    (widened-view c.self.inside c.self.invariant c.replace_unallocated.new.self c.args.count room)
+facts g c = widen-step c.self.inside c.self.invariant c.replace_unallocated.new.self c.args.count
     (fits c.self.inside c.args.self.now c.args.count c.self.invariant c.self.view_is
     c.requires.room) (ap (λ v. v.slots) (stored g c))
 
@@ -61,7 +61,7 @@ invariant_of-self g c = (facts g c).lies
 pub returns : goal.returns
 returns g c =
     let h = c.self.inside in
-    let dest = c.replace-none.new.dest in
+    let dest = c.replace_unallocated.new.self in
     let now = c.args.self.now in
     let alloc : dest.alloc ≡ now.alloc =
     ap (λ v. v.alloc) (stored g c) ∙ ap (λ v. v.alloc) c.self.view_is in
