@@ -11,7 +11,7 @@ use crate::block::Block;
 use crate::errors::ThinVecError;
 use crate::in_place::LONG;
 use crate::sizes::{
-    HEADER, HEADER_WORDS, Layout, block_align, block_bytes, has_padding, item_size, layout_of,
+    HEADER_WORDS, Layout, block_align, block_bytes, has_padding, item_size, layout_of,
     may_have_padding,
 };
 use std::alloc::{AllocError, Allocator};
@@ -42,16 +42,23 @@ impl<T, A: Allocator> Block<T, A> {
         ensures cause { IfErr result (λ cause. cause ≡ ThinVecError.OutOfMemory) }
     {
         let none = Block::none();
-        let block = none.replacement(alloc, cap);
+        let block = none.replacement(alloc, cap, layout_of::<T>(cap));
         none.forget_unallocated();
         block
     }
 
     // Allocates a block of `cap` empty slots with one request for memory. The new block is meant to
     // replace this block, so it continues the counters of this block, which does not change.
-    fn replacement(&self, alloc: &A, cap: usize) -> Result<Block<T, A>, ThinVecError>
+    fn replacement(
+        &self,
+        alloc: &A,
+        cap: usize,
+        layout: Layout,
+    ) -> Result<Block<T, A>, ThinVecError>
         requires nonzero { 0 < cap }
         requires fits { Fits T.row cap }
+        requires bytes { layout.bytes ≡ memory_bytes (type_size T.row) (type_align T.row) cap }
+        requires front { layout.front ≡ front_bytes (type_size T.row) (type_align T.row) cap }
         ensures ok { IfOk result (λ block. block_view block ≡ record {
           slots = empty_slots cap;
           len = 0;
@@ -60,7 +67,7 @@ impl<T, A: Allocator> Block<T, A> {
         }) }
         ensures cause { IfErr result (λ cause. cause ≡ ThinVecError.OutOfMemory) }
     {
-        let Layout { bytes, front } = layout_of::<T>(cap);
+        let Layout { bytes, front, .. } = layout;
         let align = block_align::<T>();
         Ok(Block::allocate_sized(alloc, cap, bytes, align, front, self)?)
     }
@@ -89,7 +96,7 @@ impl<T, A: Allocator> Block<T, A> {
         ensures cause { IfErr result (λ cause. cause ≡ ThinVecError.OutOfMemory) }
     {
         if self.cap() == 0 {
-            let block = self.replacement(alloc, cap)?;
+            let block = self.replacement(alloc, cap, layout_of::<T>(cap))?;
             self.replace_unallocated(block);
             return Ok(());
         }
@@ -146,18 +153,20 @@ impl<T, A: Allocator> Block<T, A> {
             4 if len >= LONG * 2 && len % 2 == 0 => self.resize_in_place::<2, 2>(alloc, len, cap),
             8 if len >= LONG => self.resize_in_place::<1, 2>(alloc, len, cap),
             16 if len >= LONG / 2 => self.resize_in_place::<1, 1>(alloc, len, cap),
-            _ if has_padding::<T>(self.cap()) && has_padding::<T>(cap) && len > 0 => {
-                let old = self.cap();
-                let front = item_size::<T>() - HEADER;
-                Ok(self.resize_padded(alloc, len, old, cap, old + 2, cap + 2, front)?)
-            }
             _ => {
-                let mut other = self.replacement(alloc, cap)?;
+                let old = self.cap();
+                let layout = layout_of::<T>(cap);
+                if layout.front > 0 && has_padding::<T>(old) && len > 0 {
+                    let Layout { items, front, .. } = layout;
+                    self.resize_padded(alloc, len, old, cap, old + 2, items, front)?;
+                    return Ok(());
+                }
+                let mut other = self.replacement(alloc, cap, layout)?;
                 other.store_len(len);
                 self.move_items_to(0, &mut other, 0, len, true);
-                let old = replace(self, other);
-                let held = old.cap();
-                old.free(alloc, held);
+                let emptied = replace(self, other);
+                let held = emptied.cap();
+                emptied.free(alloc, held);
                 Ok(())
             }
         }
@@ -204,7 +213,7 @@ impl<T, A: Allocator> Block<T, A> {
         requires empty { self.slots ≡ empty_slots (length self.slots) }
         requires fits { Fits T.row cap }
     {
-        let Layout { bytes, front } = layout_of::<T>(cap);
+        let Layout { bytes, front, .. } = layout_of::<T>(cap);
         self.free_sized(alloc, cap, bytes, block_align::<T>(), front);
     }
 

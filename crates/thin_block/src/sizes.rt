@@ -1,6 +1,6 @@
 //! Computes the size of a block in bytes, and tests whether a block of a given capacity is small
 //! enough to be allocated.
-ghost use Rattle.std.specs.Prelude.{◌≡◌, ◌↔◌, ◌*◌, IsTrue};
+ghost use Rattle.std.specs.Prelude.{◌≡◌, ◌↔◌, ◌+◌, ◌*◌, ◌<◌, IsTrue, true};
 ghost use Rattle.std.specs.Mem.{type_size};
 ghost use Rattle.std.specs.Align.{type_align};
 ghost use prog.Memory.{capped};
@@ -85,11 +85,14 @@ fn has_room_for_padding<T>(cap: usize) -> bool
 }
 
 // The memory that a block requests.
+#[derive(Clone, Copy)]
 pub(crate) struct Layout {
     // The size in bytes.
     pub(crate) bytes: usize,
     // The number of bytes before the header. It is 0 unless the block is padded.
     pub(crate) front: usize,
+    // The number of items that take as many bytes as the block if it is padded. Otherwise, 0.
+    pub(crate) items: usize,
 }
 
 // Returns the layout of a block for `cap` items.
@@ -98,17 +101,24 @@ pub(crate) fn layout_of<T>(cap: usize) -> Layout
     requires { Fits T.row cap }
     ensures bytes { result.bytes ≡ memory_bytes (type_size T.row) (type_align T.row) cap }
     ensures front { result.front ≡ front_bytes (type_size T.row) (type_align T.row) cap }
+    ensures padded { 0 < result.front
+        → has_padding (type_size T.row) (type_align T.row) cap ≡ true }
+    ensures item { 0 < result.front → result.front + 16 ≡ type_size T.row }
+    ensures items { 0 < result.front → result.items ≡ cap + 2 }
 {
     if has_padding::<T>(cap) {
         let size = item_size::<T>();
+        let items = cap + 2;
         Layout {
-            bytes: (cap + 2) * size,
+            bytes: items * size,
             front: size - HEADER,
+            items,
         }
     } else {
         Layout {
             bytes: block_bytes::<T>(cap),
             front: 0,
+            items: 0,
         }
     }
 }

@@ -15,8 +15,8 @@ move_items_to-requires-clause-filled g c =
 pub free-requires-clause-empty : goal.free-requires-clause-empty
 free-requires-clause-empty g c =
     let old = c.args.self.now.slots in
-    let left : c.replace-old.result.slots ≡ empty_slots (length old) =
-    ap (λ b. b.slots) c.replace-old.ensures.value
+    let left : c.replace-emptied.result.slots ≡ empty_slots (length old) =
+    ap (λ b. b.slots) c.replace-emptied.ensures.value
     ∙ (ap (λ v. v.slots) c.move_items_to.ensures.changes
     ∙ (ap (λ (k : ℕ). clear_slots 0 k old) c.requires.len
     ∙ packed-emptied old c.args.self.now.len c.requires.packed)) in
