@@ -126,6 +126,30 @@ impl Numbered for [u8; 7] {
     }
 }
 
+impl Numbered for [u8; 8] {
+    const SIZE: usize = 8;
+
+    const ALIGN: usize = 1;
+
+    const LIMIT: usize = 1_152_921_504_606_846_973;
+
+    fn numbered(_ledger: &'static Ledger, number: u64) -> [u8; 8] {
+        [(number % 251) as u8; 8]
+    }
+}
+
+impl Numbered for [u8; 16] {
+    const SIZE: usize = 16;
+
+    const ALIGN: usize = 1;
+
+    const LIMIT: usize = 576_460_752_303_423_486;
+
+    fn numbered(_ledger: &'static Ledger, number: u64) -> [u8; 16] {
+        [(number % 251) as u8; 16]
+    }
+}
+
 impl Numbered for [u8; 32] {
     const SIZE: usize = 32;
 
@@ -207,6 +231,18 @@ impl Numbered for [u32; 5] {
 
     fn numbered(_ledger: &'static Ledger, number: u64) -> [u32; 5] {
         [(number % 65521) as u32; 5]
+    }
+}
+
+impl Numbered for [u32; 6] {
+    const SIZE: usize = 24;
+
+    const ALIGN: usize = 4;
+
+    const LIMIT: usize = 384_307_168_202_282_324;
+
+    fn numbered(_ledger: &'static Ledger, number: u64) -> [u32; 6] {
+        [(number % 65521) as u32; 6]
     }
 }
 

@@ -47,7 +47,7 @@ pub fn prints<D: Debug>(alloc: Global, value: &D, texts: [&str; 3]) -> Result<()
 fn texts_of<D: Debug>(alloc: Global, value: &D) -> Result<String, AllocError> {
     let mut texts = format!(in alloc; "{value:?} {value:#?} {value:+?} {value:04?} {value:.3?}")?;
     let more = format!(in alloc;
-        "{value:+8.2?} {value:<5?} {value:*^5?} {value:#06?} {value:#.2?}"
+        "{value:+8.2?} {value:<5?} {value:*^5?} {value:#06?} {value:#.2?} {value:+#?}"
     )?;
     texts.push_str(more.as_str())?;
     Ok(texts)

@@ -4,7 +4,8 @@ use crate::asserts::{assert_right, assert_same};
 use crate::sweep::{Calls, sweep, sweep_at_random};
 use std::alloc::Global;
 use std::process::Abort;
-use thin_testing::{Answer, At, Case, Counted, Due, Ledger};
+use std::test::Fail;
+use thin_testing::{Answer, At, Case, Claims, Counted, Due, Ledger};
 use thin_vec::{Doubling, Growth, ThinVecError};
 
 // Three calls, which make as many requests as their numbers say.
@@ -120,6 +121,51 @@ fn random_cases_differ(rt: HostRuntime) {
     assert!(rt; 0 < empty && empty < 20);
 }
 
+// Of long lists, the patterns from 0 to 7 keep some items, none, or all.
+#[test]
+fn patterns_of_long_lists_keep_some_items(rt: HostRuntime) {
+    for (argument, least, most) in [
+        (0, 70, 70),
+        (1, 0, 0),
+        (2, 50, 50),
+        (3, 50, 50),
+        (4, 80, 95),
+        (5, 100, 100),
+        (6, 30, 70),
+        (7, 30, 70),
+    ] {
+        let at = At {
+            call: "",
+            length: 100,
+            spare: 0,
+            argument,
+            refused: 0,
+        };
+        let mut kept: u64 = 0;
+        for index in 0..100 {
+            kept = kept.saturating_add(u64::from(at.pattern().keeps(index)));
+        }
+        assert!(rt;
+            least <= kept && kept <= most,
+            "pattern {argument} keeps {kept}"
+        );
+    }
+}
+
+#[test]
+fn claims_tell_the_bounds_that_are_asked_for(rt: HostRuntime) -> Result<(), Fail> {
+    let ledger = Ledger::leaked(rt.alloc())?;
+    let hints = [
+        Claims::new(ledger, [7, 8].to_vec(rt.alloc())?, 3, true).size_hint(),
+        Claims::new(ledger, [7, 8].to_vec(rt.alloc())?, 3, false).size_hint(),
+        Claims::new(ledger, [7, 8].to_vec(rt.alloc())?, usize::MAX, true).size_hint(),
+        Claims::exact(ledger, [7, 8].to_vec(rt.alloc())?).size_hint(),
+    ];
+    let wanted = [(3, Some(5)), (3, None), (usize::MAX, None), (2, Some(2))];
+    assert_eq!(rt; (hints, ledger.hints.get()), (wanted, 4));
+    Ok(())
+}
+
 #[test]
 fn case_without_a_call_passes(rt: HostRuntime) {
     let case = two_items(&rt, rt.alloc(), 0);
@@ -208,6 +254,15 @@ fn detects_a_missing_comparison(rt: HostRuntime) {
 #[should_panic(expected = "failed: items, At")]
 fn detects_an_item_that_is_not_dropped(rt: HostRuntime) {
     let case = two_items(&rt, rt.alloc(), 0);
+    let item = case.item();
+    assert_right(&rt, case.check(Ok(Due::NOTHING)));
+    drop(item);
+}
+
+#[test]
+#[should_panic(expected = "failed: items, At")]
+fn detects_an_item_that_is_not_dropped_in_a_random_case(rt: HostRuntime) {
+    let case = case_of(&rt, rt.alloc(), At::random::<Item16>(1, 0));
     let item = case.item();
     assert_right(&rt, case.check(Ok(Due::NOTHING)));
     drop(item);

@@ -186,6 +186,7 @@ fn sweeps_items_that_are_aligned_otherwise_than_most(rt: HostRuntime) {
     sweep_all::<[u128; 0], Doubling, _>(&rt, rt.alloc(), &[50]);
     sweep_all::<[u32; 4], Doubling, _>(&rt, rt.alloc(), &[50]);
     sweep_all::<[u8; 32], Doubling, _>(&rt, rt.alloc(), &[50]);
+    sweep_all::<[u32; 6], Doubling, _>(&rt, rt.alloc(), &[50]);
     sweep_all::<[u64; 5], Doubling, _>(&rt, rt.alloc(), &[50]);
 }
 
@@ -211,6 +212,7 @@ fn orders_lists_with_one_comparison_of_each_item(rt: HostRuntime) {
     let ledger = Ledger::leaked(rt.alloc()).expect(&rt, "memory");
     sweep::<Comparing, Small, Doubling, _>(&rt, ledger, &SHORT, &[0, 1, 9], ALL);
     sweep::<Comparing, Small, Doubling, _>(&rt, ledger, &[50, 150, 3000], &[0, 1], ALL);
+    sweep::<Comparing, ThreeWords, Doubling, _>(&rt, ledger, &[1, 40], &[0], ALL);
     sweep::<Comparing, Large, Doubling, _>(&rt, ledger, &[1, 40], &[0], ALL);
 }
 
@@ -264,6 +266,8 @@ fn copies_items_of_all_sizes(rt: HostRuntime) {
     copies::<[u8; 5], _>(&rt, rt.alloc());
     copies::<[u8; 7], _>(&rt, rt.alloc());
     copies::<[u32; 3], _>(&rt, rt.alloc());
+    copies::<[u32; 5], _>(&rt, rt.alloc());
+    copies::<[u32; 7], _>(&rt, rt.alloc());
     copies::<u64, _>(&rt, rt.alloc());
     copies::<[u64; 3], _>(&rt, rt.alloc());
     copies::<[u64; 6], _>(&rt, rt.alloc());

@@ -30,6 +30,7 @@ fn assert_dropped<E: From<R> + Drop, R: Error>(
 fn assert_all_dropped<'a, E>(rt: &impl Abort, alloc: Global, ledger: &'a Ledger) -> Result<(), Fail>
 where
     E: From<Rejected<Counted<'a>>>
+        + From<Rejected<Counted<'a, u64>>>
         + From<ExtendRefused<Counted<'a>, Counted<'a>>>
         + From<CollectRefused<Counted<'a>, Counted<'a>>>
         + From<SpliceRefused<Counted<'a>, Counted<'a>>>
@@ -57,6 +58,7 @@ fn assert_each_dropped<'a, E>(
 ) -> Result<(), Fail>
 where
     E: From<Rejected<Counted<'a>>>
+        + From<Rejected<Counted<'a, u64>>>
         + From<ExtendRefused<Counted<'a>, Counted<'a>>>
         + From<CollectRefused<Counted<'a>, Counted<'a>>>
         + From<SpliceRefused<Counted<'a>, Counted<'a>>>
@@ -67,6 +69,11 @@ where
         cause,
     };
     assert_dropped::<E, _>(rt, ledger, rejected, 1);
+    let wide = Rejected {
+        value: Counted::new(ledger, 1, 1_u64),
+        cause,
+    };
+    assert_dropped::<E, _>(rt, ledger, wide, 1);
     let extend = ExtendRefused {
         cause,
         in_hand: in_hand(ledger, count),

@@ -332,12 +332,12 @@ fn assert_in_order<T: Numbered>(rt: &impl Abort, ledger: &'static Ledger) -> Res
     Ok(())
 }
 
-// Takes each number of items from the front of all iterators but `Splice`, and some of the rest
-// from the back.
+// Takes each number of items from the front of all iterators but `Splice`, and each number of the
+// rest from the back.
 fn assert_taken<T: Numbered>(rt: &impl Abort, ledger: &'static Ledger) -> Result<(), Fail> {
     for call in [Call::IntoIter, Call::Drain, Call::ExtractIf] {
         for fronts in 0..=TAKEN {
-            for backs in [0, 1, 4, TAKEN] {
+            for backs in 0..=TAKEN {
                 let case = Case {
                     call,
                     len: TAKEN,
@@ -373,8 +373,8 @@ fn removed_items_are_dropped_in_order(rt: HostRuntime) -> Result<(), Fail> {
     Ok(())
 }
 
-// Counts a call to a closure that keeps none of `len` items, and adds 1 to `late` if an item that
-// an earlier call did not keep still exists.
+// Counts a call to a closure that keeps none of the items that it tests, of a list of `len`, and
+// adds 1 to `late` if an item that an earlier call did not keep still exists.
 fn reject(ledger: &Ledger, len: u64, late: &Cell<u64>) -> bool {
     let left = len.saturating_sub(ledger.called());
     if ledger.live.get() != left {
@@ -383,29 +383,29 @@ fn reject(ledger: &Ledger, len: u64, late: &Cell<u64>) -> bool {
     false
 }
 
-// Removes all items by `retain` or `retain_mut`. Asserts that each is dropped before the next one
-// is tested.
+// Removes all items by `retain` or `retain_mut`, or all but the first by `dedup_by`. Asserts that
+// each is dropped before the next one is tested.
 fn assert_prompt<T: Numbered>(
     rt: &impl Abort,
     ledger: &'static Ledger,
     len: usize,
 ) -> Result<(), Fail> {
-    for is_mut in [false, true] {
+    for call in [Call::Retain, Call::RetainMut, Call::DedupBy] {
         let mut list: List<T, Doubling> = filled_list(ledger, len, 0)?;
         let late = Cell::new(0);
         ledger.begin(0);
-        if is_mut {
-            list.retain_mut(|_item| reject(ledger, len as u64, &late));
-        } else {
-            list.retain(|_item| reject(ledger, len as u64, &late));
+        match call {
+            Call::Retain => list.retain(|_item| reject(ledger, len as u64, &late)),
+            Call::RetainMut => list.retain_mut(|_item| reject(ledger, len as u64, &late)),
+            _ => list.dedup_by(|_later, _kept| !reject(ledger, len as u64, &late)),
         }
-        check!(rt; same((len, is_mut, late.get()), (len, is_mut, 0)));
+        check!(rt; same((len, call, late.get()), (len, call, 0)));
     }
     Ok(())
 }
 
 #[test]
-fn retain_drops_an_item_before_it_tests_the_next_one(rt: HostRuntime) -> Result<(), Fail> {
+fn filters_drop_an_item_before_they_test_the_next_one(rt: HostRuntime) -> Result<(), Fail> {
     let ledger = Ledger::leaked(rt.alloc())?;
     for len in [1, 2, 6, 100] {
         assert_prompt::<Counted<'static>>(&rt, ledger, len)?;

@@ -11,8 +11,8 @@ use std::rc::Rc;
 use std::test::Fail;
 use thin_runner::hinted::Hinted;
 use thin_testing::{
-    Counted, Ledger, Numbered, Refusing, check, counts, has_len, list_of, numbered_items, same,
-    splice,
+    Counted, CountedWord, Ledger, Numbered, Refusing, check, counts, has_len, list_of,
+    numbered_items, same, splice,
 };
 use thin_vec::{ThinVec, ThinVecError, thin_vec};
 
@@ -209,9 +209,11 @@ fn fill<T: Numbered, A: Allocator>(
 ) -> io::Result<()> {
     let len = list.len();
     let items = numbered_items(ledger, ledger.global, 7, len)?;
+    // A vector that owns its allocator.
+    let owning = numbered_items::<T, _>(ledger, Refusing::new(&ledger.alloc, 0), 7, len)?;
     match call {
-        0 => drop(ThinVec::from_vec(alloc, items)?),
-        1 => drop(ThinVec::from_boxed_slice(alloc, items.into_boxed_slice())?),
+        0 => drop(ThinVec::from_vec(alloc, owning)?),
+        1 => drop(ThinVec::from_boxed_slice(alloc, owning.into_boxed_slice())?),
         2 => drop(ThinVec::from_iter(alloc, Hinted::new(items, 0))?),
         3 => drop(ThinVec::from_iter(alloc, Hinted::new(items, len))?),
         4 => list.replace_range(alloc, 0, 0, items.as_slice())?,
@@ -323,6 +325,7 @@ fn a_list_drops_the_allocator_that_it_owns(rt: HostRuntime) -> Result<(), Fail> 
     assert_dropped::<u8>(&rt, ledger)?;
     assert_dropped::<u128>(&rt, ledger)?;
     assert_dropped::<[u64; 40]>(&rt, ledger)?;
+    assert_dropped::<CountedWord<'static>>(&rt, ledger)?;
     assert_dropped::<Counted<'static>>(&rt, ledger)?;
     assert_dropped::<Counted<'static, [u64; 14]>>(&rt, ledger)
 }

@@ -105,6 +105,8 @@ fn a_list_of_each_width_grows_and_shrinks_in_place(rt: HostRuntime) -> Result<()
 fn a_list_of_arrays_of_each_width_grows_and_shrinks_in_place(rt: HostRuntime) -> Result<(), Fail> {
     let ledger = Ledger::leaked(rt.alloc())?;
     assert_type::<[u8; 4]>(&rt, ledger)?;
+    assert_type::<[u8; 8]>(&rt, ledger)?;
+    assert_type::<[u8; 16]>(&rt, ledger)?;
     assert_type::<[u32; 2]>(&rt, ledger)?;
     assert_type::<[u64; 2]>(&rt, ledger)?;
     Ok(())

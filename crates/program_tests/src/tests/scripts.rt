@@ -3,6 +3,7 @@
 use crate::tests::page::Page;
 use replay::answer::write_reply;
 use replay::line::Line;
+use replay::replay_error::ReplayError;
 use replay::{exit_code, lacks_memory, replay};
 use std::alloc::Global;
 use std::cell::Cell;
@@ -382,6 +383,48 @@ fn fails_if_a_read_fails(rt: HostRuntime) -> Result<(), Fail> {
     Ok(())
 }
 
+// A reader of which each call fails with the same kind of error.
+#[derive(Drop)]
+struct Unreadable {
+    kind: ErrorKind,
+}
+
+impl Read for Unreadable {
+    fn read(&mut self, _buf: &mut [u8]) -> io::Result<usize> {
+        Err(io::Error::from(self.kind))
+    }
+}
+
+// Reads from a reader that fails. Returns the kind of the error.
+fn kind_of_error(alloc: Global, kind: ErrorKind) -> Result<Option<ErrorKind>, Fail> {
+    let mut text = String::new(alloc);
+    let page = Page {
+        text: &mut text,
+        calls: 0,
+        failing: 0,
+    };
+    let input = BufReader::with_capacity(alloc, CHUNK, Unreadable { kind })?;
+    match replay(alloc, input, page) {
+        Err(ReplayError::Io(error)) => Ok(Some(error.kind())),
+        _ => Ok(None),
+    }
+}
+
+// An error of the kind `InvalidData` would be that of a line that is not UTF-8.
+#[test]
+fn returns_the_error_of_a_read(rt: HostRuntime) -> Result<(), Fail> {
+    for kind in [
+        ErrorKind::BrokenPipe,
+        ErrorKind::OutOfMemory,
+        ErrorKind::UnexpectedEof,
+        ErrorKind::PermissionDenied,
+        ErrorKind::Other,
+    ] {
+        assert_eq!(rt; kind_of_error(rt.alloc(), kind)?, Some(kind));
+    }
+    Ok(())
+}
+
 // Replays `input`, whose answers take several calls to `write`. Asserts that the program fails at a
 // call that fails, whichever call it is. What is written is then a beginning of the answers: the
 // writer tries once more to write those that it holds, and no more.
@@ -457,4 +500,28 @@ fn fails_if_a_write_of_a_long_reply_fails(rt: HostRuntime) -> Result<(), Fail> {
         assert_fails_at_a_write(&rt, alloc, &input)?;
     }
     Ok(())
+}
+
+#[test]
+fn prints_each_item_of_a_long_reply(rt: HostRuntime) -> Result<(), Fail> {
+    let alloc = rt.alloc();
+    let items: Vec<u64> = (0..300).collect(alloc)?;
+    let answers: Vec<Option<u64>> = (0..300).map(|item| Some(item)).collect(alloc)?;
+    let mut words = String::new(alloc);
+    for item in 0..300 {
+        words.push_str(format!(in alloc; " {item}")?.as_str())?;
+    }
+    let input = format!(in alloc;
+        "extend 18446744073709551615{words}\nextend_from_slice{words}\nitems\nclone\n\
+        extract_if 0 300 300 1 0 0\nappend{words}\nsplit_off 0\n"
+    )?;
+    let wanted = format!(in alloc;
+        "failed: capacity overflow; answers []; held []; in hand None; rest{words}; \
+        length 0; capacity 0\ndone; length 300; capacity 300\nitems {items:?}\n\
+        list {items:?}; capacity 300; length 300; capacity 300\n\
+        answers {answers:?}; length 0; capacity 300\n\
+        other []; capacity 512; length 300; capacity 300\n\
+        list {items:?}; capacity 300; length 0; capacity 300\n"
+    )?;
+    assert_replayed(&rt, alloc, input.as_bytes(), wanted.as_str(), "")
 }

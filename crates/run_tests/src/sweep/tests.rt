@@ -5,7 +5,7 @@ use crate::sweep::runs::{
 };
 use crate::sweep::twins::assert_twins_agree;
 use thin_runner::command::Command;
-use thin_testing::{At, Case, Counted, Fourfold, Ledger, Numbered, Threefold};
+use thin_testing::{At, Case, Counted, CountedWord, Fourfold, Ledger, Numbered, Threefold};
 use thin_vec::{Doubling, Growth, PowerBytes};
 
 // Counted items of 16 and 24 bytes.
@@ -24,6 +24,7 @@ fn random_runs_are_right(rt: HostRuntime) {
     assert_runs_right::<(), Doubling, _>(&rt, ledger);
     assert_runs_right::<u16, PowerBytes, _>(&rt, ledger);
     assert_runs_right::<[u8; 3], Threefold, _>(&rt, ledger);
+    assert_runs_right::<CountedWord<'static>, Doubling, _>(&rt, ledger);
     assert_runs_right::<Small, Doubling, _>(&rt, ledger);
     assert_runs_right::<ThreeWords, Fourfold, _>(&rt, ledger);
 }

@@ -3,7 +3,7 @@
 use crate::tests::judges::Digits;
 use std::alloc::{Allocator, Global};
 use std::test::Fail;
-use thin_runner::command::{Command, Step};
+use thin_runner::command::{Command, Reply, Step};
 use thin_runner::runner::{run, step};
 use thin_testing::{Refusing, check, list_of, same};
 use thin_vec::ThinVec;
@@ -71,5 +71,35 @@ fn a_reply_uses_the_allocator_passed(rt: HostRuntime) -> Result<(), Fail> {
         check!(rt; same(found, (number, 0, 1)));
         drop(reply);
     }
+    Ok(())
+}
+
+// Returns the answers and the held items of a reply to a command that was stopped.
+fn stopped<T: Drop, A: Allocator>(reply: Reply<T, A>) -> Option<(Vec<Option<T>, A>, Vec<T, A>)> {
+    match reply {
+        Reply::Stopped {
+            answers,
+            cause: _,
+            held,
+            in_hand: _,
+            rest: _,
+        } => Some((answers, held)),
+        _ => None,
+    }
+}
+
+// Both vectors are empty. They get an item each, so that each has a block.
+#[test]
+fn a_reply_to_a_stopped_extend_uses_the_allocator_passed(rt: HostRuntime) -> Result<(), Fail> {
+    let own = Refusing::leaked(rt.alloc(), 0)?;
+    let other = Refusing::leaked(rt.alloc(), 0)?;
+    let mut list = list_of(own, &[1, 2, 3])?;
+    let command = Command::Extend(Vec::new(own), usize::MAX);
+    own.refuse(0);
+    let reply = step(other, &mut list, command, &NEVER);
+    let (mut answers, mut held) = stopped(reply).ok_or("extended")?;
+    answers.push(None).ok().ok_or("memory")?;
+    held.push(7).ok().ok_or("memory")?;
+    check!(rt; same((own.requests(), other.blocks()), (0, 2)));
     Ok(())
 }

@@ -282,5 +282,13 @@ fn a_judge_is_asked_no_more_than_needed(rt: HostRuntime) {
         assert_asked(&rt, ledger, len, Command::ExtractIf(0, len, more), len);
         assert_asked(&rt, ledger, len, Command::ExtractIf(0, len, 1), len.min(2));
         assert_asked(&rt, ledger, len, Command::ExtractIf(0, len, 0), 0);
+        let half = len / 2;
+        assert_asked(
+            &rt,
+            ledger,
+            len,
+            Command::ExtractIf(half, len, more),
+            len.saturating_sub(half),
+        );
     }
 }

@@ -4,7 +4,7 @@ use std::alloc::Global;
 use std::process::Abort;
 use std::test::Fail;
 use thin_rows::{Rows, ThinVecError};
-use thin_testing::{Counted, Ledger, check, same};
+use thin_testing::{Counted, CountedWord, Ledger, Numbered, check, same};
 
 // Asserts that as many values are alive as the table has entries.
 fn assert_live<V>(rt: &impl Abort, ledger: &Ledger, table: &Rows<V>) {
@@ -12,16 +12,16 @@ fn assert_live<V>(rt: &impl Abort, ledger: &Ledger, table: &Rows<V>) {
 }
 
 // Sets `count` counted values in each row.
-fn set_counted<'a>(
+fn set_counted<T: Numbered>(
     rt: &impl Abort,
-    table: &mut Rows<Counted<'a>>,
-    ledger: &'a Ledger,
+    table: &mut Rows<T>,
+    ledger: &'static Ledger,
     count: usize,
 ) -> Result<(), ThinVecError> {
     for row in 0..table.rows() {
         for column in 0..count {
             assert_row(rt, table, row);
-            table.set(row, column, Counted::new(ledger, 7, ()))?;
+            table.set(row, column, T::numbered(ledger, 7))?;
         }
     }
     assert_live(rt, ledger, table);
@@ -30,9 +30,14 @@ fn set_counted<'a>(
 
 // Sets, removes and drops the values of a table whose rows have `count` entries each. Asserts after
 // each call how many values are alive.
-fn assert_drops(rt: &impl Abort, alloc: Global, rows: usize, count: usize) -> Result<(), Fail> {
+fn assert_drops<T: Numbered>(
+    rt: &impl Abort,
+    alloc: Global,
+    rows: usize,
+    count: usize,
+) -> Result<(), Fail> {
     let ledger = Ledger::leaked(alloc)?;
-    let mut table = Rows::with_rows(alloc, rows)?;
+    let mut table = Rows::<T>::with_rows(alloc, rows)?;
     set_counted(rt, &mut table, ledger, count)?;
     set_counted(rt, &mut table, ledger, count)?;
     for row in 0..rows {
@@ -46,7 +51,7 @@ fn assert_drops(rt: &impl Abort, alloc: Global, rows: usize, count: usize) -> Re
     for row in 0..rows {
         assert_row(rt, &table, row);
         if let Some(value) = table.get_mut(row, 0) {
-            *value = Counted::new(ledger, 7, ());
+            *value = T::numbered(ledger, 7);
         }
         assert_live(rt, ledger, &table);
         assert_row(rt, &table, row);
@@ -73,7 +78,9 @@ fn drops_each_value_once(rt: HostRuntime) -> Result<(), Fail> {
         (2, 300),
         (100, 2),
     ] {
-        assert_drops(&rt, rt.alloc(), rows, count)?;
+        assert_drops::<CountedWord<'static>>(&rt, rt.alloc(), rows, count)?;
+        assert_drops::<Counted<'static>>(&rt, rt.alloc(), rows, count)?;
+        assert_drops::<Counted<'static, [u64; 62]>>(&rt, rt.alloc(), rows, count)?;
     }
     Ok(())
 }

@@ -27,8 +27,9 @@ fn with_rows_returns_the_cause(rt: HostRuntime) -> Result<(), Fail> {
     check!(rt; same(refused, Some(ThinVecError::OutOfMemory)));
     check!(rt; counts(refusing, 1, 0));
     for rows in [usize::MAX, 1 << 60] {
-        let refused = Rows::<u32, Global>::with_rows(rt.alloc(), rows).err();
+        let refused = Rows::<u32, &Refusing<Global>>::with_rows(refusing, rows).err();
         check!(rt; same(refused, Some(ThinVecError::CapacityOverflow)));
+        check!(rt; counts(refusing, 1, 0));
     }
     Ok(())
 }
@@ -55,6 +56,10 @@ fn set_adds_thousands_of_columns_to_a_row(rt: HostRuntime) -> Result<(), Fail> {
     let rows = 5000_u64.saturating_mul(16).saturating_add(16);
     check!(rt; same(refusing.bytes(), rows.saturating_add(row.saturating_mul(2))));
     check!(rt; same(table.len(), 8000));
+    for column in 3900..4000 {
+        assert_removed(&rt, &mut table, (4999, column), Some(7));
+    }
+    check!(rt; counts(refusing, 23, 3));
     Ok(())
 }
 

@@ -19,8 +19,9 @@ fn prints_each_row_as_a_map(rt: HostRuntime) -> Result<(), Fail> {
     Ok(())
 }
 
-// Asserts that a table, of which the rows with odd numbers have `count` entries each, is printed as
-// a list of maps. Also asserts that printing requests no memory from the allocator of the table.
+// Asserts that a table, of which the rows with odd numbers have `count` entries each and one at the
+// greatest column, is printed as a list of maps. Also asserts that printing requests no memory from
+// the allocator of the table.
 fn assert_printed_as_maps(
     rt: &impl Abort,
     alloc: Global,
@@ -41,6 +42,9 @@ fn assert_printed_as_maps(
                     .ok()
                     .ok_or("memory")?;
             }
+            assert_row(rt, &table, row);
+            table.set(row, usize::MAX, 5)?;
+            map.insert(usize::MAX, 5).ok().ok_or("memory")?;
         }
         maps.push(map).ok().ok_or("memory")?;
     }

@@ -210,6 +210,7 @@ fn extract<T: Numbered, A: Allocator, G: Growth>(
     let mut extract = list.extract_if(plan.0, plan.1, move |_item: &mut T| {
         !pattern.keeps(next_call(&counter))
     });
+    let _shown = extract.size_hint();
     for _ in 0..plan.2 {
         drop(extract.next());
     }

@@ -202,6 +202,7 @@ fn splice<T: Numbered, A: Allocator, G: Growth, I: Iterator<Item = T>>(
     requires finite { IsFinite (I.remaining iter) }
 {
     let mut splice = list.splice(range.0, range.1, iter);
+    let _shown = (splice.len(), splice.size_hint());
     take_some(&mut splice, walk);
     splice.finish(alloc)
 }

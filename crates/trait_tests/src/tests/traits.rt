@@ -155,6 +155,41 @@ fn sort_by_way<A: Allocator>(way: u32, list: &mut ThinVec<i32, A>) -> Result<(),
     }
 }
 
+// Sorts the items as `sort_by_way` sorts a list, by the methods of slices.
+fn sort_items_by_way<A: Allocator>(
+    way: u32,
+    items: &mut [i32],
+    alloc: &A,
+) -> Result<(), AllocError> {
+    match way {
+        0 => items.sort(alloc),
+        1 => items.sort_by(alloc, |x, y| x.cmp(y)),
+        2 => items.sort_by_key(alloc, |x| *x),
+        _ => items.sort_by_cached_key(alloc, |x| *x),
+    }
+}
+
+#[test]
+fn stable_sorts_make_the_requests_of_those_of_slices(rt: HostRuntime) -> Result<(), Fail> {
+    let refusing = Refusing::leaked(rt.alloc(), 0)?;
+    for way in 0..4 {
+        for len in [0, 1, 5, 10, 11, 150] {
+            let mut list = ThinVec::new(refusing);
+            list.extend(0..len)?;
+            list.extend(0..len)?;
+            let mut other = list.clone(refusing)?;
+            refusing.refuse(0);
+            sort_items_by_way(way, other.as_mut_slice(), &refusing)?;
+            let due = (refusing.requests(), refusing.lent());
+            refusing.refuse(0);
+            sort_by_way(way, &mut list)?;
+            let found = (refusing.requests(), refusing.lent());
+            check!(rt; same((way, len, found), (way, len, due)));
+        }
+    }
+    Ok(())
+}
+
 // Two runs, since a list that is one run, rising or falling, is sorted without memory.
 #[test]
 fn stable_sorts_use_the_allocator_of_the_list(rt: HostRuntime) -> Result<(), Fail> {
