@@ -1,4 +1,3 @@
-//! One file for each topic.
 mod closures;
 mod conversions;
 mod edits;

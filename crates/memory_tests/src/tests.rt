@@ -1,4 +1,3 @@
-//! One file for each topic.
 mod allocators;
 mod checks;
 mod in_place;

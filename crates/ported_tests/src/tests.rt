@@ -1,4 +1,3 @@
-//! One file for each topic.
 mod capacity;
 mod drops;
 mod edits;

@@ -1,4 +1,3 @@
-//! One file for each topic.
 mod page;
 mod report;
 mod scripts;

@@ -1,4 +1,3 @@
-//! One file for each topic.
 mod drops;
 mod entries;
 mod requests;

@@ -1,4 +1,3 @@
-//! One file for each topic.
 mod comparing;
 mod names;
 mod texts;
