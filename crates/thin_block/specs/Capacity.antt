@@ -23,8 +23,7 @@ abbrev pub block_bytes : ℕ → ℕ → ℕ → ℕ
 block_bytes s a c = next_multiple_of (items_offset a + c * s) (block_align a)
 
 -- `fits s a c` is true if a block for `c` items of size `s` and alignment `a` is small enough to be
--- allocated: the capacity `c` and the size of the block (`block_bytes s a c`, written out here) are
--- at most `isize::MAX`. The prover unfolds this definition only on request.
+-- allocated: the capacity `c` and the size of the block in bytes are at most `isize::MAX`.
 unfoldable pub fits : ℕ → ℕ → ℕ → Bool
 fits s a c = nat_lt c (2 ^ 63)
     && nat_lt (next_multiple_of (max 16 a + c * s) (max 8 a)) (2 ^ 63)

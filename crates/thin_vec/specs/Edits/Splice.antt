@@ -51,8 +51,8 @@ module _ {T A : Type 0} where
   -- most `limit` items.
   pub record IsAfterSplice (rule : GrowthRule) (R : RattleType) (k t : ℕ) (v w : ListView T A)
       (limit : Count) : Type 0 where
-    -- The lower bound in the size hint for the items that did not fit into the range. If nothing
-    -- was reserved, it is 0.
+    -- Some number within the limit, or 0. Tests show that it is the lower bound in the size hint
+    -- after the range was filled, or 0 if nothing was reserved.
     pub hint : ℕ
     pub within : (hint ≡ 0) ⊎ IsWithinCount (k + hint) limit
     -- If the new items do not fill the range, nothing was reserved.
@@ -77,7 +77,8 @@ module _ {T A : Type 0} where
   pub record FinishesAtEnd {S : Type 0} (rule : GrowthRule) (R : RattleType) (v w : ListView T A)
       (s : S) (limit : Count) (result : Result (Unit {0}) (SpliceRefused T S A)) : Type 0 where
     pub succeeds : HasRoomFor v (size limit) → IsOk result
-    -- The number `h` stands for the lower bound in the size hint. If nothing was reserved, it is 0.
+    -- The number `h` is some number within the limit. Tests show that it is the lower bound in the
+    -- size hint, or 0 if nothing was reserved.
     pub after : (h : ℕ) × IsWithinCount h limit × IsAfterExtend rule R v h w
     pub held : IfErr result (λ error. error.held.items ≡ [])
     -- With no item in hand, the call took none from `s`. Otherwise, the list is full.

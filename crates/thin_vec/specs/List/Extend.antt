@@ -89,8 +89,8 @@ module _ {T A : Type 0} where
       : Type 0 where
     -- In this case, nothing was allocated.
     pub none : size limit ≡ 0 → w.capacity ≡ 0
-    -- The number `h` stands for the lower bound in the size hint. If nothing was allocated before
-    -- the pushes, it is 0.
+    -- The number `h` is some number within the limit. Tests show that it is the lower bound in the
+    -- size hint.
     pub pushed : (h : ℕ) × IsWithinCount h limit × IsAfterCollect rule R h w
     pub made : IsFreshList R a w
 
@@ -102,8 +102,9 @@ module _ {T A : Type 0} where
       (w.items ≡ v.items ++ xs) × (length w.items ≡ length v.items + length xs)
       × ((h : ℕ) × IsAfterExtend rule R v h w) × PreservesList R v w
 
-  -- `IsCollectedFrom R xs v` states what std's `FromIterator` guarantees about a list `v` that was
-  -- made from the items `xs`. `R` is the type of the items, and the growth rule is `doubling`.
+  -- `IsCollectedFrom R xs v` states what `collect` promises of a list `v` that was made from the
+  -- items `xs`. `R` is the type of the items, and the growth rule is `doubling`. The number `h` is
+  -- any number, since std's trait has no room for the limit.
   abbrev pub IsCollectedFrom : RattleType → List T → ListView T A → Type 0
   IsCollectedFrom R xs v =
       (v.items ≡ xs) × (length v.items ≡ length xs) × IsCheap v × IsBounded R v

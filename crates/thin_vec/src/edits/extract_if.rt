@@ -102,12 +102,13 @@ impl<T: Drop, A: Allocator, G: Growth> ThinVec<T, A, G> {
     /// Returns an iterator that removes the items in the range `start..end` for which `pick`
     /// returns true, and yields them in order.
     ///
-    /// Until the `ExtractIf` is dropped, the list is empty. Then it contains every item that was
-    /// not yielded, also those that were not tested. If the `ExtractIf` is leaked, the list stays
-    /// empty, and these items are leaked.
+    /// Until the `ExtractIf` is dropped, the list is empty. Afterwards, it contains every item that
+    /// was not yielded, also those that were not tested. If the `ExtractIf` is leaked, the list
+    /// stays empty, and these items are leaked. `next` requires that `pick` can be called with
+    /// every value of the item type.
     ///
     /// No memory is requested. Each item that stays in the list and follows the first removed item
-    /// is moved once, even if it is not in the range.
+    /// is moved at most once, even if it is not in the range.
     pub fn extract_if<F: FnMut(&mut T) -> bool>(
         &mut self,
         start: usize,

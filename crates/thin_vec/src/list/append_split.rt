@@ -17,7 +17,7 @@ impl<T, A: Allocator, G: Growth> ThinVec<T, A, G> {
     ///
     /// # Errors
     ///
-    /// Fails if and only if `reserve(other.len())` would fail, with the same cause.
+    /// Fails only if the list has to grow, with the causes of `reserve`.
     pub fn append(&mut self, other: &mut ThinVec<T, A, G>) -> Result<(), ThinVecError>
         // On success.
         ensures items { OnOk result (self.new.items ≡ self.old.items ++ other.old.items) }

@@ -19,7 +19,7 @@ impl<T: Clone, A: Allocator, G: Growth> ThinVec<T, A, G> {
     ///
     /// # Errors
     ///
-    /// Fails if `reserve(items.len())` would fail, with the same cause. Also fails with
+    /// Fails if the list has to grow and cannot, with the causes of `reserve`. Also fails with
     /// `OutOfMemory` if an item cannot be cloned. In this case, all clones are dropped, and the
     /// list keeps its old items and its new capacity.
     pub fn extend_from_slice(&mut self, items: &[T]) -> Result<(), ThinVecError>

@@ -16,7 +16,7 @@ impl<T: Copy, A: Allocator, G: Growth> ThinVec<T, A, G> {
     ///
     /// # Errors
     ///
-    /// Fails if and only if `reserve(items.len())` would fail, with the same cause.
+    /// Fails only if the list has to grow, with the causes of `reserve`.
     pub fn extend_from_copies(&mut self, items: &[T]) -> Result<(), ThinVecError>
         // On success.
         ensures items { OnOk result (self.new.items ≡ self.old.items ++ items.now) }

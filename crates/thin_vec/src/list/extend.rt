@@ -24,7 +24,8 @@ use thin_block::{Block, Growth, ThinVecError};
 
 impl<T, A: Allocator, G: Growth> ThinVec<T, A, G> {
     /// Appends the items that `iter` yields before its first `None`. The call begins by reserving
-    /// room for the lower bound of the size hint.
+    /// room for the lower bound of the size hint. (Tests show which number it reserves for. The
+    /// contract says that it is at most the limit of the iterator.)
     ///
     /// # Errors
     ///
@@ -56,14 +57,15 @@ impl<T, A: Allocator, G: Growth> ThinVec<T, A, G> {
         ensures in_hand { IfErr result (λ error. MatchOption error.in_hand
             ((self.new ≡ self.old) × (error.rest ≡ iter))
             (λ _. length self.new.items ≡ self.new.capacity)) }
-        // The list had no room for `k` more items: for the item in hand, or for a possible lower
-        // bound in the size hint. Which bound it was, the contract of `size_hint` does not say.
+        // The list had no room for `k` more items: for the item in hand, or for some number within
+        // the limit. Tests show that this number is the lower bound in the size hint, which the
+        // contract of `size_hint` does not name.
         ensures cause { IfErr result (λ error. (k : ℕ)
             × MatchOption error.in_hand (IsWithinCount k (I.remaining error.rest)) (λ _. k ≡ 1)
             × FailsForRoom G.rule T.row self.new k error.cause) }
 
-        // In every case. The number `h` stands for the lower bound in the size hint. If nothing was
-        // reserved, it is 0. `moves` follows from `capacity`.
+        // In every case. The number `h` is some number within the limit. Tests show that it is the
+        // lower bound in the size hint. `moves` follows from `capacity`.
         ensures had_room { HasRoomFor self.old (size (I.remaining iter))
             → self.new.capacity ≡ self.old.capacity }
         ensures capacity { (h : ℕ) × IsWithinCount h (I.remaining iter)
@@ -166,7 +168,8 @@ impl<T, A: Allocator, G: Growth> ThinVec<T, A, G> {
 
 impl<T, A: Allocator> ThinVec<T, A> {
     /// Makes a list of the items that `iter` yields, like `extend`. The list owns `alloc`. The call
-    /// begins with a capacity of exactly the lower bound of the size hint.
+    /// begins with a capacity of exactly the lower bound of the size hint, which tests show, as for
+    /// `extend`.
     ///
     /// # Errors
     ///
@@ -202,7 +205,7 @@ impl<T, A: Allocator> ThinVec<T, A> {
         ensures err { IfErr result
             (λ error. IsCollectedList doubling T.row alloc error.list (I.remaining iter)) }
         // The list had no room for the item in hand, or the call could not allocate a block of
-        // capacity `h`, a possible lower bound in the size hint.
+        // capacity `h`, some number within the limit.
         ensures cause { IfErr result (λ error. MatchOption error.in_hand
             ((h : ℕ) × IsWithinCount h (I.remaining error.rest) × (0 < h)
             × ((error.cause ≡ ThinVecError.CapacityOverflow)

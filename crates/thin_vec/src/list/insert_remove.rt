@@ -24,11 +24,13 @@ impl<T, A: Allocator, G: Growth> ThinVec<T, A, G> {
     pub fn insert(&mut self, index: usize, value: T) -> Result<(), Rejected<T>>
         requires in_bounds { index ≤ length self.old.items }
 
-        // On success.
+        // The items, whether the call succeeds or fails.
         ensures items { self.new.items
             ≡ (if is_ok result then insert self.old.items index value else self.old.items) }
         ensures len { length self.new.items
             ≡ (if is_ok result then length self.old.items + 1 else length self.old.items) }
+
+        // On success.
         ensures capacity { OnOk result
             (capacity_after_reserve G.rule T.row self.old 1 ≡ Some self.new.capacity) }
         ensures cost { OnOk result

@@ -19,17 +19,19 @@ impl<T, A: Allocator, G: Growth> ThinVec<T, A, G> {
     ///
     /// # Errors
     ///
-    /// Fails if and only if `reserve(1)` would fail, with the same cause. The error returns `value`
-    /// to the caller.
+    /// Fails only if the list is full: with `CapacityOverflow` if the growth rule chooses no
+    /// capacity, and otherwise with `OutOfMemory`. The error returns `value` to the caller.
     // With `always`, LLVM inlines this function before it simplifies the caller, and makes shorter
     // loops.
     #[inline(always)]
     pub fn push(&mut self, value: T) -> Result<(), Rejected<T>>
-        // On success.
+        // The items, whether the call succeeds or fails.
         ensures items { self.new.items
             ≡ (if is_ok result then self.old.items ++ value ∷ [] else self.old.items) }
         ensures len { length self.new.items
             ≡ (if is_ok result then length self.old.items + 1 else length self.old.items) }
+
+        // On success.
         ensures capacity { OnOk result
             (capacity_after_reserve G.rule T.row self.old 1 ≡ Some self.new.capacity) }
         ensures cost { OnOk result (CostsMoves 1 self.old self.new) }

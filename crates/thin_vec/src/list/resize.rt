@@ -102,8 +102,8 @@ impl<T: Drop, A: Allocator, G: Growth> ThinVec<T, A, G> {
     ///
     /// # Errors
     ///
-    /// Fails if and only if reserving room for the new items would fail, with the same cause. On
-    /// failure, `make` is dropped without being called.
+    /// Fails only if the list has to grow, with the causes of `reserve`. On failure, `make` is
+    /// dropped without being called.
     pub fn resize_with<F: FnMut() -> T>(&mut self, len: usize, make: F) -> Result<(), ThinVecError>
         requires callable { F.IsAlwaysCallable make }
 
