@@ -9,8 +9,8 @@ use Rattle.std.specs.Int.{IsPowerOfTwo}
 use Rattle.thin_block.specs.Capacity.{fits, min_non_zero_cap, items_offset, least_power}
 
 -- `GrowthRule` is the type of growth rules. A rule maps the size of an item, its alignment, the old
--- capacity and the required capacity to the new capacity. It returns `None` if this capacity is too
--- large.
+-- capacity and the required capacity to the new capacity. It returns `None` if it chooses none,
+-- because this capacity would be too large or for a reason of its own.
 abbrev pub GrowthRule : Type 0
 GrowthRule = ℕ → ℕ → ℕ → ℕ → Option ℕ
 
@@ -25,8 +25,9 @@ pub record IsValidGrowth (s a c want n : ℕ) : Type 0 where
 abbrev pub GrowsValidly : RattleType → ℕ → ℕ → ℕ → Type 0
 GrowsValidly R c want n = IsValidGrowth (type_size R) (type_align R) c want n
 
--- `IsLawful rule` holds if each capacity that `rule` chooses is at least the required capacity, at
--- least twice the old capacity, and small enough to be allocated.
+-- `IsLawful rule` holds if each capacity that `rule` chooses, for a required capacity above the old
+-- one and below 2^64, is at least the required capacity, at least twice the old capacity, and small
+-- enough to be allocated.
 abbrev pub IsLawful : GrowthRule → Type 0
 IsLawful rule = (s a c want n : ℕ) → c < want → want < 2 ^ 64 → rule s a c want ≡ Some n
     → IsValidGrowth s a c want n

@@ -68,8 +68,7 @@ module _ {T A : Type 0} where
   HasRoomFor v k = length v.items + k ≤ v.capacity
 
   -- `capacity_after_reserve rule R v k` is the capacity of the list `v` after `reserve(k)`, under
-  -- the growth rule `rule`, for items of the type `R`. It is `None` if the capacity would be too
-  -- large.
+  -- the growth rule `rule`, for items of the type `R`. It is `None` if the rule chooses none.
   abbrev pub capacity_after_reserve : GrowthRule → RattleType → ListView T A → ℕ → Option ℕ
   capacity_after_reserve rule R v k =
       grown_capacity rule (type_size R) (type_align R) v.capacity (length v.items + k)

@@ -90,7 +90,7 @@ module _ {T A : Type 0} where
     -- In this case, nothing was allocated.
     pub none : size limit ≡ 0 → w.capacity ≡ 0
     -- The number `h` is some number within the limit. Tests show that it is the lower bound in the
-    -- size hint.
+    -- size hint, or 0 if nothing was allocated before the pushes.
     pub pushed : (h : ℕ) × IsWithinCount h limit × IsAfterCollect rule R h w
     pub made : IsFreshList R a w
 

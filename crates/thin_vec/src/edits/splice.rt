@@ -155,8 +155,8 @@ impl<
             (λ p. self.exit.0.now.items
             ≡ (splice_front self.entry ++ p.items) ++ splice_tail self.entry)) }
 
-        // When it must succeed (`at_end` names another case), and when the list makes no request
-        // for memory.
+        // When it must succeed, and when the list makes no request for memory. (`at_end` names
+        // another case in which it must succeed.) In every other case it may fail.
         ensures succeeds { size (I.remaining (splice_iter self.entry))
             ≤ splice_range_len self.entry → IsOk result }
         ensures had_room { HasRoomFor (left_by_splice self.entry)

@@ -42,7 +42,7 @@ impl<T, A: Allocator, G: Growth> ThinVec<T, A, G> {
         ensures runs { OnOk result
             (WholeRun I.next_gives iter (λ p. self.new.items ≡ self.old.items ++ p.items)) }
 
-        // When it must succeed.
+        // When it must succeed. In every other case it may fail.
         ensures succeeds { HasRoomFor self.old (size (I.remaining iter)) → IsOk result }
 
         // On failure.
@@ -65,7 +65,8 @@ impl<T, A: Allocator, G: Growth> ThinVec<T, A, G> {
             × FailsForRoom G.rule T.row self.new k error.cause) }
 
         // In every case. The number `h` is some number within the limit. Tests show that it is the
-        // lower bound in the size hint. `moves` follows from `capacity`.
+        // lower bound in the size hint, or 0 if nothing was reserved. `moves` follows from
+        // `capacity`.
         ensures had_room { HasRoomFor self.old (size (I.remaining iter))
             → self.new.capacity ≡ self.old.capacity }
         ensures capacity { (h : ℕ) × IsWithinCount h (I.remaining iter)
@@ -97,7 +98,7 @@ impl<T, A: Allocator, G: Growth> ThinVec<T, A, G> {
         ensures items { OnOk result ((xs : List T) × Drains I.next_gives iter xs
             × (self.new.items ≡ self.old.items ++ xs)) }
 
-        // When it must succeed.
+        // When it must succeed. In every other case it may fail.
         ensures succeeds { HasRoomFor self.old (size (I.remaining iter)) → IsOk result }
 
         // On failure.
@@ -189,7 +190,7 @@ impl<T, A: Allocator> ThinVec<T, A> {
         ensures new { IfOk result
             (λ list. IsCollectedList doubling T.row alloc list (I.remaining iter)) }
 
-        // When it must succeed.
+        // When it must succeed. In every other case it may fail.
         ensures succeeds { size (I.remaining iter) ≡ 0 → IsOk result }
 
         // On failure.
