@@ -14,7 +14,7 @@ use thin_block::Growth;
 
 impl<T, A: Allocator, G: Growth> ThinVec<T, A, G> {
     /// Sorts the items, or fails if the memory for it is refused. Equal items keep their order.
-    /// More than 20 items need memory for the time of the call, which the allocator of the list
+    /// More than 20 items may need memory for the time of the call, which the allocator of the list
     /// gives.
     ///
     /// # Errors
