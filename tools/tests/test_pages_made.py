@@ -27,8 +27,8 @@ class MadePages(ToolTest):
         found = reference.used_definitions("thin_vec")
         # The contracts that import `vec_len` from std mean the word about a `Vec`.
         self.assertNotIn("vec_len", found)
-        # One is opaque, and one is named in a trait.
-        self.assertIn("IsAllocatable", found["IsBounded"][3])
+        # One is named in a record, and one in a trait.
+        self.assertIn("Fits", found["IsBounded"][3])
         self.assertIn("IsValidGrowth", found["IsLawful"][3])
 
     def test_a_word_of_the_library_without_a_meaning(self):
