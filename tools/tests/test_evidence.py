@@ -22,19 +22,21 @@ class Evidence(ToolTest):
             f"{place}: promise planted, tests: no test list_tests planted\n",
         )
 
-    def test_a_promise_that_only_a_page_says(self):
+    def test_a_promise_that_only_pages_and_texts_show(self):
         top = self.copy()
         path = top / "docs" / "evidence.toml"
         text = path.read_text(encoding="utf-8")
-        for reading, is_fault in (
-            ("docs/PROOFS.md#the-counters", True),
-            ("docs/AUDIT.md#what-to-read", False),
+        reading = 'readings = ["docs/AUDIT.md#what-to-read"]\n'
+        for evidence, is_fault in (
+            (reading, True),
+            (f'{reading}also = "a reader"\n', True),
+            (f'{reading}searches = ["unsafe"]\n', False),
         ):
-            planted = f'\n[promise.planted]\nsays = "Planted."\nreadings = ["{reading}"]\n'
+            planted = f'\n[promise.planted]\nsays = "Planted."\n{evidence}'
             path.write_text(text + planted, encoding="utf-8")
-            with self.subTest(reading):
+            with self.subTest(evidence):
                 said = self.run_tool("evidence", top=top).stdout
-                says = "promise planted is shown by nothing but a page that says it\n"
+                says = "promise planted is shown by nothing but pages and texts\n"
                 self.assertEqual(said.partition(": ")[2], says if is_fault else "")
 
     def test_a_changed_figure_of_a_row_a_test_and_a_clause(self):
