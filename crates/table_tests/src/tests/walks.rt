@@ -168,7 +168,11 @@ fn walks_and_comparisons_make_no_request(rt: HostRuntime) -> Result<(), Fail> {
         for (_row, _column, _value) in &table {
             visited = visited.saturating_add(1);
         }
-        check!(rt; same((visited, table.iter().count()), (table.len(), table.len())));
+        let mut iterated = 0_usize;
+        for _entry in table.iter() {
+            iterated = iterated.saturating_add(1);
+        }
+        check!(rt; same((visited, iterated), (table.len(), table.len())));
         check!(rt; same(refusing.requests(), 0));
     }
     Ok(())
