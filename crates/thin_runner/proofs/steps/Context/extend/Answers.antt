@@ -70,7 +70,7 @@ returns-in-Err g c =
             by_held = λ some _. absurd (omega (arith, ap length none, some));
             by_in_hand = λ more. absurd (omega (arith, more));
             by_push = λ _ some. (subst
-                (λ k. FailsForRoom g.G.Growth.rule (param 0 g.row.T) c.extend.new.self k
+                (λ k. FailsForRoom g.G.Growth.rule (param 0 g.row.T) c.extend-filled.new.self k
                 c.in-Err.refused.cause)
                 (at-some-in-hand _ _ hand e.cause.1 some) e.cause.2).1;
             ended = λ nothing some. absurd (omega (arith, ap length none, some));
