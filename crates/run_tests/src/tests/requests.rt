@@ -31,7 +31,7 @@ fn run_makes_no_request_if_there_is_room_for_its_replies(rt: HostRuntime) -> Res
         let mut replies = Vec::with_capacity(refusing, 9)?;
         let mut commands = Vec::with_capacity(refusing, count)?;
         for _ in 0..count {
-            commands.push(Command::Pop).map_err(|_full| "room")?;
+            commands.push(Command::Pop).ok().ok_or("room")?;
         }
         refusing.refuse(1);
         let ran = run(refusing, &mut list, commands, &mut replies, &NEVER);
