@@ -123,6 +123,6 @@ def drawn(page, groups):
         head.append(f'<line x1="{x:g}" y1="84" x2="{x:g}" y2="{y}" class="{kind}"/>')
         head.append(text(x, 78, f"{half / 2:g}", "small", "middle"))
     foot = text(
-        16, height - 10, date + "docs/FIGURES.md has the machine and all workloads.", "small"
+        16, height - 10, date + "Measured in a proved program. docs/FIGURES.md has the machine and all workloads.", "small"
     )
     return "\n".join([*head, *lines, foot, "</svg>"]) + "\n"
