@@ -104,7 +104,7 @@ def drawn(page, groups):
                 lines += bar(y + at * (BAR + 1), ratio, who)
             y += ROW
         y += 8
-    measured = re.search(r"Measured on:\s+([^;]*);", page)
+    measured = re.search(r"Measured\s+on:\s+([^;]*);", page)
     date = f"Measured on {measured.group(1)}. " if measured else ""
     height = y + 30
     head = [
@@ -122,7 +122,6 @@ def drawn(page, groups):
         x, kind = across(half / 2), "one" if half == 2 else "line"
         head.append(f'<line x1="{x:g}" y1="84" x2="{x:g}" y2="{y}" class="{kind}"/>')
         head.append(text(x, 78, f"{half / 2:g}", "small", "middle"))
-    foot = text(
-        16, height - 10, date + "Measured in a proved program. docs/FIGURES.md has the machine and all workloads.", "small"
-    )
+    told = "Of a proved program; docs/FIGURES.md has the machine and all workloads."
+    foot = text(16, height - 10, date + told, "small")
     return "\n".join([*head, *lines, foot, "</svg>"]) + "\n"
