@@ -413,53 +413,77 @@ impl<T: Numbered, G: Growth> Case<T, G> {
         spare.saturating_sub(self.at.argument % 5)
     }
 
-    // Returns an error unless `found` equals `due`.
-    fn same(&self, what: &'static str, found: u64, due: u64) -> Result<(), Wrong> {
-        if found == due {
-            return Ok(());
+    // Returns an error unless each of the counts was found as often as it is due.
+    fn same(&self, counts: &[(&'static str, u64, u64)]) -> Result<(), Wrong> {
+        for &(what, found, due) in counts {
+            if found != due {
+                return Err(Wrong {
+                    at: self.at,
+                    what,
+                    found,
+                    due,
+                });
+            }
         }
-        Err(Wrong {
-            at: self.at,
-            what,
-            found,
-            due,
-        })
+        Ok(())
     }
 
     /// Checks that the call did what `answer` announces, and that exactly the items and the block
     /// of the list exist.
     pub fn check(&self, answer: Answer) -> Result<(), Wrong> {
-        let requests = self.ledger.alloc.requests();
         match answer {
             Ok(due) => self.check_success(due)?,
-            Err(ThinVecError::CapacityOverflow) => {
-                self.same("requests before an overflow", requests, 0)?;
-            }
-            Err(ThinVecError::OutOfMemory) => {
-                self.same("requests", requests, self.at.refused)?;
-                self.same("failed with no request", u64::from(requests == 0), 0)?;
-            }
+            Err(cause) => self.check_failure(cause)?,
         }
         self.check_live(self.list.len(), self.list.capacity())
     }
 
+    // Checks that the call failed at the request that was refused, or before any request.
+    fn check_failure(&self, cause: ThinVecError) -> Result<(), Wrong> {
+        let requests = self.ledger.alloc.requests();
+        match cause {
+            ThinVecError::CapacityOverflow => {
+                self.same(&[("requests before an overflow", requests, 0)])
+            }
+            ThinVecError::OutOfMemory => self.same(&[
+                ("requests", requests, self.at.refused),
+                ("failed with no request", u64::from(requests == 0), 0),
+            ]),
+        }
+    }
+
     // Checks that no request was refused, and that the counts are those that `due` announces.
     fn check_success(&self, due: Due) -> Result<(), Wrong> {
-        let ledger = self.ledger;
-        let (requests, refused) = (ledger.alloc.requests(), self.at.refused);
-        let was_refused = 0 < refused && refused <= requests;
-        self.same("succeeded", u64::from(was_refused), 0)?;
-        let capacity = self.list.capacity();
-        let grown = usize::from(capacity != self.capacity && capacity != 0);
+        let is_new = self.has_new_block();
         let counted = usize::from(T::IS_COUNTED);
         let clones = due.clones.saturating_mul(counted);
-        let granted = grown.saturating_add(due.requests).saturating_add(clones);
-        self.same("requests", requests, granted as u64)?;
-        self.check_lent(grown > 0, due.room)?;
-        self.same("clones", ledger.clones.get(), clones as u64)?;
-        self.same("calls", ledger.calls.get(), due.calls as u64)?;
+        let granted = due.requests.saturating_add(usize::from(is_new));
         let comparisons = due.comparisons.saturating_mul(counted);
-        self.same("comparisons", ledger.comparisons.get(), comparisons as u64)
+        let ledger = self.ledger;
+        self.same(&[
+            ("succeeded", u64::from(self.was_refused()), 0),
+            (
+                "requests",
+                ledger.alloc.requests(),
+                granted.saturating_add(clones) as u64,
+            ),
+            ("clones", ledger.clones.get(), clones as u64),
+            ("calls", ledger.calls.get(), due.calls as u64),
+            ("comparisons", ledger.comparisons.get(), comparisons as u64),
+        ])?;
+        self.check_lent(is_new, due.room)
+    }
+
+    // Returns whether the request that the case chooses was made, and so refused.
+    fn was_refused(&self) -> bool {
+        let refused = self.at.refused;
+        0 < refused && refused <= self.ledger.alloc.requests()
+    }
+
+    // Returns whether the list has a capacity that it did not have when `begin` was called.
+    fn has_new_block(&self) -> bool {
+        let capacity = self.list.capacity();
+        capacity != self.capacity && capacity != 0
     }
 
     // Checks that the requests were for no more bytes than the block of the list takes, if it is
@@ -468,17 +492,18 @@ impl<T: Numbered, G: Growth> Case<T, G> {
         let new = if is_new { self.list.capacity() } else { 0 };
         let most = block_bytes::<T>(new).saturating_add(block_bytes::<T>(room));
         let lent = self.ledger.alloc.lent();
-        self.same("bytes requested", lent.max(most), most)
+        self.same(&[("bytes requested", lent.max(most), most)])
     }
 
     /// Checks that `items` items exist, and one block of the right size if `capacity` is not 0.
     pub fn check_live(&self, items: usize, capacity: usize) -> Result<(), Wrong> {
         let items = if T::IS_COUNTED { items } else { 0 };
-        self.same("items", self.ledger.live.get(), items as u64)?;
-        let blocks = u64::from(capacity != 0);
-        self.same("blocks", self.ledger.alloc.blocks(), blocks)?;
-        let bytes = block_bytes::<T>(capacity);
-        self.same("bytes", self.ledger.alloc.bytes(), bytes)
+        let ledger = self.ledger;
+        self.same(&[
+            ("items", ledger.live.get(), items as u64),
+            ("blocks", ledger.alloc.blocks(), u64::from(capacity != 0)),
+            ("bytes", ledger.alloc.bytes(), block_bytes::<T>(capacity)),
+        ])
     }
 
     /// Drops the list. Checks that nothing is left, and that dropping made no request.
@@ -487,7 +512,7 @@ impl<T: Numbered, G: Growth> Case<T, G> {
         drop(self.take());
         let requests = self.ledger.alloc.requests();
         self.check_live(0, 0)?;
-        self.same("requests of the drop", requests, 0)
+        self.same(&[("requests of the drop", requests, 0)])
     }
 }
 

@@ -11,24 +11,45 @@ fn is_two(_owned: &Counted<'_>, item: i32) -> bool {
     item == 2
 }
 
+fn assert_retain_drops(rt: &impl Abort, ledger: &Ledger, list: &mut ThinVec<i32>) {
+    let owned = Counted::new(ledger, 7, ());
+    list.retain(move |item| !is_two(&owned, *item));
+    check!(rt; same(ledger.live.get(), 0));
+}
+
+fn assert_retain_mut_drops(rt: &impl Abort, ledger: &Ledger, list: &mut ThinVec<i32>) {
+    let owned = Counted::new(ledger, 7, ());
+    list.retain_mut(move |item| is_two(&owned, 2) && *item == 3);
+    check!(rt; same(ledger.live.get(), 0));
+}
+
+fn assert_dedup_by_drops(rt: &impl Abort, ledger: &Ledger, list: &mut ThinVec<i32>, len: usize) {
+    let owned = Counted::new(ledger, 7, ());
+    list.dedup_by(move |later, _kept| is_two(&owned, 2) && *later == 4);
+    check!(rt; same((ledger.live.get(), list.len()), (0, len)));
+}
+
+fn assert_dedup_by_key_drops(
+    rt: &impl Abort,
+    ledger: &Ledger,
+    list: &mut ThinVec<i32>,
+    len: usize,
+) {
+    let owned = Counted::new(ledger, 7, ());
+    list.dedup_by_key(move |item| is_two(&owned, 2) && *item == 1);
+    check!(rt; same((ledger.live.get(), list.len()), (0, len.min(1))));
+}
+
 // Passes a closure that owns a `Counted` to each filter, for a list of `len` items, and asserts
 // that each drops its closure.
 fn assert_filters_drop(rt: &impl Abort, alloc: Global, len: usize) -> Result<(), Fail> {
     let ledger = Ledger::leaked(alloc)?;
     let mut list = ThinVec::new(alloc);
     list.resize(len, 3)?;
-    let owned = Counted::new(ledger, 7, ());
-    list.retain(move |item| !is_two(&owned, *item));
-    check!(rt; same(ledger.live.get(), 0));
-    let owned = Counted::new(ledger, 7, ());
-    list.retain_mut(move |item| is_two(&owned, 2) && *item == 3);
-    check!(rt; same(ledger.live.get(), 0));
-    let owned = Counted::new(ledger, 7, ());
-    list.dedup_by(move |later, _kept| is_two(&owned, 2) && *later == 4);
-    check!(rt; same((ledger.live.get(), list.len()), (0, len)));
-    let owned = Counted::new(ledger, 7, ());
-    list.dedup_by_key(move |item| is_two(&owned, 2) && *item == 1);
-    check!(rt; same((ledger.live.get(), list.len()), (0, len.min(1))));
+    assert_retain_drops(rt, ledger, &mut list);
+    assert_retain_mut_drops(rt, ledger, &mut list);
+    assert_dedup_by_drops(rt, ledger, &mut list, len);
+    assert_dedup_by_key_drops(rt, ledger, &mut list, len);
     Ok(())
 }
 
@@ -38,6 +59,32 @@ fn filters_drop_their_closures(rt: HostRuntime) -> Result<(), Fail> {
         assert_filters_drop(&rt, rt.alloc(), len)?;
     }
     Ok(())
+}
+
+// Tests two closures, of which only the first wants the last item, which is 2.
+fn assert_pop_if_drops(rt: &impl Abort, ledger: &Ledger, list: &mut ThinVec<i32>) {
+    let has_item = !list.is_empty();
+    let owned = Counted::new(ledger, 7, ());
+    let popped = list.pop_if(move |item| is_two(&owned, *item)).is_some();
+    check!(rt; same((popped, ledger.live.get()), (has_item, 0)));
+    let owned = Counted::new(ledger, 7, ());
+    let popped = list
+        .pop_if(move |item| is_two(&owned, 3) && *item == 2)
+        .is_some();
+    check!(rt; same((popped, ledger.live.get()), (false, 0)));
+}
+
+// Returns whether the list got the length, and asserts that the closure was dropped in any case.
+fn assert_resize_with_drops(
+    rt: &impl Abort,
+    ledger: &Ledger,
+    list: &mut ThinVec<i32>,
+    len: usize,
+) -> bool {
+    let owned = Counted::new(ledger, 7, ());
+    let resized = list.resize_with(len, move || if is_two(&owned, 2) { 8 } else { 9 });
+    check!(rt; same(ledger.live.get(), 0));
+    resized.is_ok() && list.len() == len
 }
 
 // Passes closures that own a `Counted` to `pop_if` and `resize_with`, for a list of `len` items,
@@ -50,22 +97,11 @@ fn assert_pop_if_and_resize_with_drop(
     let ledger = Ledger::leaked(alloc)?;
     let mut list = ThinVec::new(alloc);
     list.resize(len, 2)?;
-    let owned = Counted::new(ledger, 7, ());
-    let popped = list.pop_if(move |item| is_two(&owned, *item)).is_some();
-    check!(rt; same((popped, ledger.live.get()), (len > 0, 0)));
-    let owned = Counted::new(ledger, 7, ());
-    let popped = list
-        .pop_if(move |item| is_two(&owned, 3) && *item == 2)
-        .is_some();
-    check!(rt; same((popped, ledger.live.get()), (false, 0)));
-    for new_len in [len, len, len.saturating_add(40), len / 2, 0] {
-        let owned = Counted::new(ledger, 7, ());
-        list.resize_with(new_len, move || if is_two(&owned, 2) { 8 } else { 9 })?;
-        check!(rt; same((ledger.live.get(), list.len()), (0, new_len)));
+    assert_pop_if_drops(rt, ledger, &mut list);
+    for new_len in [len, len, len.saturating_add(40), len / 2, 0, usize::MAX] {
+        let resized = assert_resize_with_drops(rt, ledger, &mut list, new_len);
+        check!(rt; same((resized, new_len), (new_len < usize::MAX, new_len)));
     }
-    let owned = Counted::new(ledger, 7, ());
-    let refused = list.resize_with(usize::MAX, move || if is_two(&owned, 2) { 8 } else { 9 });
-    check!(rt; same((refused.is_err(), ledger.live.get()), (true, 0)));
     Ok(())
 }
 

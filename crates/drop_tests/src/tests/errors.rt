@@ -64,38 +64,68 @@ where
         + From<SpliceRefused<Counted<'a>, Counted<'a>>>
         + Drop,
 {
-    let rejected = Rejected {
-        value: Counted::new(ledger, 1, ()),
-        cause,
-    };
-    assert_dropped::<E, _>(rt, ledger, rejected, 1);
-    let wide = Rejected {
-        value: Counted::new(ledger, 1, 1_u64),
-        cause,
-    };
-    assert_dropped::<E, _>(rt, ledger, wide, 1);
-    let extend = ExtendRefused {
+    let alone = Counted::new(ledger, 1, ());
+    assert_dropped::<E, _>(
+        rt,
+        ledger,
+        Rejected {
+            value: alone,
+            cause,
+        },
+        1,
+    );
+    let wide = Counted::new(ledger, 1, 1_u64);
+    assert_dropped::<E, _>(rt, ledger, Rejected { value: wide, cause }, 1);
+    let extend = extend_refused(ledger, cause, count);
+    assert_dropped::<E, _>(rt, ledger, extend, 1_u64.wrapping_add(count));
+    let held = len.wrapping_add(count).wrapping_add(1);
+    let collect = collect_refused(alloc, ledger, cause, count, len)?;
+    assert_dropped::<E, _>(rt, ledger, collect, held);
+    let splice = splice_refused(alloc, ledger, cause, count, len)?;
+    assert_dropped::<E, _>(rt, ledger, splice, held);
+    Ok(())
+}
+
+fn extend_refused<'a>(
+    ledger: &'a Ledger,
+    cause: ThinVecError,
+    count: u64,
+) -> ExtendRefused<Counted<'a>, Counted<'a>> {
+    ExtendRefused {
         cause,
         in_hand: in_hand(ledger, count),
         rest: Counted::new(ledger, 2, ()),
-    };
-    assert_dropped::<E, _>(rt, ledger, extend, 1_u64.wrapping_add(count));
-    let collect = CollectRefused {
+    }
+}
+
+fn collect_refused<'a>(
+    alloc: Global,
+    ledger: &'a Ledger,
+    cause: ThinVecError,
+    count: u64,
+    len: u64,
+) -> Result<CollectRefused<Counted<'a>, Counted<'a>>, ThinVecError> {
+    Ok(CollectRefused {
         list: counted_list(ledger, alloc, len)?,
         cause,
         in_hand: in_hand(ledger, count),
         rest: Counted::new(ledger, 5, ()),
-    };
-    let held = len.wrapping_add(count).wrapping_add(1);
-    assert_dropped::<E, _>(rt, ledger, collect, held);
-    let splice = SpliceRefused {
+    })
+}
+
+fn splice_refused<'a>(
+    alloc: Global,
+    ledger: &'a Ledger,
+    cause: ThinVecError,
+    count: u64,
+    len: u64,
+) -> Result<SpliceRefused<Counted<'a>, Counted<'a>>, Fail> {
+    Ok(SpliceRefused {
         cause,
         held: counted_list(ledger, alloc, len)?.into_vec(alloc)?,
         in_hand: in_hand(ledger, count),
         rest: Counted::new(ledger, 6, ()),
-    };
-    assert_dropped::<E, _>(rt, ledger, splice, held);
-    Ok(())
+    })
 }
 
 // Makes an item if `count` is not 0.

@@ -9,7 +9,7 @@ use std::iter::Iterator;
 use std::process::Abort;
 use std::test::Fail;
 use thin_testing::{Counted, Ledger, List, Numbered, check, filled_list, numbered_items, same};
-use thin_vec::{Doubling, Splice, SpliceRefused, ThinVec, ThinVecError};
+use thin_vec::{Doubling, Drain, Splice, SpliceRefused, ThinVec, ThinVecError};
 
 // A call that removes the items of a range.
 #[derive(Clone, Copy, PartialEq, Debug)]
@@ -135,14 +135,21 @@ fn drops_of<T: Numbered>(
     ledger: &'static Ledger,
     case: Case,
 ) -> Result<u64, Fail> {
-    let list: List<T, Doubling> = filled_list(ledger, case.len, 0)?;
+    let mut list: List<T, Doubling> = filled_list(ledger, case.len, 0)?;
     let items = numbered_items(ledger, ledger.global, case.len as u64, case.new)?;
     ledger.begin(0);
     match case.call {
         Call::Drop => drop(list),
         Call::IntoIter => drop_iterator(list, case),
+        Call::Drain | Call::ExtractIf => take_from_range(rt, list, case),
+        Call::Splice | Call::ReplaceRangeFromList => {
+            replace_by(rt, list, &ledger.alloc, case, items)?;
+        }
         Call::ReplaceRange => replace_range(rt, ledger, list, case, items.as_slice())?,
-        _ => make_call(rt, ledger, list, case, items)?,
+        _ => {
+            remove_some(ledger, &mut list, case)?;
+            drop(list);
+        }
     }
     Ok(ledger.dropped.get())
 }
@@ -170,28 +177,22 @@ fn replace_range<T: Numbered>(
     list.replace_range(&ledger.alloc, case.start, case.end, items)
 }
 
-// Makes a call that borrows the list, and drops the list.
-fn make_call<T: Numbered>(
-    rt: &impl Abort,
+// Makes a call that needs neither a range in bounds nor new items.
+fn remove_some<T: Numbered>(
     ledger: &'static Ledger,
-    mut list: List<T, Doubling>,
+    list: &mut List<T, Doubling>,
     case: Case,
-    items: Vec<T>,
-) -> Result<(), Fail> {
+) -> Result<(), ThinVecError> {
     match case.call {
         Call::Clear => list.clear(),
         Call::Truncate => list.truncate(case.start),
-        Call::Resize => list.resize(case.start, T::numbered(ledger, VALUE))?,
+        Call::Resize => return list.resize(case.start, T::numbered(ledger, VALUE)),
         Call::Retain => list.retain(move |_item| !case.holds(ledger.called())),
         Call::RetainMut => list.retain_mut(move |_item| !case.holds(ledger.called())),
         Call::DedupBy => list.dedup_by(move |_later, _kept| {
             case.holds(ledger.called().saturating_add(1))
         }),
-        Call::DedupByKey => list.dedup_by_key(move |_item| key(case, ledger.called())),
-        _ => {
-            assert!(rt; case.start <= case.end && case.end <= list.len());
-            edit_range(list, &ledger.alloc, case, items)?;
-        }
+        _ => list.dedup_by_key(move |_item| key(case, ledger.called())),
     }
     Ok(())
 }
@@ -202,38 +203,43 @@ fn key(case: Case, call: u64) -> bool {
     call % 2 == 0 && !case.holds((call / 2).saturating_add(1))
 }
 
-// Makes a call that takes the bounds of the range, and drops the list.
-fn edit_range<T: Numbered, A: Allocator>(
+// Takes items from a `Drain` or an `ExtractIf` of the range, and drops it and the list.
+fn take_from_range<T: Drop, A: Allocator>(rt: &impl Abort, mut list: ThinVec<T, A>, case: Case) {
+    assert!(rt; case.start <= case.end && case.end <= list.len());
+    if case.call == Call::Drain {
+        take_from_drain(list.drain(case.start, case.end), case);
+        return;
+    }
+    let mut extract = list.extract_if(case.start, case.end, |_item: &mut T| true);
+    for _ in 0..case.fronts {
+        drop(extract.next());
+    }
+}
+
+fn take_from_drain<T: Drop, A: Allocator>(mut drain: Drain<'_, T, A>, case: Case) {
+    for _ in 0..case.fronts {
+        drop(drain.next());
+    }
+    for _ in 0..case.backs {
+        drop(drain.next_back());
+    }
+}
+
+// Replaces the range by the items themselves, and drops the list.
+fn replace_by<T: Numbered, A: Allocator>(
+    rt: &impl Abort,
     mut list: ThinVec<T, A>,
     alloc: A,
     case: Case,
     items: Vec<T>,
-) -> Result<(), Fail>
-    requires start_le_end { case.start ≤ case.end }
-    requires in_bounds { case.end ≤ length list.items }
-{
-    match case.call {
-        Call::Drain => {
-            let mut drain = list.drain(case.start, case.end);
-            for _ in 0..case.fronts {
-                drop(drain.next());
-            }
-            for _ in 0..case.backs {
-                drop(drain.next_back());
-            }
-        }
-        Call::ExtractIf => {
-            let mut extract = list.extract_if(case.start, case.end, |_item: &mut T| true);
-            for _ in 0..case.fronts {
-                drop(extract.next());
-            }
-        }
-        Call::Splice => splice(&mut list, case, items.into_iter(), alloc)?,
-        _ => {
-            let mut other = ThinVec::from_vec(alloc, items)?;
-            list.replace_range_from_list(case.start, case.end, &mut other)?;
-        }
+) -> Result<(), Fail> {
+    assert!(rt; case.start <= case.end && case.end <= list.len());
+    if case.call == Call::Splice {
+        splice(&mut list, case, items.into_iter(), alloc)?;
+        return Ok(());
     }
+    let mut other = ThinVec::from_vec(alloc, items)?;
+    list.replace_range_from_list(case.start, case.end, &mut other)?;
     Ok(())
 }
 
@@ -383,8 +389,24 @@ fn reject(ledger: &Ledger, len: u64, late: &Cell<u64>) -> bool {
     false
 }
 
-// Removes all items by `retain` or `retain_mut`, or all but the first by `dedup_by`. Asserts that
-// each is dropped before the next one is tested.
+// Removes all items by `retain` or `retain_mut`, or all but the first by `dedup_by`. Returns the
+// number of calls before which an item that is not kept still exists.
+fn late_drops<T: Numbered>(
+    ledger: &'static Ledger,
+    list: &mut List<T, Doubling>,
+    call: Call,
+) -> u64 {
+    let len = list.len() as u64;
+    let late = Cell::new(0);
+    match call {
+        Call::Retain => list.retain(|_item| reject(ledger, len, &late)),
+        Call::RetainMut => list.retain_mut(|_item| reject(ledger, len, &late)),
+        _ => list.dedup_by(|_later, _kept| !reject(ledger, len, &late)),
+    }
+    late.get()
+}
+
+// Asserts that each item that is not kept is dropped before the next one is tested.
 fn assert_prompt<T: Numbered>(
     rt: &impl Abort,
     ledger: &'static Ledger,
@@ -392,14 +414,9 @@ fn assert_prompt<T: Numbered>(
 ) -> Result<(), Fail> {
     for call in [Call::Retain, Call::RetainMut, Call::DedupBy] {
         let mut list: List<T, Doubling> = filled_list(ledger, len, 0)?;
-        let late = Cell::new(0);
         ledger.begin(0);
-        match call {
-            Call::Retain => list.retain(|_item| reject(ledger, len as u64, &late)),
-            Call::RetainMut => list.retain_mut(|_item| reject(ledger, len as u64, &late)),
-            _ => list.dedup_by(|_later, _kept| !reject(ledger, len as u64, &late)),
-        }
-        check!(rt; same((len, call, late.get()), (len, call, 0)));
+        let late = late_drops(ledger, &mut list, call);
+        check!(rt; same((len, call, late), (len, call, 0)));
     }
     Ok(())
 }
