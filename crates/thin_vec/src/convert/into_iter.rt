@@ -201,8 +201,8 @@ impl<T: Clone, A: Allocator, G: Growth> IntoIter<T, A, G> {
         // On failure.
         ensures cause { IfErr result (λ cause. cause ≡ ThinVecError.OutOfMemory) }
     {
-        // For the proof alone: the contract of `cap` limits the number of items.
-        let _room = self.block.cap();
+        // Only the proof needs this call: its contract says that the capacity `Fits`.
+        let _cap = self.block.cap();
         let list = ThinVec::from_fitting_slice(alloc, self.as_slice())?;
         Ok(list.into_iter())
     }

@@ -56,7 +56,7 @@ impl<T: Clone, A: Allocator, G: Growth> ThinVec<T, A, G> {
         ensures preserved { PreservesList T.row self.old self.new }
     {
         // Only the proof needs this call: its contract says that the list `IsBounded`.
-        let _bounded = self.len();
+        let _len = self.len();
         if !fits::<T>(items.len()) {
             return Err(ThinVecError::CapacityOverflow);
         }

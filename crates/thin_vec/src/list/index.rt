@@ -73,8 +73,8 @@ impl<T, A: Allocator, G: Growth> IndexMut<usize> for ThinVec<T, A, G> {
         ensures found { slice_get self.old.items index ≡ Some result.now }
         ensures bounds { IsBounded T.row self.old }
     {
-        // For the proof alone: `bounds` follows from the contract of `len`.
-        let _len = self.block.len();
+        // Only the proof needs this call: its contract says that the list `IsBounded`.
+        let _len = self.len();
         self.block.slot_mut(index)
     }
 }

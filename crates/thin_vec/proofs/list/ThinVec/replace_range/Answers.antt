@@ -26,7 +26,7 @@ pub returns-then-not-fits-clause-cause : goal.returns-then-not-fits-clause-cause
 returns-then-not-fits-clause-cause g c _ =
     let v = c.args.self.now in let n = length c.args.items.now in
     too-many g.G.Growth.rule (param 0 g.row.T) v (n - (c.args.end - c.args.start)) n
-    g.met.G.Growth.law c.len-bounded.ensures.bounds (too-large g c)
+    g.met.G.Growth.law c.len-len.ensures.bounds (too-large g c)
     (omega (arith, c.requires.in_bounds, c.requires.start_le_end))
 
 count : (g : _) (c : goal.After-drop-clones g)

@@ -10,8 +10,8 @@ from_fitting_slice-requires g c =
     let it = c.self.inside in
     let room = walked-room it.block it.alloc it.start it.end c.self.invariant in
     record {
-      fits = fits-less (param 0 g.row.T) (length c.as_slice.result.now) c.cap-room.result
-          c.cap-room.ensures.fits
+      fits = fits-less (param 0 g.row.T) (length c.as_slice.result.now) c.cap-cap.result
+          c.cap-cap.ensures.fits
           (omega (
             arith,
             ap length c.as_slice.ensures.value,

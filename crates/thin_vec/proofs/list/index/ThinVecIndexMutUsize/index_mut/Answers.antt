@@ -7,7 +7,6 @@ use Rattle.thin_block.specs.Slots.{items_in}
 use Rattle.thin_vec.specs.Lends.{with_item}
 use Rattle.thin_vec.proofs.LendsLemmas.{restores-set, view-with_item}
 use Rattle.thin_vec.proofs.ListLemmas.{thin-filled, thin-get}
-use Rattle.thin_vec.proofs.ThinVecLemmas.{within-of}
 use Rattle.thin_vec.proofs.list.index.ThinVecIndexMutUsize.index_mut.Goals as goal
 
 pub slot_mut-requires : goal.slot_mut-requires
@@ -44,6 +43,6 @@ returns g c =
         value = sym (get_or_from_slice_get c.args.self.now.items c.args.index c.slot_mut.result.now
             c.slot_mut.result.now item);
         found = item;
-        bounds = within-of _ _ _ _ c.self.invariant c.self.view_is c.len-len.ensures.bounds;
+        bounds = rw c.self.view_is at c.len-len.ensures.bounds;
       },
     )
