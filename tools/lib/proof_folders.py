@@ -29,12 +29,11 @@ def arguments(text):
 
 
 def with_fixed(text, parameters):
-    """The name of a type or a trait, with the arguments that are no parameters."""
+    """The name of a type or a trait, with the names in its arguments that are no parameters."""
     name = re.search(r"(\w+)(?:<|$)", text.strip())
     words = [name.group(1)] if name else [text]
-    for fixed in arguments(text):
-        if fixed not in parameters:
-            words += re.findall(r"\w+", fixed)
+    for argument in arguments(text):
+        words += [word for word in re.findall(r"\w+", argument) if word not in parameters]
     return "".join(word[0].upper() + word[1:] for word in words)
 
 

@@ -47,6 +47,10 @@ impl<A: Copy, B, C> ops::Index<usize> for Pair<A, B, C> {
 impl<B, C> Clone for Pair<u8, B, C> {
     fn clone() {}
 }
+
+impl<B, C> Eq for Pair<Vec<B>, B, C> {
+    fn eq() {}
+}
 """
 
 
@@ -162,6 +166,7 @@ class Pages(ToolTest):
             "one/Pair+u8+B/second",
             "one/PairIndexUsize/index",
             "one/PairU8Clone/clone",
+            "one/PairVecEq/eq",
             "one/Pair/TheLaw",
         )
         for name in right:
@@ -177,6 +182,7 @@ class Pages(ToolTest):
             ("one/Pair/first", "proofs/one/Pair+A+B/first"),
             ("one/Pair/clone", "proofs/one/PairU8Clone/clone"),
             ("one/PairIndex/index", "proofs/one/PairIndexUsize/index"),
+            ("one/PairVecBEq/eq", "proofs/one/PairVecEq/eq"),
             ("one/Pair/lost", "a folder of its name"),
         ]
         for name, place in wrong:

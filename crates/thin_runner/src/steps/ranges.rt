@@ -1,5 +1,6 @@
 //! Implements the commands `Drain` and `ExtractIf`.
 ghost use Rattle.std.specs.Prelude.{◌≡◌, ◌+◌, ◌≤◌, List, ◌∷◌, ◌++◌, length, vec_capacity, vec_len};
+ghost use Rattle.std.proofs.Common.{rules};
 ghost use Rattle.thin_runner.specs.Steps.{Allows};
 ghost use Rattle.thin_runner.specs.commands.Ranges.{ends_taken};
 ghost use Rattle.thin_runner.specs.declared.command.Command.TheVariants.{Drain as Drained, ExtractIf as Extracted};
@@ -75,38 +76,55 @@ impl<T: Clone + Eq, A: Allocator + Copy, G: Growth, J: Judge<T>> Context<T, A, G
     }
 }
 
-// Carries out the steps on `drain` in order, and appends their results to `answers`. `Splice` has
-// the same two functions: no trait of both names the remaining items and what a step keeps.
-fn take_ends<T: Drop, A: Allocator, G: Growth>(
-    drain: &mut Drain<'_, T, A, G>,
+// A range of a list, whose items are taken from either end.
+pub(crate) trait Ends<T> {
+    // The items that remain.
+    ghost rest: { Self → List T };
+
+    // What stays the same while items are taken.
+    ghost keeps: { Self → Self → Type 0 };
+
+    // Takes one item from the end that `step` names, and returns it, or returns `None` if no item
+    // remains.
+    fn take_end(&mut self, step: Step) -> Option<T>
+        ensures value { (steps : List Step) → ends_taken (rest self.old) (step ∷ steps)
+            ≡ result ∷ ends_taken (rest self.new) steps }
+        ensures preserved { (first : Self) → keeps first self.old → keeps first self.new };
+
+    // A range on which no step was taken stays the same.
+    ghost keeps_all: { (ends : Self) → keeps ends ends };
+}
+
+impl<'a, T: Drop, A: Allocator, G: Growth> Ends<T> for Drain<'a, T, A, G> {
+    ghost rest = { drain_rest };
+
+    ghost keeps = { DrainKeeps };
+
+    ghost keeps_all = { Prim.search rules };
+
+    fn take_end(&mut self, step: Step) -> Option<T> {
+        match step {
+            Step::Front => self.next(),
+            Step::Back => self.next_back(),
+        }
+    }
+}
+
+// Carries out the steps on `ends` in order, and appends their results to `answers`.
+pub(crate) fn take_ends<T: Drop, A: Allocator, E: Ends<T>>(
+    ends: &mut E,
     steps: Vec<Step, A>,
     answers: &mut Vec<Option<T>, A>,
 )
     requires room { vec_len answers.old + vec_len steps ≤ vec_capacity answers.old }
     ensures items { answers.new.items ≡ answers.old.items ++ ends_taken
-        (drain_rest drain.old) steps.items }
-    ensures preserved { DrainKeeps drain.old drain.new }
+        (E.rest ends.old) steps.items }
+    ensures preserved { E.keeps ends.old ends.new }
 {
     for step in steps {
-        match answers.push(take_end(drain, step)) {
+        match answers.push(ends.take_end(step)) {
             Ok(()) => (),
             Err(_refused) => unreachable!(),
         }
-    }
-}
-
-// Takes one item from the end of `drain` that `step` names, and returns it, or returns `None` if no
-// item remains.
-fn take_end<T: Drop, A: Allocator, G: Growth>(
-    drain: &mut Drain<'_, T, A, G>,
-    step: Step,
-) -> Option<T>
-    ensures value { (steps : List Step) → ends_taken (drain_rest drain.old) (step ∷ steps)
-        ≡ result ∷ ends_taken (drain_rest drain.new) steps }
-    ensures preserved { DrainKeeps drain.old drain.new }
-{
-    match step {
-        Step::Front => drain.next(),
-        Step::Back => drain.next_back(),
     }
 }

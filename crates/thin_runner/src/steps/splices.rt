@@ -1,7 +1,7 @@
 //! Implements the command `Splice`.
-ghost use Rattle.std.specs.Prelude.{◌≡◌, ◌+◌, ◌≤◌, List, ◌∷◌, ◌++◌, length, vec_capacity, vec_len};
+ghost use Rattle.std.specs.Prelude.{◌≤◌, length};
+ghost use Rattle.std.proofs.Common.{rules};
 ghost use Rattle.thin_runner.specs.Steps.{Allows};
-ghost use Rattle.thin_runner.specs.commands.Ranges.{ends_taken};
 ghost use Rattle.thin_runner.specs.declared.command.Command.TheVariants.{Splice as Spliced};
 ghost use Rattle.thin_vec.specs.Edits.Splice.{SpliceKeeps, splice_rest};
 
@@ -9,6 +9,7 @@ use crate::command::{Reply, Step};
 use crate::hinted::Hinted;
 use crate::judge::Judge;
 use crate::steps::Context;
+use crate::steps::ranges::{Ends, take_ends};
 use std::alloc::Allocator;
 use thin_vec::{Growth, Splice, SpliceRefused, ThinVec, ThinVecError};
 
@@ -56,34 +57,17 @@ impl<T: Clone + Eq, A: Allocator + Copy, G: Growth, J: Judge<T>> Context<T, A, G
     }
 }
 
-fn take_ends<T: Drop, A: Allocator, G: Growth>(
-    splice: &mut Splice<'_, Hinted<T, A>, T, A, G>,
-    steps: Vec<Step, A>,
-    answers: &mut Vec<Option<T>, A>,
-)
-    requires room { vec_len answers.old + vec_len steps ≤ vec_capacity answers.old }
-    ensures items { answers.new.items ≡ answers.old.items ++ ends_taken
-        (splice_rest splice.old) steps.items }
-    ensures preserved { SpliceKeeps splice.old splice.new }
-{
-    for step in steps {
-        match answers.push(take_end(splice, step)) {
-            Ok(()) => (),
-            Err(_refused) => unreachable!(),
-        }
-    }
-}
+impl<'a, T, A: Allocator, G: Growth> Ends<T> for Splice<'a, Hinted<T, A>, T, A, G> {
+    ghost rest = { splice_rest };
 
-fn take_end<T, A: Allocator, G: Growth>(
-    splice: &mut Splice<'_, Hinted<T, A>, T, A, G>,
-    step: Step,
-) -> Option<T>
-    ensures value { (steps : List Step) → ends_taken (splice_rest splice.old) (step ∷ steps)
-        ≡ result ∷ ends_taken (splice_rest splice.new) steps }
-    ensures preserved { SpliceKeeps splice.old splice.new }
-{
-    match step {
-        Step::Front => splice.next(),
-        Step::Back => splice.next_back(),
+    ghost keeps = { SpliceKeeps };
+
+    ghost keeps_all = { Prim.search rules };
+
+    fn take_end(&mut self, step: Step) -> Option<T> {
+        match step {
+            Step::Front => self.next(),
+            Step::Back => self.next_back(),
+        }
     }
 }

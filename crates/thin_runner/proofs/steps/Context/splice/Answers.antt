@@ -14,37 +14,37 @@ use Rattle.thin_vec.specs.ThinVec.{HasRoomFor}
 use Rattle.thin_runner.proofs.steps.Context.splice.Goals.{After-take_ends}
 use Rattle.thin_runner.proofs.steps.Context.splice.Goals as goal
 
-left : (g : _) (c : After-take_ends g) → left_by_splice c.take_ends.new.splice
+left : (g : _) (c : After-take_ends g) → left_by_splice c.take_ends.new.ends
     ≡ without_range c.args.list.now c.args.start c.args.end
 left g c = c.take_ends.ensures.preserved.left ∙ c.splice-splice.ensures.left
 
 front : (g : _) (c : After-take_ends g)
-    → splice_front c.take_ends.new.splice ≡ take c.args.start c.args.list.now.items
+    → splice_front c.take_ends.new.ends ≡ take c.args.start c.args.list.now.items
 front g c = c.take_ends.ensures.preserved.front ∙ c.splice-splice.ensures.front
 
 tail : (g : _) (c : After-take_ends g)
-    → splice_tail c.take_ends.new.splice ≡ drop c.args.end c.args.list.now.items
+    → splice_tail c.take_ends.new.ends ≡ drop c.args.end c.args.list.now.items
 tail g c = c.take_ends.ensures.preserved.tail ∙ c.splice-splice.ensures.tail
 
 range : (g : _) (c : After-take_ends g)
-    → splice_range_len c.take_ends.new.splice ≡ c.args.end - c.args.start
+    → splice_range_len c.take_ends.new.ends ≡ c.args.end - c.args.start
 range g c = c.take_ends.ensures.preserved.range ∙ c.splice-splice.ensures.range
 
-moved : (g : _) (c : After-take_ends g) → 2 * length (splice_tail c.take_ends.new.splice)
+moved : (g : _) (c : After-take_ends g) → 2 * length (splice_tail c.take_ends.new.ends)
     ≡ 2 * (length c.args.list.now.items - c.args.end)
 moved g c = ap (λ n. 2 * n) (tail-count c.args.list.now.items _ c.args.end (tail g c))
 
 items : (g : _) (c : After-take_ends g)
-    → hinted_items (splice_iter c.take_ends.new.splice) ≡ c.args.items.items
+    → hinted_items (splice_iter c.take_ends.new.ends) ≡ c.args.items.items
 items g c = ap hinted_items (c.take_ends.ensures.preserved.iter ∙ c.splice-splice.ensures.value)
     ∙ c.new.ensures.items
 
 claim : (g : _) (c : After-take_ends g)
-    → hinted_claim (splice_iter c.take_ends.new.splice) ≡ c.args.lower
+    → hinted_claim (splice_iter c.take_ends.new.ends) ≡ c.args.lower
 claim g c = ap hinted_claim (c.take_ends.ensures.preserved.iter ∙ c.splice-splice.ensures.value)
     ∙ c.new.ensures.lower
 
-count : (g : _) (c : After-take_ends g) → hinted_count (splice_iter c.take_ends.new.splice)
+count : (g : _) (c : After-take_ends g) → hinted_count (splice_iter c.take_ends.new.ends)
     ≡ at_most (c.args.lower + length c.args.items.items)
 count g c = λ i. at_most (claim g c i + length (items g c i))
 
@@ -55,7 +55,7 @@ returns-in-Ok-finish g c =
     sym (c.list-1.given.1 (sym (c.take_ends.ensures.preserved.lender
     ∙ c.splice-splice.ensures.same_reference))) in
     let e = c.in-Ok-finish.ensures in
-    let all = drains-items (splice_iter c.take_ends.new.splice) e.items.0 e.items.1
+    let all = drains-items (splice_iter c.take_ends.new.ends) e.items.0 e.items.1
     ∙ items g at in
     record {
       allowed = (
@@ -65,7 +65,7 @@ returns-in-Ok-finish g c =
           replaces-of written
               (replaces (e.items.2 ∙ (λ i. (front g at i ++ all i) ++ tail g at i))
               (finishes-splices e.had_room e.at_end e.before_tail)
-              (finish-costs c.take_ends.new.splice g.met.G.Growth.law e.items.0 e.items.2 e.at_end
+              (finish-costs c.take_ends.new.ends g.met.G.Growth.law e.items.0 e.items.2 e.at_end
               e.before_tail e.range_room)
               e.preserved (left g at) (count g at) (moved g at) (tail g at) (range g at)),
         ),
@@ -82,9 +82,9 @@ returns-in-Err-finish g c =
     let end = c.args.end in
     let written : c.finish.new.self.0 ≡ c.list-1.given.0 =
     sym (c.list-1.given.1 (sym (k.lender ∙ s.same_reference))) in
-    let drawn = splice_iter c.take_ends.new.splice in
-    let before = splice_front c.take_ends.new.splice in
-    let after = splice_tail c.take_ends.new.splice in
+    let drawn = splice_iter c.take_ends.new.ends in
+    let before = splice_front c.take_ends.new.ends in
+    let after = splice_tail c.take_ends.new.ends in
     let may = c.args.lower + length c.args.items.items in
     let most : size (hinted_count drawn) ≡ may =
     omega (arith, claim g at, ap length (items g at)) in
@@ -103,7 +103,7 @@ returns-in-Err-finish g c =
             claim = stopped-claim drawn placed refused e.placed.2 ∙ claim g at;
             filled = replaces (e.placed.1 ∙ (λ i. (front g at i ++ placed) ++ tail g at i))
                 (finishes-splices e.had_room e.at_end e.before_tail)
-                (finish-costs c.take_ends.new.splice g.met.G.Growth.law placed e.placed.1 e.at_end
+                (finish-costs c.take_ends.new.ends g.met.G.Growth.law placed e.placed.1 e.at_end
                 e.before_tail e.range_room)
                 e.preserved (left g at) (count g at) (moved g at) (tail g at) (range g at);
             no_room = λ places. false≢true (⊎_elim

@@ -3,13 +3,12 @@ use Rattle.std.proofs.Common.{◌≡◌, ◌++◌, ◌≤◌, ◌+◌, length, v
 use Rattle.std.specs.Vec.{vec_capacity}
 use Rattle.std.specs.Vec.Iter.{into_iter_items}
 use Rattle.thin_runner.specs.commands.Ranges.{ends_taken}
-use Rattle.thin_vec.specs.Edits.Drain.{DrainKeeps, drain_rest}
 use Rattle.thin_runner.proofs.steps.ranges.take_ends.Given as goal
 
 abbrev pub invariant-loop-step : goal.invariant-loop-step
 invariant-loop-step g l = record {
   room : vec_len l.answers + length (into_iter_items l.step-iterator) ≤ vec_capacity l.answers;
-  answers : l.answers.items ++ ends_taken (drain_rest l.drain) (into_iter_items l.step-iterator)
-      ≡ l.fn.answers.items ++ ends_taken (drain_rest l.fn.drain) l.fn.steps.items;
-  keeps : DrainKeeps l.fn.drain l.drain;
+  answers : l.answers.items ++ ends_taken (g.E.Ends.rest l.ends) (into_iter_items l.step-iterator)
+      ≡ l.fn.answers.items ++ ends_taken (g.E.Ends.rest l.fn.ends) l.fn.steps.items;
+  keeps : g.E.Ends.keeps l.fn.ends l.ends;
 }
