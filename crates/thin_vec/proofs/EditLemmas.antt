@@ -9,7 +9,7 @@ use Rattle.std.specs.Option.{option_to_list}
 use Rattle.std.specs.Prelude.{MatchBool, cond, filter, not}
 use Rattle.thin_block.specs.declared.growth.Growth.{Ghosts}
 use Rattle.thin_vec.specs.Edits.Dedup.{TestsEachAgainstLast, TestsAllAgainstLast, IsDedupedBy}
-use Rattle.thin_vec.specs.Edits.ExtractIf.{ExtractSteps, extract_block, extract_lender, extract_rest, left_by_extract_if}
+use Rattle.thin_vec.specs.Edits.ExtractIf.{ExtractSteps, extract_block, extract_lender, extract_rest, list_after_extract_if}
 use Rattle.thin_vec.specs.ThinVec.{ListView}
 use Rattle.thin_vec.specs.declared.edits.extract_if.ExtractIf.{ExtractIf}
 use Rattle.thin_vec.specs.declared.edits.extract_if.ExtractState.{ExtractState}
@@ -129,7 +129,7 @@ module _ {T F A G H : Type 0} {g : Ghosts G} {h : IntoInnerGhosts H (ExtractStat
       record { gone = refl; stay = refl; tail = refl; lender = refl; count = omega arith }
 
   pub length-extract_rest : (e : ExtractIf T F A G H g h)
-      → length (extract_rest e) ≤ length (left_by_extract_if e).items
+      → length (extract_rest e) ≤ length (list_after_extract_if e).items
   length-extract_rest e =
       let b = extract_block e in
       omega (arith, length-append b.front (b.middle ++ b.tail), length-append b.middle b.tail)
@@ -166,7 +166,7 @@ module _ {T F A G H : Type 0} {g : Ghosts G} {h : IntoInnerGhosts H (ExtractStat
         {old held : List T} {item : Option T} → IsExtracting start now old held
         → ExtractSteps R now item new → item ≡ None
         → (held ≡ old ++ filter test (extract_rest start))
-        × ((left_by_extract_if new).items
+        × ((list_after_extract_if new).items
         ≡ (extract_block start).front
         ++ (others test (extract_rest start) ++ (extract_block start).tail))
     extract_end {start} {now} {new} {old} {held} {item} was step none =
@@ -191,14 +191,14 @@ module _ {T F A G H : Type 0} {g : Ghosts G} {h : IntoInnerGhosts H (ExtractStat
     pub extract_end_all : {start now new : ExtractIf T F A G H g h} {old held : List T}
         {item : Option T} → (extract_block start).front ≡ [] → (extract_block start).tail ≡ []
         → IsExtracting start now old held → ExtractSteps R now item new → item ≡ None
-        → (held ≡ old ++ filter test (left_by_extract_if start).items)
-        × ((left_by_extract_if new).items ≡ others test (left_by_extract_if start).items)
+        → (held ≡ old ++ filter test (list_after_extract_if start).items)
+        × ((list_after_extract_if new).items ≡ others test (list_after_extract_if start).items)
     extract_end_all {start} {now} {new} {old} first last was step none =
         let done = extract_end was step none in
-        let all : (left_by_extract_if start).items ≡ extract_rest start =
+        let all : (list_after_extract_if start).items ≡ extract_rest start =
         (λ i. first i ++ (extract_rest start ++ last i)) ∙ append-nil (extract_rest start) in (
           done.0 ∙ ap (λ l. old ++ filter test l) (sym all),
           done.1
               ∙ ((λ i. first i ++ (others test (sym all i) ++ last i))
-              ∙ append-nil (others test (left_by_extract_if start).items)),
+              ∙ append-nil (others test (list_after_extract_if start).items)),
         )

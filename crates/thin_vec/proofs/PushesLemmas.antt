@@ -17,7 +17,7 @@ use Rattle.thin_block.proofs.CapacityLemmas.{exact-fits, exact-same, ruled-grows
 use Rattle.thin_block.proofs.ResultLemmas.{none-some, some-same}
 use Rattle.thin_block.specs.Capacity.{Fits, fits}
 use Rattle.thin_block.specs.Growth.{GrowthRule, IsLawful, checked_capacity, doubling, exact_capacity, grown_capacity}
-use Rattle.thin_vec.specs.Edits.Splice.{FinishesAtEnd, FinishesBeforeTail, IsAfterSplice, cost_after_growth, left_by_splice, splice_front, splice_iter, splice_range_len, splice_tail}
+use Rattle.thin_vec.specs.Edits.Splice.{FinishesAtEnd, FinishesBeforeTail, IsAfterSplice, cost_after_growth, list_without_range, splice_front, splice_iter, splice_range_len, splice_tail}
 use Rattle.thin_block.specs.declared.growth.Growth.{Ghosts}
 use Rattle.std.specs.declared.result.Result.{Result}
 use Rattle.thin_vec.specs.OpenView.{OpenView}
@@ -760,16 +760,16 @@ module _ {I T A G H : Type 0} {g : Ghosts G} {h : IntoInnerGhosts H (OpenView T 
   pub finish-costs : {rule : GrowthRule} {R : RattleType} {w : ListView T A} {limit : Count}
       {r : Result (Unit {0}) (SpliceRefused T I A)} → IsLawful rule
       → (xs : List T) → w.items ≡ (splice_front s ++ xs) ++ splice_tail s
-      → (splice_tail s ≡ [] → FinishesAtEnd rule R (left_by_splice s) w (splice_iter s) limit r)
+      → (splice_tail s ≡ [] → FinishesAtEnd rule R (list_without_range s) w (splice_iter s) limit r)
       → (0 < length (splice_tail s) → FinishesBeforeTail rule R (splice_range_len s)
-      (length (splice_tail s)) (left_by_splice s) w limit r)
-      → HasRoomFor (left_by_splice s) (splice_range_len s)
-      → CostsInserting (2 * length (splice_tail s)) (left_by_splice s) w
-  unfolding left_by_splice
+      (length (splice_tail s)) (list_without_range s) w limit r)
+      → HasRoomFor (list_without_range s) (splice_range_len s)
+      → CostsInserting (2 * length (splice_tail s)) (list_without_range s) w
+  unfolding list_without_range
   finish-costs {rule} {R} {w} {limit} {r} law xs items at_end before_tail room =
       let front = splice_front s in let tail = splice_tail s in
-      finished-costs rule R tail (splice_range_len s) (left_by_splice s) w (splice_iter s) limit r
-      law at_end before_tail room
+      finished-costs rule R tail (splice_range_len s) (list_without_range s) w (splice_iter s) limit
+      r law at_end before_tail room
       (omega (
         arith,
         ap length items,

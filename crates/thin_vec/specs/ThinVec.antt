@@ -60,6 +60,7 @@ module _ {T A : Type 0} where
   -- this capacity for items of the type `R` is small enough to be allocated.
   pub record IsBounded (R : RattleType) (v : ListView T A) : Type 0 where
     pub room : length v.items ≤ v.capacity
+    -- This follows from `fits`. Proofs by arithmetic use it, since they do not unfold `fits`.
     pub small : v.capacity < 2 ^ 63
     pub fits : Fits R v.capacity
 

@@ -146,7 +146,7 @@ impl<T, A: Allocator, G: Growth> ThinVec<T, A, G> {
             (LendsItems T.row A.row G.row A.Allocator G.Growth self.entry result) }
         ensures value { result.now ≡ self.old.items }
         ensures len { length result.now ≡ length self.old.items }
-        ensures bounds { IsBounded T.row self.old }
+        ensures bounds_before { IsBounded T.row self.old }
     {
         let len = self.block.len();
         self.block.slice_mut(0, len)
@@ -163,7 +163,7 @@ impl<T, A: Allocator, G: Growth> ThinVec<T, A, G> {
             (λ _. length self.new.items + 1 ≡ length self.old.items) }
         ensures capacity { self.new.capacity ≡ self.old.capacity }
         ensures changes { self.new ≡ record self.old { items = self.new.items } }
-        ensures bounds { IsBounded T.row self.old }
+        ensures bounds_before { IsBounded T.row self.old }
     {
         if self.len() == 0 {
             return None;

@@ -4,7 +4,7 @@ ghost use Rattle.std.specs.Mem.{type_size};
 ghost use Rattle.std.specs.Prelude.{◌≡◌, [], IfOk, IsOk, Some, replicate};
 ghost use Rattle.thin_block.specs.Cost.{add_moves};
 ghost use Rattle.thin_block.specs.Growth.{doubling, grown_capacity};
-ghost use Rattle.thin_vec.specs.List.Clones.{CloneEquals, IsResized};
+ghost use Rattle.thin_vec.specs.List.Clones.{IsResized};
 ghost use Rattle.thin_vec.specs.ThinVec.{cost_of_new};
 ghost use Rattle.thin_vec.specs.List.Capacity.{OverflowsIff, IsFreshList};
 
@@ -87,8 +87,8 @@ pub fn repeated<T: Clone, A: Allocator>(
 ) -> Result<ThinVec<T, A>, ThinVecError>
     // On success.
     ensures items { IfOk result (λ list. IsResized T.is_clone [] count value list.items) }
-    ensures items_if_clones_equal { IfOk result (λ list. CloneEquals T.is_clone value
-        → list.items ≡ replicate count value) }
+    ensures items_if_clones_equal { IfOk result (λ list. ((clone : T) → T.is_clone value clone
+        → clone ≡ value) → list.items ≡ replicate count value) }
     ensures capacity { IfOk result
         (λ list. grown_capacity doubling (type_size T.row) (type_align T.row) 0 count
         ≡ Some list.capacity) }

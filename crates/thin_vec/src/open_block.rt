@@ -86,7 +86,7 @@ impl<T, A: Allocator, G: Growth> ThinVec<T, A, G> {
 
         // The list.
         ensures changes { self.new ≡ record self.old { items = []; capacity = 0; cost = no_cost } }
-        ensures bounds { IsBounded T.row self.old }
+        ensures bounds_before { IsBounded T.row self.old }
     {
         let len = self.block.len();
         let block = mem::replace(&mut self.block, Block::none());

@@ -8,7 +8,7 @@ use Rattle.std.specs.Option.{option_to_list}
 use Rattle.std.specs.Prelude.{◌==◌, MatchBool, cond, if◌then◌else◌, not, slice_range}
 use Rattle.thin_block.specs.Cost.{Cost, add_moves}
 use Rattle.thin_block.specs.declared.growth.Growth.{Ghosts}
-use Rattle.thin_vec.specs.Edits.ExtractIf.{ExtractKeepsAlong, ExtractLeaves, ExtractSteps, ExtractsInTurn, ExtractsToEnd, extract_block, extract_closure, extract_rest, left_by_extract_if}
+use Rattle.thin_vec.specs.Edits.ExtractIf.{ExtractKeepsAlong, ExtractLeaves, ExtractSteps, ExtractsInTurn, ExtractsToEnd, extract_block, extract_closure, extract_rest, list_after_extract_if}
 use Rattle.thin_vec.specs.Edits.Retain.{all_kept}
 use Rattle.thin_vec.specs.List.Capacity.{MovesAtMost}
 use Rattle.thin_vec.specs.OpenBlock.Retain.{TestsUpTo, IsRemovedFirst, TestsInTurn}
@@ -208,7 +208,7 @@ module _ {T F A G H : Type 0} {g : Ghosts G} {h : IntoInnerGhosts H (ExtractStat
     front = sym (append-nil (extract_block d).front);
     gone = omega arith;
     tail = refl;
-    after_drop = λ i. record (left_by_extract_if d) {
+    after_drop = λ i. record (list_after_extract_if d) {
       items = sym (append-nil (extract_block d).front) i
           ++ (extract_rest d ++ (extract_block d).tail);
     };
@@ -255,7 +255,7 @@ module _ {T F A G H : Type 0} {g : Ghosts G} {h : IntoInnerGhosts H (ExtractStat
       }
     where
       still : length (option_to_list item) ≡ 0
-          → (left_by_extract_if m).cost ≡ (left_by_extract_if d).cost
+          → (list_after_extract_if m).cost ≡ (list_after_extract_if d).cost
       still none =
           let s = one.extracts in
           let b = extract_block d in

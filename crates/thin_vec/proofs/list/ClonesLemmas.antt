@@ -18,7 +18,7 @@ use Rattle.thin_block.specs.Growth.{GrowthRule, grown_capacity}
 use Rattle.thin_block.specs.Slots.{filled_slots, write_slots}
 use Rattle.thin_block.proofs.SlotsLemmas.{written-one}
 use Rattle.thin_block.specs.Cost.{Cost, add_moves}
-use Rattle.thin_vec.specs.List.Clones.{AppendsRepeats, CloneEquals, FailsAtClone, LeftByFailedClone, WritesClones}
+use Rattle.thin_vec.specs.List.Clones.{AppendsRepeats, FailsAtClone, LeftByFailedClone, WritesClones}
 use Rattle.thin_vec.specs.ThinVec.{IsNew, ListView, capacity_after_reserve, cost_after_resize}
 use Rattle.thin_vec.proofs.ListLemmas.{length-full}
 
@@ -57,7 +57,7 @@ all-repeated {T} clones x n m ys cloned = All-from_recursion (clones x) ys (each
     each (suc n) (suc m) (y ∷ ys) e = (e.0, each n m ys e.1)
 
 module _ {T : Type 0} (clones : T → T → Type 0) where
-  pub equal-repeated : (n m : ℕ) {x : T} {xs ys zs : List T} → CloneEquals clones x
+  pub equal-repeated : (n m : ℕ) {x : T} {xs ys zs : List T} → ((y : T) → clones x y → y ≡ x)
       → AppendsRepeats clones x n xs ys → zs ≡ ys ++ x ∷ [] → m ≡ n + 1 → zs ≡ xs ++ replicate m x
   equal-repeated n m {x} {xs} equal repeats last one =
       let copies = repeats.copies in

@@ -17,12 +17,12 @@ module _ {T A G H : Type 0} {g : Ghosts G} {h : IntoInnerGhosts H (OpenView T A)
   abbrev pub drain_block : Drain T A G H g h → OpenView T A
   drain_block d = h.inner d.holder
 
-  -- `left_by_drain d` is the list that the `Drain` `d` leaves when it is dropped: its items are
+  -- `list_after_drain d` is the list that the `Drain` `d` leaves when it is dropped: its items are
   -- those before and after the range. Unless the range has no slots, the drop moves each item after
   -- it. The contract of `drain` says what this list is, and calls to `next` and `next_back` do not
   -- change it. The prover unfolds this definition only on request.
-  unfoldable pub left_by_drain : Drain T A G H g h → ListView T A
-  left_by_drain d = record {
+  unfoldable pub list_after_drain : Drain T A G H g h → ListView T A
+  list_after_drain d = record {
     items = (drain_block d).front ++ (drain_block d).tail;
     capacity = (drain_block d).capacity;
     alloc = d.list.now.alloc;
@@ -49,7 +49,7 @@ module _ {T A G H : Type 0} {g : Ghosts G} {h : IntoInnerGhosts H (OpenView T A)
   pub record DrainKeeps (old new : Drain T A G H g h) : Type 0 where
     pub lender : drain_lender new ≡ drain_lender old
     pub meanwhile : drain_list new ≡ drain_list old
-    pub after_drop : left_by_drain new ≡ left_by_drain old
+    pub after_drop : list_after_drain new ≡ list_after_drain old
 
   -- `DrainSteps old item new` holds if a call to `next` returned `item` and changed the `Drain`
   -- from `old` to `new`: `item` is the first of the remaining items, or `None` if there was none.

@@ -59,11 +59,11 @@ module _ {T F A G H : Type 0} {g : Ghosts G} {h : IntoInnerGhosts H (ExtractStat
   abbrev pub extract_rest : ExtractIf T F A G H g h → List T
   extract_rest e = (extract_block e).middle
 
-  -- `left_by_extract_if e` is the list that the `ExtractIf` `e` leaves if it is dropped now: its
+  -- `list_after_extract_if e` is the list that the `ExtractIf` `e` leaves if it is dropped now: its
   -- items are those that have not been yielded. If there is a gap, the drop moves each item after
   -- it, and the cost includes these moves.
-  abbrev pub left_by_extract_if : ExtractIf T F A G H g h → ListView T A
-  left_by_extract_if e = record {
+  abbrev pub list_after_extract_if : ExtractIf T F A G H g h → ListView T A
+  list_after_extract_if e = record {
     items = (extract_block e).front ++ (extract_rest e ++ (extract_block e).tail);
     capacity = (extract_block e).capacity;
     alloc = e.list.now.alloc;
@@ -95,7 +95,7 @@ module _ {T F A G H : Type 0} {g : Ghosts G} {h : IntoInnerGhosts H (ExtractStat
     -- If `new` is dropped, the list has the items `extracts.kept`, and the items that `new` has not
     -- tested, in place of those that `old` had not tested. Capacity and allocator stay. The drop
     -- moves each item after the gap, if there is one.
-    pub after_drop : left_by_extract_if new ≡ record (left_by_extract_if old) {
+    pub after_drop : list_after_extract_if new ≡ record (list_after_extract_if old) {
       items = ((extract_block old).front ++ extracts.kept)
           ++ (extract_rest new ++ (extract_block old).tail);
       cost = if (extract_block new).gap_before == 0 then (extract_block new).cost else add_moves
@@ -122,7 +122,7 @@ module _ {T F A G H : Type 0} {g : Ghosts G} {h : IntoInnerGhosts H (ExtractStat
     pub tail : (extract_block later).tail ≡ (extract_block first).tail
     -- If `later` is dropped, the list has the items `kept`, and the items that `later` has not
     -- tested, in place of those that `first` had not tested. Capacity and allocator stay.
-    pub after_drop : left_by_extract_if later ≡ record (left_by_extract_if first) {
+    pub after_drop : list_after_extract_if later ≡ record (list_after_extract_if first) {
       items = ((extract_block first).front ++ kept)
           ++ (extract_rest later ++ (extract_block first).tail);
       cost = if (extract_block later).gap_before == 0 then (extract_block later).cost else add_moves
@@ -133,8 +133,9 @@ module _ {T F A G H : Type 0} {g : Ghosts G} {h : IntoInnerGhosts H (ExtractStat
     -- that stays in the list is moved, once. If no item was yielded, the calls cost nothing.
     pub moves_at_most : MovesAtMost (length kept + length (extract_rest later)
         + length (extract_block first).tail) (extract_block first).cost
-        (left_by_extract_if later).cost
-    pub unmoved : yielded ≡ [] → (left_by_extract_if later).cost ≡ (left_by_extract_if first).cost
+        (list_after_extract_if later).cost
+    pub unmoved : yielded ≡ []
+        → (list_after_extract_if later).cost ≡ (list_after_extract_if first).cost
 
   -- `ExtractKeepsAlong R e` states what calls to `next` on the `ExtractIf` `e` leave, as long as
   -- they yield items. `R` describes the calls to the closure.

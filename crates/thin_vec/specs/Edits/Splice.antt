@@ -123,12 +123,12 @@ module _ {T A : Type 0} where
     pub by_push : tail ≡ [] → IsSome error.in_hand → FailsForRoom rule R w 1 error.cause
 
 module _ {I T A G H : Type 0} {g : Ghosts G} {h : IntoInnerGhosts H (OpenView T A)} where
-  -- `left_by_splice s` is the list without the range: the items before and after it. The contract
-  -- of `splice` says what this list is, calls to `next` and `next_back` do not change it, and the
-  -- contract of `finish` says what `finish` adds to it. The prover unfolds this definition only on
-  -- request.
-  unfoldable pub left_by_splice : Splice I T A G H g h → ListView T A
-  left_by_splice s = record {
+  -- `list_without_range s` is the list without the range: the items before and after it. The
+  -- contract of `splice` says what this list is, calls to `next` and `next_back` do not change it,
+  -- and the contract of `finish` says what `finish` adds to it. The prover unfolds this definition
+  -- only on request.
+  unfoldable pub list_without_range : Splice I T A G H g h → ListView T A
+  list_without_range s = record {
     items = (h.inner s.holder).front ++ (h.inner s.holder).tail;
     capacity = (h.inner s.holder).capacity;
     alloc = s.list.now.alloc;
@@ -176,7 +176,7 @@ module _ {I T A G H : Type 0} {g : Ghosts G} {h : IntoInnerGhosts H (OpenView T 
     pub front : splice_front new ≡ splice_front old
     pub tail : splice_tail new ≡ splice_tail old
     pub range : splice_range_len new ≡ splice_range_len old
-    pub left : left_by_splice new ≡ left_by_splice old
+    pub without_range : list_without_range new ≡ list_without_range old
 
   -- `SpliceSteps old item new` holds if a call to `next` returned `item` and changed the `Splice`
   -- from `old` to `new`: `item` is the first of the remaining items, or `None` if there was none.

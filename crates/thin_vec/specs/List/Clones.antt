@@ -8,14 +8,10 @@ use Rattle.thin_vec.specs.Cheap.{IsCheap}
 use Rattle.thin_vec.specs.ThinVec.{ListView, cost_after_resize, cost_of_new}
 
 module _ {T : Type 0} (clones : T → T → Type 0) where
-  -- `CloneEquals clones x` states that every clone of the item `x` equals `x`.
-  abbrev pub CloneEquals : T → Type 0
-  CloneEquals x = (y : T) → clones x y → y ≡ x
-
   -- `ClonesEqual clones` states that every clone of every value of the type `T` equals this value.
   -- It is a statement about the type, not only about the items of one call. It holds for numbers.
   abbrev pub ClonesEqual : Type 0
-  ClonesEqual = (x : T) → CloneEquals x
+  ClonesEqual = (x y : T) → clones x y → y ≡ x
 
   -- `WritesClones sources n i s s'` states that writing clones of the first `n` items of `sources`
   -- into the slots `s`, from index `i` onward, results in the slots `s'`.
@@ -33,6 +29,7 @@ module _ {T : Type 0} (clones : T → T → Type 0) where
     pub alloc : w.alloc ≡ v.alloc
     pub cost : w.cost ≡ add_moves (length v.items) (cost_of_new (length v.items))
     pub cheap : IsCheap w
+    -- This is a part of `IsBounded`. Its field `fits` would need a description of the item type.
     pub small : w.capacity < 2 ^ 63
 
 -- `AppendsRepeats clones x n xs ys` states that the list `ys` consists of the items of `xs`,

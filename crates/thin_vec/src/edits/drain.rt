@@ -30,12 +30,12 @@ pub struct Drain<
 
 impl<'a, T: Drop, A: Allocator, G: Growth, H: IntoInner<Inner = OpenBlock<T, A>>> Drop
     for Drain<'a, T, A, G, H> {
-    ghost use Rattle.thin_vec.specs.Edits.Drain.{left_by_drain};
+    ghost use Rattle.thin_vec.specs.Edits.Drain.{list_after_drain};
 
     #[inline(always)]
-    #[tactic(auto, unfolding(crate::specs::Edits::Drain::left_by_drain))]
+    #[tactic(auto, unfolding(crate::specs::Edits::Drain::list_after_drain))]
     fn drop(self)
-        ensures after_drop { self.exit.0.now ≡ left_by_drain self.entry }
+        ensures after_drop { self.exit.0.now ≡ list_after_drain self.entry }
     {
         let Drain { list, holder } = self;
         let mut block = holder.into_inner();
@@ -47,7 +47,7 @@ impl<'a, T: Drop, A: Allocator, G: Growth, H: IntoInner<Inner = OpenBlock<T, A>>
 }
 
 impl<T: Drop, A: Allocator, G: Growth> ThinVec<T, A, G> {
-    ghost use Rattle.thin_vec.specs.Edits.Drain.{DrainKeepsAlong, DrainYieldsInOrder, DrainYieldsInReverse, drain_lender, drain_list, drain_rest, left_by_drain};
+    ghost use Rattle.thin_vec.specs.Edits.Drain.{DrainKeepsAlong, DrainYieldsInOrder, DrainYieldsInReverse, drain_lender, drain_list, drain_rest, list_after_drain};
 
     /// Removes the items `start..end` from the list, and returns an iterator that yields them from
     /// either end.
@@ -56,7 +56,7 @@ impl<T: Drop, A: Allocator, G: Growth> ThinVec<T, A, G> {
     /// drops the items that were not yielded, and returns the items outside the range to the list,
     /// in the same allocation. If the iterator is leaked, the list stays empty, and the allocation
     /// is leaked with all items in it, also those outside the range.
-    #[tactic(auto, unfolding(crate::specs::Edits::Drain::left_by_drain))]
+    #[tactic(auto, unfolding(crate::specs::Edits::Drain::list_after_drain))]
     pub fn drain(&mut self, start: usize, end: usize) -> Drain<'_, T, A, G>
         requires start_le_end { start ≤ end }
         requires in_bounds { end ≤ length self.old.items }
@@ -71,7 +71,7 @@ impl<T: Drop, A: Allocator, G: Growth> ThinVec<T, A, G> {
             ≡ record self.old { items = []; capacity = 0; cost = no_cost } }
 
         // `Drain::drop` leaves exactly this list, whatever was yielded.
-        ensures after_drop { left_by_drain result ≡ record self.old {
+        ensures after_drop { list_after_drain result ≡ record self.old {
           items = remove_range self.old.items start end;
           cost = if start == end then self.old.cost else add_moves
               (length self.old.items - end) self.old.cost;
@@ -109,7 +109,7 @@ impl<'a, T: Drop, A: Allocator, G: Growth> Iterator for Drain<'a, T, A, G> {
 
     ghost remaining = { item_count drain_rest };
 
-    #[tactic(auto, unfolding(crate::specs::Edits::Drain::left_by_drain))]
+    #[tactic(auto, unfolding(crate::specs::Edits::Drain::list_after_drain))]
     fn next(&mut self) -> Option<T> {
         self.holder.value.next()
     }
@@ -130,7 +130,7 @@ impl<'a, T: Drop, A: Allocator, G: Growth> DoubleEndedIterator for Drain<'a, T, 
 
     ghost next_back_gives = { DrainStepsBack };
 
-    #[tactic(auto, unfolding(crate::specs::Edits::Drain::left_by_drain))]
+    #[tactic(auto, unfolding(crate::specs::Edits::Drain::list_after_drain))]
     fn next_back(&mut self) -> Option<T> {
         self.holder.value.next_back()
     }

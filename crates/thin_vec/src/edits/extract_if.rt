@@ -61,10 +61,10 @@ impl<
     G: Growth,
     H: IntoInner<Inner = ExtractState<T, F, A>>,
 > Drop for ExtractIf<'a, T, F, A, G, H> {
-    ghost use Rattle.thin_vec.specs.Edits.ExtractIf.{left_by_extract_if};
+    ghost use Rattle.thin_vec.specs.Edits.ExtractIf.{list_after_extract_if};
 
     fn drop(self)
-        ensures after_drop { self.exit.0.now ≡ left_by_extract_if self.entry }
+        ensures after_drop { self.exit.0.now ≡ list_after_extract_if self.entry }
     {
         let ExtractIf { list, holder } = self;
         let ExtractState { block, picks } = holder.into_inner();
@@ -97,7 +97,7 @@ impl<T, F: FnMut(&mut T) -> bool, A: Allocator> ExtractState<T, F, A> {
 }
 
 impl<T: Drop, A: Allocator, G: Growth> ThinVec<T, A, G> {
-    ghost use Rattle.thin_vec.specs.Edits.ExtractIf.{ExtractKeepsAlong, ExtractsToEnd, extract_block, extract_closure, extract_lender, extract_list, extract_rest, left_by_extract_if};
+    ghost use Rattle.thin_vec.specs.Edits.ExtractIf.{ExtractKeepsAlong, ExtractsToEnd, extract_block, extract_closure, extract_lender, extract_list, extract_rest, list_after_extract_if};
 
     /// Returns an iterator that removes the items in the range `start..end` for which `pick`
     /// returns true, and yields them in order.
@@ -130,7 +130,7 @@ impl<T: Drop, A: Allocator, G: Growth> ThinVec<T, A, G> {
             ≡ record self.old { items = []; capacity = 0; cost = no_cost } }
 
         // What `ExtractIf::drop` leaves. If it is dropped now, the list is unchanged.
-        ensures after_drop { left_by_extract_if result ≡ self.old }
+        ensures after_drop { list_after_extract_if result ≡ self.old }
 
         // Which list is borrowed.
         ensures same_reference { extract_lender result ≡ self.entry.ghost_name }

@@ -36,11 +36,11 @@ pub struct Splice<
 }
 
 impl<T, A: Allocator, G: Growth> ThinVec<T, A, G> {
-    ghost use Rattle.thin_vec.specs.Edits.Splice.{left_by_splice, splice_front, splice_iter, splice_lender, splice_list, splice_range_len, splice_rest, splice_tail};
+    ghost use Rattle.thin_vec.specs.Edits.Splice.{list_without_range, splice_front, splice_iter, splice_lender, splice_list, splice_range_len, splice_rest, splice_tail};
 
     /// Begins to replace the items `start..end` with the items of `iter`. The caller has to call
     /// `finish` on the returned `Splice`.
-    #[tactic(auto, unfolding(crate::specs::Edits::Splice::left_by_splice))]
+    #[tactic(auto, unfolding(crate::specs::Edits::Splice::list_without_range))]
     pub fn splice<I: Iterator<Item = T>>(
         &mut self,
         start: usize,
@@ -55,13 +55,13 @@ impl<T, A: Allocator, G: Growth> ThinVec<T, A, G> {
         ensures range { splice_range_len result ≡ end - start }
         ensures value { splice_iter result ≡ iter }
 
-        // `finish` inserts the new items into the list `left`, between its parts `front` and
-        // `tail`.
-        ensures left { left_by_splice result
+        // `finish` inserts the new items into the list `without_range`, between its parts `front`
+        // and `tail`.
+        ensures without_range { list_without_range result
             ≡ record self.old { items = remove_range self.old.items start end } }
         ensures front { splice_front result ≡ take start self.old.items }
         ensures tail { splice_tail result ≡ drop end self.old.items }
-        ensures bounds { IsBounded T.row self.old }
+        ensures bounds_before { IsBounded T.row self.old }
 
         // The list until `finish` is called.
         ensures meanwhile { splice_list result
@@ -99,7 +99,7 @@ impl<'a, T, I, A: Allocator, G: Growth> Splice<'a, I, T, A, G> {
     }
 
     /// Yields the first of the remaining items of the range, or returns `None` if there is none.
-    #[tactic(auto, unfolding(crate::specs::Edits::Splice::left_by_splice))]
+    #[tactic(auto, unfolding(crate::specs::Edits::Splice::list_without_range))]
     pub fn next(&mut self) -> Option<T>
         ensures steps { SpliceSteps self.old result self.new }
     {
@@ -107,7 +107,7 @@ impl<'a, T, I, A: Allocator, G: Growth> Splice<'a, I, T, A, G> {
     }
 
     /// Yields the last of the remaining items of the range, or returns `None` if there is none.
-    #[tactic(auto, unfolding(crate::specs::Edits::Splice::left_by_splice))]
+    #[tactic(auto, unfolding(crate::specs::Edits::Splice::list_without_range))]
     pub fn next_back(&mut self) -> Option<T>
         ensures steps { SpliceStepsBack self.old result self.new }
     {
@@ -123,7 +123,7 @@ impl<
     G: Growth,
     H: IntoInner<Inner = OpenBlock<T, A>>,
 > Splice<'a, I, T, A, G, H> {
-    ghost use Rattle.thin_vec.specs.Edits.Splice.{FinishesAtEnd, FinishesBeforeTail, IsSpliceCause, SpliceErrorAccountsFor, left_by_splice, splice_front, splice_iter, splice_range_len, splice_tail};
+    ghost use Rattle.thin_vec.specs.Edits.Splice.{FinishesAtEnd, FinishesBeforeTail, IsSpliceCause, SpliceErrorAccountsFor, list_without_range, splice_front, splice_iter, splice_range_len, splice_tail};
 
     /// Drops the items of the range that were not yielded, and puts the items of the iterator in
     /// their place, up to its first `None`.
@@ -159,10 +159,10 @@ impl<
         // another case in which it must succeed.) In every other case it may fail.
         ensures succeeds { size (I.remaining (splice_iter self.entry))
             ≤ splice_range_len self.entry → IsOk result }
-        ensures had_room { HasRoomFor (left_by_splice self.entry)
+        ensures had_room { HasRoomFor (list_without_range self.entry)
             (size (I.remaining (splice_iter self.entry)))
-            → (self.exit.0.now.capacity ≡ (left_by_splice self.entry).capacity)
-            × (self.exit.0.now.cost.blocks ≡ (left_by_splice self.entry).cost.blocks) }
+            → (self.exit.0.now.capacity ≡ (list_without_range self.entry).capacity)
+            × (self.exit.0.now.cost.blocks ≡ (list_without_range self.entry).cost.blocks) }
 
         // On failure.
         ensures placed { IfErr result (λ error. (xs : List T)
@@ -174,19 +174,20 @@ impl<
 
         // In every case. `moves_at_most` follows from `at_end` and `before_tail`.
         ensures at_end { splice_tail self.entry ≡ [] → FinishesAtEnd G.rule T.row
-            (left_by_splice self.entry) self.exit.0.now (splice_iter self.entry)
+            (list_without_range self.entry) self.exit.0.now (splice_iter self.entry)
             (I.remaining (splice_iter self.entry)) result }
         ensures before_tail { 0 < length (splice_tail self.entry) → FinishesBeforeTail G.rule T.row
             (splice_range_len self.entry) (length (splice_tail self.entry))
-            (left_by_splice self.entry) self.exit.0.now
+            (list_without_range self.entry) self.exit.0.now
             (I.remaining (splice_iter self.entry)) result }
-        ensures preserved { PreservesList T.row (left_by_splice self.entry) self.exit.0.now }
-        ensures moves_at_most { self.exit.0.now.cost.moves + length (left_by_splice self.entry).items
-            ≤ (left_by_splice self.entry).cost.moves + 2 * length (splice_tail self.entry)
+        ensures preserved { PreservesList T.row (list_without_range self.entry) self.exit.0.now }
+        ensures moves_at_most { self.exit.0.now.cost.moves
+            + length (list_without_range self.entry).items
+            ≤ (list_without_range self.entry).cost.moves + 2 * length (splice_tail self.entry)
             + length self.exit.0.now.items }
 
         // The slots of the range are a part of the capacity.
-        ensures range_room { HasRoomFor (left_by_splice self.entry)
+        ensures range_room { HasRoomFor (list_without_range self.entry)
             (splice_range_len self.entry) }
     {
         let Splice { list, holder, iter } = self;

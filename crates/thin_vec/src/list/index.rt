@@ -35,7 +35,7 @@ impl<T, A: Allocator, G: Growth> DerefSliceMut for ThinVec<T, A, G> {
             (LendsItems T.row A.row G.row A.Allocator G.Growth self.entry result) }
         ensures value { result.now ≡ self.old.items }
         ensures len { length result.now ≡ length self.old.items }
-        ensures bounds { IsBounded T.row self.old }
+        ensures bounds_before { IsBounded T.row self.old }
     {
         self.as_mut_slice()
     }
@@ -71,7 +71,7 @@ impl<T, A: Allocator, G: Growth> IndexMut<usize> for ThinVec<T, A, G> {
             (LendsItem T.row A.row G.row A.Allocator G.Growth self.entry index result) }
         ensures value { result.now ≡ slice_index_or self.old.items index result.now }
         ensures found { slice_get self.old.items index ≡ Some result.now }
-        ensures bounds { IsBounded T.row self.old }
+        ensures bounds_before { IsBounded T.row self.old }
     {
         // Only the proof needs this call: its contract says that the list `IsBounded`.
         let _len = self.len();

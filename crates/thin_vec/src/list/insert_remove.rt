@@ -94,7 +94,7 @@ impl<T, A: Allocator, G: Growth> ThinVec<T, A, G> {
         ensures cause { IfErr result (λ error. FailsForRoom G.rule T.row self.old 1 error.cause) }
 
         // In every case.
-        ensures bounds { IsBounded T.row self.old }
+        ensures bounds_before { IsBounded T.row self.old }
     {
         self.insert(index, value)?;
         Ok(&mut self[index])

@@ -105,7 +105,7 @@ impl<T, A: Allocator, G: Growth> ThinVec<T, A, G> {
         ensures cause { IfErr result (λ error. FailsForRoom G.rule T.row self.old 1 error.cause) }
 
         // In every case.
-        ensures bounds { IsBounded T.row self.old }
+        ensures bounds_before { IsBounded T.row self.old }
     {
         let len = self.len();
         self.push(value)?;

@@ -2,7 +2,7 @@
 ghost use Rattle.std.specs.Prelude.{◌≡◌, ◌⊎◌, ◌+◌, ◌-◌, ◌<◌, ◌≤◌, ◌++◌, IsErrOf, IsOk, OnErr, OnOk, Some, length, replicate, take};
 ghost use Rattle.std.specs.List.{AppendsResults};
 ghost use Rattle.thin_block.specs.Cost.{add_moves};
-ghost use Rattle.thin_vec.specs.List.Clones.{AppendsRepeats, CloneEquals, LeftByFailedClone, IsResized};
+ghost use Rattle.thin_vec.specs.List.Clones.{AppendsRepeats, LeftByFailedClone, IsResized};
 ghost use Rattle.thin_vec.specs.List.Capacity.{CostsMoves, OverflowsIff, PreservesList};
 
 use crate::list::ThinVec;
@@ -51,7 +51,8 @@ impl<T: Clone, A: Allocator, G: Growth> ThinVec<T, A, G> {
 
         // These follow from `items`, `err` and `overflow`.
         ensures len { OnOk result (length self.new.items ≡ len) }
-        ensures items_if_clones_equal { OnOk result (CloneEquals T.is_clone value
+        ensures items_if_clones_equal { OnOk result
+            (((clone : T) → T.is_clone value clone → clone ≡ value)
             → self.new.items ≡ take len self.old.items ++ replicate
             (len - length self.old.items) value) }
         ensures err_items { OnErr result (self.new.items ≡ self.old.items) }

@@ -38,7 +38,7 @@ impl<T, A: Allocator, G: Growth> ThinVec<T, A, G> {
         ensures len { length self.new.items ≡ length self.old.items }
         ensures capacity { self.new.capacity ≡ self.old.capacity }
         ensures changes { self.new ≡ record self.old { items = self.new.items } }
-        ensures bounds { IsBounded T.row self.old }
+        ensures bounds_before { IsBounded T.row self.old }
     {
         let (items, alloc) = self.parts_mut();
         items.sort(alloc)
@@ -67,7 +67,7 @@ impl<T, A: Allocator, G: Growth> ThinVec<T, A, G> {
         ensures len { length self.new.items ≡ length self.old.items }
         ensures capacity { self.new.capacity ≡ self.old.capacity }
         ensures changes { self.new ≡ record self.old { items = self.new.items } }
-        ensures bounds { IsBounded T.row self.old }
+        ensures bounds_before { IsBounded T.row self.old }
     {
         let (items, alloc) = self.parts_mut();
         items.sort_by(alloc, compare)
@@ -98,7 +98,7 @@ impl<T, A: Allocator, G: Growth> ThinVec<T, A, G> {
         ensures len { length self.new.items ≡ length self.old.items }
         ensures capacity { self.new.capacity ≡ self.old.capacity }
         ensures changes { self.new ≡ record self.old { items = self.new.items } }
-        ensures bounds { IsBounded T.row self.old }
+        ensures bounds_before { IsBounded T.row self.old }
     {
         let (items, alloc) = self.parts_mut();
         items.sort_by_key(alloc, f)
@@ -130,7 +130,7 @@ impl<T, A: Allocator, G: Growth> ThinVec<T, A, G> {
         ensures len { length self.new.items ≡ length self.old.items }
         ensures capacity { self.new.capacity ≡ self.old.capacity }
         ensures changes { self.new ≡ record self.old { items = self.new.items } }
-        ensures bounds { IsBounded T.row self.old }
+        ensures bounds_before { IsBounded T.row self.old }
     {
         let (items, alloc) = self.parts_mut();
         items.sort_by_cached_key(alloc, f)
@@ -145,7 +145,7 @@ impl<T, A: Allocator, G: Growth> ThinVec<T, A, G> {
         ensures len { length self.new.items ≡ length self.old.items }
         ensures capacity { self.new.capacity ≡ self.old.capacity }
         ensures changes { self.new ≡ record self.old { items = self.new.items } }
-        ensures bounds { IsBounded T.row self.old }
+        ensures bounds_before { IsBounded T.row self.old }
     {
         self.as_mut_slice().sort_unstable();
     }
@@ -158,7 +158,7 @@ impl<T, A: Allocator, G: Growth> ThinVec<T, A, G> {
         ensures len { length self.new.items ≡ length self.old.items }
         ensures capacity { self.new.capacity ≡ self.old.capacity }
         ensures changes { self.new ≡ record self.old { items = self.new.items } }
-        ensures bounds { IsBounded T.row self.old }
+        ensures bounds_before { IsBounded T.row self.old }
     {
         self.as_mut_slice().sort_unstable_by(compare);
     }
@@ -173,7 +173,7 @@ impl<T, A: Allocator, G: Growth> ThinVec<T, A, G> {
         ensures len { length self.new.items ≡ length self.old.items }
         ensures capacity { self.new.capacity ≡ self.old.capacity }
         ensures changes { self.new ≡ record self.old { items = self.new.items } }
-        ensures bounds { IsBounded T.row self.old }
+        ensures bounds_before { IsBounded T.row self.old }
     {
         self.as_mut_slice().sort_unstable_by_key(f);
     }
@@ -186,7 +186,7 @@ impl<T, A: Allocator, G: Growth> ThinVec<T, A, G> {
         ensures len { length self.new.items ≡ length self.old.items }
         ensures capacity { self.new.capacity ≡ self.old.capacity }
         ensures changes { self.new ≡ record self.old { items = self.new.items } }
-        ensures bounds { IsBounded T.row self.old }
+        ensures bounds_before { IsBounded T.row self.old }
         ensures by_index { SwappedAt self.old.items self.new.items i j }
     {
         self.as_mut_slice().swap(i, j);
@@ -199,7 +199,7 @@ impl<T, A: Allocator, G: Growth> ThinVec<T, A, G> {
         ensures len { length self.new.items ≡ length self.old.items }
         ensures capacity { self.new.capacity ≡ self.old.capacity }
         ensures changes { self.new ≡ record self.old { items = self.new.items } }
-        ensures bounds { IsBounded T.row self.old }
+        ensures bounds_before { IsBounded T.row self.old }
         ensures by_index { ReversedBelow self.old.items self.new.items (length self.old.items) }
     {
         self.as_mut_slice().reverse();
@@ -212,7 +212,7 @@ impl<T, A: Allocator, G: Growth> ThinVec<T, A, G> {
         ensures len { length self.new.items ≡ length self.old.items }
         ensures capacity { self.new.capacity ≡ self.old.capacity }
         ensures changes { self.new ≡ record self.old { items = self.new.items } }
-        ensures bounds { IsBounded T.row self.old }
+        ensures bounds_before { IsBounded T.row self.old }
         ensures by_index { RotatedLeft self.old.items self.new.items (length self.old.items) mid }
     {
         self.as_mut_slice().rotate_left(mid);
@@ -226,7 +226,7 @@ impl<T, A: Allocator, G: Growth> ThinVec<T, A, G> {
         ensures len { length self.new.items ≡ length self.old.items }
         ensures capacity { self.new.capacity ≡ self.old.capacity }
         ensures changes { self.new ≡ record self.old { items = self.new.items } }
-        ensures bounds { IsBounded T.row self.old }
+        ensures bounds_before { IsBounded T.row self.old }
         ensures by_index { RotatedRight self.old.items self.new.items (length self.old.items) k }
     {
         self.as_mut_slice().rotate_right(k);
@@ -237,16 +237,16 @@ impl<T, A: Allocator, G: Growth> ThinVec<T, A, G> {
     where
         T: Clone,
         requires infallible { T.is_infallible value }
-        ensures items { ((y : T) → T.is_clone value y → y ≡ value)
-            → self.new.items ≡ replicate (length self.old.items) value }
-        ensures len { length self.new.items ≡ length self.old.items }
-        ensures capacity { self.new.capacity ≡ self.old.capacity }
-        ensures changes { self.new ≡ record self.old { items = self.new.items } }
-        ensures bounds { IsBounded T.row self.old }
         ensures clones_before_last { AllWithin (T.is_clone value) self.new.items 0
             (length self.old.items - 1) }
         ensures last { 0 < length self.old.items
             → HoldsAt (λ y. y ≡ value) self.new.items (length self.old.items - 1) }
+        ensures items_if_clones_equal { ((clone : T) → T.is_clone value clone → clone ≡ value)
+            → self.new.items ≡ replicate (length self.old.items) value }
+        ensures len { length self.new.items ≡ length self.old.items }
+        ensures capacity { self.new.capacity ≡ self.old.capacity }
+        ensures changes { self.new ≡ record self.old { items = self.new.items } }
+        ensures bounds_before { IsBounded T.row self.old }
     {
         self.as_mut_slice().fill(value);
     }
@@ -284,7 +284,7 @@ impl<T, A: Allocator, G: Growth> ThinVec<T, A, G> {
         ensures value { result.0.now ≡ self.old.items }
         ensures len { length result.0.now ≡ length self.old.items }
         ensures alloc { result.1.now ≡ self.old.alloc }
-        ensures bounds { IsBounded T.row self.old }
+        ensures bounds_before { IsBounded T.row self.old }
     {
         let len = self.block.len();
         (self.block.slice_mut(0, len), &self.alloc)

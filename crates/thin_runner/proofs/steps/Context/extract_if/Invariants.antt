@@ -1,7 +1,7 @@
 -- `answers` contains the results so far, and has room for those of the remaining calls.
 use Rattle.std.proofs.Common.{◌≡◌, ◌++◌, ◌≤◌, ◌+◌, ◌-◌, drop, take, false, slice_range, vec_len}
 use Rattle.std.specs.Vec.{vec_capacity}
-use Rattle.thin_vec.specs.Edits.ExtractIf.{extract_block, extract_closure, extract_lender, extract_rest, left_by_extract_if}
+use Rattle.thin_vec.specs.Edits.ExtractIf.{extract_block, extract_closure, extract_lender, extract_rest, list_after_extract_if}
 use Rattle.thin_vec.specs.Edits.Retain.{items_where}
 use Rattle.thin_runner.specs.commands.Filters.{extract_results}
 use Rattle.thin_runner.proofs.CallbackExtractLemmas.{IsExtracting, handed_out}
@@ -26,6 +26,6 @@ invariant-loop g l =
       });
       tail : (extract_block l.extract).tail ≡ drop l.fn.end l.fn.list.items;
       lender : extract_lender l.extract ≡ extract_lender l.initial.extract;
-      capacity : (left_by_extract_if l.extract).capacity ≡ l.fn.list.capacity;
-      alloc : (left_by_extract_if l.extract).alloc ≡ l.fn.list.alloc;
+      capacity : (list_after_extract_if l.extract).capacity ≡ l.fn.list.capacity;
+      alloc : (list_after_extract_if l.extract).alloc ≡ l.fn.list.alloc;
     }

@@ -8,15 +8,15 @@ use Rattle.thin_runner.specs.Hinted.{hinted_claim, hinted_count, hinted_items}
 use Rattle.thin_runner.proofs.HintedLemmas.{drains-items}
 use Rattle.thin_runner.proofs.SplicesLemmas.{at-no-in-hand, at-some-in-hand, finishes-splices, no-tail, replaces, replaces-of, some-tail, stops-of, stopped-claim, stopped-ended, stopped-items, tail-count}
 use Rattle.thin_runner.specs.commands.Splices.{without_range}
-use Rattle.thin_vec.specs.Edits.Splice.{left_by_splice, splice_front, splice_iter, splice_range_len, splice_tail}
+use Rattle.thin_vec.specs.Edits.Splice.{list_without_range, splice_front, splice_iter, splice_range_len, splice_tail}
 use Rattle.thin_vec.proofs.PushesLemmas.{finish-costs}
 use Rattle.thin_vec.specs.ThinVec.{HasRoomFor}
 use Rattle.thin_runner.proofs.steps.Context.splice.Goals.{After-take_ends}
 use Rattle.thin_runner.proofs.steps.Context.splice.Goals as goal
 
-left : (g : _) (c : After-take_ends g) → left_by_splice c.take_ends.new.ends
+left : (g : _) (c : After-take_ends g) → list_without_range c.take_ends.new.ends
     ≡ without_range c.args.list.now c.args.start c.args.end
-left g c = c.take_ends.ensures.preserved.left ∙ c.splice-splice.ensures.left
+left g c = c.take_ends.ensures.preserved.without_range ∙ c.splice-splice.ensures.without_range
 
 front : (g : _) (c : After-take_ends g)
     → splice_front c.take_ends.new.ends ≡ take c.args.start c.args.list.now.items

@@ -34,6 +34,6 @@ returns g c = (
     writes_back = tt;
     value = lent g c;
     len = ap length (lent g c);
-    bounds = within-of _ _ _ _ c.self.invariant c.self.view_is c.len-len.ensures.bounds;
+    bounds_before = within-of _ _ _ _ c.self.invariant c.self.view_is c.len-len.ensures.bounds;
   },
 )

@@ -57,6 +57,6 @@ returns-clause-changes g c =
     list_view-becomes c.self.view_is c.replace-block.new.dest (ap length none) (ap items_in none)
     (search rules)
 
-pub returns-clause-bounds : goal.returns-clause-bounds
-returns-clause-bounds g c =
+pub returns-clause-bounds_before : goal.returns-clause-bounds_before
+returns-clause-bounds_before g c =
     within-of _ _ _ _ c.self.invariant c.self.view_is c.len-len.ensures.bounds

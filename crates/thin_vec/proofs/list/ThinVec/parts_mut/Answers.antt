@@ -32,6 +32,6 @@ returns g c =
         value = lent;
         len = ap length lent;
         alloc = ap (λ v. v.alloc) c.self.view_is;
-        bounds = within-of _ _ _ _ c.self.invariant c.self.view_is c.len-len.ensures.bounds;
+        bounds_before = within-of _ _ _ _ c.self.invariant c.self.view_is c.len-len.ensures.bounds;
       },
     )

@@ -9,8 +9,8 @@ pop_last-requires g c = grind (arith, common_steps)
 pub returns-clause-variant : goal.returns-clause-variant
 returns-clause-variant g c = grind (arith, common_steps)
 
-pub returns-clause-bounds : goal.returns-clause-bounds
-returns-clause-bounds g c = grind (arith, common_steps)
+pub returns-clause-bounds_before : goal.returns-clause-bounds_before
+returns-clause-bounds_before g c = grind (arith, common_steps)
 
 pub returns-clause-value : goal.returns-clause-value
 returns-clause-value g c = λ d some. grind (arith, common_steps)

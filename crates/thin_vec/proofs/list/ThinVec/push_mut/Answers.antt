@@ -44,6 +44,6 @@ returns g c =
         overflow = λ none. absurd (none-some _ (sym none ∙ c.in_ok-push.ensures.capacity));
         cause = tt;
         value_returned = tt;
-        bounds = kept.within.0;
+        bounds_before = kept.within.0;
       },
     )

@@ -3,7 +3,7 @@ use Rattle.std.proofs.Common.{[], ◌≡◌, ◌+◌, ◌≤◌, ◌++◌, ◌�
 use denote.Param.{param}
 use Rattle.thin_vec.specs.Edits.Finish.{FinishesSplice}
 use Rattle.thin_vec.specs.OpenView.{tail_end}
-use Rattle.thin_vec.specs.Edits.Splice.{left_by_splice, splice_front, splice_iter, splice_list, splice_tail}
+use Rattle.thin_vec.specs.Edits.Splice.{list_without_range, splice_front, splice_iter, splice_list, splice_tail}
 use Rattle.thin_block.proofs.CapacityLemmas.{fits-less}
 use Rattle.thin_vec.proofs.PushesLemmas.{finished-costs}
 use Rattle.thin_vec.proofs.list.ExtendLemmas.{run_of_ok}
@@ -11,7 +11,7 @@ use Rattle.thin_vec.proofs.edits.splice.Splice.finish.Goals.{else-has_tail, then
 use Rattle.thin_vec.proofs.edits.splice.Splice.finish.Goals as goal
 
 pub returns : goal.returns
-unfolding left_by_splice
+unfolding list_without_range
 returns g c =
     let rule = g.G.Growth.rule in let T = param 0 g.row.T in
     let steps = g.I.Iterator.next_gives in
@@ -40,7 +40,7 @@ returns g c =
     c.drop_middle.new.self o s w r) (ap (λ v. v.alloc) c.clear.ensures.changes) said) in
     let le = f.taken.never_less in
     let within = c.len-len.ensures.bounds in
-    let left = left_by_splice c.args.self in
+    let left = list_without_range c.args.self in
     let room : length left.items + (v.gap_before + length v.middle + v.gap_after) ≤ left.capacity =
     omega (
       arith,

@@ -43,6 +43,6 @@ returns g c =
         value = sym (get_or_from_slice_get c.args.self.now.items c.args.index c.slot_mut.result.now
             c.slot_mut.result.now item);
         found = item;
-        bounds = rw c.self.view_is at c.len-len.ensures.bounds;
+        bounds_before = rw c.self.view_is at c.len-len.ensures.bounds;
       },
     )
