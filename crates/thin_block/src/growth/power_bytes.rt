@@ -16,8 +16,10 @@ use crate::sizes::{HEADER, item_size};
 ///
 /// An allocator that rounds requests up to powers of two wastes less than the size of one item per
 /// block. So that this holds for all items, blocks of these capacities have no padding. Therefore,
-/// a list of items of more than 16 bytes moves them to a new allocation whenever it grows, while it
-/// might grow in place under `Doubling`. For items of size 0, the rule is the same as `Doubling`.
+/// a list of items of more than 16 bytes moves them to a new allocation if it grows to such a
+/// capacity, while it might grow in place under `Doubling`. (From one exact capacity to another, as
+/// by `reserve_exact`, it might grow in place under both rules.) For items of size 0, the rule is
+/// the same as `Doubling`.
 pub struct PowerBytes {}
 
 impl Growth for PowerBytes {
