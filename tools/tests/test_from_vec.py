@@ -87,6 +87,7 @@ class FromVec(ToolTest):
 
     def test_a_length_that_is_left_out(self):
         answers = "proofs/Readings/count/Answers.antt"
+        used_twice = "let e = v.ok.0 in\n    f (e, v.ok.0)"
         for old, new in (
             ("omega (arith, v.ok.0)", "omega arith"),
             ("omega (arith, v.ok.0, c.e)", "omega (arith, c.e)"),
@@ -95,13 +96,74 @@ class FromVec(ToolTest):
             ("c.e ∙ sym v.ok.0", "c.e"),
             ("f (c.e, v.ok.0)", "f (c.e, v.ok.0)"),
             ("c.f.ensures.ok.0 ∙ c.e", "c.f.ensures.ok.0 ∙ c.e"),
+            ("omega (\n      arith,\n      v.ok.0,\n    )", "omega (\n      arith,\n    )"),
+            ("f c.e v.ok.0 d", "f c.e refl d"),
+            ("rw v.ok.0 d", "rw v.ok.0 d"),
             ("\n    let ok = v.ok.0 in\n    omega arith", "\n    omega arith"),
-            ("\n    let e = v.ok.0 in\n    f (e, v.ok.0)", "\n    let e = v.ok.0 in\n    f (e, v.ok.0)"),
+            (f"\n    {used_twice}", f"\n    {used_twice}"),
         ):
             with self.subTest(old):
                 text, left = self.moved("c.len.ensures ∙ c.args.self.now.kept.ok.0", old, answers)
                 self.assertTrue(text.endswith(f"returns c = {new}\n"), text)
-                self.assertEqual(bool(left), " v.ok.0)" in new)
+                self.assertEqual(bool(left), "v.ok.0" in new)
+                self.assertEqual("Common.{◌∙◌, refl}\n" in text, "refl" in new)
+
+    def test_a_result_that_is_returned(self):
+        for old, new in (
+            ("self.kept.append(other)\n", "Ok(self.kept.append(other)?)\n"),
+            ("other.append(list)\n", "other.append(list)\n"),
+            ("self.kept.append(a).ok(b)\n", "self.kept.append(a).ok(b)\n"),
+            ("return self.kept.resize(1, 0);\n", "return Ok(self.kept.resize(1, 0)?);\n"),
+            ("vec![in a; 1]\n", "Ok(thin_vec![in a; 1]?)\n"),
+        ):
+            with self.subTest(old):
+                text, _ = self.moved("self.kept.reserve(count)\n", old)
+                self.assertIn(f"    {{\n        {new}    }}\n", text)
+
+    def test_a_list_that_is_returned(self):
+        for items, new in (("u8", "extend_from_copies"), ("T", "extend_from_slice")):
+            for last in ("made", "Ok(made)"):
+                kind = f"Vec<{items}, A>"
+                result = f"Result<{kind}, E>" if last == "Ok(made)" else kind
+                body = f"let mut made = Vec::new(a);\n    made.extend_from_slice(x)?;\n    {last}"
+                function = f"fn f() -> {result} {{\n    {body}\n}}\n\n/// Returns a copy"
+                text, left = self.moved("/// Returns a copy", function)
+                self.assertIn(f"    made.{new}(x)?;\n", text)
+                self.assertEqual(bool(left), items == "T")
+
+    def test_a_list_that_becomes_a_text(self):
+        code = "let text = Vec::new(a);\n        String::from_utf8(text)"
+        _, left = self.moved("self.kept.drain(..first);", code)
+        line = "src/lib.rt: String::from_utf8(text)"
+        self.assertEqual(left, f"{line}\n    `text.into_vec(alloc)?`\n")
+
+    def test_a_length_after_a_write(self):
+        loops = "'rows: for i in 0..9 {\n    for j in x {\n        %s\n    }\n}"
+        invariants = (
+            "invariant-%s l = (l.i ≡ 0)\n    × (vec_len l.list ≡ l.n)\n",
+            "invariant-%s l = record {\n  len : vec_len l.list ≡ l.n;\n}\n",
+        )
+        for write, loop, invariant, old, new in (
+            ("list[j] = 0;", "loop-j", 0, "inv.1,", "length-set _ _ _ ∙ inv.1,"),
+            ("list[j] = 0;", "loop-j", 0, "inv.0,", "inv.0,"),
+            ("list[j] = 0;", "rows", 0, "inv.1,", "inv.1,"),
+            ("other[j] = 0;", "loop-j", 0, "inv.1,", "inv.1,"),
+            ("list[j] += 1;", "loop-j", 1, "len = inv.len;", "len = length-set _ _ _ ∙ inv.len;"),
+        ):
+            with self.subTest(old, write=write, loop=loop):
+                folder = self.crate()
+                code = f"let mut list = Vec::new(a);\n        {loops % write}"
+                change(folder / "src/lib.rt", "self.kept.drain(..first);", code)
+                proofs = folder / "proofs/Readings/keep_last"
+                proofs.mkdir(parents=True)
+                (proofs / "Invariants.antt").write_text(invariants[invariant] % loop, "utf-8")
+                answer = f"{loop}-preserved c =\n    let inv = c.{loop}.invariant in (\n"
+                answer += "      {}\n    )\n"
+                (proofs / "Answers.antt").write_text(answer.format(old), "utf-8")
+                self.passes("from_vec", folder, "--write")
+                text = (proofs / "Answers.antt").read_text("utf-8")
+                self.assertTrue(text.endswith(answer.format(new)), text)
+                self.assertEqual("{length-set, ◌∙◌}" in text, old != new)
 
     def test_a_folder_without_sources(self):
         folder = self.folder()
