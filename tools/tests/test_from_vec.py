@@ -98,7 +98,8 @@ class FromVec(ToolTest):
             ("c.f.ensures.ok.0 ∙ c.e", "c.f.ensures.ok.0 ∙ c.e"),
             ("omega (\n      arith,\n      v.ok.0,\n    )", "omega (\n      arith,\n    )"),
             ("f c.e v.ok.0 d", "f c.e refl d"),
-            ("rw v.ok.0 d", "rw v.ok.0 d"),
+            ("rw v.ok.0 d", "d"),
+            ("f (rw (← v.ok.0) at c.e)", "f (c.e)"),
             ("\n    let ok = v.ok.0 in\n    omega arith", "\n    omega arith"),
             (f"\n    {used_twice}", f"\n    {used_twice}"),
         ):
