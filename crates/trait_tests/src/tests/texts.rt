@@ -67,6 +67,19 @@ fn assert_into_iter_prints<T: Copy + Debug + Drop, A: Allocator>(
     }
 }
 
+// Asserts that a list of `items` with spare capacity is printed as their slice.
+fn assert_roomy_list_prints<T: Copy + Debug + Drop>(
+    rt: &impl Abort,
+    alloc: Global,
+    items: &[T],
+) -> Result<(), ThinVecError> {
+    let mut list: ThinVec<T, Global, PowerBytes> = ThinVec::ruled(alloc);
+    list.reserve(300)?;
+    list.extend_from_copies(items)?;
+    check!(rt; prints_as(alloc, &list, &items));
+    Ok(())
+}
+
 // Asserts that a list of `items` is printed as their slice, with and without spare capacity, and
 // its iterators as the items that they have left. Also asserts that printing requests no memory
 // from the allocator of the list.
@@ -75,10 +88,7 @@ fn assert_printed_as_slices<T: Copy + Debug + Drop>(
     alloc: Global,
     items: &[T],
 ) -> Result<(), Fail> {
-    let mut powers: ThinVec<T, Global, PowerBytes> = ThinVec::ruled(alloc);
-    powers.reserve(300)?;
-    powers.extend_from_copies(items)?;
-    check!(rt; prints_as(alloc, &powers, &items));
+    assert_roomy_list_prints(rt, alloc, items)?;
     let refusing = Refusing::leaked(alloc, 0)?;
     let mut list = list_of(refusing, items)?;
     let other = list_of(refusing, items)?;
@@ -172,19 +182,24 @@ fn assert_io_error<E: Error>(rt: &impl Abort, alloc: Global, error: E) -> Result
     Ok(())
 }
 
+// Writes to a full list of `len` bytes whose allocator refuses all requests, and asserts the texts
+// of the errors.
+fn assert_write_errors(rt: &impl Abort, alloc: Global, len: usize) -> Result<(), Fail> {
+    let refusing = Refusing::leaked(alloc, 0)?;
+    let mut bytes = ThinVec::new(refusing);
+    bytes.resize(len, 7_u8)?;
+    bytes.shrink_to_fit()?;
+    refusing.refuse_all();
+    let error = bytes.write_all(b"some more bytes").err();
+    assert_io_error(rt, alloc, error.ok_or("written")?)?;
+    let error = bytes.write(b"ab").err();
+    assert_io_error(rt, alloc, error.ok_or("written")?)
+}
+
 #[test]
 fn a_refused_write_is_printed_as_out_of_memory(rt: HostRuntime) -> Result<(), Fail> {
-    let refusing = Refusing::leaked(rt.alloc(), 0)?;
     for len in [0, 1, 100] {
-        refusing.refuse(0);
-        let mut bytes = ThinVec::new(refusing);
-        bytes.resize(len, 7_u8)?;
-        bytes.shrink_to_fit()?;
-        refusing.refuse_all();
-        let error = bytes.write_all(b"some more bytes").err().ok_or("written")?;
-        assert_io_error(&rt, rt.alloc(), error)?;
-        let error = bytes.write(b"ab").err().ok_or("written")?;
-        assert_io_error(&rt, rt.alloc(), error)?;
+        assert_write_errors(&rt, rt.alloc(), len)?;
     }
     Ok(())
 }
@@ -205,7 +220,22 @@ impl Debug for Named<'_> {
 }
 
 // Asserts that the debug text of an error is its name and its cause, and that `{}` prints the
-// cause alone. Also asserts the texts of the `io::Error` that `?` makes of it.
+// cause alone.
+fn assert_error_prints<R: Error>(
+    rt: &impl Abort,
+    alloc: Global,
+    refused: &R,
+    name: &str,
+    cause: ThinVecError,
+) -> Result<(), Fail> {
+    let printed = format!(in alloc; "{refused}, {refused:?}")?;
+    let wanted = format!(in alloc; "{cause}, {name} {{ cause: {cause:?}, .. }}")?;
+    check!(rt; same(printed.as_str(), wanted.as_str()));
+    check!(rt; prints_as(alloc, refused, &Named { name, cause }));
+    Ok(())
+}
+
+// Asserts the texts of an error, and of the `io::Error` that `?` makes of it.
 fn assert_refusal<R: Error, E: From<R> + Error>(
     rt: &impl Abort,
     alloc: Global,
@@ -213,11 +243,42 @@ fn assert_refusal<R: Error, E: From<R> + Error>(
     name: &str,
     cause: ThinVecError,
 ) -> Result<(), Fail> {
-    let printed = format!(in alloc; "{refused}, {refused:?}")?;
-    let wanted = format!(in alloc; "{cause}, {name} {{ cause: {cause:?}, .. }}")?;
-    check!(rt; same(printed.as_str(), wanted.as_str()));
-    check!(rt; prints_as(alloc, &refused, &Named { name, cause }));
+    assert_error_prints(rt, alloc, &refused, name, cause)?;
     assert_io_error(rt, alloc, E::from(refused))
+}
+
+fn collect_refused(
+    alloc: Global,
+    cause: ThinVecError,
+    in_hand: Option<i32>,
+    len: usize,
+) -> Result<CollectRefused<i32, i32>, ThinVecError> {
+    let mut list = ThinVec::new(alloc);
+    list.resize(len, 7)?;
+    Ok(CollectRefused {
+        list,
+        cause,
+        in_hand,
+        rest: 2,
+    })
+}
+
+fn splice_refused(
+    alloc: Global,
+    cause: ThinVecError,
+    in_hand: Option<i32>,
+    len: usize,
+) -> Result<SpliceRefused<usize, i32>, Fail> {
+    let mut held = Vec::new(alloc);
+    for item in 0..len {
+        held.push(item).ok().ok_or("memory")?;
+    }
+    Ok(SpliceRefused {
+        cause,
+        held,
+        in_hand: in_hand.map(|_item| 7_usize),
+        rest: 2,
+    })
 }
 
 // Asserts the texts of an error of each of the four types. A list in an error has `len` items.
@@ -237,25 +298,9 @@ fn assert_refusals(
         rest,
     };
     assert_refusal::<_, io::Error>(rt, alloc, extend, "ExtendRefused", cause)?;
-    let mut list = ThinVec::new(alloc);
-    list.resize(len, 7)?;
-    let collect = CollectRefused {
-        list,
-        cause,
-        in_hand,
-        rest,
-    };
+    let collect = collect_refused(alloc, cause, in_hand, len)?;
     assert_refusal::<_, io::Error>(rt, alloc, collect, "CollectRefused", cause)?;
-    let mut held = Vec::new(alloc);
-    for item in 0..len {
-        held.push(item).ok().ok_or("memory")?;
-    }
-    let splice = SpliceRefused {
-        cause,
-        held,
-        in_hand: in_hand.map(|_item| 7_usize),
-        rest,
-    };
+    let splice = splice_refused(alloc, cause, in_hand, len)?;
     assert_refusal::<_, io::Error>(rt, alloc, splice, "SpliceRefused", cause)
 }
 

@@ -4,6 +4,7 @@ ghost use Rattle.std.specs.Prelude.{◌≡◌};
 
 use std::alloc::{Allocator, Global};
 use std::marker::{Send, Sync};
+use std::process::Abort;
 use std::test::Fail;
 use thin_testing::{check, has_len, same};
 use thin_vec::{Growth, PowerBytes, ThinVec, thin_vec};
@@ -57,20 +58,37 @@ fn lists_can_be_sent_and_shared(rt: HostRuntime) -> Result<(), Fail> {
     Ok(())
 }
 
+fn assert_drain_is_shared(rt: &impl Abort, list: &mut ThinVec<u8>) {
+    check!(rt; has_len(list, 3));
+    check!(rt; same(needs_sync(&needs_send(list.drain(0, 1))).len(), 1));
+    check!(rt; has_len(list, 2));
+}
+
+fn assert_extract_if_is_shared(rt: &impl Abort, list: &mut ThinVec<u8>) {
+    check!(rt; has_len(list, 2));
+    let extract = needs_send(list.extract_if(0, 1, |_item: &mut u8| true));
+    check!(rt; same(needs_sync(&extract).size_hint(), (0, Some(1))));
+}
+
+fn assert_splice_is_shared(
+    rt: &impl Abort,
+    alloc: Global,
+    list: &mut ThinVec<u8>,
+) -> Result<(), Fail> {
+    check!(rt; has_len(list, 2));
+    let other: ThinVec<u8> = thin_vec![alloc => 4, 5]?;
+    let splice = needs_send(list.splice(0, 1, other.into_iter()));
+    check!(rt; same(needs_sync(&splice).len(), 1));
+    splice.finish(alloc)?;
+    Ok(())
+}
+
 #[test]
 fn iterators_over_lists_can_be_sent_and_shared(rt: HostRuntime) -> Result<(), Fail> {
     let mut list: ThinVec<u8> = thin_vec![rt.alloc() => 1, 2, 3]?;
-    check!(rt; has_len(&list, 3));
-    check!(rt; same(needs_sync(&needs_send(list.drain(0, 1))).len(), 1));
-    check!(rt; has_len(&list, 2));
-    let extract = needs_send(list.extract_if(0, 1, |_item: &mut u8| true));
-    check!(rt; same(needs_sync(&extract).size_hint(), (0, Some(1))));
-    drop(extract);
-    check!(rt; has_len(&list, 2));
-    let other: ThinVec<u8> = thin_vec![rt.alloc() => 4, 5]?;
-    let splice = needs_send(list.splice(0, 1, other.into_iter()));
-    check!(rt; same(needs_sync(&splice).len(), 1));
-    splice.finish(rt.alloc())?;
+    assert_drain_is_shared(&rt, &mut list);
+    assert_extract_if_is_shared(&rt, &mut list);
+    assert_splice_is_shared(&rt, rt.alloc(), &mut list)?;
     let items = needs_send(list.into_iter());
     check!(rt; same(needs_sync(&items).len(), 3));
     Ok(())

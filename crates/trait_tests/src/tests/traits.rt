@@ -12,6 +12,21 @@ use std::test::Fail;
 use thin_testing::{Refusing, check, counts, has_len, holds, list_of, same};
 use thin_vec::{ThinVec, ThinVecError};
 
+type Lender = &'static Refusing<Global>;
+
+// Clones `source` into the list at the second try. The request of the first try is refused.
+fn clone_at_second_try(
+    rt: &impl Abort,
+    list: &mut ThinVec<i32, Lender>,
+    source: &ThinVec<i32, Lender>,
+) -> Result<(), ThinVecError> {
+    check!(rt; same(list.clone_from(source).is_err(), true));
+    check!(rt; holds(list, &[7], 9));
+    list.clone_from(source)?;
+    check!(rt; holds(list, &[1, 2, 3], 3));
+    Ok(())
+}
+
 #[test]
 fn clone_from_replaces_the_block(rt: HostRuntime) -> Result<(), Fail> {
     let own = Refusing::leaked(rt.alloc(), 0)?;
@@ -21,15 +36,18 @@ fn clone_from_replaces_the_block(rt: HostRuntime) -> Result<(), Fail> {
     let mut source = list_of(other, &[1, 2, 3])?;
     source.reserve(5)?;
     other.refuse(1);
-    check!(rt; same(list.clone_from(&source).is_err(), true));
-    check!(rt; holds(&list, &[7], 9));
-    list.clone_from(&source)?;
-    check!(rt; holds(&list, &[1, 2, 3], 3));
+    clone_at_second_try(&rt, &mut list, &source)?;
     check!(rt; counts(own, 1, 0));
     check!(rt; counts(other, 2, 2));
     list.clone_from(&ThinVec::new(own))?;
     check!(rt; holds(&list, &[], 0));
     check!(rt; counts(other, 2, 1));
+    Ok(())
+}
+
+fn assert_default_has_no_block<T: Drop>(rt: &impl Abort, alloc: Global) -> Result<(), Fail> {
+    let mut lists: HashMap<u32, ThinVec<T>> = HashMap::new(alloc);
+    check!(rt; same(lists.entry(1)?.or_default().capacity(), 0));
     Ok(())
 }
 
@@ -39,13 +57,9 @@ fn or_default_makes_a_list_without_a_block(rt: HostRuntime) -> Result<(), Fail> 
     let list = lists.entry(1)?.or_default();
     check!(rt; same(list.capacity(), 0));
     list.push(10)?;
-    let list = lists.entry(1)?.or_default();
-    check!(rt; holds(list, &[10], 4));
-    let mut wide: HashMap<u32, ThinVec<[u64; 40]>> = HashMap::new(rt.alloc());
-    check!(rt; same(wide.entry(1)?.or_default().capacity(), 0));
-    let mut units: HashMap<u32, ThinVec<()>> = HashMap::new(rt.alloc());
-    check!(rt; same(units.entry(1)?.or_default().capacity(), 0));
-    Ok(())
+    check!(rt; holds(lists.entry(1)?.or_default(), &[10], 4));
+    assert_default_has_no_block::<[u64; 40]>(&rt, rt.alloc())?;
+    assert_default_has_no_block::<()>(&rt, rt.alloc())
 }
 
 #[test]
@@ -74,16 +88,87 @@ fn len_as_slice<T, S: AsSlice<T>>(items: &S) -> usize {
     items.as_slice().len()
 }
 
+// Writes to the list, which has `len` items, in each way in which a slice is written to.
+fn write_as_slice<T: Copy + Ord + Drop>(
+    rt: &impl Abort,
+    list: &mut ThinVec<T, Lender>,
+    len: usize,
+) {
+    check!(rt; has_len(list, len));
+    if len > 0 {
+        list[len - 1] = list[0];
+        list.swap(0, len - 1);
+    }
+    list.reverse();
+    list.rotate_left(len / 2);
+    list.rotate_right(len);
+    list.sort_unstable();
+    list.sort_unstable_by(|x, y| y.cmp(x));
+    list.sort_unstable_by_key(|x| *x);
+    let ends = (list.first_mut().is_some(), list.last_mut().is_some());
+    let found = (ends, list.get_mut(0).is_some());
+    check!(rt; same(found, ((len > 0, len > 0), len > 0)));
+}
+
+// Counts the items by a loop that reads them, and by one that may write to them.
+fn counts_of_loops<T, A: Allocator>(list: &mut ThinVec<T, A>) -> (usize, usize) {
+    let mut read = 0_usize;
+    for _item in &*list {
+        read = read.saturating_add(1);
+    }
+    let mut written = 0_usize;
+    for _item in list {
+        written = written.saturating_add(1);
+    }
+    (read, written)
+}
+
+// Reads the list, which has `len` items, in each way in which a slice is read. Asserts that it
+// equals the other list.
+fn assert_read_as_slice<T: Copy + Ord + Hash + Debug + Drop>(
+    rt: &impl Abort,
+    list: &ThinVec<T, Lender>,
+    other: &ThinVec<T, Lender>,
+    len: usize,
+) {
+    check!(rt; same((list.iter().count(), len_as_slice::<T, _>(list)), (len, len)));
+    let found = (list == other, list.cmp(other), list.partial_cmp(other));
+    let equal = Ordering::Equal;
+    check!(rt; same(found, (true, equal, Some(equal))));
+    check!(rt; same(list.first(), other.last()));
+    list.hash(&mut DefaultHasher::new());
+}
+
+// The length and the size hint of an iterator, and how many items it yields.
+type Lens = (usize, (usize, Option<usize>), usize);
+
 // Returns the lengths that an iterator tells through its traits.
 fn lens<I: ExactSizeIterator>(items: &I) -> (usize, (usize, Option<usize>)) {
     (items.len(), items.size_hint())
+}
+
+// Drains the list, which has `len` items, from both ends. Returns the lengths after two items.
+fn lens_of_drain<T: Drop>(rt: &impl Abort, list: &mut ThinVec<T, Lender>, len: usize) -> Lens {
+    check!(rt; has_len(list, len));
+    let mut drain = list.drain(0, len);
+    let _ends = (drain.next(), drain.next_back());
+    let (left, hint) = lens(&drain);
+    (left, hint, drain.rev().count())
+}
+
+// Takes the items from both ends. Returns the lengths after two items.
+fn lens_of_into_iter<T: Drop>(list: ThinVec<T, Lender>) -> Lens {
+    let mut rest = list.into_iter();
+    let _ends = (rest.next(), rest.next_back());
+    let (left, hint) = lens(&rest);
+    (left, hint, rest.rev().count())
 }
 
 // Reads and writes a list of `len` items in each way in which a list is a slice, and asserts that
 // no memory is requested.
 fn assert_slice_requests<T: Copy + Ord + Hash + Debug + Drop>(
     rt: &impl Abort,
-    refusing: &'static Refusing<Global>,
+    refusing: Lender,
     item: T,
     len: usize,
 ) -> Result<(), ThinVecError> {
@@ -93,43 +178,11 @@ fn assert_slice_requests<T: Copy + Ord + Hash + Debug + Drop>(
     let mut other = ThinVec::new(refusing);
     other.resize(len, item)?;
     refusing.refuse(1);
-    check!(rt; has_len(&list, len));
-    check!(rt; has_len(&other, len));
-    if len > 0 {
-        list[len - 1] = other[0];
-        list.swap(0, len - 1);
-    }
-    list.reverse();
-    list.rotate_left(len / 2);
-    list.rotate_right(len);
-    list.sort_unstable();
-    list.sort_unstable_by(|x, y| y.cmp(x));
-    list.sort_unstable_by_key(|x| *x);
-    check!(rt; has_len(&list, len));
-    let ends = (list.first_mut().is_some(), list.last_mut().is_some());
-    check!(rt; same(ends, (len > 0, len > 0)));
-    let mut seen = 0_usize;
-    for _item in &list {
-        seen = seen.saturating_add(1);
-    }
-    for _item in &mut list {
-        seen = seen.saturating_add(1);
-    }
-    let found = (seen, list.iter().count(), len_as_slice::<T, _>(&list));
-    check!(rt; same(found, (len.saturating_mul(2), len, len)));
-    let found = (list == other, list.cmp(&other), list.partial_cmp(&other));
-    let equal = Ordering::Equal;
-    check!(rt; same(found, (true, equal, Some(equal))));
-    check!(rt; same(list.first(), other.last()));
-    check!(rt; same(list.get_mut(0).is_some(), len > 0));
-    list.hash(&mut DefaultHasher::new());
-    check!(rt; has_len(&list, len));
-    let mut drain = list.drain(0, len);
-    let _ends = (drain.next(), drain.next_back());
-    let drained = (lens(&drain), drain.rev().count());
-    let mut rest = other.into_iter();
-    let _ends = (rest.next(), rest.next_back());
-    check!(rt; same(drained, (lens(&rest), rest.rev().count())));
+    write_as_slice(rt, &mut list, len);
+    check!(rt; same(counts_of_loops(&mut list), (len, len)));
+    assert_read_as_slice(rt, &list, &other, len);
+    let drained = lens_of_drain(rt, &mut list, len);
+    check!(rt; same(drained, lens_of_into_iter(other)));
     check!(rt; same(refusing.requests(), 0));
     Ok(())
 }
@@ -169,41 +222,61 @@ fn sort_items_by_way<A: Allocator>(
     }
 }
 
+// Makes a list of two runs, since a list that is one run, rising or falling, is sorted without
+// memory.
+fn two_runs(lender: Lender, first: i32, second: i32) -> Result<ThinVec<i32, Lender>, Fail> {
+    let mut list = ThinVec::new(lender);
+    list.extend(0..first)?;
+    list.extend(0..second)?;
+    Ok(list)
+}
+
+// Asserts that a sort of a list requests what the same sort of its slice requests.
+fn assert_sort_requests(rt: &impl Abort, refusing: Lender, way: u32, len: i32) -> Result<(), Fail> {
+    let mut list = two_runs(refusing, len, len)?;
+    let mut other = list.clone(refusing)?;
+    refusing.refuse(0);
+    sort_items_by_way(way, other.as_mut_slice(), &refusing)?;
+    let due = (refusing.requests(), refusing.lent());
+    refusing.refuse(0);
+    sort_by_way(way, &mut list)?;
+    let found = (refusing.requests(), refusing.lent());
+    check!(rt; same((way, len, found), (way, len, due)));
+    Ok(())
+}
+
 #[test]
 fn stable_sorts_make_the_requests_of_those_of_slices(rt: HostRuntime) -> Result<(), Fail> {
     let refusing = Refusing::leaked(rt.alloc(), 0)?;
     for way in 0..4 {
         for len in [0, 1, 5, 10, 11, 150] {
-            let mut list = ThinVec::new(refusing);
-            list.extend(0..len)?;
-            list.extend(0..len)?;
-            let mut other = list.clone(refusing)?;
-            refusing.refuse(0);
-            sort_items_by_way(way, other.as_mut_slice(), &refusing)?;
-            let due = (refusing.requests(), refusing.lent());
-            refusing.refuse(0);
-            sort_by_way(way, &mut list)?;
-            let found = (refusing.requests(), refusing.lent());
-            check!(rt; same((way, len, found), (way, len, due)));
+            assert_sort_requests(&rt, refusing, way, len)?;
         }
     }
     Ok(())
 }
 
-// Two runs, since a list that is one run, rising or falling, is sorted without memory.
+// Sorts the list at the second try. The request of the first try is refused.
+fn sort_at_second_try(
+    rt: &impl Abort,
+    refusing: Lender,
+    list: &mut ThinVec<i32, Lender>,
+    way: u32,
+) -> Result<(), Fail> {
+    let unsorted = list.clone(refusing)?;
+    refusing.refuse(1);
+    check!(rt; same(sort_by_way(way, list).is_err(), true));
+    check!(rt; same((*list == unsorted, refusing.blocks()), (true, 2)));
+    check!(rt; same(sort_by_way(way, list).is_ok(), true));
+    check!(rt; same((list.is_sorted(), refusing.blocks()), (true, 2)));
+    Ok(())
+}
+
 #[test]
 fn stable_sorts_use_the_allocator_of_the_list(rt: HostRuntime) -> Result<(), Fail> {
     let refusing = Refusing::leaked(rt.alloc(), 0)?;
     for way in 0..4 {
-        let mut list = ThinVec::new(refusing);
-        list.extend(0..20)?;
-        list.extend(0..10)?;
-        let unsorted = list.clone(refusing)?;
-        refusing.refuse(1);
-        check!(rt; same(sort_by_way(way, &mut list).is_err(), true));
-        check!(rt; same((list == unsorted, refusing.blocks()), (true, 2)));
-        check!(rt; same(sort_by_way(way, &mut list).is_ok(), true));
-        check!(rt; same((list.is_sorted(), refusing.blocks()), (true, 2)));
+        sort_at_second_try(&rt, refusing, &mut two_runs(refusing, 20, 10)?, way)?;
     }
     Ok(())
 }
