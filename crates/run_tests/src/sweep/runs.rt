@@ -124,6 +124,13 @@ fn put<T: Drop, A: Allocator>(items: &mut Vec<T, A>, item: T) -> Result<(), Allo
     }
 }
 
+// Returns a vector of one item.
+fn sole<T: Drop, A: Allocator>(alloc: A, item: T) -> Result<Vec<T, A>, AllocError> {
+    let mut items = Vec::new(alloc);
+    put(&mut items, item)?;
+    Ok(items)
+}
+
 // The number of requests that a reply shows: one for each block of a list or a `Vec` in it.
 fn blocks_in<T: Drop, G: Growth>(reply: &Reply<T, Lender, G>) -> u64 {
     match reply {
@@ -151,8 +158,7 @@ pub fn is_right<T: Numbered, G: Growth>(
 ) -> Result<bool, AllocError> {
     let (alloc, capacity) = (&ledger.alloc, list.capacity());
     let is_filling = is_filling(&command);
-    let mut commands = Vec::new(alloc);
-    put(&mut commands, command)?;
+    let commands = sole(alloc, command)?;
     let mut replies = Vec::new(alloc);
     ledger.begin(refused);
     let ran = run(alloc, list, commands, &mut replies, &Swaps { digits });
@@ -272,6 +278,20 @@ fn long_command<T: Numbered, G: Growth, R: Abort>(
     })
 }
 
+// Executes a long command on a list of 3,000 items, with request number `refused` refused. Returns
+// whether it is right.
+fn is_long_right<T: Numbered, G: Growth, R: Abort>(
+    rt: &R,
+    ledger: &'static Ledger,
+    number: usize,
+    refused: u64,
+) -> Result<bool, AllocError> {
+    ledger.begin(0);
+    let mut list: List<T, G> = filled_list(ledger, 3000, 0)?;
+    let command = long_command(rt, ledger, number)?;
+    is_right(ledger, &mut list, command, 0, refused)
+}
+
 /// Executes commands that need memory on lists of 3,000 items, and asserts that each is right.
 pub fn assert_long_commands_right<T: Numbered, G: Growth, R: Abort>(
     rt: &R,
@@ -279,10 +299,7 @@ pub fn assert_long_commands_right<T: Numbered, G: Growth, R: Abort>(
 ) {
     for number in 0..14 {
         for refused in 0..4 {
-            ledger.begin(0);
-            let mut list: List<T, G> = filled_list(ledger, 3000, 0).expect(rt, "memory");
-            let command = long_command(rt, ledger, number).ok().expect(rt, "memory");
-            let right = is_right(ledger, &mut list, command, 0, refused);
+            let right = is_long_right::<T, G, R>(rt, ledger, number, refused);
             assert!(rt;
                 right.unwrap_or(false),
                 "command {number}, request {refused}"
@@ -303,27 +320,46 @@ fn pushes<T: Numbered, G: Growth>(
     Ok(commands)
 }
 
+// Pushes `count` items by one run, with request number `refused` refused.
+fn run_pushes<T: Numbered, G: Growth, R: Abort>(
+    rt: &R,
+    ledger: &'static Ledger,
+    list: &mut List<T, G>,
+    replies: &mut Vec<Reply<T, Lender, G>, Lender>,
+    count: usize,
+    refused: u64,
+) -> Result<(), ThinVecError> {
+    let commands = pushes(ledger, count).ok().expect(rt, "memory");
+    ledger.begin(refused);
+    run(
+        &ledger.alloc,
+        list,
+        commands,
+        replies,
+        &Digits { digits: 0 },
+    )
+}
+
+// Returns how many of the replies are `Done`.
+fn count_done<T: Drop, G: Growth>(replies: &[Reply<T, Lender, G>]) -> usize {
+    replies
+        .iter()
+        .filter(|reply| matches!(reply, Reply::Done))
+        .count()
+}
+
 /// Runs thousands of commands at once. Then refuses the room for the replies, and asserts that no
 /// command is executed, that all are dropped, and that the earlier replies stay.
 pub fn assert_long_run_right<T: Numbered, G: Growth, R: Abort>(rt: &R, ledger: &'static Ledger) {
     let alloc = &ledger.alloc;
     let mut list: List<T, G> = ThinVec::ruled(alloc);
     let mut replies = Vec::new(alloc);
-    let judge = Digits { digits: 0 };
-    let commands = pushes(ledger, 5000).ok().expect(rt, "memory");
-    ledger.begin(0);
-    let ran = run(alloc, &mut list, commands, &mut replies, &judge);
-    check!(rt; same((alloc.requests(), replies.capacity()), (13, 5000)));
-    let done = replies
-        .as_slice()
-        .iter()
-        .filter(|reply| matches!(reply, Reply::Done));
-    check!(rt; same((ran.is_ok(), list.len(), done.count()), (true, 5000, 5000)));
-    let commands = pushes(ledger, 9000).ok().expect(rt, "memory");
-    ledger.begin(1);
-    let ran = run(alloc, &mut list, commands, &mut replies, &judge);
-    check!(rt; same(ran, Err(ThinVecError::OutOfMemory)));
-    check!(rt; same((alloc.requests(), list.len(), replies.len()), (1, 5000, 5000)));
+    let ran = run_pushes(rt, ledger, &mut list, &mut replies, 5000, 0);
+    check!(rt; same((ran, alloc.requests(), replies.capacity()), (Ok(()), 13, 5000)));
+    check!(rt; same((list.len(), count_done(replies.as_slice())), (5000, 5000)));
+    let ran = run_pushes(rt, ledger, &mut list, &mut replies, 9000, 1);
+    let found = (ran, alloc.requests(), list.len(), replies.len());
+    check!(rt; same(found, (Err(ThinVecError::OutOfMemory), 1, 5000, 5000)));
     drop(replies);
     assert!(rt; is_clean::<T>(ledger, list.len(), list.capacity()));
 }

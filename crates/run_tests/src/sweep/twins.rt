@@ -74,64 +74,86 @@ impl Twins {
 
     // Makes a call that adds an item.
     fn add(&mut self, call: usize) -> bool {
+        match call {
+            0 => self.list.push(7).is_ok() && self.vec.push(7).is_ok(),
+            1 => self.push_mut(),
+            2 => self.insert(),
+            _ => self.insert_mut(),
+        }
+    }
+
+    // Pushes an item, and writes to it.
+    fn push_mut(&mut self) -> bool {
+        let Ok(one) = self.list.push_mut(7) else {
+            return false;
+        };
+        *one = 8;
+        let Ok(two) = self.vec.push_mut(7) else {
+            return false;
+        };
+        *two = 8;
+        true
+    }
+
+    // Inserts an item at the start of the range.
+    fn insert(&mut self) -> bool {
         let start = self.start;
         if start > self.list.len() || start > self.vec.len() {
             return false;
         }
-        match call {
-            0 => self.list.push(7).is_ok() && self.vec.push(7).is_ok(),
-            1 => match (self.list.push_mut(7), self.vec.push_mut(7)) {
-                (Ok(one), Ok(two)) => {
-                    *one = 8;
-                    *two = 8;
-                    true
-                }
-                _ => false,
-            },
-            2 => self.list.insert(start, 7).is_ok() && self.vec.insert(start, 7).is_ok(),
-            _ => match (
-                self.list.insert_mut(start, 7),
-                self.vec.insert_mut(start, 7),
-            ) {
-                (Ok(one), Ok(two)) => {
-                    *one = 8;
-                    *two = 8;
-                    true
-                }
-                _ => false,
-            },
+        self.list.insert(start, 7).is_ok() && self.vec.insert(start, 7).is_ok()
+    }
+
+    // Inserts an item at the start of the range, and writes to it.
+    fn insert_mut(&mut self) -> bool {
+        let start = self.start;
+        if start > self.list.len() || start > self.vec.len() {
+            return false;
         }
+        let Ok(one) = self.list.insert_mut(start, 7) else {
+            return false;
+        };
+        *one = 8;
+        let Ok(two) = self.vec.insert_mut(start, 7) else {
+            return false;
+        };
+        *two = 8;
+        true
     }
 
     // Makes a call that appends several items, or that gives the list a length.
     fn lengthen(&mut self, call: usize) -> bool {
         let len = self.end.saturating_add(1);
-        let Ok(items) = self.items() else {
-            return false;
-        };
         match call {
             4 => self.list.resize(len, 7).is_ok() && self.vec.resize(len, 7).is_ok(),
-            5 => {
-                let (mut one, mut two) = (0_u64, 0_u64);
-                let first = self.list.resize_with(len, || {
-                    one = one.wrapping_add(3);
-                    one
-                });
-                let second = self.vec.resize_with(len, || {
-                    two = two.wrapping_add(3);
-                    two
-                });
-                first.is_ok() && second.is_ok()
-            }
-            6 => {
-                self.list.extend_from_slice(items.as_slice()).is_ok()
-                    && self.vec.extend_from_slice(items.as_slice()).is_ok()
-            }
-            _ => {
-                self.list.extend_from_copies(items.as_slice()).is_ok()
-                    && self.vec.extend_from_slice(items.as_slice()).is_ok()
-            }
+            5 => self.resize_with(len),
+            _ => self.extend_from_slice(call == 7).unwrap_or(false),
         }
+    }
+
+    // Gives the list a length. The new items are multiples of 3.
+    fn resize_with(&mut self, len: usize) -> bool {
+        let (mut one, mut two) = (0_u64, 0_u64);
+        let first = self.list.resize_with(len, || {
+            one = one.wrapping_add(3);
+            one
+        });
+        let second = self.vec.resize_with(len, || {
+            two = two.wrapping_add(3);
+            two
+        });
+        first.is_ok() && second.is_ok()
+    }
+
+    // Appends the items of a slice: copies of them if `is_copy` is true, and clones otherwise.
+    fn extend_from_slice(&mut self, is_copy: bool) -> Result<bool, AllocError> {
+        let items = self.items()?;
+        let extended = if is_copy {
+            self.list.extend_from_copies(items.as_slice()).is_ok()
+        } else {
+            self.list.extend_from_slice(items.as_slice()).is_ok()
+        };
+        Ok(extended && self.vec.extend_from_slice(items.as_slice()).is_ok())
     }
 
     // Makes a call that appends items of a range, an iterator or a list, or changes the capacity.
@@ -165,21 +187,16 @@ impl Twins {
 
     // Makes a call that removes items at given places.
     fn remove(&mut self, call: usize) -> bool {
-        let start = self.start;
-        if call >= 14 && call < 16 && (start >= self.list.len() || start >= self.vec.len()) {
-            return true;
-        }
         match call {
             12 => self.list.pop() == self.vec.pop(),
             13 => {
                 let one = self.list.pop_if(|item| is_halved(item));
                 one == self.vec.pop_if(|item| is_halved(item))
             }
-            14 => self.list.remove(start) == self.vec.remove(start),
-            15 => self.list.swap_remove(start) == self.vec.swap_remove(start),
+            14..16 => self.remove_item(call == 15),
             16 => {
-                self.list.truncate(start);
-                self.vec.truncate(start);
+                self.list.truncate(self.start);
+                self.vec.truncate(self.start);
                 true
             }
             _ => {
@@ -190,17 +207,44 @@ impl Twins {
         }
     }
 
+    // Removes the item at the start of the range, if there is one.
+    fn remove_item(&mut self, is_swap: bool) -> bool {
+        let start = self.start;
+        if start >= self.list.len() || start >= self.vec.len() {
+            return true;
+        }
+        if is_swap {
+            self.list.swap_remove(start) == self.vec.swap_remove(start)
+        } else {
+            self.list.remove(start) == self.vec.remove(start)
+        }
+    }
+
     // Makes a call that removes the items that a closure or a comparison chooses.
     fn filter(&mut self, call: usize) -> bool {
         match call {
-            18 => {
-                self.list.retain(|item| *item % 3 > 0);
-                self.vec.retain(|item| *item % 3 > 0);
-            }
-            19 => {
-                self.list.retain_mut(|item| is_halved(item));
-                self.vec.retain_mut(|item| is_halved(item));
-            }
+            18..20 => self.retain(call),
+            20..23 => self.dedup(call),
+            23 => return self.drain(),
+            _ => return self.extract(),
+        }
+        true
+    }
+
+    // Makes a call that removes the items that a closure chooses.
+    fn retain(&mut self, call: usize) {
+        if call == 18 {
+            self.list.retain(|item| *item % 3 > 0);
+            self.vec.retain(|item| *item % 3 > 0);
+        } else {
+            self.list.retain_mut(|item| is_halved(item));
+            self.vec.retain_mut(|item| is_halved(item));
+        }
+    }
+
+    // Makes a call that removes items that are taken for equal to the one before.
+    fn dedup(&mut self, call: usize) {
+        match call {
             20 => {
                 self.list.dedup();
                 self.vec.dedup();
@@ -209,14 +253,11 @@ impl Twins {
                 self.list.dedup_by(|later, kept| *later % 8 <= *kept % 8);
                 self.vec.dedup_by(|later, kept| *later % 8 <= *kept % 8);
             }
-            22 => {
+            _ => {
                 self.list.dedup_by_key(|item| *item / 16);
                 self.vec.dedup_by_key(|item| *item / 16);
             }
-            23 => return self.drain(),
-            _ => return self.extract(),
         }
-        true
     }
 
     // Takes an item from each end of a range, and drops the others.
@@ -286,17 +327,12 @@ impl Twins {
         done && self.vec.splice(start..end, items).is_ok()
     }
 
-    // Makes a call that makes another list, which takes the place of the list.
+    // Makes a call that makes another list. But for the one of `split_off`, it takes the place of
+    // the list.
     fn make(&mut self, call: usize) -> Result<bool, AllocError> {
-        let (alloc, start) = (self.alloc, self.start);
+        let alloc = self.alloc;
         match call {
-            29 => {
-                if start > self.list.len() || start > self.vec.len() {
-                    return Ok(false);
-                }
-                let tail = self.list.split_off(alloc, start)?;
-                return Ok(tail.as_slice() == self.vec.split_off(start)?.as_slice());
-            }
+            29 => return self.split_off(),
             30 => self.list = self.list.clone(alloc)?,
             31 => self.list = self.list.clone_copies(alloc)?,
             32 => {
@@ -310,6 +346,16 @@ impl Twins {
             _ => return Ok(false),
         }
         Ok(true)
+    }
+
+    // Splits off the items from the start of the range on, and compares them.
+    fn split_off(&mut self) -> Result<bool, AllocError> {
+        let start = self.start;
+        if start > self.list.len() || start > self.vec.len() {
+            return Ok(false);
+        }
+        let tail = self.list.split_off(self.alloc, start)?;
+        Ok(tail.as_slice() == self.vec.split_off(start)?.as_slice())
     }
 }
 

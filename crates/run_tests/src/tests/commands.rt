@@ -118,6 +118,18 @@ fn nth_command<T: Numbered, R: Abort>(
     number: usize,
 ) -> (usize, Asked<T>) {
     match number {
+        0..12 => single_item_command(ledger, number),
+        12..25 => size_command(ledger, number),
+        25..34 => many_items_command(rt, ledger, number),
+        34..43 => whole_list_command(number),
+        43..51 => range_command(rt, ledger, number),
+        _ => splice_command(rt, ledger, number),
+    }
+}
+
+// Returns a command of `nth_command` that adds, removes or writes one item.
+fn single_item_command<T: Numbered>(ledger: &'static Ledger, number: usize) -> (usize, Asked<T>) {
+    match number {
         0 => (0, Command::Push(T::numbered(ledger, 9))),
         1 => (2, Command::Push(T::numbered(ledger, 9))),
         2 => (0, Command::Pop),
@@ -129,7 +141,13 @@ fn nth_command<T: Numbered, R: Abort>(
         8 => (0, Command::SwapRemove(0)),
         9 => (0, Command::SwapRemove(4)),
         10 => (0, Command::Set(3, T::numbered(ledger, 9))),
-        11 => (0, Command::Set(4, T::numbered(ledger, 9))),
+        _ => (0, Command::Set(4, T::numbered(ledger, 9))),
+    }
+}
+
+// Returns a command of `nth_command` that changes the length or the capacity.
+fn size_command<T: Numbered>(ledger: &'static Ledger, number: usize) -> (usize, Asked<T>) {
+    match number {
         12 => (0, Command::Truncate(1)),
         13 => (0, Command::Truncate(5)),
         14 => (0, Command::Clear),
@@ -142,7 +160,17 @@ fn nth_command<T: Numbered, R: Abort>(
         21 => (0, Command::Resize(6, T::numbered(ledger, 9))),
         22 => (2, Command::Resize(5, T::numbered(ledger, 9))),
         23 => (0, Command::Resize(2, T::numbered(ledger, 9))),
-        24 => (0, Command::Resize(usize::MAX, T::numbered(ledger, 9))),
+        _ => (0, Command::Resize(usize::MAX, T::numbered(ledger, 9))),
+    }
+}
+
+// Returns a command of `nth_command` that appends several items.
+fn many_items_command<T: Numbered, R: Abort>(
+    rt: &R,
+    ledger: &'static Ledger,
+    number: usize,
+) -> (usize, Asked<T>) {
+    match number {
         25 => (0, Command::ExtendFromSlice(items(rt, ledger, &[7, 8]))),
         26 => (0, Command::ExtendFromSlice(items(rt, ledger, &[]))),
         27 => (0, Command::Extend(items(rt, ledger, &[7, 8]), 0)),
@@ -151,7 +179,14 @@ fn nth_command<T: Numbered, R: Abort>(
         30 => (2, Command::Extend(items(rt, ledger, &[7, 8]), 2)),
         31 => (0, Command::Extend(items(rt, ledger, &[7]), 1 << 63)),
         32 => (0, Command::Append(other(rt, ledger))),
-        33 => (2, Command::Append(other(rt, ledger))),
+        _ => (2, Command::Append(other(rt, ledger))),
+    }
+}
+
+// Returns a command of `nth_command` that splits or clones the list, or asks the judge about each
+// item.
+fn whole_list_command<T: Numbered>(number: usize) -> (usize, Asked<T>) {
+    match number {
         34 => (0, Command::SplitOff(1)),
         35 => (0, Command::SplitOff(4)),
         36 => (0, Command::SplitOff(5)),
@@ -160,7 +195,17 @@ fn nth_command<T: Numbered, R: Abort>(
         39 => (0, Command::RetainMut),
         40 => (0, Command::Dedup),
         41 => (0, Command::DedupBy),
-        42 => (0, Command::DedupByKey),
+        _ => (0, Command::DedupByKey),
+    }
+}
+
+// Returns a command of `nth_command` that takes items of a range.
+fn range_command<T: Numbered, R: Abort>(
+    rt: &R,
+    ledger: &'static Ledger,
+    number: usize,
+) -> (usize, Asked<T>) {
+    match number {
         43 => (0, Command::Drain(1, 4, steps(rt, ledger, 2, 1))),
         44 => (0, Command::Drain(1, 3, steps(rt, ledger, 3, 5))),
         45 => (0, Command::Drain(1, 3, steps(rt, ledger, 0, 0))),
@@ -168,7 +213,17 @@ fn nth_command<T: Numbered, R: Abort>(
         47 => (0, Command::Drain(3, 5, steps(rt, ledger, 0, 0))),
         48 => (0, Command::ExtractIf(0, 4, 3)),
         49 => (0, Command::ExtractIf(0, 4, 0)),
-        50 => (0, Command::ExtractIf(0, 5, 1)),
+        _ => (0, Command::ExtractIf(0, 5, 1)),
+    }
+}
+
+// Returns a command of `nth_command` that replaces a range.
+fn splice_command<T: Numbered, R: Abort>(
+    rt: &R,
+    ledger: &'static Ledger,
+    number: usize,
+) -> (usize, Asked<T>) {
+    match number {
         51 => (0, splice(rt, ledger, (1, 3), (1, 1), &[7, 8, 9], 1)),
         52 => (0, splice(rt, ledger, (1, 3), (0, 0), &[7, 8, 9], 0)),
         53 => (0, splice(rt, ledger, (1, 4), (1, 1), &[4, 5, 6, 7, 8], 0)),
@@ -188,9 +243,37 @@ fn asked(number: usize) -> u64 {
     }
 }
 
-// Executes the command of a line after an earlier one, with request number `refused` refused.
-// Returns the outcome, and the number of requests. The first request is that for the room for the
-// reply.
+// Executes the command of a line after an earlier one, with request number `refused` refused. The
+// first request is that for the room for the reply. Asserts how often the judge is asked. Returns
+// the reply, and the number of requests.
+fn reply_to<R: Abort>(
+    rt: &R,
+    ledger: &'static Ledger,
+    list: &mut List<Item>,
+    command: Asked<Item>,
+    number: usize,
+    refused: u64,
+) -> Result<(String, u64), AllocError> {
+    let ran = run_single(rt, ledger, list, command, &Evens { ledger }, refused);
+    let requests = ran.requests;
+    let asked = if requests < refused { asked(number) } else { 0 };
+    check!(rt; same((number, ledger.calls.get()), (number, asked)));
+    Ok((last_text(rt, ledger.global, ran)?, requests))
+}
+
+// Prints the reply and the list, or `=` if the list is as before.
+fn outcome_text(
+    alloc: Global,
+    reply: &str,
+    before: &str,
+    after: &str,
+) -> Result<String, AllocError> {
+    let left = if after == before { "=" } else { after };
+    format!(in alloc; "{reply} {left}")
+}
+
+// Executes the command of a line, with request number `refused` refused. Returns the outcome, and
+// the number of requests.
 fn outcome<R: Abort>(
     rt: &R,
     ledger: &'static Ledger,
@@ -201,17 +284,11 @@ fn outcome<R: Abort>(
     let (spare, command) = nth_command(rt, ledger, number);
     let mut list: List<Item> = list_of(rt, ledger, items(rt, ledger, &[1, 2, 2, 3]), spare);
     let before = list_text(ledger.global, &list)?;
-    let ran = run_single(rt, ledger, &mut list, command, &Evens { ledger }, refused);
-    let requests = ran.requests;
-    let asked = if requests < refused { asked(number) } else { 0 };
-    check!(rt; same((number, ledger.calls.get()), (number, asked)));
-    let reply = last_text(rt, ledger.global, ran)?;
+    let (reply, requests) = reply_to(rt, ledger, &mut list, command, number, refused)?;
     let after = list_text(ledger.global, &list)?;
     assert_clean(rt, ledger, list);
-    if after == before {
-        return Ok((format!(in ledger.global; "{} =", reply.as_str())?, requests));
-    }
-    let outcome = format!(in ledger.global; "{} {}", reply.as_str(), after.as_str())?;
+    let (reply, before) = (reply.as_str(), before.as_str());
+    let outcome = outcome_text(ledger.global, reply, before, after.as_str())?;
     Ok((outcome, requests))
 }
 
@@ -233,6 +310,23 @@ fn last_text<R: Abort>(rt: &R, alloc: Global, ran: Ran<Item>) -> Result<String, 
     Ok(text)
 }
 
+// Executes the command of a line with its first request refused, and asserts the outcome.
+fn assert_no_room<R: Abort>(
+    rt: &R,
+    ledger: &'static Ledger,
+    number: usize,
+) -> Result<(), AllocError> {
+    let (no_room, _requests) = outcome(rt, ledger, number, 1)?;
+    check!(rt; same(no_room.as_str(), "no room: OutOfMemory ="));
+    Ok(())
+}
+
+// Appends the outcome to the line, or `same` if it is the last one.
+fn add_outcome(line: &mut String, mark: &str, outcome: &str, last: &str) -> Result<(), AllocError> {
+    line.push_str(mark)?;
+    line.push_str(if outcome == last { "same" } else { outcome })
+}
+
 // Executes the command of a line with each of its requests refused, and then with none refused.
 // Returns the line.
 fn outcomes<R: Abort>(
@@ -240,19 +334,14 @@ fn outcomes<R: Abort>(
     ledger: &'static Ledger,
     number: usize,
 ) -> Result<String, AllocError> {
-    let (no_room, _requests) = outcome(rt, ledger, number, 1)?;
-    check!(rt; same(no_room.as_str(), "no room: OutOfMemory ="));
+    assert_no_room(rt, ledger, number)?;
     let mut line = title(rt, ledger, number)?;
     let mut last = String::new(ledger.global);
     for granted in 0..MOST {
         let refused = granted.saturating_add(2);
         let (outcome, requests) = outcome(rt, ledger, number, refused)?;
-        line.push_str(if granted == 0 { ": " } else { " | " })?;
-        if outcome == last {
-            line.push_str("same")?;
-        } else {
-            line.push_str(outcome.as_str())?;
-        }
+        let mark = if granted == 0 { ": " } else { " | " };
+        add_outcome(&mut line, mark, outcome.as_str(), last.as_str())?;
         if requests < refused {
             assert!(rt; !outcome.as_str().contains("OutOfMemory"), "line {number}");
             return Ok(line);

@@ -2,8 +2,8 @@
 //! steps, in each order of ends, one step past the range among them.
 use crate::tests::judges::Digits;
 use crate::tests::made::{
-    Asked, Item, List, Told, assert_clean, is_one, leaked_ledger, list_of, room, run_of_items,
-    steps,
+    Asked, Item, Lender, List, Told, assert_clean, is_one, leaked_ledger, list_of, room,
+    run_of_items, steps,
 };
 use std::alloc::Global;
 use std::process::Abort;
@@ -106,6 +106,15 @@ impl Rest {
         Some(self.first.saturating_sub(1))
     }
 
+    // Takes the item that step number `step` of the edit takes.
+    fn take(&mut self, edit: Edit, step: usize) -> Option<usize> {
+        if edit.kind == Kind::ExtractIf {
+            self.extract(edit)
+        } else {
+            self.take_end(is_one(edit.bits, step))
+        }
+    }
+
     // Goes on to the next item that the judge takes.
     fn extract(&mut self, edit: Edit) -> Option<usize> {
         for _ in 0..edit.len {
@@ -134,6 +143,33 @@ fn assert_edit<T: Numbered, R: Abort>(rt: &R, ledger: &'static Ledger, edit: Edi
     assert_clean(rt, ledger, list);
 }
 
+// Returns the answers of the reply to an edit. `Done` has none.
+fn answers_in<T: Numbered, R: Abort>(
+    rt: &R,
+    ledger: &'static Ledger,
+    edit: Edit,
+    reply: Told<T>,
+) -> Vec<Option<T>, Lender> {
+    match reply {
+        Reply::Answers(answers) => answers,
+        Reply::Done => room(rt, &ledger.alloc, 0),
+        _ => panic!(rt; "{edit:?} failed"),
+    }
+}
+
+// Asserts that the answer to step number `step` is the item of the given number.
+fn assert_answer<T: Numbered, R: Abort>(
+    rt: &R,
+    ledger: &'static Ledger,
+    edit: Edit,
+    step: usize,
+    answer: Option<T>,
+    wanted: Option<usize>,
+) {
+    let wanted = wanted.map(|number| T::numbered(ledger, number as u64));
+    check!(rt; same((edit, step, answer == wanted), (edit, step, true)));
+}
+
 // Asserts that the reply has the right items. Returns which items are no longer in the list: bit
 // `i` is 1 if item number `i` is not.
 fn assert_answers<T: Numbered, R: Abort>(
@@ -142,20 +178,15 @@ fn assert_answers<T: Numbered, R: Abort>(
     edit: Edit,
     reply: Told<T>,
 ) -> u64 {
-    let answers = match reply {
-        Reply::Answers(answers) => answers,
-        Reply::Done => room(rt, &ledger.alloc, 0),
-        _ => panic!(rt; "{edit:?} failed"),
-    };
-    check!(rt; same((edit, answers.len()), (edit, edit.steps)));
+    let answers = answers_in(rt, ledger, edit, reply);
     // A `Vec` has no room, or room for 8 small items.
     let most = if edit.steps == 0 {
         0
     } else {
         edit.steps.max(8)
     };
-    check!(rt; same((edit, answers.capacity() <= most), (edit, true)));
-    let is_extract = edit.kind == Kind::ExtractIf;
+    let found = (edit, answers.len(), answers.capacity() <= most);
+    check!(rt; same(found, (edit, edit.steps, true)));
     let mut rest = Rest {
         first: edit.start,
         end: edit.end,
@@ -163,19 +194,14 @@ fn assert_answers<T: Numbered, R: Abort>(
     let mut removed: u64 = 0;
     let mut step: usize = 0;
     for answer in answers {
-        let wanted = if is_extract {
-            rest.extract(edit)
-        } else {
-            rest.take_end(is_one(edit.bits, step))
-        };
+        let wanted = rest.take(edit, step);
         if let Some(number) = wanted {
             removed |= 1 << (number % 64);
         }
-        let wanted = wanted.map(|number| T::numbered(ledger, number as u64));
-        check!(rt; same((edit, step, answer == wanted), (edit, step, true)));
+        assert_answer(rt, ledger, edit, step, answer, wanted);
         step = step.saturating_add(1);
     }
-    if !is_extract {
+    if edit.kind != Kind::ExtractIf {
         for number in edit.start..edit.end {
             removed |= 1 << (number % 64);
         }
@@ -285,22 +311,26 @@ fn assert_room<T: Drop, R: Abort>(rt: &R, edit: Edit, reply: &Told<T>) {
     check!(rt; same((edit, room), (edit, edit.steps)));
 }
 
+// Executes the edit, and asserts that nothing is left behind.
+fn assert_all_freed<T: Numbered, R: Abort>(rt: &R, ledger: &'static Ledger, edit: Edit) {
+    ledger.begin(0);
+    let mut list: List<T> = list_of(rt, ledger, run_of_items(rt, ledger, 0, edit.len), 0);
+    let command = edit.command(rt, ledger);
+    let judge = Digits { digits: edit.bits };
+    let reply = step(&ledger.alloc, &mut list, command, &judge);
+    assert_room(rt, edit, &reply);
+    drop(reply);
+    assert_clean(rt, ledger, list);
+}
+
 // Executes edits of a list of 300 items with many steps, and asserts that nothing is left behind.
 fn assert_longer_ranges<T: Numbered, R: Abort>(rt: &R, ledger: &'static Ledger) {
     for kind in [Kind::Drain, Kind::ExtractIf, Kind::Splice] {
         for bits in [0, u64::MAX, 0x5555_5555_5555_5555] {
             for steps in [50, 64, 65, 100, 200, 297, 298, 299] {
                 for new in [0, 5] {
-                    ledger.begin(0);
                     let edit = Edit::new(kind, 300, 1, 299).walked(steps, bits);
-                    let command = edit.given(new, 0).command(rt, ledger);
-                    let items = run_of_items(rt, ledger, 0, edit.len);
-                    let mut list: List<T> = list_of(rt, ledger, items, 0);
-                    let judge = Digits { digits: bits };
-                    let reply = step(&ledger.alloc, &mut list, command, &judge);
-                    assert_room(rt, edit, &reply);
-                    drop(reply);
-                    assert_clean(rt, ledger, list);
+                    assert_all_freed::<T, R>(rt, ledger, edit.given(new, 0));
                 }
             }
         }

@@ -41,20 +41,21 @@ fn run_makes_no_request_if_there_is_room_for_its_replies(rt: HostRuntime) -> Res
     Ok(())
 }
 
-// Returns a command on a list of three items. Its reply owns one block.
-fn nth_command<A: Allocator>(
-    number: u32,
-    alloc: A,
-    items: Vec<i32, A>,
-) -> Result<Command<i32, A>, Fail> {
+// Returns one step.
+fn one_step<A: Allocator>(alloc: A) -> Result<Vec<Step, A>, Fail> {
     let mut steps = Vec::new(alloc);
     steps.push(Step::Front)?;
+    Ok(steps)
+}
+
+// Returns a command on a list of three items. Its reply owns one block.
+fn nth_command<A: Allocator + Copy>(number: u32, alloc: A) -> Result<Command<i32, A>, Fail> {
     Ok(match number {
         0 => Command::Clone,
         1 => Command::SplitOff(1),
-        2 => Command::Drain(0, 2, steps),
+        2 => Command::Drain(0, 2, one_step(alloc)?),
         3 => Command::ExtractIf(0, 2, 1),
-        _ => Command::Splice(0, 2, steps, items, 0),
+        _ => Command::Splice(0, 2, one_step(alloc)?, Vec::new(alloc), 0),
     })
 }
 
@@ -64,7 +65,7 @@ fn a_reply_uses_the_allocator_passed(rt: HostRuntime) -> Result<(), Fail> {
     let other = Refusing::leaked(rt.alloc(), 0)?;
     for number in 0..5 {
         let mut list = list_of(own, &[1, 2, 3])?;
-        let command = nth_command(number, own, Vec::new(own))?;
+        let command = nth_command(number, own)?;
         own.refuse(0);
         let reply = step(other, &mut list, command, &NEVER);
         let found = (number, own.requests(), other.blocks());
@@ -88,7 +89,15 @@ fn stopped<T: Drop, A: Allocator>(reply: Reply<T, A>) -> Option<(Vec<Option<T>, 
     }
 }
 
-// Both vectors are empty. They get an item each, so that each has a block.
+// Pushes an item to each of the two vectors of the reply. They are empty, and each gets a block.
+// Returns the vectors.
+fn filled<A: Allocator>(reply: Reply<i32, A>) -> Result<(Vec<Option<i32>, A>, Vec<i32, A>), Fail> {
+    let (mut answers, mut held) = stopped(reply).ok_or("extended")?;
+    answers.push(None).ok().ok_or("memory")?;
+    held.push(7).ok().ok_or("memory")?;
+    Ok((answers, held))
+}
+
 #[test]
 fn a_reply_to_a_stopped_extend_uses_the_allocator_passed(rt: HostRuntime) -> Result<(), Fail> {
     let own = Refusing::leaked(rt.alloc(), 0)?;
@@ -97,9 +106,7 @@ fn a_reply_to_a_stopped_extend_uses_the_allocator_passed(rt: HostRuntime) -> Res
     let command = Command::Extend(Vec::new(own), usize::MAX);
     own.refuse(0);
     let reply = step(other, &mut list, command, &NEVER);
-    let (mut answers, mut held) = stopped(reply).ok_or("extended")?;
-    answers.push(None).ok().ok_or("memory")?;
-    held.push(7).ok().ok_or("memory")?;
+    let _vectors = filled(reply)?;
     check!(rt; same((own.requests(), other.blocks()), (0, 2)));
     Ok(())
 }

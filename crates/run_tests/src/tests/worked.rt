@@ -97,6 +97,26 @@ fn assert_nth<R: Abort>(rt: &R, texts: &[&str], number: usize, text: &str) {
     check!(rt; same((number, Some(text)), (number, texts.get(number).copied())));
 }
 
+// Asserts that the replies have the first of the given texts, and that none of them lacks memory
+// unless a request was refused. Returns the number of replies.
+fn assert_replies<R: Abort>(
+    rt: &R,
+    ledger: &'static Ledger,
+    replies: Vec<Told<Item>, Lender>,
+    texts: &[&str],
+    is_refused: bool,
+) -> Result<usize, AllocError> {
+    let mut number: usize = 0;
+    for reply in replies {
+        let is_short = reply.refusal() == Some(ThinVecError::OutOfMemory);
+        assert!(rt; is_refused || !is_short);
+        let text = reply_text(ledger.global, reply)?;
+        assert_nth(rt, texts, number, text.as_str());
+        number = number.saturating_add(1);
+    }
+    Ok(number)
+}
+
 // Executes the six commands by one call to `run`, with request number `refused` refused. Asserts
 // that the replies and the list have the given texts. Returns whether a request was refused.
 fn assert_run<R: Abort>(
@@ -117,20 +137,10 @@ fn assert_run<R: Abort>(
     );
     let is_refused = 0 < refused && refused <= ran.requests;
     check!(rt; same(ran.cause.is_some(), refused == 1));
-    let mut number: usize = 0;
-    for reply in ran.replies {
-        let is_short = reply.refusal() == Some(ThinVecError::OutOfMemory);
-        assert!(rt; is_refused || !is_short);
-        assert_nth(
-            rt,
-            texts,
-            number,
-            reply_text(ledger.global, reply)?.as_str(),
-        );
-        number = number.saturating_add(1);
-    }
-    assert_nth(rt, texts, number, list_text(ledger.global, &list)?.as_str());
-    check!(rt; same(number.saturating_add(1), texts.len()));
+    let replies = assert_replies(rt, ledger, ran.replies, texts, is_refused)?;
+    check!(rt; same(replies.saturating_add(1), texts.len()));
+    let left = list_text(ledger.global, &list)?;
+    assert_nth(rt, texts, replies, left.as_str());
     assert_clean(rt, ledger, list);
     Ok(is_refused)
 }
@@ -183,8 +193,7 @@ fn assert_single<J: Judge<Item>, R: Abort>(
     let reply = single(rt, ledger, list, command, judge, is_step).expect(rt, "a reply");
     let reply = reply_text(ledger.global, reply)?;
     let left = list_text(ledger.global, list)?;
-    check!(rt; same(reply.as_str(), texts.0));
-    check!(rt; same(left.as_str(), texts.1));
+    check!(rt; same((reply.as_str(), left.as_str()), texts));
     Ok(())
 }
 
