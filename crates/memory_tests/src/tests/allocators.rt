@@ -188,13 +188,15 @@ fn make<T: Numbered, A: Allocator>(
 ) -> io::Result<()>
     requires small { 40 * type_size T.row < 2 ^ 63 }
 {
-    let (one, two) = (T::numbered(ledger, 7), T::numbered(ledger, 8));
     match call {
         0 => drop(ThinVec::<T, A>::with_capacity(alloc, list.len())?),
         1 => drop(ThinVec::from_slice(alloc, list.as_slice())?),
-        2 => drop(thin_vec![alloc => one; list.len()]?),
-        3 => drop(thin_vec![alloc => one, two]?),
-        4 => drop(ThinVec::from_array(alloc, [one, two])?),
+        2 => drop(thin_vec![alloc => T::numbered(ledger, 7); list.len()]?),
+        3 => drop(thin_vec![alloc => T::numbered(ledger, 7), T::numbered(ledger, 8)]?),
+        4 => {
+            let items = [T::numbered(ledger, 7), T::numbered(ledger, 8)];
+            drop(ThinVec::from_array(alloc, items)?);
+        }
         _ => return Err(no_call()),
     }
     Ok(())
@@ -208,18 +210,33 @@ fn fill<T: Numbered, A: Allocator>(
     ledger: &'static Ledger,
 ) -> io::Result<()> {
     let len = list.len();
-    let items = numbered_items(ledger, ledger.global, 7, len)?;
-    // A vector that owns its allocator.
-    let owning = numbered_items::<T, _>(ledger, Refusing::new(&ledger.alloc, 0), 7, len)?;
+    if call < 2 {
+        return fill_from_owning::<T, A>(call, len, alloc, ledger);
+    }
+    let items = numbered_items::<T, _>(ledger, ledger.global, 7, len)?;
     match call {
-        0 => drop(ThinVec::from_vec(alloc, owning)?),
-        1 => drop(ThinVec::from_boxed_slice(alloc, owning.into_boxed_slice())?),
         2 => drop(ThinVec::from_iter(alloc, Hinted::new(items, 0))?),
         3 => drop(ThinVec::from_iter(alloc, Hinted::new(items, len))?),
         4 => list.replace_range(alloc, 0, 0, items.as_slice())?,
         5 => list.replace_range(alloc, 0, len, items.as_slice())?,
         6 => list.replace_range(alloc, 0, len / 2, &[])?,
         _ => return Err(no_call()),
+    }
+    Ok(())
+}
+
+// Makes a list of `len` items of a vector or a boxed slice that owns its allocator.
+fn fill_from_owning<T: Numbered, A: Allocator>(
+    call: u32,
+    len: usize,
+    alloc: A,
+    ledger: &'static Ledger,
+) -> io::Result<()> {
+    let owning = numbered_items::<T, _>(ledger, Refusing::new(&ledger.alloc, 0), 7, len)?;
+    if call == 0 {
+        drop(ThinVec::from_vec(alloc, owning)?);
+    } else {
+        drop(ThinVec::from_boxed_slice(alloc, owning.into_boxed_slice())?);
     }
     Ok(())
 }
@@ -284,8 +301,53 @@ fn requested<T: Numbered>(
     Ok((ledger.alloc.requests(), ledger.alloc.lent()))
 }
 
-// Makes each call on lists of several lengths. Asserts that all allocators are dropped, and that
-// the requests are those of a list that owns no allocator.
+// Makes call number `call.1` of the function `call.0`, on a list of `count` items. The allocator of
+// the list refuses request number `own`, and the one that is passed refuses request number
+// `passed`. Both own a clone of `owner`. Returns whether the call succeeded.
+fn is_ended<T: Numbered>(
+    ledger: &'static Ledger,
+    owner: &Rc<u64>,
+    call: (usize, u32),
+    count: u64,
+    own: u64,
+    passed: u64,
+) -> Result<bool, Fail>
+    requires small { 40 * type_size T.row < 2 ^ 63 }
+{
+    let alloc = Refusing::owning(&ledger.alloc, owner.clone()?);
+    alloc.refuse(passed);
+    let list: ThinVec<T, Owned> = owning_list(ledger, owner, count)?;
+    list.allocator().refuse(own);
+    ledger.begin(0);
+    Ok(end(call.0, call.1, list, alloc, ledger).is_ok())
+}
+
+// Makes the call of `is_ended` with each of the requests refused. Asserts that all allocators are
+// dropped, and that the requests are those of a list that owns no allocator.
+fn assert_call_dropped<T: Numbered>(
+    rt: &impl Abort,
+    ledger: &'static Ledger,
+    owner: &Rc<u64>,
+    call: (usize, u32),
+    count: u64,
+) -> Result<(), Fail>
+    requires small { 40 * type_size T.row < 2 ^ 63 }
+{
+    let due = requested::<T>(ledger, call.0, call.1, count)?;
+    for (own, passed) in REFUSED {
+        let is_ok = is_ended::<T>(ledger, owner, call, count, own, passed)?;
+        let made = (call, count, own, passed);
+        if own == 0 && passed == 0 {
+            let found = (ledger.alloc.requests(), ledger.alloc.lent());
+            check!(rt; same((made, is_ok, found), (made, true, due)));
+        }
+        let left = (Rc::strong_count(owner), ledger.alloc.blocks());
+        check!(rt; same((made, left, ledger.live.get()), (made, (1, 0), 0)));
+    }
+    Ok(())
+}
+
+// Makes each call on lists of several lengths. Asserts that there is no call of a higher number.
 fn assert_dropped<T: Numbered>(rt: &impl Abort, ledger: &'static Ledger) -> Result<(), Fail>
     requires small { 40 * type_size T.row < 2 ^ 63 }
 {
@@ -295,22 +357,7 @@ fn assert_dropped<T: Numbered>(rt: &impl Abort, ledger: &'static Ledger) -> Resu
         for calls in CALLS {
             check!(rt; same((function, has_call::<T>(ledger, function, calls)), (function, false)));
             for call in 0..calls {
-                let due = requested::<T>(ledger, function, call, count)?;
-                for (own, passed) in REFUSED {
-                    let alloc = Refusing::owning(&ledger.alloc, owner.clone()?);
-                    alloc.refuse(passed);
-                    let list: ThinVec<T, Owned> = owning_list(ledger, &owner, count)?;
-                    list.allocator().refuse(own);
-                    ledger.begin(0);
-                    let is_ok = end(function, call, list, alloc, ledger).is_ok();
-                    let made = (function, call, count, own, passed);
-                    if own == 0 && passed == 0 {
-                        let found = (ledger.alloc.requests(), ledger.alloc.lent());
-                        check!(rt; same((made, is_ok, found), (made, true, due)));
-                    }
-                    let left = (Rc::strong_count(&owner), ledger.alloc.blocks());
-                    check!(rt; same((made, left, ledger.live.get()), (made, (1, 0), 0)));
-                }
+                assert_call_dropped::<T>(rt, ledger, &owner, (function, call), count)?;
             }
             function = function.saturating_add(1);
         }
@@ -330,6 +377,24 @@ fn a_list_drops_the_allocator_that_it_owns(rt: HostRuntime) -> Result<(), Fail> 
     assert_dropped::<Counted<'static, [u64; 14]>>(&rt, ledger)
 }
 
+// Makes two lists of copies of `count` items. Their allocators refuse the request of the given
+// number.
+fn copy_twice<T: Numbered + Copy>(
+    ledger: &'static Ledger,
+    owner: &Rc<u64>,
+    count: u64,
+    refused: u64,
+) -> Result<(), Fail> {
+    let list: ThinVec<T, Owned> = owning_list(ledger, owner, count)?;
+    let one = Refusing::owning(&ledger.alloc, owner.clone()?);
+    one.refuse(refused);
+    drop(list.clone_copies(one).is_ok());
+    let two = Refusing::owning(&ledger.alloc, owner.clone()?);
+    two.refuse(refused);
+    drop(ThinVec::from_copies(two, list.as_slice()).is_ok());
+    Ok(())
+}
+
 // Makes lists of copies. Asserts that all allocators are dropped.
 fn assert_dropped_by_copies<T: Numbered + Copy>(
     rt: &impl Abort,
@@ -338,14 +403,7 @@ fn assert_dropped_by_copies<T: Numbered + Copy>(
     let owner = Rc::new(ledger.global, 0)?;
     for count in [0, 1, 2, 40] {
         for passed in 0..2 {
-            let list: ThinVec<T, Owned> = owning_list(ledger, &owner, count)?;
-            let one = Refusing::owning(&ledger.alloc, owner.clone()?);
-            let two = Refusing::owning(&ledger.alloc, owner.clone()?);
-            one.refuse(passed);
-            two.refuse(passed);
-            drop(list.clone_copies(one).is_ok());
-            drop(ThinVec::from_copies(two, list.as_slice()).is_ok());
-            drop(list);
+            copy_twice::<T>(ledger, &owner, count, passed)?;
             let left = (Rc::strong_count(&owner), ledger.alloc.blocks());
             check!(rt; same((count, passed, left), (count, passed, (1, 0))));
         }

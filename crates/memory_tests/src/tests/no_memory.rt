@@ -36,25 +36,36 @@ fn assert_empty<E: Debug>(rt: &impl Abort, made: Result<List, E>) {
     check!(rt; holds(&list, &[], 0));
 }
 
+// Makes lists without items by each constructor.
+fn make_empty_lists(rt: &impl Abort, lender: Lender) {
+    check!(rt; holds(&ThinVec::default_in(lender), &[], 0));
+    check!(rt; holds(&ThinVec::<i32, Lender, PowerBytes>::ruled(lender), &[], 0));
+    assert_empty(rt, ThinVec::with_capacity(lender, 0));
+    assert_empty(rt, thin_vec![lender =>]);
+    assert_empty(rt, ThinVec::from_slice(lender, &[]));
+    assert_empty(rt, ThinVec::from_array(lender, []));
+    assert_empty(rt, ThinVec::from_vec(lender, Vec::new(lender)));
+}
+
+// Clones a list without items, and makes others of it.
+fn convert_empty_lists(rt: &impl Abort, lender: Lender) -> Result<(), Fail> {
+    let list = List::new(lender);
+    assert_empty(rt, list.clone(lender));
+    check!(rt; same(list.into_iter().clone(lender)?.len(), 0));
+    let boxed = List::new(lender).into_boxed_slice(lender)?;
+    assert_empty(rt, ThinVec::from_boxed_slice(lender, boxed));
+    let vec = List::new(lender).into_vec(lender)?;
+    check!(rt; same(vec.capacity(), 0));
+    Ok(())
+}
+
 #[test]
 fn lists_without_items_take_no_memory(rt: HostRuntime) -> Result<(), Fail> {
     let lender = Refusing::leaked(rt.alloc(), 0)?;
     lender.refuse_all();
-    let list = List::new(lender);
-    assert_empty(&rt, list.clone(lender));
-    check!(rt; same(list.into_iter().clone(lender)?.len(), 0));
-    check!(rt; holds(&ThinVec::default_in(lender), &[], 0));
-    check!(rt; holds(&ThinVec::<i32, Lender, PowerBytes>::ruled(lender), &[], 0));
-    assert_empty(&rt, ThinVec::with_capacity(lender, 0));
-    assert_empty(&rt, thin_vec![lender =>]);
-    assert_empty(&rt, ThinVec::from_slice(lender, &[]));
-    assert_empty(&rt, ThinVec::from_array(lender, []));
-    assert_empty(&rt, ThinVec::from_vec(lender, Vec::new(lender)));
-    let boxed = List::new(lender).into_boxed_slice(lender)?;
-    assert_empty(&rt, ThinVec::from_boxed_slice(lender, boxed));
-    let vec = List::new(lender).into_vec(lender)?;
-    let bytes = ThinVec::from_str(lender, "")?;
-    check!(rt; same((vec.capacity(), bytes.capacity()), (0, 0)));
+    make_empty_lists(&rt, lender);
+    convert_empty_lists(&rt, lender)?;
+    check!(rt; same(ThinVec::from_str(lender, "")?.capacity(), 0));
     check!(rt; same(lender.requests(), 0));
     Ok(())
 }
@@ -64,32 +75,47 @@ fn assert_ok<E: Debug>(rt: &impl Abort, answer: Result<(), E>) {
     answer.expect(rt, "refused");
 }
 
+// Appends the items 1, 2 of another list to the list 1, 2, 3 with capacity 5.
+fn append(rt: &impl Abort, list: &mut List, mut other: List) {
+    other.truncate(2);
+    assert_ok(rt, list.reserve(2));
+    assert_ok(rt, list.reserve_exact(2));
+    assert_ok(rt, list.append(&mut other));
+    check!(rt; holds(list, &[1, 2, 3, 1, 2], 5));
+    assert_ok(rt, list.shrink_to_fit());
+}
+
+// Resizes the list 1, 2, 3, 1, 2 with capacity 5, and adds items to it. Then splits off none.
+fn resize(rt: &impl Abort, list: &mut List, lender: Lender) {
+    assert_ok(rt, list.resize(5, 7));
+    assert_ok(rt, list.resize(2, 7));
+    assert_ok(rt, list.resize(3, 7));
+    assert_ok(rt, list.extend_from_slice(&[]));
+    assert_ok(rt, list.push(8));
+    assert_ok(rt, list.insert(0, 9));
+    check!(rt; holds(list, &[9, 1, 2, 7, 8], 5));
+    assert_empty(rt, list.split_off(lender, 5));
+}
+
+// Gives a list with capacity 5 new items, and replaces some of them.
+fn replace(rt: &impl Abort, list: &mut List, lender: Lender) {
+    list.clear();
+    assert_ok(rt, list.extend(1..6));
+    check!(rt; holds(list, &[1, 2, 3, 4, 5], 5));
+    assert_ok(rt, splice(list, (1, 4), 7..9, lender));
+    check!(rt; holds(list, &[1, 7, 8, 5], 5));
+    assert_ok(rt, splice(list, (3, 4), 3..5, lender));
+    check!(rt; holds(list, &[1, 7, 8, 3, 4], 5));
+}
+
 #[test]
 fn calls_that_fit_the_capacity_take_no_memory(rt: HostRuntime) -> Result<(), Fail> {
     let lender = Refusing::leaked(rt.alloc(), 0)?;
-    let mut other = roomy(lender)?;
-    other.truncate(2);
+    let other = roomy(lender)?;
     let mut list = roomy(lender)?;
-    assert_ok(&rt, list.reserve(2));
-    assert_ok(&rt, list.reserve_exact(2));
-    assert_ok(&rt, list.append(&mut other));
-    check!(rt; holds(&list, &[1, 2, 3, 1, 2], 5));
-    assert_ok(&rt, list.shrink_to_fit());
-    assert_ok(&rt, list.resize(5, 7));
-    assert_ok(&rt, list.resize(2, 7));
-    assert_ok(&rt, list.resize(3, 7));
-    assert_ok(&rt, list.extend_from_slice(&[]));
-    assert_ok(&rt, list.push(8));
-    assert_ok(&rt, list.insert(0, 9));
-    check!(rt; holds(&list, &[9, 1, 2, 7, 8], 5));
-    assert_empty(&rt, list.split_off(lender, 5));
-    list.clear();
-    assert_ok(&rt, list.extend(1..6));
-    check!(rt; holds(&list, &[1, 2, 3, 4, 5], 5));
-    assert_ok(&rt, splice(&mut list, (1, 4), 7..9, lender));
-    check!(rt; holds(&list, &[1, 7, 8, 5], 5));
-    assert_ok(&rt, splice(&mut list, (3, 4), 3..5, lender));
-    check!(rt; holds(&list, &[1, 7, 8, 3, 4], 5));
+    append(&rt, &mut list, other);
+    resize(&rt, &mut list, lender);
+    replace(&rt, &mut list, lender);
     list.clear();
     assert_ok(&rt, list.shrink_to_fit());
     check!(rt; holds(&list, &[], 0));
@@ -134,29 +160,44 @@ fn remove_at_indices<A: Allocator>(rt: &impl Abort, way: u32, mut list: ThinVec<
     match way {
         11 => check!(rt; same(list.remove(0), 1)),
         12 => check!(rt; same(list.swap_remove(0), 1)),
-        13 => {
-            let mut drain = list.drain(0, 3);
-            check!(rt; same((drain.next(), drain.next_back()), (Some(1), Some(3))));
-            check!(rt; same((drain.len(), drain.as_slice().len()), (1, 1)));
-            check!(rt; same(drain.size_hint(), (1, Some(1))));
-        }
-        14 => {
-            let mut odd = list.extract_if(0, 3, |item: &mut i32| *item % 2 == 1);
-            check!(rt; same((odd.next(), odd.size_hint()), (Some(1), (0, Some(2)))));
-        }
-        15 => {
-            let mut splice = list.splice(0, 2, empty());
-            check!(rt; same((splice.len(), splice.size_hint()), (2, (2, Some(2)))));
-            check!(rt; same((splice.next(), splice.next_back()), (Some(1), Some(2))));
-            check!(rt; same(splice.finish(alloc).is_ok(), true));
-        }
-        _ => {
-            let mut rest = list.into_iter();
-            check!(rt; same((rest.next(), rest.next_back()), (Some(1), Some(3))));
-            check!(rt; same((rest.len(), rest.as_slice().len()), (1, 1)));
-            check!(rt; same((rest.size_hint(), rest.as_mut_slice().len()), ((1, Some(1)), 1)));
-        }
+        13 => drain_three(rt, &mut list),
+        14 => extract_one(rt, &mut list),
+        15 => splice_two(rt, &mut list, alloc),
+        _ => iterate(rt, list),
     }
+}
+
+// Drains the list 1, 2, 3 after a step from each end.
+fn drain_three<A: Allocator>(rt: &impl Abort, list: &mut ThinVec<i32, A>) {
+    check!(rt; has_len(list, 3));
+    let mut drain = list.drain(0, 3);
+    check!(rt; same((drain.next(), drain.next_back()), (Some(1), Some(3))));
+    check!(rt; same((drain.len(), drain.as_slice().len()), (1, 1)));
+    check!(rt; same(drain.size_hint(), (1, Some(1))));
+}
+
+// Takes the first odd item of the list 1, 2, 3.
+fn extract_one<A: Allocator>(rt: &impl Abort, list: &mut ThinVec<i32, A>) {
+    check!(rt; has_len(list, 3));
+    let mut odd = list.extract_if(0, 3, |item: &mut i32| *item % 2 == 1);
+    check!(rt; same((odd.next(), odd.size_hint()), (Some(1), (0, Some(2)))));
+}
+
+// Takes two items of the list 1, 2, 3, and puts nothing in their place.
+fn splice_two<A: Allocator>(rt: &impl Abort, list: &mut ThinVec<i32, A>, alloc: A) {
+    check!(rt; has_len(list, 3));
+    let mut splice = list.splice(0, 2, empty());
+    check!(rt; same((splice.len(), splice.size_hint()), (2, (2, Some(2)))));
+    check!(rt; same((splice.next(), splice.next_back()), (Some(1), Some(2))));
+    check!(rt; same(splice.finish(alloc).is_ok(), true));
+}
+
+// Takes an item from each end of the list 1, 2, 3, and drops the iterator.
+fn iterate<A: Allocator>(rt: &impl Abort, list: ThinVec<i32, A>) {
+    let mut rest = list.into_iter();
+    check!(rt; same((rest.next(), rest.next_back()), (Some(1), Some(3))));
+    check!(rt; same((rest.len(), rest.as_slice().len()), (1, 1)));
+    check!(rt; same((rest.size_hint(), rest.as_mut_slice().len()), ((1, Some(1)), 1)));
 }
 
 #[test]

@@ -82,6 +82,18 @@ fn assert_nothing(rt: &impl Abort, ledger: &Ledger) {
     check!(rt; same((left, ledger.live.get()), ((0, 0), 0)));
 }
 
+// Asserts the items and the capacity of the list, and that no other block takes memory.
+fn assert_alone<T: Numbered>(
+    rt: &impl Abort,
+    ledger: &'static Ledger,
+    list: &List<T>,
+    wanted: (usize, usize),
+    least: Option<usize>,
+) {
+    assert_filled(rt, ledger, list, 0, wanted);
+    assert_bytes(rt, ledger, bytes_of::<T>(wanted.1, least));
+}
+
 // Changes the capacity of a list of `len` items from `from` to `to`, first with a refused request,
 // and then with a granted one.
 fn assert_resized<T: Numbered>(
@@ -99,11 +111,9 @@ fn assert_resized<T: Numbered>(
     ledger.begin(1);
     let refused = make_capacity(&mut list, to);
     check!(rt; same(refused, Err(ThinVecError::OutOfMemory)));
-    assert_filled(rt, ledger, &list, 0, (len, from));
-    assert_bytes(rt, ledger, bytes_of::<T>(from, least));
+    assert_alone(rt, ledger, &list, (len, from), least);
     make_capacity(&mut list, to)?;
-    assert_filled(rt, ledger, &list, 0, (len, to));
-    assert_bytes(rt, ledger, bytes_of::<T>(to, least));
+    assert_alone(rt, ledger, &list, (len, to), least);
     drop(list);
     assert_nothing(rt, ledger);
     Ok(())
@@ -192,6 +202,32 @@ fn make_call<T: Numbered>(
     Ok(())
 }
 
+// Makes a list of `len` items from number `first` on.
+fn filled<T: Numbered>(
+    ledger: &'static Ledger,
+    first: usize,
+    len: usize,
+    capacity: usize,
+) -> Result<List<T>, ThinVecError> {
+    let mut list = List::<T>::with_capacity(&ledger.alloc, capacity)?;
+    fill(ledger, &mut list, first, len)?;
+    Ok(list)
+}
+
+// Returns the length and the capacity of the first list after the call, the number of the first
+// item of the other one, and its length and its capacity.
+fn left(call: Call, len: usize, is_ok: bool) -> ((usize, usize), usize, (usize, usize)) {
+    let (double, roomy) = (len.saturating_mul(2), len.saturating_add(2));
+    let rest = len.saturating_sub(2);
+    match call {
+        Call::Append if is_ok => ((double, roomy.saturating_mul(2)), len, (0, len)),
+        Call::SplitOff if is_ok => ((2, roomy), 2, (rest, rest)),
+        Call::Clone if is_ok => ((len, roomy), 0, (len, len)),
+        Call::ShrinkToFit if is_ok => ((len, len), len, (len, len)),
+        _ => ((len, roomy), len, (len, len)),
+    }
+}
+
 // Makes a list of `len` items with two spare slots, and a list of the next `len` items without
 // spare slots. Makes the call, and refuses request number `refused`, or none if `refused` is 0.
 // Asserts that a refused call changes neither list, and what another call makes of them.
@@ -203,22 +239,12 @@ fn assert_call<T: Numbered>(
     refused: u64,
 ) -> Result<(), ThinVecError> {
     ledger.begin(0);
-    let mut list = List::<T>::with_capacity(&ledger.alloc, len.saturating_add(2))?;
-    fill(ledger, &mut list, 0, len)?;
-    let mut other = List::<T>::with_capacity(&ledger.alloc, len)?;
-    fill(ledger, &mut other, len, len)?;
+    let mut list: List<T> = filled(ledger, 0, len, len.saturating_add(2))?;
+    let mut other: List<T> = filled(ledger, len, len, len)?;
     ledger.begin(refused);
     let is_ok = make_call(call, ledger, &mut list, &mut other).is_ok();
     check!(rt; same(is_ok, refused == 0 || ledger.alloc.requests() < refused));
-    let (double, roomy) = (len.saturating_mul(2), len.saturating_add(2));
-    let rest = len.saturating_sub(2);
-    let (wanted, first, wanted_other) = match call {
-        Call::Append if is_ok => ((double, roomy.saturating_mul(2)), len, (0, len)),
-        Call::SplitOff if is_ok => ((2, roomy), 2, (rest, rest)),
-        Call::Clone if is_ok => ((len, roomy), 0, (len, len)),
-        Call::ShrinkToFit if is_ok => ((len, len), len, (len, len)),
-        _ => ((len, roomy), len, (len, len)),
-    };
+    let (wanted, first, wanted_other) = left(call, len, is_ok);
     assert_filled(rt, ledger, &list, 0, wanted);
     assert_filled(rt, ledger, &other, first, wanted_other);
     let bytes = bytes_of::<T>(wanted.1, PADDED);
