@@ -33,17 +33,13 @@ fn main(rt: HostRuntime) -> io::Result<()> {
     show_common(&rt, rt.alloc())?;
     show_make(&rt, rt.alloc())?;
     show_add(&rt, rt.alloc())?;
-    show_extend(&rt, rt.alloc())?;
     show_remove(&rt, rt.alloc())?;
-    show_take(&rt, rt.alloc())?;
     show_read(&rt, rt.alloc())?;
     show_write(&rt, rt.alloc())?;
     show_replace(&rt, rt.alloc())?;
     show_splice(&rt, rt.alloc())?;
     show_transfer(&rt, rt.alloc())?;
-    show_divide(&rt, rt.alloc())?;
     show_structs(&rt, rt.alloc())?;
-    show_percents(&rt, rt.alloc())?;
     show_maps(&rt, rt.alloc())?;
     show_graph(&rt, rt.alloc())?;
     show_errors(&rt, rt.alloc())?;
@@ -62,58 +58,103 @@ fn show<T: Debug + Drop>(rt: &impl Print, example: &str, value: T) -> io::Result
 fn show_common(rt: &impl Print, alloc: Global) -> io::Result<()> {
     let mut list = common::made(alloc)?;
     println!(rt; "made: {list:?}")?;
-    let mut other = ThinVec::from_array(alloc, [5, 6])?;
-    common::filled(&mut list, &mut other)?;
-    println!(rt; "filled: {list:?}")?;
+    show_filled(rt, alloc, &mut list)?;
     common::replaced(alloc, &mut list)?;
     println!(rt; "replaced: {list:?}")?;
-    let odd = common::sifted(alloc, &mut list)?;
-    println!(rt; "sifted: {odd:?}, left {list:?}")?;
+    show_sifted(rt, alloc, &mut list)?;
     let greatest = common::raised(&mut list);
     println!(rt; "raised: {list:?}, greatest {greatest}")
 }
 
+fn show_filled(rt: &impl Print, alloc: Global, list: &mut ThinVec<u32>) -> io::Result<()> {
+    let mut other = ThinVec::from_array(alloc, [5, 6])?;
+    common::filled(list, &mut other)?;
+    println!(rt; "filled: {list:?}")
+}
+
+fn show_sifted(rt: &impl Print, alloc: Global, list: &mut ThinVec<u32>) -> io::Result<()> {
+    let odd = common::sifted(alloc, list)?;
+    println!(rt; "sifted: {odd:?}, left {list:?}")
+}
+
 fn show_make(rt: &impl Print, alloc: Global) -> io::Result<()> {
+    show_new(rt, alloc)?;
+    show_collect(rt, alloc)?;
+    show_copy(rt, alloc)?;
+    show_continued(rt, alloc)?;
+    show_take_list(rt, alloc)
+}
+
+fn show_new(rt: &impl Print, alloc: Global) -> io::Result<()> {
     show(rt, "joined", make::joined(alloc, &[1, 2], &[3])?)?;
     show(rt, "zeros", make::zeros(alloc, 3)?)?;
     show(rt, "codes", make::codes(alloc)?)?;
     let capacity = make::room_for_eight(alloc)?.capacity();
-    println!(rt; "room_for_eight: capacity {capacity}")?;
+    println!(rt; "room_for_eight: capacity {capacity}")
+}
+
+fn show_collect(rt: &impl Print, alloc: Global) -> io::Result<()> {
     show(rt, "doubled", make::doubled(alloc, &[1, 2, 3])?)?;
     show(rt, "halves", make::halves(alloc, &[6, 7]))?;
-    show(
-        rt,
-        "collect_or_keep",
-        make::collect_or_keep(alloc, 1_u32..4).0,
-    )?;
+    let collected = make::collect_or_keep(alloc, 1_u32..4).0;
+    show(rt, "collect_or_keep", collected)
+}
+
+fn show_copy(rt: &impl Print, alloc: Global) -> io::Result<()> {
     show(rt, "cloned", make::cloned(alloc, &["a", "b"])?)?;
     let list = make::unboxed(alloc, [4, 5].to_vec(alloc)?.into_boxed_slice())?;
-    println!(rt; "unboxed: {list:?}, capacity {}", list.capacity())?;
+    println!(rt; "unboxed: {list:?}, capacity {}", list.capacity())
+}
+
+fn show_continued(rt: &impl Print, alloc: Global) -> io::Result<()> {
     show(rt, "chars_of", make::chars_of(alloc, "list")?)?;
-    let mut continued = make::continued(alloc, &ThinVec::from_array(alloc, [1, 2, 3])?, &[4])?;
-    show(rt, "continued", &continued)?;
-    let taken = make::take_list(&mut continued)?;
-    println!(rt; "take_list: {taken:?}, left {continued:?}")
+    let list = ThinVec::from_array(alloc, [1, 2, 3])?;
+    show(rt, "continued", make::continued(alloc, &list, &[4])?)
+}
+
+fn show_take_list(rt: &impl Print, alloc: Global) -> io::Result<()> {
+    let mut list = ThinVec::from_array(alloc, [1, 2, 3, 4])?;
+    let taken = make::take_list(&mut list)?;
+    println!(rt; "take_list: {taken:?}, left {list:?}")
 }
 
 fn show_add(rt: &impl Print, alloc: Global) -> io::Result<()> {
+    show_push(rt, alloc)?;
+    show_append_both(rt, alloc)?;
+    show_append_line(rt, alloc)?;
+    show_append_doubled(rt, alloc)?;
+    show_room(rt, alloc)?;
+    show_extend(rt, alloc)
+}
+
+fn show_push(rt: &impl Print, alloc: Global) -> io::Result<()> {
     let mut list: ThinVec<u32> = ThinVec::new(alloc);
     let returned = add::push_or_return(&mut list, 1);
     println!(rt; "push_or_return: {list:?}, returned {returned:?}")?;
     add::push_both(&mut list, 2, 3)?;
-    show(rt, "push_both", &list)?;
-    add::append_both(
-        &mut list,
-        &mut ThinVec::from_array(alloc, [4, 5])?,
-        &mut ThinVec::from_array(alloc, [6])?,
-    )?;
-    show(rt, "append_both", list)?;
+    show(rt, "push_both", list)
+}
+
+fn show_append_both(rt: &impl Print, alloc: Global) -> io::Result<()> {
+    let mut list = ThinVec::from_array(alloc, [1, 2, 3])?;
+    let mut other = ThinVec::from_array(alloc, [4, 5])?;
+    add::append_both(&mut list, &mut other, &mut ThinVec::from_array(alloc, [6])?)?;
+    show(rt, "append_both", list)
+}
+
+fn show_append_line(rt: &impl Print, alloc: Global) -> io::Result<()> {
     let mut text = ThinVec::new(alloc);
     add::append_line(&mut text, b"hi")?;
-    show(rt, "append_line", text)?;
+    show(rt, "append_line", text)
+}
+
+fn show_append_doubled(rt: &impl Print, alloc: Global) -> io::Result<()> {
     let mut numbers = ThinVec::from_array(alloc, [1])?;
     add::append_doubled(&mut numbers, &[1, 2, 3])?;
-    show(rt, "append_doubled", numbers)?;
+    show(rt, "append_doubled", numbers)
+}
+
+fn show_room(rt: &impl Print, alloc: Global) -> io::Result<()> {
     let mut roomy = ThinVec::new(alloc);
     add::reserve_eight(&mut roomy)?;
     println!(rt; "reserve_eight: capacity {}", roomy.capacity())?;
@@ -137,38 +178,68 @@ fn show_extend(rt: &impl Print, alloc: Global) -> io::Result<()> {
 }
 
 fn show_remove(rt: &impl Print, alloc: Global) -> io::Result<()> {
+    show_keep_even(rt, alloc)?;
+    show_remove_odd(rt, alloc)?;
+    show_keep_every_second(rt, alloc)?;
+    show_keep_distinct(rt, alloc)?;
+    show_keep_tens(rt, alloc)?;
+    show_keep_last_digits(rt, alloc)?;
+    show_keep_halves(rt, alloc)?;
+    show_pop_even(rt, alloc)?;
+    show_consumed(rt, alloc)
+}
+
+fn show_keep_even(rt: &impl Print, alloc: Global) -> io::Result<()> {
     let mut list = ThinVec::from_array(alloc, [1, 2, 3, 4])?;
     remove::keep_even(&mut list);
-    show(rt, "keep_even", list)?;
+    show(rt, "keep_even", list)
+}
+
+fn show_remove_odd(rt: &impl Print, alloc: Global) -> io::Result<()> {
     let mut list = ThinVec::from_array(alloc, [1, 2, 3, 4, 5])?;
     let removed = remove::remove_odd(&mut list);
-    println!(rt; "remove_odd: {removed}, left {list:?}")?;
+    println!(rt; "remove_odd: {removed}, left {list:?}")
+}
+
+fn show_keep_every_second(rt: &impl Print, alloc: Global) -> io::Result<()> {
     let mut list = ThinVec::from_array(alloc, [1, 2, 3, 4])?;
     remove::keep_every_second(&mut list);
-    show(rt, "keep_every_second", list)?;
+    show(rt, "keep_every_second", list)
+}
+
+fn show_keep_distinct(rt: &impl Print, alloc: Global) -> io::Result<()> {
     let mut list = ThinVec::from_array(alloc, [1, 1, 2, 2])?;
     remove::keep_distinct(&mut list);
-    show(rt, "keep_distinct", list)?;
+    show(rt, "keep_distinct", list)
+}
+
+fn show_keep_tens(rt: &impl Print, alloc: Global) -> io::Result<()> {
     let mut list = ThinVec::from_array(alloc, [12, 17, 23])?;
     remove::keep_tens(&mut list);
-    show(rt, "keep_tens", list)?;
+    show(rt, "keep_tens", list)
+}
+
+fn show_keep_last_digits(rt: &impl Print, alloc: Global) -> io::Result<()> {
     let mut list = ThinVec::from_array(alloc, [12, 22, 23])?;
     remove::keep_last_digits(&mut list);
-    show(rt, "keep_last_digits", list)?;
+    show(rt, "keep_last_digits", list)
+}
+
+fn show_keep_halves(rt: &impl Print, alloc: Global) -> io::Result<()> {
     let mut list = ThinVec::from_array(alloc, [4, 5, 6])?;
     remove::keep_halves(&mut list);
     show(rt, "keep_halves", list)
 }
 
-fn show_take(rt: &impl Print, alloc: Global) -> io::Result<()> {
+fn show_pop_even(rt: &impl Print, alloc: Global) -> io::Result<()> {
     let mut list = ThinVec::from_array(alloc, [1, 2])?;
     let popped = remove::pop_even(&mut list);
-    println!(rt; "pop_even: {popped:?}, left {list:?}")?;
-    show(
-        rt,
-        "least",
-        remove::least(ThinVec::from_array(alloc, [5, 3, 4])?, 9),
-    )?;
+    println!(rt; "pop_even: {popped:?}, left {list:?}")
+}
+
+fn show_consumed(rt: &impl Print, alloc: Global) -> io::Result<()> {
+    let least = remove::least(ThinVec::from_array(alloc, [5, 3, 4])?, 9);
+    show(rt, "least", least)?;
     let reversed = remove::reversed_singly(ThinVec::from_array(alloc, [1, 2, 3])?, alloc)?;
     show(rt, "reversed_singly", reversed)?;
     remove::consume_empty(ThinVec::<u32>::new(alloc));
@@ -190,6 +261,13 @@ fn show_read(rt: &impl Print, alloc: Global) -> io::Result<()> {
 }
 
 fn show_write(rt: &impl Print, alloc: Global) -> io::Result<()> {
+    show_halve(rt, alloc)?;
+    show_sort_pairs(rt, alloc)?;
+    show_set(rt, alloc)?;
+    show_set_last(rt, alloc)
+}
+
+fn show_halve(rt: &impl Print, alloc: Global) -> io::Result<()> {
     let mut list = ThinVec::from_array(alloc, [12, 20, 40, 8])?;
     let first = write::lower_first(&mut list, 2);
     println!(rt; "lower_first: {list:?}, before: {first}")?;
@@ -198,10 +276,16 @@ fn show_write(rt: &impl Print, alloc: Global) -> io::Result<()> {
     write::halve_by_index(&mut list);
     println!(rt; "halve_by_index: {list:?}")?;
     write::sort(&mut list);
-    println!(rt; "sort: {list:?}")?;
+    println!(rt; "sort: {list:?}")
+}
+
+fn show_sort_pairs(rt: &impl Print, alloc: Global) -> io::Result<()> {
     let mut pairs = ThinVec::from_array(alloc, [(2, 7), (1, 9), (2, 5)])?;
     write::sort_pairs(&mut pairs)?;
-    println!(rt; "sort_pairs: {pairs:?}")?;
+    println!(rt; "sort_pairs: {pairs:?}")
+}
+
+fn show_set(rt: &impl Print, alloc: Global) -> io::Result<()> {
     let mut list = ThinVec::from_array(alloc, [1, 2, 3, 4])?;
     write::set_first(&mut list, 9);
     println!(rt; "set_first: {list:?}")?;
@@ -210,7 +294,11 @@ fn show_write(rt: &impl Print, alloc: Global) -> io::Result<()> {
     write::clear_range(&mut list, 1, 3);
     println!(rt; "clear_range: {list:?}")?;
     write::mark_halves(&mut list, 2);
-    println!(rt; "mark_halves: {list:?}")?;
+    println!(rt; "mark_halves: {list:?}")
+}
+
+fn show_set_last(rt: &impl Print, alloc: Global) -> io::Result<()> {
+    let mut list = ThinVec::from_array(alloc, [0, 0, 1, 1])?;
     write::set_last(&mut list, 5);
     println!(rt; "set_last: {list:?}")?;
     write::turn(&mut list, 1);
@@ -220,35 +308,63 @@ fn show_write(rt: &impl Print, alloc: Global) -> io::Result<()> {
 }
 
 fn show_replace(rt: &impl Print, alloc: Global) -> io::Result<()> {
+    show_replace_word(rt, alloc)?;
+    show_replace_lines(rt, alloc)?;
+    show_insert_names(rt, alloc)
+}
+
+fn show_replace_word(rt: &impl Print, alloc: Global) -> io::Result<()> {
     let mut text = ThinVec::from_array(alloc, [1, 2, 3, 4])?;
     replace::replace_word(&mut text, 1, 3, &[7, 8, 9])?;
-    show(rt, "replace_word", text)?;
+    show(rt, "replace_word", text)
+}
+
+fn show_replace_lines(rt: &impl Print, alloc: Global) -> io::Result<()> {
     let mut lines = ThinVec::from_array(alloc, ["a", "b", "c"])?;
-    replace::replace_lines(
-        &mut lines,
-        0,
-        1,
-        &mut ThinVec::from_array(alloc, ["x", "y"])?,
-    )?;
-    show(rt, "replace_lines", lines)?;
+    let mut other = ThinVec::from_array(alloc, ["x", "y"])?;
+    replace::replace_lines(&mut lines, 0, 1, &mut other)?;
+    show(rt, "replace_lines", lines)
+}
+
+fn show_insert_names(rt: &impl Print, alloc: Global) -> io::Result<()> {
     let mut names = ThinVec::from_array(alloc, [1, 4])?;
     replace::insert_names(alloc, &mut names, 1, &[2, 3])?;
     show(rt, "insert_names", names)
 }
 
 fn show_splice(rt: &impl Print, alloc: Global) -> io::Result<()> {
+    show_spliced_middle(rt, alloc)?;
+    show_splice_numbers(rt, alloc)?;
+    show_splice_by(rt, alloc)?;
+    show_splice_one(rt, alloc)?;
+    show_paste(rt, alloc)
+}
+
+fn show_spliced_middle(rt: &impl Print, alloc: Global) -> io::Result<()> {
     let mut list = ThinVec::from_array(alloc, [1, 2, 3, 4, 5])?;
     replace::spliced_middle(&mut list, alloc)?;
-    show(rt, "spliced_middle", list)?;
+    show(rt, "spliced_middle", list)
+}
+
+fn show_splice_numbers(rt: &impl Print, alloc: Global) -> io::Result<()> {
     let mut list = ThinVec::from_array(alloc, [1, 2, 3])?;
     replace::splice_numbers(&mut list, 0, 2, &[8, 9], alloc)?;
-    show(rt, "splice_numbers", list)?;
+    show(rt, "splice_numbers", list)
+}
+
+fn show_splice_by(rt: &impl Print, alloc: Global) -> io::Result<()> {
     let mut list = ThinVec::from_array(alloc, [1, 2, 3])?;
     replace::splice_by(&mut list, (1, 1), 7..9, alloc)?;
-    show(rt, "splice_by", list)?;
+    show(rt, "splice_by", list)
+}
+
+fn show_splice_one(rt: &impl Print, alloc: Global) -> io::Result<()> {
     let mut list = ThinVec::from_array(alloc, [1, 2, 3, 4])?;
     replace::splice_one(&mut list, 1, 3, 9, alloc);
-    show(rt, "splice_one", list)?;
+    show(rt, "splice_one", list)
+}
+
+fn show_paste(rt: &impl Print, alloc: Global) -> io::Result<()> {
     let mut text = ThinVec::from_array(alloc, ["a", "b", "c"])?;
     let pasted = ThinVec::from_array(alloc, ["x", "y"])?;
     replace::paste(&mut text, 1, 2, pasted, alloc)?;
@@ -256,11 +372,23 @@ fn show_splice(rt: &impl Print, alloc: Global) -> io::Result<()> {
 }
 
 fn show_transfer(rt: &impl Print, alloc: Global) -> io::Result<()> {
+    show_hand_over(rt, alloc)?;
+    show_move_range(rt, alloc)?;
+    show_divide(rt, alloc)?;
+    show_second_half(rt, alloc)?;
+    show_hand_over_odd(rt, alloc)
+}
+
+fn show_hand_over(rt: &impl Print, alloc: Global) -> io::Result<()> {
     let mut list = ThinVec::from_array(alloc, [1, 2, 3, 4])?;
     let mut other = ThinVec::from_array(alloc, [9])?;
     transfer::hand_over(&mut list, 0, 2, &mut other)?;
-    println!(rt; "hand_over: {list:?} and {other:?}")?;
+    println!(rt; "hand_over: {list:?} and {other:?}")
+}
+
+fn show_move_range(rt: &impl Print, alloc: Global) -> io::Result<()> {
     let mut list = ThinVec::from_array(alloc, [1, 2, 3, 4])?;
+    let mut other = ThinVec::from_array(alloc, [9, 1, 2])?;
     transfer::move_range(&mut list, 1, 3, &mut other)?;
     println!(rt; "move_range: {list:?} and {other:?}")?;
     show(rt, "moved_to_vec", transfer::moved_to_vec(other, alloc)?)
@@ -269,23 +397,39 @@ fn show_transfer(rt: &impl Print, alloc: Global) -> io::Result<()> {
 fn show_divide(rt: &impl Print, alloc: Global) -> io::Result<()> {
     let (mut odd, mut even) = (ThinVec::new(alloc), ThinVec::new(alloc));
     transfer::divide(ThinVec::from_array(alloc, [1, 2, 3])?, &mut odd, &mut even)?;
-    println!(rt; "divide: {odd:?} and {even:?}")?;
+    println!(rt; "divide: {odd:?} and {even:?}")
+}
+
+fn show_second_half(rt: &impl Print, alloc: Global) -> io::Result<()> {
     let mut list = ThinVec::from_array(alloc, [4, 5, 6, 7])?;
     let half = transfer::second_half(alloc, &mut list)?;
-    println!(rt; "second_half: {list:?} and {half:?}")?;
-    list.extend_from_copies(half.as_slice())?;
+    println!(rt; "second_half: {list:?} and {half:?}")
+}
+
+fn show_hand_over_odd(rt: &impl Print, alloc: Global) -> io::Result<()> {
+    let mut list = ThinVec::from_array(alloc, [4, 5, 6, 7])?;
+    let mut odd = ThinVec::from_array(alloc, [1, 3])?;
     transfer::hand_over_odd(&mut list, &mut odd)?;
     println!(rt; "hand_over_odd: {list:?} and {odd:?}")
 }
 
 fn show_structs(rt: &impl Print, alloc: Global) -> io::Result<()> {
+    show_style(rt, alloc)?;
+    show_page(rt, alloc)?;
+    show_percents(rt, alloc)
+}
+
+fn show_style(rt: &impl Print, alloc: Global) -> io::Result<()> {
     let mut style = Style::new(alloc, 1);
     println!(rt; "Style::new: {style:?}")?;
     style.add_rule(5)?;
     println!(rt; "Style::add_rule: {style:?}")?;
     let renamed = style.renamed(2)?;
     println!(rt; "Style::renamed: {renamed:?}")?;
-    println!(rt; "Style::is_same: {}", style.is_same(&renamed))?;
+    println!(rt; "Style::is_same: {}", style.is_same(&renamed))
+}
+
+fn show_page(rt: &impl Print, alloc: Global) -> io::Result<()> {
     let page = Page::new(ThinVec::from_array(alloc, [10, 20, 30])?);
     println!(rt; "Page::new: {} lines", page.lines.len())?;
     println!(rt; "Page::after: {}", page.after(1))
@@ -316,12 +460,20 @@ fn show_graph(rt: &impl Print, alloc: Global) -> io::Result<()> {
 }
 
 fn show_errors(rt: &impl Print, alloc: Global) -> io::Result<()> {
+    show_take_orders(rt, alloc)?;
+    show_write_line(rt, alloc)
+}
+
+fn show_take_orders(rt: &impl Print, alloc: Global) -> io::Result<()> {
     let mut orders = ThinVec::new(alloc);
     let refused = errors::take_order(&mut orders, 0);
     println!(rt; "take_order: {refused:?}")?;
     let mut other = ThinVec::from_array(alloc, [6])?;
     let taken = errors::take_orders(&mut orders, &mut other);
-    println!(rt; "take_orders: {taken:?}, orders {orders:?}")?;
+    println!(rt; "take_orders: {taken:?}, orders {orders:?}")
+}
+
+fn show_write_line(rt: &impl Print, alloc: Global) -> io::Result<()> {
     let mut bytes = ThinVec::new(alloc);
     errors::write_line(&mut bytes, b"hi")?;
     println!(rt; "write_line: {bytes:?}")?;
@@ -343,22 +495,48 @@ fn show_tree(rt: &impl Print, alloc: Global) -> io::Result<()> {
 }
 
 fn show_tables(rt: &impl Print, alloc: Global) -> io::Result<()> {
+    show_table(rt, alloc)?;
+    show_table_set(rt, alloc)?;
+    show_table_take(rt, alloc)?;
+    show_table_clear(rt, alloc)?;
+    show_table_copy(rt, alloc)
+}
+
+fn show_table(rt: &impl Print, alloc: Global) -> io::Result<()> {
     let mut counts = tables::for_a_week(alloc)?;
     println!(rt; "for_a_week: {} rows", counts.rows())?;
     tables::add(&mut counts, 2, 9, 5)?;
-    println!(rt; "add: {counts:?}")?;
+    println!(rt; "add: {counts:?}")
+}
+
+fn show_table_set(rt: &impl Print, alloc: Global) -> io::Result<()> {
+    let mut counts = tables::for_a_week(alloc)?;
     let count = tables::set_and_read(&mut counts, 2, 8, 7)?;
     println!(rt; "set_and_read: {count:?}")?;
     let old = tables::set_or_return(&mut counts, 2, 8, 6)?;
-    println!(rt; "set_or_return: {old:?}")?;
+    println!(rt; "set_or_return: {old:?}")
+}
+
+fn show_table_take(rt: &impl Print, alloc: Global) -> io::Result<()> {
+    let mut counts = tables::for_a_week(alloc)?;
+    tables::add(&mut counts, 2, 9, 5)?;
     let taken = tables::take(&mut counts, 2, 9);
     println!(rt; "take: {taken}")?;
-    println!(rt; "is_row_empty: {}", tables::is_row_empty(&counts, 0))?;
+    println!(rt; "is_row_empty: {}", tables::is_row_empty(&counts, 0))
+}
+
+fn show_table_clear(rt: &impl Print, alloc: Global) -> io::Result<()> {
+    let mut counts = tables::for_a_week(alloc)?;
+    tables::add(&mut counts, 2, 8, 6)?;
     tables::halve(&mut counts, 2, 8);
     println!(rt; "halve: {counts:?}")?;
     tables::clear(&mut counts, 2);
     println!(rt; "clear: {counts:?}")?;
-    println!(rt; "is_empty: {}", tables::is_empty(&counts))?;
+    println!(rt; "is_empty: {}", tables::is_empty(&counts))
+}
+
+fn show_table_copy(rt: &impl Print, alloc: Global) -> io::Result<()> {
+    let mut counts = tables::for_a_week(alloc)?;
     tables::add(&mut counts, 4, 1, 9)?;
     tables::add(&mut counts, 6, 0, 3)?;
     println!(rt; "total: {}", tables::total(&counts))?;
@@ -373,29 +551,39 @@ fn show_threads(rt: &impl Print, alloc: Global) -> io::Result<()> {
 }
 
 fn show_costs(rt: &impl Print, alloc: Global) -> io::Result<()> {
+    show_pushed_seventeen(rt, alloc)?;
+    show_inserted_second(rt, alloc)?;
+    show_removed_first(rt, alloc)?;
+    show_spliced_by_claim(rt, alloc)?;
+    show_moves_in_six(rt, alloc)?;
+    show_extracted_two(rt, alloc)?;
+    show_edited(rt, alloc)?;
+    show_push_each(rt, alloc)?;
+    show_fill_twice(rt, alloc)?;
+    show_edited_by_run(rt, alloc)
+}
+
+fn show_pushed_seventeen(rt: &impl Print, alloc: Global) -> io::Result<()> {
     let capacity = costs::pushed_seventeen(alloc)?.capacity();
-    println!(rt; "pushed_seventeen: capacity {capacity}")?;
+    println!(rt; "pushed_seventeen: capacity {capacity}")
+}
+
+fn show_inserted_second(rt: &impl Print, alloc: Global) -> io::Result<()> {
     let mut list = ThinVec::from_array(alloc, [1, 2, 3])?;
     costs::inserted_second(&mut list, 4)?;
-    println!(rt; "inserted_second: {list:?}")?;
+    println!(rt; "inserted_second: {list:?}")
+}
+
+fn show_removed_first(rt: &impl Print, alloc: Global) -> io::Result<()> {
     let mut list = ThinVec::from_array(alloc, [1, 2, 3, 4, 5])?;
     let first = costs::removed_first(&mut list);
-    println!(rt; "removed_first: {first}, left {list:?}")?;
+    println!(rt; "removed_first: {first}, left {list:?}")
+}
+
+fn show_spliced_by_claim(rt: &impl Print, alloc: Global) -> io::Result<()> {
     let mut list = ThinVec::from_array(alloc, [1, 2, 3, 4, 5])?;
     costs::spliced_by_claim(&mut list, 1000, alloc)?;
-    println!(rt; "spliced_by_claim: {list:?}, capacity {}", list.capacity())?;
-    show_moves_in_six(rt, alloc)?;
-    let edited = costs::edited(alloc)?;
-    println!(rt; "edited: {edited:?}")?;
-    let mut list = ThinVec::new(alloc);
-    costs::push_each(&mut list, &[1, 2, 3])?;
-    println!(rt; "push_each: {list:?}")?;
-    let mut list = ThinVec::from_array(alloc, [1, 2, 3, 4])?;
-    let filled = costs::fill_twice(&mut list, &[5, 6, 7]);
-    println!(rt; "fill_twice: {filled}, capacity {}", list.capacity())?;
-    let mut list = ThinVec::new(alloc);
-    costs::edited_by_run(alloc, &mut list)?;
-    println!(rt; "edited_by_run: {list:?}")
+    println!(rt; "spliced_by_claim: {list:?}, capacity {}", list.capacity())
 }
 
 fn show_moves_in_six(rt: &impl Print, alloc: Global) -> io::Result<()> {
@@ -405,21 +593,60 @@ fn show_moves_in_six(rt: &impl Print, alloc: Global) -> io::Result<()> {
     costs::retained_all(&mut list);
     println!(rt; "retained_all: {list:?}")?;
     let ends = costs::drained_four(&mut list);
-    println!(rt; "drained_four: {ends:?}, left {list:?}")?;
+    println!(rt; "drained_four: {ends:?}, left {list:?}")
+}
+
+fn show_extracted_two(rt: &impl Print, alloc: Global) -> io::Result<()> {
     let mut list = ThinVec::from_array(alloc, [1, 2, 3, 4, 5, 6])?;
     let two = costs::extracted_two(&mut list);
     println!(rt; "extracted_two: {two:?}, left {list:?}")
 }
 
+fn show_edited(rt: &impl Print, alloc: Global) -> io::Result<()> {
+    let edited = costs::edited(alloc)?;
+    println!(rt; "edited: {edited:?}")
+}
+
+fn show_push_each(rt: &impl Print, alloc: Global) -> io::Result<()> {
+    let mut list = ThinVec::new(alloc);
+    costs::push_each(&mut list, &[1, 2, 3])?;
+    println!(rt; "push_each: {list:?}")
+}
+
+fn show_fill_twice(rt: &impl Print, alloc: Global) -> io::Result<()> {
+    let mut list = ThinVec::from_array(alloc, [1, 2, 3, 4])?;
+    let filled = costs::fill_twice(&mut list, &[5, 6, 7]);
+    println!(rt; "fill_twice: {filled}, capacity {}", list.capacity())
+}
+
+fn show_edited_by_run(rt: &impl Print, alloc: Global) -> io::Result<()> {
+    let mut list = ThinVec::new(alloc);
+    costs::edited_by_run(alloc, &mut list)?;
+    println!(rt; "edited_by_run: {list:?}")
+}
+
 fn show_commands(rt: &impl Print, alloc: Global) -> io::Result<()> {
+    show_one_and_two(rt, alloc)?;
+    show_first_of_two(rt, alloc)?;
+    show_carry_out(rt, alloc)
+}
+
+fn show_one_and_two(rt: &impl Print, alloc: Global) -> io::Result<()> {
     let mut list = ThinVec::new(alloc);
     commands::one_and_two(alloc, &mut list, &Evens)?;
-    println!(rt; "one_and_two: {list:?}")?;
+    println!(rt; "one_and_two: {list:?}")
+}
+
+fn show_first_of_two(rt: &impl Print, alloc: Global) -> io::Result<()> {
     let mut lists = ThinVec::new(alloc);
     let first = ThinVec::from_array(alloc, [1, 2])?;
     let second = ThinVec::from_array(alloc, [3])?;
     commands::first_of_two(alloc, &mut lists, first, second)?;
-    println!(rt; "first_of_two: {lists:?}")?;
+    println!(rt; "first_of_two: {lists:?}")
+}
+
+fn show_carry_out(rt: &impl Print, alloc: Global) -> io::Result<()> {
+    let mut list = ThinVec::from_array(alloc, [1, 2])?;
     let mut retain = Vec::new(alloc);
     retain.push(Command::Retain)?;
     commands::carry_out(alloc, &mut list, retain, &Evens)?;
