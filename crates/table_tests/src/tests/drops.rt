@@ -28,6 +28,41 @@ fn set_counted<T: Numbered>(
     Ok(())
 }
 
+// Removes the values of each row, of which there are `count`.
+fn assert_drops_by_remove<T: Numbered>(
+    rt: &impl Abort,
+    table: &mut Rows<T>,
+    ledger: &'static Ledger,
+    (rows, count): (usize, usize),
+) {
+    for row in 0..rows {
+        for column in 0..count {
+            assert_row(rt, table, row);
+            drop(table.remove(row, column));
+            assert_live(rt, ledger, table);
+        }
+    }
+}
+
+// Replaces the first value of each row, and clears the row.
+fn assert_drops_by_clear_row<T: Numbered>(
+    rt: &impl Abort,
+    table: &mut Rows<T>,
+    ledger: &'static Ledger,
+    rows: usize,
+) {
+    for row in 0..rows {
+        assert_row(rt, table, row);
+        if let Some(value) = table.get_mut(row, 0) {
+            *value = T::numbered(ledger, 7);
+        }
+        assert_live(rt, ledger, table);
+        assert_row(rt, table, row);
+        table.clear_row(row);
+        assert_live(rt, ledger, table);
+    }
+}
+
 // Sets, removes and drops the values of a table whose rows have `count` entries each. Asserts after
 // each call how many values are alive.
 fn assert_drops<T: Numbered>(
@@ -40,24 +75,9 @@ fn assert_drops<T: Numbered>(
     let mut table = Rows::<T>::with_rows(alloc, rows)?;
     set_counted(rt, &mut table, ledger, count)?;
     set_counted(rt, &mut table, ledger, count)?;
-    for row in 0..rows {
-        for column in 0..count {
-            assert_row(rt, &table, row);
-            drop(table.remove(row, column));
-            assert_live(rt, ledger, &table);
-        }
-    }
+    assert_drops_by_remove(rt, &mut table, ledger, (rows, count));
     set_counted(rt, &mut table, ledger, count)?;
-    for row in 0..rows {
-        assert_row(rt, &table, row);
-        if let Some(value) = table.get_mut(row, 0) {
-            *value = T::numbered(ledger, 7);
-        }
-        assert_live(rt, ledger, &table);
-        assert_row(rt, &table, row);
-        table.clear_row(row);
-        assert_live(rt, ledger, &table);
-    }
+    assert_drops_by_clear_row(rt, &mut table, ledger, rows);
     set_counted(rt, &mut table, ledger, count)?;
     drop(table);
     check!(rt; same(ledger.live.get(), 0));

@@ -96,7 +96,7 @@ fn column(index: usize, gap: usize) -> usize {
 // Reads row 1 in each way. It has `count` entries, among them one at `column`.
 fn assert_row_reads<V: Drop>(
     rt: &impl Abort,
-    table: &mut Rows<V, &Refusing<Global>>,
+    table: &mut Rows<V, Lender>,
     column: usize,
     count: usize,
 ) {
@@ -108,50 +108,85 @@ fn assert_row_reads<V: Drop>(
     check!(rt; same((table.row(1).len(), table.len()), (count, count)));
 }
 
+// Sets each of the `count` entries of row 1 again, and reads the row after each.
+fn assert_entries_replaced<V: Copy + PartialEq + Debug + Drop>(
+    rt: &impl Abort,
+    table: &mut Rows<V, Lender>,
+    value: V,
+    (count, gap): (usize, usize),
+) -> Result<(), ThinVecError> {
+    for index in 0..count {
+        assert_set(rt, table, (1, column(index, gap)), value, Some(value))?;
+        assert_row_reads(rt, table, column(index, gap), count);
+    }
+    Ok(())
+}
+
+// Sets a value at a new column of row 1, which has `count` entries. If the row is full, the request
+// of the first try is refused, which leaves the table as it was.
+fn assert_new_entry<V: Copy + PartialEq + Debug + Drop>(
+    rt: &impl Abort,
+    table: &mut Rows<V, Lender>,
+    refusing: Lender,
+    value: V,
+    (count, gap): (usize, usize),
+) -> Result<(), ThinVecError> {
+    let new = column(count, gap);
+    assert_row(rt, table, 1);
+    check!(rt; same(table.get(1, new).is_none(), true));
+    let answer = table
+        .set(1, new, value)
+        .map_err(|refused| (refused.value, refused.cause));
+    let is_full = [0, 4, 8, 16, 32, 64, 128].contains(&count);
+    if !is_full {
+        check!(rt; same(answer, Ok(None)));
+        check!(rt; counts(refusing, 0, 2));
+        return Ok(());
+    }
+    check!(rt; same(answer, Err((value, ThinVecError::OutOfMemory))));
+    check!(rt; counts(refusing, 1, if count == 0 { 1 } else { 2 }));
+    check!(rt; same(table.len(), count));
+    assert_set(rt, table, (1, new), value, None)?;
+    check!(rt; counts(refusing, 2, 2));
+    Ok(())
+}
+
+// Removes the new entry of row 1, and then all but one of its other `count` entries. A column that
+// has no entry is tried before and after.
+fn assert_entries_removed<V: Copy + PartialEq + Debug + Drop>(
+    rt: &impl Abort,
+    table: &mut Rows<V, Lender>,
+    value: V,
+    (count, gap): (usize, usize),
+) {
+    assert_removed(rt, table, (1, 12_345), None);
+    assert_removed(rt, table, (1, column(count, gap)), Some(value));
+    for index in 0..count.saturating_sub(1) {
+        assert_removed(rt, table, (1, column(index, gap)), Some(value));
+    }
+    assert_removed(rt, table, (1, 12_345), None);
+    check!(rt; same(table.len(), count.min(1)));
+}
+
 // Fills a row with `count` entries. From then on, only a new entry in a full row makes a request,
 // and it makes one. If this request is refused, the table stays as it was.
 fn assert_row_requests<V: Copy + PartialEq + Debug + Drop>(
     rt: &impl Abort,
-    refusing: &Refusing<Global>,
+    refusing: Lender,
     value: V,
     count: usize,
     gap: usize,
-) -> Result<(), Fail> {
+) -> Result<(), ThinVecError> {
     refusing.refuse(0);
     let mut table = Rows::with_rows(refusing, 2)?;
     for index in 0..count {
         assert_set(rt, &mut table, (1, column(index, gap)), value, None)?;
     }
     refusing.refuse(1);
-    for index in 0..count {
-        assert_set(rt, &mut table, (1, column(index, gap)), value, Some(value))?;
-        assert_row_reads(rt, &mut table, column(index, gap), count);
-    }
-    let new = column(count, gap);
-    assert_row(rt, &table, 1);
-    check!(rt; same(table.get(1, new).is_none(), true));
-    let answer = table
-        .set(1, new, value)
-        .map_err(|refused| (refused.value, refused.cause));
-    let is_full = [0, 4, 8, 16, 32, 64, 128].contains(&count);
-    if is_full {
-        check!(rt; same(answer, Err((value, ThinVecError::OutOfMemory))));
-        check!(rt; counts(refusing, 1, if count == 0 { 1 } else { 2 }));
-        check!(rt; same(table.len(), count));
-        assert_set(rt, &mut table, (1, new), value, None)?;
-        check!(rt; counts(refusing, 2, 2));
-    } else {
-        check!(rt; same(answer, Ok(None)));
-        check!(rt; counts(refusing, 0, 2));
-    }
+    assert_entries_replaced(rt, &mut table, value, (count, gap))?;
+    assert_new_entry(rt, &mut table, refusing, value, (count, gap))?;
     refusing.refuse(1);
-    assert_removed(rt, &mut table, (1, 12_345), None);
-    assert_removed(rt, &mut table, (1, new), Some(value));
-    for index in 0..count.saturating_sub(1) {
-        assert_removed(rt, &mut table, (1, column(index, gap)), Some(value));
-    }
-    assert_removed(rt, &mut table, (1, 12_345), None);
-    check!(rt; same(table.len(), count.min(1)));
+    assert_entries_removed(rt, &mut table, value, (count, gap));
     if count > 0 {
         assert_set(rt, &mut table, (1, 12_345), value, None)?;
     }

@@ -7,6 +7,10 @@ use std::test::Fail;
 use thin_rows::Rows;
 use thin_testing::{Refusing, check, prints, prints_as, same};
 
+type Lender = &'static Refusing<Global>;
+
+type Map = BTreeMap<usize, i32>;
+
 #[test]
 fn prints_each_row_as_a_map(rt: HostRuntime) -> Result<(), Fail> {
     let mut table = Rows::with_rows(rt.alloc(), 2)?;
@@ -17,6 +21,37 @@ fn prints_each_row_as_a_map(rt: HostRuntime) -> Result<(), Fail> {
     let wide = "[{}, {0002: 0020, 0007: 0010, 0009: 0030}]";
     check!(rt; prints(rt.alloc(), &table, ["[{}, {2: 20, 7: 10, 9: 30}]", lines, wide]));
     Ok(())
+}
+
+// Sets a value of the table, and inserts it into the map of its row.
+fn set_and_insert(
+    rt: &impl Abort,
+    table: &mut Rows<i32, Lender>,
+    map: &mut Map,
+    (row, column): (usize, usize),
+    value: i32,
+) -> Result<(), Fail> {
+    assert_row(rt, table, row);
+    table.set(row, column, value)?;
+    map.insert(column, value).ok().ok_or("memory")?;
+    Ok(())
+}
+
+// Sets `count` entries of the row and one at the greatest column. Returns the map of these entries.
+fn filled_row(
+    rt: &impl Abort,
+    alloc: Global,
+    table: &mut Rows<i32, Lender>,
+    row: usize,
+    count: usize,
+) -> Result<Map, Fail> {
+    let mut map = BTreeMap::new(alloc);
+    for index in 0..count {
+        let value = if index % 3 == 0 { -8 } else { 9 };
+        set_and_insert(rt, table, &mut map, (row, count.wrapping_sub(index)), value)?;
+    }
+    set_and_insert(rt, table, &mut map, (row, usize::MAX), 5)?;
+    Ok(map)
 }
 
 // Asserts that a table, of which the rows with odd numbers have `count` entries each and one at the
@@ -30,22 +65,13 @@ fn assert_printed_as_maps(
 ) -> Result<(), Fail> {
     let refusing = Refusing::leaked(alloc, 0)?;
     let mut table = Rows::with_rows(refusing, rows)?;
-    let mut maps: Vec<BTreeMap<usize, i32>> = Vec::new(alloc);
+    let mut maps: Vec<Map> = Vec::new(alloc);
     for row in 0..rows {
-        let mut map = BTreeMap::new(alloc);
-        if row % 2 == 1 {
-            for index in 0..count {
-                let value = if index % 3 == 0 { -8 } else { 9 };
-                assert_row(rt, &table, row);
-                table.set(row, count.wrapping_sub(index), value)?;
-                map.insert(count.wrapping_sub(index), value)
-                    .ok()
-                    .ok_or("memory")?;
-            }
-            assert_row(rt, &table, row);
-            table.set(row, usize::MAX, 5)?;
-            map.insert(usize::MAX, 5).ok().ok_or("memory")?;
-        }
+        let map = if row % 2 == 1 {
+            filled_row(rt, alloc, &mut table, row, count)?
+        } else {
+            BTreeMap::new(alloc)
+        };
         maps.push(map).ok().ok_or("memory")?;
     }
     refusing.refuse(1);

@@ -7,6 +7,8 @@ use std::test::Fail;
 use thin_rows::{Rows, ThinVecError};
 use thin_testing::{Counted, Ledger, Refusing, check, counts, same};
 
+type Lender = &'static Refusing<Global>;
+
 // The numbers of rows, and of entries in each row with an odd number.
 const SIZES: [(usize, usize); 9] = [
     (0, 0),
@@ -53,25 +55,48 @@ fn bytes_of_clone((rows, count): (usize, usize)) -> u64 {
         .saturating_mul(16)
 }
 
+// Clones the table by the allocator `other`, and asserts how many requests and bytes this takes.
+fn cloned_to(
+    rt: &impl Abort,
+    table: &Rows<u32, Lender>,
+    other: Lender,
+    size: (usize, usize),
+) -> Result<Rows<u32, Lender>, ThinVecError> {
+    let before = other.bytes();
+    let copy = table.clone(other)?;
+    let requests = requests_of_clone(size);
+    check!(rt; counts(other, requests, requests));
+    check!(rt; same(other.bytes().saturating_sub(before), bytes_of_clone(size)));
+    Ok(copy)
+}
+
+// Clones a table by the allocator `other`, and asserts that its own allocator gets no request, and
+// that the clone frees its blocks.
+fn assert_clone_requests(
+    rt: &impl Abort,
+    own: Lender,
+    other: Lender,
+    size: (usize, usize),
+) -> Result<(), ThinVecError> {
+    own.refuse(0);
+    other.refuse(0);
+    let table = table_of(rt, own, size)?;
+    own.refuse(1);
+    let copy = cloned_to(rt, &table, other, size)?;
+    check!(rt; same(own.requests(), 0));
+    drop(table);
+    check!(rt; same(copy.rows(), size.0));
+    drop(copy);
+    check!(rt; counts(other, requests_of_clone(size), 0));
+    Ok(())
+}
+
 #[test]
 fn a_clone_requests_what_its_rows_and_entries_take(rt: HostRuntime) -> Result<(), Fail> {
     let own = Refusing::leaked(rt.alloc(), 0)?;
     let other = Refusing::leaked(rt.alloc(), 0)?;
     for size in SIZES {
-        own.refuse(0);
-        other.refuse(0);
-        let table = table_of(&rt, own, size)?;
-        own.refuse(1);
-        let before = other.bytes();
-        let copy = table.clone(other)?;
-        let requests = requests_of_clone(size);
-        check!(rt; counts(other, requests, requests));
-        check!(rt; same(own.requests(), 0));
-        check!(rt; same(other.bytes().saturating_sub(before), bytes_of_clone(size)));
-        drop(table);
-        check!(rt; same(copy.rows(), size.0));
-        drop(copy);
-        check!(rt; counts(other, requests, 0));
+        assert_clone_requests(&rt, own, other, size)?;
     }
     Ok(())
 }
@@ -80,20 +105,38 @@ fn cloned<T: Clone>(value: &T) -> Result<T, AllocError> {
     value.clone()
 }
 
+// Clones a table by the trait, and asserts the requests to the allocator of the table.
+fn assert_trait_clone_requests(
+    rt: &impl Abort,
+    own: Lender,
+    size: (usize, usize),
+) -> Result<(), ThinVecError> {
+    own.refuse(0);
+    let table = table_of(rt, own, size)?;
+    own.refuse(0);
+    let blocks = own.blocks();
+    let copy = cloned(&table)?;
+    check!(rt; same(copy == table, true));
+    let requests = requests_of_clone(size);
+    check!(rt; counts(own, requests, blocks.saturating_add(requests)));
+    Ok(())
+}
+
 #[test]
 fn the_trait_clones_by_the_allocator_of_the_table(rt: HostRuntime) -> Result<(), Fail> {
     let own = Refusing::leaked(rt.alloc(), 0)?;
     for size in SIZES {
-        own.refuse(0);
-        let table = table_of(&rt, own, size)?;
-        own.refuse(0);
-        let blocks = own.blocks();
-        let copy = cloned(&table)?;
-        check!(rt; same(copy == table, true));
-        let requests = requests_of_clone(size);
-        check!(rt; counts(own, requests, blocks.saturating_add(requests)));
+        assert_trait_clone_requests(&rt, own, size)?;
     }
     Ok(())
+}
+
+// Refuses request number `refused` of a clone, and asserts that the clone leaves no block.
+fn assert_clone_refused(rt: &impl Abort, table: &Rows<u32, Lender>, other: Lender, refused: u64) {
+    other.refuse(refused);
+    let answer = table.clone(other).err();
+    check!(rt; same(answer, Some(ThinVecError::OutOfMemory)));
+    check!(rt; counts(other, refused, 0));
 }
 
 #[test]
@@ -103,11 +146,7 @@ fn a_refused_clone_frees_its_rows(rt: HostRuntime) -> Result<(), Fail> {
         let own = Refusing::leaked(rt.alloc(), 0)?;
         let table = table_of(&rt, own, size)?;
         for refused in 0..requests_of_clone(size) {
-            let refused = refused.saturating_add(1);
-            other.refuse(refused);
-            let answer = table.clone(other).err();
-            check!(rt; same(answer, Some(ThinVecError::OutOfMemory)));
-            check!(rt; counts(other, refused, 0));
+            assert_clone_refused(&rt, &table, other, refused.saturating_add(1));
         }
     }
     Ok(())
@@ -129,29 +168,59 @@ fn counted_table<'a>(
     Ok(table)
 }
 
+// Refuses the clone of each value in turn, and asserts that the clones made before are dropped.
+fn assert_clones_dropped(rt: &impl Abort, ledger: &Ledger, table: &Rows<Counted<'_>>) {
+    let count = table.len() as u64;
+    for refused in 0..count {
+        ledger.begin(refused.saturating_add(1));
+        let answer = table.clone(ledger.global).err();
+        check!(rt; same(answer, Some(ThinVecError::OutOfMemory)));
+        check!(rt; same((ledger.clones.get(), ledger.live.get()), (refused, count)));
+    }
+}
+
+// Clones the table. Asserts how many values are alive with both tables, with the clone alone, and
+// with neither.
+fn assert_values_cloned(
+    rt: &impl Abort,
+    ledger: &Ledger,
+    table: Rows<Counted<'_>>,
+) -> Result<(), ThinVecError> {
+    let count = table.len() as u64;
+    ledger.begin(0);
+    let copy = table.clone(ledger.global)?;
+    let live = count.saturating_mul(2);
+    check!(rt; same((ledger.clones.get(), ledger.live.get()), (count, live)));
+    drop(table);
+    check!(rt; same(ledger.live.get(), count));
+    drop(copy);
+    check!(rt; same(ledger.live.get(), 0));
+    Ok(())
+}
+
 #[test]
 fn a_clone_that_fails_drops_all_clones(rt: HostRuntime) -> Result<(), Fail> {
     let ledger = Ledger::leaked(rt.alloc())?;
     for size in [(1, 1), (1, 5), (2, 1), (3, 4), (2, 50)] {
         ledger.begin(0);
         let table = counted_table(&rt, ledger, size)?;
-        let count = table.len() as u64;
-        for refused in 0..count {
-            ledger.begin(refused.saturating_add(1));
-            let answer = table.clone(rt.alloc()).err();
-            check!(rt; same(answer, Some(ThinVecError::OutOfMemory)));
-            check!(rt; same((ledger.clones.get(), ledger.live.get()), (refused, count)));
-        }
-        ledger.begin(0);
-        let copy = table.clone(rt.alloc())?;
-        let live = count.saturating_mul(2);
-        check!(rt; same((ledger.clones.get(), ledger.live.get()), (count, live)));
-        drop(table);
-        check!(rt; same(ledger.live.get(), count));
-        drop(copy);
-        check!(rt; same(ledger.live.get(), 0));
+        assert_clones_dropped(&rt, ledger, &table);
+        assert_values_cloned(&rt, ledger, table)?;
     }
     Ok(())
+}
+
+// Counts the entries by a loop over the table, and by one over its iterator.
+fn counts_of_walks(table: &Rows<u32, Lender>) -> (usize, usize) {
+    let mut visited = 0_usize;
+    for (_row, _column, _value) in table {
+        visited = visited.saturating_add(1);
+    }
+    let mut iterated = 0_usize;
+    for _entry in table.iter() {
+        iterated = iterated.saturating_add(1);
+    }
+    (visited, iterated)
 }
 
 #[test]
@@ -164,15 +233,7 @@ fn walks_and_comparisons_make_no_request(rt: HostRuntime) -> Result<(), Fail> {
         refusing.refuse(1);
         check!(rt; same(table.is_empty(), table.len() == 0));
         check!(rt; same((table == other, table != other), (true, false)));
-        let mut visited = 0_usize;
-        for (_row, _column, _value) in &table {
-            visited = visited.saturating_add(1);
-        }
-        let mut iterated = 0_usize;
-        for _entry in table.iter() {
-            iterated = iterated.saturating_add(1);
-        }
-        check!(rt; same((visited, iterated), (table.len(), table.len())));
+        check!(rt; same(counts_of_walks(&table), (table.len(), table.len())));
         check!(rt; same(refusing.requests(), 0));
     }
     Ok(())
