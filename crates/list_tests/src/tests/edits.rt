@@ -1,22 +1,41 @@
 //! Tests of what no contract states of a list that another call edits: one whose `Drain` or
 //! `ExtractIf` is passed to a call or forgotten, and one over which a loop iterates.
+use std::alloc::Global;
 use std::mem;
 use std::process::Abort;
 use std::test::Fail;
 use thin_testing::{Refusing, check, has_len, holds, list_of, same, same_items};
 use thin_vec::ThinVec;
 
+fn assert_collect_removes(
+    rt: &impl Abort,
+    alloc: Global,
+    list: &mut ThinVec<i32>,
+) -> Result<(), Fail> {
+    check!(rt; has_len(list, 6));
+    let items: Vec<i32> = list.drain(1, 3).collect(alloc)?;
+    check!(rt; same_items(&items, &[2, 3]));
+    check!(rt; same_items(list, &[1, 4, 5, 6]));
+    Ok(())
+}
+
+fn assert_collect_of_rev_removes(
+    rt: &impl Abort,
+    alloc: Global,
+    list: &mut ThinVec<i32>,
+) -> Result<(), Fail> {
+    check!(rt; has_len(list, 4));
+    let items: Vec<i32> = list.drain(0, 2).rev().collect(alloc)?;
+    check!(rt; same_items(&items, &[4, 1]));
+    check!(rt; same_items(list, &[5, 6]));
+    Ok(())
+}
+
 #[test]
 fn collect_removes_the_drained_items(rt: HostRuntime) -> Result<(), Fail> {
     let mut list = list_of(rt.alloc(), &[1, 2, 3, 4, 5, 6])?;
-    check!(rt; has_len(&list, 6));
-    let front: Vec<i32> = list.drain(1, 3).collect(rt.alloc())?;
-    check!(rt; same_items(&front, &[2, 3]));
-    check!(rt; same_items(&list, &[1, 4, 5, 6]));
-    check!(rt; has_len(&list, 4));
-    let back: Vec<i32> = list.drain(0, 2).rev().collect(rt.alloc())?;
-    check!(rt; same_items(&back, &[4, 1]));
-    check!(rt; same_items(&list, &[5, 6]));
+    assert_collect_removes(&rt, rt.alloc(), &mut list)?;
+    assert_collect_of_rev_removes(&rt, rt.alloc(), &mut list)?;
     check!(rt; has_len(&list, 2));
     let last: ThinVec<i32> = list.drain(1, 2).collect(rt.alloc())?;
     check!(rt; same_items(&last, &[6]));
@@ -57,14 +76,23 @@ fn from_iter_removes_the_drained_items(rt: HostRuntime) -> Result<(), Fail> {
     Ok(())
 }
 
+fn assert_extend_removes(
+    rt: &impl Abort,
+    alloc: Global,
+    list: &mut ThinVec<i32>,
+) -> Result<(), Fail> {
+    check!(rt; has_len(list, 6));
+    let mut other = list_of(alloc, &[9])?;
+    other.extend(list.extract_if(1, 5, |x: &mut i32| *x % 2 == 0))?;
+    check!(rt; same_items(list, &[1, 3, 5, 6]));
+    check!(rt; same_items(&other, &[9, 2, 4]));
+    Ok(())
+}
+
 #[test]
 fn extend_and_from_iter_remove_the_extracted_items(rt: HostRuntime) -> Result<(), Fail> {
     let mut list = list_of(rt.alloc(), &[1, 2, 3, 4, 5, 6])?;
-    check!(rt; has_len(&list, 6));
-    let mut other = list_of(rt.alloc(), &[9])?;
-    other.extend(list.extract_if(1, 5, |x: &mut i32| *x % 2 == 0))?;
-    check!(rt; same_items(&list, &[1, 3, 5, 6]));
-    check!(rt; same_items(&other, &[9, 2, 4]));
+    assert_extend_removes(&rt, rt.alloc(), &mut list)?;
     check!(rt; has_len(&list, 4));
     let made = ThinVec::from_iter(rt.alloc(), list.extract_if(0, 4, |x: &mut i32| *x > 4))?;
     check!(rt; same_items(&list, &[1, 3]));
@@ -134,20 +162,28 @@ fn list_is_empty_and_usable_if_its_extract_if_is_forgotten(rt: HostRuntime) -> R
     Ok(())
 }
 
+fn forget_begun_drain(rt: &impl Abort, list: &mut ThinVec<i32>) {
+    check!(rt; has_len(list, 4));
+    let mut drain = list.drain(1, 4);
+    check!(rt; same((drain.next(), drain.next_back()), (Some(2), Some(4))));
+    mem::forget(drain);
+}
+
+fn forget_begun_extract_if(rt: &impl Abort, list: &mut ThinVec<i32>) {
+    check!(rt; has_len(list, 4));
+    let mut extracted = list.extract_if(0, 4, |x: &mut i32| *x % 2 == 0);
+    check!(rt; same(extracted.next(), Some(2)));
+    mem::forget(extracted);
+}
+
 // Forgets the iterators after they have yielded an item.
 #[test]
 fn list_is_empty_and_usable_if_a_begun_edit_is_forgotten(rt: HostRuntime) -> Result<(), Fail> {
     let mut list = list_of(rt.alloc(), &[1, 2, 3, 4])?;
-    check!(rt; has_len(&list, 4));
-    let mut drain = list.drain(1, 4);
-    check!(rt; same((drain.next(), drain.next_back()), (Some(2), Some(4))));
-    mem::forget(drain);
+    forget_begun_drain(&rt, &mut list);
     assert_usable(&rt, &mut list)?;
     let mut list = list_of(rt.alloc(), &[1, 2, 3, 4])?;
-    check!(rt; has_len(&list, 4));
-    let mut extracted = list.extract_if(0, 4, |x: &mut i32| *x % 2 == 0);
-    check!(rt; same(extracted.next(), Some(2)));
-    mem::forget(extracted);
+    forget_begun_extract_if(&rt, &mut list);
     assert_usable(&rt, &mut list)
 }
 

@@ -1,6 +1,7 @@
 //! Tests of `thin_vec!`: in which order it evaluates its arguments, and that it evaluates no item
 //! if the memory is refused. Also tests `from_array` with thousands of items.
 use std::cell::Cell;
+use std::process::Abort;
 use std::test::Fail;
 use thin_testing::{Counted, Ledger, Refusing, check, counts, holds, same};
 use thin_vec::{ThinVec, ThinVecError, thin_vec};
@@ -11,17 +12,32 @@ fn note<V>(order: &Cell<u32>, digit: u32, value: V) -> V {
     value
 }
 
+// Asserts which list a call has made, and in which order it has evaluated its arguments.
+fn assert_made(
+    rt: &impl Abort,
+    order: &Cell<u32>,
+    list: ThinVec<i32>,
+    (items, capacity): (&[i32], usize),
+    digits: u32,
+) {
+    check!(rt; holds(&list, items, capacity));
+    check!(rt; same(order.take(), digits));
+}
+
 #[test]
 fn evaluates_each_argument_once_and_in_order(rt: HostRuntime) -> Result<(), Fail> {
     let (alloc, order) = (rt.alloc(), Cell::new(0));
     let list = thin_vec![note(&order, 1, alloc) => note(&order, 2, 7), note(&order, 3, 8),]?;
-    check!(rt; holds(&list, &[7, 8], 2));
-    check!(rt; same(order.take(), 123));
+    assert_made(&rt, &order, list, (&[7, 8], 2), 123);
     let list = thin_vec![note(&order, 1, alloc) => note(&order, 2, 7); note(&order, 3, 2)]?;
-    check!(rt; holds(&list, &[7, 7], 4));
-    check!(rt; same(order.take(), 123));
-    check!(rt; holds(&thin_vec![note(&order, 1, alloc) =>]?, &[], 0));
-    check!(rt; same(order.take(), 1));
+    assert_made(&rt, &order, list, (&[7, 7], 4), 123);
+    assert_made(
+        &rt,
+        &order,
+        thin_vec![note(&order, 1, alloc) =>]?,
+        (&[], 0),
+        1,
+    );
     Ok(())
 }
 
@@ -71,13 +87,16 @@ fn lists_of_1_and_200_literals_need_one_request(rt: HostRuntime) -> Result<(), F
 fn evaluates_each_argument_of_the_form_with_in(rt: HostRuntime) -> Result<(), Fail> {
     let (alloc, order) = (rt.alloc(), Cell::new(0));
     let list = thin_vec![in note(&order, 1, alloc); note(&order, 2, 7), note(&order, 3, 8),]?;
-    check!(rt; holds(&list, &[7, 8], 2));
-    check!(rt; same(order.take(), 123));
+    assert_made(&rt, &order, list, (&[7, 8], 2), 123);
     let list = thin_vec![in note(&order, 1, alloc); note(&order, 2, 7); note(&order, 3, 2)]?;
-    check!(rt; holds(&list, &[7, 7], 4));
-    check!(rt; same(order.take(), 123));
-    check!(rt; holds(&thin_vec![in note(&order, 1, alloc)]?, &[], 0));
-    check!(rt; same(order.take(), 1));
+    assert_made(&rt, &order, list, (&[7, 7], 4), 123);
+    assert_made(
+        &rt,
+        &order,
+        thin_vec![in note(&order, 1, alloc)]?,
+        (&[], 0),
+        1,
+    );
     Ok(())
 }
 

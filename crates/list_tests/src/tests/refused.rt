@@ -5,7 +5,7 @@ use std::process::Abort;
 use std::test::Fail;
 use thin_runner::hinted::Hinted;
 use thin_testing::{Counted, Ledger, Refusing, check, counted_list, counts, holds, same, splice};
-use thin_vec::{ExtendRefused, SpliceRefused, ThinVec, ThinVecError, thin_vec};
+use thin_vec::{ExtendRefused, IntoIter, SpliceRefused, ThinVec, ThinVecError, thin_vec};
 
 const OUT_OF_MEMORY: ThinVecError = ThinVecError::OutOfMemory;
 
@@ -106,12 +106,20 @@ fn assert_clones_refused(
         check!(rt; same((ledger.clones.get(), ledger.live.get()), (made, 3)));
         assert_numbers(rt, &list, &[0, 1, 2]);
     }
-    let items = list.into_iter();
     ledger.begin(refused);
+    assert_iter_clone_refused(rt, ledger, alloc, list.into_iter());
+    Ok(())
+}
+
+fn assert_iter_clone_refused(
+    rt: &impl Abort,
+    ledger: &'static Ledger,
+    alloc: Global,
+    items: IntoIter<Counted<'static>>,
+) {
     check!(rt; same(items.clone(alloc).err(), Some(OUT_OF_MEMORY)));
     check!(rt; same(ledger.live.get(), 3));
     assert_numbers(rt, items.as_slice(), &[0, 1, 2]);
-    Ok(())
 }
 
 #[test]
