@@ -61,7 +61,6 @@ fn lists_can_be_sent_and_shared(rt: HostRuntime) -> Result<(), Fail> {
 fn assert_drain_is_shared(rt: &impl Abort, list: &mut ThinVec<u8>) {
     check!(rt; has_len(list, 3));
     check!(rt; same(needs_sync(&needs_send(list.drain(0, 1))).len(), 1));
-    check!(rt; has_len(list, 2));
 }
 
 fn assert_extract_if_is_shared(rt: &impl Abort, list: &mut ThinVec<u8>) {

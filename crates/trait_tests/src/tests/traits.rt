@@ -27,22 +27,33 @@ fn clone_at_second_try(
     Ok(())
 }
 
-#[test]
-fn clone_from_replaces_the_block(rt: HostRuntime) -> Result<(), Fail> {
-    let own = Refusing::leaked(rt.alloc(), 0)?;
-    let other = Refusing::leaked(rt.alloc(), 0)?;
+// Clones `source`, whose block is of the allocator `other`, and then an empty list into a list
+// whose first block is of the allocator `own`.
+fn assert_block_replaced(
+    rt: &impl Abort,
+    own: Lender,
+    other: Lender,
+    source: &ThinVec<i32, Lender>,
+) -> Result<(), Fail> {
     let mut list = ThinVec::with_capacity(own, 9)?;
     list.push(7)?;
-    let mut source = list_of(other, &[1, 2, 3])?;
-    source.reserve(5)?;
     other.refuse(1);
-    clone_at_second_try(&rt, &mut list, &source)?;
+    clone_at_second_try(rt, &mut list, source)?;
     check!(rt; counts(own, 1, 0));
     check!(rt; counts(other, 2, 2));
     list.clone_from(&ThinVec::new(own))?;
     check!(rt; holds(&list, &[], 0));
     check!(rt; counts(other, 2, 1));
     Ok(())
+}
+
+#[test]
+fn clone_from_replaces_the_block(rt: HostRuntime) -> Result<(), Fail> {
+    let own = Refusing::leaked(rt.alloc(), 0)?;
+    let other = Refusing::leaked(rt.alloc(), 0)?;
+    let mut source = list_of(other, &[1, 2, 3])?;
+    source.reserve(5)?;
+    assert_block_replaced(&rt, own, other, &source)
 }
 
 fn assert_default_has_no_block<T: Drop>(rt: &impl Abort, alloc: Global) -> Result<(), Fail> {
@@ -140,27 +151,31 @@ fn assert_read_as_slice<T: Copy + Ord + Hash + Debug + Drop>(
 }
 
 // The length and the size hint of an iterator, and how many items it yields.
-type Lens = (usize, (usize, Option<usize>), usize);
+type Lengths = (usize, (usize, Option<usize>), usize);
 
 // Returns the lengths that an iterator tells through its traits.
-fn lens<I: ExactSizeIterator>(items: &I) -> (usize, (usize, Option<usize>)) {
+fn lengths<I: ExactSizeIterator>(items: &I) -> (usize, (usize, Option<usize>)) {
     (items.len(), items.size_hint())
 }
 
 // Drains the list, which has `len` items, from both ends. Returns the lengths after two items.
-fn lens_of_drain<T: Drop>(rt: &impl Abort, list: &mut ThinVec<T, Lender>, len: usize) -> Lens {
+fn lengths_of_drain<T: Drop>(
+    rt: &impl Abort,
+    list: &mut ThinVec<T, Lender>,
+    len: usize,
+) -> Lengths {
     check!(rt; has_len(list, len));
     let mut drain = list.drain(0, len);
     let _ends = (drain.next(), drain.next_back());
-    let (left, hint) = lens(&drain);
+    let (left, hint) = lengths(&drain);
     (left, hint, drain.rev().count())
 }
 
 // Takes the items from both ends. Returns the lengths after two items.
-fn lens_of_into_iter<T: Drop>(list: ThinVec<T, Lender>) -> Lens {
+fn lengths_of_into_iter<T: Drop>(list: ThinVec<T, Lender>) -> Lengths {
     let mut rest = list.into_iter();
     let _ends = (rest.next(), rest.next_back());
-    let (left, hint) = lens(&rest);
+    let (left, hint) = lengths(&rest);
     (left, hint, rest.rev().count())
 }
 
@@ -181,8 +196,8 @@ fn assert_slice_requests<T: Copy + Ord + Hash + Debug + Drop>(
     write_as_slice(rt, &mut list, len);
     check!(rt; same(counts_of_loops(&mut list), (len, len)));
     assert_read_as_slice(rt, &list, &other, len);
-    let drained = lens_of_drain(rt, &mut list, len);
-    check!(rt; same(drained, lens_of_into_iter(other)));
+    let drained = lengths_of_drain(rt, &mut list, len);
+    check!(rt; same(drained, lengths_of_into_iter(other)));
     check!(rt; same(refusing.requests(), 0));
     Ok(())
 }
