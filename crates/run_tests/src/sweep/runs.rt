@@ -147,6 +147,26 @@ fn is_filling<T: Drop, G: Growth>(command: &Command<T, Lender, G>) -> bool {
     matches!(command, Command::Extend(..) | Command::Splice(..))
 }
 
+// Executes one command by `run`, with request number `refused` refused. Returns why it failed, and
+// how many requests its reply shows. Drops the reply.
+fn run_single<T: Numbered, G: Growth>(
+    ledger: &'static Ledger,
+    list: &mut List<T, G>,
+    command: Command<T, Lender, G>,
+    digits: u64,
+    refused: u64,
+) -> Result<(Option<ThinVecError>, u64), AllocError> {
+    let alloc = &ledger.alloc;
+    let commands = sole(alloc, command)?;
+    let mut replies = Vec::new(alloc);
+    ledger.begin(refused);
+    let ran = run(alloc, list, commands, &mut replies, &Swaps { digits });
+    Ok(match replies.as_slice() {
+        [reply] => (reply.refusal(), blocks_in(reply)),
+        _ => (ran.err(), 0),
+    })
+}
+
 /// Executes one command by `run`, with request number `refused` refused. Returns whether the
 /// requests, the answer, the items and the blocks are right.
 pub fn is_right<T: Numbered, G: Growth>(
@@ -156,25 +176,17 @@ pub fn is_right<T: Numbered, G: Growth>(
     digits: u64,
     refused: u64,
 ) -> Result<bool, AllocError> {
-    let (alloc, capacity) = (&ledger.alloc, list.capacity());
+    let capacity = list.capacity();
     let is_filling = is_filling(&command);
-    let commands = sole(alloc, command)?;
-    let mut replies = Vec::new(alloc);
-    ledger.begin(refused);
-    let ran = run(alloc, list, commands, &mut replies, &Swaps { digits });
-    let (cause, shown) = match replies.as_slice() {
-        [reply] => (reply.refusal(), blocks_in(reply)),
-        _ => (ran.err(), 0),
-    };
+    let (cause, shown) = run_single(ledger, list, command, digits, refused)?;
     let grown = u64::from(list.capacity() != capacity && list.has_capacity());
     let done = grown
         .wrapping_add(shown)
         .wrapping_add(ledger.clones.get())
         .wrapping_add(1);
     let due = if is_filling { None } else { Some(done) };
-    drop(replies);
     Ok(
-        is_due(cause, alloc.requests(), refused, due)
+        is_due(cause, ledger.alloc.requests(), refused, due)
             && is_clean::<T>(ledger, list.len(), list.capacity()),
     )
 }
@@ -205,6 +217,24 @@ struct Tally {
     refusals: usize,
 }
 
+// Executes a random command. Returns whether it is right, and how many requests of it are to be
+// refused: none or one.
+fn random_command<T: Numbered, G: Growth>(
+    dice: &mut Dice,
+    ledger: &'static Ledger,
+    list: &mut List<T, G>,
+) -> Result<(bool, usize), AllocError> {
+    ledger.begin(0);
+    let command = dice.command(ledger, list.len())?;
+    let refused = [0, 0, 1, 2, 3, 4, 5, 9]
+        .get(dice.below(8))
+        .copied()
+        .unwrap_or(0);
+    let digits = dice.state >> 20;
+    let right = is_right(ledger, list, command, digits, refused)?;
+    Ok((right, refused.min(1) as usize))
+}
+
 // Executes up to 30 random commands, and counts them. Returns `None` if one of them is not right.
 fn random_run<T: Numbered, G: Growth>(
     ledger: &'static Ledger,
@@ -215,17 +245,11 @@ fn random_run<T: Numbered, G: Growth>(
     let commands = dice.below(31);
     let mut refusals: usize = 0;
     for _ in 0..commands {
-        ledger.begin(0);
-        let command = dice.command(ledger, list.len())?;
-        let refused = [0, 0, 1, 2, 3, 4, 5, 9]
-            .get(dice.below(8))
-            .copied()
-            .unwrap_or(0);
-        let digits = dice.state >> 20;
-        refusals = refusals.saturating_add(refused.min(1) as usize);
-        if !is_right(ledger, &mut list, command, digits, refused)? {
+        let (right, refused) = random_command(&mut dice, ledger, &mut list)?;
+        if !right {
             return Ok(None);
         }
+        refusals = refusals.saturating_add(refused);
     }
     drop(list);
     let tally = Tally { commands, refusals };

@@ -299,15 +299,16 @@ fn last_text<R: Abort>(rt: &R, alloc: Global, ran: Ran<Item>) -> Result<String, 
         requests: _,
         mut replies,
     } = ran;
-    let text = match cause {
-        Some(cause) => format!(in alloc; "no room: {cause:?}")?,
-        None => match replies.pop() {
-            Some(reply) => reply_text(alloc, reply)?,
-            None => String::new(alloc),
-        },
-    };
+    let last = if cause.is_some() { None } else { replies.pop() };
     assert!(rt; matches!(replies.as_slice(), [Reply::Item(None)]));
-    Ok(text)
+    drop(replies);
+    if let Some(cause) = cause {
+        return format!(in alloc; "no room: {cause:?}");
+    }
+    match last {
+        Some(reply) => reply_text(alloc, reply),
+        None => Ok(String::new(alloc)),
+    }
 }
 
 // Executes the command of a line with its first request refused, and asserts the outcome.

@@ -22,6 +22,15 @@ fn run_makes_no_request_without_commands(rt: HostRuntime) -> Result<(), Fail> {
     Ok(())
 }
 
+// Returns commands that pop an item.
+fn pops<A: Allocator>(alloc: A, count: usize) -> Result<Vec<Command<i32, A>, A>, Fail> {
+    let mut commands = Vec::with_capacity(alloc, count)?;
+    for _ in 0..count {
+        commands.push(Command::Pop).ok().ok_or("room")?;
+    }
+    Ok(commands)
+}
+
 #[test]
 fn run_makes_no_request_if_there_is_room_for_its_replies(rt: HostRuntime) -> Result<(), Fail> {
     let refusing = Refusing::leaked(rt.alloc(), 0)?;
@@ -29,10 +38,7 @@ fn run_makes_no_request_if_there_is_room_for_its_replies(rt: HostRuntime) -> Res
     for count in [1, 2, 9] {
         refusing.refuse(0);
         let mut replies = Vec::with_capacity(refusing, 9)?;
-        let mut commands = Vec::with_capacity(refusing, count)?;
-        for _ in 0..count {
-            commands.push(Command::Pop).ok().ok_or("room")?;
-        }
+        let commands = pops(refusing, count)?;
         refusing.refuse(1);
         let ran = run(refusing, &mut list, commands, &mut replies, &NEVER);
         let found = (ran, refusing.requests(), replies.len());
@@ -59,15 +65,24 @@ fn nth_command<A: Allocator + Copy>(number: u32, alloc: A) -> Result<Command<i32
     })
 }
 
+// Executes a command on a list over `own` by `step`, to which it passes `other`.
+fn reply_on(
+    own: &'static Refusing<Global>,
+    other: &'static Refusing<Global>,
+    number: u32,
+) -> Result<Reply<i32, &'static Refusing<Global>>, Fail> {
+    let mut list = list_of(own, &[1, 2, 3])?;
+    let command = nth_command(number, own)?;
+    own.refuse(0);
+    Ok(step(other, &mut list, command, &NEVER))
+}
+
 #[test]
 fn a_reply_uses_the_allocator_passed(rt: HostRuntime) -> Result<(), Fail> {
     let own = Refusing::leaked(rt.alloc(), 0)?;
     let other = Refusing::leaked(rt.alloc(), 0)?;
     for number in 0..5 {
-        let mut list = list_of(own, &[1, 2, 3])?;
-        let command = nth_command(number, own)?;
-        own.refuse(0);
-        let reply = step(other, &mut list, command, &NEVER);
+        let reply = reply_on(own, other, number)?;
         let found = (number, own.requests(), other.blocks());
         check!(rt; same(found, (number, 0, 1)));
         drop(reply);

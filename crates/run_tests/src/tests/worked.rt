@@ -164,20 +164,22 @@ fn six_commands_with_each_request_refused(rt: HostRuntime) -> Result<(), Fail> {
     Ok(())
 }
 
-// Executes one command by `step`, or by a `run` of its own. Returns the reply.
-fn single<T: Numbered, J: Judge<T>, R: Abort>(
+// Executes one command by `step`, or by a `run` of its own. Returns the text of the reply.
+fn single<J: Judge<Item>, R: Abort>(
     rt: &R,
     ledger: &'static Ledger,
-    list: &mut List<T>,
-    command: Asked<T>,
+    list: &mut List<Item>,
+    command: Asked<Item>,
     judge: &J,
     is_step: bool,
-) -> Option<Told<T>> {
+) -> Result<String, AllocError> {
     if is_step {
-        return Some(step(&ledger.alloc, list, command, judge));
+        let reply = step(&ledger.alloc, list, command, judge);
+        return reply_text(ledger.global, reply);
     }
     let mut ran = run_single(rt, ledger, list, command, judge, 0);
-    ran.replies.pop()
+    let reply = ran.replies.pop().expect(rt, "a reply");
+    reply_text(ledger.global, reply)
 }
 
 // Executes one command by itself, and asserts that the reply and the list have the given texts.
@@ -190,8 +192,7 @@ fn assert_single<J: Judge<Item>, R: Abort>(
     is_step: bool,
     texts: (&str, &str),
 ) -> Result<(), AllocError> {
-    let reply = single(rt, ledger, list, command, judge, is_step).expect(rt, "a reply");
-    let reply = reply_text(ledger.global, reply)?;
+    let reply = single(rt, ledger, list, command, judge, is_step)?;
     let left = list_text(ledger.global, list)?;
     check!(rt; same((reply.as_str(), left.as_str()), texts));
     Ok(())
