@@ -5,12 +5,12 @@ ghost use Rattle.std.specs.Prelude.{◌==◌, ◌≤◌, length};
 
 use crate::asserts::{assert_range, assert_same};
 use crate::sweep::Calls;
-use std::alloc::Allocator;
+use std::alloc::{Allocator, Global};
 use std::cell::Cell;
 use std::mem;
 use std::process::Abort;
 use std::rc::Rc;
-use thin_testing::{Answer, Case, Due, Numbered, Pattern};
+use thin_testing::{Answer, At, Case, Due, Numbered, Pattern};
 use thin_vec::{Growth, ThinVec};
 
 /// Calls that remove the items that a closure, or a comparison, chooses.
@@ -130,35 +130,39 @@ impl PartialEq for Key {
 // Two calls make the keys of two neighbours, first that of the later item, and then the keys are
 // compared once. The key of a kept item is 0, and the later item is removed if its key is 0.
 fn dedup_by_key<T: Numbered, G: Growth, R: Abort>(rt: &R, case: &mut Case<T, G>) -> Answer {
-    let pattern = case.at.pattern();
-    let calls = Rc::new(case.ledger.global, Cell::new(0))
-        .ok()
-        .expect(rt, "memory");
+    let calls = no_calls(rt, case.ledger.global);
     let counter = calls.clone().expect(rt, "memory");
     case.begin("dedup_by_key");
-    case.list.dedup_by_key(move |_item| {
+    dedup_counted(&mut case.list, case.at.pattern(), counter);
+    let due = (case.at.length as u64).saturating_sub(1).saturating_mul(3);
+    assert_calls(rt, case.at, &calls, due);
+    Ok(Due::NOTHING)
+}
+
+// Passes to `dedup_by_key` a closure that owns the counter.
+fn dedup_counted<T: Numbered, A: Allocator, G: Growth>(
+    list: &mut ThinVec<T, A, G>,
+    pattern: Pattern,
+    counter: Rc<Cell<u64>>,
+) {
+    list.dedup_by_key(move |_item| {
         let call = next_call(&counter);
         Key {
             number: u64::from(call % 3 == 0 && pattern.keeps(call / 3)),
             counter: counter.clone().ok(),
         }
     });
-    let due = (case.at.length as u64).saturating_sub(1).saturating_mul(3);
-    assert_same(
-        rt,
-        case.at,
-        "calls and comparisons",
-        calls.as_ref().get(),
-        due,
-    );
-    assert_same(
-        rt,
-        case.at,
-        "owners of the counter",
-        Rc::strong_count(&calls),
-        1,
-    );
-    Ok(Due::NOTHING)
+}
+
+// Makes a counter of calls.
+fn no_calls<R: Abort>(rt: &R, alloc: Global) -> Rc<Cell<u64>> {
+    Rc::new(alloc, Cell::new(0)).ok().expect(rt, "memory")
+}
+
+// Asserts that the counter has no other owner, and that it has counted `due` calls.
+fn assert_calls<R: Abort>(rt: &R, at: At, calls: &Rc<Cell<u64>>, due: u64) {
+    let found = (Rc::strong_count(calls), calls.as_ref().get());
+    assert_same(rt, at, "owners of the counter; calls", found, (1, due));
 }
 
 // Counts a call, and returns the number of earlier calls.
@@ -173,26 +177,16 @@ fn next_call(counter: &Rc<Cell<u64>>) -> u64 {
 // closure is dropped.
 fn extract_if<T: Numbered, G: Growth, R: Abort>(rt: &R, case: &mut Case<T, G>) -> Answer {
     let (start, end) = case.range();
-    let pattern = case.at.pattern();
     let width = end.saturating_sub(start);
     let choices = [width / 8, width.saturating_add(1), 2, 1, 0, width];
     let wanted = choices[case.choice() % 6];
-    let calls = Rc::new(case.ledger.global, Cell::new(0))
-        .ok()
-        .expect(rt, "memory");
+    let calls = no_calls(rt, case.ledger.global);
     let counter = calls.clone().expect(rt, "memory");
     case.begin("extract_if");
     assert_range(rt, start, end, case.list.len());
+    let pattern = case.at.pattern();
     extract(&mut case.list, (start, end, wanted), pattern, counter);
-    assert_same(
-        rt,
-        case.at,
-        "owners of the counter",
-        Rc::strong_count(&calls),
-        1,
-    );
-    let asked = asked(pattern, width, wanted);
-    assert_same(rt, case.at, "calls", calls.as_ref().get(), asked);
+    assert_calls(rt, case.at, &calls, asked(pattern, width, wanted));
     Ok(Due::NOTHING)
 }
 

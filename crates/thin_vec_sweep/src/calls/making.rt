@@ -4,7 +4,7 @@ use crate::sweep::Calls;
 use std::default::{Emptied, MadeWith};
 use std::process::Abort;
 use thin_testing::{Answer, Case, Due, List, Numbered};
-use thin_vec::{Doubling, ThinVec, thin_vec};
+use thin_vec::{Doubling, ThinVec, ThinVecError, thin_vec};
 
 /// Calls that make a list.
 pub struct Making {}
@@ -33,18 +33,22 @@ impl<T: Numbered> Calls<T, Doubling> for Making {
 }
 
 fn make_empty<T: Numbered, R: Abort>(rt: &R, case: &mut Case<T, Doubling>) -> Answer {
-    let alloc = &case.ledger.alloc;
     case.begin("new, default_in, made_with, emptied, thin_vec![a =>], thin_vec![in a]");
-    let list: List<T, Doubling> = match case.at.argument % 6 {
+    let list = empty_list(case)?;
+    assert_same(rt, case.at, "capacity of an empty list", list.capacity(), 0);
+    Ok(Due::NOTHING)
+}
+
+fn empty_list<T: Numbered>(case: &Case<T, Doubling>) -> Result<List<T, Doubling>, ThinVecError> {
+    let alloc = &case.ledger.alloc;
+    Ok(match case.at.argument % 6 {
         0 => ThinVec::new(alloc),
         1 => ThinVec::default_in(alloc),
         2 => MadeWith::made_with(alloc),
         3 => Emptied::emptied(&case.list)?,
         4 => thin_vec![in alloc]?,
         _ => thin_vec![alloc =>]?,
-    };
-    assert_same(rt, case.at, "capacity of an empty list", list.capacity(), 0);
-    Ok(Due::NOTHING)
+    })
 }
 
 fn repeat<T: Numbered>(case: &mut Case<T, Doubling>) -> Answer {

@@ -75,37 +75,36 @@ fn compare<T: Numbered, G: Growth, R: Abort>(rt: &R, case: &mut Case<T, G>) -> A
     let is_longer = argument == 4;
     let length = case.at.length.saturating_add(usize::from(is_longer));
     let mut other = case.other(length, 1)?;
-    let mut has_other_item = false;
     let index = if argument == 1 {
         case.index()
     } else {
         length.saturating_sub(1)
     };
-    if argument > 0
-        && let Some(place) = other.get_mut(index)
-    {
-        let item = case.item();
-        has_other_item = *place != item;
-        *place = item;
-    }
+    let has_other_item = argument > 0 && differs_after_write(case, &mut other, index);
     case.begin("==");
     let is_equal = case.list == other;
-    assert_same(
-        rt,
-        case.at,
-        "is equal",
-        is_equal,
-        !has_other_item && !is_longer,
-    );
-    if is_longer {
-        return Ok(Due::NOTHING);
-    }
-    let compared = if has_other_item {
-        index.saturating_add(1)
-    } else {
-        length
+    let is_due = !has_other_item && !is_longer;
+    assert_same(rt, case.at, "is equal", is_equal, is_due);
+    Ok(match (is_longer, has_other_item) {
+        (true, _) => Due::NOTHING,
+        (false, true) => Due::comparisons(index.saturating_add(1)),
+        (false, false) => Due::comparisons(length),
+    })
+}
+
+// Writes a new item to the list if it has the index, and returns whether the old item differed.
+fn differs_after_write<T: Numbered, G: Growth>(
+    case: &Case<T, G>,
+    list: &mut List<T, G>,
+    index: usize,
+) -> bool {
+    let Some(place) = list.get_mut(index) else {
+        return false;
     };
-    Ok(Due::comparisons(compared))
+    let item = case.item();
+    let differs = *place != item;
+    *place = item;
+    differs
 }
 
 fn write<T: Numbered, G: Growth, R: Abort>(rt: &R, case: &mut Case<T, G>) -> Option<Answer> {
@@ -166,42 +165,67 @@ impl<T: Numbered + Ord, G: Growth> Calls<T, G> for Comparing {
     // differ without a comparison.
     fn call<R: Abort>(rt: &R, case: &mut Case<T, G>, call: usize) -> Option<Answer> {
         let (length, argument) = (case.at.length, case.at.argument % 5);
-        let other_length = match argument {
-            3 => length / 2,
-            4 => length.saturating_mul(2).saturating_add(3),
-            _ => length,
-        };
-        let mut other = case.other(other_length, 0).expect(rt, "memory");
-        let index = match argument {
-            1 => 0,
-            2 => length.saturating_sub(1),
-            _ => other_length,
-        };
-        if let Some(place) = other.get_mut(index) {
-            *place = case.item();
-        }
-        // The other item has the number 200, and those of the list count from 0.
-        let wanted = match argument {
-            2 if length > 201 => Ordering::Greater,
-            1 | 2 if length > 0 => Ordering::Less,
-            3 if length > 0 => Ordering::Greater,
-            4 => Ordering::Less,
-            _ => Ordering::Equal,
-        };
+        let other = other_list(rt, case, argument);
+        let wanted = wanted_order(length, argument);
         case.begin("cmp, partial_cmp, ==");
-        let is_right = match call {
-            0 => case.list.cmp(&other) == wanted,
-            1 => case.list.partial_cmp(&other) == Some(wanted),
-            2 => (case.list == other) == (wanted == Ordering::Equal),
-            _ => return None,
-        };
+        let is_right = has_order(&case.list, &other, wanted, call)?;
         assert_same(rt, case.at, "order", is_right, true);
-        drop(other);
         let compared = match argument {
             1 => length.min(1),
-            3 | 4 if call > 1 && length != other_length => 0,
-            _ => length.min(other_length),
+            3 | 4 if call > 1 && length != other.len() => 0,
+            _ => length.min(other.len()),
         };
         Some(Ok(Due::comparisons(compared)))
     }
+}
+
+// Makes the list with which the list of the case is compared.
+fn other_list<T: Numbered, G: Growth, R: Abort>(
+    rt: &R,
+    case: &Case<T, G>,
+    argument: usize,
+) -> List<T, G> {
+    let length = case.at.length;
+    let other_length = match argument {
+        3 => length / 2,
+        4 => length.saturating_mul(2).saturating_add(3),
+        _ => length,
+    };
+    let index = match argument {
+        1 => 0,
+        2 => length.saturating_sub(1),
+        _ => other_length,
+    };
+    let mut other = case.other(other_length, 0).expect(rt, "memory");
+    if let Some(place) = other.get_mut(index) {
+        *place = case.item();
+    }
+    other
+}
+
+// Returns the order of a list of `length` items and the other list. The item in which they differ
+// has the number 200 in the other list, and the items of the list count from 0.
+fn wanted_order(length: usize, argument: usize) -> Ordering {
+    match argument {
+        2 if length > 201 => Ordering::Greater,
+        1 | 2 if length > 0 => Ordering::Less,
+        3 if length > 0 => Ordering::Greater,
+        4 => Ordering::Less,
+        _ => Ordering::Equal,
+    }
+}
+
+// Returns whether the call finds the wanted order, or `None` if no call has this number.
+fn has_order<T: Numbered + Ord, G: Growth>(
+    list: &List<T, G>,
+    other: &List<T, G>,
+    wanted: Ordering,
+    call: usize,
+) -> Option<bool> {
+    Some(match call {
+        0 => list.cmp(other) == wanted,
+        1 => list.partial_cmp(other) == Some(wanted),
+        2 => (*list == *other) == (wanted == Ordering::Equal),
+        _ => return None,
+    })
 }

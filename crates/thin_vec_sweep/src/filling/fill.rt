@@ -418,6 +418,19 @@ fn fill<F: Fills<T, G>, T: Numbered, G: Ruled, R: Abort>(
 ) -> u64 {
     let count = COUNTS[at.argument / HINTS % COUNTS.len()];
     let source = nth_source::<T>(at, at.argument % HINTS, count);
+    let due = due::<F, T, G>(at, source);
+    if due.is_too_much::<T>() {
+        return 1;
+    }
+    let mut case: Case<T, G> = Case::new(ledger, at).expect(rt, "memory");
+    let cause = F::fill(rt, &mut case, source, &due);
+    check_filling(rt, &case, (at.length, at.length), cause, &due);
+    assert_right(rt, case.end());
+    due.requests
+}
+
+// Returns what the call has to do.
+fn due<F: Fills<T, G>, T: Numbered, G: Ruled>(at: At, source: Source) -> Filling {
     let mut due = Filling::new(at.length.saturating_add(at.spare), at.refused);
     let hinted = if F::IS_MAKING {
         fitting::<T>(source.lower)
@@ -429,14 +442,7 @@ fn fill<F: Fills<T, G>, T: Numbered, G: Ruled, R: Abort>(
         due.capacity = 0;
         due.placed = 0;
     }
-    if due.is_too_much::<T>() {
-        return 1;
-    }
-    let mut case: Case<T, G> = Case::new(ledger, at).expect(rt, "memory");
-    let cause = F::fill(rt, &mut case, source, &due);
-    check_filling(rt, &case, (at.length, at.length), cause, &due);
-    assert_right(rt, case.end());
-    due.requests
+    due
 }
 
 // Counts items with consecutive numbers.
@@ -552,9 +558,14 @@ pub fn check_filling<T: Numbered, G: Ruled, R: Abort>(
         done,
         wanted,
     );
-    let lent = ledger.alloc.lent();
-    assert_same(rt, case.at, "bytes requested", lent, due.bytes);
-    assert_same(rt, case.at, "clones", ledger.clones.get(), 0);
+    let counted = (ledger.alloc.lent(), ledger.clones.get());
+    assert_same(
+        rt,
+        case.at,
+        "bytes requested, clones",
+        counted,
+        (due.bytes, 0),
+    );
     check_items(rt, case, range, due.placed);
     assert_right(rt, case.check_live(case.list.len(), case.list.capacity()));
 }

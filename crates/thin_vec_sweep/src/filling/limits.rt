@@ -2,7 +2,7 @@
 use crate::asserts::assert_right;
 use std::process::Abort;
 use thin_testing::{At, Case, Ledger, List, Numbered, Ruled};
-use thin_vec::{Doubling, ThinVec, ThinVecError};
+use thin_vec::{Doubling, Growth, ThinVec, ThinVecError};
 
 // The calls that are tried.
 #[derive(Clone, Copy, Debug)]
@@ -69,24 +69,38 @@ fn limit<T: Numbered, G: Ruled, R: Abort>(
         refused,
     };
     let mut case: Case<T, G> = Case::new(ledger, at).expect(rt, "memory");
-    let additional = capacity.saturating_sub(length);
     case.begin("with_capacity, reserve, reserve_exact, resize, resize_with");
-    let answer = match call {
-        Call::WithCapacity => made::<T>(ledger, capacity),
-        Call::Reserve => case.list.reserve(additional),
-        Call::ReserveExact => case.list.reserve_exact(additional),
-        Call::Resize => case.list.resize(capacity, T::numbered(ledger, 7)),
-        Call::ResizeWith => {
-            let token = case.token();
-            case.list.resize_with(capacity, move || {
-                let _token = &token;
-                T::numbered(ledger, 7)
-            })
-        }
-    };
+    let answer = make_call(&mut case, call, capacity);
     let requests = ledger.alloc.requests();
     assert_right(rt, case.end());
     (answer, requests)
+}
+
+// Makes a call that needs the given capacity.
+fn make_call<T: Numbered, G: Growth>(
+    case: &mut Case<T, G>,
+    call: Call,
+    capacity: usize,
+) -> Result<(), ThinVecError> {
+    let additional = capacity.saturating_sub(case.at.length);
+    match call {
+        Call::WithCapacity => made::<T>(case.ledger, capacity),
+        Call::Reserve => case.list.reserve(additional),
+        Call::ReserveExact => case.list.reserve_exact(additional),
+        Call::Resize => case.list.resize(capacity, T::numbered(case.ledger, 7)),
+        Call::ResizeWith => resize_with(case, capacity),
+    }
+}
+
+fn resize_with<T: Numbered, G: Growth>(
+    case: &mut Case<T, G>,
+    len: usize,
+) -> Result<(), ThinVecError> {
+    let (ledger, token) = (case.ledger, case.token());
+    case.list.resize_with(len, move || {
+        let _token = &token;
+        T::numbered(ledger, 7)
+    })
 }
 
 /// Asserts that a list of bytes gets room for each power of two up to 2^27 by one request.

@@ -9,7 +9,7 @@ use std::alloc::Allocator;
 use std::iter::Iterator;
 use std::process::Abort;
 use thin_testing::{At, Case, Ledger, Numbered, Ruled};
-use thin_vec::{Growth, Splice, SpliceRefused, ThinVec};
+use thin_vec::{Growth, Splice, SpliceRefused, ThinVec, ThinVecError};
 
 // The number of choices for the number of new items.
 const NEW: usize = 12;
@@ -150,42 +150,51 @@ fn each_refusal<T: Numbered, G: Ruled, R: Abort>(rt: &R, ledger: &'static Ledger
 #[inline(never)]
 fn splice_case<T: Numbered, G: Ruled, R: Abort>(rt: &R, ledger: &'static Ledger, at: At) -> u64 {
     let mut case: Case<T, G> = Case::new(ledger, at).expect(rt, "memory");
-    let (start, end) = case.range();
-    let number = case.choice();
-    let width = end.saturating_sub(start);
-    let count = count(number / HINTS % NEW, width, at.length > 50);
-    let source = nth_source::<T>(at, number % HINTS, count);
-    let due = due(&case, (start, end), source);
+    let range = case.range();
+    let source = chosen_source(&case, range);
+    let due = due(&case, range, source);
     if due.is_too_much::<T>() {
         assert_right(rt, case.end());
         return 1;
     }
-    let claims = source.claims(rt, ledger);
-    case.begin("splice");
-    assert_range(rt, start, end, case.list.len());
-    let answer = splice(
-        &mut case.list,
-        (start, end),
-        at.argument % WALKS,
-        claims,
-        &ledger.alloc,
-    );
-    let cause = match answer {
-        Ok(()) => None,
-        Err(refused) => {
-            let SpliceRefused {
-                cause,
-                held,
-                in_hand,
-                rest,
-            } = refused;
-            check_left(rt, &case, source, &due, held.as_slice(), in_hand, rest);
-            Some(cause)
-        }
-    };
-    check_filling(rt, &case, (start, end), cause, &due);
+    let cause = splice_failure(rt, &mut case, range, source, &due);
+    check_filling(rt, &case, range, cause, &due);
     assert_right(rt, case.end());
     due.requests
+}
+
+// Returns the iterator over the new items, which the argument of the case chooses.
+fn chosen_source<T: Numbered, G: Growth>(case: &Case<T, G>, range: (usize, usize)) -> Source {
+    let number = case.choice();
+    let width = range.1.saturating_sub(range.0);
+    let count = count(number / HINTS % NEW, width, case.at.length > 50);
+    nth_source::<T>(case.at, number % HINTS, count)
+}
+
+// Makes the splice. If it fails, checks what its error holds, and returns the cause.
+fn splice_failure<T: Numbered, G: Growth, R: Abort>(
+    rt: &R,
+    case: &mut Case<T, G>,
+    range: (usize, usize),
+    source: Source,
+    due: &Filling,
+) -> Option<ThinVecError> {
+    let claims = source.claims(rt, case.ledger);
+    let walk = case.at.argument % WALKS;
+    case.begin("splice");
+    assert_range(rt, range.0, range.1, case.list.len());
+    let answer = splice(&mut case.list, range, walk, claims, &case.ledger.alloc);
+    let Err(refused) = answer else {
+        return None;
+    };
+    let SpliceRefused {
+        cause,
+        held,
+        in_hand,
+        rest,
+    } = refused;
+    check_left(rt, case, source, due, held.as_slice(), in_hand, rest);
+    Some(cause)
 }
 
 // Makes a `Splice`, takes some items of the range, and calls `finish`.
