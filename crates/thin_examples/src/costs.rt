@@ -216,16 +216,16 @@ pub fn edited_by_run<A: Allocator + Copy>(
     requires empty { list.old.items ≡ [] }
     ensures fourteen_moves { OnOk result (list.new.cost.moves ≤ list.old.cost.moves + 14) }
 {
+    let mut commands = Vec::new(alloc);
     let six = Vec::from_array(alloc, [1, 2, 3, 4, 5, 6])?;
+    add(&mut commands, Command::Extend(six, 6))?;
     let front = Vec::from_array(alloc, [Step::Front])?;
     let nine = Vec::from_array(alloc, [9])?;
-    let no_steps = Vec::new(alloc);
-    let seven = Vec::from_array(alloc, [7])?;
-    let mut commands = Vec::new(alloc);
-    add(&mut commands, Command::Extend(six, 6))?;
     add(&mut commands, Command::Splice(1, 3, front, nine, 1))?;
     add(&mut commands, Command::ExtractIf(0, 5, 2))?;
     add(&mut commands, Command::SplitOff(3))?;
+    let no_steps = Vec::new(alloc);
+    let seven = Vec::from_array(alloc, [7])?;
     add(&mut commands, Command::Splice(2, 1, no_steps, seven, 1))?;
     add(&mut commands, Command::Pop)?;
     let mut replies = Vec::new(alloc);
