@@ -138,6 +138,17 @@ class FromVec(ToolTest):
         line = "src/lib.rt: String::from_utf8(text)"
         self.assertEqual(left, f"{line}\n    `text.into_vec(alloc)?`\n")
 
+    def test_a_vec_of_another_crate(self):
+        text, _ = self.moved("≡ vec_len self.old.kept", "≡ vec_len other.old.names")
+        self.assertIn("{ length self.new.kept.items ≡ vec_len other.old.names }", text)
+        self.assertIn("{ count ≤ length self.old.kept.items }", text)
+        self.assertIn("Prelude.{◌≡◌, ◌++◌, ◌≤◌, [], IfOk, OnOk, length, vec_len};", text)
+        answers = "proofs/Readings/count/Answers.antt"
+        old, new = "c.len.ensures ∙ c.args.self.now.kept.ok.0", "c.args.other.now.names.ok.0"
+        text, left = self.moved(old, new, answers)
+        self.assertTrue(text.endswith(f"returns c = {new}\n"), text)
+        self.assertEqual(left, "")
+
     def test_a_length_after_a_write(self):
         loops = "'rows: for i in 0..9 {\n    for j in x {\n        %s\n    }\n}"
         invariants = (
