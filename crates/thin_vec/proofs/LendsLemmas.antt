@@ -1,6 +1,6 @@
 -- These lemmas state which items a list contains after a write through a mutable borrow of its
 -- items.
-use Rattle.std.proofs.Common.{◌≡◌, ℕ, zero, suc, ◌-◌, ◌<◌, List, [], ◌∷◌, ◌++◌, length, Some, ap, arith, refl, sym, ◌∙◌}
+use Rattle.std.proofs.Common.{◌≡◌, ℕ, zero, suc, ◌-◌, ◌<◌, List, [], ◌∷◌, ◌++◌, drop, length, Some, ap, arith, refl, sym, ◌∙◌}
 use Rattle.std.proofs.Math.Seq.{take-length}
 use lib.ListN.{set, length-set}
 use Rattle.thin_block.specs.Cost.{Cost}
@@ -8,8 +8,9 @@ use Rattle.thin_block.specs.Lends.{overwrite_items, set_slot as block_with_item,
 use Rattle.thin_block.specs.Slots.{empty_slots, filled_slots, items_in}
 use Rattle.thin_block.specs.declared.block.Block.{Block}
 use Rattle.std.specs.List.{length_refill, refill}
+use Rattle.std.proofs.lemmas.List.{take_at}
 use Rattle.thin_vec.specs.Lends.{with_item, with_items}
-use Rattle.thin_vec.specs.ThinVec.{IsListBlock, list_view}
+use Rattle.thin_vec.specs.ThinVec.{IsListBlock, ListView, list_view}
 use Rattle.thin_vec.proofs.list.InsertRemoveLemmas.{full-set}
 use Rattle.thin_vec.proofs.ListLemmas.{IsWritten, RestoresInvariant, restores-front, thin-room}
 
@@ -62,3 +63,11 @@ module _ {T A : Type 0} where
   view-with_item b a i w t within =
       let f = restores-set t (block_with_item b i w) i w within refl in
       λ k. record { items = f.items k; capacity = f.cap k; alloc = a; cost = b.cost }
+
+-- The slice `ys` is as long as the list `v`.
+module _ {T A : Type 0} (v : ListView T A) (ys : List T) (same : length ys ≡ length v.items) where
+  pub all-replaced : (with_items v ys).items ≡ ys
+  all-replaced = take_at ys (drop (length ys) v.items) (length v.items) same
+
+  pub none-replaced : ys ≡ v.items → with_items v ys ≡ v
+  none-replaced is = λ i. record v { items = (all-replaced ∙ is) i }
