@@ -6,7 +6,7 @@ use Rattle.std.proofs.lemmas.List.{append-nil, drop-drop, drop_at, length-take-l
 use Rattle.thin_block.specs.Cost.{add_moves}
 use Rattle.thin_vec.specs.Edits.Retain.{TestResults, flags_of, items_where, moves_of_retain, all_kept, count_true}
 use Rattle.thin_vec.specs.OpenView.{OpenView}
-use Rattle.thin_vec.specs.OpenBlock.Retain.{SeeksRemoved, TestsAt, RetainsMiddle, TestsUpTo, RetainsSome, TestsInTurn}
+use Rattle.thin_vec.specs.OpenBlock.Retain.{IsRemovedFirst, SeeksRemoved, TestsAt, RetainsMiddle, TestsUpTo, RetainsSome, TestsInTurn}
 use Rattle.thin_vec.proofs.RetainLemmas.{items_where-append, items_where-stay, moves_of_retain-stay, moving-after, moving-more, moving-none, count_true-append, count_true-stay}
 use Rattle.thin_vec.proofs.open_block.TestLemmas.{Part, Stays, asked-append, part-ends, part-goes, stays-goes, stays-more, stays-start}
 
@@ -59,6 +59,36 @@ module _ {S T : Type 0} (R : S → T → Bool → S → T → Type 0) where
         (part-ends R h.count s v.middle t h.left h.run (sym (ap (λ u. u.middle) h.now) ∙ none)))
         (omega (arith, ap (λ u. u.gap_before) h.now, gap_before))
         (λ i. record (h.now i) { gap_before = w.gap_before; middle = w.middle; cost = moved i })
+
+  -- A test changes no length, and a search only moves items from the middle to the front.
+  pub length-tested : {k : ℕ} {s t : S} {b : Bool} {xs ys : List T} → TestsAt R k s xs b t ys
+      → length ys ≡ length xs
+  length-tested a = omega (
+    arith,
+    ap length a.was,
+    ap length a.now,
+    length-append a.before (a.item ∷ a.after),
+    length-append a.before (a.left ∷ a.after),
+  )
+
+  length-stops : (s : S) (xs : List T) (t : S) (ys : List T) → IsRemovedFirst R s xs t ys
+      → length ys ≡ length xs
+  length-stops s [] t ys h = ap length h.0
+  length-stops s (x ∷ xs) t ys h = ap length h.2
+
+  pub length-sought : {A : Type 0} {s t : S} {v w : OpenView T A} → SeeksRemoved R s v t w
+      → length w.middle ≤ length v.middle
+  length-sought {t = t} h =
+      let r = h.run in
+      omega (
+        arith,
+        ap (λ u. length u.middle) h.now,
+        ap (λ (l : List T). length (drop h.count l)) r.now,
+        ap length (drop_at r.left r.end h.count r.reached),
+        length-stops r.between r.after t r.end r.stops,
+        ap length r.was,
+        length-append r.run r.after,
+      )
 
   asked-later : (n : ℕ) (t : S) (ys : List T) (b : Bool) (u : S) (zs : List T) → n ≤ length ys
       → TestsAt R 0 t (drop n ys) b u zs → TestsAt R n t ys b u (take n ys ++ zs)

@@ -1,11 +1,10 @@
 -- The items before the first item to be removed are kept, and stay in their slots. If there is an
 -- item to be removed, `retain_middle` drops this item, and a loop tests the items after it.
-use Rattle.std.proofs.Common.{◌≡◌, [], ap, sym, ◌∙◌, arith, length, rules}
-use Rattle.std.proofs.lemmas.Grind.{common_steps}
+use Rattle.std.proofs.Common.{◌≡◌, [], ap, sym, ◌∙◌, arith, length, length-drop, rules}
 use Rattle.std.proofs.lemmas.List.{nil_from_length}
 use Rattle.std.proofs.lemmas.Bool.{false≢true}
 use Rattle.thin_vec.proofs.RetainLemmas.{none-left}
-use Rattle.thin_vec.proofs.open_block.RetainMiddleLemmas.{advanced-ends, advanced-goes, keeps-goes, keeps-more, keeps-retains, keeps-start, retained-ends, retained-goes, retains-start, retains-then}
+use Rattle.thin_vec.proofs.open_block.RetainMiddleLemmas.{advanced-ends, advanced-goes, keeps-goes, keeps-more, keeps-retains, keeps-start, length-sought, length-tested, retained-ends, retained-goes, retains-start, retains-then}
 use Rattle.thin_vec.proofs.open_block.OpenBlock.retain_middle.Goals as goal
 
 pub loop-self-init : goal.loop-self-init
@@ -54,7 +53,7 @@ loop-self-preserved-then-test g c =
           (keeps-more g.J.Test.tests l.test l.self l.test l.self
           (keeps-start g.J.Test.tests l.test l.self) c.test.result
           c.test.new.test c.test.new.self.middle c.test.ensures.tested c.test.new.self
-          c.test.ensures.changes (search rules) c.move_one_down.new.self c.move_one_down.ensures)
+          c.test.ensures.changes c.if-test.true c.move_one_down.new.self c.move_one_down.ensures)
           l.invariant.retains.gap_before);
       ready = c.test.ensures.callable;
     }
@@ -70,16 +69,50 @@ loop-self-preserved g c =
           (keeps-goes g.J.Test.tests l.test l.self l.test l.self
           (keeps-start g.J.Test.tests l.test l.self) c.test.result
           c.test.new.test c.test.new.self.middle c.test.ensures.tested c.test.new.self
-          c.test.ensures.changes (search rules) l.invariant.retains.gap_before)
+          c.test.ensures.changes c.if-test.false l.invariant.retains.gap_before)
           c.take_first-else-test.result c.take_first-else-test.new.self
           c.take_first-else-test.ensures.middle c.take_first-else-test.ensures.changes);
       ready = c.test.ensures.callable;
     }
 
+-- Each iteration takes an item from the middle, or finds that none of its items is to be removed.
+pub loop-self-smaller-then-seek_removed : goal.loop-self-smaller-then-seek_removed
+loop-self-smaller-then-seek_removed g c =
+    omega (
+      arith,
+      length-sought g.J.Test.tests c.seek_removed.ensures.tested,
+      ap length c.take_first-then-seek_removed.ensures.middle,
+    )
+
+pub loop-self-smaller-else-seek_removed : goal.loop-self-smaller-else-seek_removed
+loop-self-smaller-else-seek_removed g c =
+    omega (
+      arith,
+      ap length (none-left c.seek_removed.new.self.middle (λ some. false≢true
+          (sym c.if-seek_removed.false ∙ c.seek_removed.ensures.value.1 some))),
+    )
+
+pub loop-self-smaller-then-test : goal.loop-self-smaller-then-test
+loop-self-smaller-then-test g c =
+    omega (
+      arith,
+      length-tested g.J.Test.tests c.test.ensures.tested,
+      ap (λ v. length v.middle) c.move_one_down.ensures,
+      length-drop 1 c.test.new.self.middle,
+    )
+
+pub loop-self-smaller : goal.loop-self-smaller
+loop-self-smaller g c =
+    omega (
+      arith,
+      length-tested g.J.Test.tests c.test.ensures.tested,
+      ap length c.take_first-else-test.ensures.middle,
+    )
+
 pub returns-after-loop-self : goal.returns-after-loop-self
 returns-after-loop-self g c =
     let run = c.test_run-first in
-    let end : length c.loop-self.self.middle ≡ 0 = grind (arith, common_steps) in
+    let end : length c.loop-self.self.middle ≡ 0 = omega arith in
     record {
       retained = retained-goes g.J.Test.tests c.args.self.now c.take_first.new.self run.result
           c.args.test.now run.new.test run.new.self.middle run.ensures.tested c.take_first.result
