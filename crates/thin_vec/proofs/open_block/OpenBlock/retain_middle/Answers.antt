@@ -1,11 +1,20 @@
 -- The items before the first item to be removed are kept, and stay in their slots. If there is an
 -- item to be removed, `retain_middle` drops this item, and a loop tests the items after it.
-use Rattle.std.proofs.Common.{◌≡◌, [], ap, sym, ◌∙◌, arith, length, length-drop, rules}
+use Rattle.std.proofs.Common.{◌≡◌, [], ap, sym, ◌∙◌, arith, length, length-append, length-drop, rules}
 use Rattle.std.proofs.lemmas.List.{nil_from_length}
 use Rattle.std.proofs.lemmas.Bool.{false≢true}
 use Rattle.thin_vec.proofs.RetainLemmas.{none-left}
 use Rattle.thin_vec.proofs.open_block.RetainMiddleLemmas.{advanced-ends, advanced-goes, keeps-goes, keeps-more, keeps-retains, keeps-start, length-sought, length-tested, retained-ends, retained-goes, retains-start, retains-then}
 use Rattle.thin_vec.proofs.open_block.OpenBlock.retain_middle.Goals as goal
+
+pub keep_in_place-requires-clause-gap_before : goal.keep_in_place-requires-clause-gap_before
+keep_in_place-requires-clause-gap_before g c =
+    ap (λ v. v.gap_before) c.test_run-first.ensures.changes ∙ c.requires.gap_before
+
+pub keep_in_place-requires-clause-in_bounds : goal.keep_in_place-requires-clause-in_bounds
+keep_in_place-requires-clause-in_bounds g c =
+    let run = c.test_run-first.ensures.tested in
+    omega (arith, run.reached, ap length run.now, length-append run.left run.end)
 
 pub loop-self-init : goal.loop-self-init
 loop-self-init g c = record {
@@ -100,6 +109,18 @@ loop-self-smaller-then-test g c =
       ap (λ v. length v.middle) c.move_one_down.ensures,
       length-drop 1 c.test.new.self.middle,
     )
+
+pub move_one_down-requires-clause-gap_before : goal.move_one_down-requires-clause-gap_before
+move_one_down-requires-clause-gap_before g c =
+    omega (
+      arith,
+      ap (λ v. v.gap_before) c.test.ensures.changes,
+      c.loop-self.invariant.retains.gap_before,
+    )
+
+pub move_one_down-requires-clause-nonempty : goal.move_one_down-requires-clause-nonempty
+move_one_down-requires-clause-nonempty g c =
+    omega (arith, length-tested g.J.Test.tests c.test.ensures.tested)
 
 pub loop-self-smaller : goal.loop-self-smaller
 loop-self-smaller g c =
