@@ -4,7 +4,8 @@ use Rattle.thin_vec.specs.Lends.{with_items}
 use Rattle.thin_vec.proofs.LendsLemmas.{all-replaced}
 use Rattle.thin_vec.proofs.list.ThinVec.rotate_right.Goals as goal
 
-same : (g : _) (c : goal.After-self-1 g) → length c.rotate_right.new.self ≡ length c.args.self.now.items
+same : (g : _) (c : goal.After-self-1 g)
+    → length c.rotate_right.new.self ≡ length c.args.self.now.items
 same g c = c.rotate_right.ensures.len ∙ c.as_mut_slice.ensures.len
 
 all : (g : _) (c : goal.After-self-1 g)

@@ -4,11 +4,13 @@ use Rattle.thin_vec.specs.Lends.{with_items}
 use Rattle.thin_vec.proofs.LendsLemmas.{all-replaced}
 use Rattle.thin_vec.proofs.list.ThinVec.sort_unstable_by_key.Goals as goal
 
-same : (g : _) (c : goal.After-self-1 g) → length c.sort_unstable_by_key.new.self ≡ length c.args.self.now.items
+same : (g : _) (c : goal.After-self-1 g)
+    → length c.sort_unstable_by_key.new.self ≡ length c.args.self.now.items
 same g c = c.sort_unstable_by_key.ensures.len ∙ c.as_mut_slice.ensures.len
 
 all : (g : _) (c : goal.After-self-1 g)
-    → (with_items c.args.self.now c.sort_unstable_by_key.new.self).items ≡ c.sort_unstable_by_key.new.self
+    → (with_items c.args.self.now c.sort_unstable_by_key.new.self).items
+    ≡ c.sort_unstable_by_key.new.self
 all g c = all-replaced c.args.self.now c.sort_unstable_by_key.new.self (same g c)
 
 pub returns-clause-sorted : goal.returns-clause-sorted
