@@ -60,6 +60,13 @@ class FromVec(ToolTest):
         answers = "proofs/Readings/count/Answers.antt"
         _, left = self.moved("c.len.ensures", "of c.args.self.now.kept.ok", answers)
         self.assertIn("    the clause `bounds` or `preserved` of an earlier call\n", left)
+        for fact, clause in (
+            ("push-at.ensures.lower_bound", "len`, by `grind"),
+            ("in_err-extend_from_copies.ensures.items", "err"),
+            ("in_ok-resize-2.ensures.items", "items_if_clones_equal"),
+        ):
+            _, left = self.moved("c.len.ensures", f"of c.{fact}", answers)
+            self.assertIn(f"    the clause `{clause}`\n", left)
         text, left = self.moved("self.kept.len()\n", "self.kept.len() + other.len()\n")
         self.assertIn("    some calls of `len` are no calls of a list\n", left)
         self.assertIn("self.kept.len() + other.len()\n", text)
