@@ -180,6 +180,7 @@ fn show_extend(rt: &impl Print, alloc: Global) -> io::Result<()> {
 fn show_remove(rt: &impl Print, alloc: Global) -> io::Result<()> {
     show_keep_even(rt, alloc)?;
     show_remove_odd(rt, alloc)?;
+    show_keep_at_least(rt, alloc)?;
     show_keep_every_second(rt, alloc)?;
     show_keep_distinct(rt, alloc)?;
     show_keep_tens(rt, alloc)?;
@@ -199,6 +200,12 @@ fn show_remove_odd(rt: &impl Print, alloc: Global) -> io::Result<()> {
     let mut list = ThinVec::from_array(alloc, [1, 2, 3, 4, 5])?;
     let removed = remove::remove_odd(&mut list);
     println!(rt; "remove_odd: {removed}, left {list:?}")
+}
+
+fn show_keep_at_least(rt: &impl Print, alloc: Global) -> io::Result<()> {
+    let mut list = ThinVec::from_array(alloc, [5, 1, 4, 2, 3])?;
+    let removed = remove::keep_at_least(&mut list, 3);
+    println!(rt; "keep_at_least: {removed}, left {list:?}")
 }
 
 fn show_keep_every_second(rt: &impl Print, alloc: Global) -> io::Result<()> {

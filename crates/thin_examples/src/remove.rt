@@ -2,7 +2,7 @@
 ghost use Rattle.std.specs.List.{dedup, fold};
 ghost use Rattle.std.specs.List.Sorted.{IsSorted, IsStrictlyIncreasing};
 ghost use Rattle.std.specs.Ordering.{nat_cmp};
-ghost use Rattle.std.specs.Prelude.{◌≡◌, ◌+◌, ◌%◌, ◌/◌, ◌==◌, ◌++◌, [], ◌∷◌, IfNone, IfOk, IfSome, IsOk, filter, length, map, min, reverse};
+ghost use Rattle.std.specs.Prelude.{◌≡◌, ◌+◌, ◌%◌, ◌/◌, ◌==◌, ◌++◌, [], ◌∷◌, IfNone, IfOk, IfSome, IsOk, filter, length, map, min, nat_le, reverse};
 ghost use Rattle.thin_examples.specs.EverySecond.{every_second};
 
 use std::alloc::{AllocError, Allocator, Global};
@@ -25,6 +25,22 @@ pub fn remove_odd<A: Allocator, G: Growth>(list: &mut ThinVec<u32, A, G>) -> usi
     let before = list.len();
     list.retain(|number| number % 2 == 0);
     before - list.len()
+}
+
+/// Keeps the numbers that are at least `limit`, and returns how many the closure has removed. It
+/// reads `limit` and changes `removed`. (No contract says what is in `removed`.)
+pub fn keep_at_least<A: Allocator, G: Growth>(list: &mut ThinVec<u32, A, G>, limit: u32) -> usize
+    ensures items { list.new.items ≡ filter (λ number. nat_le limit number) list.old.items }
+{
+    let mut removed: usize = 0;
+    list.retain(|number| {
+        let keep = *number >= limit;
+        if !keep {
+            removed = removed.saturating_add(1);
+        }
+        keep
+    });
+    removed
 }
 
 /// Keeps the first item, the third, the fifth, and so on. The closure has a state: it remembers

@@ -238,6 +238,26 @@ module _ {S T : Type 0} (R : S → T → Bool → S → Type 0) where
   retained_filter test {s} {v} {w} says h =
       filter_same R test s says v.items w.items (retained_filtered s v w h)
 
+  -- This is `retained_filter` for a closure that changes its state. Each call keeps `I` true.
+  pub retained_filter_keeping : {A : Type 0} (I : S → Type 0) (test : T → Bool) {s : S}
+      {v w : ListView T A} → ((s : S) (x : T) (b : Bool) (t : S) → I s → R s x b t → (b ≡ test x)
+      × I t) → I s → IsRetained R s v w → w.items ≡ filter test v.items
+  retained_filter_keeping I test {s} {v} says i h =
+      h.items ∙ kept h.flags v.items s h.last i h.count h.calls
+    where
+      kept : (flags : List Bool) (xs : List T) (s t : S) → I s → length flags ≡ length xs
+          → ReturnsInTurn R s flags xs t → items_where_true flags xs ≡ filter test xs
+      kept [] [] s t i n calls = refl
+      kept [] (x ∷ xs) s t i n calls = absurd (omega (arith, n))
+      kept (b ∷ flags) [] s t i n calls = absurd (omega (arith, n))
+      kept (true ∷ flags) (x ∷ xs) s t i n calls =
+          let one = says s x true calls.0 i calls.1 in
+          rw (← one.0) (ap (λ l. x ∷ l)
+          (kept flags xs calls.0 t one.1 (omega (arith, n)) calls.2))
+      kept (false ∷ flags) (x ∷ xs) s t i n calls =
+          let one = says s x false calls.0 i calls.1 in
+          rw (← one.0) (kept flags xs calls.0 t one.1 (omega (arith, n)) calls.2)
+
   -- The contract of `retain` says what that of `retain_mut` says of a closure that writes nothing.
   pub retained_mut : {A : Type 0} {s : S} {v w : ListView T A} → IsRetained R s v w
       → IsRetainedMut (λ s x b t y. R s x b t × (y ≡ x)) s v w
