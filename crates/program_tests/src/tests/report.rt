@@ -143,6 +143,25 @@ fn assert_reported(rt: &impl Abort, alloc: Global, numbers: &[u32], status: u8, 
     }
 }
 
+// Asserts the report of `count` rows of the same number, of each of which it tells the same.
+fn assert_repeated(
+    rt: &impl Abort,
+    alloc: Global,
+    number: u32,
+    status: u8,
+    told: &str,
+    count: usize,
+) -> Result<(), Fail> {
+    let numbers = thin_vec![alloc => number; count]?;
+    let mut whole = String::new(alloc);
+    for _ in 0..count {
+        whole.push_str(format!(in alloc; "row {number} {told}\n")?.as_str())?;
+    }
+    whole.push_str(format!(in alloc; "{count} rows {told}\n")?.as_str())?;
+    assert_reported(rt, alloc, numbers.as_slice(), status, whole.as_str());
+    Ok(())
+}
+
 #[test]
 fn report_counts_failed_rows(rt: HostRuntime) -> Result<(), Fail> {
     let alloc = rt.alloc();
@@ -166,13 +185,7 @@ fn report_counts_failed_rows(rt: HostRuntime) -> Result<(), Fail> {
     }
     for (number, status, told) in [(1, 0, "ok"), (2, 1, "failed"), (3, 1, "failed")] {
         for count in [1, 2, 9, 10, 11, 260] {
-            let numbers = thin_vec![alloc => number; count]?;
-            let mut whole = String::new(alloc);
-            for _ in 0..count {
-                whole.push_str(format!(in alloc; "row {number} {told}\n")?.as_str())?;
-            }
-            whole.push_str(format!(in alloc; "{count} rows {told}\n")?.as_str())?;
-            assert_reported(&rt, alloc, numbers.as_slice(), status, whole.as_str());
+            assert_repeated(&rt, alloc, number, status, told, count)?;
         }
     }
     Ok(())

@@ -113,11 +113,8 @@ fn assert_named(
     Ok(())
 }
 
-// Asserts that a line of the form is right, and what is said about lines with a wrong word and
-// about lines with too few or too many words.
-fn assert_form(rt: &impl Abort, alloc: Global, form: &str) -> Result<(), Fail> {
-    let right = spelled(alloc, form, END, (END, END), "")?;
-    assert!(rt; Line::parse(alloc, right.as_str()).is_ok(), "{right}");
+// Asserts what is said about lines of the form with a wrong word. Returns the number of its words.
+fn assert_each_named(rt: &impl Abort, alloc: Global, form: &str) -> Result<usize, Fail> {
     let mut words = 0_usize;
     for name in form.split_whitespace() {
         if words > 0 {
@@ -125,12 +122,29 @@ fn assert_form(rt: &impl Abort, alloc: Global, form: &str) -> Result<(), Fail> {
         }
         words = words.saturating_add(1);
     }
+    Ok(words)
+}
+
+// Asserts that a line of the form is right, and what is said if it has one word too many. A form
+// that ends with `..` has no such line.
+fn assert_right(rt: &impl Abort, alloc: Global, form: &str, told: &str) -> Result<(), Fail> {
+    let right = spelled(alloc, form, END, (END, END), "")?;
+    assert!(rt; Line::parse(alloc, right.as_str()).is_ok(), "{right}");
+    if !form.ends_with(" ..") {
+        let line = format!(in alloc; "{right}1")?;
+        assert_wrong(rt, alloc, line.as_str(), told)?;
+    }
+    Ok(())
+}
+
+// Asserts that a line of the form is right, and what is said about lines with a wrong word and
+// about lines with too few or too many words.
+fn assert_form(rt: &impl Abort, alloc: Global, form: &str) -> Result<(), Fail> {
+    let mut words = assert_each_named(rt, alloc, form)?;
     let told = format!(in alloc; "the form is `{form}`")?;
+    assert_right(rt, alloc, form, told.as_str())?;
     if form.ends_with(" ..") {
         words = words.saturating_sub(2);
-    } else {
-        let line = format!(in alloc; "{right}1")?;
-        assert_wrong(rt, alloc, line.as_str(), told.as_str())?;
     }
     for len in 1..words {
         let line = spelled(alloc, form, len, (END, END), "")?;
@@ -207,6 +221,46 @@ impl Eprint for Messages<'_> {
     }
 }
 
+// Asserts the error message, which is empty if there is no error.
+fn assert_message(
+    rt: &impl Abort,
+    alloc: Global,
+    answered: &Result<(), ReplayError>,
+    told: &str,
+) -> Result<(), Fail> {
+    let message = match answered {
+        Ok(()) => String::new(alloc),
+        Err(error) => error.to_string(alloc)?,
+    };
+    assert_eq!(rt; message.as_str(), told);
+    Ok(())
+}
+
+// Asserts the exit status, and that `told` alone is written to standard error, or nothing if it is
+// empty.
+fn assert_exit(
+    rt: &impl Abort,
+    alloc: Global,
+    answered: Result<(), ReplayError>,
+    told: &str,
+) -> Result<(), Fail> {
+    let messages = Messages {
+        alloc,
+        told,
+        lines: Cell::new(0),
+        right: Cell::new(0),
+    };
+    // Printing an `ExitCode` is the only way to read its value.
+    let status = format!(in alloc; "{:?}", exit_code(&messages, answered))?;
+    let number = if told.is_empty() { 0 } else { 1 };
+    let wanted = format!(in alloc; "ExitCode(unix_exit_status({number}))")?;
+    assert_eq!(rt;
+        (status.as_str(), messages.lines.get(), messages.right.get()),
+        (wanted.as_str(), number, number)
+    );
+    Ok(())
+}
+
 // Replays the lines of `input`, of which the read number `unread` and the write number `unwritten`
 // fail. Returns what is written. Asserts the error message (which is empty if there is no error),
 // that it alone is written to standard error, and the exit status.
@@ -229,29 +283,8 @@ fn replayed(
         failing: unread,
     };
     let answered = replay(alloc, BufReader::with_capacity(alloc, CHUNK, script)?, page);
-    let message = match &answered {
-        Ok(()) => String::new(alloc),
-        Err(error) => error.to_string(alloc)?,
-    };
-    let messages = Messages {
-        alloc,
-        told,
-        lines: Cell::new(0),
-        right: Cell::new(0),
-    };
-    // Printing an `ExitCode` is the only way to read its value.
-    let status = format!(in alloc; "{:?}", exit_code(&messages, answered))?;
-    let number = if told.is_empty() { 0 } else { 1 };
-    let wanted = format!(in alloc; "ExitCode(unix_exit_status({number}))")?;
-    assert_eq!(rt;
-        (
-            message.as_str(),
-            status.as_str(),
-            messages.lines.get(),
-            messages.right.get()
-        ),
-        (told, wanted.as_str(), number, number)
-    );
+    assert_message(rt, alloc, &answered, told)?;
+    assert_exit(rt, alloc, answered, told)?;
     Ok(text)
 }
 
@@ -285,6 +318,19 @@ fn skips_blank_lines_and_white_space(rt: HostRuntime) -> Result<(), Fail> {
     Ok(())
 }
 
+// Replays the lines `right` and two wrong ones. Asserts that only the first of these, line number
+// `number`, is named.
+fn assert_first_named(
+    rt: &impl Abort,
+    alloc: Global,
+    right: &str,
+    number: u32,
+) -> Result<(), Fail> {
+    let input = format!(in alloc; "{right}push\njump\n")?;
+    let told = format!(in alloc; "line {number}: the form is `push ITEM`")?;
+    assert_replayed(rt, alloc, input.as_bytes(), "", told.as_str())
+}
+
 #[test]
 fn carries_out_no_command_if_a_line_is_wrong(rt: HostRuntime) -> Result<(), Fail> {
     let told = "line 2: the line is not UTF-8";
@@ -293,9 +339,7 @@ fn carries_out_no_command_if_a_line_is_wrong(rt: HostRuntime) -> Result<(), Fail
     assert_replayed(&rt, rt.alloc(), b"\xff", "", told)?;
     let mut right = String::new(rt.alloc());
     for number in 1..=300 {
-        let input = format!(in rt.alloc(); "{right}push\njump\n")?;
-        let told = format!(in rt.alloc(); "line {number}: the form is `push ITEM`")?;
-        assert_replayed(&rt, rt.alloc(), input.as_bytes(), "", told.as_str())?;
+        assert_first_named(&rt, rt.alloc(), right.as_str(), number)?;
         right.push_str(if number % 3 == 0 { "\n" } else { "push 1\n" })?;
     }
     Ok(())
@@ -311,18 +355,32 @@ static TOO_LARGE: [&str; 6] = [
     "splice 0 1 fb 1152921504606846970 1 2 3",
 ];
 
-// In front of the command are a blank line and, in the second round, many lines.
+// Replays the lines `front`, a `push`, a blank line and the command, which is line number `number`.
+// Asserts that the command ends the program, after the answers to the lines before it.
+fn assert_stops(
+    rt: &impl Abort,
+    alloc: Global,
+    front: &str,
+    answers: &str,
+    number: u32,
+    command: &str,
+) -> Result<(), Fail> {
+    let input = format!(in alloc; "{front}push 1\n\n{command}\npop\n")?;
+    let told = format!(in alloc; "line {number}: out of memory")?;
+    let wanted = format!(in alloc; "{answers}done; length 1; capacity 4\n")?;
+    let (wanted, told) = (wanted.as_str(), told.as_str());
+    assert_replayed(rt, alloc, input.as_bytes(), wanted, told)
+}
+
+// In front of the command are, in the second round, many lines.
 #[test]
 fn stops_at_a_reply_without_memory(rt: HostRuntime) -> Result<(), Fail> {
     let alloc = rt.alloc();
     let (mut front, mut answers) = (String::new(alloc), String::new(alloc));
     for number in [3, 1003] {
         for command in &TOO_LARGE {
-            let input = format!(in alloc; "{front}push 1\n\n{command}\npop\n")?;
-            let told = format!(in alloc; "line {number}: out of memory")?;
-            let wanted = format!(in alloc; "{answers}done; length 1; capacity 4\n")?;
-            let (wanted, told) = (wanted.as_str(), told.as_str());
-            assert_replayed(&rt, alloc, input.as_bytes(), wanted, told)?;
+            let (front, answers) = (front.as_str(), answers.as_str());
+            assert_stops(&rt, alloc, front, answers, number, command)?;
         }
         for _ in 0..1000 {
             front.push_str("pop\n")?;
@@ -332,18 +390,34 @@ fn stops_at_a_reply_without_memory(rt: HostRuntime) -> Result<(), Fail> {
     Ok(())
 }
 
-// Asserts whether the reply says that memory was missing, and what is written of it.
-fn assert_reply(rt: &impl Abort, alloc: Global, reply: Reply<u64>, lacks: bool, wanted: &str) {
-    check!(rt; same(lacks_memory(&reply), lacks));
+// Returns what is written of the reply, and whether all of it is.
+fn written(alloc: Global, reply: Reply<u64>) -> (String, bool) {
     let mut text = String::new(alloc);
     let mut page = Page {
         text: &mut text,
         calls: 0,
         failing: 0,
     };
-    check!(rt; same(write_reply(&mut page, reply).is_ok(), true));
+    let is_ok = write_reply(&mut page, reply).is_ok();
     drop(page);
-    check!(rt; same(text.as_str(), wanted));
+    (text, is_ok)
+}
+
+// Asserts whether the reply says that memory was missing, and that its cause and `rest` are written
+// of it.
+fn assert_reply(
+    rt: &impl Abort,
+    alloc: Global,
+    reply: Reply<u64>,
+    cause: ThinVecError,
+    lacks: bool,
+    rest: &str,
+) -> Result<(), Fail> {
+    check!(rt; same(lacks_memory(&reply), lacks));
+    let (text, is_ok) = written(alloc, reply);
+    let wanted = format!(in alloc; "failed: {cause}{rest}")?;
+    check!(rt; same((text.as_str(), is_ok), (wanted.as_str(), true)));
+    Ok(())
 }
 
 // No script has all of these replies: `replay` ends at one that lacks memory, and the capacity for
@@ -355,13 +429,12 @@ fn writes_the_replies_of_refused_commands(rt: HostRuntime) -> Result<(), Fail> {
         (ThinVecError::OutOfMemory, true),
         (ThinVecError::CapacityOverflow, false),
     ] {
-        let told = format!(in alloc; "failed: {cause}")?;
-        assert_reply(&rt, alloc, Reply::Refused(cause), lacks, told.as_str());
-        let told = format!(in alloc; "failed: {cause}; returned 7")?;
-        assert_reply(&rt, alloc, Reply::Returned(7, cause), lacks, told.as_str());
-        let told = format!(in alloc; "failed: {cause}; other [1, 2]; capacity 2")?;
+        assert_reply(&rt, alloc, Reply::Refused(cause), cause, lacks, "")?;
+        let returned = Reply::Returned(7, cause);
+        assert_reply(&rt, alloc, returned, cause, lacks, "; returned 7")?;
         let other = Reply::Other(thin_vec![alloc => 1, 2]?, Some(cause));
-        assert_reply(&rt, alloc, other, lacks, told.as_str());
+        let rest = "; other [1, 2]; capacity 2";
+        assert_reply(&rt, alloc, other, cause, lacks, rest)?;
     }
     Ok(())
 }
@@ -458,17 +531,23 @@ static REPEATED: [(&str, usize); 12] = [
     ("pop", 1),
 ];
 
+// Returns a line as often as is asked.
+fn repeated(alloc: Global, line: &str, times: usize) -> Result<String, Fail> {
+    let mut lines = String::new(alloc);
+    for _ in 0..times {
+        lines.push_str(line)?;
+        lines.push_str("\n")?;
+    }
+    Ok(lines)
+}
+
 // In front of the repeated lines, one answer becomes longer from round to round. So another part of
 // the answers is the one with which the writer is full.
 #[test]
 fn fails_if_a_write_fails(rt: HostRuntime) -> Result<(), Fail> {
     let alloc = rt.alloc();
     for (line, times) in &REPEATED {
-        let mut lines = String::new(alloc);
-        for _ in 0..*times {
-            lines.push_str(line)?;
-            lines.push_str("\n")?;
-        }
+        let lines = repeated(alloc, line, *times)?;
         for first in [1, 10_000_000_000_000_000_000_u64] {
             let mut second = 1_u64;
             for _ in 0..5 {
@@ -481,14 +560,20 @@ fn fails_if_a_write_fails(rt: HostRuntime) -> Result<(), Fail> {
     Ok(())
 }
 
+// Returns the numbers from `first` to below `end`, each after a space.
+fn words_of(alloc: Global, first: u64, end: u64) -> Result<String, Fail> {
+    let mut words = String::new(alloc);
+    for item in first..end {
+        words.push_str(format!(in alloc; " {item}")?.as_str())?;
+    }
+    Ok(words)
+}
+
 // Replies that take several calls to `write` each.
 #[test]
 fn fails_if_a_write_of_a_long_reply_fails(rt: HostRuntime) -> Result<(), Fail> {
     let alloc = rt.alloc();
-    let mut words = String::new(alloc);
-    for item in 10_000..13_000 {
-        words.push_str(format!(in alloc; " {item}")?.as_str())?;
-    }
+    let words = words_of(alloc, 10_000, 13_000)?;
     for (command, line) in [
         ("extend_from_slice", "items"),
         ("extend_from_slice", "clone"),
@@ -507,10 +592,7 @@ fn prints_each_item_of_a_long_reply(rt: HostRuntime) -> Result<(), Fail> {
     let alloc = rt.alloc();
     let items: Vec<u64> = (0..300).collect(alloc)?;
     let answers: Vec<Option<u64>> = (0..300).map(|item| Some(item)).collect(alloc)?;
-    let mut words = String::new(alloc);
-    for item in 0..300 {
-        words.push_str(format!(in alloc; " {item}")?.as_str())?;
-    }
+    let words = words_of(alloc, 0, 300)?;
     let input = format!(in alloc;
         "extend 18446744073709551615{words}\nextend_from_slice{words}\nitems\nclone\n\
         extract_if 0 300 300 1 0 0\nappend{words}\nsplit_off 0\n"
