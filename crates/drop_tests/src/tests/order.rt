@@ -9,7 +9,7 @@ use std::iter::Iterator;
 use std::process::Abort;
 use std::test::Fail;
 use thin_testing::{Counted, Ledger, List, Numbered, check, filled_list, numbered_items, same};
-use thin_vec::{Doubling, Drain, Splice, SpliceRefused, ThinVec, ThinVecError};
+use thin_vec::{Doubling, Splice, SpliceRefused, ThinVec, ThinVecError};
 
 // A call that removes the items of a range.
 #[derive(Clone, Copy, PartialEq, Debug)]
@@ -207,7 +207,7 @@ fn key(case: Case, call: u64) -> bool {
 fn take_from_range<T: Drop, A: Allocator>(rt: &impl Abort, mut list: ThinVec<T, A>, case: Case) {
     assert!(rt; case.start <= case.end && case.end <= list.len());
     if case.call == Call::Drain {
-        take_from_drain(list.drain(case.start, case.end), case);
+        take_from_drain(&mut list, case);
         return;
     }
     let mut extract = list.extract_if(case.start, case.end, |_item: &mut T| true);
@@ -216,7 +216,11 @@ fn take_from_range<T: Drop, A: Allocator>(rt: &impl Abort, mut list: ThinVec<T, 
     }
 }
 
-fn take_from_drain<T: Drop, A: Allocator>(mut drain: Drain<'_, T, A>, case: Case) {
+fn take_from_drain<T: Drop, A: Allocator>(list: &mut ThinVec<T, A>, case: Case)
+    requires start_le_end { case.start ≤ case.end }
+    requires in_bounds { case.end ≤ length list.old.items }
+{
+    let mut drain = list.drain(case.start, case.end);
     for _ in 0..case.fronts {
         drop(drain.next());
     }
