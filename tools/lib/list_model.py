@@ -1,5 +1,5 @@
 """The items and the capacity that a list should have after each command of `replay`, worked out in
-Python: the model with which tools/differ compares lists. It is not a program."""
+Python: the model with which tools/compare_with_rust compares lists. It is not a program."""
 
 WORD = 2**64
 

@@ -35,12 +35,12 @@ class Arguments(ToolTest):
 
     def test_a_number_below_one_is_one_line(self):
         wrong = [
-            ("differ", "--workers", "0"),
-            ("differ", "--lists", "0"),
+            ("compare_with_rust", "--workers", "0"),
+            ("compare_with_rust", "--lists", "0"),
             ("mutants", "--jobs", "0"),
             ("speed", "--jobs", "0"),
             ("speed", "--rounds", "-1"),
-            ("differ", "--workers", "two"),
+            ("compare_with_rust", "--workers", "two"),
         ]
         for name, option, text in wrong:
             with self.subTest(f"{name} {option} {text}"):
@@ -54,7 +54,7 @@ class Arguments(ToolTest):
         missing = [
             ("audit", (), "crates/thin_rows/src", "there is no folder crates/thin_rows/src"),
             (
-                "differ",
+                "compare_with_rust",
                 (),
                 "tools/rust",
                 "tools/rust/replay/build: No such file or directory",

@@ -121,13 +121,13 @@ class Evidence(ToolTest):
             for path in tests.rglob("*.rt")
             if "fn converting_to_io_error_drops_the_refusal" in path.read_text(encoding="utf-8")
         )
-        moved.rename(top / "crates" / "run_tests" / "src" / "moved.rt")
+        moved.rename(top / "crates" / "runner_tests" / "src" / "moved.rt")
         said = self.passes("evidence", "--follow", top=top)
         for name in ("alloc", "io", "thin_vec"):
             test = f"converting_to_{name}_error_drops_the_refusal"
-            self.assertIn(f"\ndrop_tests {test} is run_tests {test}\n", f"\n{said}")
+            self.assertIn(f"\ndrop_tests {test} is runner_tests {test}\n", f"\n{said}")
         test = "converting_to_«error»_drops_the_refusal"
-        self.assertIn(f"drop_tests {test} is run_tests {test}\n", said)
+        self.assertIn(f"drop_tests {test} is runner_tests {test}\n", said)
         kept = (top / "tools" / "mutants.d" / "thin_vec" / "errors.toml").read_text(
             encoding="utf-8"
         )

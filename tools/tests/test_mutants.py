@@ -40,7 +40,7 @@ what = "Planted."
 mark = "allowed"
 old = "mod runner;"
 new = "mod run;"
-seen = "table_tests drops_each_value_once"
+seen = "rows_tests drops_each_value_once"
 """
         named = right.replace('"allowed"', '"named"')
         place = "tools/mutants.d/thin_runner/lib.toml"
@@ -65,7 +65,7 @@ seen = "table_tests drops_each_value_once"
             (f"[planted]{right.replace('mod runner', 'none')}", "has the old text 0 times"),
             (
                 f"[planted]{right.replace('drops_each', 'typo')}",
-                "there is no table_tests typo_value",
+                "there is no rows_tests typo_value",
             ),
             (f"[planted]{named}", "planted: no promise of docs/evidence.toml names this body"),
         ):
@@ -77,7 +77,7 @@ seen = "table_tests drops_each_value_once"
         )
         said = self.passes("mutants", "--list", top=top)
         for word in "ab":
-            self.assertIn(f"planted_{word}: table_tests drops_each_value_once: Planted.\n", said)
+            self.assertIn(f"planted_{word}: rows_tests drops_each_value_once: Planted.\n", said)
 
     def test_bodies_of_another_file(self):
         path = self.folder() / "more.toml"

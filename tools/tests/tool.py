@@ -18,7 +18,7 @@ TOP = pathlib.Path(__file__).resolve().parents[2]
 sys.path.insert(0, str(TOP / "tools"))
 NAMES = (
     "audit",
-    "differ",
+    "compare_with_rust",
     "evidence",
     "from_vec",
     "mutants",

@@ -14,7 +14,7 @@
 //! - Nothing is left once the list is dropped.
 //!
 //! Items, capacities and returned values are proved, so a sweep does not compare them, but for the
-//! calls that take an iterator (`filling`). The crate `run_tests` sweeps lists of commands.
+//! calls that take an iterator (`filling`). The crate `runner_tests` sweeps lists of commands.
 //!
 //! To add a call, add an arm to the `match` of a file in `calls/`, and count it in `CALLS`. An arm
 //! makes the arguments, calls `begin` with the name of the call, makes the call, and returns a

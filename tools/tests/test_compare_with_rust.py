@@ -1,4 +1,4 @@
-"""tools/differ: the lists that it makes, and what it compares.
+"""tools/compare_with_rust: the lists that it makes, and what it compares.
 
 Functions stand in the place of both programs.
 """
@@ -15,7 +15,7 @@ from lib.command import Stopped
 from lib.random_lists import made_lists
 
 SCRIPT = TOP / "crates" / "thin_replay"
-differ = load("differ")
+compare = load("compare_with_rust")
 
 
 def lines_of(name):
@@ -38,7 +38,7 @@ def given(folder, **changed):
 
 class Differ(ToolTest):
     def setUp(self):
-        self.made = made_lists(differ.ITEM_TYPES["u64"], "1", 500, True, True)[1]
+        self.made = made_lists(compare.ITEM_TYPES["u64"], "1", 500, True, True)[1]
         answers = lines_of("stdout")
         self.help, self.answers = (
             answers[: -len(lines_of("stdin")) + 1],
@@ -54,13 +54,13 @@ class Differ(ToolTest):
         def answer(_over_crate, lines):
             return self.answer(self.help if lines == ["help"] else answers or self.answers, status)
 
-        return mock.patch.object(differ, "answer_of_rust", answer)
+        return mock.patch.object(compare, "answer_of_rust", answer)
 
     def written(self, answers=None, **changed):
         """What --write returns, prints, and writes into a folder."""
         folder = self.folder()
         with self.rust(answers), contextlib.redirect_stdout(io.StringIO()) as said:
-            status = differ.write_all(given(folder, **changed))
+            status = compare.write_all(given(folder, **changed))
         return (
             status,
             said.getvalue(),
@@ -79,7 +79,7 @@ class Differ(ToolTest):
             self.assertEqual(files[name].splitlines(), lines_of(name), name)
 
     def test_it_says_that_no_crate_confirms_the_capacities(self):
-        made = made_lists(differ.ITEM_TYPES["u64"], "2", 3, False, True)[1]
+        made = made_lists(compare.ITEM_TYPES["u64"], "2", 3, False, True)[1]
         answers = ["done"] * sum(len(it.lines) for it in made)
         status, said, _ = self.written(answers, crate=None, seed="2", lists=3)
         self.assertEqual(status, 0)
@@ -89,8 +89,8 @@ class Differ(ToolTest):
 
     def test_the_command_is_written_beside_the_script(self):
         self.assertEqual(
-            differ.command_of(given(None, items="pair", seed="a b", lists=3, crate=None)),
-            "tools/differ --lists 3 --seed 'a b' --items pair --write FOLDER",
+            compare.command_of(given(None, items="pair", seed="a b", lists=3, crate=None)),
+            "tools/compare_with_rust --lists 3 --seed 'a b' --items pair --write FOLDER",
         )
 
     def test_a_capacity_that_the_crate_contradicts_is_not_written(self):
@@ -109,9 +109,9 @@ class Differ(ToolTest):
         for wrong in (None, 0, 100, len(self.answers) - 1):
             answers = [line + "0" if at == wrong else line for at, line in enumerate(self.answers)]
             with self.subTest(wrong), mock.patch.object(
-                differ, "answer_of_thin", lambda _: self.answer(answers)
+                compare, "answer_of_thin", lambda _: self.answer(answers)
             ):
-                found = differ.difference_of(self.made, self.answers)
+                found = compare.difference_of(self.made, self.answers)
                 if wrong is None:
                     self.assertIsNone(found)
                 else:
@@ -122,34 +122,34 @@ class Differ(ToolTest):
 
     def test_a_program_that_ends_early(self):
         with mock.patch.object(
-            differ, "answer_of_thin", lambda _: self.answer(self.answers[:50], 7)
+            compare, "answer_of_thin", lambda _: self.answer(self.answers[:50], 7)
         ):
             self.assertEqual(
-                differ.difference_of(self.made, self.answers)[0],
+                compare.difference_of(self.made, self.answers)[0],
                 "thin_replay ended with status 7: told",
             )
         with self.rust(status=7), self.assertRaises(Stopped) as why:
-            differ.wanted_answers(True, self.made)
+            compare.wanted_answers(True, self.made)
         said = "replay in Rust ended with status 7: told"
         self.assertEqual((str(why.exception), why.exception.status), (said, 2))
 
     def test_wrong_lines_are_compared(self):
         answers = self.answer(self.answers[:3], 1)
-        with mock.patch.object(differ, "answer_of_thin", lambda _: answers), self.rust(
+        with mock.patch.object(compare, "answer_of_thin", lambda _: answers), self.rust(
             self.answers[:3], 1
         ):
-            self.assertIsNone(differ.difference_of_spoiled(True, ["typo"]))
-        with mock.patch.object(differ, "answer_of_thin", lambda _: answers), self.rust(
+            self.assertIsNone(compare.difference_of_spoiled(True, ["typo"]))
+        with mock.patch.object(compare, "answer_of_thin", lambda _: answers), self.rust(
             self.answers[:3], 0
         ):
             self.assertEqual(
-                differ.difference_of_spoiled(True, ["typo"])[:1], ["thin_replay: status 1: told"]
+                compare.difference_of_spoiled(True, ["typo"])[:1], ["thin_replay: status 1: told"]
             )
 
     def test_a_copy_for_other_items_has_one_other_file(self):
         top = self.folder()
         self.assertEqual(
-            differ.write_copy(differ.ITEM_TYPES["pair"], top), top / "crates" / "thin_replay"
+            compare.write_copy(compare.ITEM_TYPES["pair"], top), top / "crates" / "thin_replay"
         )
         item = Path("replay", "src", "item.rt")
         for path in (TOP / "crates" / "replay" / "src").rglob("*.rt"):
@@ -167,15 +167,25 @@ class Differ(ToolTest):
     def test_what_it_needs(self):
         programs = self.folder()
         self.refuses(
-            "there is no folder /no/folder", "differ", "--write", "/no/folder", PATH=str(programs)
+            "there is no folder /no/folder",
+            "compare_with_rust",
+            "--write",
+            "/no/folder",
+            PATH=str(programs),
         )
         self.refuses(
-            "there is no file /no/lib.rs", "differ", "--crate", "/no/lib.rs", PATH=str(programs)
+            "there is no file /no/lib.rs",
+            "compare_with_rust",
+            "--crate",
+            "/no/lib.rs",
+            PATH=str(programs),
         )
-        self.refuses("there is no program rustc", "differ", PATH=str(programs))
+        self.refuses("there is no program rustc", "compare_with_rust", PATH=str(programs))
         (programs / "rustc").write_text("#!/bin/sh\nexit 1\n", encoding="utf-8")
         (programs / "rustc").chmod(0o755)
-        self.refuses("there is no program /no/rt", "differ", PATH=str(programs), RT="/no/rt")
+        self.refuses(
+            "there is no program /no/rt", "compare_with_rust", PATH=str(programs), RT="/no/rt"
+        )
 
 
 if __name__ == "__main__":
