@@ -1,6 +1,6 @@
 """Says in which folder the proof of a function stands. It is not a program.
 
-CONTRIBUTING has the rule in one sentence."""
+CONTRIBUTING has the rule in a table."""
 import re
 
 from lib.command import TOP

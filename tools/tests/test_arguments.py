@@ -65,7 +65,7 @@ class Arguments(ToolTest):
             ("mutants", ("--check",), "crates", "crates: No such file or directory"),
             ("pages", (), "crates/thin_examples", "no folder crates/thin_examples/src"),
             ("reference", (), "crates/thin_rows/src", "there is no folder crates/thin_rows/src"),
-            ("speed", (), "tools/data", "tools/data/speed.json: No such file or directory"),
+            ("speed", (), "tools/data", "tools/data/workloads.json: No such file or directory"),
             ("speed", ("--picture",), "docs/FIGURES.md", "docs/FIGURES.md: No such file"),
         ]
         programs = self.folder()

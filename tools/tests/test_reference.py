@@ -33,8 +33,8 @@ class MadePages(ToolTest):
 
     def test_a_word_of_the_library_without_a_meaning(self):
         top = self.copy("mutants.d", "proofs")
-        change(top / "tools" / "data" / "std_words.toml", "IsOk = ", "IsPlanted = ")
-        says = "tools/data/std_words.toml: IsOk has no meaning; IsPlanted is used by no contract"
+        change(top / "tools" / "data" / "std_glossary.toml", "IsOk = ", "IsPlanted = ")
+        says = "tools/data/std_glossary.toml: IsOk has no meaning; IsPlanted is used by no contract"
         self.refuses(says, "reference", "--check", top=top)
 
     def test_a_field_hides_a_word_in_the_fields_after_it(self):
