@@ -1,3 +1,4 @@
 mod closures;
 mod errors;
+mod fills;
 mod order;

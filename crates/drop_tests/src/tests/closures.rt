@@ -3,8 +3,8 @@ use std::alloc::Global;
 use std::process::Abort;
 use std::rc::Rc;
 use std::test::Fail;
-use thin_testing::{Counted, Ledger, check, has_len, list_of, same};
-use thin_vec::ThinVec;
+use thin_testing::{Counted, Ledger, Refusing, check, has_len, list_of, same};
+use thin_vec::{ThinVec, ThinVecError};
 
 // Tests an item in a closure that owns a `Counted`.
 fn is_two(_owned: &Counted<'_>, item: i32) -> bool {
@@ -131,6 +131,95 @@ fn extract_if_drops_its_closure(rt: HostRuntime) -> Result<(), Fail> {
             drop(twos);
             check!(rt; same(Rc::strong_count(&kept), 1));
         }
+    }
+    Ok(())
+}
+
+// A sort that calls a closure. The first three are stable, and need memory for long lists.
+#[derive(Clone, Copy, PartialEq, Debug)]
+enum Sort {
+    By,
+    ByKey,
+    ByCachedKey,
+    UnstableBy,
+    UnstableByKey,
+}
+
+const SORTS: [Sort; 5] = [
+    Sort::By,
+    Sort::ByKey,
+    Sort::ByCachedKey,
+    Sort::UnstableBy,
+    Sort::UnstableByKey,
+];
+
+// Returns a list of `len` numbers that are not in order.
+fn unsorted(
+    ledger: &'static Ledger,
+    len: u64,
+) -> Result<ThinVec<u64, &'static Refusing<Global>>, ThinVecError> {
+    let mut list = ThinVec::new(&ledger.alloc);
+    for number in 0..len {
+        list.push(number.wrapping_mul(7919) % 1009)?;
+    }
+    Ok(list)
+}
+
+// Sorts the list by a closure that owns a `Counted`, and returns whether the call succeeds.
+fn sorts(
+    ledger: &'static Ledger,
+    sort: Sort,
+    list: &mut ThinVec<u64, &'static Refusing<Global>>,
+) -> bool {
+    let owned = Counted::new(ledger, 7, ());
+    match sort {
+        Sort::By => list
+            .sort_by(move |a, b| if is_two(&owned, 2) { a.cmp(b) } else { b.cmp(a) })
+            .is_ok(),
+        Sort::ByKey => list
+            .sort_by_key(move |item| (is_two(&owned, 2), *item))
+            .is_ok(),
+        Sort::ByCachedKey => list
+            .sort_by_cached_key(move |item| (is_two(&owned, 2), *item))
+            .is_ok(),
+        Sort::UnstableBy => {
+            list.sort_unstable_by(move |a, b| if is_two(&owned, 2) { a.cmp(b) } else { b.cmp(a) });
+            true
+        }
+        Sort::UnstableByKey => {
+            list.sort_unstable_by_key(move |item| (is_two(&owned, 2), *item));
+            true
+        }
+    }
+}
+
+// Sorts a list of `len` items while request number `refused` is refused, and asserts that the
+// closure was dropped.
+fn assert_sort_drops(
+    rt: &impl Abort,
+    ledger: &'static Ledger,
+    sort: Sort,
+    len: u64,
+    refused: u64,
+) -> Result<(), Fail> {
+    let mut list = unsorted(ledger, len)?;
+    ledger.begin(refused);
+    let found = (sorts(ledger, sort, &mut list), ledger.live.get());
+    let is_due = refused == 0 || sort == Sort::UnstableBy || sort == Sort::UnstableByKey;
+    check!(rt; same((sort, len, found), (sort, len, (is_due, 0))));
+    Ok(())
+}
+
+#[test]
+fn sorts_drop_their_closures(rt: HostRuntime) -> Result<(), Fail> {
+    let ledger = Ledger::leaked(rt.alloc())?;
+    for sort in SORTS {
+        for len in [0, 1, 2, 50, 3000] {
+            ledger.begin(0);
+            assert_sort_drops(&rt, ledger, sort, len, 0)?;
+        }
+        ledger.begin(0);
+        assert_sort_drops(&rt, ledger, sort, 3000, 1)?;
     }
     Ok(())
 }
