@@ -27,6 +27,16 @@ class Audit(ToolTest):
         self.assertIn("\nthin_runner/src/lib.rt:planted: unsafe fn planted() {}\n", written)
         self.assertNotIn("gone", written)
 
+    def test_an_import_of_what_is_about_memory(self):
+        top = self.copy("mutants.d", "docs")
+        lemmas = top / "crates" / "thin_runner" / "proofs" / "RunLemmas.antt"
+        text = lemmas.read_text(encoding="utf-8")
+        imported = "use Rattle.thin_block.specs.Ownership.{Owns}"
+        lemmas.write_text(f"{imported}\n{text}", encoding="utf-8")
+        said = self.finds("audit", "--only", "layers", top=top)
+        found = "thin_runner/proofs/RunLemmas.antt: Rattle.thin_block.specs.Ownership"
+        self.assertIn(f"1 new, 0 gone\n  + {found}\n", said)
+
     def test_an_unknown_search(self):
         ran = self.run_tool("audit", "--only", "typo")
         self.assertEqual((ran.returncode, ran.stdout), (2, ""))
