@@ -63,6 +63,7 @@ class FromVec(ToolTest):
         for fact, clause in (
             ("push-at.ensures.lower_bound", "len`, by `grind"),
             ("in_err-extend_from_copies.ensures.items", "err"),
+            ("in_err-extend_from_slice-2.ensures.items", "err_items"),
             ("in_ok-resize-2.ensures.items", "items_if_clones_equal"),
         ):
             _, left = self.moved("c.len.ensures", f"of c.{fact}", answers)
