@@ -168,7 +168,7 @@ fn run_single<T: Numbered, G: Growth>(
 }
 
 /// Executes one command by `run`, with request number `refused` refused. Returns whether the
-/// requests, the answer, the items and the blocks are right.
+/// requests, the cause, and the numbers of items and of blocks are right.
 pub fn is_right<T: Numbered, G: Growth>(
     ledger: &'static Ledger,
     list: &mut List<T, G>,
