@@ -20,10 +20,27 @@ fn assert_write_refused(rt: &impl Abort, alloc: Global, bytes: &[u8]) -> Result<
     Ok(())
 }
 
+// Asserts that `write_vectored` and `write!` fail in the same way.
+fn assert_other_writes_refused(rt: &impl Abort, alloc: Global, bytes: &[u8]) -> Result<(), Fail> {
+    let refusing = Refusing::leaked(alloc, 0)?;
+    let mut list = list_of(refusing, bytes)?;
+    refusing.refuse(1);
+    let slices = [IoSlice::new(&[7]), IoSlice::new(&[8])];
+    let error = list.write_vectored(&slices).err().ok_or("written")?;
+    check!(rt; same(error.kind(), ErrorKind::OutOfMemory));
+    refusing.refuse(1);
+    let error = write!(list, "{}", 78).err().ok_or("written")?;
+    check!(rt; same(error.kind(), ErrorKind::OutOfMemory));
+    check!(rt; same((list.as_slice(), list.capacity()), (bytes, bytes.len())));
+    Ok(())
+}
+
 #[test]
 fn write_fails_with_the_kind_out_of_memory(rt: HostRuntime) -> Result<(), Fail> {
     assert_write_refused(&rt, rt.alloc(), &[])?;
-    assert_write_refused(&rt, rt.alloc(), &[1, 2])
+    assert_write_refused(&rt, rt.alloc(), &[1, 2])?;
+    assert_other_writes_refused(&rt, rt.alloc(), &[])?;
+    assert_other_writes_refused(&rt, rt.alloc(), &[1, 2])
 }
 
 #[test]
