@@ -1,5 +1,6 @@
 //! Tests that calls drop their closures, and with them what the closures own.
 use std::alloc::Global;
+use std::cmp::Ordering;
 use std::process::Abort;
 use std::rc::Rc;
 use std::test::Fail;
@@ -165,6 +166,11 @@ fn unsorted(
     Ok(list)
 }
 
+// Compares two items in a closure that owns a `Counted`.
+fn compared(_owned: &Counted<'_>, a: u64, b: u64) -> Ordering {
+    a.cmp(&b)
+}
+
 // Sorts the list by a closure that owns a `Counted`, and returns whether the call succeeds.
 fn sorts(
     ledger: &'static Ledger,
@@ -173,9 +179,7 @@ fn sorts(
 ) -> bool {
     let owned = Counted::new(ledger, 7, ());
     match sort {
-        Sort::By => list
-            .sort_by(move |a, b| if is_two(&owned, 2) { a.cmp(b) } else { b.cmp(a) })
-            .is_ok(),
+        Sort::By => list.sort_by(move |a, b| compared(&owned, *a, *b)).is_ok(),
         Sort::ByKey => list
             .sort_by_key(move |item| (is_two(&owned, 2), *item))
             .is_ok(),
@@ -183,7 +187,7 @@ fn sorts(
             .sort_by_cached_key(move |item| (is_two(&owned, 2), *item))
             .is_ok(),
         Sort::UnstableBy => {
-            list.sort_unstable_by(move |a, b| if is_two(&owned, 2) { a.cmp(b) } else { b.cmp(a) });
+            list.sort_unstable_by(move |a, b| compared(&owned, *a, *b));
             true
         }
         Sort::UnstableByKey => {

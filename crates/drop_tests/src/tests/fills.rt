@@ -55,7 +55,11 @@ fn sum_of_drops(len: u64) -> u64 {
     for number in 0..len {
         sum = Ledger::add_drop(sum, number);
     }
-    if len == 0 { Ledger::add_drop(sum, VALUE) } else { sum }
+    if len == 0 {
+        Ledger::add_drop(sum, VALUE)
+    } else {
+        sum
+    }
 }
 
 // Fills a list of `len` items while every request is refused.
