@@ -7,7 +7,8 @@ use thin_testing::{
 #[test]
 fn detects_a_wrong_value(rt: HostRuntime) {
     check!(rt; same(1, 1));
-    check!(rt; same(same(1, 2).is_err(), true));
+    // The other tests rely on `same`, so it is not tested by itself.
+    assert!(rt; same(1, 2).is_err());
     for wrong in [&[][..], &[1], &[1, 3], &[1, 2, 2]] {
         check!(rt; same(same_items(&[1, 2], wrong).is_err(), true));
     }

@@ -119,6 +119,8 @@ fn write_as_slice<T: Copy + Ord + Drop>(
     let ends = (list.first_mut().is_some(), list.last_mut().is_some());
     let found = (ends, list.get_mut(0).is_some());
     check!(rt; same(found, ((len > 0, len > 0), len > 0)));
+    // The calls above are methods of the list. This one is only a method of slices.
+    check!(rt; same(list.iter_mut().count(), len));
 }
 
 // Counts the items by a loop that reads them, and by one that may write to them.
