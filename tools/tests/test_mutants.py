@@ -138,6 +138,35 @@ seen = "rows_tests drops_each_value_once"
                 told = f"NOT SEEN {body.name}: no test blind of one fails\n"
                 self.assertEqual(said.getvalue() == told, bool(bad), said.getvalue())
 
+    def test_another_test_sees_a_body_only_if_it_passes_without_one(self):
+        mutants = load("mutants")
+        body = mutants.wrong_bodies()[0]
+        body.seen, body.alone = ("one", "blind"), False
+        # Which numbers of a body each test fails for. No body names the test that always fails.
+        fails = {"blind": (), "always": (0, 1), "sees": (1,)}
+        started = []
+        tests = mock.Mock(crate="one", panics=dict.fromkeys(fails))
+        tests.named = lambda pattern: [it for it in tests.panics if pattern in (it, "*")]
+
+        def run(test, number, *_):
+            started.append((test, number))
+            return number in fails[test]
+
+        tests.fails = run
+        for all_tests in (False, True):
+            started.clear()
+            options = types.SimpleNamespace(jobs=1, sample=False, all=all_tests)
+            with self.subTest(all_tests), mock.patch.object(mutants, "built", return_value=tests):
+                with mock.patch.object(mutants, "crates", return_value=[]):
+                    with contextlib.redirect_stdout(io.StringIO()) as said:
+                        trial = mutants.Trial([body], options, self.folder())
+                        self.assertEqual(trial.try_all(), 1)
+                # Without the option, only the test that the body names runs first without it.
+                first = {(test, 0) for test in (fails if all_tests else ["blind"])}
+                self.assertEqual(set(started[: len(first)]), first)
+                self.assertIn("sees", said.getvalue())
+                self.assertNotIn("one always", said.getvalue())
+
     def test_a_sample_is_built_with_the_tests_that_it_names(self):
         mutants = load("mutants")
         seen = {("ported_tests", "drain_yields_ranges*"), ("thin_bench", "output")}
