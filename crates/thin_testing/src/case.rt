@@ -52,7 +52,7 @@ impl At {
     /// Returns a random case of lists of `T`: the length, the spare capacity, and what `Case`
     /// chooses.
     pub fn random<T: Numbered>(round: usize, call: usize) -> At {
-        let seed = round.wrapping_mul(4096).wrapping_add(T::SIZE);
+        let seed = round.wrapping_mul(4096).wrapping_add(T::size());
         let seed = seed.wrapping_mul(64).wrapping_add(call);
         let at = At {
             call: "",
@@ -70,7 +70,7 @@ impl At {
 
     /// Returns the number of random cases of a call on lists of `T`.
     pub fn rounds<T: Numbered>() -> usize {
-        if T::SIZE > 100 { 12 } else { 60 }
+        if T::size() > 100 { 12 } else { 60 }
     }
 
     /// Whether all choices of the case are random.

@@ -25,7 +25,7 @@ pub use claims::Claims;
 pub use ledger::{Counted, CountedWord, Ledger};
 pub use lists::{counted_list, list_of, splice};
 pub use multiples::{Fourfold, Threefold};
-pub use numbered::{Numbered, block_bytes};
+pub use numbered::{Numbered, block_bytes, greatest_capacity};
 pub use refusing::Refusing;
 pub use ruled::{Ruled, least_power};
 pub use texts::{Misprinted, prints, prints_as};

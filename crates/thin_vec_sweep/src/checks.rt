@@ -4,8 +4,10 @@ use crate::asserts::{assert_right, assert_same};
 use crate::sweep::{Calls, sweep, sweep_at_random};
 use std::alloc::Global;
 use std::process::Abort;
-use std::test::Fail;
-use thin_testing::{Answer, At, Case, Claims, Counted, Due, Ledger};
+use thin_testing::{
+    Answer, At, Case, Claims, Counted, CountedWord, Due, Ledger, Numbered, Pattern,
+    greatest_capacity,
+};
 use thin_vec::{Doubling, Growth, ThinVecError};
 
 // Three calls, which make as many requests as their numbers say.
@@ -73,8 +75,32 @@ fn two_items<R: Abort>(rt: &R, alloc: Global, refused: u64) -> Case<Item16, Doub
     case_of(rt, alloc, at)
 }
 
+// Returns a number with one bit, which stands for a choice.
+fn bit(choice: usize) -> u64 {
+    1 << (choice % 64)
+}
+
+// Returns the bits of the index, of the range and of the number of new items of a case.
+fn choices<R: Abort>(rt: &R, alloc: Global, at: At) -> (u64, u64, u64) {
+    let case = case_of(rt, alloc, at);
+    let (start, end) = case.range();
+    let range = start.saturating_mul(8).saturating_add(end);
+    (bit(case.index()), bit(range), bit(case.count()))
+}
+
+// Returns the bits of the four items that a pattern keeps.
+fn kept(pattern: Pattern) -> u64 {
+    let mut kept = 0;
+    for index in 0..4_usize {
+        if pattern.keeps(index as u64) {
+            kept |= bit(index);
+        }
+    }
+    kept
+}
+
 // On a list of four items, the arguments below 25 choose each index, each range and each number of
-// new items, and those below 16 choose each pattern. A bit of each number stands for a choice.
+// new items, and those below 16 choose each pattern.
 #[test]
 fn arguments_choose_each_index_range_number_and_pattern(rt: HostRuntime) {
     let (mut indices, mut ranges, mut counts) = (0_u64, 0_u64, 0_u64);
@@ -86,18 +112,9 @@ fn arguments_choose_each_index_range_number_and_pattern(rt: HostRuntime) {
             argument,
             refused: 0,
         };
-        let case = case_of(&rt, rt.alloc(), at);
-        let (start, end) = case.range();
-        indices |= 1 << (case.index() % 64);
-        ranges |= 1 << (start.saturating_mul(8).saturating_add(end) % 64);
-        counts |= 1 << (case.count() % 64);
-        let mut kept: u64 = 0;
-        for index in 0..4_u64 {
-            if at.pattern().keeps(index) {
-                kept |= 1 << (index % 64);
-            }
-        }
-        assert_eq!(rt; kept, argument as u64 % 16);
+        let (index, range, count) = choices(&rt, rt.alloc(), at);
+        (indices, ranges, counts) = (indices | index, ranges | range, counts | count);
+        assert_eq!(rt; kept(at.pattern()), argument as u64 % 16);
     }
     assert_eq!(rt; (indices, ranges), (0b1_1111, 0x10_181c_1e1f));
     assert_eq!(rt; counts, 0x2000_0002_022f);
@@ -152,18 +169,73 @@ fn patterns_of_long_lists_keep_some_items(rt: HostRuntime) {
     }
 }
 
+// Asserts the size and the alignment of a type, and the greatest capacity of a list of it.
+fn assert_layout<T: Numbered, R: Abort>(rt: &R, layout: (usize, usize), greatest: usize) {
+    assert_eq!(rt; (T::size(), T::align()), layout);
+    assert_eq!(rt; greatest_capacity::<T>(), greatest);
+}
+
+// These numbers were computed by hand.
 #[test]
-fn claims_tell_the_bounds_that_are_asked_for(rt: HostRuntime) -> Result<(), Fail> {
-    let ledger = Ledger::leaked(rt.alloc())?;
-    let hints = [
-        Claims::new(ledger, [7, 8].to_vec(rt.alloc())?, 3, true).size_hint(),
-        Claims::new(ledger, [7, 8].to_vec(rt.alloc())?, 3, false).size_hint(),
-        Claims::new(ledger, [7, 8].to_vec(rt.alloc())?, usize::MAX, true).size_hint(),
-        Claims::exact(ledger, [7, 8].to_vec(rt.alloc())?).size_hint(),
-    ];
-    let wanted = [(3, Some(5)), (3, None), (usize::MAX, None), (2, Some(2))];
-    assert_eq!(rt; (hints, ledger.hints.get()), (wanted, 4));
-    Ok(())
+fn layouts_and_greatest_capacities_of_item_types(rt: HostRuntime) {
+    assert_layout::<(), _>(&rt, (0, 1), 9_223_372_036_854_775_807);
+    assert_layout::<[u128; 0], _>(&rt, (0, 16), 9_223_372_036_854_775_807);
+    assert_layout::<u8, _>(&rt, (1, 1), 9_223_372_036_854_775_784);
+    assert_layout::<[u8; 3], _>(&rt, (3, 1), 3_074_457_345_618_258_594);
+    assert_layout::<[u8; 4], _>(&rt, (4, 1), 2_305_843_009_213_693_946);
+    assert_layout::<[u8; 5], _>(&rt, (5, 1), 1_844_674_407_370_955_156);
+    assert_layout::<[u8; 7], _>(&rt, (7, 1), 1_317_624_576_693_539_397);
+    assert_layout::<[u8; 8], _>(&rt, (8, 1), 1_152_921_504_606_846_973);
+    assert_layout::<[u8; 16], _>(&rt, (16, 1), 576_460_752_303_423_486);
+    assert_layout::<[u8; 32], _>(&rt, (32, 1), 288_230_376_151_711_743);
+    assert_layout::<u16, _>(&rt, (2, 2), 4_611_686_018_427_387_892);
+    assert_layout::<i32, _>(&rt, (4, 4), 2_305_843_009_213_693_946);
+    assert_layout::<[u32; 2], _>(&rt, (8, 4), 1_152_921_504_606_846_973);
+    assert_layout::<[u32; 3], _>(&rt, (12, 4), 768_614_336_404_564_648);
+    assert_layout::<[u32; 4], _>(&rt, (16, 4), 576_460_752_303_423_486);
+    assert_layout::<[u32; 5], _>(&rt, (20, 4), 461_168_601_842_738_789);
+    assert_layout::<[u32; 6], _>(&rt, (24, 4), 384_307_168_202_282_324);
+    assert_layout::<[u32; 7], _>(&rt, (28, 4), 329_406_144_173_384_849);
+    assert_layout::<u64, _>(&rt, (8, 8), 1_152_921_504_606_846_973);
+    assert_layout::<[u64; 2], _>(&rt, (16, 8), 576_460_752_303_423_486);
+    assert_layout::<[u64; 3], _>(&rt, (24, 8), 384_307_168_202_282_324);
+    assert_layout::<[u64; 5], _>(&rt, (40, 8), 230_584_300_921_369_394);
+    assert_layout::<[u64; 6], _>(&rt, (48, 8), 192_153_584_101_141_162);
+    assert_layout::<[u64; 12], _>(&rt, (96, 8), 96_076_792_050_570_581);
+    assert_layout::<[u64; 32], _>(&rt, (256, 8), 36_028_797_018_963_967);
+    assert_layout::<[u64; 40], _>(&rt, (320, 8), 28_823_037_615_171_174);
+    assert_layout::<u128, _>(&rt, (16, 16), 576_460_752_303_423_486);
+    assert_layout::<[u128; 3], _>(&rt, (48, 16), 192_153_584_101_141_162);
+    assert_layout::<CountedWord<'static>, _>(&rt, (8, 8), 1_152_921_504_606_846_973);
+    assert_layout::<Counted<'static>, _>(&rt, (16, 8), 576_460_752_303_423_486);
+    assert_layout::<Counted<'static, u64>, _>(&rt, (24, 8), 384_307_168_202_282_324);
+    assert_layout::<Counted<'static, u128>, _>(&rt, (32, 16), 288_230_376_151_711_743);
+    assert_layout::<Counted<'static, [u64; 6]>, _>(&rt, (64, 8), 144_115_188_075_855_871);
+    assert_layout::<Counted<'static, [u64; 14]>, _>(&rt, (128, 8), 72_057_594_037_927_935);
+    assert_layout::<Counted<'static, [u64; 62]>, _>(&rt, (512, 8), 18_014_398_509_481_983);
+    assert_layout::<Counted<'static, [u64; 254]>, _>(&rt, (2048, 8), 4_503_599_627_370_495);
+}
+
+// Returns the size hint of an iterator over two items.
+fn claimed<R: Abort>(
+    rt: &R,
+    ledger: &Ledger,
+    lower: usize,
+    is_bounded: bool,
+) -> (usize, Option<usize>) {
+    let items = [7, 8].to_vec(ledger.global).expect(rt, "memory");
+    Claims::new(ledger, items, lower, is_bounded).size_hint()
+}
+
+#[test]
+fn claims_tell_the_bounds_that_are_asked_for(rt: HostRuntime) {
+    let ledger = Ledger::leaked(rt.alloc()).expect(&rt, "memory");
+    assert_eq!(rt; claimed(&rt, ledger, 3, true), (3, Some(5)));
+    assert_eq!(rt; claimed(&rt, ledger, 3, false), (3, None));
+    assert_eq!(rt; claimed(&rt, ledger, usize::MAX, true), (usize::MAX, None));
+    let items = [7, 8].to_vec(rt.alloc()).expect(&rt, "memory");
+    let exact = Claims::exact(ledger, items).size_hint();
+    assert_eq!(rt; (exact, ledger.hints.get()), ((2, Some(2)), 4));
 }
 
 #[test]

@@ -78,7 +78,7 @@ fn assert_capacities<T: Numbered, A: Allocator>(
 // Tries lists whose items take about 256 bytes, once with refused requests and once over the
 // allocator of the program, which can enlarge a block where it is.
 fn assert_type<T: Numbered>(rt: &impl Abort, ledger: &'static Ledger) -> Result<(), ThinVecError> {
-    let long = 256_usize.checked_div(T::SIZE).unwrap_or(0);
+    let long = 256_usize.checked_div(T::size()).unwrap_or(0);
     for len in long.saturating_sub(1)..long.saturating_add(9) {
         for more in [1, 2, 3, 4, 5, 6, 7, 8, 9, 6000, 70_000] {
             ledger.begin(0);

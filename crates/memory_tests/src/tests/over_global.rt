@@ -26,7 +26,7 @@ fn make_and_end<T: Numbered>(
 ) -> io::Result<()>
     requires small { 1 * type_size T.row < 2 ^ 63 }
 {
-    let capacity = LARGE.checked_div(T::SIZE).unwrap_or(0);
+    let capacity = LARGE.checked_div(T::size()).unwrap_or(0);
     let mut list: ThinVec<T> = ThinVec::with_capacity(alloc, capacity)?;
     list.resize(len, T::numbered(ledger, 7))?;
     match way {
@@ -58,7 +58,7 @@ fn assert_freed<T: Numbered>(rt: &impl Abort, ledger: &'static Ledger, alloc: Gl
                 made = made.saturating_add(1);
             }
         }
-        check!(rt; same((T::SIZE, way, len, made), (T::SIZE, way, len, ROUNDS)));
+        check!(rt; same((T::size(), way, len, made), (T::size(), way, len, ROUNDS)));
     }
 }
 

@@ -21,7 +21,7 @@ const FULL: usize = 42;
 
 // Returns whether a block for `FULL` items of this type just fits into a power of two.
 fn fills_power<T: Numbered>() -> bool {
-    T::SIZE == 24 || T::SIZE == 48
+    T::size() == 24 || T::size() == 48
 }
 
 // Returns the size in bytes of a block for `capacity` items. The block is padded if `capacity` is
@@ -31,10 +31,10 @@ fn bytes_of<T: Numbered>(capacity: usize, least: Option<usize>) -> usize {
     match (capacity, least) {
         (0, _) => 0,
         (_, Some(least)) if capacity >= least && !is_full => {
-            capacity.saturating_add(2).saturating_mul(T::SIZE)
+            capacity.saturating_add(2).saturating_mul(T::size())
         }
         _ => {
-            let bytes = capacity.saturating_mul(T::SIZE).saturating_add(16);
+            let bytes = capacity.saturating_mul(T::size()).saturating_add(16);
             bytes.div_ceil(8).saturating_mul(8)
         }
     }
@@ -301,7 +301,7 @@ fn assert_requests<T: Numbered, G: Ruled>(
         ledger.begin(0);
         list.push(T::numbered(ledger, number))?;
         let wanted = if len == capacity {
-            let grown = G::expected_capacity(T::SIZE, capacity, len.saturating_add(1));
+            let grown = G::expected_capacity(T::size(), capacity, len.saturating_add(1));
             (grown, 1, bytes_of::<T>(grown, least))
         } else {
             (capacity, 0, 0)

@@ -5,7 +5,8 @@ use crate::asserts::{assert_right, assert_same};
 use std::iter;
 use std::process::Abort;
 use thin_testing::{
-    At, Case, Choice, Claims, Ledger, Numbered, Ruled, block_bytes, numbered_items,
+    At, Case, Choice, Claims, Ledger, Numbered, Ruled, block_bytes, greatest_capacity,
+    numbered_items,
 };
 use thin_vec::{CollectRefused, Doubling, ExtendRefused, Growth, ThinVec, ThinVecError};
 
@@ -78,7 +79,7 @@ impl Filling {
         if want <= self.capacity {
             return Some(self.capacity);
         }
-        fitting::<T>(G::expected_capacity(T::SIZE, self.capacity, want))
+        fitting::<T>(G::expected_capacity(T::size(), self.capacity, want))
     }
 
     /// Appends `count` items to a list of `length` items. First, the list grows to `hinted`. Then
@@ -111,13 +112,13 @@ impl Filling {
     /// Returns whether the list has room for more than 1,000,000 items, so that only a test with
     /// the request refused can be made.
     pub fn is_too_much<T: Numbered>(&self) -> bool {
-        self.capacity > 1_000_000 && T::SIZE > 0
+        self.capacity > 1_000_000 && T::size() > 0
     }
 }
 
 /// Returns `capacity` if a list of `T` can have this capacity.
 pub fn fitting<T: Numbered>(capacity: usize) -> Option<usize> {
-    if capacity <= T::LIMIT {
+    if capacity <= greatest_capacity::<T>() {
         Some(capacity)
     } else {
         None
@@ -197,7 +198,7 @@ pub fn nth_source<T: Numbered>(at: At, number: usize, count: usize) -> Source {
     if at.is_random() {
         return Source::random(at);
     }
-    let most = T::LIMIT.saturating_sub(at.length);
+    let most = greatest_capacity::<T>().saturating_sub(at.length);
     let lower = match number / 2 {
         0 => 0,
         1 => 1,

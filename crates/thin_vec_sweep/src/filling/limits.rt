@@ -1,7 +1,7 @@
 //! Requests for large blocks and for the greatest capacity, and calls whose capacity overflows.
 use crate::asserts::assert_right;
 use std::process::Abort;
-use thin_testing::{At, Case, Ledger, List, Numbered, Ruled};
+use thin_testing::{At, Case, Ledger, List, Numbered, Ruled, greatest_capacity};
 use thin_vec::{Doubling, Growth, ThinVec, ThinVecError};
 
 // The calls that are tried.
@@ -22,14 +22,15 @@ const CALLS: [Call; 5] = [
     Call::ResizeWith,
 ];
 
-/// Asserts that calls which need a power of two, or the capacity `T::LIMIT`, make one request, and
+/// Asserts that calls which need a power of two, or the greatest capacity, make one request, and
 /// that calls which need a greater capacity fail without a request.
 pub fn limits<T: Numbered, G: Ruled, R: Abort>(rt: &R, ledger: &'static Ledger) {
+    let greatest = greatest_capacity::<T>();
     for length in 0..3 {
         for call in CALLS {
             let mut capacity: usize = 8;
             for _ in 3..64 {
-                let needed = capacity.min(T::LIMIT);
+                let needed = capacity.min(greatest);
                 let answer = limit::<T, G, R>(rt, ledger, length, call, needed, 1);
                 assert!(rt;
                     answer == (Err(ThinVecError::OutOfMemory), 1),
@@ -38,7 +39,7 @@ pub fn limits<T: Numbered, G: Ruled, R: Abort>(rt: &R, ledger: &'static Ledger) 
                 capacity = capacity.saturating_mul(2);
             }
             for more in [
-                T::LIMIT.saturating_add(1),
+                greatest.saturating_add(1),
                 isize::MAX as usize + 1,
                 usize::MAX,
             ] {

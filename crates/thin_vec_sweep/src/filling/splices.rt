@@ -89,7 +89,7 @@ fn due_before_tail<T: Numbered, G: Ruled>(
 // Computes the requests of a `Vec` that begins empty and takes `count` items. Returns whether it
 // gets the memory for all of them.
 fn is_held<T: Numbered>(due: &mut Filling, count: usize) -> bool {
-    let first = match T::SIZE {
+    let first = match T::size() {
         0..=1 => 8,
         2..=1024 => 4,
         _ => 1,
@@ -98,7 +98,7 @@ fn is_held<T: Numbered>(due: &mut Filling, count: usize) -> bool {
     for held in 0..count {
         if held == room {
             room = room.saturating_mul(2).max(first);
-            if !due.is_granted(room.saturating_mul(T::SIZE) as u64) {
+            if !due.is_granted(room.saturating_mul(T::size()) as u64) {
                 due.held = held.saturating_add(1);
                 return false;
             }
