@@ -115,7 +115,7 @@ class Evidence(ToolTest):
 
     def test_it_follows_what_is_in_another_crate_now(self):
         top = self.copy("proofs", "specs")
-        tests = top / "crates" / "drop_tests" / "src"
+        tests = top / "crates" / "memory_tests" / "src"
         moved = next(
             path
             for path in tests.rglob("*.rt")
@@ -125,13 +125,13 @@ class Evidence(ToolTest):
         said = self.passes("evidence", "--follow", top=top)
         for name in ("alloc", "io", "thin_vec"):
             test = f"converting_to_{name}_error_drops_the_refusal"
-            self.assertIn(f"\ndrop_tests {test} is runner_tests {test}\n", f"\n{said}")
+            self.assertIn(f"\nmemory_tests {test} is runner_tests {test}\n", f"\n{said}")
         test = "converting_to_«error»_drops_the_refusal"
-        self.assertIn(f"drop_tests {test} is runner_tests {test}\n", said)
+        self.assertIn(f"memory_tests {test} is runner_tests {test}\n", said)
         kept = (top / "tools" / "mutants.d" / "thin_vec" / "errors.toml").read_text(
             encoding="utf-8"
         )
-        self.assertNotIn('"drop_tests converting_to_', kept)
+        self.assertNotIn('"memory_tests converting_to_', kept)
         self.assertEqual(self.passes("evidence", "--follow", top=top), "")
 
     def test_no_file_of_promises(self):

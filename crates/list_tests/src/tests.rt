@@ -1,11 +1,16 @@
 mod closures;
+mod comparing;
 mod conversions;
 mod edits;
 mod filling;
 mod growth;
 mod hints;
 mod macros;
+mod names;
 mod refused;
 mod splices;
+mod texts;
+mod threads;
+mod traits;
 pub mod widths;
 mod writes;

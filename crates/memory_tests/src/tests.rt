@@ -1,5 +1,6 @@
 mod allocators;
 mod checks;
+mod drops;
 mod in_place;
 mod no_memory;
 mod over_global;

@@ -1,5 +1,0 @@
-mod comparing;
-mod names;
-mod texts;
-mod threads;
-mod traits;
