@@ -1,5 +1,5 @@
 //! Checks of values, of lists and of an allocator. Only a test may stop a program, so a check
-//! returns what is wrong, and the test stops with it, by `?` or by the macro `check!`.
+//! returns what is wrong, and the test stops with it by the macro `check!`.
 ghost use Rattle.std.specs.Prelude.{◌≡◌, IfOk, length};
 
 use crate::refusing::Refusing;
@@ -70,11 +70,13 @@ pub fn counts(
     same((refusing.requests(), refusing.blocks()), (requests, blocks))
 }
 
-/// Stops the test unless the check finds nothing wrong. The message has the line of the test, the
-/// check, what it found and what it wanted. With a `?`, it has what was found and wanted alone.
+/// Gives the value of a `Result` or an `Option`, and stops the test if there is none. The message
+/// has the line of the test, the expression and the error. That of a check says what the check
+/// found and what it wanted. A `?` in a test would print the error alone, and its proof takes
+/// longer.
 #[macro_export]
 macro_rules! check {
     ($rt:expr; $checked:expr) => {
-        std::panic::Expect::expect($checked, &$rt, stringify!($checked))
+        $checked.expect(&$rt, stringify!($checked))
     };
 }

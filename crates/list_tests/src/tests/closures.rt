@@ -2,7 +2,6 @@
 //! a variable that it borrows.
 use std::alloc::Global;
 use std::cell::Cell;
-use std::test::Fail;
 use thin_testing::{Refusing, check, holds, list_of, same, same_items};
 use thin_vec::ThinVec;
 
@@ -14,18 +13,17 @@ fn key(asked: &Cell<u64>, item: i32) -> i32 {
 }
 
 #[test]
-fn dedup_by_key_asks_the_later_item_and_then_the_kept_one(rt: HostRuntime) -> Result<(), Fail> {
-    let (mut list, asked) = (list_of(rt.alloc(), &[10, 11, 20])?, Cell::new(0));
+fn dedup_by_key_asks_the_later_item_and_then_the_kept_one(rt: HostRuntime) {
+    let (mut list, asked) = (check!(rt; list_of(rt.alloc(), &[10, 11, 20])), Cell::new(0));
     list.dedup_by_key(|item| key(&asked, *item));
     check!(rt; same(asked.get(), 11_10_20_10));
     check!(rt; holds(&list, &[10, 20], 3));
     let (mut list, asked) = (
-        list_of(rt.alloc(), &[[10; 40], [11; 40], [20; 40]])?,
+        check!(rt; list_of(rt.alloc(), &[[10; 40], [11; 40], [20; 40]])),
         Cell::new(0),
     );
     list.dedup_by_key(|item| key(&asked, item[0]));
     check!(rt; same((asked.get(), list.len()), (11_10_20_10, 2)));
-    Ok(())
 }
 
 // Counts a call, and returns 1.
@@ -43,8 +41,8 @@ fn resize_with_calls_no_closure_if_refused(rt: HostRuntime) {
 }
 
 #[test]
-fn retain_mut_numbers_the_items(rt: HostRuntime) -> Result<(), Fail> {
-    let mut list = list_of(rt.alloc(), &[9, 9, 9, 9])?;
+fn retain_mut_numbers_the_items(rt: HostRuntime) {
+    let mut list = check!(rt; list_of(rt.alloc(), &[9, 9, 9, 9]));
     let mut number: i32 = 0;
     list.retain_mut(|item| {
         number = number.saturating_add(1);
@@ -53,12 +51,11 @@ fn retain_mut_numbers_the_items(rt: HostRuntime) -> Result<(), Fail> {
     });
     check!(rt; same_items(&list, &[1, 2, 3]));
     check!(rt; same(number, 4));
-    Ok(())
 }
 
 #[test]
-fn closures_count_their_calls_in_a_variable(rt: HostRuntime) -> Result<(), Fail> {
-    let mut list = list_of(rt.alloc(), &[1, 2, 2, 3])?;
+fn closures_count_their_calls_in_a_variable(rt: HostRuntime) {
+    let mut list = check!(rt; list_of(rt.alloc(), &[1, 2, 2, 3]));
     let mut calls: u32 = 0;
     list.retain(|item| {
         calls = calls.wrapping_add(1);
@@ -80,11 +77,10 @@ fn closures_count_their_calls_in_a_variable(rt: HostRuntime) -> Result<(), Fail>
         *item == 3
     });
     check!(rt; same((last, calls), (Some(3), 12)));
-    list.resize_with(4, || {
+    check!(rt; list.resize_with(4, || {
         calls = calls.wrapping_add(1);
         9
-    })?;
+    }));
     check!(rt; same(calls, 14));
     check!(rt; same_items(&list, &[1, 2, 9, 9]));
-    Ok(())
 }

@@ -11,7 +11,6 @@ use std::alloc::Global;
 use std::cmp::Ordering;
 use std::hash::{DefaultHasher, Hash, Hasher};
 use std::process::Abort;
-use std::test::Fail;
 use thin_testing::{check, list_of, same};
 use thin_vec::{ThinVec, ThinVecError};
 
@@ -94,28 +93,26 @@ fn assert_numbers(rt: &impl Abort, list: &ThinVec<LastDigit>, numbers: &[u32]) {
 }
 
 #[test]
-fn dedup_keeps_the_first_of_equal_items(rt: HostRuntime) -> Result<(), Fail> {
-    let mut list = digits(rt.alloc(), &[10, 20, 31, 1])?;
+fn dedup_keeps_the_first_of_equal_items(rt: HostRuntime) {
+    let mut list = check!(rt; digits(rt.alloc(), &[10, 20, 31, 1]));
     list.dedup();
     assert_numbers(&rt, &list, &[10, 31]);
-    Ok(())
 }
 
 #[test]
-fn lists_of_equal_items_are_equal_and_hash_alike(rt: HostRuntime) -> Result<(), Fail> {
+fn lists_of_equal_items_are_equal_and_hash_alike(rt: HostRuntime) {
     for &(others, order) in &[
         ([0, 1], Ordering::Equal),
         ([0, 2], Ordering::Less),
         ([9, 1], Ordering::Less),
         ([40, 60], Ordering::Greater),
     ] {
-        let list = digits(rt.alloc(), &[10, 31])?;
-        let other = digits(rt.alloc(), &others)?;
+        let list = check!(rt; digits(rt.alloc(), &[10, 31]));
+        let other = check!(rt; digits(rt.alloc(), &others));
         let is_equal = order == Ordering::Equal;
         check!(rt; same((list == other, list.cmp(&other)), (is_equal, order)));
         check!(rt; same(hash_of(&list) == hash_of(&other), is_equal));
     }
-    Ok(())
 }
 
 fn hash_of_list(list: &ThinVec<i32>) -> u64 {
@@ -131,18 +128,16 @@ fn hash_of_slice(items: &[i32]) -> u64 {
 }
 
 #[test]
-fn a_list_and_its_slice_hash_alike(rt: HostRuntime) -> Result<(), Fail> {
+fn a_list_and_its_slice_hash_alike(rt: HostRuntime) {
     for items in [&[][..], &[7], &[1, 2, 3], &[5; 100]] {
-        let mut list = list_of(rt.alloc(), items)?;
-        list.reserve(9)?;
+        let mut list = check!(rt; list_of(rt.alloc(), items));
+        check!(rt; list.reserve(9));
         check!(rt; same(hash_of_list(&list), hash_of_slice(items)));
     }
-    Ok(())
 }
 
 #[test]
-fn lists_of_nan_are_not_ordered(rt: HostRuntime) -> Result<(), Fail> {
-    let list = list_of(rt.alloc(), &[1.0, f64::NAN])?;
+fn lists_of_nan_are_not_ordered(rt: HostRuntime) {
+    let list = check!(rt; list_of(rt.alloc(), &[1.0, f64::NAN]));
     check!(rt; same((list == list, list.partial_cmp(&list)), (false, None)));
-    Ok(())
 }

@@ -3,163 +3,138 @@
 use std::alloc::Global;
 use std::mem;
 use std::process::Abort;
-use std::test::Fail;
 use thin_testing::{Refusing, check, has_len, holds, list_of, same, same_items};
 use thin_vec::ThinVec;
 
-fn assert_collect_removes(
-    rt: &impl Abort,
-    alloc: Global,
-    list: &mut ThinVec<i32>,
-) -> Result<(), Fail> {
+fn assert_collect_removes(rt: &impl Abort, alloc: Global, list: &mut ThinVec<i32>) {
     check!(rt; has_len(list, 6));
-    let items: Vec<i32> = list.drain(1, 3).collect(alloc)?;
+    let items: Vec<i32> = check!(rt; list.drain(1, 3).collect(alloc));
     check!(rt; same_items(&items, &[2, 3]));
     check!(rt; same_items(list, &[1, 4, 5, 6]));
-    Ok(())
 }
 
-fn assert_collect_of_rev_removes(
-    rt: &impl Abort,
-    alloc: Global,
-    list: &mut ThinVec<i32>,
-) -> Result<(), Fail> {
+fn assert_collect_of_rev_removes(rt: &impl Abort, alloc: Global, list: &mut ThinVec<i32>) {
     check!(rt; has_len(list, 4));
-    let items: Vec<i32> = list.drain(0, 2).rev().collect(alloc)?;
+    let items: Vec<i32> = check!(rt; list.drain(0, 2).rev().collect(alloc));
     check!(rt; same_items(&items, &[4, 1]));
     check!(rt; same_items(list, &[5, 6]));
-    Ok(())
 }
 
 #[test]
-fn collect_removes_the_drained_items(rt: HostRuntime) -> Result<(), Fail> {
-    let mut list = list_of(rt.alloc(), &[1, 2, 3, 4, 5, 6])?;
-    assert_collect_removes(&rt, rt.alloc(), &mut list)?;
-    assert_collect_of_rev_removes(&rt, rt.alloc(), &mut list)?;
+fn collect_removes_the_drained_items(rt: HostRuntime) {
+    let mut list = check!(rt; list_of(rt.alloc(), &[1, 2, 3, 4, 5, 6]));
+    assert_collect_removes(&rt, rt.alloc(), &mut list);
+    assert_collect_of_rev_removes(&rt, rt.alloc(), &mut list);
     check!(rt; has_len(&list, 2));
-    let last: ThinVec<i32> = list.drain(1, 2).collect(rt.alloc())?;
+    let last: ThinVec<i32> = check!(rt; list.drain(1, 2).collect(rt.alloc()));
     check!(rt; same_items(&last, &[6]));
     check!(rt; same_items(&list, &[5]));
-    Ok(())
 }
 
 #[test]
-fn collect_removes_the_extracted_items(rt: HostRuntime) -> Result<(), Fail> {
-    let mut list = list_of(rt.alloc(), &[1, 2, 3, 4])?;
+fn collect_removes_the_extracted_items(rt: HostRuntime) {
+    let mut list = check!(rt; list_of(rt.alloc(), &[1, 2, 3, 4]));
     check!(rt; has_len(&list, 4));
-    let even: ThinVec<i32> = list
+    let even: ThinVec<i32> = check!(rt; list
         .extract_if(0, 4, |x: &mut i32| *x % 2 == 0)
-        .collect(rt.alloc())?;
+        .collect(rt.alloc()));
     check!(rt; same_items(&even, &[2, 4]));
     check!(rt; same_items(&list, &[1, 3]));
-    Ok(())
 }
 
 #[test]
-fn extend_removes_the_drained_items(rt: HostRuntime) -> Result<(), Fail> {
-    let mut list = list_of(rt.alloc(), &[1, 2, 3, 4])?;
-    let mut other = list_of(rt.alloc(), &[9])?;
+fn extend_removes_the_drained_items(rt: HostRuntime) {
+    let mut list = check!(rt; list_of(rt.alloc(), &[1, 2, 3, 4]));
+    let mut other = check!(rt; list_of(rt.alloc(), &[9]));
     check!(rt; has_len(&list, 4));
-    other.extend(list.drain(1, 3))?;
+    check!(rt; other.extend(list.drain(1, 3)));
     check!(rt; same_items(&list, &[1, 4]));
     check!(rt; same_items(&other, &[9, 2, 3]));
-    Ok(())
 }
 
 #[test]
-fn from_iter_removes_the_drained_items(rt: HostRuntime) -> Result<(), Fail> {
-    let mut list = list_of(rt.alloc(), &[1, 2, 3, 4])?;
+fn from_iter_removes_the_drained_items(rt: HostRuntime) {
+    let mut list = check!(rt; list_of(rt.alloc(), &[1, 2, 3, 4]));
     check!(rt; has_len(&list, 4));
-    let made = ThinVec::from_iter(rt.alloc(), list.drain(1, 3))?;
+    let made = check!(rt; ThinVec::from_iter(rt.alloc(), list.drain(1, 3)));
     check!(rt; same_items(&list, &[1, 4]));
     check!(rt; same_items(&made, &[2, 3]));
-    Ok(())
 }
 
-fn assert_extend_removes(
-    rt: &impl Abort,
-    alloc: Global,
-    list: &mut ThinVec<i32>,
-) -> Result<(), Fail> {
+fn assert_extend_removes(rt: &impl Abort, alloc: Global, list: &mut ThinVec<i32>) {
     check!(rt; has_len(list, 6));
-    let mut other = list_of(alloc, &[9])?;
-    other.extend(list.extract_if(1, 5, |x: &mut i32| *x % 2 == 0))?;
+    let mut other = check!(rt; list_of(alloc, &[9]));
+    check!(rt; other.extend(list.extract_if(1, 5, |x: &mut i32| *x % 2 == 0)));
     check!(rt; same_items(list, &[1, 3, 5, 6]));
     check!(rt; same_items(&other, &[9, 2, 4]));
-    Ok(())
 }
 
 #[test]
-fn extend_and_from_iter_remove_the_extracted_items(rt: HostRuntime) -> Result<(), Fail> {
-    let mut list = list_of(rt.alloc(), &[1, 2, 3, 4, 5, 6])?;
-    assert_extend_removes(&rt, rt.alloc(), &mut list)?;
+fn extend_and_from_iter_remove_the_extracted_items(rt: HostRuntime) {
+    let mut list = check!(rt; list_of(rt.alloc(), &[1, 2, 3, 4, 5, 6]));
+    assert_extend_removes(&rt, rt.alloc(), &mut list);
     check!(rt; has_len(&list, 4));
-    let made = ThinVec::from_iter(rt.alloc(), list.extract_if(0, 4, |x: &mut i32| *x > 4))?;
+    let made =
+        check!(rt; ThinVec::from_iter(rt.alloc(), list.extract_if(0, 4, |x: &mut i32| *x > 4)));
     check!(rt; same_items(&list, &[1, 3]));
     check!(rt; same_items(&made, &[5, 6]));
-    Ok(())
 }
 
 #[test]
-fn a_refused_extend_removes_the_drained_items(rt: HostRuntime) -> Result<(), Fail> {
-    let mut list = list_of(rt.alloc(), &[1, 2, 3, 4])?;
+fn a_refused_extend_removes_the_drained_items(rt: HostRuntime) {
+    let mut list = check!(rt; list_of(rt.alloc(), &[1, 2, 3, 4]));
     check!(rt; has_len(&list, 4));
-    let mut other = ThinVec::new(Refusing::leaked(rt.alloc(), 1)?);
+    let mut other = ThinVec::new(check!(rt; Refusing::leaked(rt.alloc(), 1)));
     let refused = other.extend(list.drain(1, 3)).is_err();
     check!(rt; same((refused, other.len()), (true, 0)));
     check!(rt; same_items(&list, &[1, 4]));
-    Ok(())
 }
 
 #[test]
-fn a_refused_extend_leaves_what_was_not_extracted(rt: HostRuntime) -> Result<(), Fail> {
-    let mut list = list_of(rt.alloc(), &[1, 2, 3, 4])?;
+fn a_refused_extend_leaves_what_was_not_extracted(rt: HostRuntime) {
+    let mut list = check!(rt; list_of(rt.alloc(), &[1, 2, 3, 4]));
     check!(rt; has_len(&list, 4));
-    let mut other = ThinVec::new(Refusing::leaked(rt.alloc(), 1)?);
+    let mut other = ThinVec::new(check!(rt; Refusing::leaked(rt.alloc(), 1)));
     let in_hand = match other.extend(list.extract_if(0, 4, |x: &mut i32| *x % 2 == 0)) {
         Ok(()) => None,
         Err(refused) => refused.in_hand,
     };
     check!(rt; same(in_hand, Some(2)));
     check!(rt; same_items(&list, &[1, 3, 4]));
-    Ok(())
 }
 
 // Asserts that the list has no items and no block, and that it can be used.
-fn assert_usable(rt: &impl Abort, list: &mut ThinVec<i32>) -> Result<(), Fail> {
+fn assert_usable(rt: &impl Abort, list: &mut ThinVec<i32>) {
     check!(rt; holds(list, &[], 0));
-    list.push(9)?;
-    list.insert(0, 8)?;
+    check!(rt; list.push(9));
+    check!(rt; list.insert(0, 8));
     check!(rt; holds(list, &[8, 9], 4));
     check!(rt; same(list.drain(0, 1).next(), Some(8)));
     check!(rt; holds(list, &[9], 4));
-    Ok(())
 }
 
 #[test]
-fn list_is_empty_and_usable_if_its_drain_is_forgotten(rt: HostRuntime) -> Result<(), Fail> {
+fn list_is_empty_and_usable_if_its_drain_is_forgotten(rt: HostRuntime) {
     for start in 0..=3 {
         for end in start..=3 {
-            let mut list = list_of(rt.alloc(), &[1, 2, 3])?;
+            let mut list = check!(rt; list_of(rt.alloc(), &[1, 2, 3]));
             check!(rt; has_len(&list, 3));
             mem::forget(list.drain(start, end));
-            assert_usable(&rt, &mut list)?;
+            assert_usable(&rt, &mut list);
         }
     }
-    Ok(())
 }
 
 #[test]
-fn list_is_empty_and_usable_if_its_extract_if_is_forgotten(rt: HostRuntime) -> Result<(), Fail> {
+fn list_is_empty_and_usable_if_its_extract_if_is_forgotten(rt: HostRuntime) {
     for start in 0..=3 {
         for end in start..=3 {
-            let mut list = list_of(rt.alloc(), &[1, 2, 3])?;
+            let mut list = check!(rt; list_of(rt.alloc(), &[1, 2, 3]));
             check!(rt; has_len(&list, 3));
             mem::forget(list.extract_if(start, end, |x: &mut i32| *x == 1));
-            assert_usable(&rt, &mut list)?;
+            assert_usable(&rt, &mut list);
         }
     }
-    Ok(())
 }
 
 fn forget_begun_drain(rt: &impl Abort, list: &mut ThinVec<i32>) {
@@ -178,32 +153,30 @@ fn forget_begun_extract_if(rt: &impl Abort, list: &mut ThinVec<i32>) {
 
 // Forgets the iterators after they have yielded an item.
 #[test]
-fn list_is_empty_and_usable_if_a_begun_edit_is_forgotten(rt: HostRuntime) -> Result<(), Fail> {
-    let mut list = list_of(rt.alloc(), &[1, 2, 3, 4])?;
+fn list_is_empty_and_usable_if_a_begun_edit_is_forgotten(rt: HostRuntime) {
+    let mut list = check!(rt; list_of(rt.alloc(), &[1, 2, 3, 4]));
     forget_begun_drain(&rt, &mut list);
-    assert_usable(&rt, &mut list)?;
-    let mut list = list_of(rt.alloc(), &[1, 2, 3, 4])?;
+    assert_usable(&rt, &mut list);
+    let mut list = check!(rt; list_of(rt.alloc(), &[1, 2, 3, 4]));
     forget_begun_extract_if(&rt, &mut list);
-    assert_usable(&rt, &mut list)
+    assert_usable(&rt, &mut list);
 }
 
 #[test]
-fn a_loop_writes_to_each_item(rt: HostRuntime) -> Result<(), Fail> {
-    let mut list = list_of(rt.alloc(), &[1_i32, 2, 3])?;
+fn a_loop_writes_to_each_item(rt: HostRuntime) {
+    let mut list = check!(rt; list_of(rt.alloc(), &[1_i32, 2, 3]));
     for item in &mut list {
         *item = item.saturating_add(1);
     }
     check!(rt; same_items(&list, &[2, 3, 4]));
-    Ok(())
 }
 
 #[test]
-fn a_loop_over_extracted_items_removes_them(rt: HostRuntime) -> Result<(), Fail> {
-    let mut list = list_of(rt.alloc(), &[1, 2, 3])?;
+fn a_loop_over_extracted_items_removes_them(rt: HostRuntime) {
+    let mut list = check!(rt; list_of(rt.alloc(), &[1, 2, 3]));
     check!(rt; has_len(&list, 3));
     for item in list.extract_if(0, 3, |x: &mut i32| *x == 2) {
         check!(rt; same(item, 2));
     }
     check!(rt; same_items(&list, &[1, 3]));
-    Ok(())
 }

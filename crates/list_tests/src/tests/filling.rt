@@ -4,24 +4,21 @@ ghost use Rattle.std.specs.Prelude.{◌+◌, length};
 
 use std::alloc::Global;
 use std::cell::Cell;
-use std::test::Fail;
 use thin_testing::{check, holds, list_of, same};
 use thin_vec::{ThinVec, ThinVecError};
 
 #[test]
-fn extend_from_slice_grows_to_the_first_capacity(rt: HostRuntime) -> Result<(), Fail> {
-    let mut list = list_of(rt.alloc(), &[1])?;
-    list.extend_from_slice(&[2, 3, 4])?;
+fn extend_from_slice_grows_to_the_first_capacity(rt: HostRuntime) {
+    let mut list = check!(rt; list_of(rt.alloc(), &[1]));
+    check!(rt; list.extend_from_slice(&[2, 3, 4]));
     check!(rt; holds(&list, &[1, 2, 3, 4], 4));
-    Ok(())
 }
 
 #[test]
-fn resize_grows_past_twice_the_capacity(rt: HostRuntime) -> Result<(), Fail> {
-    let mut list = list_of(rt.alloc(), &[1, 2])?;
-    list.resize(5, 0)?;
+fn resize_grows_past_twice_the_capacity(rt: HostRuntime) {
+    let mut list = check!(rt; list_of(rt.alloc(), &[1, 2]));
+    check!(rt; list.resize(5, 0));
     check!(rt; holds(&list, &[1, 2, 0, 0, 0], 5));
-    Ok(())
 }
 
 fn capacity_after_resize(alloc: Global) -> Result<usize, ThinVecError> {
@@ -43,11 +40,10 @@ fn capacity_after_push(alloc: Global) -> Result<usize, ThinVecError> {
 }
 
 #[test]
-fn long_lists_double_their_capacity(rt: HostRuntime) -> Result<(), Fail> {
-    check!(rt; same(capacity_after_resize(rt.alloc())?, 6000));
-    check!(rt; same(capacity_after_append(rt.alloc())?, 600));
-    check!(rt; same(capacity_after_push(rt.alloc())?, 20_002));
-    Ok(())
+fn long_lists_double_their_capacity(rt: HostRuntime) {
+    check!(rt; same(capacity_after_resize(rt.alloc()), Ok(6000)));
+    check!(rt; same(capacity_after_append(rt.alloc()), Ok(600)));
+    check!(rt; same(capacity_after_push(rt.alloc()), Ok(20_002)));
 }
 
 // An iterator that returns the answers in order, and counts the calls. The lower bound of its size
@@ -76,21 +72,20 @@ impl Iterator for Answers<'_> {
 }
 
 #[test]
-fn extend_and_from_iter_end_at_the_first_none(rt: HostRuntime) -> Result<(), Fail> {
+fn extend_and_from_iter_end_at_the_first_none(rt: HostRuntime) {
     let (answers, asked) = ([Some(1), None, Some(2)], Cell::new(0));
     let mut list = ThinVec::new(rt.alloc());
-    list.extend(Answers {
+    check!(rt; list.extend(Answers {
         answers: &answers,
         asked: &asked,
-    })?;
+    }));
     check!(rt; holds(&list, &[1], 4));
     check!(rt; same(asked.take(), 2));
     let items = Answers {
         answers: &answers,
         asked: &asked,
     };
-    let list = ThinVec::from_iter(rt.alloc(), items)?;
+    let list = check!(rt; ThinVec::from_iter(rt.alloc(), items));
     check!(rt; holds(&list, &[1], 3));
     check!(rt; same(asked.take(), 2));
-    Ok(())
 }

@@ -5,7 +5,6 @@ ghost use Rattle.thin_block.specs.Capacity.{items_offset, fits as fits_at};
 
 use std::alloc::Global;
 use std::process::Abort;
-use std::test::Fail;
 use thin_block::{Growth, PowerBytes, first_capacity, fits, next_capacity};
 use thin_testing::{check, same, same_items};
 use thin_vec::{ThinVec, ThinVecError};
@@ -71,24 +70,22 @@ fn assert_grows<T: Copy + Drop>(
 }
 
 #[test]
-fn power_bytes_fills_blocks_of_power_of_two_sizes(rt: HostRuntime) -> Result<(), Fail> {
+fn power_bytes_fills_blocks_of_power_of_two_sizes(rt: HostRuntime) {
     let alloc = rt.alloc();
-    assert_grows(&rt, alloc, 7_u8, &[16, 48, 112])?;
-    assert_grows(&rt, alloc, 7_u32, &[4, 12, 28, 60])?;
-    assert_grows(&rt, alloc, 7_u64, &[2, 6, 14])?;
-    assert_grows(&rt, alloc, [7_u64, 8, 9], &[2, 4, 10])?;
-    assert_grows(&rt, alloc, [7_u64; 40], &[1, 3, 6, 12])?;
-    assert_grows(&rt, alloc, (), &[4, 8, 16])?;
-    Ok(())
+    check!(rt; assert_grows(&rt, alloc, 7_u8, &[16, 48, 112]));
+    check!(rt; assert_grows(&rt, alloc, 7_u32, &[4, 12, 28, 60]));
+    check!(rt; assert_grows(&rt, alloc, 7_u64, &[2, 6, 14]));
+    check!(rt; assert_grows(&rt, alloc, [7_u64, 8, 9], &[2, 4, 10]));
+    check!(rt; assert_grows(&rt, alloc, [7_u64; 40], &[1, 3, 6, 12]));
+    check!(rt; assert_grows(&rt, alloc, (), &[4, 8, 16]));
 }
 
 #[test]
-fn resize_fills_a_block_of_a_power_of_two(rt: HostRuntime) -> Result<(), Fail> {
+fn resize_fills_a_block_of_a_power_of_two(rt: HostRuntime) {
     let mut list = ThinVec::<u32, Global, PowerBytes>::ruled(rt.alloc());
-    list.resize(5, 0)?;
+    check!(rt; list.resize(5, 0));
     check!(rt; same_items(&list, &[0; 5]));
     check!(rt; same(list.capacity(), 12));
-    Ok(())
 }
 
 // No type of Rattle has an alignment of 32 or 256, so these numbers can only be proved.

@@ -3,7 +3,7 @@ ghost use Rattle.std.specs.Iterator.{IsFinite};
 
 use std::alloc::Global;
 use std::iter::{Extend, Iterator};
-use std::test::Fail;
+use std::process::Abort;
 use thin_testing::{check, has_len, holds, list_of, splice};
 use thin_vec::ThinVec;
 
@@ -18,52 +18,50 @@ macro_rules! few {
 // Makes a list of the items of the iterator by one of four calls. The number `way`, from 0 to 3,
 // selects the call.
 fn list_by_way<I: Iterator<Item = i32>>(
+    rt: &impl Abort,
     way: u32,
     alloc: Global,
     iter: I,
-) -> Result<ThinVec<i32>, Fail>
+) -> ThinVec<i32>
     requires can_next { I.can_next iter }
     requires finite { IsFinite (I.remaining iter) }
 {
     let mut list = ThinVec::new(alloc);
     match way {
-        0 => list.extend(iter)?,
-        1 => Extend::extend(&mut list, iter)?,
-        2 => return Ok(ThinVec::from_iter(alloc, iter)?),
-        _ => return Ok(iter.collect(alloc)?),
+        0 => check!(rt; list.extend(iter)),
+        1 => check!(rt; Extend::extend(&mut list, iter)),
+        2 => return check!(rt; ThinVec::from_iter(alloc, iter)),
+        _ => return check!(rt; iter.collect(alloc)),
     }
-    Ok(list)
+    list
 }
 
 #[test]
-fn extend_and_from_iter_ignore_the_upper_bound(rt: HostRuntime) -> Result<(), Fail> {
+fn extend_and_from_iter_ignore_the_upper_bound(rt: HostRuntime) {
     for way in 0..4 {
-        let list = list_by_way(way, rt.alloc(), few!(0_i32..1000))?;
+        let list = list_by_way(&rt, way, rt.alloc(), few!(0_i32..1000));
         check!(rt; holds(&list, &[0, 500], 4));
     }
-    Ok(())
 }
 
 #[test]
-fn extend_and_from_iter_reserve_for_the_lower_bound(rt: HostRuntime) -> Result<(), Fail> {
+fn extend_and_from_iter_reserve_for_the_lower_bound(rt: HostRuntime) {
     for (way, capacity) in [(0, 4), (1, 4), (2, 6), (3, 6)] {
         let items = (1_i32..4).chain(few!(4_i32..1000));
-        let list = list_by_way(way, rt.alloc(), items)?;
+        let list = list_by_way(&rt, way, rt.alloc(), items);
         check!(rt; holds(&list, &[1, 2, 3, 500], capacity));
     }
-    Ok(())
 }
 
 #[test]
-fn finish_ignores_the_upper_bound(rt: HostRuntime) -> Result<(), Fail> {
+fn finish_ignores_the_upper_bound(rt: HostRuntime) {
     let alloc = rt.alloc();
-    let mut list = list_of(alloc, &[1, 2, 3])?;
+    let mut list = check!(rt; list_of(alloc, &[1, 2, 3]));
     check!(rt; has_len(&list, 3));
-    splice(&mut list, (1, 2), few!(0_i32..1000), alloc)?;
+    check!(rt; splice(&mut list, (1, 2), few!(0_i32..1000), alloc));
     check!(rt; holds(&list, &[1, 0, 500, 3], 6));
-    splice(&mut list, (4, 4), few!(1_i32..1500), alloc)?;
+    check!(rt; splice(&mut list, (4, 4), few!(1_i32..1500), alloc));
     check!(rt; holds(&list, &[1, 0, 500, 3, 500, 1000], 6));
-    splice(&mut list, (6, 6), few!(1_i32..1500), alloc)?;
+    check!(rt; splice(&mut list, (6, 6), few!(1_i32..1500), alloc));
     check!(rt; holds(&list, &[1, 0, 500, 3, 500, 1000, 500, 1000], 12));
-    Ok(())
 }

@@ -2,7 +2,6 @@
 //! if the memory is refused. Also tests `from_array` with thousands of items.
 use std::cell::Cell;
 use std::process::Abort;
-use std::test::Fail;
 use thin_testing::{Counted, Ledger, Refusing, check, counts, holds, same};
 use thin_vec::{ThinVec, ThinVecError, thin_vec};
 
@@ -25,44 +24,41 @@ fn assert_made(
 }
 
 #[test]
-fn evaluates_each_argument_once_and_in_order(rt: HostRuntime) -> Result<(), Fail> {
+fn evaluates_each_argument_once_and_in_order(rt: HostRuntime) {
     let (alloc, order) = (rt.alloc(), Cell::new(0));
-    let list = thin_vec![note(&order, 1, alloc) => note(&order, 2, 7), note(&order, 3, 8),]?;
+    let list =
+        check!(rt; thin_vec![note(&order, 1, alloc) => note(&order, 2, 7), note(&order, 3, 8),]);
     assert_made(&rt, &order, list, (&[7, 8], 2), 123);
-    let list = thin_vec![note(&order, 1, alloc) => note(&order, 2, 7); note(&order, 3, 2)]?;
+    let list =
+        check!(rt; thin_vec![note(&order, 1, alloc) => note(&order, 2, 7); note(&order, 3, 2)]);
     assert_made(&rt, &order, list, (&[7, 7], 4), 123);
-    assert_made(
-        &rt,
-        &order,
-        thin_vec![note(&order, 1, alloc) =>]?,
-        (&[], 0),
-        1,
-    );
-    Ok(())
+    let list = check!(rt; thin_vec![note(&order, 1, alloc) =>]);
+    assert_made(&rt, &order, list, (&[], 0), 1);
 }
 
 #[test]
-fn lists_of_1_12_and_40_items_need_one_request(rt: HostRuntime) -> Result<(), Fail> {
+fn lists_of_1_12_and_40_items_need_one_request(rt: HostRuntime) {
     let (one, seven) = (1, 7);
-    check!(rt; holds(&thin_vec![rt.alloc() => seven]?, &[7], 1));
+    let list = check!(rt; thin_vec![rt.alloc() => seven]);
+    check!(rt; holds(&list, &[7], 1));
     let items = [1, 2, 3, 4, 5, 6, 7, 8, 9, 10, 11, 12];
-    let refusing = Refusing::leaked(rt.alloc(), 2)?;
-    let list = thin_vec![refusing => one, 2, 3, 4, 5, 6, 7, 8, 9, 10, 11, 12]?;
+    let refusing = check!(rt; Refusing::leaked(rt.alloc(), 2));
+    let list = check!(rt; thin_vec![refusing => one, 2, 3, 4, 5, 6, 7, 8, 9, 10, 11, 12]);
     check!(rt; holds(&list, &items, 12));
     refusing.refuse(2);
-    let list = thin_vec![in refusing;
+    let list = check!(rt; thin_vec![in refusing;
         7, 7, 7, 7, 7, 7, 7, 7, 7, 7, 7, 7, 7, 7, 7, 7, 7, 7, 7, 7, 7, 7, 7, 7, 7, 7, 7, 7, 7, 7,
         7, 7, 7, 7, 7, 7, 7, 7, 7, seven,
-    ]?;
+    ]);
     check!(rt; holds(&list, &[7; 40], 40));
-    Ok(())
 }
 
 #[test]
-fn lists_of_1_and_200_literals_need_one_request(rt: HostRuntime) -> Result<(), Fail> {
-    check!(rt; holds(&thin_vec![rt.alloc() => -7]?, &[-7], 1));
-    let refusing = Refusing::leaked(rt.alloc(), 2)?;
-    let list = thin_vec![refusing =>
+fn lists_of_1_and_200_literals_need_one_request(rt: HostRuntime) {
+    let list = check!(rt; thin_vec![rt.alloc() => -7]);
+    check!(rt; holds(&list, &[-7], 1));
+    let refusing = check!(rt; Refusing::leaked(rt.alloc(), 2));
+    let list = check!(rt; thin_vec![refusing =>
         0, 1, 2, 3, 4, 5, 6, 7, 8, 9, 10, 11, 12, 13, 14, 15, 16, 17, 18, 19, 20, 21, 22, 23, 24,
         25, 26, 27, 28, 29, 30, 31, 32, 33, 34, 35, 36, 37, 38, 39, 40, 41, 42, 43, 44, 45, 46, 47,
         48, 49, 50, 51, 52, 53, 54, 55, 56, 57, 58, 59, 60, 61, 62, 63, 64, 65, 66, 67, 68, 69, 70,
@@ -73,31 +69,26 @@ fn lists_of_1_and_200_literals_need_one_request(rt: HostRuntime) -> Result<(), F
         149, 150, 151, 152, 153, 154, 155, 156, 157, 158, 159, 160, 161, 162, 163, 164, 165, 166,
         167, 168, 169, 170, 171, 172, 173, 174, 175, 176, 177, 178, 179, 180, 181, 182, 183, 184,
         185, 186, 187, 188, 189, 190, 191, 192, 193, 194, 195, 196, 197, 198, 199,
-    ]?;
-    let items: Vec<i32> = (0..200).collect(rt.alloc())?;
+    ]);
+    let items: Vec<i32> = check!(rt; (0..200).collect(rt.alloc()));
     check!(rt; holds(&list, items.as_slice(), 200));
     refusing.refuse(1);
     let refused = thin_vec![in refusing; 1, 2, 3,].err();
     check!(rt; same(refused, Some(ThinVecError::OutOfMemory)));
     check!(rt; counts(refusing, 1, 1));
-    Ok(())
 }
 
 #[test]
-fn evaluates_each_argument_of_the_form_with_in(rt: HostRuntime) -> Result<(), Fail> {
+fn evaluates_each_argument_of_the_form_with_in(rt: HostRuntime) {
     let (alloc, order) = (rt.alloc(), Cell::new(0));
-    let list = thin_vec![in note(&order, 1, alloc); note(&order, 2, 7), note(&order, 3, 8),]?;
+    let list =
+        check!(rt; thin_vec![in note(&order, 1, alloc); note(&order, 2, 7), note(&order, 3, 8),]);
     assert_made(&rt, &order, list, (&[7, 8], 2), 123);
-    let list = thin_vec![in note(&order, 1, alloc); note(&order, 2, 7); note(&order, 3, 2)]?;
+    let list =
+        check!(rt; thin_vec![in note(&order, 1, alloc); note(&order, 2, 7); note(&order, 3, 2)]);
     assert_made(&rt, &order, list, (&[7, 7], 4), 123);
-    assert_made(
-        &rt,
-        &order,
-        thin_vec![in note(&order, 1, alloc)]?,
-        (&[], 0),
-        1,
-    );
-    Ok(())
+    let list = check!(rt; thin_vec![in note(&order, 1, alloc)]);
+    assert_made(&rt, &order, list, (&[], 0), 1);
 }
 
 #[test]
@@ -113,8 +104,8 @@ fn evaluates_no_item_if_refused(rt: HostRuntime) {
 }
 
 #[test]
-fn drops_the_repeated_value_if_the_capacity_overflows(rt: HostRuntime) -> Result<(), Fail> {
-    let ledger = Ledger::leaked(rt.alloc())?;
+fn drops_the_repeated_value_if_the_capacity_overflows(rt: HostRuntime) {
+    let ledger = check!(rt; Ledger::leaked(rt.alloc()));
     for form in 0..2 {
         let value = Counted::new(ledger, 7, ());
         let refused = if form == 0 {
@@ -125,12 +116,10 @@ fn drops_the_repeated_value_if_the_capacity_overflows(rt: HostRuntime) -> Result
         let overflow = Some(ThinVecError::CapacityOverflow);
         check!(rt; same((refused, ledger.live.get()), (overflow, 0)));
     }
-    Ok(())
 }
 
 #[test]
-fn from_array_moves_thousands_of_items(rt: HostRuntime) -> Result<(), Fail> {
-    let list = ThinVec::from_array(rt.alloc(), [7; 5000])?;
+fn from_array_moves_thousands_of_items(rt: HostRuntime) {
+    let list = check!(rt; ThinVec::from_array(rt.alloc(), [7; 5000]));
     check!(rt; same((list.len(), list.capacity()), (5000, 5000)));
-    Ok(())
 }

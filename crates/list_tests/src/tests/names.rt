@@ -9,7 +9,6 @@ use std::hash::Hash;
 use std::io::Write;
 use std::iter::{ExactSizeIterator, Extend, FromIterator, FusedIterator};
 use std::ops::{DerefSlice, DerefSliceMut, Index, IndexMut};
-use std::test::Fail;
 use thin_testing::{check, same};
 use thin_vec::{
     Doubling, ExtractIf, Growth, IntoIter, Rejected, ThinVec, ThinVecError, fits, thin_vec,
@@ -42,13 +41,12 @@ fn capacity_under_rule<G: Growth, A: Allocator>(list: &ThinVec<u8, A, G>) -> usi
 }
 
 #[test]
-fn public_names_and_traits_exist(rt: HostRuntime) -> Result<(), Fail> {
-    let list: ThinVec<u8, Global, Doubling> = thin_vec![rt.alloc() => 1, 2]?;
+fn public_names_and_traits_exist(rt: HostRuntime) {
+    let list: ThinVec<u8, Global, Doubling> = check!(rt; thin_vec![rt.alloc() => 1, 2]);
     assert_list_traits(&list);
     check!(rt; same(capacity_under_rule::<Doubling, Global>(&list), 2));
     assert_error_traits(&ThinVecError::OutOfMemory);
     check!(rt; same(fits::<u8>(3), true));
-    Ok(())
 }
 
 #[test]
@@ -68,13 +66,12 @@ struct Names {
 }
 
 #[test]
-fn derived_clone_clones_each_item(rt: HostRuntime) -> Result<(), Fail> {
+fn derived_clone_clones_each_item(rt: HostRuntime) {
     let mut word = String::new(rt.alloc());
-    word.push_str("ada")?;
+    check!(rt; word.push_str("ada"));
     let names = Names {
-        all: thin_vec![rt.alloc() => word]?,
+        all: check!(rt; thin_vec![rt.alloc() => word]),
     };
-    let other = names.clone()?;
+    let other = check!(rt; names.clone());
     check!(rt; same(other.all == names.all, true));
-    Ok(())
 }

@@ -2,7 +2,6 @@
 //! afterwards.
 use std::alloc::Global;
 use std::process::Abort;
-use std::test::Fail;
 use thin_runner::hinted::Hinted;
 use thin_testing::{Counted, Ledger, Refusing, check, counted_list, counts, holds, same, splice};
 use thin_vec::{ExtendRefused, IntoIter, SpliceRefused, ThinVec, ThinVecError, thin_vec};
@@ -10,50 +9,47 @@ use thin_vec::{ExtendRefused, IntoIter, SpliceRefused, ThinVec, ThinVecError, th
 const OUT_OF_MEMORY: ThinVecError = ThinVecError::OutOfMemory;
 
 #[test]
-fn refused_push_returns_its_value(rt: HostRuntime) -> Result<(), Fail> {
-    let refusing = Refusing::leaked(rt.alloc(), 2)?;
+fn refused_push_returns_its_value(rt: HostRuntime) {
+    let refusing = check!(rt; Refusing::leaked(rt.alloc(), 2));
     let mut list = ThinVec::new(refusing);
     for item in 1..5 {
-        list.push(item)?;
+        check!(rt; list.push(item));
     }
-    let refused = list.push(5).err().ok_or("pushed")?;
+    let refused = check!(rt; list.push(5).err());
     check!(rt; same((refused.value, refused.cause), (5, OUT_OF_MEMORY)));
     check!(rt; holds(&list, &[1, 2, 3, 4], 4));
     check!(rt; counts(refusing, 2, 1));
-    list.push(5)?;
+    check!(rt; list.push(5));
     check!(rt; holds(&list, &[1, 2, 3, 4, 5], 8));
     check!(rt; counts(refusing, 3, 1));
-    Ok(())
 }
 
 #[test]
-fn refused_append_changes_neither_list(rt: HostRuntime) -> Result<(), Fail> {
-    let refusing = Refusing::leaked(rt.alloc(), 3)?;
-    let mut list = thin_vec![refusing => 1, 2]?;
-    let mut other = thin_vec![refusing => 3]?;
+fn refused_append_changes_neither_list(rt: HostRuntime) {
+    let refusing = check!(rt; Refusing::leaked(rt.alloc(), 3));
+    let mut list = check!(rt; thin_vec![refusing => 1, 2]);
+    let mut other = check!(rt; thin_vec![refusing => 3]);
     check!(rt; same(list.append(&mut other), Err(OUT_OF_MEMORY)));
     check!(rt; holds(&list, &[1, 2], 2));
     check!(rt; holds(&other, &[3], 1));
     check!(rt; counts(refusing, 3, 2));
-    list.append(&mut other)?;
+    check!(rt; list.append(&mut other));
     check!(rt; holds(&list, &[1, 2, 3], 4));
     check!(rt; counts(refusing, 4, 2));
-    Ok(())
 }
 
 #[test]
-fn extend_from_slice_drops_its_clones_if_one_is_refused(rt: HostRuntime) -> Result<(), Fail> {
-    let ledger = Ledger::leaked(rt.alloc())?;
-    let three = counted_list(ledger, rt.alloc(), 3)?;
-    let mut list = thin_vec![rt.alloc() => Counted::new(ledger, 7, ())]?;
+fn extend_from_slice_drops_its_clones_if_one_is_refused(rt: HostRuntime) {
+    let ledger = check!(rt; Ledger::leaked(rt.alloc()));
+    let three = check!(rt; counted_list(ledger, rt.alloc(), 3));
+    let mut list = check!(rt; thin_vec![rt.alloc() => Counted::new(ledger, 7, ())]);
     ledger.begin(2);
     check!(rt; same(list.extend_from_slice(&three), Err(OUT_OF_MEMORY)));
     check!(rt; same((list.len(), list.capacity()), (1, 4)));
     check!(rt; same((ledger.clones.get(), ledger.live.get()), (1, 4)));
-    list.extend_from_slice(&three)?;
+    check!(rt; list.extend_from_slice(&three));
     check!(rt; same((list.len(), list.capacity()), (4, 4)));
     check!(rt; same((ledger.clones.get(), ledger.live.get()), (4, 7)));
-    Ok(())
 }
 
 // Asserts the numbers of the items.
@@ -65,17 +61,16 @@ fn assert_numbers(rt: &impl Abort, items: &[Counted<'_>], numbers: &[u64]) {
 }
 
 #[test]
-fn resize_grows_before_its_second_clone_is_refused(rt: HostRuntime) -> Result<(), Fail> {
-    let ledger = Ledger::leaked(rt.alloc())?;
-    let mut list = ThinVec::with_capacity(rt.alloc(), 1)?;
-    list.push(Counted::new(ledger, 7, ()))?;
+fn resize_grows_before_its_second_clone_is_refused(rt: HostRuntime) {
+    let ledger = check!(rt; Ledger::leaked(rt.alloc()));
+    let mut list = check!(rt; ThinVec::with_capacity(rt.alloc(), 1));
+    check!(rt; list.push(Counted::new(ledger, 7, ())));
     ledger.begin(2);
     let refused = list.resize(5, Counted::new(ledger, 8, ()));
     check!(rt; same(refused, Err(OUT_OF_MEMORY)));
     assert_numbers(&rt, &list, &[7]);
     check!(rt; same(list.capacity(), 5));
     check!(rt; same((ledger.clones.get(), ledger.live.get()), (1, 1)));
-    Ok(())
 }
 
 // Clones the items of the list by one of three calls. Returns the cause if a clone is refused.
@@ -92,13 +87,8 @@ fn clone_by_way(
 }
 
 // Refuses each of the three clones in turn, and asserts which items and clones there are.
-fn assert_clones_refused(
-    rt: &impl Abort,
-    ledger: &'static Ledger,
-    alloc: Global,
-    refused: u64,
-) -> Result<(), Fail> {
-    let list = counted_list(ledger, alloc, 3)?;
+fn assert_clones_refused(rt: &impl Abort, ledger: &'static Ledger, alloc: Global, refused: u64) {
+    let list = check!(rt; counted_list(ledger, alloc, 3));
     for way in 0..2 {
         ledger.begin(refused);
         check!(rt; same(clone_by_way(way, &list, alloc), Err(OUT_OF_MEMORY)));
@@ -108,7 +98,6 @@ fn assert_clones_refused(
     }
     ledger.begin(refused);
     assert_iter_clone_refused(rt, ledger, alloc, list.into_iter());
-    Ok(())
 }
 
 fn assert_iter_clone_refused(
@@ -123,67 +112,59 @@ fn assert_iter_clone_refused(
 }
 
 #[test]
-fn a_refused_clone_makes_no_list(rt: HostRuntime) -> Result<(), Fail> {
-    let ledger = Ledger::leaked(rt.alloc())?;
+fn a_refused_clone_makes_no_list(rt: HostRuntime) {
+    let ledger = check!(rt; Ledger::leaked(rt.alloc()));
     for refused in 1..4 {
-        assert_clones_refused(&rt, ledger, rt.alloc(), refused)?;
+        assert_clones_refused(&rt, ledger, rt.alloc(), refused);
         check!(rt; same(ledger.live.get(), 0));
     }
-    Ok(())
 }
 
 #[test]
-fn refused_extend_returns_the_item_in_hand(rt: HostRuntime) -> Result<(), Fail> {
-    let refusing = Refusing::leaked(rt.alloc(), 2)?;
+fn refused_extend_returns_the_item_in_hand(rt: HostRuntime) {
+    let refusing = check!(rt; Refusing::leaked(rt.alloc(), 2));
     let mut list = ThinVec::new(refusing);
-    let items = Hinted::new([1, 2, 3, 4, 5].to_vec(rt.alloc())?, 0);
+    let items = Hinted::new(check!(rt; [1, 2, 3, 4, 5].to_vec(rt.alloc())), 0);
     let ExtendRefused {
         cause,
         in_hand,
         mut rest,
-    } = list.extend(items).err().ok_or("extended")?;
+    } = check!(rt; list.extend(items).err());
     check!(rt; same((cause, in_hand, rest.next()), (OUT_OF_MEMORY, Some(5), None)));
     check!(rt; holds(&list, &[1, 2, 3, 4], 4));
     check!(rt; counts(refusing, 2, 1));
-    Ok(())
 }
 
 #[test]
-fn refused_finish_returns_the_item_in_hand(rt: HostRuntime) -> Result<(), Fail> {
-    let refusing = Refusing::leaked(rt.alloc(), 2)?;
-    let mut list = thin_vec![refusing => 1, 2, 3, 4, 5]?;
-    let items = Hinted::new([10, 11, 12].to_vec(rt.alloc())?, 0);
+fn refused_finish_returns_the_item_in_hand(rt: HostRuntime) {
+    let refusing = check!(rt; Refusing::leaked(rt.alloc(), 2));
+    let mut list = check!(rt; thin_vec![refusing => 1, 2, 3, 4, 5]);
+    let items = Hinted::new(check!(rt; [10, 11, 12].to_vec(rt.alloc())), 0);
     let SpliceRefused {
         cause,
         held,
         in_hand,
         mut rest,
-    } = splice(&mut list, (2, 4), items, refusing)
-        .err()
-        .ok_or("finished")?;
+    } = check!(rt; splice(&mut list, (2, 4), items, refusing).err());
     check!(rt; same((cause, in_hand, rest.next()), (OUT_OF_MEMORY, Some(12), None)));
     check!(rt; same(held.len(), 0));
     check!(rt; holds(&list, &[1, 2, 10, 11, 5], 5));
-    Ok(())
 }
 
 // The second request is for a vector of the items that do not fit into the range. The third
 // request, which would make the list grow, is refused.
 #[test]
-fn refused_finish_returns_the_held_items(rt: HostRuntime) -> Result<(), Fail> {
-    let refusing = Refusing::leaked(rt.alloc(), 3)?;
-    let mut list = thin_vec![refusing => 1, 2, 3]?;
-    let items = Hinted::new([7, 8, 9].to_vec(rt.alloc())?, 0);
+fn refused_finish_returns_the_held_items(rt: HostRuntime) {
+    let refusing = check!(rt; Refusing::leaked(rt.alloc(), 3));
+    let mut list = check!(rt; thin_vec![refusing => 1, 2, 3]);
+    let items = Hinted::new(check!(rt; [7, 8, 9].to_vec(rt.alloc())), 0);
     let SpliceRefused {
         cause,
         held,
         in_hand,
         mut rest,
-    } = splice(&mut list, (1, 2), items, refusing)
-        .err()
-        .ok_or("finished")?;
+    } = check!(rt; splice(&mut list, (1, 2), items, refusing).err());
     check!(rt; same((cause, in_hand, rest.next()), (OUT_OF_MEMORY, None, None)));
     check!(rt; same(held.as_slice(), &[8, 9][..]));
     check!(rt; holds(&list, &[1, 7, 3], 3));
-    Ok(())
 }

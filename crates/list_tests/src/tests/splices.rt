@@ -3,7 +3,6 @@ ghost use Rattle.std.specs.Prelude.{◌≤◌, length};
 
 use std::alloc::Global;
 use std::process::Abort;
-use std::test::Fail;
 use thin_runner::hinted::Hinted;
 use thin_testing::{Refusing, check, counts, has_len, holds, list_of, same, same_items, splice};
 use thin_vec::{SpliceRefused, ThinVec, ThinVecError};
@@ -25,17 +24,16 @@ const FINISHED: [(&'static [i32], usize, &'static [i32], usize, u64); 9] = [
 ];
 
 #[test]
-fn finish_inserts_the_items(rt: HostRuntime) -> Result<(), Fail> {
+fn finish_inserts_the_items(rt: HostRuntime) {
     for &(new, lower, items, capacity, requests) in &FINISHED {
-        let refusing = Refusing::leaked(rt.alloc(), 0)?;
-        let mut list = list_of(refusing, &[1, 2, 3, 4, 5])?;
+        let refusing = check!(rt; Refusing::leaked(rt.alloc(), 0));
+        let mut list = check!(rt; list_of(refusing, &[1, 2, 3, 4, 5]));
         check!(rt; has_len(&list, 5));
-        let iter = Hinted::new(new.to_vec(rt.alloc())?, lower);
-        splice(&mut list, (2, 4), iter, refusing)?;
+        let iter = Hinted::new(check!(rt; new.to_vec(rt.alloc())), lower);
+        check!(rt; splice(&mut list, (2, 4), iter, refusing));
         check!(rt; holds(&list, items, capacity));
         check!(rt; counts(refusing, requests, 1));
     }
-    Ok(())
 }
 
 // What a refused `finish` leaves and returns.
@@ -82,14 +80,13 @@ fn assert_refused(
     range: (usize, usize),
     iter: Hinted<i32>,
     left: Left,
-) -> Result<(), Fail>
+)
     requires start_le_end { range.0 ≤ range.1 }
     requires in_bounds { range.1 ≤ length old.now }
 {
-    let mut list = list_of(lender, old)?;
+    let mut list = check!(rt; list_of(lender, old));
     let refused = splice(&mut list, range, iter, lender).err();
-    assert_left(rt, &list, refused.ok_or("finished")?, left);
-    Ok(())
+    assert_left(rt, &list, check!(rt; refused.ok_or("finished")), left);
 }
 
 const OUT_OF_MEMORY: ThinVecError = ThinVecError::OutOfMemory;
@@ -152,24 +149,22 @@ const REFUSED: [(usize, u64, Left); 4] = [
 ];
 
 #[test]
-fn finish_returns_each_item_if_a_growth_is_refused(rt: HostRuntime) -> Result<(), Fail> {
+fn finish_returns_each_item_if_a_growth_is_refused(rt: HostRuntime) {
     for &(lower, request, left) in &REFUSED {
-        let lender = Refusing::leaked(rt.alloc(), request)?;
-        let iter = Hinted::new(NEW.to_vec(rt.alloc())?, lower);
-        assert_refused(&rt, lender, &[1, 2, 3, 4, 5], (2, 4), iter, left)?;
+        let lender = check!(rt; Refusing::leaked(rt.alloc(), request));
+        let iter = Hinted::new(check!(rt; NEW.to_vec(rt.alloc())), lower);
+        assert_refused(&rt, lender, &[1, 2, 3, 4, 5], (2, 4), iter, left);
         check!(rt; counts(lender, request, 0));
     }
-    Ok(())
 }
 
 #[test]
-fn finish_does_not_ask_for_the_hint_before_the_range_is_full(rt: HostRuntime) -> Result<(), Fail> {
-    let mut list = list_of(rt.alloc(), &[1, 2, 3])?;
+fn finish_does_not_ask_for_the_hint_before_the_range_is_full(rt: HostRuntime) {
+    let mut list = check!(rt; list_of(rt.alloc(), &[1, 2, 3]));
     check!(rt; has_len(&list, 3));
-    let iter = Hinted::new([9].to_vec(rt.alloc())?, usize::MAX);
-    splice(&mut list, (0, 2), iter, rt.alloc())?;
+    let iter = Hinted::new(check!(rt; [9].to_vec(rt.alloc())), usize::MAX);
+    check!(rt; splice(&mut list, (0, 2), iter, rt.alloc()));
     check!(rt; holds(&list, &[9, 3], 3));
-    Ok(())
 }
 
 // What is left if the hint is too great for any capacity.
@@ -185,9 +180,9 @@ fn overflow(items: &'static [i32], capacity: usize) -> Left {
 }
 
 #[test]
-fn finish_overflows_by_the_hint_if_the_range_is_full(rt: HostRuntime) -> Result<(), Fail> {
-    let lender = Refusing::leaked(rt.alloc(), 0)?;
-    let nine = Hinted::new([9].to_vec(rt.alloc())?, usize::MAX);
+fn finish_overflows_by_the_hint_if_the_range_is_full(rt: HostRuntime) {
+    let lender = check!(rt; Refusing::leaked(rt.alloc(), 0));
+    let nine = Hinted::new(check!(rt; [9].to_vec(rt.alloc())), usize::MAX);
     assert_refused(
         &rt,
         lender,
@@ -195,7 +190,7 @@ fn finish_overflows_by_the_hint_if_the_range_is_full(rt: HostRuntime) -> Result<
         (0, 1),
         nine,
         overflow(&[9, 2, 3], 3),
-    )?;
+    );
     let nothing = Hinted::new(Vec::new(rt.alloc()), usize::MAX);
-    assert_refused(&rt, lender, &[], (0, 0), nothing, overflow(&[], 0))
+    assert_refused(&rt, lender, &[], (0, 0), nothing, overflow(&[], 0));
 }

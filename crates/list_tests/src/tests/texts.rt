@@ -5,7 +5,6 @@ use std::error::Error;
 use std::fmt::{self, Debug};
 use std::io::{self, Write};
 use std::process::Abort;
-use std::test::Fail;
 use thin_testing::{Refusing, check, has_len, list_of, prints, prints_as, same};
 use thin_vec::{
     CollectRefused, ExtendRefused, PowerBytes, Rejected, SpliceRefused, ThinVec, ThinVecError,
@@ -83,61 +82,54 @@ fn assert_roomy_list_prints<T: Copy + Debug + Drop>(
 // Asserts that a list of `items` is printed as their slice, with and without spare capacity, and
 // its iterators as the items that they have left. Also asserts that printing requests no memory
 // from the allocator of the list.
-fn assert_printed_as_slices<T: Copy + Debug + Drop>(
-    rt: &impl Abort,
-    alloc: Global,
-    items: &[T],
-) -> Result<(), Fail> {
-    assert_roomy_list_prints(rt, alloc, items)?;
-    let refusing = Refusing::leaked(alloc, 0)?;
-    let mut list = list_of(refusing, items)?;
-    let other = list_of(refusing, items)?;
+fn assert_printed_as_slices<T: Copy + Debug + Drop>(rt: &impl Abort, alloc: Global, items: &[T]) {
+    check!(rt; assert_roomy_list_prints(rt, alloc, items));
+    let refusing = check!(rt; Refusing::leaked(alloc, 0));
+    let mut list = check!(rt; list_of(refusing, items));
+    let other = check!(rt; list_of(refusing, items));
     refusing.refuse(1);
     check!(rt; prints_as(alloc, &list, &items));
     assert_drain_prints(rt, alloc, &mut list);
     assert_into_iter_prints(rt, alloc, other);
     check!(rt; same(refusing.requests(), 0));
-    Ok(())
 }
 
 #[test]
-fn prints_the_items_as_a_slice_with_each_option(rt: HostRuntime) -> Result<(), Fail> {
+fn prints_the_items_as_a_slice_with_each_option(rt: HostRuntime) {
     let alloc = rt.alloc();
     for end in [-3, -2, -1, 0, 1, 20, 700] {
-        let numbers: ThinVec<i32> = (-3..end).collect(alloc)?;
-        assert_printed_as_slices(&rt, alloc, numbers.as_slice())?;
+        let numbers: ThinVec<i32> = check!(rt; (-3..end).collect(alloc));
+        assert_printed_as_slices(&rt, alloc, numbers.as_slice());
     }
-    assert_printed_as_slices(&rt, alloc, &[Some(1.5), None, Some(-20.75)])?;
-    assert_printed_as_slices(&rt, alloc, &["", "a\"b", "ß\n"])?;
-    assert_printed_as_slices(&rt, alloc, &[(), ()])?;
-    assert_printed_as_slices(&rt, alloc, &[[1_u64; 40]; 3])
+    assert_printed_as_slices(&rt, alloc, &[Some(1.5), None, Some(-20.75)]);
+    assert_printed_as_slices(&rt, alloc, &["", "a\"b", "ß\n"]);
+    assert_printed_as_slices(&rt, alloc, &[(), ()]);
+    assert_printed_as_slices(&rt, alloc, &[[1_u64; 40]; 3]);
 }
 
 #[test]
-fn prints_a_list_in_each_form(rt: HostRuntime) -> Result<(), Fail> {
-    let list = list_of(rt.alloc(), &[1, 2])?;
+fn prints_a_list_in_each_form(rt: HostRuntime) {
+    let list = check!(rt; list_of(rt.alloc(), &[1, 2]));
     let texts = ["[1, 2]", "[\n    1,\n    2,\n]", "[0001, 0002]"];
     check!(rt; prints(rt.alloc(), &list, texts));
     let empty = ThinVec::<i32>::new(rt.alloc());
     check!(rt; prints(rt.alloc(), &empty, ["[]", "[]", "[]"]));
-    Ok(())
 }
 
 #[test]
-fn prints_an_into_iter_in_each_form(rt: HostRuntime) -> Result<(), Fail> {
-    let mut items = list_of(rt.alloc(), &[1, 2])?.into_iter();
+fn prints_an_into_iter_in_each_form(rt: HostRuntime) {
+    let mut items = check!(rt; list_of(rt.alloc(), &[1, 2])).into_iter();
     let lines = "IntoIter(\n    [\n        1,\n        2,\n    ],\n)";
     let texts = ["IntoIter([1, 2])", lines, "IntoIter([0001, 0002])"];
     check!(rt; prints(rt.alloc(), &items, texts));
     check!(rt; same((items.next(), items.next()), (Some(1), Some(2))));
     let texts = ["IntoIter([])", "IntoIter(\n    [],\n)", "IntoIter([])"];
     check!(rt; prints(rt.alloc(), &items, texts));
-    Ok(())
 }
 
 #[test]
-fn prints_a_drain_in_each_form(rt: HostRuntime) -> Result<(), Fail> {
-    let mut list = list_of(rt.alloc(), &[1, 2, 3])?;
+fn prints_a_drain_in_each_form(rt: HostRuntime) {
+    let mut list = check!(rt; list_of(rt.alloc(), &[1, 2, 3]));
     check!(rt; has_len(&list, 3));
     let mut drain = list.drain(1, 3);
     let lines = "Drain(\n    [\n        2,\n        3,\n    ],\n)";
@@ -146,62 +138,58 @@ fn prints_a_drain_in_each_form(rt: HostRuntime) -> Result<(), Fail> {
     check!(rt; same((drain.next(), drain.next()), (Some(2), Some(3))));
     let texts = ["Drain([])", "Drain(\n    [],\n)", "Drain([])"];
     check!(rt; prints(rt.alloc(), &drain, texts));
-    Ok(())
 }
 
 #[test]
-fn prints_lists_in_a_list_and_in_an_into_iter(rt: HostRuntime) -> Result<(), Fail> {
+fn prints_lists_in_a_list_and_in_an_into_iter(rt: HostRuntime) {
     let mut lists = ThinVec::new(rt.alloc());
-    lists.push(list_of(rt.alloc(), &[1, 2])?)?;
-    lists.push(ThinVec::new(rt.alloc()))?;
+    let list = check!(rt; list_of(rt.alloc(), &[1, 2]));
+    check!(rt; lists.push(list));
+    check!(rt; lists.push(ThinVec::new(rt.alloc())));
     let lines = "[\n    [\n        1,\n        2,\n    ],\n    [],\n]";
     let texts = ["[[1, 2], []]", lines, "[[0001, 0002], []]"];
     check!(rt; prints(rt.alloc(), &lists, texts));
     let rest = lists.into_iter();
     assert_prints_items(&rt, rt.alloc(), &rest, "IntoIter", rest.as_slice());
-    Ok(())
 }
 
 #[test]
-fn errors_print_their_texts(rt: HostRuntime) -> Result<(), Fail> {
+fn errors_print_their_texts(rt: HostRuntime) {
     for (error, text) in [
         (ThinVecError::CapacityOverflow, "capacity overflow"),
         (ThinVecError::OutOfMemory, "out of memory"),
     ] {
-        let printed = format!(in rt.alloc(); "{error}")?;
+        let printed = check!(rt; format!(in rt.alloc(); "{error}"));
         check!(rt; same(printed.as_str(), text));
     }
     check!(rt; same(ThinVecError::from(AllocError), ThinVecError::OutOfMemory));
-    Ok(())
 }
 
 // Asserts the texts of an `io::Error` that was made of an error of this crate.
-fn assert_io_error<E: Error>(rt: &impl Abort, alloc: Global, error: E) -> Result<(), Fail> {
-    let printed = format!(in alloc; "{error}, {error:?}")?;
+fn assert_io_error<E: Error>(rt: &impl Abort, alloc: Global, error: E) {
+    let printed = check!(rt; format!(in alloc; "{error}, {error:?}"));
     check!(rt; same(printed.as_str(), "out of memory, Kind(OutOfMemory)"));
-    Ok(())
 }
 
 // Writes to a full list of `len` bytes whose allocator refuses all requests, and asserts the texts
 // of the errors.
-fn assert_write_errors(rt: &impl Abort, alloc: Global, len: usize) -> Result<(), Fail> {
-    let refusing = Refusing::leaked(alloc, 0)?;
+fn assert_write_errors(rt: &impl Abort, alloc: Global, len: usize) {
+    let refusing = check!(rt; Refusing::leaked(alloc, 0));
     let mut bytes = ThinVec::new(refusing);
-    bytes.resize(len, 7_u8)?;
-    bytes.shrink_to_fit()?;
+    check!(rt; bytes.resize(len, 7_u8));
+    check!(rt; bytes.shrink_to_fit());
     refusing.refuse_all();
     let error = bytes.write_all(b"some more bytes").err();
-    assert_io_error(rt, alloc, error.ok_or("written")?)?;
+    assert_io_error(rt, alloc, check!(rt; error.ok_or("written")));
     let error = bytes.write(b"ab").err();
-    assert_io_error(rt, alloc, error.ok_or("written")?)
+    assert_io_error(rt, alloc, check!(rt; error.ok_or("written")));
 }
 
 #[test]
-fn a_refused_write_is_printed_as_out_of_memory(rt: HostRuntime) -> Result<(), Fail> {
+fn a_refused_write_is_printed_as_out_of_memory(rt: HostRuntime) {
     for len in [0, 1, 100] {
-        assert_write_errors(&rt, rt.alloc(), len)?;
+        assert_write_errors(&rt, rt.alloc(), len);
     }
-    Ok(())
 }
 
 // An error of the given name and cause, which is printed as an error of this crate should be.
@@ -227,12 +215,11 @@ fn assert_error_prints<R: Error>(
     refused: &R,
     name: &str,
     cause: ThinVecError,
-) -> Result<(), Fail> {
-    let printed = format!(in alloc; "{refused}, {refused:?}")?;
-    let wanted = format!(in alloc; "{cause}, {name} {{ cause: {cause:?}, .. }}")?;
+) {
+    let printed = check!(rt; format!(in alloc; "{refused}, {refused:?}"));
+    let wanted = check!(rt; format!(in alloc; "{cause}, {name} {{ cause: {cause:?}, .. }}"));
     check!(rt; same(printed.as_str(), wanted.as_str()));
     check!(rt; prints_as(alloc, refused, &Named { name, cause }));
-    Ok(())
 }
 
 // Asserts the texts of an error, and of the `io::Error` that `?` makes of it.
@@ -242,9 +229,9 @@ fn assert_refusal<R: Error, E: From<R> + Error>(
     refused: R,
     name: &str,
     cause: ThinVecError,
-) -> Result<(), Fail> {
-    assert_error_prints(rt, alloc, &refused, name, cause)?;
-    assert_io_error(rt, alloc, E::from(refused))
+) {
+    assert_error_prints(rt, alloc, &refused, name, cause);
+    assert_io_error(rt, alloc, E::from(refused));
 }
 
 fn collect_refused(
@@ -264,21 +251,22 @@ fn collect_refused(
 }
 
 fn splice_refused(
+    rt: &impl Abort,
     alloc: Global,
     cause: ThinVecError,
     in_hand: Option<i32>,
     len: usize,
-) -> Result<SpliceRefused<usize, i32>, Fail> {
+) -> SpliceRefused<usize, i32> {
     let mut held = Vec::new(alloc);
     for item in 0..len {
-        held.push(item).ok().ok_or("memory")?;
+        check!(rt; held.push(item));
     }
-    Ok(SpliceRefused {
+    SpliceRefused {
         cause,
         held,
         in_hand: in_hand.map(|_item| 7_usize),
         rest: 2,
-    })
+    }
 }
 
 // Asserts the texts of an error of each of the four types. A list in an error has `len` items.
@@ -288,30 +276,29 @@ fn assert_refusals(
     cause: ThinVecError,
     in_hand: Option<i32>,
     len: usize,
-) -> Result<(), Fail> {
+) {
     let (value, rest) = (1, 2);
     let rejected = Rejected { value, cause };
-    assert_refusal::<_, io::Error>(rt, alloc, rejected, "Rejected", cause)?;
+    assert_refusal::<_, io::Error>(rt, alloc, rejected, "Rejected", cause);
     let extend = ExtendRefused {
         cause,
         in_hand,
         rest,
     };
-    assert_refusal::<_, io::Error>(rt, alloc, extend, "ExtendRefused", cause)?;
-    let collect = collect_refused(alloc, cause, in_hand, len)?;
-    assert_refusal::<_, io::Error>(rt, alloc, collect, "CollectRefused", cause)?;
-    let splice = splice_refused(alloc, cause, in_hand, len)?;
-    assert_refusal::<_, io::Error>(rt, alloc, splice, "SpliceRefused", cause)
+    assert_refusal::<_, io::Error>(rt, alloc, extend, "ExtendRefused", cause);
+    let collect = check!(rt; collect_refused(alloc, cause, in_hand, len));
+    assert_refusal::<_, io::Error>(rt, alloc, collect, "CollectRefused", cause);
+    let splice = splice_refused(rt, alloc, cause, in_hand, len);
+    assert_refusal::<_, io::Error>(rt, alloc, splice, "SpliceRefused", cause);
 }
 
 #[test]
-fn prints_errors_with_their_causes(rt: HostRuntime) -> Result<(), Fail> {
+fn prints_errors_with_their_causes(rt: HostRuntime) {
     for cause in [ThinVecError::OutOfMemory, ThinVecError::CapacityOverflow] {
         for len in [0, 1, 40] {
-            assert_refusals(&rt, rt.alloc(), cause, None, len)?;
-            assert_refusals(&rt, rt.alloc(), cause, Some(1), len)?;
+            assert_refusals(&rt, rt.alloc(), cause, None, len);
+            assert_refusals(&rt, rt.alloc(), cause, Some(1), len);
         }
-        assert_io_error(&rt, rt.alloc(), io::Error::from(cause))?;
+        assert_io_error(&rt, rt.alloc(), io::Error::from(cause));
     }
-    Ok(())
 }

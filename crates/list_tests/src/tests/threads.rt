@@ -5,7 +5,6 @@ ghost use Rattle.std.specs.Prelude.{◌≡◌};
 use std::alloc::{Allocator, Global};
 use std::marker::{Send, Sync};
 use std::process::Abort;
-use std::test::Fail;
 use thin_testing::{check, has_len, same};
 use thin_vec::{Growth, PowerBytes, ThinVec, thin_vec};
 
@@ -47,15 +46,14 @@ fn share_list<T: Sync, A: Allocator + Sync, G: Growth + Sync>(
 }
 
 #[test]
-fn lists_can_be_sent_and_shared(rt: HostRuntime) -> Result<(), Fail> {
-    let list: ThinVec<u8> = thin_vec![rt.alloc() => 1, 2]?;
+fn lists_can_be_sent_and_shared(rt: HostRuntime) {
+    let list: ThinVec<u8> = check!(rt; thin_vec![rt.alloc() => 1, 2]);
     let list = needs_send(send_list(list));
     check!(rt; same(needs_sync(share_list(&list)).len(), 2));
-    let lists = thin_vec![rt.alloc() => list]?;
+    let lists = check!(rt; thin_vec![rt.alloc() => list]);
     check!(rt; same(needs_sync(&needs_send(lists)).len(), 1));
     let powers: ThinVec<u8, Global, PowerBytes> = ThinVec::ruled(rt.alloc());
     check!(rt; same(needs_send(powers).len(), 0));
-    Ok(())
 }
 
 fn assert_drain_is_shared(rt: &impl Abort, list: &mut ThinVec<u8>) {
@@ -69,35 +67,28 @@ fn assert_extract_if_is_shared(rt: &impl Abort, list: &mut ThinVec<u8>) {
     check!(rt; same(needs_sync(&extract).size_hint(), (0, Some(1))));
 }
 
-fn assert_splice_is_shared(
-    rt: &impl Abort,
-    alloc: Global,
-    list: &mut ThinVec<u8>,
-) -> Result<(), Fail> {
+fn assert_splice_is_shared(rt: &impl Abort, alloc: Global, list: &mut ThinVec<u8>) {
     check!(rt; has_len(list, 2));
-    let other: ThinVec<u8> = thin_vec![alloc => 4, 5]?;
+    let other: ThinVec<u8> = check!(rt; thin_vec![alloc => 4, 5]);
     let splice = needs_send(list.splice(0, 1, other.into_iter()));
     check!(rt; same(needs_sync(&splice).len(), 1));
-    splice.finish(alloc)?;
-    Ok(())
+    check!(rt; splice.finish(alloc));
 }
 
 #[test]
-fn iterators_over_lists_can_be_sent_and_shared(rt: HostRuntime) -> Result<(), Fail> {
-    let mut list: ThinVec<u8> = thin_vec![rt.alloc() => 1, 2, 3]?;
+fn iterators_over_lists_can_be_sent_and_shared(rt: HostRuntime) {
+    let mut list: ThinVec<u8> = check!(rt; thin_vec![rt.alloc() => 1, 2, 3]);
     assert_drain_is_shared(&rt, &mut list);
     assert_extract_if_is_shared(&rt, &mut list);
-    assert_splice_is_shared(&rt, rt.alloc(), &mut list)?;
+    assert_splice_is_shared(&rt, rt.alloc(), &mut list);
     let items = needs_send(list.into_iter());
     check!(rt; same(needs_sync(&items).len(), 3));
-    Ok(())
 }
 
 #[test]
-fn types_with_lists_can_be_sent_and_shared(rt: HostRuntime) -> Result<(), Fail> {
+fn types_with_lists_can_be_sent_and_shared(rt: HostRuntime) {
     let children = ThinVec::new(rt.alloc());
     let node = needs_send(Node { value: 1, children });
     check!(rt; same(needs_sync(&node).value, 1));
     check!(rt; same(node.children.len(), 0));
-    Ok(())
 }

@@ -8,7 +8,6 @@ use std::fmt::Debug;
 use std::hash::{DefaultHasher, Hash};
 use std::iter::ExactSizeIterator;
 use std::process::Abort;
-use std::test::Fail;
 use thin_testing::{Refusing, check, counts, has_len, holds, list_of, same};
 use thin_vec::{ThinVec, ThinVecError};
 
@@ -34,57 +33,56 @@ fn assert_block_replaced(
     own: Lender,
     other: Lender,
     source: &ThinVec<i32, Lender>,
-) -> Result<(), Fail> {
-    let mut list = ThinVec::with_capacity(own, 9)?;
-    list.push(7)?;
+) {
+    let mut list = check!(rt; ThinVec::with_capacity(own, 9));
+    check!(rt; list.push(7));
     other.refuse(1);
-    clone_at_second_try(rt, &mut list, source)?;
+    check!(rt; clone_at_second_try(rt, &mut list, source));
     check!(rt; counts(own, 1, 0));
     check!(rt; counts(other, 2, 2));
-    list.clone_from(&ThinVec::new(own))?;
+    check!(rt; list.clone_from(&ThinVec::new(own)));
     check!(rt; holds(&list, &[], 0));
     check!(rt; counts(other, 2, 1));
-    Ok(())
 }
 
 #[test]
-fn clone_from_replaces_the_block(rt: HostRuntime) -> Result<(), Fail> {
-    let own = Refusing::leaked(rt.alloc(), 0)?;
-    let other = Refusing::leaked(rt.alloc(), 0)?;
-    let mut source = list_of(other, &[1, 2, 3])?;
-    source.reserve(5)?;
-    assert_block_replaced(&rt, own, other, &source)
+fn clone_from_replaces_the_block(rt: HostRuntime) {
+    let own = check!(rt; Refusing::leaked(rt.alloc(), 0));
+    let other = check!(rt; Refusing::leaked(rt.alloc(), 0));
+    let mut source = check!(rt; list_of(other, &[1, 2, 3]));
+    check!(rt; source.reserve(5));
+    assert_block_replaced(&rt, own, other, &source);
 }
 
-fn assert_default_has_no_block<T: Drop>(rt: &impl Abort, alloc: Global) -> Result<(), Fail> {
+fn assert_default_has_no_block<T: Drop>(rt: &impl Abort, alloc: Global) {
     let mut lists: HashMap<u32, ThinVec<T>> = HashMap::new(alloc);
-    check!(rt; same(lists.entry(1)?.or_default().capacity(), 0));
-    Ok(())
-}
-
-#[test]
-fn or_default_makes_a_list_without_a_block(rt: HostRuntime) -> Result<(), Fail> {
-    let mut lists: HashMap<u32, ThinVec<i32>> = HashMap::new(rt.alloc());
-    let list = lists.entry(1)?.or_default();
+    let list = check!(rt; lists.entry(1)).or_default();
     check!(rt; same(list.capacity(), 0));
-    list.push(10)?;
-    check!(rt; holds(lists.entry(1)?.or_default(), &[10], 4));
-    assert_default_has_no_block::<[u64; 40]>(&rt, rt.alloc())?;
-    assert_default_has_no_block::<()>(&rt, rt.alloc())
 }
 
 #[test]
-fn iteration_by_value_makes_no_request(rt: HostRuntime) -> Result<(), Fail> {
-    let refusing = Refusing::leaked(rt.alloc(), 0)?;
+fn or_default_makes_a_list_without_a_block(rt: HostRuntime) {
+    let mut lists: HashMap<u32, ThinVec<i32>> = HashMap::new(rt.alloc());
+    let list = check!(rt; lists.entry(1)).or_default();
+    check!(rt; same(list.capacity(), 0));
+    check!(rt; list.push(10));
+    let list = check!(rt; lists.entry(1)).or_default();
+    check!(rt; holds(list, &[10], 4));
+    assert_default_has_no_block::<[u64; 40]>(&rt, rt.alloc());
+    assert_default_has_no_block::<()>(&rt, rt.alloc());
+}
+
+#[test]
+fn iteration_by_value_makes_no_request(rt: HostRuntime) {
+    let refusing = check!(rt; Refusing::leaked(rt.alloc(), 0));
     for len in [0, 1, 3, 1000] {
         refusing.refuse(0);
         let mut list = ThinVec::new(refusing);
-        list.resize(len, 1_u32)?;
+        check!(rt; list.resize(len, 1_u32));
         refusing.refuse(1);
         check!(rt; same(count(list), len));
         check!(rt; counts(refusing, 0, 0));
     }
-    Ok(())
 }
 
 fn count<T: Drop, A: Allocator>(list: ThinVec<T, A>) -> usize {
@@ -205,14 +203,13 @@ fn assert_slice_requests<T: Copy + Ord + Hash + Debug + Drop>(
 }
 
 #[test]
-fn slice_methods_make_no_request(rt: HostRuntime) -> Result<(), Fail> {
-    let refusing = Refusing::leaked(rt.alloc(), 0)?;
+fn slice_methods_make_no_request(rt: HostRuntime) {
+    let refusing = check!(rt; Refusing::leaked(rt.alloc(), 0));
     for len in [0, 1, 9, 300] {
-        assert_slice_requests(&rt, refusing, 7_u32, len)?;
-        assert_slice_requests(&rt, refusing, (), len)?;
-        assert_slice_requests(&rt, refusing, [7_u64; 40], len)?;
+        check!(rt; assert_slice_requests(&rt, refusing, 7_u32, len));
+        check!(rt; assert_slice_requests(&rt, refusing, (), len));
+        check!(rt; assert_slice_requests(&rt, refusing, [7_u64; 40], len));
     }
-    Ok(())
 }
 
 // Sorts the list by one of four calls. The number `way`, from 0 to 3, selects the call.
@@ -241,7 +238,7 @@ fn sort_items_by_way<A: Allocator>(
 
 // Makes a list of two runs, since a list that is one run, rising or falling, is sorted without
 // memory.
-fn two_runs(lender: Lender, first: i32, second: i32) -> Result<ThinVec<i32, Lender>, Fail> {
+fn two_runs(lender: Lender, first: i32, second: i32) -> Result<ThinVec<i32, Lender>, ThinVecError> {
     let mut list = ThinVec::new(lender);
     list.extend(0..first)?;
     list.extend(0..second)?;
@@ -249,28 +246,26 @@ fn two_runs(lender: Lender, first: i32, second: i32) -> Result<ThinVec<i32, Lend
 }
 
 // Asserts that a sort of a list requests what the same sort of its slice requests.
-fn assert_sort_requests(rt: &impl Abort, refusing: Lender, way: u32, len: i32) -> Result<(), Fail> {
-    let mut list = two_runs(refusing, len, len)?;
-    let mut other = list.clone(refusing)?;
+fn assert_sort_requests(rt: &impl Abort, refusing: Lender, way: u32, len: i32) {
+    let mut list = check!(rt; two_runs(refusing, len, len));
+    let mut other = check!(rt; list.clone(refusing));
     refusing.refuse(0);
-    sort_items_by_way(way, other.as_mut_slice(), &refusing)?;
+    check!(rt; sort_items_by_way(way, other.as_mut_slice(), &refusing));
     let due = (refusing.requests(), refusing.lent());
     refusing.refuse(0);
-    sort_by_way(way, &mut list)?;
+    check!(rt; sort_by_way(way, &mut list));
     let found = (refusing.requests(), refusing.lent());
     check!(rt; same((way, len, found), (way, len, due)));
-    Ok(())
 }
 
 #[test]
-fn stable_sorts_make_the_requests_of_those_of_slices(rt: HostRuntime) -> Result<(), Fail> {
-    let refusing = Refusing::leaked(rt.alloc(), 0)?;
+fn stable_sorts_make_the_requests_of_those_of_slices(rt: HostRuntime) {
+    let refusing = check!(rt; Refusing::leaked(rt.alloc(), 0));
     for way in 0..4 {
         for len in [0, 1, 5, 10, 11, 150] {
-            assert_sort_requests(&rt, refusing, way, len)?;
+            assert_sort_requests(&rt, refusing, way, len);
         }
     }
-    Ok(())
 }
 
 // Sorts the list at the second try. The request of the first try is refused.
@@ -279,21 +274,20 @@ fn sort_at_second_try(
     refusing: Lender,
     list: &mut ThinVec<i32, Lender>,
     way: u32,
-) -> Result<(), Fail> {
-    let unsorted = list.clone(refusing)?;
+) {
+    let unsorted = check!(rt; list.clone(refusing));
     refusing.refuse(1);
     check!(rt; same(sort_by_way(way, list).is_err(), true));
     check!(rt; same((*list == unsorted, refusing.blocks()), (true, 2)));
     check!(rt; same(sort_by_way(way, list).is_ok(), true));
     check!(rt; same((list.is_sorted(), refusing.blocks()), (true, 2)));
-    Ok(())
 }
 
 #[test]
-fn stable_sorts_use_the_allocator_of_the_list(rt: HostRuntime) -> Result<(), Fail> {
-    let refusing = Refusing::leaked(rt.alloc(), 0)?;
+fn stable_sorts_use_the_allocator_of_the_list(rt: HostRuntime) {
+    let refusing = check!(rt; Refusing::leaked(rt.alloc(), 0));
     for way in 0..4 {
-        sort_at_second_try(&rt, refusing, &mut two_runs(refusing, 20, 10)?, way)?;
+        let mut list = check!(rt; two_runs(refusing, 20, 10));
+        sort_at_second_try(&rt, refusing, &mut list, way);
     }
-    Ok(())
 }

@@ -8,7 +8,6 @@ use std::default::Emptied;
 use std::io::{self, ErrorKind};
 use std::process::Abort;
 use std::rc::Rc;
-use std::test::Fail;
 use thin_runner::hinted::Hinted;
 use thin_testing::{
     Counted, CountedWord, Ledger, Numbered, Refusing, check, counts, has_len, list_of,
@@ -22,7 +21,7 @@ fn made_by_way<A: Allocator + Copy>(
     way: u32,
     mut list: ThinVec<i32, A>,
     alloc: A,
-) -> Result<Vec<i32, A>, Fail> {
+) -> Result<Vec<i32, A>, ThinVecError> {
     let made = match way {
         0 => list.split_off(alloc, 0)?,
         1 => list.clone(alloc)?,
@@ -41,40 +40,35 @@ fn made_by_way<A: Allocator + Copy>(
 
 // Tries each of the six calls on a list of `items`. Pushes one more item to the `Vec` that it
 // makes, so that the `Vec` has a block.
-fn assert_each_way_uses_the_allocator(
-    rt: &impl Abort,
-    alloc: Global,
-    items: &[i32],
-) -> Result<(), Fail> {
-    let own = Refusing::leaked(alloc, 0)?;
-    let other = Refusing::leaked(alloc, 0)?;
+fn assert_each_way_uses_the_allocator(rt: &impl Abort, alloc: Global, items: &[i32]) {
+    let own = check!(rt; Refusing::leaked(alloc, 0));
+    let other = check!(rt; Refusing::leaked(alloc, 0));
     for way in 0..6 {
-        let mut made = made_by_way(way, list_of(own, items)?, other)?;
-        made.push(9)?;
+        let list = check!(rt; list_of(own, items));
+        let mut made = check!(rt; made_by_way(way, list, other));
+        check!(rt; made.push(9));
         check!(rt; same(made.len(), items.len().saturating_add(1)));
         check!(rt; same((way, own.blocks(), other.blocks()), (way, 0, 1)));
     }
     check!(rt; counts(own, if items.is_empty() { 0 } else { 6 }, 0));
-    Ok(())
 }
 
 #[test]
-fn calls_allocate_results_on_the_allocator_passed(rt: HostRuntime) -> Result<(), Fail> {
-    assert_each_way_uses_the_allocator(&rt, rt.alloc(), &[])?;
-    assert_each_way_uses_the_allocator(&rt, rt.alloc(), &[1, 2, 3])
+fn calls_allocate_results_on_the_allocator_passed(rt: HostRuntime) {
+    assert_each_way_uses_the_allocator(&rt, rt.alloc(), &[]);
+    assert_each_way_uses_the_allocator(&rt, rt.alloc(), &[1, 2, 3]);
 }
 
 #[test]
-fn finish_holds_items_back_on_the_allocator_passed(rt: HostRuntime) -> Result<(), Fail> {
-    let own = Refusing::leaked(rt.alloc(), 0)?;
-    let other = Refusing::leaked(rt.alloc(), 0)?;
-    let mut list = list_of(own, &[1, 2, 3])?;
+fn finish_holds_items_back_on_the_allocator_passed(rt: HostRuntime) {
+    let own = check!(rt; Refusing::leaked(rt.alloc(), 0));
+    let other = check!(rt; Refusing::leaked(rt.alloc(), 0));
+    let mut list = check!(rt; list_of(own, &[1, 2, 3]));
     check!(rt; has_len(&list, 3));
-    let items = Hinted::new([7, 8, 9].to_vec(rt.alloc())?, 0);
-    splice(&mut list, (1, 2), items, other)?;
+    let items = Hinted::new(check!(rt; [7, 8, 9].to_vec(rt.alloc())), 0);
+    check!(rt; splice(&mut list, (1, 2), items, other));
     check!(rt; counts(own, 2, 1));
     check!(rt; counts(other, 1, 0));
-    Ok(())
 }
 
 // An allocator that a list owns.
@@ -85,7 +79,7 @@ fn owning_list<T: Numbered>(
     ledger: &'static Ledger,
     owner: &Rc<u64>,
     count: u64,
-) -> Result<ThinVec<T, Owned>, Fail> {
+) -> Result<ThinVec<T, Owned>, ThinVecError> {
     let mut list = ThinVec::new(Refusing::owning(&ledger.alloc, owner.clone()?));
     for item in 0..count {
         list.push(T::numbered(ledger, item))?;
@@ -289,7 +283,7 @@ fn requested<T: Numbered>(
     function: usize,
     call: u32,
     count: u64,
-) -> Result<(u64, u64), Fail>
+) -> io::Result<(u64, u64)>
     requires small { 40 * type_size T.row < 2 ^ 63 }
 {
     let mut list: ThinVec<T, &'static Refusing<Global>> = ThinVec::new(&ledger.alloc);
@@ -311,7 +305,7 @@ fn is_ended<T: Numbered>(
     count: u64,
     own: u64,
     passed: u64,
-) -> Result<bool, Fail>
+) -> Result<bool, ThinVecError>
     requires small { 40 * type_size T.row < 2 ^ 63 }
 {
     let alloc = Refusing::owning(&ledger.alloc, owner.clone()?);
@@ -330,12 +324,12 @@ fn assert_call_dropped<T: Numbered>(
     owner: &Rc<u64>,
     call: (usize, u32),
     count: u64,
-) -> Result<(), Fail>
+)
     requires small { 40 * type_size T.row < 2 ^ 63 }
 {
-    let due = requested::<T>(ledger, call.0, call.1, count)?;
+    let due = check!(rt; requested::<T>(ledger, call.0, call.1, count));
     for (own, passed) in REFUSED {
-        let is_ok = is_ended::<T>(ledger, owner, call, count, own, passed)?;
+        let is_ok = check!(rt; is_ended::<T>(ledger, owner, call, count, own, passed));
         let made = (call, count, own, passed);
         if own == 0 && passed == 0 {
             let found = (ledger.alloc.requests(), ledger.alloc.lent());
@@ -344,37 +338,35 @@ fn assert_call_dropped<T: Numbered>(
         let left = (Rc::strong_count(owner), ledger.alloc.blocks());
         check!(rt; same((made, left, ledger.live.get()), (made, (1, 0), 0)));
     }
-    Ok(())
 }
 
 // Makes each call on lists of several lengths. Asserts that there is no call of a higher number.
-fn assert_dropped<T: Numbered>(rt: &impl Abort, ledger: &'static Ledger) -> Result<(), Fail>
+fn assert_dropped<T: Numbered>(rt: &impl Abort, ledger: &'static Ledger)
     requires small { 40 * type_size T.row < 2 ^ 63 }
 {
-    let owner = Rc::new(ledger.global, 0)?;
+    let owner = check!(rt; Rc::new(ledger.global, 0));
     for count in [0, 1, 2, 3, 40, 200] {
         let mut function: usize = 0;
         for calls in CALLS {
             check!(rt; same((function, has_call::<T>(ledger, function, calls)), (function, false)));
             for call in 0..calls {
-                assert_call_dropped::<T>(rt, ledger, &owner, (function, call), count)?;
+                assert_call_dropped::<T>(rt, ledger, &owner, (function, call), count);
             }
             function = function.saturating_add(1);
         }
     }
-    Ok(())
 }
 
 #[test]
-fn a_list_drops_the_allocator_that_it_owns(rt: HostRuntime) -> Result<(), Fail> {
-    let ledger = Ledger::leaked(rt.alloc())?;
-    assert_dropped::<()>(&rt, ledger)?;
-    assert_dropped::<u8>(&rt, ledger)?;
-    assert_dropped::<u128>(&rt, ledger)?;
-    assert_dropped::<[u64; 40]>(&rt, ledger)?;
-    assert_dropped::<CountedWord<'static>>(&rt, ledger)?;
-    assert_dropped::<Counted<'static>>(&rt, ledger)?;
-    assert_dropped::<Counted<'static, [u64; 14]>>(&rt, ledger)
+fn a_list_drops_the_allocator_that_it_owns(rt: HostRuntime) {
+    let ledger = check!(rt; Ledger::leaked(rt.alloc()));
+    assert_dropped::<()>(&rt, ledger);
+    assert_dropped::<u8>(&rt, ledger);
+    assert_dropped::<u128>(&rt, ledger);
+    assert_dropped::<[u64; 40]>(&rt, ledger);
+    assert_dropped::<CountedWord<'static>>(&rt, ledger);
+    assert_dropped::<Counted<'static>>(&rt, ledger);
+    assert_dropped::<Counted<'static, [u64; 14]>>(&rt, ledger);
 }
 
 // Makes two lists of copies of `count` items. Their allocators refuse the request of the given
@@ -384,7 +376,7 @@ fn copy_twice<T: Numbered + Copy>(
     owner: &Rc<u64>,
     count: u64,
     refused: u64,
-) -> Result<(), Fail> {
+) -> Result<(), ThinVecError> {
     let list: ThinVec<T, Owned> = owning_list(ledger, owner, count)?;
     let one = Refusing::owning(&ledger.alloc, owner.clone()?);
     one.refuse(refused);
@@ -396,27 +388,23 @@ fn copy_twice<T: Numbered + Copy>(
 }
 
 // Makes lists of copies. Asserts that all allocators are dropped.
-fn assert_dropped_by_copies<T: Numbered + Copy>(
-    rt: &impl Abort,
-    ledger: &'static Ledger,
-) -> Result<(), Fail> {
-    let owner = Rc::new(ledger.global, 0)?;
+fn assert_dropped_by_copies<T: Numbered + Copy>(rt: &impl Abort, ledger: &'static Ledger) {
+    let owner = check!(rt; Rc::new(ledger.global, 0));
     for count in [0, 1, 2, 40] {
         for passed in 0..2 {
-            copy_twice::<T>(ledger, &owner, count, passed)?;
+            check!(rt; copy_twice::<T>(ledger, &owner, count, passed));
             let left = (Rc::strong_count(&owner), ledger.alloc.blocks());
             check!(rt; same((count, passed, left), (count, passed, (1, 0))));
         }
     }
-    Ok(())
 }
 
 #[test]
-fn copies_drop_the_allocators_that_they_own(rt: HostRuntime) -> Result<(), Fail> {
-    let ledger = Ledger::leaked(rt.alloc())?;
-    assert_dropped_by_copies::<u8>(&rt, ledger)?;
-    assert_dropped_by_copies::<u128>(&rt, ledger)?;
-    assert_dropped_by_copies::<[u64; 40]>(&rt, ledger)
+fn copies_drop_the_allocators_that_they_own(rt: HostRuntime) {
+    let ledger = check!(rt; Ledger::leaked(rt.alloc()));
+    assert_dropped_by_copies::<u8>(&rt, ledger);
+    assert_dropped_by_copies::<u128>(&rt, ledger);
+    assert_dropped_by_copies::<[u64; 40]>(&rt, ledger);
 }
 
 // Makes a list of the given capacity by one of three calls.
@@ -433,54 +421,51 @@ fn reserved(call: u32, owning: Owned, capacity: usize) -> Result<(), ThinVecErro
 }
 
 #[test]
-fn a_refused_capacity_drops_the_allocator(rt: HostRuntime) -> Result<(), Fail> {
-    let owner = Rc::new(rt.alloc(), 0)?;
+fn a_refused_capacity_drops_the_allocator(rt: HostRuntime) {
+    let owner = check!(rt; Rc::new(rt.alloc(), 0));
     for call in 0..3 {
         for (capacity, cause) in [
             (5, ThinVecError::OutOfMemory),
             (usize::MAX, ThinVecError::CapacityOverflow),
         ] {
-            let alloc = Refusing::leaked(rt.alloc(), 1)?;
-            let owning = Refusing::owning(alloc, owner.clone()?);
+            let alloc = check!(rt; Refusing::leaked(rt.alloc(), 1));
+            let owning = Refusing::owning(alloc, check!(rt; owner.clone()));
             check!(rt; same(reserved(call, owning, capacity), Err(cause)));
             check!(rt; same((call, Rc::strong_count(&owner)), (call, 1)));
         }
     }
-    Ok(())
 }
 
 #[test]
-fn a_refused_collection_drops_the_allocator(rt: HostRuntime) -> Result<(), Fail> {
-    let owner = Rc::new(rt.alloc(), 0)?;
+fn a_refused_collection_drops_the_allocator(rt: HostRuntime) {
+    let owner = check!(rt; Rc::new(rt.alloc(), 0));
     for refused in 1..4 {
-        let alloc = Refusing::leaked(rt.alloc(), refused)?;
-        let owning = Refusing::owning(alloc, owner.clone()?);
-        let items = Hinted::new([7; 20].to_vec(rt.alloc())?, 0);
+        let alloc = check!(rt; Refusing::leaked(rt.alloc(), refused));
+        let owning = Refusing::owning(alloc, check!(rt; owner.clone()));
+        let items = Hinted::new(check!(rt; [7; 20].to_vec(rt.alloc())), 0);
         check!(rt; same(ThinVec::from_iter(owning, items).is_err(), true));
         check!(rt; same((Rc::strong_count(&owner), alloc.blocks()), (1, 0)));
     }
-    Ok(())
 }
 
 // Makes lists without items by `emptied`, from lists of several lengths.
-fn assert_emptied<T: Numbered>(rt: &impl Abort, ledger: &'static Ledger) -> Result<(), Fail> {
+fn assert_emptied<T: Numbered>(rt: &impl Abort, ledger: &'static Ledger) {
     for len in [0, 1, 40] {
         let mut list: ThinVec<T, Owned> = ThinVec::new(Refusing::new(&ledger.alloc, 0));
-        list.resize(len, T::numbered(ledger, 7))?;
+        check!(rt; list.resize(len, T::numbered(ledger, 7)));
         list.allocator().refuse(0);
-        let empty: ThinVec<T, Owned> = Emptied::emptied(&list)?;
+        let empty: ThinVec<T, Owned> = check!(rt; Emptied::emptied(&list));
         let requests = list.allocator().requests();
         check!(rt; same((len, requests, empty.has_capacity()), (len, 1, false)));
     }
-    Ok(())
 }
 
 #[test]
-fn an_emptied_list_clones_the_allocator_once(rt: HostRuntime) -> Result<(), Fail> {
-    let ledger = Ledger::leaked(rt.alloc())?;
-    assert_emptied::<()>(&rt, ledger)?;
-    assert_emptied::<u8>(&rt, ledger)?;
-    assert_emptied::<u64>(&rt, ledger)?;
-    assert_emptied::<u128>(&rt, ledger)?;
-    assert_emptied::<[u64; 40]>(&rt, ledger)
+fn an_emptied_list_clones_the_allocator_once(rt: HostRuntime) {
+    let ledger = check!(rt; Ledger::leaked(rt.alloc()));
+    assert_emptied::<()>(&rt, ledger);
+    assert_emptied::<u8>(&rt, ledger);
+    assert_emptied::<u64>(&rt, ledger);
+    assert_emptied::<u128>(&rt, ledger);
+    assert_emptied::<[u64; 40]>(&rt, ledger);
 }

@@ -1,5 +1,4 @@
 //! Tests of the checks of `thin_testing`: each finds what is wrong, and `check!` stops the test.
-use std::test::Fail;
 use thin_testing::{
     Refusing, check, counts, has_len, holds, list_of, prints, prints_as, same, same_items,
 };
@@ -15,34 +14,31 @@ fn detects_a_wrong_value(rt: HostRuntime) {
 }
 
 #[test]
-fn detects_a_wrong_length(rt: HostRuntime) -> Result<(), Fail> {
-    let list = list_of(rt.alloc(), &[1, 2])?;
+fn detects_a_wrong_length(rt: HostRuntime) {
+    let list = check!(rt; list_of(rt.alloc(), &[1, 2]));
     for len in 0..4 {
         let found = (len, has_len(&list, len).is_ok(), list.len() == len);
         check!(rt; same(found, (len, len == 2, len == 2)));
     }
-    Ok(())
 }
 
 #[test]
-fn detects_a_wrong_capacity(rt: HostRuntime) -> Result<(), Fail> {
-    let list = list_of(rt.alloc(), &[1, 2])?;
+fn detects_a_wrong_capacity(rt: HostRuntime) {
+    let list = check!(rt; list_of(rt.alloc(), &[1, 2]));
     check!(rt; holds(&list, &[1, 2], 2));
     check!(rt; same(holds(&list, &[1, 2], 3).is_err(), true));
     for wrong in [&[][..], &[1], &[1, 3], &[1, 2, 2]] {
         check!(rt; same(holds(&list, wrong, 2).is_err(), true));
     }
-    Ok(())
 }
 
 #[test]
-fn detects_a_wrong_number_of_blocks(rt: HostRuntime) -> Result<(), Fail> {
-    let refusing = Refusing::leaked(rt.alloc(), 0)?;
-    let _list = list_of(refusing, &[1])?;
+fn detects_a_wrong_number_of_blocks(rt: HostRuntime) {
+    let refusing = check!(rt; Refusing::leaked(rt.alloc(), 0));
+    let _list = check!(rt; list_of(refusing, &[1]));
     check!(rt; counts(refusing, 1, 1));
     check!(rt; same(counts(refusing, 1, 0).is_err(), true));
     check!(rt; same(counts(refusing, 0, 1).is_err(), true));
-    Ok(())
 }
 
 #[test]

@@ -3,7 +3,6 @@
 //! items are larger and aligned to 8. Each request is refused once and then granted.
 use std::alloc::{Allocator, Global};
 use std::process::Abort;
-use std::test::Fail;
 use thin_testing::{Ledger, Numbered, Refusing, check, same};
 use thin_vec::{Growth, ThinVec, ThinVecError};
 
@@ -91,52 +90,64 @@ fn assert_type<T: Numbered>(rt: &impl Abort, ledger: &'static Ledger) -> Result<
 }
 
 #[test]
-fn a_list_of_each_width_grows_and_shrinks_in_place(rt: HostRuntime) -> Result<(), Fail> {
-    let ledger = Ledger::leaked(rt.alloc())?;
-    assert_type::<u8>(&rt, ledger)?;
-    assert_type::<u16>(&rt, ledger)?;
-    assert_type::<i32>(&rt, ledger)?;
-    assert_type::<u64>(&rt, ledger)?;
-    assert_type::<u128>(&rt, ledger)?;
-    Ok(())
+fn a_list_of_each_width_grows_and_shrinks_in_place(rt: HostRuntime) {
+    let ledger = check!(rt; Ledger::leaked(rt.alloc()));
+    check!(rt; assert_type::<u8>(&rt, ledger));
+    check!(rt; assert_type::<u16>(&rt, ledger));
+    check!(rt; assert_type::<i32>(&rt, ledger));
+    check!(rt; assert_type::<u64>(&rt, ledger));
+    check!(rt; assert_type::<u128>(&rt, ledger));
 }
 
 #[test]
-fn a_list_of_arrays_of_each_width_grows_and_shrinks_in_place(rt: HostRuntime) -> Result<(), Fail> {
-    let ledger = Ledger::leaked(rt.alloc())?;
-    assert_type::<[u8; 4]>(&rt, ledger)?;
-    assert_type::<[u8; 8]>(&rt, ledger)?;
-    assert_type::<[u8; 16]>(&rt, ledger)?;
-    assert_type::<[u32; 2]>(&rt, ledger)?;
-    assert_type::<[u64; 2]>(&rt, ledger)?;
-    Ok(())
+fn a_list_of_arrays_of_each_width_grows_and_shrinks_in_place(rt: HostRuntime) {
+    let ledger = check!(rt; Ledger::leaked(rt.alloc()));
+    check!(rt; assert_type::<[u8; 4]>(&rt, ledger));
+    check!(rt; assert_type::<[u8; 8]>(&rt, ledger));
+    check!(rt; assert_type::<[u8; 16]>(&rt, ledger));
+    check!(rt; assert_type::<[u32; 2]>(&rt, ledger));
+    check!(rt; assert_type::<[u64; 2]>(&rt, ledger));
 }
 
 #[test]
-fn a_list_of_items_of_odd_sizes_grows_and_shrinks(rt: HostRuntime) -> Result<(), Fail> {
-    let ledger = Ledger::leaked(rt.alloc())?;
-    assert_type::<[u8; 3]>(&rt, ledger)?;
-    assert_type::<[u8; 5]>(&rt, ledger)?;
-    assert_type::<[u8; 7]>(&rt, ledger)?;
-    assert_type::<[u32; 3]>(&rt, ledger)?;
-    assert_type::<[u32; 5]>(&rt, ledger)?;
-    assert_type::<[u32; 7]>(&rt, ledger)?;
-    assert_type::<[u64; 3]>(&rt, ledger)?;
-    Ok(())
+fn a_list_of_items_of_odd_sizes_grows_and_shrinks(rt: HostRuntime) {
+    let ledger = check!(rt; Ledger::leaked(rt.alloc()));
+    check!(rt; assert_type::<[u8; 3]>(&rt, ledger));
+    check!(rt; assert_type::<[u8; 5]>(&rt, ledger));
+    check!(rt; assert_type::<[u8; 7]>(&rt, ledger));
+    check!(rt; assert_type::<[u32; 3]>(&rt, ledger));
+    check!(rt; assert_type::<[u32; 5]>(&rt, ledger));
+    check!(rt; assert_type::<[u32; 7]>(&rt, ledger));
+    check!(rt; assert_type::<[u64; 3]>(&rt, ledger));
 }
 
 #[test]
-fn a_list_of_triples_grows_and_shrinks_around_32_slots(rt: HostRuntime) -> Result<(), Fail> {
-    let ledger = Ledger::leaked(rt.alloc())?;
+fn a_list_of_triples_grows_and_shrinks_around_32_slots(rt: HostRuntime) {
+    let ledger = check!(rt; Ledger::leaked(rt.alloc()));
     for len in 1..40 {
         for more in [1, 2, 3, 16, 33, 6000, 70_000] {
             ledger.begin(0);
-            assert_capacities::<[u64; 3], _>(&rt, ledger, &ledger.alloc, len, more, true)?;
-            assert_capacities::<[u64; 3], _>(&rt, ledger, ledger.global, len, more, false)?;
+            let made = assert_capacities::<[u64; 3], _>(
+                &rt,
+                ledger,
+                &ledger.alloc,
+                len,
+                more,
+                true,
+            );
+            check!(rt; made);
+            let made = assert_capacities::<[u64; 3], _>(
+                &rt,
+                ledger,
+                ledger.global,
+                len,
+                more,
+                false,
+            );
+            check!(rt; made);
         }
     }
     check!(rt; same(ledger.alloc.blocks(), 0));
-    Ok(())
 }
 
 // Pushes 3000 items onto a list. Each time that the list is full, another list is allocated
@@ -159,17 +170,16 @@ fn assert_moves<T: Numbered>(
 }
 
 #[test]
-fn a_list_moves_if_it_cannot_grow_in_place(rt: HostRuntime) -> Result<(), Fail> {
-    let (ledger, alloc) = (Ledger::leaked(rt.alloc())?, rt.alloc());
-    assert_moves::<u8>(&rt, ledger, alloc)?;
-    assert_moves::<u16>(&rt, ledger, alloc)?;
-    assert_moves::<i32>(&rt, ledger, alloc)?;
-    assert_moves::<u64>(&rt, ledger, alloc)?;
-    assert_moves::<u128>(&rt, ledger, alloc)?;
-    assert_moves::<[u64; 3]>(&rt, ledger, alloc)?;
-    assert_moves::<[u128; 3]>(&rt, ledger, alloc)?;
-    assert_moves::<[u64; 40]>(&rt, ledger, alloc)?;
-    Ok(())
+fn a_list_moves_if_it_cannot_grow_in_place(rt: HostRuntime) {
+    let (ledger, alloc) = (check!(rt; Ledger::leaked(rt.alloc())), rt.alloc());
+    check!(rt; assert_moves::<u8>(&rt, ledger, alloc));
+    check!(rt; assert_moves::<u16>(&rt, ledger, alloc));
+    check!(rt; assert_moves::<i32>(&rt, ledger, alloc));
+    check!(rt; assert_moves::<u64>(&rt, ledger, alloc));
+    check!(rt; assert_moves::<u128>(&rt, ledger, alloc));
+    check!(rt; assert_moves::<[u64; 3]>(&rt, ledger, alloc));
+    check!(rt; assert_moves::<[u128; 3]>(&rt, ledger, alloc));
+    check!(rt; assert_moves::<[u64; 40]>(&rt, ledger, alloc));
 }
 
 // Pushes 3000 items onto a list that owns its allocator, which takes more bytes than a reference.
@@ -192,16 +202,15 @@ fn assert_owner_grows<T: Numbered>(
 }
 
 #[test]
-fn a_list_grows_and_shrinks_over_an_allocator_that_it_owns(rt: HostRuntime) -> Result<(), Fail> {
-    let ledger = Ledger::leaked(rt.alloc())?;
-    assert_owner_grows::<()>(&rt, ledger)?;
-    assert_owner_grows::<u8>(&rt, ledger)?;
-    assert_owner_grows::<u16>(&rt, ledger)?;
-    assert_owner_grows::<i32>(&rt, ledger)?;
-    assert_owner_grows::<u64>(&rt, ledger)?;
-    assert_owner_grows::<u128>(&rt, ledger)?;
-    assert_owner_grows::<[u32; 3]>(&rt, ledger)?;
-    assert_owner_grows::<[u64; 3]>(&rt, ledger)?;
-    assert_owner_grows::<[u64; 40]>(&rt, ledger)?;
-    Ok(())
+fn a_list_grows_and_shrinks_over_an_allocator_that_it_owns(rt: HostRuntime) {
+    let ledger = check!(rt; Ledger::leaked(rt.alloc()));
+    check!(rt; assert_owner_grows::<()>(&rt, ledger));
+    check!(rt; assert_owner_grows::<u8>(&rt, ledger));
+    check!(rt; assert_owner_grows::<u16>(&rt, ledger));
+    check!(rt; assert_owner_grows::<i32>(&rt, ledger));
+    check!(rt; assert_owner_grows::<u64>(&rt, ledger));
+    check!(rt; assert_owner_grows::<u128>(&rt, ledger));
+    check!(rt; assert_owner_grows::<[u32; 3]>(&rt, ledger));
+    check!(rt; assert_owner_grows::<[u64; 3]>(&rt, ledger));
+    check!(rt; assert_owner_grows::<[u64; 40]>(&rt, ledger));
 }

@@ -11,16 +11,15 @@ use std::iter::empty;
 use std::ops::Bound;
 use std::panic::Expect;
 use std::process::Abort;
-use std::test::Fail;
 use thin_testing::{Refusing, check, has_len, holds, list_of, same, splice};
-use thin_vec::{PowerBytes, ThinVec, bounds, thin_vec};
+use thin_vec::{PowerBytes, ThinVec, ThinVecError, bounds, thin_vec};
 
 type Lender = &'static Refusing<Global>;
 
 type List = ThinVec<i32, Lender>;
 
 // Makes the list 1, 2, 3 with capacity 5. From then on, all requests are refused.
-fn roomy(lender: Lender) -> Result<List, Fail>
+fn roomy(lender: Lender) -> Result<List, ThinVecError>
     ensures len { IfOk result (λ list. length list.items ≡ 3) }
 {
     lender.refuse(0);
@@ -48,26 +47,26 @@ fn make_empty_lists(rt: &impl Abort, lender: Lender) {
 }
 
 // Clones a list without items, and makes others of it.
-fn convert_empty_lists(rt: &impl Abort, lender: Lender) -> Result<(), Fail> {
+fn convert_empty_lists(rt: &impl Abort, lender: Lender) {
     let list = List::new(lender);
     assert_empty(rt, list.clone(lender));
-    check!(rt; same(list.into_iter().clone(lender)?.len(), 0));
-    let boxed = List::new(lender).into_boxed_slice(lender)?;
+    let items = check!(rt; list.into_iter().clone(lender));
+    check!(rt; same(items.len(), 0));
+    let boxed = check!(rt; List::new(lender).into_boxed_slice(lender));
     assert_empty(rt, ThinVec::from_boxed_slice(lender, boxed));
-    let vec = List::new(lender).into_vec(lender)?;
+    let vec = check!(rt; List::new(lender).into_vec(lender));
     check!(rt; same(vec.capacity(), 0));
-    Ok(())
 }
 
 #[test]
-fn lists_without_items_take_no_memory(rt: HostRuntime) -> Result<(), Fail> {
-    let lender = Refusing::leaked(rt.alloc(), 0)?;
+fn lists_without_items_take_no_memory(rt: HostRuntime) {
+    let lender = check!(rt; Refusing::leaked(rt.alloc(), 0));
     lender.refuse_all();
     make_empty_lists(&rt, lender);
-    convert_empty_lists(&rt, lender)?;
-    check!(rt; same(ThinVec::from_str(lender, "")?.capacity(), 0));
+    convert_empty_lists(&rt, lender);
+    let text = check!(rt; ThinVec::from_str(lender, ""));
+    check!(rt; same(text.capacity(), 0));
     check!(rt; same(lender.requests(), 0));
-    Ok(())
 }
 
 // Asserts that the call succeeded.
@@ -109,10 +108,10 @@ fn replace(rt: &impl Abort, list: &mut List, lender: Lender) {
 }
 
 #[test]
-fn calls_that_fit_the_capacity_take_no_memory(rt: HostRuntime) -> Result<(), Fail> {
-    let lender = Refusing::leaked(rt.alloc(), 0)?;
-    let other = roomy(lender)?;
-    let mut list = roomy(lender)?;
+fn calls_that_fit_the_capacity_take_no_memory(rt: HostRuntime) {
+    let lender = check!(rt; Refusing::leaked(rt.alloc(), 0));
+    let other = check!(rt; roomy(lender));
+    let mut list = check!(rt; roomy(lender));
     append(&rt, &mut list, other);
     resize(&rt, &mut list, lender);
     replace(&rt, &mut list, lender);
@@ -120,20 +119,19 @@ fn calls_that_fit_the_capacity_take_no_memory(rt: HostRuntime) -> Result<(), Fai
     assert_ok(&rt, list.shrink_to_fit());
     check!(rt; holds(&list, &[], 0));
     check!(rt; same(lender.requests(), 0));
-    Ok(())
 }
 
 #[test]
-fn writes_that_fit_the_capacity_take_no_memory(rt: HostRuntime) -> Result<(), Fail> {
-    let lender = Refusing::leaked(rt.alloc(), 0)?;
-    let mut bytes: ThinVec<u8, Lender> = ThinVec::with_capacity(lender, 4)?;
+fn writes_that_fit_the_capacity_take_no_memory(rt: HostRuntime) {
+    let lender = check!(rt; Refusing::leaked(rt.alloc(), 0));
+    let mut bytes: ThinVec<u8, Lender> = check!(rt; ThinVec::with_capacity(lender, 4));
     lender.refuse_all();
-    check!(rt; same(bytes.write(&[1, 2])?, 2));
-    bytes.write_all(&[3, 4])?;
-    bytes.flush()?;
+    let written = check!(rt; bytes.write(&[1, 2]));
+    check!(rt; same(written, 2));
+    check!(rt; bytes.write_all(&[3, 4]));
+    check!(rt; bytes.flush());
     check!(rt; same(bytes.as_slice(), &[1, 2, 3, 4][..]));
     check!(rt; same(lender.requests(), 0));
-    Ok(())
 }
 
 // Removes items of the list 1, 2, 3 by one of several calls, and drops what is left.
@@ -201,13 +199,13 @@ fn iterate<A: Allocator>(rt: &impl Abort, list: ThinVec<i32, A>) {
 }
 
 #[test]
-fn calls_that_remove_items_take_no_memory(rt: HostRuntime) -> Result<(), Fail> {
-    let lender = Refusing::leaked(rt.alloc(), 0)?;
+fn calls_that_remove_items_take_no_memory(rt: HostRuntime) {
+    let lender = check!(rt; Refusing::leaked(rt.alloc(), 0));
     for way in 0..17 {
-        remove_by_way(&rt, way, roomy(lender)?, lender);
+        let list = check!(rt; roomy(lender));
+        remove_by_way(&rt, way, list, lender);
         check!(rt; same((way, lender.requests(), lender.blocks()), (way, 0, 0)));
     }
-    Ok(())
 }
 
 // Reads the list of the numbers from 1 to `last`, and compares it with an equal list.
@@ -237,19 +235,18 @@ fn write<A: Allocator>(rt: &impl Abort, list: &mut ThinVec<i32, A>, last: i32) {
 }
 
 #[test]
-fn calls_that_read_and_write_items_take_no_memory(rt: HostRuntime) -> Result<(), Fail> {
-    let lender = Refusing::leaked(rt.alloc(), 0)?;
+fn calls_that_read_and_write_items_take_no_memory(rt: HostRuntime) {
+    let lender = check!(rt; Refusing::leaked(rt.alloc(), 0));
     for last in [3_i32, 40] {
         lender.refuse(0);
         let mut list: List = ThinVec::new(lender);
         for number in 0..last {
-            list.push(number.saturating_add(1))?;
+            check!(rt; list.push(number.saturating_add(1)));
         }
-        let other = list.clone(lender)?;
+        let other = check!(rt; list.clone(lender));
         lender.refuse_all();
         read(&rt, &list, &other, last);
         write(&rt, &mut list, last);
         check!(rt; same((last, lender.requests()), (last, 0)));
     }
-    Ok(())
 }

@@ -6,7 +6,6 @@ ghost use Rattle.std.specs.Prelude.{◌*◌, ◌<◌, ◌^◌};
 use std::alloc::Global;
 use std::io;
 use std::process::Abort;
-use std::test::Fail;
 use thin_testing::{Ledger, Numbered, check, same};
 use thin_vec::ThinVec;
 
@@ -63,9 +62,8 @@ fn assert_freed<T: Numbered>(rt: &impl Abort, ledger: &'static Ledger, alloc: Gl
 }
 
 #[test]
-fn blocks_of_the_program_are_freed(rt: HostRuntime) -> Result<(), Fail> {
-    let ledger = Ledger::leaked(rt.alloc())?;
+fn blocks_of_the_program_are_freed(rt: HostRuntime) {
+    let ledger = check!(rt; Ledger::leaked(rt.alloc()));
     assert_freed::<u8>(&rt, ledger, rt.alloc(), 1);
     assert_freed::<[u64; 3]>(&rt, ledger, rt.alloc(), 1);
-    Ok(())
 }

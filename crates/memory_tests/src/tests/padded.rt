@@ -5,7 +5,6 @@
 use crate::tests::in_place::make_capacity;
 use std::alloc::{Allocator, Global};
 use std::process::Abort;
-use std::test::Fail;
 use thin_testing::{Counted, Ledger, Numbered, Refusing, Ruled, check, same};
 use thin_vec::{Doubling, PowerBytes, ThinVec, ThinVecError};
 
@@ -158,20 +157,19 @@ fn assert_border<T: Numbered>(
 }
 
 #[test]
-fn a_block_of_large_items_is_padded_from_32_slots_on(rt: HostRuntime) -> Result<(), Fail> {
-    let ledger = Ledger::leaked(rt.alloc())?;
-    assert_border::<[u32; 5]>(&rt, ledger, None)?;
-    assert_border::<[u32; 7]>(&rt, ledger, None)?;
-    assert_border::<u128>(&rt, ledger, None)?;
-    assert_border::<Counted<'static>>(&rt, ledger, None)?;
-    assert_border::<[u8; 32]>(&rt, ledger, None)?;
-    assert_border::<[u64; 3]>(&rt, ledger, PADDED)?;
-    assert_border::<Counted<'static, u64>>(&rt, ledger, PADDED)?;
-    assert_border::<Counted<'static, u128>>(&rt, ledger, PADDED)?;
-    assert_border::<[u64; 6]>(&rt, ledger, PADDED)?;
-    assert_border::<[u128; 3]>(&rt, ledger, PADDED)?;
-    assert_border::<[u64; 40]>(&rt, ledger, PADDED)?;
-    Ok(())
+fn a_block_of_large_items_is_padded_from_32_slots_on(rt: HostRuntime) {
+    let ledger = check!(rt; Ledger::leaked(rt.alloc()));
+    check!(rt; assert_border::<[u32; 5]>(&rt, ledger, None));
+    check!(rt; assert_border::<[u32; 7]>(&rt, ledger, None));
+    check!(rt; assert_border::<u128>(&rt, ledger, None));
+    check!(rt; assert_border::<Counted<'static>>(&rt, ledger, None));
+    check!(rt; assert_border::<[u8; 32]>(&rt, ledger, None));
+    check!(rt; assert_border::<[u64; 3]>(&rt, ledger, PADDED));
+    check!(rt; assert_border::<Counted<'static, u64>>(&rt, ledger, PADDED));
+    check!(rt; assert_border::<Counted<'static, u128>>(&rt, ledger, PADDED));
+    check!(rt; assert_border::<[u64; 6]>(&rt, ledger, PADDED));
+    check!(rt; assert_border::<[u128; 3]>(&rt, ledger, PADDED));
+    check!(rt; assert_border::<[u64; 40]>(&rt, ledger, PADDED));
 }
 
 // A call that makes, resizes or frees a block.
@@ -273,15 +271,14 @@ fn assert_calls<T: Numbered>(rt: &impl Abort, ledger: &'static Ledger) -> Result
 }
 
 #[test]
-fn calls_make_and_free_padded_blocks(rt: HostRuntime) -> Result<(), Fail> {
-    let ledger = Ledger::leaked(rt.alloc())?;
-    assert_calls::<[u64; 3]>(&rt, ledger)?;
-    assert_calls::<Counted<'static, u64>>(&rt, ledger)?;
-    assert_calls::<Counted<'static, u128>>(&rt, ledger)?;
-    assert_calls::<[u64; 6]>(&rt, ledger)?;
-    assert_calls::<[u128; 3]>(&rt, ledger)?;
-    assert_calls::<[u64; 40]>(&rt, ledger)?;
-    Ok(())
+fn calls_make_and_free_padded_blocks(rt: HostRuntime) {
+    let ledger = check!(rt; Ledger::leaked(rt.alloc()));
+    check!(rt; assert_calls::<[u64; 3]>(&rt, ledger));
+    check!(rt; assert_calls::<Counted<'static, u64>>(&rt, ledger));
+    check!(rt; assert_calls::<Counted<'static, u128>>(&rt, ledger));
+    check!(rt; assert_calls::<[u64; 6]>(&rt, ledger));
+    check!(rt; assert_calls::<[u128; 3]>(&rt, ledger));
+    check!(rt; assert_calls::<[u64; 40]>(&rt, ledger));
 }
 
 // The number of items that a list gets in the next two tests.
@@ -317,31 +314,29 @@ fn assert_requests<T: Numbered, G: Ruled>(
 // A block under the rule `PowerBytes` takes 16 bytes and its items, and not the place of two items
 // more. So it just fits into the power of two for which the rule has chosen its capacity.
 #[test]
-fn blocks_of_power_bytes_just_fit_into_powers_of_two(rt: HostRuntime) -> Result<(), Fail> {
-    let ledger = Ledger::leaked(rt.alloc())?;
-    assert_requests::<[u64; 3], PowerBytes>(&rt, ledger, None)?;
-    assert_requests::<Counted<'static, u64>, PowerBytes>(&rt, ledger, None)?;
-    assert_requests::<Counted<'static, u128>, PowerBytes>(&rt, ledger, None)?;
-    assert_requests::<[u64; 5], PowerBytes>(&rt, ledger, None)?;
-    assert_requests::<[u64; 6], PowerBytes>(&rt, ledger, None)?;
-    assert_requests::<[u128; 3], PowerBytes>(&rt, ledger, None)?;
-    assert_requests::<[u64; 40], PowerBytes>(&rt, ledger, None)?;
-    Ok(())
+fn blocks_of_power_bytes_just_fit_into_powers_of_two(rt: HostRuntime) {
+    let ledger = check!(rt; Ledger::leaked(rt.alloc()));
+    check!(rt; assert_requests::<[u64; 3], PowerBytes>(&rt, ledger, None));
+    check!(rt; assert_requests::<Counted<'static, u64>, PowerBytes>(&rt, ledger, None));
+    check!(rt; assert_requests::<Counted<'static, u128>, PowerBytes>(&rt, ledger, None));
+    check!(rt; assert_requests::<[u64; 5], PowerBytes>(&rt, ledger, None));
+    check!(rt; assert_requests::<[u64; 6], PowerBytes>(&rt, ledger, None));
+    check!(rt; assert_requests::<[u128; 3], PowerBytes>(&rt, ledger, None));
+    check!(rt; assert_requests::<[u64; 40], PowerBytes>(&rt, ledger, None));
 }
 
 #[test]
-fn blocks_of_doubling_are_padded_from_32_slots_on(rt: HostRuntime) -> Result<(), Fail> {
-    let ledger = Ledger::leaked(rt.alloc())?;
-    assert_requests::<[u64; 3], Doubling>(&rt, ledger, PADDED)?;
-    assert_requests::<Counted<'static, u64>, Doubling>(&rt, ledger, PADDED)?;
-    assert_requests::<Counted<'static, u128>, Doubling>(&rt, ledger, PADDED)?;
-    assert_requests::<[u64; 5], Doubling>(&rt, ledger, PADDED)?;
-    assert_requests::<[u64; 6], Doubling>(&rt, ledger, PADDED)?;
-    assert_requests::<[u128; 3], Doubling>(&rt, ledger, PADDED)?;
-    assert_requests::<Counted<'static, [u64; 6]>, Doubling>(&rt, ledger, PADDED)?;
-    assert_requests::<[u64; 12], Doubling>(&rt, ledger, PADDED)?;
-    assert_requests::<Counted<'static, [u64; 14]>, Doubling>(&rt, ledger, PADDED)?;
-    assert_requests::<[u64; 32], Doubling>(&rt, ledger, PADDED)?;
-    assert_requests::<[u64; 40], Doubling>(&rt, ledger, PADDED)?;
-    Ok(())
+fn blocks_of_doubling_are_padded_from_32_slots_on(rt: HostRuntime) {
+    let ledger = check!(rt; Ledger::leaked(rt.alloc()));
+    check!(rt; assert_requests::<[u64; 3], Doubling>(&rt, ledger, PADDED));
+    check!(rt; assert_requests::<Counted<'static, u64>, Doubling>(&rt, ledger, PADDED));
+    check!(rt; assert_requests::<Counted<'static, u128>, Doubling>(&rt, ledger, PADDED));
+    check!(rt; assert_requests::<[u64; 5], Doubling>(&rt, ledger, PADDED));
+    check!(rt; assert_requests::<[u64; 6], Doubling>(&rt, ledger, PADDED));
+    check!(rt; assert_requests::<[u128; 3], Doubling>(&rt, ledger, PADDED));
+    check!(rt; assert_requests::<Counted<'static, [u64; 6]>, Doubling>(&rt, ledger, PADDED));
+    check!(rt; assert_requests::<[u64; 12], Doubling>(&rt, ledger, PADDED));
+    check!(rt; assert_requests::<Counted<'static, [u64; 14]>, Doubling>(&rt, ledger, PADDED));
+    check!(rt; assert_requests::<[u64; 32], Doubling>(&rt, ledger, PADDED));
+    check!(rt; assert_requests::<[u64; 40], Doubling>(&rt, ledger, PADDED));
 }

@@ -2,7 +2,6 @@
 use std::alloc::Global;
 use std::mem::size_of;
 use std::process::Abort;
-use std::test::Fail;
 use thin_testing::{Refusing, check, holds, same};
 use thin_vec::{ThinVec, ThinVecError};
 
@@ -14,20 +13,19 @@ fn a_list_is_one_pointer_wide(rt: HostRuntime) {
 }
 
 #[test]
-fn clear_keeps_the_capacity(rt: HostRuntime) -> Result<(), Fail> {
+fn clear_keeps_the_capacity(rt: HostRuntime) {
     let mut list = ThinVec::new(rt.alloc());
     list.clear();
     check!(rt; holds(&list, &[], 0));
     for items in &[[1, 2], [3, 4]] {
-        list.push(items[0])?;
-        list.push(items[1])?;
+        check!(rt; list.push(items[0]));
+        check!(rt; list.push(items[1]));
         check!(rt; holds(&list, items, 4));
         list.clear();
         check!(rt; holds(&list, &[], 4));
     }
     list.clear();
     check!(rt; holds(&list, &[], 4));
-    Ok(())
 }
 
 // Makes a list of 16 and then of 17 items. Returns the capacity after each of the five steps.
@@ -60,10 +58,9 @@ fn reserve(
 }
 
 #[test]
-fn reserve_doubles_and_reserve_exact_does_not(rt: HostRuntime) -> Result<(), Fail> {
-    check!(rt; same(reserved(rt.alloc(), false)?, [4, 16, 32, 32, 64]));
-    check!(rt; same(reserved(rt.alloc(), true)?, [2, 16, 32, 32, 33]));
-    Ok(())
+fn reserve_doubles_and_reserve_exact_does_not(rt: HostRuntime) {
+    check!(rt; same(reserved(rt.alloc(), false), Ok([4, 16, 32, 32, 64])));
+    check!(rt; same(reserved(rt.alloc(), true), Ok([2, 16, 32, 32, 33])));
 }
 
 // Asserts that `with_capacity(capacity)` fails because the capacity is too large.
@@ -74,8 +71,8 @@ fn assert_overflows<T: Drop>(rt: &impl Abort, alloc: &'static Refusing<Global>, 
 }
 
 #[test]
-fn with_capacity_detects_overflow_before_any_request(rt: HostRuntime) -> Result<(), Fail> {
-    let refusing = Refusing::leaked(rt.alloc(), 0)?;
+fn with_capacity_detects_overflow_before_any_request(rt: HostRuntime) {
+    let refusing = check!(rt; Refusing::leaked(rt.alloc(), 0));
     let most = isize::MAX as usize;
     for capacity in [most - 16, most - 2, most, most + 1] {
         assert_overflows::<u8>(&rt, refusing, capacity);
@@ -84,56 +81,53 @@ fn with_capacity_detects_overflow_before_any_request(rt: HostRuntime) -> Result<
         assert_overflows::<u16>(&rt, refusing, capacity);
     }
     check!(rt; same(refusing.requests(), 0));
-    Ok(())
 }
 
 #[test]
-fn has_capacity_tells_whether_a_list_has_a_block(rt: HostRuntime) -> Result<(), Fail> {
+fn has_capacity_tells_whether_a_list_has_a_block(rt: HostRuntime) {
     let mut list = ThinVec::new(rt.alloc());
     check!(rt; same(list.has_capacity(), false));
-    list.push(0)?;
+    check!(rt; list.push(0));
     check!(rt; same(list.has_capacity(), true));
     check!(rt; same((list.pop(), list.has_capacity()), (Some(0), true)));
-    list.shrink_to_fit()?;
+    check!(rt; list.shrink_to_fit());
     check!(rt; same(list.has_capacity(), false));
-    list.reserve(64)?;
+    check!(rt; list.reserve(64));
     check!(rt; same(list.has_capacity(), true));
     for (capacity, has_block) in [(64, true), (0, false)] {
-        let list = ThinVec::<u32>::with_capacity(rt.alloc(), capacity)?;
+        let list = check!(rt; ThinVec::<u32>::with_capacity(rt.alloc(), capacity));
         check!(rt; same(list.has_capacity(), has_block));
     }
-    Ok(())
 }
 
 #[test]
-fn calls_on_a_new_list_make_no_block(rt: HostRuntime) -> Result<(), Fail> {
+fn calls_on_a_new_list_make_no_block(rt: HostRuntime) {
     let alloc = rt.alloc();
     let mut list: ThinVec<i32> = ThinVec::new(alloc);
     check!(rt; same(list.pop(), None));
     list.truncate(1);
     list.truncate(0);
-    list.append(&mut ThinVec::new(alloc))?;
-    list.reserve(0)?;
-    list.reserve_exact(0)?;
+    check!(rt; list.append(&mut ThinVec::new(alloc)));
+    check!(rt; list.reserve(0));
+    check!(rt; list.reserve_exact(0));
     list.retain_mut(|_item| true);
     list.dedup_by_key(|item| *item);
     check!(rt; holds(&list, &[], 0));
     check!(rt; same(list.into_iter().next(), None));
-    check!(rt; holds(&ThinVec::with_capacity(alloc, 0)?, &[], 0));
+    let list = check!(rt; ThinVec::with_capacity(alloc, 0));
+    check!(rt; holds(&list, &[], 0));
     check!(rt; holds(&ThinVec::default_in(alloc), &[], 0));
-    Ok(())
 }
 
 // `u128` has the largest alignment of all types of Rattle.
 #[test]
-fn reallocation_keeps_an_item_of_the_largest_alignment(rt: HostRuntime) -> Result<(), Fail> {
+fn reallocation_keeps_an_item_of_the_largest_alignment(rt: HostRuntime) {
     let mut list = ThinVec::new(rt.alloc());
-    list.push(273_u128)?;
+    check!(rt; list.push(273_u128));
     for additional in 0..4096 {
-        list.reserve_exact(additional)?;
+        check!(rt; list.reserve_exact(additional));
         check!(rt; same(list.as_slice(), &[273]));
-        list.shrink_to_fit()?;
+        check!(rt; list.shrink_to_fit());
         check!(rt; same(list.as_slice(), &[273]));
     }
-    Ok(())
 }

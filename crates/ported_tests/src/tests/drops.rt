@@ -2,21 +2,19 @@
 use std::iter::once;
 use std::process::Abort;
 use std::rc::Rc;
-use std::test::Fail;
 use thin_testing::{Counted, Ledger, Refusing, check, counted_list, has_len, same};
 use thin_vec::ThinVec;
 
 #[test]
-fn truncate_drops_each_removed_item_once(rt: HostRuntime) -> Result<(), Fail> {
-    let ledger = Ledger::leaked(rt.alloc())?;
-    let mut list = counted_list(ledger, rt.alloc(), 5)?;
+fn truncate_drops_each_removed_item_once(rt: HostRuntime) {
+    let ledger = check!(rt; Ledger::leaked(rt.alloc()));
+    let mut list = check!(rt; counted_list(ledger, rt.alloc(), 5));
     for len in [3, 0] {
         list.truncate(len);
         check!(rt; same(ledger.live.get(), len as u64));
     }
     drop(list);
     check!(rt; same(ledger.live.get(), 0));
-    Ok(())
 }
 
 #[derive(Drop)]
@@ -26,29 +24,27 @@ struct TwoLists {
 }
 
 #[test]
-fn dropping_a_moved_list_drops_its_item_once(rt: HostRuntime) -> Result<(), Fail> {
-    let ledger = Ledger::leaked(rt.alloc())?;
+fn dropping_a_moved_list_drops_its_item_once(rt: HostRuntime) {
+    let ledger = check!(rt; Ledger::leaked(rt.alloc()));
     let lists = TwoLists {
-        early: counted_list(ledger, rt.alloc(), 1)?,
-        late: counted_list(ledger, rt.alloc(), 1)?,
+        early: check!(rt; counted_list(ledger, rt.alloc(), 1)),
+        late: check!(rt; counted_list(ledger, rt.alloc(), 1)),
     };
     check!(rt; same(ledger.live.get(), 2));
     drop(lists.early);
     check!(rt; same(ledger.live.get(), 1));
     drop(lists.late);
     check!(rt; same(ledger.live.get(), 0));
-    Ok(())
 }
 
 #[test]
-fn extend_moves_an_item_without_dropping_it(rt: HostRuntime) -> Result<(), Fail> {
-    let ledger = Ledger::leaked(rt.alloc())?;
+fn extend_moves_an_item_without_dropping_it(rt: HostRuntime) {
+    let ledger = check!(rt; Ledger::leaked(rt.alloc()));
     let mut list: ThinVec<Counted<'static>> = ThinVec::new(rt.alloc());
-    list.extend(once(Counted::new(ledger, 1, ())))?;
+    check!(rt; list.extend(once(Counted::new(ledger, 1, ()))));
     check!(rt; same(ledger.live.get(), 1));
     drop(list);
     check!(rt; same(ledger.live.get(), 0));
-    Ok(())
 }
 
 #[test]
@@ -76,15 +72,15 @@ fn remove_by_way(rt: &impl Abort, way: u32, mut list: ThinVec<Rc<u32>>) {
 }
 
 #[test]
-fn each_call_drops_items_of_eight_bytes(rt: HostRuntime) -> Result<(), Fail> {
-    let item = Rc::new(rt.alloc(), 1)?;
+fn each_call_drops_items_of_eight_bytes(rt: HostRuntime) {
+    let item = check!(rt; Rc::new(rt.alloc(), 1));
     for way in 0..6 {
         let mut list = ThinVec::new(rt.alloc());
         for _ in 0..3 {
-            list.push(item.clone()?)?;
+            let clone = check!(rt; item.clone());
+            check!(rt; list.push(clone));
         }
         remove_by_way(&rt, way, list);
         check!(rt; same((way, Rc::strong_count(&item)), (way, 1)));
     }
-    Ok(())
 }

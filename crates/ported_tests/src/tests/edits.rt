@@ -6,7 +6,6 @@ use std::iter::empty;
 use std::ops::Bound;
 use std::ops::Bound::{Excluded, Included, Unbounded};
 use std::process::Abort;
-use std::test::Fail;
 use thin_testing::{check, has_len, holds, list_of, same, same_items};
 use thin_vec::{Drain, ThinVec, bounds};
 
@@ -21,17 +20,14 @@ fn assert_drained<T: Copy + PartialEq + Debug + Drop>(
     range: Range,
     drained: &[T],
     left: &[T],
-) -> Result<(), Fail> {
+) {
     for is_reverse in [false, true] {
-        let mut list = list_of(alloc, items)?;
-        let Some((start, end)) = bounds(range.0, range.1, list.len()) else {
-            return Err(Fail::new("no range"));
-        };
+        let mut list = check!(rt; list_of(alloc, items));
+        let (start, end) = check!(rt; bounds(range.0, range.1, list.len()));
         assert_yields(rt, &mut list.drain(start, end), is_reverse, drained);
         check!(rt; same_items(&list, left));
         check!(rt; same(list.capacity(), items.len()));
     }
-    Ok(())
 }
 
 // Takes all items from the `Drain`, and asserts that they are those in `wanted`.
@@ -56,21 +52,21 @@ fn assert_yields<T: PartialEq + Debug + Drop, A: Allocator>(
 }
 
 #[test]
-fn drain_yields_its_range(rt: HostRuntime) -> Result<(), Fail> {
+fn drain_yields_its_range(rt: HostRuntime) {
     let alloc = rt.alloc();
     let all = (Unbounded, Unbounded);
-    assert_drained(&rt, alloc, &[1, 2, 3], all, &[1, 2, 3], &[])?;
+    assert_drained(&rt, alloc, &[1, 2, 3], all, &[1, 2, 3], &[]);
     let last = (Included(4), Unbounded);
-    assert_drained(&rt, alloc, &[1, 2, 3, 4, 5], last, &[5], &[1, 2, 3, 4])?;
+    assert_drained(&rt, alloc, &[1, 2, 3, 4, 5], last, &[5], &[1, 2, 3, 4]);
     let letters = ['a', 'b', 'c', 'd', 'e'];
     let inner = (Included(1), Included(3));
-    assert_drained(&rt, alloc, &letters, inner, &['b', 'c', 'd'], &['a', 'e'])
+    assert_drained(&rt, alloc, &letters, inner, &['b', 'c', 'd'], &['a', 'e']);
 }
 
 #[test]
-fn drain_yields_zero_sized_items(rt: HostRuntime) -> Result<(), Fail> {
+fn drain_yields_zero_sized_items(rt: HostRuntime) {
     let all = (Unbounded, Unbounded);
-    assert_drained(&rt, rt.alloc(), &[(), (), ()], all, &[(), (), ()], &[])?;
+    assert_drained(&rt, rt.alloc(), &[(), (), ()], all, &[(), (), ()], &[]);
     let inner = (Included(1), Excluded(4));
     assert_drained(
         &rt,
@@ -79,7 +75,7 @@ fn drain_yields_zero_sized_items(rt: HostRuntime) -> Result<(), Fail> {
         inner,
         &[(), (), ()],
         &[(), ()],
-    )
+    );
 }
 
 // The items of a list, a range, the items in the range, and the others.
@@ -119,31 +115,28 @@ const DRAINED: [Drained; 5] = [
 ];
 
 #[test]
-fn drain_yields_ranges_of_texts(rt: HostRuntime) -> Result<(), Fail> {
+fn drain_yields_ranges_of_texts(rt: HostRuntime) {
     for (items, range, drained, left) in &DRAINED {
-        assert_drained(&rt, rt.alloc(), items, *range, drained, left)?;
+        assert_drained(&rt, rt.alloc(), items, *range, drained, left);
     }
-    Ok(())
 }
 
 #[test]
-fn splice_yields_zero_sized_items(rt: HostRuntime) -> Result<(), Fail> {
+fn splice_yields_zero_sized_items(rt: HostRuntime) {
     let alloc = rt.alloc();
-    let mut list = list_of(alloc, &[(), (), ()])?;
+    let mut list = check!(rt; list_of(alloc, &[(), (), ()]));
     check!(rt; has_len(&list, 3));
     let mut splice = list.splice(1, 2, empty());
     check!(rt; same((splice.next(), splice.next()), (Some(()), None)));
-    splice.finish(alloc)?;
+    check!(rt; splice.finish(alloc));
     check!(rt; same(list.len(), 2));
-    Ok(())
 }
 
 #[test]
-fn retain_keeps_the_items_tested_true(rt: HostRuntime) -> Result<(), Fail> {
-    let mut list = list_of(rt.alloc(), &[1, 2, 3, 4])?;
+fn retain_keeps_the_items_tested_true(rt: HostRuntime) {
+    let mut list = check!(rt; list_of(rt.alloc(), &[1, 2, 3, 4]));
     list.retain(|item| item % 2 == 0);
     check!(rt; holds(&list, &[2, 4], 4));
-    Ok(())
 }
 
 // A list before and after a call.
@@ -161,35 +154,33 @@ const REPEATED: [&'static [i32]; 5] = [
 ];
 
 #[test]
-fn dedup_removes_equal_neighbours(rt: HostRuntime) -> Result<(), Fail> {
+fn dedup_removes_equal_neighbours(rt: HostRuntime) {
     for (items, wanted) in &SHORT {
-        let mut list = list_of(rt.alloc(), items)?;
+        let mut list = check!(rt; list_of(rt.alloc(), items));
         list.dedup();
         check!(rt; holds(&list, wanted, items.len()));
     }
     for items in &REPEATED {
-        let mut list = list_of(rt.alloc(), items)?;
+        let mut list = check!(rt; list_of(rt.alloc(), items));
         list.dedup();
         check!(rt; holds(&list, &[1, 2, 3], items.len()));
     }
-    Ok(())
 }
 
 #[test]
-fn dedup_compares_boxes_by_their_values(rt: HostRuntime) -> Result<(), Fail> {
+fn dedup_compares_boxes_by_their_values(rt: HostRuntime) {
     for (items, wanted) in &SHORT {
-        let mut list = boxes_of(rt.alloc(), items)?;
+        let mut list = check!(rt; boxes_of(rt.alloc(), items));
         list.dedup();
-        let wanted = boxes_of(rt.alloc(), wanted)?;
+        let wanted = check!(rt; boxes_of(rt.alloc(), wanted));
         check!(rt; same(list.as_slice(), wanted.as_slice()));
     }
-    let wanted = boxes_of(rt.alloc(), &[1, 2, 3])?;
+    let wanted = check!(rt; boxes_of(rt.alloc(), &[1, 2, 3]));
     for items in &REPEATED {
-        let mut list = boxes_of(rt.alloc(), items)?;
+        let mut list = check!(rt; boxes_of(rt.alloc(), items));
         list.dedup();
         check!(rt; same(list.as_slice(), wanted.as_slice()));
     }
-    Ok(())
 }
 
 const TENS: [Deduped; 8] = [
@@ -204,19 +195,17 @@ const TENS: [Deduped; 8] = [
 ];
 
 #[test]
-fn dedup_by_key_removes_neighbours_with_equal_keys(rt: HostRuntime) -> Result<(), Fail> {
+fn dedup_by_key_removes_neighbours_with_equal_keys(rt: HostRuntime) {
     for (items, wanted) in &TENS {
-        let mut list = list_of(rt.alloc(), items)?;
+        let mut list = check!(rt; list_of(rt.alloc(), items));
         list.dedup_by_key(|item| *item / 10);
         check!(rt; holds(&list, wanted, items.len()));
     }
-    Ok(())
 }
 
 #[test]
-fn dedup_by_removes_neighbours_that_its_closure_equates(rt: HostRuntime) -> Result<(), Fail> {
-    let mut list = list_of(rt.alloc(), &["foo", "bar", "Bar", "baz", "bar"])?;
+fn dedup_by_removes_neighbours_that_its_closure_equates(rt: HostRuntime) {
+    let mut list = check!(rt; list_of(rt.alloc(), &["foo", "bar", "Bar", "baz", "bar"]));
     list.dedup_by(|later, kept| later.eq_ignore_ascii_case(*kept));
     check!(rt; same_items(&list, &["foo", "bar", "baz", "bar"]));
-    Ok(())
 }

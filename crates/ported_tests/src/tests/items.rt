@@ -2,17 +2,15 @@
 use crate::tests::boxes_of;
 use std::alloc::Global;
 use std::process::Abort;
-use std::test::Fail;
 use thin_testing::{Refusing, check, holds, list_of, same, same_items};
 use thin_vec::{ThinVec, ThinVecError};
 
 #[test]
-fn index_reads_and_writes_an_item(rt: HostRuntime) -> Result<(), Fail> {
-    let mut list = list_of(rt.alloc(), &[1, 2, 3])?;
+fn index_reads_and_writes_an_item(rt: HostRuntime) {
+    let mut list = check!(rt; list_of(rt.alloc(), &[1, 2, 3]));
     check!(rt; same(list[1], 2));
     list[1] = 22;
     check!(rt; same_items(&list, &[1, 22, 3]));
-    Ok(())
 }
 
 fn add(amount: i32, items: &mut [i32]) {
@@ -22,90 +20,86 @@ fn add(amount: i32, items: &mut [i32]) {
 }
 
 #[test]
-fn writes_through_parts_of_the_slice(rt: HostRuntime) -> Result<(), Fail> {
-    let mut list = list_of(rt.alloc(), &[1, 2, 3, 4, 5])?;
+fn writes_through_parts_of_the_slice(rt: HostRuntime) {
+    let mut list = check!(rt; list_of(rt.alloc(), &[1, 2, 3, 4, 5]));
     add(2, &mut list.as_mut_slice()[2..]);
     check!(rt; same_items(&list, &[1, 2, 5, 6, 7]));
-    let mut list = list_of(rt.alloc(), &[1, 2, 3, 4, 5])?;
+    let mut list = check!(rt; list_of(rt.alloc(), &[1, 2, 3, 4, 5]));
     add(1, &mut list.as_mut_slice()[..2]);
     check!(rt; same_items(&list, &[2, 3, 3, 4, 5]));
-    let mut list = list_of(rt.alloc(), &[1, 2, 3, 4, 5])?;
+    let mut list = check!(rt; list_of(rt.alloc(), &[1, 2, 3, 4, 5]));
     let (left, right) = list.as_mut_slice().split_at_mut(2);
     add(1, left);
     add(2, right);
     check!(rt; same_items(&list, &[2, 3, 5, 6, 7]));
-    Ok(())
 }
 
 #[test]
-fn compares_lists_by_their_items(rt: HostRuntime) -> Result<(), Fail> {
-    let zero = list_of(rt.alloc(), &[0])?;
-    check!(rt; same(zero == list_of(rt.alloc(), &[0])?, true));
-    check!(rt; same(zero == list_of(rt.alloc(), &[1])?, false));
-    Ok(())
+fn compares_lists_by_their_items(rt: HostRuntime) {
+    let zero = check!(rt; list_of(rt.alloc(), &[0]));
+    let other = check!(rt; list_of(rt.alloc(), &[0]));
+    check!(rt; same(zero == other, true));
+    let other = check!(rt; list_of(rt.alloc(), &[1]));
+    check!(rt; same(zero == other, false));
 }
 
 #[test]
-fn append_moves_all_items(rt: HostRuntime) -> Result<(), Fail> {
-    let mut list = list_of(rt.alloc(), &[1, 2, 3])?;
-    let mut other = list_of(rt.alloc(), &[4, 5, 6])?;
-    list.append(&mut other)?;
+fn append_moves_all_items(rt: HostRuntime) {
+    let mut list = check!(rt; list_of(rt.alloc(), &[1, 2, 3]));
+    let mut other = check!(rt; list_of(rt.alloc(), &[4, 5, 6]));
+    check!(rt; list.append(&mut other));
     check!(rt; holds(&list, &[1, 2, 3, 4, 5, 6], 6));
     check!(rt; holds(&other, &[], 3));
-    Ok(())
 }
 
 #[test]
-fn extend_appends_all_items(rt: HostRuntime) -> Result<(), Fail> {
+fn extend_appends_all_items(rt: HostRuntime) {
     let mut list = ThinVec::new(rt.alloc());
     for numbers in [0..0, 0..3, 3..10] {
-        list.extend(numbers)?;
+        check!(rt; list.extend(numbers));
     }
-    let clone = list.clone(rt.alloc())?;
-    list.extend(clone.as_slice().iter().copied())?;
+    let clone = check!(rt; list.clone(rt.alloc()));
+    check!(rt; list.extend(clone.as_slice().iter().copied()));
     let twice = [0, 1, 2, 3, 4, 5, 6, 7, 8, 9, 0, 1, 2, 3, 4, 5, 6, 7, 8, 9];
     check!(rt; holds(&list, &twice, 20));
     let mut units = ThinVec::new(rt.alloc());
-    units.extend((0..2).map(|_| ()))?;
+    check!(rt; units.extend((0..2).map(|_| ())));
     check!(rt; same((units.len(), units.capacity()), (2, 4)));
-    Ok(())
 }
 
 #[test]
-fn clones_equal_their_lists(rt: HostRuntime) -> Result<(), Fail> {
+fn clones_equal_their_lists(rt: HostRuntime) {
     for items in [&[][..], &[1, 2, 3][..]] {
-        let list = list_of(rt.alloc(), items)?;
-        check!(rt; holds(&list.clone(rt.alloc())?, items, items.len()));
+        let list = check!(rt; list_of(rt.alloc(), items));
+        let copy = check!(rt; list.clone(rt.alloc()));
+        check!(rt; holds(&copy, items, items.len()));
     }
-    Ok(())
 }
 
 #[test]
-fn clones_of_boxed_items_are_assigned(rt: HostRuntime) -> Result<(), Fail> {
+fn clones_of_boxed_items_are_assigned(rt: HostRuntime) {
     let alloc = rt.alloc();
-    let three = boxes_of(alloc, &[1, 2, 3])?;
-    let two = boxes_of(alloc, &[4, 5])?;
+    let three = check!(rt; boxes_of(alloc, &[1, 2, 3]));
+    let two = check!(rt; boxes_of(alloc, &[4, 5]));
     let mut list = ThinVec::new(alloc);
     for source in [&three, &three, &two, &three] {
-        list = source.clone(alloc)?;
+        list = check!(rt; source.clone(alloc));
         check!(rt; same(list.as_slice(), source.as_slice()));
     }
-    Ok(())
 }
 
 #[test]
-fn pushes_pops_and_clears_zero_sized_items(rt: HostRuntime) -> Result<(), Fail> {
+fn pushes_pops_and_clears_zero_sized_items(rt: HostRuntime) {
     let mut list = ThinVec::new(rt.alloc());
     for _ in 0..2 {
-        list.push(())?;
+        check!(rt; list.push(()));
     }
     let popped = [list.pop(), list.pop(), list.pop()];
     check!(rt; same(popped, [Some(()), Some(()), None]));
     for _ in 0..4 {
-        list.push(())?;
+        check!(rt; list.push(()));
     }
     check!(rt; same(list.iter().count(), 4));
     list.clear();
     check!(rt; same(list.iter().count(), 0));
-    Ok(())
 }

@@ -4,8 +4,7 @@ use crate::tests::page::Page;
 use bench::{Checks, Outcome, report, report_rows};
 use std::alloc::{Allocator, Global};
 use std::process::Abort;
-use std::test::Fail;
-use thin_testing::Refusing;
+use thin_testing::{Refusing, check};
 use thin_vec::{ThinVec, ThinVecError, thin_vec};
 
 // Returns what `report` writes if every row is ok. Only tests run the rows that are missing here.
@@ -151,19 +150,20 @@ fn assert_repeated(
     status: u8,
     told: &str,
     count: usize,
-) -> Result<(), Fail> {
-    let numbers = thin_vec![alloc => number; count]?;
+) {
+    let numbers = check!(rt; thin_vec![alloc => number; count]);
     let mut whole = String::new(alloc);
     for _ in 0..count {
-        whole.push_str(format!(in alloc; "row {number} {told}\n")?.as_str())?;
+        let line = check!(rt; format!(in alloc; "row {number} {told}\n"));
+        check!(rt; whole.push_str(line.as_str()));
     }
-    whole.push_str(format!(in alloc; "{count} rows {told}\n")?.as_str())?;
+    let line = check!(rt; format!(in alloc; "{count} rows {told}\n"));
+    check!(rt; whole.push_str(line.as_str()));
     assert_reported(rt, alloc, numbers.as_slice(), status, whole.as_str());
-    Ok(())
 }
 
 #[test]
-fn report_counts_failed_rows(rt: HostRuntime) -> Result<(), Fail> {
+fn report_counts_failed_rows(rt: HostRuntime) {
     let alloc = rt.alloc();
     assert_reported(&rt, alloc, &[], 0, "0 rows ok\n");
     for (numbers, status, whole) in [
@@ -185,10 +185,9 @@ fn report_counts_failed_rows(rt: HostRuntime) -> Result<(), Fail> {
     }
     for (number, status, told) in [(1, 0, "ok"), (2, 1, "failed"), (3, 1, "failed")] {
         for count in [1, 2, 9, 10, 11, 260] {
-            assert_repeated(&rt, alloc, number, status, told, count)?;
+            assert_repeated(&rt, alloc, number, status, told, count);
         }
     }
-    Ok(())
 }
 
 // Makes a comparison of the given number. Those below 10 find the expected value, and the others
@@ -218,9 +217,9 @@ fn compare(checks: &mut Checks, list: &ThinVec<u8>, number: u32) {
 
 // Each comparison is made before and after each other one.
 #[test]
-fn each_comparison_detects_a_wrong_value(rt: HostRuntime) -> Result<(), Fail> {
-    let mut list = ThinVec::with_capacity(rt.alloc(), 5)?;
-    list.extend_from_copies(&[7, 8])?;
+fn each_comparison_detects_a_wrong_value(rt: HostRuntime) {
+    let mut list = check!(rt; ThinVec::with_capacity(rt.alloc(), 5));
+    check!(rt; list.extend_from_copies(&[7, 8]));
     assert!(rt; !Checks::new().is_ok());
     let numbers = [
         0, 1, 2, 3, 4, 10, 11, 12, 13, 14, 15, 16, 17, 18, 19, 20, 21, 22,
@@ -239,5 +238,4 @@ fn each_comparison_detects_a_wrong_value(rt: HostRuntime) -> Result<(), Fail> {
             );
         }
     }
-    Ok(())
 }

@@ -5,28 +5,27 @@ use replay::answer::write_reply;
 use replay::line::Line;
 use replay::replay_error::ReplayError;
 use replay::{exit_code, lacks_memory, replay};
-use std::alloc::Global;
+use std::alloc::{AllocError, Global};
 use std::cell::Cell;
 use std::fmt::Display;
 use std::io::{self, BufReader, ErrorKind, Read};
 use std::process::Abort;
-use std::test::Fail;
 use thin_runner::command::Reply;
 use thin_testing::{check, same};
 use thin_vec::{ThinVecError, thin_vec};
 
 // Asserts what is said about a line that has no form.
-fn assert_wrong(rt: &impl Abort, alloc: Global, line: &str, told: &str) -> Result<(), Fail> {
-    let error = Line::parse(alloc, line).err().ok_or("parsed")?;
-    assert_eq!(rt; error.to_string(alloc)?.as_str(), told, "of {line}");
-    Ok(())
+fn assert_wrong(rt: &impl Abort, alloc: Global, line: &str, told: &str) {
+    let error = check!(rt; Line::parse(alloc, line).err());
+    let text = check!(rt; error.to_string(alloc));
+    check!(rt; same((line, text.as_str()), (line, told)));
 }
 
 #[test]
-fn says_what_is_wrong_with_a_line(rt: HostRuntime) -> Result<(), Fail> {
+fn says_what_is_wrong_with_a_line(rt: HostRuntime) {
     let told = "no command has this name (`help` lists the commands)";
     for line in ["", "pus 3", "PUSH 3", "pushes 3"] {
-        assert_wrong(&rt, rt.alloc(), line, told)?;
+        assert_wrong(&rt, rt.alloc(), line, told);
     }
     for line in [
         "retain 0 1 1",
@@ -35,14 +34,13 @@ fn says_what_is_wrong_with_a_line(rt: HostRuntime) -> Result<(), Fail> {
         "dedup_by_key 0 1 1",
         "extract_if 0 1 1 0 1 1",
     ] {
-        assert_wrong(&rt, rt.alloc(), line, "DIVISOR is 0")?;
+        assert_wrong(&rt, rt.alloc(), line, "DIVISOR is 0");
     }
-    Ok(())
 }
 
 // Of two wrong words, the first that is no number or no word of steps is named.
 #[test]
-fn says_which_word_of_a_line_is_wrong(rt: HostRuntime) -> Result<(), Fail> {
+fn says_which_word_of_a_line_is_wrong(rt: HostRuntime) {
     let number = "is not a number from 0 to 18446744073709551615";
     for (line, name) in [
         ("retain 0 x 1", "STRIDE"),
@@ -50,11 +48,11 @@ fn says_which_word_of_a_line_is_wrong(rt: HostRuntime) -> Result<(), Fail> {
         ("push _5", "ITEM"),
         ("extend_from_slice 1 _5", "ITEM"),
     ] {
-        let told = format!(in rt.alloc(); "{name} {number}")?;
-        assert_wrong(&rt, rt.alloc(), line, told.as_str())?;
+        let told = check!(rt; format!(in rt.alloc(); "{name} {number}"));
+        assert_wrong(&rt, rt.alloc(), line, told.as_str());
     }
     let told = "STEPS is neither `-` nor a word of the letters `f` and `b`";
-    assert_wrong(&rt, rt.alloc(), "drain 0 0 F", told)
+    assert_wrong(&rt, rt.alloc(), "drain 0 0 F", told);
 }
 
 // Returns the first `len` words of a line of the form. From the word `from` to the word `to`, all
@@ -65,7 +63,7 @@ fn spelled(
     len: usize,
     (from, to): (usize, usize),
     wrong: &str,
-) -> Result<String, Fail> {
+) -> Result<String, AllocError> {
     let mut line = String::new(alloc);
     let mut index = 0_usize;
     for name in form.split_whitespace() {
@@ -92,81 +90,72 @@ const END: usize = 100;
 
 // Asserts what is said about a line of the form in which the word `at`, or this word and all after
 // it, are wrong. In the form, this word is `name`.
-fn assert_named(
-    rt: &impl Abort,
-    alloc: Global,
-    form: &str,
-    at: usize,
-    name: &str,
-) -> Result<(), Fail> {
+fn assert_named(rt: &impl Abort, alloc: Global, form: &str, at: usize, name: &str) {
     let told = match name {
-        "STEPS" => format!(in alloc; "STEPS is neither `-` nor a word of the letters `f` and `b`")?,
-        ".." => format!(in alloc; "ITEM is not a number from 0 to 18446744073709551615")?,
-        _ => format!(in alloc; "{name} is not a number from 0 to 18446744073709551615")?,
+        "STEPS" => format!(in alloc; "STEPS is neither `-` nor a word of the letters `f` and `b`"),
+        ".." => format!(in alloc; "ITEM is not a number from 0 to 18446744073709551615"),
+        _ => format!(in alloc; "{name} is not a number from 0 to 18446744073709551615"),
     };
+    let told = check!(rt; told);
     for wrong in ["x", "-1", "1x", "1.5", "18446744073709551616", "–", "f-"] {
         for to in [at, END] {
-            let line = spelled(alloc, form, END, (at, to), wrong)?;
-            assert_wrong(rt, alloc, line.as_str(), told.as_str())?;
+            let line = check!(rt; spelled(alloc, form, END, (at, to), wrong));
+            assert_wrong(rt, alloc, line.as_str(), told.as_str());
         }
     }
-    Ok(())
 }
 
 // Asserts what is said about lines of the form with a wrong word. Returns the number of its words.
-fn assert_each_named(rt: &impl Abort, alloc: Global, form: &str) -> Result<usize, Fail> {
+fn assert_each_named(rt: &impl Abort, alloc: Global, form: &str) -> usize {
     let mut words = 0_usize;
     for name in form.split_whitespace() {
         if words > 0 {
-            assert_named(rt, alloc, form, words, name)?;
+            assert_named(rt, alloc, form, words, name);
         }
         words = words.saturating_add(1);
     }
-    Ok(words)
+    words
 }
 
 // Asserts that a line of the form is right, and what is said if it has one word too many. A form
 // that ends with `..` has no such line.
-fn assert_right(rt: &impl Abort, alloc: Global, form: &str, told: &str) -> Result<(), Fail> {
-    let right = spelled(alloc, form, END, (END, END), "")?;
+fn assert_right(rt: &impl Abort, alloc: Global, form: &str, told: &str) {
+    let right = check!(rt; spelled(alloc, form, END, (END, END), ""));
     assert!(rt; Line::parse(alloc, right.as_str()).is_ok(), "{right}");
     if !form.ends_with(" ..") {
-        let line = format!(in alloc; "{right}1")?;
-        assert_wrong(rt, alloc, line.as_str(), told)?;
+        let line = check!(rt; format!(in alloc; "{right}1"));
+        assert_wrong(rt, alloc, line.as_str(), told);
     }
-    Ok(())
 }
 
 // Asserts that a line of the form is right, and what is said about lines with a wrong word and
 // about lines with too few or too many words.
-fn assert_form(rt: &impl Abort, alloc: Global, form: &str) -> Result<(), Fail> {
-    let mut words = assert_each_named(rt, alloc, form)?;
-    let told = format!(in alloc; "the form is `{form}`")?;
-    assert_right(rt, alloc, form, told.as_str())?;
+fn assert_form(rt: &impl Abort, alloc: Global, form: &str) {
+    let mut words = assert_each_named(rt, alloc, form);
+    let told = check!(rt; format!(in alloc; "the form is `{form}`"));
+    assert_right(rt, alloc, form, told.as_str());
     if form.ends_with(" ..") {
         words = words.saturating_sub(2);
     }
     for len in 1..words {
-        let line = spelled(alloc, form, len, (END, END), "")?;
-        assert_wrong(rt, alloc, line.as_str(), told.as_str())?;
+        let line = check!(rt; spelled(alloc, form, len, (END, END), ""));
+        assert_wrong(rt, alloc, line.as_str(), told.as_str());
     }
-    Ok(())
 }
 
 // `help` prints the forms, and an empty line after them.
 #[test]
-fn says_what_is_wrong_with_a_line_of_each_form(rt: HostRuntime) -> Result<(), Fail> {
-    let text = replayed(&rt, rt.alloc(), b"help", (0, 0), "")?;
+fn says_what_is_wrong_with_a_line_of_each_form(rt: HostRuntime) {
+    let text = replayed(&rt, rt.alloc(), b"help", (0, 0), "");
     let mut forms = 0_usize;
     for form in text.as_str().lines() {
         if form.is_empty() {
             break;
         }
-        assert_form(&rt, rt.alloc(), form)?;
+        assert_form(&rt, rt.alloc(), form);
         forms = forms.saturating_add(1);
     }
     assert_eq!(rt; forms, 28);
-    Ok(())
 }
 
 // How many bytes a call to `read` reads.
@@ -222,28 +211,17 @@ impl Eprint for Messages<'_> {
 }
 
 // Asserts the error message, which is empty if there is no error.
-fn assert_message(
-    rt: &impl Abort,
-    alloc: Global,
-    answered: &Result<(), ReplayError>,
-    told: &str,
-) -> Result<(), Fail> {
+fn assert_message(rt: &impl Abort, alloc: Global, answered: &Result<(), ReplayError>, told: &str) {
     let message = match answered {
         Ok(()) => String::new(alloc),
-        Err(error) => error.to_string(alloc)?,
+        Err(error) => check!(rt; error.to_string(alloc)),
     };
     assert_eq!(rt; message.as_str(), told);
-    Ok(())
 }
 
 // Asserts the exit status, and that `told` alone is written to standard error, or nothing if it is
 // empty.
-fn assert_exit(
-    rt: &impl Abort,
-    alloc: Global,
-    answered: Result<(), ReplayError>,
-    told: &str,
-) -> Result<(), Fail> {
+fn assert_exit(rt: &impl Abort, alloc: Global, answered: Result<(), ReplayError>, told: &str) {
     let messages = Messages {
         alloc,
         told,
@@ -251,14 +229,13 @@ fn assert_exit(
         right: Cell::new(0),
     };
     // Printing an `ExitCode` is the only way to read its value.
-    let status = format!(in alloc; "{:?}", exit_code(&messages, answered))?;
+    let status = check!(rt; format!(in alloc; "{:?}", exit_code(&messages, answered)));
     let number = if told.is_empty() { 0 } else { 1 };
-    let wanted = format!(in alloc; "ExitCode(unix_exit_status({number}))")?;
+    let wanted = check!(rt; format!(in alloc; "ExitCode(unix_exit_status({number}))"));
     assert_eq!(rt;
         (status.as_str(), messages.lines.get(), messages.right.get()),
         (wanted.as_str(), number, number)
     );
-    Ok(())
 }
 
 // Replays the lines of `input`, of which the read number `unread` and the write number `unwritten`
@@ -270,7 +247,7 @@ fn replayed(
     input: &[u8],
     (unread, unwritten): (usize, usize),
     told: &str,
-) -> Result<String, Fail> {
+) -> String {
     let mut text = String::new(alloc);
     let page = Page {
         text: &mut text,
@@ -282,29 +259,26 @@ fn replayed(
         calls: 0,
         failing: unread,
     };
-    let answered = replay(alloc, BufReader::with_capacity(alloc, CHUNK, script)?, page);
-    assert_message(rt, alloc, &answered, told)?;
-    assert_exit(rt, alloc, answered, told)?;
-    Ok(text)
+    let answered = replay(
+        alloc,
+        check!(rt; BufReader::with_capacity(alloc, CHUNK, script)),
+        page,
+    );
+    assert_message(rt, alloc, &answered, told);
+    assert_exit(rt, alloc, answered, told);
+    text
 }
 
 // Replays the lines of `input`. Asserts what is written, and the error message.
-fn assert_replayed(
-    rt: &impl Abort,
-    alloc: Global,
-    input: &[u8],
-    wanted: &str,
-    told: &str,
-) -> Result<(), Fail> {
-    let text = replayed(rt, alloc, input, (0, 0), told)?;
+fn assert_replayed(rt: &impl Abort, alloc: Global, input: &[u8], wanted: &str, told: &str) {
+    let text = replayed(rt, alloc, input, (0, 0), told);
     assert_eq!(rt; text.as_str(), wanted);
-    Ok(())
 }
 
 #[test]
-fn skips_blank_lines_and_white_space(rt: HostRuntime) -> Result<(), Fail> {
+fn skips_blank_lines_and_white_space(rt: HostRuntime) {
     for input in ["", "\n\n"] {
-        assert_replayed(&rt, rt.alloc(), input.as_bytes(), "", "")?;
+        assert_replayed(&rt, rt.alloc(), input.as_bytes(), "", "");
     }
     let answers = "done; length 1; capacity 4\nitems [1]\n";
     for input in [
@@ -313,36 +287,29 @@ fn skips_blank_lines_and_white_space(rt: HostRuntime) -> Result<(), Fail> {
         "\r\n  push \t 1\r\nitems \t\r\n",
         "\u{2003}\npush\u{2003}1\n\titems\n \n",
     ] {
-        assert_replayed(&rt, rt.alloc(), input.as_bytes(), answers, "")?;
+        assert_replayed(&rt, rt.alloc(), input.as_bytes(), answers, "");
     }
-    Ok(())
 }
 
 // Replays the lines `right` and two wrong ones. Asserts that only the first of these, line number
 // `number`, is named.
-fn assert_first_named(
-    rt: &impl Abort,
-    alloc: Global,
-    right: &str,
-    number: u32,
-) -> Result<(), Fail> {
-    let input = format!(in alloc; "{right}push\njump\n")?;
-    let told = format!(in alloc; "line {number}: the form is `push ITEM`")?;
-    assert_replayed(rt, alloc, input.as_bytes(), "", told.as_str())
+fn assert_first_named(rt: &impl Abort, alloc: Global, right: &str, number: u32) {
+    let input = check!(rt; format!(in alloc; "{right}push\njump\n"));
+    let told = check!(rt; format!(in alloc; "line {number}: the form is `push ITEM`"));
+    assert_replayed(rt, alloc, input.as_bytes(), "", told.as_str());
 }
 
 #[test]
-fn carries_out_no_command_if_a_line_is_wrong(rt: HostRuntime) -> Result<(), Fail> {
+fn carries_out_no_command_if_a_line_is_wrong(rt: HostRuntime) {
     let told = "line 2: the line is not UTF-8";
-    assert_replayed(&rt, rt.alloc(), b"push 1\npush \xff\npop 1\n", "", told)?;
+    assert_replayed(&rt, rt.alloc(), b"push 1\npush \xff\npop 1\n", "", told);
     let told = "line 1: the line is not UTF-8";
-    assert_replayed(&rt, rt.alloc(), b"\xff", "", told)?;
+    assert_replayed(&rt, rt.alloc(), b"\xff", "", told);
     let mut right = String::new(rt.alloc());
     for number in 1..=300 {
-        assert_first_named(&rt, rt.alloc(), right.as_str(), number)?;
-        right.push_str(if number % 3 == 0 { "\n" } else { "push 1\n" })?;
+        assert_first_named(&rt, rt.alloc(), right.as_str(), number);
+        check!(rt; right.push_str(if number % 3 == 0 { "\n" } else { "push 1\n" }));
     }
-    Ok(())
 }
 
 // Commands for which there is not enough memory, in a list of one item.
@@ -364,30 +331,29 @@ fn assert_stops(
     answers: &str,
     number: u32,
     command: &str,
-) -> Result<(), Fail> {
-    let input = format!(in alloc; "{front}push 1\n\n{command}\npop\n")?;
-    let told = format!(in alloc; "line {number}: out of memory")?;
-    let wanted = format!(in alloc; "{answers}done; length 1; capacity 4\n")?;
+) {
+    let input = check!(rt; format!(in alloc; "{front}push 1\n\n{command}\npop\n"));
+    let told = check!(rt; format!(in alloc; "line {number}: out of memory"));
+    let wanted = check!(rt; format!(in alloc; "{answers}done; length 1; capacity 4\n"));
     let (wanted, told) = (wanted.as_str(), told.as_str());
-    assert_replayed(rt, alloc, input.as_bytes(), wanted, told)
+    assert_replayed(rt, alloc, input.as_bytes(), wanted, told);
 }
 
 // In front of the command are, in the second round, many lines.
 #[test]
-fn stops_at_a_reply_without_memory(rt: HostRuntime) -> Result<(), Fail> {
+fn stops_at_a_reply_without_memory(rt: HostRuntime) {
     let alloc = rt.alloc();
     let (mut front, mut answers) = (String::new(alloc), String::new(alloc));
     for number in [3, 1003] {
         for command in &TOO_LARGE {
             let (front, answers) = (front.as_str(), answers.as_str());
-            assert_stops(&rt, alloc, front, answers, number, command)?;
+            assert_stops(&rt, alloc, front, answers, number, command);
         }
         for _ in 0..1000 {
-            front.push_str("pop\n")?;
-            answers.push_str("item None; length 0; capacity 0\n")?;
+            check!(rt; front.push_str("pop\n"));
+            check!(rt; answers.push_str("item None; length 0; capacity 0\n"));
         }
     }
-    Ok(())
 }
 
 // Returns what is written of the reply, and whether all of it is.
@@ -412,35 +378,33 @@ fn assert_reply(
     cause: ThinVecError,
     lacks: bool,
     rest: &str,
-) -> Result<(), Fail> {
+) {
     check!(rt; same(lacks_memory(&reply), lacks));
     let (text, is_ok) = written(alloc, reply);
-    let wanted = format!(in alloc; "failed: {cause}{rest}")?;
+    let wanted = check!(rt; format!(in alloc; "failed: {cause}{rest}"));
     check!(rt; same((text.as_str(), is_ok), (wanted.as_str(), true)));
-    Ok(())
 }
 
 // No script has all of these replies: `replay` ends at one that lacks memory, and the capacity for
 // a `push` does not overflow.
 #[test]
-fn writes_the_replies_of_refused_commands(rt: HostRuntime) -> Result<(), Fail> {
+fn writes_the_replies_of_refused_commands(rt: HostRuntime) {
     let alloc = rt.alloc();
     for (cause, lacks) in [
         (ThinVecError::OutOfMemory, true),
         (ThinVecError::CapacityOverflow, false),
     ] {
-        assert_reply(&rt, alloc, Reply::Refused(cause), cause, lacks, "")?;
+        assert_reply(&rt, alloc, Reply::Refused(cause), cause, lacks, "");
         let returned = Reply::Returned(7, cause);
-        assert_reply(&rt, alloc, returned, cause, lacks, "; returned 7")?;
-        let other = Reply::Other(thin_vec![alloc => 1, 2]?, Some(cause));
+        assert_reply(&rt, alloc, returned, cause, lacks, "; returned 7");
+        let other = Reply::Other(check!(rt; thin_vec![alloc => 1, 2]), Some(cause));
         let rest = "; other [1, 2]; capacity 2";
-        assert_reply(&rt, alloc, other, cause, lacks, rest)?;
+        assert_reply(&rt, alloc, other, cause, lacks, rest);
     }
-    Ok(())
 }
 
 #[test]
-fn fails_if_a_read_fails(rt: HostRuntime) -> Result<(), Fail> {
+fn fails_if_a_read_fails(rt: HostRuntime) {
     let input = "push 1\nitems\n\npop\nextend_from_slice 1 2 3 4 5 6 7\nitems\n";
     // The last call finds the end.
     for unread in 1..=input.len().div_ceil(CHUNK).saturating_add(1) {
@@ -450,10 +414,9 @@ fn fails_if_a_read_fails(rt: HostRuntime) -> Result<(), Fail> {
             input.as_bytes(),
             (unread, 0),
             "broken pipe",
-        )?;
+        );
         assert_eq!(rt; text.as_str(), "");
     }
-    Ok(())
 }
 
 // A reader of which each call fails with the same kind of error.
@@ -469,7 +432,7 @@ impl Read for Unreadable {
 }
 
 // Reads from a reader that fails. Returns the kind of the error.
-fn kind_of_error(alloc: Global, kind: ErrorKind) -> Result<Option<ErrorKind>, Fail> {
+fn kind_of_error(alloc: Global, kind: ErrorKind) -> io::Result<Option<ErrorKind>> {
     let mut text = String::new(alloc);
     let page = Page {
         text: &mut text,
@@ -485,7 +448,7 @@ fn kind_of_error(alloc: Global, kind: ErrorKind) -> Result<Option<ErrorKind>, Fa
 
 // An error of the kind `InvalidData` would be that of a line that is not UTF-8.
 #[test]
-fn returns_the_error_of_a_read(rt: HostRuntime) -> Result<(), Fail> {
+fn returns_the_error_of_a_read(rt: HostRuntime) {
     for kind in [
         ErrorKind::BrokenPipe,
         ErrorKind::OutOfMemory,
@@ -493,25 +456,24 @@ fn returns_the_error_of_a_read(rt: HostRuntime) -> Result<(), Fail> {
         ErrorKind::PermissionDenied,
         ErrorKind::Other,
     ] {
-        assert_eq!(rt; kind_of_error(rt.alloc(), kind)?, Some(kind));
+        let found = check!(rt; kind_of_error(rt.alloc(), kind));
+        check!(rt; same(found, Some(kind)));
     }
-    Ok(())
 }
 
 // Replays `input`, whose answers take several calls to `write`. Asserts that the program fails at a
 // call that fails, whichever call it is. What is written is then a beginning of the answers: the
 // writer tries once more to write those that it holds, and no more.
-fn assert_fails_at_a_write(rt: &impl Abort, alloc: Global, input: &String) -> Result<(), Fail> {
-    let whole = replayed(rt, alloc, input.as_bytes(), (0, 0), "")?;
+fn assert_fails_at_a_write(rt: &impl Abort, alloc: Global, input: &String) {
+    let whole = replayed(rt, alloc, input.as_bytes(), (0, 0), "");
     // The writer has room for 8192 bytes.
     for unwritten in 1..=whole.len().div_ceil(8192) {
-        let text = replayed(rt, alloc, input.as_bytes(), (0, unwritten), "broken pipe")?;
+        let text = replayed(rt, alloc, input.as_bytes(), (0, unwritten), "broken pipe");
         assert!(rt;
             whole.as_str().starts_with(text.as_str()),
             "at write {unwritten}"
         );
     }
-    Ok(())
 }
 
 // Lines with answers of each kind. So many of them have answers of somewhat more than 8192 bytes,
@@ -532,7 +494,7 @@ static REPEATED: [(&str, usize); 12] = [
 ];
 
 // Returns a line as often as is asked.
-fn repeated(alloc: Global, line: &str, times: usize) -> Result<String, Fail> {
+fn repeated(alloc: Global, line: &str, times: usize) -> Result<String, AllocError> {
     let mut lines = String::new(alloc);
     for _ in 0..times {
         lines.push_str(line)?;
@@ -544,24 +506,25 @@ fn repeated(alloc: Global, line: &str, times: usize) -> Result<String, Fail> {
 // In front of the repeated lines, one answer becomes longer from round to round. So another part of
 // the answers is the one with which the writer is full.
 #[test]
-fn fails_if_a_write_fails(rt: HostRuntime) -> Result<(), Fail> {
+fn fails_if_a_write_fails(rt: HostRuntime) {
     let alloc = rt.alloc();
     for (line, times) in &REPEATED {
-        let lines = repeated(alloc, line, *times)?;
+        let lines = check!(rt; repeated(alloc, line, *times));
         for first in [1, 10_000_000_000_000_000_000_u64] {
             let mut second = 1_u64;
             for _ in 0..5 {
-                let input = format!(in alloc; "push {first}\npush {second}\nitems\nnew\n{lines}")?;
-                assert_fails_at_a_write(&rt, alloc, &input)?;
+                let input = check!(rt; format!(in alloc;
+                    "push {first}\npush {second}\nitems\nnew\n{lines}"
+                ));
+                assert_fails_at_a_write(&rt, alloc, &input);
                 second = second.saturating_mul(10_000);
             }
         }
     }
-    Ok(())
 }
 
 // Returns the numbers from `first` to below `end`, each after a space.
-fn words_of(alloc: Global, first: u64, end: u64) -> Result<String, Fail> {
+fn words_of(alloc: Global, first: u64, end: u64) -> Result<String, AllocError> {
     let mut words = String::new(alloc);
     for item in first..end {
         words.push_str(format!(in alloc; " {item}")?.as_str())?;
@@ -571,9 +534,9 @@ fn words_of(alloc: Global, first: u64, end: u64) -> Result<String, Fail> {
 
 // Replies that take several calls to `write` each.
 #[test]
-fn fails_if_a_write_of_a_long_reply_fails(rt: HostRuntime) -> Result<(), Fail> {
+fn fails_if_a_write_of_a_long_reply_fails(rt: HostRuntime) {
     let alloc = rt.alloc();
-    let words = words_of(alloc, 10_000, 13_000)?;
+    let words = check!(rt; words_of(alloc, 10_000, 13_000));
     for (command, line) in [
         ("extend_from_slice", "items"),
         ("extend_from_slice", "clone"),
@@ -581,29 +544,28 @@ fn fails_if_a_write_of_a_long_reply_fails(rt: HostRuntime) -> Result<(), Fail> {
         ("extend_from_slice", "extract_if 0 3000 3000 1 0 0"),
         ("extend 18446744073709551615", "pop"),
     ] {
-        let input = format!(in alloc; "{command}{words}\n{line}\n")?;
-        assert_fails_at_a_write(&rt, alloc, &input)?;
+        let input = check!(rt; format!(in alloc; "{command}{words}\n{line}\n"));
+        assert_fails_at_a_write(&rt, alloc, &input);
     }
-    Ok(())
 }
 
 #[test]
-fn prints_each_item_of_a_long_reply(rt: HostRuntime) -> Result<(), Fail> {
+fn prints_each_item_of_a_long_reply(rt: HostRuntime) {
     let alloc = rt.alloc();
-    let items: Vec<u64> = (0..300).collect(alloc)?;
-    let answers: Vec<Option<u64>> = (0..300).map(|item| Some(item)).collect(alloc)?;
-    let words = words_of(alloc, 0, 300)?;
-    let input = format!(in alloc;
+    let items: Vec<u64> = check!(rt; (0..300).collect(alloc));
+    let answers: Vec<Option<u64>> = check!(rt; (0..300).map(|item| Some(item)).collect(alloc));
+    let words = check!(rt; words_of(alloc, 0, 300));
+    let input = check!(rt; format!(in alloc;
         "extend 18446744073709551615{words}\nextend_from_slice{words}\nitems\nclone\n\
         extract_if 0 300 300 1 0 0\nappend{words}\nsplit_off 0\n"
-    )?;
-    let wanted = format!(in alloc;
+    ));
+    let wanted = check!(rt; format!(in alloc;
         "failed: capacity overflow; answers []; held []; in hand None; rest{words}; \
         length 0; capacity 0\ndone; length 300; capacity 300\nitems {items:?}\n\
         list {items:?}; capacity 300; length 300; capacity 300\n\
         answers {answers:?}; length 0; capacity 300\n\
         other []; capacity 512; length 300; capacity 300\n\
         list {items:?}; capacity 300; length 0; capacity 300\n"
-    )?;
-    assert_replayed(&rt, alloc, input.as_bytes(), wanted.as_str(), "")
+    ));
+    assert_replayed(&rt, alloc, input.as_bytes(), wanted.as_str(), "");
 }

@@ -2,7 +2,6 @@
 use crate::tests::rows::assert_row;
 use std::alloc::Global;
 use std::process::Abort;
-use std::test::Fail;
 use thin_rows::{Rows, ThinVecError};
 use thin_testing::{Counted, CountedWord, Ledger, Numbered, check, same};
 
@@ -65,27 +64,21 @@ fn assert_drops_by_clear_row<T: Numbered>(
 
 // Sets, removes and drops the values of a table whose rows have `count` entries each. Asserts after
 // each call how many values are alive.
-fn assert_drops<T: Numbered>(
-    rt: &impl Abort,
-    alloc: Global,
-    rows: usize,
-    count: usize,
-) -> Result<(), Fail> {
-    let ledger = Ledger::leaked(alloc)?;
-    let mut table = Rows::<T>::with_rows(alloc, rows)?;
-    set_counted(rt, &mut table, ledger, count)?;
-    set_counted(rt, &mut table, ledger, count)?;
+fn assert_drops<T: Numbered>(rt: &impl Abort, alloc: Global, rows: usize, count: usize) {
+    let ledger = check!(rt; Ledger::leaked(alloc));
+    let mut table = check!(rt; Rows::<T>::with_rows(alloc, rows));
+    check!(rt; set_counted(rt, &mut table, ledger, count));
+    check!(rt; set_counted(rt, &mut table, ledger, count));
     assert_drops_by_remove(rt, &mut table, ledger, (rows, count));
-    set_counted(rt, &mut table, ledger, count)?;
+    check!(rt; set_counted(rt, &mut table, ledger, count));
     assert_drops_by_clear_row(rt, &mut table, ledger, rows);
-    set_counted(rt, &mut table, ledger, count)?;
+    check!(rt; set_counted(rt, &mut table, ledger, count));
     drop(table);
     check!(rt; same(ledger.live.get(), 0));
-    Ok(())
 }
 
 #[test]
-fn drops_each_value_once(rt: HostRuntime) -> Result<(), Fail> {
+fn drops_each_value_once(rt: HostRuntime) {
     for (rows, count) in [
         (0, 0),
         (1, 0),
@@ -98,23 +91,22 @@ fn drops_each_value_once(rt: HostRuntime) -> Result<(), Fail> {
         (2, 300),
         (100, 2),
     ] {
-        assert_drops::<CountedWord<'static>>(&rt, rt.alloc(), rows, count)?;
-        assert_drops::<Counted<'static>>(&rt, rt.alloc(), rows, count)?;
-        assert_drops::<Counted<'static, [u64; 62]>>(&rt, rt.alloc(), rows, count)?;
+        assert_drops::<CountedWord<'static>>(&rt, rt.alloc(), rows, count);
+        assert_drops::<Counted<'static>>(&rt, rt.alloc(), rows, count);
+        assert_drops::<Counted<'static, [u64; 62]>>(&rt, rt.alloc(), rows, count);
     }
-    Ok(())
 }
 
 #[test]
-fn clear_row_drops_the_values_in_the_order_of_the_columns(rt: HostRuntime) -> Result<(), Fail> {
-    let ledger = Ledger::leaked(rt.alloc())?;
-    let mut table = Rows::with_rows(rt.alloc(), 1)?;
+fn clear_row_drops_the_values_in_the_order_of_the_columns(rt: HostRuntime) {
+    let ledger = check!(rt; Ledger::leaked(rt.alloc()));
+    let mut table = check!(rt; Rows::with_rows(rt.alloc(), 1));
     for len in [2, 5, 300] {
         let mut wanted = 0;
         for column in 0..len {
             assert_row(&rt, &table, 0);
             let value = Counted::new(ledger, column as u64, ());
-            drop(table.set(0, column, value)?);
+            drop(check!(rt; table.set(0, column, value)));
             wanted = Ledger::add_drop(wanted, column as u64);
         }
         ledger.begin(0);
@@ -122,5 +114,4 @@ fn clear_row_drops_the_values_in_the_order_of_the_columns(rt: HostRuntime) -> Re
         table.clear_row(0);
         check!(rt; same((len, ledger.dropped.get()), (len, wanted)));
     }
-    Ok(())
 }

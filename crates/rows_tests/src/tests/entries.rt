@@ -2,35 +2,35 @@
 use crate::tests::rows::assert_rows;
 use std::alloc::Global;
 use std::marker::{Send, Sync};
-use std::test::Fail;
 use thin_rows::Rows;
 use thin_testing::{Refusing, check, counts, same, same_items};
 
 type Table = Rows<u32, &'static Refusing<Global>>;
 
 #[test]
-fn row_is_in_the_order_of_the_columns(rt: HostRuntime) -> Result<(), Fail> {
-    let refusing = Refusing::leaked(rt.alloc(), 0)?;
-    let mut table = Table::with_rows(refusing, 1)?;
+fn row_is_in_the_order_of_the_columns(rt: HostRuntime) {
+    let refusing = check!(rt; Refusing::leaked(rt.alloc(), 0));
+    let mut table = check!(rt; Table::with_rows(refusing, 1));
     assert_rows(&rt, &table, 1);
-    check!(rt; same(table.set(0, usize::MAX, 1)?, None));
-    check!(rt; same(table.set(0, 0, 2)?, None));
+    let old = check!(rt; table.set(0, usize::MAX, 1));
+    check!(rt; same(old, None));
+    let old = check!(rt; table.set(0, 0, 2));
+    check!(rt; same(old, None));
     check!(rt; same_items(table.row(0), &[(0, 2), (usize::MAX, 1)]));
     check!(rt; same(table.get(0, 5), None));
     check!(rt; same(table.remove(0, 5), None));
     check!(rt; same(table.get(0, 0), Some(&2)));
     refusing.refuse(1);
-    check!(rt; same(table.set(0, 0, 3)?, Some(2)));
+    let old = check!(rt; table.set(0, 0, 3));
+    check!(rt; same(old, Some(2)));
     check!(rt; counts(refusing, 0, 2));
     check!(rt; same_items(table.row(0), &[(0, 3), (usize::MAX, 1)]));
-    Ok(())
 }
 
 fn assert_send_and_sync<X: Send + Sync>(_value: &X) {}
 
 // The compiler checks this, so no thread is started.
 #[test]
-fn tables_can_be_sent_and_shared(rt: HostRuntime) -> Result<(), Fail> {
-    assert_send_and_sync(&Rows::<u8>::with_rows(rt.alloc(), 3)?);
-    Ok(())
+fn tables_can_be_sent_and_shared(rt: HostRuntime) {
+    assert_send_and_sync(&check!(rt; Rows::<u8>::with_rows(rt.alloc(), 3)));
 }

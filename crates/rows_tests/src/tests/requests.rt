@@ -3,7 +3,6 @@ use crate::tests::rows::{assert_row, assert_rows, assert_set};
 use std::alloc::{Allocator, Global};
 use std::fmt::Debug;
 use std::process::Abort;
-use std::test::Fail;
 use thin_rows::{Rows, ThinVecError};
 use thin_testing::{Refusing, check, counts, same, same_items};
 
@@ -21,8 +20,8 @@ fn assert_removed<V: PartialEq + Debug + Drop, A: Allocator>(
 }
 
 #[test]
-fn with_rows_returns_the_cause(rt: HostRuntime) -> Result<(), Fail> {
-    let refusing = Refusing::leaked(rt.alloc(), 1)?;
+fn with_rows_returns_the_cause(rt: HostRuntime) {
+    let refusing = check!(rt; Refusing::leaked(rt.alloc(), 1));
     let refused = Rows::<u32, &Refusing<Global>>::with_rows(refusing, 3).err();
     check!(rt; same(refused, Some(ThinVecError::OutOfMemory)));
     check!(rt; counts(refusing, 1, 0));
@@ -31,25 +30,24 @@ fn with_rows_returns_the_cause(rt: HostRuntime) -> Result<(), Fail> {
         check!(rt; same(refused, Some(ThinVecError::CapacityOverflow)));
         check!(rt; counts(refusing, 1, 0));
     }
-    Ok(())
 }
 
 // Only two of the rows get entries: row 0 in descending order of the columns, and the last row in
 // ascending order. The capacity of each grows from 4 to 4096 by doubling, with 11 requests. The
 // table itself makes one request. A row, an entry and a header take 16 bytes each.
 #[test]
-fn set_adds_thousands_of_columns_to_a_row(rt: HostRuntime) -> Result<(), Fail> {
-    let refusing = Refusing::leaked(rt.alloc(), 0)?;
-    let mut table = Rows::with_rows(refusing, 5000)?;
+fn set_adds_thousands_of_columns_to_a_row(rt: HostRuntime) {
+    let refusing = check!(rt; Refusing::leaked(rt.alloc(), 0));
+    let mut table = check!(rt; Rows::with_rows(refusing, 5000));
     for column in 0..4000 {
-        assert_set(
+        check!(rt; assert_set(
             &rt,
             &mut table,
             (0, 4000_usize.saturating_sub(column)),
             7,
             None,
-        )?;
-        assert_set(&rt, &mut table, (4999, column), 7, None)?;
+        ));
+        check!(rt; assert_set(&rt, &mut table, (4999, column), 7, None));
     }
     check!(rt; counts(refusing, 23, 3));
     let row = 4096_u64.saturating_mul(16).saturating_add(16);
@@ -60,16 +58,15 @@ fn set_adds_thousands_of_columns_to_a_row(rt: HostRuntime) -> Result<(), Fail> {
         assert_removed(&rt, &mut table, (4999, column), Some(7));
     }
     check!(rt; counts(refusing, 23, 3));
-    Ok(())
 }
 
 // Asserts that a new table has its rows, and that it makes one request, for the rows and a header
 // of 16 bytes. A row takes 16 bytes, whatever the values are. A table without rows makes no
 // request.
-fn assert_table_requests<V: Drop>(rt: &impl Abort, alloc: Global) -> Result<(), Fail> {
+fn assert_table_requests<V: Drop>(rt: &impl Abort, alloc: Global) {
     for rows in [0, 1, 2, 3, 5, 17, 100, 3000] {
-        let refusing = Refusing::leaked(alloc, 0)?;
-        let table = Rows::<V, &Refusing<Global>>::with_rows(refusing, rows)?;
+        let refusing = check!(rt; Refusing::leaked(alloc, 0));
+        let table = check!(rt; Rows::<V, &Refusing<Global>>::with_rows(refusing, rows));
         let blocks = rows.min(1) as u64;
         let bytes = rows.saturating_add(1).saturating_mul(16) as u64;
         check!(rt; same((table.rows(), table.len()), (rows, 0)));
@@ -78,14 +75,13 @@ fn assert_table_requests<V: Drop>(rt: &impl Abort, alloc: Global) -> Result<(), 
         drop(table);
         check!(rt; counts(refusing, blocks, 0));
     }
-    Ok(())
 }
 
 #[test]
-fn a_new_table_makes_one_request_for_its_rows(rt: HostRuntime) -> Result<(), Fail> {
-    assert_table_requests::<u32>(&rt, rt.alloc())?;
-    assert_table_requests::<()>(&rt, rt.alloc())?;
-    assert_table_requests::<[u64; 40]>(&rt, rt.alloc())
+fn a_new_table_makes_one_request_for_its_rows(rt: HostRuntime) {
+    assert_table_requests::<u32>(&rt, rt.alloc());
+    assert_table_requests::<()>(&rt, rt.alloc());
+    assert_table_requests::<[u64; 40]>(&rt, rt.alloc());
 }
 
 // The column of entry number `index` of a row. The entries are not in the order of the columns.
@@ -199,45 +195,45 @@ fn assert_row_requests<V: Copy + PartialEq + Debug + Drop>(
 }
 
 #[test]
-fn only_a_new_entry_in_a_full_row_makes_a_request(rt: HostRuntime) -> Result<(), Fail> {
-    let refusing = Refusing::leaked(rt.alloc(), 0)?;
+fn only_a_new_entry_in_a_full_row_makes_a_request(rt: HostRuntime) {
+    let refusing = check!(rt; Refusing::leaked(rt.alloc(), 0));
     for count in 0..140 {
-        assert_row_requests(&rt, refusing, 7_u32, count, 1)?;
-        assert_row_requests(&rt, refusing, (), count, 2)?;
-        assert_row_requests(&rt, refusing, 7_u32, count, usize::MAX / 211)?;
+        check!(rt; assert_row_requests(&rt, refusing, 7_u32, count, 1));
+        check!(rt; assert_row_requests(&rt, refusing, (), count, 2));
+        check!(rt; assert_row_requests(&rt, refusing, 7_u32, count, usize::MAX / 211));
     }
     for count in 0..40 {
-        assert_row_requests(&rt, refusing, 7_u8, count, 1)?;
-        assert_row_requests(&rt, refusing, [7_u64; 40], count, 3)?;
+        check!(rt; assert_row_requests(&rt, refusing, 7_u8, count, 1));
+        check!(rt; assert_row_requests(&rt, refusing, [7_u64; 40], count, 3));
     }
-    Ok(())
 }
 
 #[test]
-fn refused_set_leaves_an_empty_row_without_a_block(rt: HostRuntime) -> Result<(), Fail> {
-    let refusing = Refusing::leaked(rt.alloc(), 2)?;
-    let mut table: Rows<u32, Lender> = Rows::with_rows(refusing, 2)?;
+fn refused_set_leaves_an_empty_row_without_a_block(rt: HostRuntime) {
+    let refusing = check!(rt; Refusing::leaked(rt.alloc(), 2));
+    let mut table: Rows<u32, Lender> = check!(rt; Rows::with_rows(refusing, 2));
     assert_rows(&rt, &table, 2);
-    let refused = table.set(1, 4, 8).err().ok_or("set")?;
+    let refused = check!(rt; table.set(1, 4, 8).err());
     let memory = ThinVecError::OutOfMemory;
     check!(rt; same((refused.value, refused.cause), (8, memory)));
     check!(rt; same_items(table.row(1), &[]));
     check!(rt; same(table.owns_block(1), false));
     check!(rt; counts(refusing, 2, 1));
-    Ok(())
 }
 
 #[test]
-fn calls_of_a_table_take_no_memory(rt: HostRuntime) -> Result<(), Fail> {
-    let lender = Refusing::leaked(rt.alloc(), 0)?;
-    let mut table: Rows<u32, Lender> = Rows::with_rows(lender, 2)?;
+fn calls_of_a_table_take_no_memory(rt: HostRuntime) {
+    let lender = check!(rt; Refusing::leaked(rt.alloc(), 0));
+    let mut table: Rows<u32, Lender> = check!(rt; Rows::with_rows(lender, 2));
     for column in 0..5 {
         assert_rows(&rt, &table, 2);
-        check!(rt; same(table.set(0, column, 7)?, None));
+        let old = check!(rt; table.set(0, column, 7));
+        check!(rt; same(old, None));
     }
     lender.refuse_all();
     assert_rows(&rt, &table, 2);
-    check!(rt; same(table.set(0, 3, 8)?, Some(7)));
+    let old = check!(rt; table.set(0, 3, 8));
+    check!(rt; same(old, Some(7)));
     check!(rt; same((table.get(0, 3), table.get(1, 3)), (Some(&8), None)));
     check!(rt; same(table.get_mut(0, 4).is_some(), true));
     check!(rt; same((table.remove(0, 0), table.remove(0, 0)), (Some(7), None)));
@@ -246,5 +242,4 @@ fn calls_of_a_table_take_no_memory(rt: HostRuntime) -> Result<(), Fail> {
     table.clear_row(0);
     drop(table);
     check!(rt; same((lender.requests(), lender.blocks()), (0, 0)));
-    Ok(())
 }

@@ -3,7 +3,6 @@ use crate::tests::rows::{assert_row, assert_set};
 use std::alloc::Global;
 use std::collections::BTreeMap;
 use std::process::Abort;
-use std::test::Fail;
 use thin_rows::Rows;
 use thin_testing::{Refusing, check, prints, prints_as, same};
 
@@ -12,15 +11,14 @@ type Lender = &'static Refusing<Global>;
 type Map = BTreeMap<usize, i32>;
 
 #[test]
-fn prints_each_row_as_a_map(rt: HostRuntime) -> Result<(), Fail> {
-    let mut table = Rows::with_rows(rt.alloc(), 2)?;
-    assert_set(&rt, &mut table, (1, 7), 10, None)?;
-    assert_set(&rt, &mut table, (1, 2), 20, None)?;
-    assert_set(&rt, &mut table, (1, 9), 30, None)?;
+fn prints_each_row_as_a_map(rt: HostRuntime) {
+    let mut table = check!(rt; Rows::with_rows(rt.alloc(), 2));
+    check!(rt; assert_set(&rt, &mut table, (1, 7), 10, None));
+    check!(rt; assert_set(&rt, &mut table, (1, 2), 20, None));
+    check!(rt; assert_set(&rt, &mut table, (1, 9), 30, None));
     let lines = "[\n    {},\n    {\n        2: 20,\n        7: 10,\n        9: 30,\n    },\n]";
     let wide = "[{}, {0002: 0020, 0007: 0010, 0009: 0030}]";
     check!(rt; prints(rt.alloc(), &table, ["[{}, {2: 20, 7: 10, 9: 30}]", lines, wide]));
-    Ok(())
 }
 
 // Sets a value of the table, and inserts it into the map of its row.
@@ -30,11 +28,10 @@ fn set_and_insert(
     map: &mut Map,
     (row, column): (usize, usize),
     value: i32,
-) -> Result<(), Fail> {
+) {
     assert_row(rt, table, row);
-    table.set(row, column, value)?;
-    map.insert(column, value).ok().ok_or("memory")?;
-    Ok(())
+    check!(rt; table.set(row, column, value));
+    check!(rt; map.insert(column, value).ok().ok_or("memory"));
 }
 
 // Sets `count` entries of the row and one at the greatest column. Returns the map of these entries.
@@ -44,44 +41,38 @@ fn filled_row(
     table: &mut Rows<i32, Lender>,
     row: usize,
     count: usize,
-) -> Result<Map, Fail> {
+) -> Map {
     let mut map = BTreeMap::new(alloc);
     for index in 0..count {
         let value = if index % 3 == 0 { -8 } else { 9 };
-        set_and_insert(rt, table, &mut map, (row, count.wrapping_sub(index)), value)?;
+        set_and_insert(rt, table, &mut map, (row, count.wrapping_sub(index)), value);
     }
-    set_and_insert(rt, table, &mut map, (row, usize::MAX), 5)?;
-    Ok(map)
+    set_and_insert(rt, table, &mut map, (row, usize::MAX), 5);
+    map
 }
 
 // Asserts that a table, of which the rows with odd numbers have `count` entries each and one at the
 // greatest column, is printed as a list of maps. Also asserts that printing requests no memory from
 // the allocator of the table.
-fn assert_printed_as_maps(
-    rt: &impl Abort,
-    alloc: Global,
-    rows: usize,
-    count: usize,
-) -> Result<(), Fail> {
-    let refusing = Refusing::leaked(alloc, 0)?;
-    let mut table = Rows::with_rows(refusing, rows)?;
+fn assert_printed_as_maps(rt: &impl Abort, alloc: Global, rows: usize, count: usize) {
+    let refusing = check!(rt; Refusing::leaked(alloc, 0));
+    let mut table = check!(rt; Rows::with_rows(refusing, rows));
     let mut maps: Vec<Map> = Vec::new(alloc);
     for row in 0..rows {
         let map = if row % 2 == 1 {
-            filled_row(rt, alloc, &mut table, row, count)?
+            filled_row(rt, alloc, &mut table, row, count)
         } else {
             BTreeMap::new(alloc)
         };
-        maps.push(map).ok().ok_or("memory")?;
+        check!(rt; maps.push(map).ok().ok_or("memory"));
     }
     refusing.refuse(1);
     check!(rt; prints_as(alloc, &table, &maps));
     check!(rt; same(refusing.requests(), 0));
-    Ok(())
 }
 
 #[test]
-fn prints_the_rows_as_maps_with_each_option(rt: HostRuntime) -> Result<(), Fail> {
+fn prints_the_rows_as_maps_with_each_option(rt: HostRuntime) {
     for (rows, count) in [
         (0, 0),
         (1, 0),
@@ -92,7 +83,6 @@ fn prints_the_rows_as_maps_with_each_option(rt: HostRuntime) -> Result<(), Fail>
         (120, 2),
         (12, 400),
     ] {
-        assert_printed_as_maps(&rt, rt.alloc(), rows, count)?;
+        assert_printed_as_maps(&rt, rt.alloc(), rows, count);
     }
-    Ok(())
 }

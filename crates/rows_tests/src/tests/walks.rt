@@ -3,7 +3,6 @@
 use crate::tests::rows::assert_row;
 use std::alloc::{AllocError, Allocator, Global};
 use std::process::Abort;
-use std::test::Fail;
 use thin_rows::{Rows, ThinVecError};
 use thin_testing::{Counted, Ledger, Refusing, check, counts, same};
 
@@ -92,13 +91,12 @@ fn assert_clone_requests(
 }
 
 #[test]
-fn a_clone_requests_what_its_rows_and_entries_take(rt: HostRuntime) -> Result<(), Fail> {
-    let own = Refusing::leaked(rt.alloc(), 0)?;
-    let other = Refusing::leaked(rt.alloc(), 0)?;
+fn a_clone_requests_what_its_rows_and_entries_take(rt: HostRuntime) {
+    let own = check!(rt; Refusing::leaked(rt.alloc(), 0));
+    let other = check!(rt; Refusing::leaked(rt.alloc(), 0));
     for size in SIZES {
-        assert_clone_requests(&rt, own, other, size)?;
+        check!(rt; assert_clone_requests(&rt, own, other, size));
     }
-    Ok(())
 }
 
 fn cloned<T: Clone>(value: &T) -> Result<T, AllocError> {
@@ -123,12 +121,11 @@ fn assert_trait_clone_requests(
 }
 
 #[test]
-fn the_trait_clones_by_the_allocator_of_the_table(rt: HostRuntime) -> Result<(), Fail> {
-    let own = Refusing::leaked(rt.alloc(), 0)?;
+fn the_trait_clones_by_the_allocator_of_the_table(rt: HostRuntime) {
+    let own = check!(rt; Refusing::leaked(rt.alloc(), 0));
     for size in SIZES {
-        assert_trait_clone_requests(&rt, own, size)?;
+        check!(rt; assert_trait_clone_requests(&rt, own, size));
     }
-    Ok(())
 }
 
 // Refuses request number `refused` of a clone, and asserts that the clone leaves no block.
@@ -140,16 +137,15 @@ fn assert_clone_refused(rt: &impl Abort, table: &Rows<u32, Lender>, other: Lende
 }
 
 #[test]
-fn a_refused_clone_frees_its_rows(rt: HostRuntime) -> Result<(), Fail> {
-    let other = Refusing::leaked(rt.alloc(), 0)?;
+fn a_refused_clone_frees_its_rows(rt: HostRuntime) {
+    let other = check!(rt; Refusing::leaked(rt.alloc(), 0));
     for size in [(1, 3), (2, 1), (3, 4), (4, 5), (9, 60)] {
-        let own = Refusing::leaked(rt.alloc(), 0)?;
-        let table = table_of(&rt, own, size)?;
+        let own = check!(rt; Refusing::leaked(rt.alloc(), 0));
+        let table = check!(rt; table_of(&rt, own, size));
         for refused in 0..requests_of_clone(size) {
             assert_clone_refused(&rt, &table, other, refused.saturating_add(1));
         }
     }
-    Ok(())
 }
 
 // Makes a table of counted values, with `count` in each row.
@@ -199,15 +195,14 @@ fn assert_values_cloned(
 }
 
 #[test]
-fn a_clone_that_fails_drops_all_clones(rt: HostRuntime) -> Result<(), Fail> {
-    let ledger = Ledger::leaked(rt.alloc())?;
+fn a_clone_that_fails_drops_all_clones(rt: HostRuntime) {
+    let ledger = check!(rt; Ledger::leaked(rt.alloc()));
     for size in [(1, 1), (1, 5), (2, 1), (3, 4), (2, 50)] {
         ledger.begin(0);
-        let table = counted_table(&rt, ledger, size)?;
+        let table = check!(rt; counted_table(&rt, ledger, size));
         assert_clones_dropped(&rt, ledger, &table);
-        assert_values_cloned(&rt, ledger, table)?;
+        check!(rt; assert_values_cloned(&rt, ledger, table));
     }
-    Ok(())
 }
 
 // Counts the entries by a loop over the table, and by one over its iterator.
@@ -224,30 +219,28 @@ fn counts_of_walks(table: &Rows<u32, Lender>) -> (usize, usize) {
 }
 
 #[test]
-fn walks_and_comparisons_make_no_request(rt: HostRuntime) -> Result<(), Fail> {
-    let refusing = Refusing::leaked(rt.alloc(), 0)?;
+fn walks_and_comparisons_make_no_request(rt: HostRuntime) {
+    let refusing = check!(rt; Refusing::leaked(rt.alloc(), 0));
     for size in SIZES {
         refusing.refuse(0);
-        let table = table_of(&rt, refusing, size)?;
-        let other = table_of(&rt, refusing, size)?;
+        let table = check!(rt; table_of(&rt, refusing, size));
+        let other = check!(rt; table_of(&rt, refusing, size));
         refusing.refuse(1);
         check!(rt; same(table.is_empty(), table.len() == 0));
         check!(rt; same((table == other, table != other), (true, false)));
         check!(rt; same(counts_of_walks(&table), (table.len(), table.len())));
         check!(rt; same(refusing.requests(), 0));
     }
-    Ok(())
 }
 
 #[test]
-fn a_comparison_compares_each_value_once(rt: HostRuntime) -> Result<(), Fail> {
-    let ledger = Ledger::leaked(rt.alloc())?;
+fn a_comparison_compares_each_value_once(rt: HostRuntime) {
+    let ledger = check!(rt; Ledger::leaked(rt.alloc()));
     for size in [(0, 0), (1, 1), (3, 4), (2, 50)] {
-        let table = counted_table(&rt, ledger, size)?;
-        let other = counted_table(&rt, ledger, size)?;
+        let table = check!(rt; counted_table(&rt, ledger, size));
+        let other = check!(rt; counted_table(&rt, ledger, size));
         ledger.begin(0);
         check!(rt; same(table == other, true));
         check!(rt; same(ledger.comparisons.get(), table.len() as u64));
     }
-    Ok(())
 }

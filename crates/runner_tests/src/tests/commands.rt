@@ -6,7 +6,6 @@ use crate::tests::made::{
 use crate::tests::shown::{command_text, list_text, reply_text};
 use std::alloc::{AllocError, Global};
 use std::process::Abort;
-use std::test::Fail;
 use thin_runner::command::{Command, Reply};
 use thin_testing::{Ledger, Numbered, check, same};
 
@@ -361,13 +360,12 @@ fn title<R: Abort>(rt: &R, ledger: &'static Ledger, number: usize) -> Result<Str
 }
 
 #[test]
-fn each_command_with_each_request_refused(rt: HostRuntime) -> Result<(), Fail> {
+fn each_command_with_each_request_refused(rt: HostRuntime) {
     let ledger = leaked_ledger(&rt, rt.alloc());
     let mut number: usize = 0;
     for wanted in &OUTCOMES {
-        let line = outcomes(&rt, ledger, number)?;
+        let line = check!(rt; outcomes(&rt, ledger, number));
         check!(rt; same(line.as_str(), *wanted));
         number = number.saturating_add(1);
     }
-    Ok(())
 }

@@ -2,7 +2,7 @@
 //! reply uses the allocator that was passed.
 use crate::tests::judges::Digits;
 use std::alloc::{Allocator, Global};
-use std::test::Fail;
+use std::process::Abort;
 use thin_runner::command::{Command, Reply, Step};
 use thin_runner::runner::{run, step};
 use thin_testing::{Refusing, check, list_of, same};
@@ -12,82 +12,80 @@ use thin_vec::ThinVec;
 const NEVER: Digits = Digits { digits: 0 };
 
 #[test]
-fn run_makes_no_request_without_commands(rt: HostRuntime) -> Result<(), Fail> {
-    let refusing = Refusing::leaked(rt.alloc(), 1)?;
+fn run_makes_no_request_without_commands(rt: HostRuntime) {
+    let refusing = check!(rt; Refusing::leaked(rt.alloc(), 1));
     let mut list = ThinVec::<i32, &'static Refusing<Global>>::new(refusing);
     let mut replies = Vec::new(refusing);
     let commands = Vec::new(refusing);
     check!(rt; same(run(refusing, &mut list, commands, &mut replies, &NEVER), Ok(())));
     check!(rt; same(refusing.requests(), 0));
-    Ok(())
 }
 
 // Returns commands that pop an item.
-fn pops<A: Allocator>(alloc: A, count: usize) -> Result<Vec<Command<i32, A>, A>, Fail> {
-    let mut commands = Vec::with_capacity(alloc, count)?;
+fn pops<A: Allocator>(rt: &impl Abort, alloc: A, count: usize) -> Vec<Command<i32, A>, A> {
+    let mut commands = check!(rt; Vec::with_capacity(alloc, count));
     for _ in 0..count {
-        commands.push(Command::Pop).ok().ok_or("room")?;
+        check!(rt; commands.push(Command::Pop).ok());
     }
-    Ok(commands)
+    commands
 }
 
 #[test]
-fn run_makes_no_request_if_there_is_room_for_its_replies(rt: HostRuntime) -> Result<(), Fail> {
-    let refusing = Refusing::leaked(rt.alloc(), 0)?;
-    let mut list = list_of(refusing, &[1, 2])?;
+fn run_makes_no_request_if_there_is_room_for_its_replies(rt: HostRuntime) {
+    let refusing = check!(rt; Refusing::leaked(rt.alloc(), 0));
+    let mut list = check!(rt; list_of(refusing, &[1, 2]));
     for count in [1, 2, 9] {
         refusing.refuse(0);
-        let mut replies = Vec::with_capacity(refusing, 9)?;
-        let commands = pops(refusing, count)?;
+        let mut replies = check!(rt; Vec::with_capacity(refusing, 9));
+        let commands = pops(&rt, refusing, count);
         refusing.refuse(1);
         let ran = run(refusing, &mut list, commands, &mut replies, &NEVER);
         let found = (ran, refusing.requests(), replies.len());
         check!(rt; same(found, (Ok(()), 0, count)));
     }
-    Ok(())
 }
 
 // Returns one step.
-fn one_step<A: Allocator>(alloc: A) -> Result<Vec<Step, A>, Fail> {
+fn one_step<A: Allocator>(rt: &impl Abort, alloc: A) -> Vec<Step, A> {
     let mut steps = Vec::new(alloc);
-    steps.push(Step::Front)?;
-    Ok(steps)
+    check!(rt; steps.push(Step::Front));
+    steps
 }
 
 // Returns a command on a list of three items. Its reply owns one block.
-fn nth_command<A: Allocator + Copy>(number: u32, alloc: A) -> Result<Command<i32, A>, Fail> {
-    Ok(match number {
+fn nth_command<A: Allocator + Copy>(rt: &impl Abort, number: u32, alloc: A) -> Command<i32, A> {
+    match number {
         0 => Command::Clone,
         1 => Command::SplitOff(1),
-        2 => Command::Drain(0, 2, one_step(alloc)?),
+        2 => Command::Drain(0, 2, one_step(rt, alloc)),
         3 => Command::ExtractIf(0, 2, 1),
-        _ => Command::Splice(0, 2, one_step(alloc)?, Vec::new(alloc), 0),
-    })
+        _ => Command::Splice(0, 2, one_step(rt, alloc), Vec::new(alloc), 0),
+    }
 }
 
 // Executes a command on a list over `own` by `step`, to which it passes `other`.
 fn reply_on(
+    rt: &impl Abort,
     own: &'static Refusing<Global>,
     other: &'static Refusing<Global>,
     number: u32,
-) -> Result<Reply<i32, &'static Refusing<Global>>, Fail> {
-    let mut list = list_of(own, &[1, 2, 3])?;
-    let command = nth_command(number, own)?;
+) -> Reply<i32, &'static Refusing<Global>> {
+    let mut list = check!(rt; list_of(own, &[1, 2, 3]));
+    let command = nth_command(rt, number, own);
     own.refuse(0);
-    Ok(step(other, &mut list, command, &NEVER))
+    step(other, &mut list, command, &NEVER)
 }
 
 #[test]
-fn a_reply_uses_the_allocator_passed(rt: HostRuntime) -> Result<(), Fail> {
-    let own = Refusing::leaked(rt.alloc(), 0)?;
-    let other = Refusing::leaked(rt.alloc(), 0)?;
+fn a_reply_uses_the_allocator_passed(rt: HostRuntime) {
+    let own = check!(rt; Refusing::leaked(rt.alloc(), 0));
+    let other = check!(rt; Refusing::leaked(rt.alloc(), 0));
     for number in 0..5 {
-        let reply = reply_on(own, other, number)?;
+        let reply = reply_on(&rt, own, other, number);
         let found = (number, own.requests(), other.blocks());
         check!(rt; same(found, (number, 0, 1)));
         drop(reply);
     }
-    Ok(())
 }
 
 // Returns the answers and the held items of a reply to a command that was stopped.
@@ -106,22 +104,24 @@ fn stopped<T: Drop, A: Allocator>(reply: Reply<T, A>) -> Option<(Vec<Option<T>, 
 
 // Pushes an item to each of the two vectors of the reply. They are empty, and each gets a block.
 // Returns the vectors.
-fn filled<A: Allocator>(reply: Reply<i32, A>) -> Result<(Vec<Option<i32>, A>, Vec<i32, A>), Fail> {
-    let (mut answers, mut held) = stopped(reply).ok_or("extended")?;
-    answers.push(None).ok().ok_or("memory")?;
-    held.push(7).ok().ok_or("memory")?;
-    Ok((answers, held))
+fn filled<A: Allocator>(
+    rt: &impl Abort,
+    reply: Reply<i32, A>,
+) -> (Vec<Option<i32>, A>, Vec<i32, A>) {
+    let (mut answers, mut held) = check!(rt; stopped(reply));
+    check!(rt; answers.push(None).ok());
+    check!(rt; held.push(7).ok());
+    (answers, held)
 }
 
 #[test]
-fn a_reply_to_a_stopped_extend_uses_the_allocator_passed(rt: HostRuntime) -> Result<(), Fail> {
-    let own = Refusing::leaked(rt.alloc(), 0)?;
-    let other = Refusing::leaked(rt.alloc(), 0)?;
-    let mut list = list_of(own, &[1, 2, 3])?;
+fn a_reply_to_a_stopped_extend_uses_the_allocator_passed(rt: HostRuntime) {
+    let own = check!(rt; Refusing::leaked(rt.alloc(), 0));
+    let other = check!(rt; Refusing::leaked(rt.alloc(), 0));
+    let mut list = check!(rt; list_of(own, &[1, 2, 3]));
     let command = Command::Extend(Vec::new(own), usize::MAX);
     own.refuse(0);
     let reply = step(other, &mut list, command, &NEVER);
-    let _vectors = filled(reply)?;
+    let _vectors = filled(&rt, reply);
     check!(rt; same((own.requests(), other.blocks()), (0, 2)));
-    Ok(())
 }

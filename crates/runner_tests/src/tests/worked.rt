@@ -7,7 +7,6 @@ use crate::tests::made::{
 use crate::tests::shown::{list_text, reply_text};
 use std::alloc::AllocError;
 use std::process::Abort;
-use std::test::Fail;
 use thin_runner::command::Command;
 use thin_runner::judge::Judge;
 use thin_runner::runner::step;
@@ -146,22 +145,20 @@ fn assert_run<R: Abort>(
 }
 
 #[test]
-fn six_commands_by_one_run(rt: HostRuntime) -> Result<(), Fail> {
+fn six_commands_by_one_run(rt: HostRuntime) {
     let ledger = leaked_ledger(&rt, rt.alloc());
-    assert_run(&rt, ledger, 0, REFUSED[4])?;
-    Ok(())
+    check!(rt; assert_run(&rt, ledger, 0, REFUSED[4]));
 }
 
 #[test]
-fn six_commands_with_each_request_refused(rt: HostRuntime) -> Result<(), Fail> {
+fn six_commands_with_each_request_refused(rt: HostRuntime) {
     let ledger = leaked_ledger(&rt, rt.alloc());
     let mut refused: u64 = 0;
     for texts in &REFUSED {
         refused = refused.saturating_add(1);
-        let is_refused = assert_run(&rt, ledger, refused, texts)?;
+        let is_refused = check!(rt; assert_run(&rt, ledger, refused, texts));
         check!(rt; same((refused, is_refused), (refused, refused < 5)));
     }
-    Ok(())
 }
 
 // Executes one command by `step`, or by a `run` of its own. Returns the text of the reply.
@@ -199,14 +196,14 @@ fn assert_single<J: Judge<Item>, R: Abort>(
 }
 
 #[test]
-fn six_commands_one_by_one(rt: HostRuntime) -> Result<(), Fail> {
+fn six_commands_one_by_one(rt: HostRuntime) {
     let ledger = leaked_ledger(&rt, rt.alloc());
     for is_step in [false, true] {
         let mut list: List<Item> = ThinVec::new(&ledger.alloc);
         let mut number: usize = 0;
         for texts in &RUN {
             let command = nth_command(&rt, ledger, number);
-            assert_single(
+            check!(rt; assert_single(
                 &rt,
                 ledger,
                 &mut list,
@@ -214,12 +211,11 @@ fn six_commands_one_by_one(rt: HostRuntime) -> Result<(), Fail> {
                 &Evens { ledger },
                 is_step,
                 *texts,
-            )?;
+            ));
             number = number.saturating_add(1);
         }
         assert_clean(&rt, ledger, list);
     }
-    Ok(())
 }
 
 // Executes the command on the list 1, 2, 3, 4, 5, 6. Asserts that the reply and the list have the
@@ -238,24 +234,22 @@ fn assert_judged<J: Judge<Item>, R: Abort>(
 }
 
 #[test]
-fn a_judge_that_counts_its_calls(rt: HostRuntime) -> Result<(), Fail> {
+fn a_judge_that_counts_its_calls(rt: HostRuntime) {
     let ledger = leaked_ledger(&rt, rt.alloc());
     let judge = Digits { digits: TURNS };
     let done = ("Done", "[1, 3, 5] 6");
     let extracted = ("Answers([Some(1), Some(3)])", "[2, 4, 5, 6] 6");
-    assert_judged(&rt, ledger, Command::Retain, &judge, done)?;
-    assert_judged(&rt, ledger, Command::DedupBy, &judge, done)?;
-    assert_judged(&rt, ledger, Command::ExtractIf(0, 6, 2), &judge, extracted)?;
-    Ok(())
+    check!(rt; assert_judged(&rt, ledger, Command::Retain, &judge, done));
+    check!(rt; assert_judged(&rt, ledger, Command::DedupBy, &judge, done));
+    check!(rt; assert_judged(&rt, ledger, Command::ExtractIf(0, 6, 2), &judge, extracted));
 }
 
 #[test]
-fn a_judge_that_swaps_the_items(rt: HostRuntime) -> Result<(), Fail> {
+fn a_judge_that_swaps_the_items(rt: HostRuntime) {
     let ledger = leaked_ledger(&rt, rt.alloc());
     let judge = Swaps { digits: TURNS };
     let done = ("Done", "[3, 5, 6] 6");
-    assert_judged(&rt, ledger, Command::DedupBy, &judge, done)?;
-    Ok(())
+    check!(rt; assert_judged(&rt, ledger, Command::DedupBy, &judge, done));
 }
 
 // Executes the command on a list of `len` items, numbered from 1, and asserts how often it asks the

@@ -3,7 +3,6 @@ use std::alloc::Global;
 use std::cmp::Ordering;
 use std::process::Abort;
 use std::rc::Rc;
-use std::test::Fail;
 use thin_testing::{Counted, Ledger, Refusing, check, has_len, list_of, same};
 use thin_vec::{ThinVec, ThinVecError};
 
@@ -43,23 +42,21 @@ fn assert_dedup_by_key_drops(
 
 // Passes a closure that owns a `Counted` to each filter, for a list of `len` items, and asserts
 // that each drops its closure.
-fn assert_filters_drop(rt: &impl Abort, alloc: Global, len: usize) -> Result<(), Fail> {
-    let ledger = Ledger::leaked(alloc)?;
+fn assert_filters_drop(rt: &impl Abort, alloc: Global, len: usize) {
+    let ledger = check!(rt; Ledger::leaked(alloc));
     let mut list = ThinVec::new(alloc);
-    list.resize(len, 3)?;
+    check!(rt; list.resize(len, 3));
     assert_retain_drops(rt, ledger, &mut list);
     assert_retain_mut_drops(rt, ledger, &mut list);
     assert_dedup_by_drops(rt, ledger, &mut list, len);
     assert_dedup_by_key_drops(rt, ledger, &mut list, len);
-    Ok(())
 }
 
 #[test]
-fn filters_drop_their_closures(rt: HostRuntime) -> Result<(), Fail> {
+fn filters_drop_their_closures(rt: HostRuntime) {
     for len in [0, 1, 2, 50, 1000] {
-        assert_filters_drop(&rt, rt.alloc(), len)?;
+        assert_filters_drop(&rt, rt.alloc(), len);
     }
-    Ok(())
 }
 
 // Tests two closures, of which only the first wants the last item, which is 2.
@@ -90,39 +87,33 @@ fn assert_resize_with_drops(
 
 // Passes closures that own a `Counted` to `pop_if` and `resize_with`, for a list of `len` items,
 // and asserts that each call drops its closure.
-fn assert_pop_if_and_resize_with_drop(
-    rt: &impl Abort,
-    alloc: Global,
-    len: usize,
-) -> Result<(), Fail> {
-    let ledger = Ledger::leaked(alloc)?;
+fn assert_pop_if_and_resize_with_drop(rt: &impl Abort, alloc: Global, len: usize) {
+    let ledger = check!(rt; Ledger::leaked(alloc));
     let mut list = ThinVec::new(alloc);
-    list.resize(len, 2)?;
+    check!(rt; list.resize(len, 2));
     assert_pop_if_drops(rt, ledger, &mut list);
     for new_len in [len, len, len.saturating_add(40), len / 2, 0, usize::MAX] {
         let resized = assert_resize_with_drops(rt, ledger, &mut list, new_len);
         check!(rt; same((resized, new_len), (new_len < usize::MAX, new_len)));
     }
-    Ok(())
 }
 
 #[test]
-fn pop_if_and_resize_with_drop_their_closures(rt: HostRuntime) -> Result<(), Fail> {
+fn pop_if_and_resize_with_drop_their_closures(rt: HostRuntime) {
     for len in [0, 1, 2, 50] {
-        assert_pop_if_and_resize_with_drop(&rt, rt.alloc(), len)?;
+        assert_pop_if_and_resize_with_drop(&rt, rt.alloc(), len);
     }
-    Ok(())
 }
 
 // The closure owns an `Rc`, because the borrow checker accepts no borrow in the closure of an
 // `ExtractIf`, and a `Counted` has one.
 #[test]
-fn extract_if_drops_its_closure(rt: HostRuntime) -> Result<(), Fail> {
+fn extract_if_drops_its_closure(rt: HostRuntime) {
     for end in 0..=3 {
         for calls in 0..=4 {
-            let kept = Rc::new(rt.alloc(), 2)?;
-            let owned = kept.clone()?;
-            let mut list = list_of(rt.alloc(), &[1, 2, 3])?;
+            let kept = check!(rt; Rc::new(rt.alloc(), 2));
+            let owned = check!(rt; kept.clone());
+            let mut list = check!(rt; list_of(rt.alloc(), &[1, 2, 3]));
             check!(rt; has_len(&list, 3));
             let mut twos = list.extract_if(0, end, move |item: &mut i32| *item == *owned.as_ref());
             for _ in 0..calls {
@@ -133,7 +124,6 @@ fn extract_if_drops_its_closure(rt: HostRuntime) -> Result<(), Fail> {
             check!(rt; same(Rc::strong_count(&kept), 1));
         }
     }
-    Ok(())
 }
 
 // A sort that calls a closure. The first three are stable, and need memory for long lists.
@@ -199,31 +189,23 @@ fn sorts(
 
 // Sorts a list of `len` items while request number `refused` is refused, and asserts that the
 // closure was dropped.
-fn assert_sort_drops(
-    rt: &impl Abort,
-    ledger: &'static Ledger,
-    sort: Sort,
-    len: u64,
-    refused: u64,
-) -> Result<(), Fail> {
-    let mut list = unsorted(ledger, len)?;
+fn assert_sort_drops(rt: &impl Abort, ledger: &'static Ledger, sort: Sort, len: u64, refused: u64) {
+    let mut list = check!(rt; unsorted(ledger, len));
     ledger.begin(refused);
     let found = (sorts(ledger, sort, &mut list), ledger.live.get());
     let is_due = refused == 0 || sort == Sort::UnstableBy || sort == Sort::UnstableByKey;
     check!(rt; same((sort, len, found), (sort, len, (is_due, 0))));
-    Ok(())
 }
 
 #[test]
-fn sorts_drop_their_closures(rt: HostRuntime) -> Result<(), Fail> {
-    let ledger = Ledger::leaked(rt.alloc())?;
+fn sorts_drop_their_closures(rt: HostRuntime) {
+    let ledger = check!(rt; Ledger::leaked(rt.alloc()));
     for sort in SORTS {
         for len in [0, 1, 2, 50, 3000] {
             ledger.begin(0);
-            assert_sort_drops(&rt, ledger, sort, len, 0)?;
+            assert_sort_drops(&rt, ledger, sort, len, 0);
         }
         ledger.begin(0);
-        assert_sort_drops(&rt, ledger, sort, 3000, 1)?;
+        assert_sort_drops(&rt, ledger, sort, 3000, 1);
     }
-    Ok(())
 }

@@ -3,7 +3,6 @@ use std::alloc::{AllocError, Global};
 use std::error::Error;
 use std::io;
 use std::process::Abort;
-use std::test::Fail;
 use thin_testing::{Counted, Ledger, check, counted_list, same};
 use thin_vec::{CollectRefused, ExtendRefused, Rejected, SpliceRefused, ThinVec, ThinVecError};
 
@@ -27,7 +26,7 @@ fn assert_dropped<E: From<R> + Drop, R: Error>(
 
 // Converts an error of each of the four types, for each cause, with and without an item in hand,
 // and with lists of several lengths, to the type `E`.
-fn assert_all_dropped<'a, E>(rt: &impl Abort, alloc: Global, ledger: &'a Ledger) -> Result<(), Fail>
+fn assert_all_dropped<'a, E>(rt: &impl Abort, alloc: Global, ledger: &'a Ledger)
 where
     E: From<Rejected<Counted<'a>>>
         + From<Rejected<Counted<'a, u64>>>
@@ -39,11 +38,10 @@ where
     for cause in [ThinVecError::OutOfMemory, ThinVecError::CapacityOverflow] {
         for count in 0..2 {
             for len in [0, 1, 4, 40, 300] {
-                assert_each_dropped::<E>(rt, alloc, ledger, cause, count, len)?;
+                assert_each_dropped::<E>(rt, alloc, ledger, cause, count, len);
             }
         }
     }
-    Ok(())
 }
 
 // Converts an error of each of the four types to the type `E`. `count` is the number of items in
@@ -55,7 +53,7 @@ fn assert_each_dropped<'a, E>(
     cause: ThinVecError,
     count: u64,
     len: u64,
-) -> Result<(), Fail>
+)
 where
     E: From<Rejected<Counted<'a>>>
         + From<Rejected<Counted<'a, u64>>>
@@ -79,11 +77,10 @@ where
     let extend = extend_refused(ledger, cause, count);
     assert_dropped::<E, _>(rt, ledger, extend, 1_u64.wrapping_add(count));
     let held = len.wrapping_add(count).wrapping_add(1);
-    let collect = collect_refused(alloc, ledger, cause, count, len)?;
+    let collect = check!(rt; collect_refused(alloc, ledger, cause, count, len));
     assert_dropped::<E, _>(rt, ledger, collect, held);
-    let splice = splice_refused(alloc, ledger, cause, count, len)?;
+    let splice = check!(rt; splice_refused(alloc, ledger, cause, count, len));
     assert_dropped::<E, _>(rt, ledger, splice, held);
-    Ok(())
 }
 
 fn extend_refused<'a>(
@@ -119,7 +116,7 @@ fn splice_refused<'a>(
     cause: ThinVecError,
     count: u64,
     len: u64,
-) -> Result<SpliceRefused<Counted<'a>, Counted<'a>>, Fail> {
+) -> Result<SpliceRefused<Counted<'a>, Counted<'a>>, ThinVecError> {
     Ok(SpliceRefused {
         cause,
         held: counted_list(ledger, alloc, len)?.into_vec(alloc)?,
@@ -137,16 +134,16 @@ fn in_hand<'a>(ledger: &'a Ledger, count: u64) -> Option<Counted<'a>> {
 }
 
 #[test]
-fn converting_to_thin_vec_error_drops_the_refusal(rt: HostRuntime) -> Result<(), Fail> {
-    assert_all_dropped::<ThinVecError>(&rt, rt.alloc(), Ledger::leaked(rt.alloc())?)
+fn converting_to_thin_vec_error_drops_the_refusal(rt: HostRuntime) {
+    assert_all_dropped::<ThinVecError>(&rt, rt.alloc(), check!(rt; Ledger::leaked(rt.alloc())));
 }
 
 #[test]
-fn converting_to_alloc_error_drops_the_refusal(rt: HostRuntime) -> Result<(), Fail> {
-    assert_all_dropped::<AllocError>(&rt, rt.alloc(), Ledger::leaked(rt.alloc())?)
+fn converting_to_alloc_error_drops_the_refusal(rt: HostRuntime) {
+    assert_all_dropped::<AllocError>(&rt, rt.alloc(), check!(rt; Ledger::leaked(rt.alloc())));
 }
 
 #[test]
-fn converting_to_io_error_drops_the_refusal(rt: HostRuntime) -> Result<(), Fail> {
-    assert_all_dropped::<io::Error>(&rt, rt.alloc(), Ledger::leaked(rt.alloc())?)
+fn converting_to_io_error_drops_the_refusal(rt: HostRuntime) {
+    assert_all_dropped::<io::Error>(&rt, rt.alloc(), check!(rt; Ledger::leaked(rt.alloc())));
 }

@@ -3,7 +3,6 @@ ghost use Rattle.std.specs.Prelude.{⊤};
 
 use std::alloc::{AllocError, Global};
 use std::process::Abort;
-use std::test::Fail;
 use thin_testing::{Counted, Ledger, Refusing, check, same};
 use thin_vec::{ThinVec, ThinVecError};
 
@@ -63,8 +62,8 @@ fn sum_of_drops(len: u64) -> u64 {
 }
 
 // Fills a list of `len` items while every request is refused.
-fn assert_filled(rt: &impl Abort, ledger: &'static Ledger, len: u64) -> Result<(), Fail> {
-    let mut list = fillers(ledger, len)?;
+fn assert_filled(rt: &impl Abort, ledger: &'static Ledger, len: u64) {
+    let mut list = check!(rt; fillers(ledger, len));
     ledger.begin(0);
     ledger.alloc.refuse_all();
     list.fill(Filler::new(ledger, VALUE));
@@ -74,15 +73,13 @@ fn assert_filled(rt: &impl Abort, ledger: &'static Ledger, len: u64) -> Result<(
     check!(rt; same(ledger.dropped.get(), sum_of_drops(len)));
     drop(list);
     check!(rt; same((ledger.live.get(), ledger.alloc.blocks()), (0, 0)));
-    Ok(())
 }
 
 #[test]
-fn fill_clones_for_each_item_but_the_last(rt: HostRuntime) -> Result<(), Fail> {
-    let ledger = Ledger::leaked(rt.alloc())?;
+fn fill_clones_for_each_item_but_the_last(rt: HostRuntime) {
+    let ledger = check!(rt; Ledger::leaked(rt.alloc()));
     for len in [0, 1, 2, 40, 3000] {
         ledger.begin(0);
-        assert_filled(&rt, ledger, len)?;
+        assert_filled(&rt, ledger, len);
     }
-    Ok(())
 }

@@ -7,7 +7,6 @@ use std::alloc::Allocator;
 use std::cell::Cell;
 use std::iter::Iterator;
 use std::process::Abort;
-use std::test::Fail;
 use thin_testing::{Counted, Ledger, List, Numbered, check, filled_list, numbered_items, same};
 use thin_vec::{Doubling, Splice, SpliceRefused, ThinVec, ThinVecError};
 
@@ -130,28 +129,24 @@ fn then(sum: u64, from: usize, to: usize) -> u64 {
 
 // Makes the call on a new list, and drops the list. Returns the sum over all drops.
 #[inline(never)]
-fn drops_of<T: Numbered>(
-    rt: &impl Abort,
-    ledger: &'static Ledger,
-    case: Case,
-) -> Result<u64, Fail> {
-    let mut list: List<T, Doubling> = filled_list(ledger, case.len, 0)?;
-    let items = numbered_items(ledger, ledger.global, case.len as u64, case.new)?;
+fn drops_of<T: Numbered>(rt: &impl Abort, ledger: &'static Ledger, case: Case) -> u64 {
+    let mut list: List<T, Doubling> = check!(rt; filled_list(ledger, case.len, 0));
+    let items = check!(rt; numbered_items(ledger, ledger.global, case.len as u64, case.new));
     ledger.begin(0);
     match case.call {
         Call::Drop => drop(list),
         Call::IntoIter => drop_iterator(list, case),
         Call::Drain | Call::ExtractIf => take_from_range(rt, list, case),
         Call::Splice | Call::ReplaceRangeFromList => {
-            replace_by(rt, list, &ledger.alloc, case, items)?;
+            replace_by(rt, list, &ledger.alloc, case, items);
         }
-        Call::ReplaceRange => replace_range(rt, ledger, list, case, items.as_slice())?,
+        Call::ReplaceRange => check!(rt; replace_range(rt, ledger, list, case, items.as_slice())),
         _ => {
-            remove_some(ledger, &mut list, case)?;
+            check!(rt; remove_some(ledger, &mut list, case));
             drop(list);
         }
     }
-    Ok(ledger.dropped.get())
+    ledger.dropped.get()
 }
 
 // Takes items from an `IntoIter`, and drops it.
@@ -236,15 +231,14 @@ fn replace_by<T: Numbered, A: Allocator>(
     alloc: A,
     case: Case,
     items: Vec<T>,
-) -> Result<(), Fail> {
+) {
     assert!(rt; case.start <= case.end && case.end <= list.len());
     if case.call == Call::Splice {
-        splice(&mut list, case, items.into_iter(), alloc)?;
-        return Ok(());
+        check!(rt; splice(&mut list, case, items.into_iter(), alloc));
+        return;
     }
-    let mut other = ThinVec::from_vec(alloc, items)?;
-    list.replace_range_from_list(case.start, case.end, &mut other)?;
-    Ok(())
+    let mut other = check!(rt; ThinVec::from_vec(alloc, items));
+    check!(rt; list.replace_range_from_list(case.start, case.end, &mut other));
 }
 
 // Takes items from a `Splice`, and calls `finish`.
@@ -296,11 +290,7 @@ fn take_backs<T: Drop, A: Allocator, I>(splice: &mut Splice<'_, I, T, A>, count:
 }
 
 // Makes the call with each number of items taken, and with several numbers of new items.
-fn assert_range<T: Numbered>(
-    rt: &impl Abort,
-    ledger: &'static Ledger,
-    case: Case,
-) -> Result<(), Fail> {
+fn assert_range<T: Numbered>(rt: &impl Abort, ledger: &'static Ledger, case: Case) {
     for fronts in 0..4 {
         for backs in 0..4 {
             for new in [0, 2, 9] {
@@ -311,17 +301,16 @@ fn assert_range<T: Numbered>(
                     ..case
                 };
                 if case.is_possible() {
-                    let dropped = drops_of::<T>(rt, ledger, case)?;
+                    let dropped = drops_of::<T>(rt, ledger, case);
                     check!(rt; same((case, dropped), (case, case.dropped())));
                 }
             }
         }
     }
-    Ok(())
 }
 
 // Makes each call on lists of several lengths, with several ranges.
-fn assert_in_order<T: Numbered>(rt: &impl Abort, ledger: &'static Ledger) -> Result<(), Fail> {
+fn assert_in_order<T: Numbered>(rt: &impl Abort, ledger: &'static Ledger) {
     for call in CALLS {
         for len in [5_usize, 17, 40, 100, 3000] {
             let last = len.saturating_sub(1);
@@ -335,16 +324,15 @@ fn assert_in_order<T: Numbered>(rt: &impl Abort, ledger: &'static Ledger) -> Res
                     backs: 0,
                     new: 0,
                 };
-                assert_range::<T>(rt, ledger, case)?;
+                assert_range::<T>(rt, ledger, case);
             }
         }
     }
-    Ok(())
 }
 
 // Takes each number of items from the front of all iterators but `Splice`, and each number of the
 // rest from the back.
-fn assert_taken<T: Numbered>(rt: &impl Abort, ledger: &'static Ledger) -> Result<(), Fail> {
+fn assert_taken<T: Numbered>(rt: &impl Abort, ledger: &'static Ledger) {
     for call in [Call::IntoIter, Call::Drain, Call::ExtractIf] {
         for fronts in 0..=TAKEN {
             for backs in 0..=TAKEN {
@@ -358,29 +346,27 @@ fn assert_taken<T: Numbered>(rt: &impl Abort, ledger: &'static Ledger) -> Result
                     new: 0,
                 };
                 if case.is_possible() {
-                    let dropped = drops_of::<T>(rt, ledger, case)?;
+                    let dropped = drops_of::<T>(rt, ledger, case);
                     check!(rt; same((case, dropped), (case, case.dropped())));
                 }
             }
         }
     }
-    Ok(())
 }
 
 // Makes the calls on lists of `T`.
-fn assert_order<T: Numbered>(rt: &impl Abort, ledger: &'static Ledger) -> Result<(), Fail> {
-    assert_in_order::<T>(rt, ledger)?;
-    assert_taken::<T>(rt, ledger)
+fn assert_order<T: Numbered>(rt: &impl Abort, ledger: &'static Ledger) {
+    assert_in_order::<T>(rt, ledger);
+    assert_taken::<T>(rt, ledger);
 }
 
 #[test]
-fn removed_items_are_dropped_in_order(rt: HostRuntime) -> Result<(), Fail> {
-    let ledger = Ledger::leaked(rt.alloc())?;
-    assert_order::<Counted<'static>>(&rt, ledger)?;
-    assert_order::<Counted<'static, u64>>(&rt, ledger)?;
-    assert_order::<Counted<'static, [u64; 14]>>(&rt, ledger)?;
-    assert_order::<Counted<'static, [u64; 62]>>(&rt, ledger)?;
-    Ok(())
+fn removed_items_are_dropped_in_order(rt: HostRuntime) {
+    let ledger = check!(rt; Ledger::leaked(rt.alloc()));
+    assert_order::<Counted<'static>>(&rt, ledger);
+    assert_order::<Counted<'static, u64>>(&rt, ledger);
+    assert_order::<Counted<'static, [u64; 14]>>(&rt, ledger);
+    assert_order::<Counted<'static, [u64; 62]>>(&rt, ledger);
 }
 
 // Counts a call to a closure that keeps none of the items that it tests, of a list of `len`, and
@@ -411,28 +397,22 @@ fn late_drops<T: Numbered>(
 }
 
 // Asserts that each item that is not kept is dropped before the next one is tested.
-fn assert_prompt<T: Numbered>(
-    rt: &impl Abort,
-    ledger: &'static Ledger,
-    len: usize,
-) -> Result<(), Fail> {
+fn assert_prompt<T: Numbered>(rt: &impl Abort, ledger: &'static Ledger, len: usize) {
     for call in [Call::Retain, Call::RetainMut, Call::DedupBy] {
-        let mut list: List<T, Doubling> = filled_list(ledger, len, 0)?;
+        let mut list: List<T, Doubling> = check!(rt; filled_list(ledger, len, 0));
         ledger.begin(0);
         let late = late_drops(ledger, &mut list, call);
         check!(rt; same((len, call, late), (len, call, 0)));
     }
-    Ok(())
 }
 
 #[test]
-fn filters_drop_an_item_before_they_test_the_next_one(rt: HostRuntime) -> Result<(), Fail> {
-    let ledger = Ledger::leaked(rt.alloc())?;
+fn filters_drop_an_item_before_they_test_the_next_one(rt: HostRuntime) {
+    let ledger = check!(rt; Ledger::leaked(rt.alloc()));
     for len in [1, 2, 6, 100] {
-        assert_prompt::<Counted<'static>>(&rt, ledger, len)?;
-        assert_prompt::<Counted<'static, [u64; 62]>>(&rt, ledger, len)?;
+        assert_prompt::<Counted<'static>>(&rt, ledger, len);
+        assert_prompt::<Counted<'static, [u64; 62]>>(&rt, ledger, len);
     }
-    Ok(())
 }
 
 // Clones the items of the list by one of four calls. Returns whether the call failed.
@@ -471,11 +451,10 @@ fn assert_clones_in_order<T: Numbered>(
 }
 
 #[test]
-fn clones_are_dropped_in_order_if_one_is_refused(rt: HostRuntime) -> Result<(), Fail> {
-    let ledger = Ledger::leaked(rt.alloc())?;
-    assert_clones_in_order::<Counted<'static>>(&rt, ledger)?;
-    assert_clones_in_order::<Counted<'static, [u64; 14]>>(&rt, ledger)?;
-    Ok(())
+fn clones_are_dropped_in_order_if_one_is_refused(rt: HostRuntime) {
+    let ledger = check!(rt; Ledger::leaked(rt.alloc()));
+    check!(rt; assert_clones_in_order::<Counted<'static>>(&rt, ledger));
+    check!(rt; assert_clones_in_order::<Counted<'static, [u64; 14]>>(&rt, ledger));
 }
 
 // Returns the sum over the drops of two items, in this order.
@@ -488,11 +467,10 @@ fn sum_of(ledger: &'static Ledger, numbers: [u64; 2]) -> u64 {
 }
 
 #[test]
-fn the_sum_over_drops_depends_on_their_order(rt: HostRuntime) -> Result<(), Fail> {
-    let ledger = Ledger::leaked(rt.alloc())?;
+fn the_sum_over_drops_depends_on_their_order(rt: HostRuntime) {
+    let ledger = check!(rt; Ledger::leaked(rt.alloc()));
     for (one, two) in [(0, 1), (1, 2), (7, 17), (0, 1000)] {
         let is_same = sum_of(ledger, [one, two]) == sum_of(ledger, [two, one]);
         check!(rt; same((one, two, is_same), (one, two, false)));
     }
-    Ok(())
 }
