@@ -1,7 +1,9 @@
-//! Tests of lists. Of what calls do, figures were computed by hand: items, capacities, requests,
-//! and what a refused call returns. Other tests are of `thin_vec!`, of edits that another call
-//! consumes, of how often closures are called, of the public names and traits, and of what the
-//! contracts do not say of `Debug`, `Hash`, `Ord`, `Clone`, and of a list as a slice.
+//! Tests of lists. Most compare items, capacities, requests, and what a refused call returns with
+//! figures that were computed by hand, for conversions, size hints, splices, writes, growth rules
+//! and `thin_vec!`. The others are of edits that a call consumes or a program forgets (`edits`), of
+//! how often closures are called (`closures`), of public names and traits (`names`, `threads`,
+//! `traits`), and of how lists and errors are printed (`texts`), compared and hashed (`comparing`).
+//! The module `widths` has no test: its contract states the size of a list.
 #![tactic(auto)]
 
 #[cfg(test)]

@@ -1,7 +1,7 @@
-//! Tests of memory: from which allocator a call takes it, which request it makes, how an allocation
-//! grows and shrinks where it is, and that it is freed. Also tests that each item, closure and
-//! error is dropped once, and items in order (`drops`), and the allocator and the checks of
-//! `thin_testing`.
+//! Tests of memory: from which allocator a call takes it (`allocators`), which calls take none
+//! (`no_memory`), and how an allocation grows, shrinks and is freed (`in_place`, `padded`,
+//! `over_global`). The module `drops` tests that each item, closure and error is dropped once, and
+//! that items are dropped in order. The modules `checks` and `refusing` test `thin_testing`.
 #![tactic(auto)]
 
 #[cfg(test)]

@@ -5,4 +5,4 @@ mod in_place;
 mod no_memory;
 mod over_global;
 mod padded;
-mod requests;
+mod refusing;
