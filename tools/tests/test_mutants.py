@@ -167,6 +167,18 @@ seen = "rows_tests drops_each_value_once"
                 self.assertIn("sees", said.getvalue())
                 self.assertNotIn("one always", said.getvalue())
 
+    def test_what_sees_a_body_that_is_built_alone_passes_without_one(self):
+        mutants = load("mutants")
+        body = mutants.wrong_bodies()[0]
+        body.seen, body.alone = ("one", "always"), True
+        options = types.SimpleNamespace(jobs=1, sample=False, all=False)
+        tests = mock.Mock(crate="one", panics={"always": None})
+        tests.named = lambda pattern: [it for it in tests.panics if pattern in (it, "*")]
+        with mock.patch.object(mutants, "built", return_value=tests):
+            with contextlib.redirect_stdout(io.StringIO()):
+                with self.assertRaisesRegex(mutants.Failed, "one: always fails without a wrong"):
+                    mutants.Trial([body], options, self.folder()).try_all()
+
     def test_a_sample_is_built_with_the_tests_that_it_names(self):
         mutants = load("mutants")
         seen = {("ported_tests", "drain_yields_ranges*"), ("thin_bench", "output")}

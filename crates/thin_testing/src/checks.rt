@@ -71,9 +71,8 @@ pub fn counts(
 }
 
 /// Gives the value of a `Result` or an `Option`, and stops the test if there is none. The message
-/// has the line of the test, the expression and the error. That of a check says what the check
-/// found and what it wanted. A `?` in a test would print the error alone, and its proof takes
-/// longer.
+/// has the line of the test, the expression and the error. The error of a check says what it found
+/// and what it wanted. A `?` prints the error alone, and takes longer to prove.
 #[macro_export]
 macro_rules! check {
     ($rt:expr; $checked:expr) => {

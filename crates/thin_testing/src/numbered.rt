@@ -19,9 +19,10 @@ pub trait Numbered: Clone + Eq + Drop {
 }
 
 /// Returns the size in bytes of the block of a list of `capacity` items: a header of 16 bytes and
-/// the items, rounded up to the alignment of the block. From 32 slots on, items of more than 16
-/// bytes that are aligned to 8 or 16 have a padded block, which takes the place of two more items,
-/// unless the header and the items just fit into a power of two. A list of capacity 0 has no block.
+/// the items, rounded up to a multiple of 8. (Items that are aligned to 16 take a multiple of 16
+/// bytes.) From 32 slots on, items of more than 16 bytes that are aligned to 8 or 16 have a padded
+/// block, which takes the place of two more items, unless the header and the items just fit into a
+/// power of two. A list of capacity 0 has no block.
 pub fn block_bytes<T: Numbered>(capacity: usize) -> u64 {
     if capacity == 0 {
         return 0;
@@ -32,21 +33,15 @@ pub fn block_bytes<T: Numbered>(capacity: usize) -> u64 {
     if is_large && bytes.saturating_add(size) <= least_power(bytes) {
         return capacity.saturating_add(2).saturating_mul(size) as u64;
     }
-    let rounded = if align > 8 {
-        bytes.div_ceil(16).saturating_mul(16)
-    } else {
-        bytes.div_ceil(8).saturating_mul(8)
-    };
-    rounded as u64
+    bytes.div_ceil(8).saturating_mul(8) as u64
 }
 
 /// Returns the greatest capacity that a list of `T` can have. Its block takes at most `isize::MAX`
-/// bytes: a header of 16 bytes and the items, rounded up to a multiple of 8 bytes, or of 16 bytes
-/// if the items are aligned to 16.
+/// bytes, of which 16 are the header, and 7 may be lost because the size of a block is a multiple
+/// of 8. A list of items of 0 bytes can have each capacity up to `isize::MAX`.
 pub fn greatest_capacity<T: Numbered>() -> usize {
     let most = isize::MAX as usize;
-    let lost = if T::align() > 8 { 31 } else { 23 };
-    most.saturating_sub(lost)
+    most.saturating_sub(23)
         .checked_div(T::size())
         .unwrap_or(most)
 }
@@ -229,7 +224,8 @@ impl<P: Numbered + Copy> Numbered for Counted<'static, P> {
     const IS_COUNTED: bool = true;
 
     fn size() -> usize {
-        P::size().saturating_add(16)
+        let payload = P::size().div_ceil(8).saturating_mul(8);
+        payload.saturating_add(16)
     }
 
     fn align() -> usize {

@@ -89,14 +89,14 @@ fn choices<R: Abort>(rt: &R, alloc: Global, at: At) -> (u64, u64, u64) {
 }
 
 // Returns the bits of the four items that a pattern keeps.
-fn kept(pattern: Pattern) -> u64 {
-    let mut kept = 0;
+fn bits_kept(pattern: Pattern) -> u64 {
+    let mut bits = 0;
     for index in 0..4_usize {
         if pattern.keeps(index as u64) {
-            kept |= bit(index);
+            bits |= bit(index);
         }
     }
-    kept
+    bits
 }
 
 // On a list of four items, the arguments below 25 choose each index, each range and each number of
@@ -113,8 +113,10 @@ fn arguments_choose_each_index_range_number_and_pattern(rt: HostRuntime) {
             refused: 0,
         };
         let (index, range, count) = choices(&rt, rt.alloc(), at);
-        (indices, ranges, counts) = (indices | index, ranges | range, counts | count);
-        assert_eq!(rt; kept(at.pattern()), argument as u64 % 16);
+        indices |= index;
+        ranges |= range;
+        counts |= count;
+        assert_eq!(rt; bits_kept(at.pattern()), argument as u64 % 16);
     }
     assert_eq!(rt; (indices, ranges), (0b1_1111, 0x10_181c_1e1f));
     assert_eq!(rt; counts, 0x2000_0002_022f);

@@ -77,10 +77,10 @@ fn closures_count_their_calls_in_a_variable(rt: HostRuntime) {
         *item == 3
     });
     check!(rt; same((last, calls), (Some(3), 12)));
-    check!(rt; list.resize_with(4, || {
+    let resized = list.resize_with(4, || {
         calls = calls.wrapping_add(1);
         9
-    }));
-    check!(rt; same(calls, 14));
+    });
+    check!(rt; same((resized, calls), (Ok(()), 14)));
     check!(rt; same_items(&list, &[1, 2, 9, 9]));
 }

@@ -35,9 +35,8 @@ fn collect_removes_the_drained_items(rt: HostRuntime) {
 fn collect_removes_the_extracted_items(rt: HostRuntime) {
     let mut list = check!(rt; list_of(rt.alloc(), &[1, 2, 3, 4]));
     check!(rt; has_len(&list, 4));
-    let even: ThinVec<i32> = check!(rt; list
-        .extract_if(0, 4, |x: &mut i32| *x % 2 == 0)
-        .collect(rt.alloc()));
+    let extracted = list.extract_if(0, 4, |x: &mut i32| *x % 2 == 0);
+    let even: ThinVec<i32> = check!(rt; extracted.collect(rt.alloc()));
     check!(rt; same_items(&even, &[2, 4]));
     check!(rt; same_items(&list, &[1, 3]));
 }

@@ -85,8 +85,8 @@ fn assert_refused(
     requires in_bounds { range.1 ≤ length old.now }
 {
     let mut list = check!(rt; list_of(lender, old));
-    let refused = splice(&mut list, range, iter, lender).err();
-    assert_left(rt, &list, check!(rt; refused.ok_or("finished")), left);
+    let refused = check!(rt; splice(&mut list, range, iter, lender).err());
+    assert_left(rt, &list, refused, left);
 }
 
 const OUT_OF_MEMORY: ThinVecError = ThinVecError::OutOfMemory;

@@ -67,23 +67,18 @@ fn assert_into_iter_prints<T: Copy + Debug + Drop, A: Allocator>(
 }
 
 // Asserts that a list of `items` with spare capacity is printed as their slice.
-fn assert_roomy_list_prints<T: Copy + Debug + Drop>(
-    rt: &impl Abort,
-    alloc: Global,
-    items: &[T],
-) -> Result<(), ThinVecError> {
+fn assert_roomy_list_prints<T: Copy + Debug + Drop>(rt: &impl Abort, alloc: Global, items: &[T]) {
     let mut list: ThinVec<T, Global, PowerBytes> = ThinVec::ruled(alloc);
-    list.reserve(300)?;
-    list.extend_from_copies(items)?;
+    check!(rt; list.reserve(300));
+    check!(rt; list.extend_from_copies(items));
     check!(rt; prints_as(alloc, &list, &items));
-    Ok(())
 }
 
 // Asserts that a list of `items` is printed as their slice, with and without spare capacity, and
 // its iterators as the items that they have left. Also asserts that printing requests no memory
 // from the allocator of the list.
 fn assert_printed_as_slices<T: Copy + Debug + Drop>(rt: &impl Abort, alloc: Global, items: &[T]) {
-    check!(rt; assert_roomy_list_prints(rt, alloc, items));
+    assert_roomy_list_prints(rt, alloc, items);
     let refusing = check!(rt; Refusing::leaked(alloc, 0));
     let mut list = check!(rt; list_of(refusing, items));
     let other = check!(rt; list_of(refusing, items));
@@ -179,10 +174,10 @@ fn assert_write_errors(rt: &impl Abort, alloc: Global, len: usize) {
     check!(rt; bytes.resize(len, 7_u8));
     check!(rt; bytes.shrink_to_fit());
     refusing.refuse_all();
-    let error = bytes.write_all(b"some more bytes").err();
-    assert_io_error(rt, alloc, check!(rt; error.ok_or("written")));
-    let error = bytes.write(b"ab").err();
-    assert_io_error(rt, alloc, check!(rt; error.ok_or("written")));
+    let error = check!(rt; bytes.write_all(b"some more bytes").err());
+    assert_io_error(rt, alloc, error);
+    let error = check!(rt; bytes.write(b"ab").err());
+    assert_io_error(rt, alloc, error);
 }
 
 #[test]

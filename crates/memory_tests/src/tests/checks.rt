@@ -54,7 +54,14 @@ fn detects_a_wrong_text(rt: HostRuntime) {
 }
 
 #[test]
-#[should_panic]
+#[should_panic(expected = "same(1, 2): Different { found: 1, wanted: 2 }")]
 fn a_check_stops_the_test(rt: HostRuntime) {
     check!(rt; same(1, 2));
+}
+
+#[test]
+#[should_panic(expected = "nothing")]
+fn a_check_of_nothing_stops_the_test(rt: HostRuntime) {
+    let nothing: Option<i32> = None;
+    check!(rt; nothing);
 }

@@ -55,10 +55,10 @@ fn assert_capacities<T: Numbered, A: Allocator>(
     len: usize,
     more: usize,
     is_refused: bool,
-) -> Result<(), ThinVecError> {
+) {
     let mut list = ThinVec::<T, A>::new(alloc);
-    list.reserve_exact(len)?;
-    fill(ledger, &mut list)?;
+    check!(rt; list.reserve_exact(len));
+    check!(rt; fill(ledger, &mut list));
     let larger = len.saturating_add(more);
     for capacity in [larger, larger.saturating_add(more), larger, len] {
         if is_refused {
@@ -68,57 +68,55 @@ fn assert_capacities<T: Numbered, A: Allocator>(
             check!(rt; same(refused, Err(ThinVecError::OutOfMemory)));
             assert_numbered(rt, ledger, &list, len, before);
         }
-        make_capacity(&mut list, capacity)?;
+        check!(rt; make_capacity(&mut list, capacity));
         assert_numbered(rt, ledger, &list, len, capacity);
     }
-    Ok(())
 }
 
 // Tries lists whose items take about 256 bytes, once with refused requests and once over the
 // allocator of the program, which can enlarge a block where it is.
-fn assert_type<T: Numbered>(rt: &impl Abort, ledger: &'static Ledger) -> Result<(), ThinVecError> {
+fn assert_type<T: Numbered>(rt: &impl Abort, ledger: &'static Ledger) {
     let long = 256_usize.checked_div(T::size()).unwrap_or(0);
     for len in long.saturating_sub(1)..long.saturating_add(9) {
         for more in [1, 2, 3, 4, 5, 6, 7, 8, 9, 6000, 70_000] {
             ledger.begin(0);
-            assert_capacities::<T, _>(rt, ledger, &ledger.alloc, len, more, true)?;
-            assert_capacities::<T, _>(rt, ledger, ledger.global, len, more, false)?;
+            assert_capacities::<T, _>(rt, ledger, &ledger.alloc, len, more, true);
+            assert_capacities::<T, _>(rt, ledger, ledger.global, len, more, false);
         }
     }
     check!(rt; same(ledger.alloc.blocks(), 0));
-    Ok(())
 }
 
 #[test]
 fn a_list_of_each_width_grows_and_shrinks_in_place(rt: HostRuntime) {
     let ledger = check!(rt; Ledger::leaked(rt.alloc()));
-    check!(rt; assert_type::<u8>(&rt, ledger));
-    check!(rt; assert_type::<u16>(&rt, ledger));
-    check!(rt; assert_type::<i32>(&rt, ledger));
-    check!(rt; assert_type::<u64>(&rt, ledger));
-    check!(rt; assert_type::<u128>(&rt, ledger));
+    assert_type::<u8>(&rt, ledger);
+    assert_type::<u16>(&rt, ledger);
+    assert_type::<i32>(&rt, ledger);
+    assert_type::<u64>(&rt, ledger);
+    assert_type::<u128>(&rt, ledger);
 }
 
 #[test]
 fn a_list_of_arrays_of_each_width_grows_and_shrinks_in_place(rt: HostRuntime) {
     let ledger = check!(rt; Ledger::leaked(rt.alloc()));
-    check!(rt; assert_type::<[u8; 4]>(&rt, ledger));
-    check!(rt; assert_type::<[u8; 8]>(&rt, ledger));
-    check!(rt; assert_type::<[u8; 16]>(&rt, ledger));
-    check!(rt; assert_type::<[u32; 2]>(&rt, ledger));
-    check!(rt; assert_type::<[u64; 2]>(&rt, ledger));
+    assert_type::<[u8; 4]>(&rt, ledger);
+    assert_type::<[u8; 8]>(&rt, ledger);
+    assert_type::<[u8; 16]>(&rt, ledger);
+    assert_type::<[u32; 2]>(&rt, ledger);
+    assert_type::<[u64; 2]>(&rt, ledger);
 }
 
 #[test]
 fn a_list_of_items_of_odd_sizes_grows_and_shrinks(rt: HostRuntime) {
     let ledger = check!(rt; Ledger::leaked(rt.alloc()));
-    check!(rt; assert_type::<[u8; 3]>(&rt, ledger));
-    check!(rt; assert_type::<[u8; 5]>(&rt, ledger));
-    check!(rt; assert_type::<[u8; 7]>(&rt, ledger));
-    check!(rt; assert_type::<[u32; 3]>(&rt, ledger));
-    check!(rt; assert_type::<[u32; 5]>(&rt, ledger));
-    check!(rt; assert_type::<[u32; 7]>(&rt, ledger));
-    check!(rt; assert_type::<[u64; 3]>(&rt, ledger));
+    assert_type::<[u8; 3]>(&rt, ledger);
+    assert_type::<[u8; 5]>(&rt, ledger);
+    assert_type::<[u8; 7]>(&rt, ledger);
+    assert_type::<[u32; 3]>(&rt, ledger);
+    assert_type::<[u32; 5]>(&rt, ledger);
+    assert_type::<[u32; 7]>(&rt, ledger);
+    assert_type::<[u64; 3]>(&rt, ledger);
 }
 
 #[test]
@@ -127,24 +125,8 @@ fn a_list_of_triples_grows_and_shrinks_around_32_slots(rt: HostRuntime) {
     for len in 1..40 {
         for more in [1, 2, 3, 16, 33, 6000, 70_000] {
             ledger.begin(0);
-            let made = assert_capacities::<[u64; 3], _>(
-                &rt,
-                ledger,
-                &ledger.alloc,
-                len,
-                more,
-                true,
-            );
-            check!(rt; made);
-            let made = assert_capacities::<[u64; 3], _>(
-                &rt,
-                ledger,
-                ledger.global,
-                len,
-                more,
-                false,
-            );
-            check!(rt; made);
+            assert_capacities::<[u64; 3], _>(&rt, ledger, &ledger.alloc, len, more, true);
+            assert_capacities::<[u64; 3], _>(&rt, ledger, ledger.global, len, more, false);
         }
     }
     check!(rt; same(ledger.alloc.blocks(), 0));
@@ -152,65 +134,57 @@ fn a_list_of_triples_grows_and_shrinks_around_32_slots(rt: HostRuntime) {
 
 // Pushes 3000 items onto a list. Each time that the list is full, another list is allocated
 // directly after it, so that it cannot grow in place.
-fn assert_moves<T: Numbered>(
-    rt: &impl Abort,
-    ledger: &'static Ledger,
-    alloc: Global,
-) -> Result<(), ThinVecError> {
+fn assert_moves<T: Numbered>(rt: &impl Abort, ledger: &'static Ledger, alloc: Global) {
     let mut neighbours = ThinVec::<ThinVec<u8>>::new(alloc);
     let mut list = ThinVec::<T>::new(alloc);
     for index in 0..3000 {
         if list.len() == list.capacity() {
-            neighbours.push(ThinVec::with_capacity(alloc, 40)?)?;
+            let neighbour = check!(rt; ThinVec::with_capacity(alloc, 40));
+            check!(rt; neighbours.push(neighbour));
         }
-        list.push(T::numbered(ledger, index))?;
+        check!(rt; list.push(T::numbered(ledger, index)));
     }
     assert_numbered(rt, ledger, &list, 3000, 4096);
-    Ok(())
 }
 
 #[test]
 fn a_list_moves_if_it_cannot_grow_in_place(rt: HostRuntime) {
     let (ledger, alloc) = (check!(rt; Ledger::leaked(rt.alloc())), rt.alloc());
-    check!(rt; assert_moves::<u8>(&rt, ledger, alloc));
-    check!(rt; assert_moves::<u16>(&rt, ledger, alloc));
-    check!(rt; assert_moves::<i32>(&rt, ledger, alloc));
-    check!(rt; assert_moves::<u64>(&rt, ledger, alloc));
-    check!(rt; assert_moves::<u128>(&rt, ledger, alloc));
-    check!(rt; assert_moves::<[u64; 3]>(&rt, ledger, alloc));
-    check!(rt; assert_moves::<[u128; 3]>(&rt, ledger, alloc));
-    check!(rt; assert_moves::<[u64; 40]>(&rt, ledger, alloc));
+    assert_moves::<u8>(&rt, ledger, alloc);
+    assert_moves::<u16>(&rt, ledger, alloc);
+    assert_moves::<i32>(&rt, ledger, alloc);
+    assert_moves::<u64>(&rt, ledger, alloc);
+    assert_moves::<u128>(&rt, ledger, alloc);
+    assert_moves::<[u64; 3]>(&rt, ledger, alloc);
+    assert_moves::<[u128; 3]>(&rt, ledger, alloc);
+    assert_moves::<[u64; 40]>(&rt, ledger, alloc);
 }
 
 // Pushes 3000 items onto a list that owns its allocator, which takes more bytes than a reference.
 // Then the list shrinks and grows again.
-fn assert_owner_grows<T: Numbered>(
-    rt: &impl Abort,
-    ledger: &'static Ledger,
-) -> Result<(), ThinVecError> {
+fn assert_owner_grows<T: Numbered>(rt: &impl Abort, ledger: &'static Ledger) {
     let mut list: ThinVec<T, Refusing<Global>> = ThinVec::new(Refusing::new(ledger.global, 0));
     for index in 0..3000 {
-        list.push(T::numbered(ledger, index))?;
+        check!(rt; list.push(T::numbered(ledger, index)));
     }
-    list.shrink_to_fit()?;
-    list.reserve_exact(500)?;
+    check!(rt; list.shrink_to_fit());
+    check!(rt; list.reserve_exact(500));
     assert_numbered(rt, ledger, &list, 3000, 3500);
     list.truncate(40);
-    list.shrink_to(41)?;
+    check!(rt; list.shrink_to(41));
     assert_numbered(rt, ledger, &list, 40, 41);
-    Ok(())
 }
 
 #[test]
 fn a_list_grows_and_shrinks_over_an_allocator_that_it_owns(rt: HostRuntime) {
     let ledger = check!(rt; Ledger::leaked(rt.alloc()));
-    check!(rt; assert_owner_grows::<()>(&rt, ledger));
-    check!(rt; assert_owner_grows::<u8>(&rt, ledger));
-    check!(rt; assert_owner_grows::<u16>(&rt, ledger));
-    check!(rt; assert_owner_grows::<i32>(&rt, ledger));
-    check!(rt; assert_owner_grows::<u64>(&rt, ledger));
-    check!(rt; assert_owner_grows::<u128>(&rt, ledger));
-    check!(rt; assert_owner_grows::<[u32; 3]>(&rt, ledger));
-    check!(rt; assert_owner_grows::<[u64; 3]>(&rt, ledger));
-    check!(rt; assert_owner_grows::<[u64; 40]>(&rt, ledger));
+    assert_owner_grows::<()>(&rt, ledger);
+    assert_owner_grows::<u8>(&rt, ledger);
+    assert_owner_grows::<u16>(&rt, ledger);
+    assert_owner_grows::<i32>(&rt, ledger);
+    assert_owner_grows::<u64>(&rt, ledger);
+    assert_owner_grows::<u128>(&rt, ledger);
+    assert_owner_grows::<[u32; 3]>(&rt, ledger);
+    assert_owner_grows::<[u64; 3]>(&rt, ledger);
+    assert_owner_grows::<[u64; 40]>(&rt, ledger);
 }

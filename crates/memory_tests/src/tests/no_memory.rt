@@ -9,7 +9,6 @@ use std::hash::{DefaultHasher, Hash};
 use std::io::Write;
 use std::iter::empty;
 use std::ops::Bound;
-use std::panic::Expect;
 use std::process::Abort;
 use thin_testing::{Refusing, check, has_len, holds, list_of, same, splice};
 use thin_vec::{PowerBytes, ThinVec, ThinVecError, bounds, thin_vec};
@@ -69,29 +68,24 @@ fn lists_without_items_take_no_memory(rt: HostRuntime) {
     check!(rt; same(lender.requests(), 0));
 }
 
-// Asserts that the call succeeded.
-fn assert_ok<E: Debug>(rt: &impl Abort, answer: Result<(), E>) {
-    answer.expect(rt, "refused");
-}
-
 // Appends the items 1, 2 of another list to the list 1, 2, 3 with capacity 5.
 fn append(rt: &impl Abort, list: &mut List, mut other: List) {
     other.truncate(2);
-    assert_ok(rt, list.reserve(2));
-    assert_ok(rt, list.reserve_exact(2));
-    assert_ok(rt, list.append(&mut other));
+    check!(rt; list.reserve(2));
+    check!(rt; list.reserve_exact(2));
+    check!(rt; list.append(&mut other));
     check!(rt; holds(list, &[1, 2, 3, 1, 2], 5));
-    assert_ok(rt, list.shrink_to_fit());
+    check!(rt; list.shrink_to_fit());
 }
 
 // Resizes the list 1, 2, 3, 1, 2 with capacity 5, and adds items to it. Then splits off none.
 fn resize(rt: &impl Abort, list: &mut List, lender: Lender) {
-    assert_ok(rt, list.resize(5, 7));
-    assert_ok(rt, list.resize(2, 7));
-    assert_ok(rt, list.resize(3, 7));
-    assert_ok(rt, list.extend_from_slice(&[]));
-    assert_ok(rt, list.push(8));
-    assert_ok(rt, list.insert(0, 9));
+    check!(rt; list.resize(5, 7));
+    check!(rt; list.resize(2, 7));
+    check!(rt; list.resize(3, 7));
+    check!(rt; list.extend_from_slice(&[]));
+    check!(rt; list.push(8));
+    check!(rt; list.insert(0, 9));
     check!(rt; holds(list, &[9, 1, 2, 7, 8], 5));
     assert_empty(rt, list.split_off(lender, 5));
 }
@@ -99,11 +93,11 @@ fn resize(rt: &impl Abort, list: &mut List, lender: Lender) {
 // Gives a list with capacity 5 new items, and replaces some of them.
 fn replace(rt: &impl Abort, list: &mut List, lender: Lender) {
     list.clear();
-    assert_ok(rt, list.extend(1..6));
+    check!(rt; list.extend(1..6));
     check!(rt; holds(list, &[1, 2, 3, 4, 5], 5));
-    assert_ok(rt, splice(list, (1, 4), 7..9, lender));
+    check!(rt; splice(list, (1, 4), 7..9, lender));
     check!(rt; holds(list, &[1, 7, 8, 5], 5));
-    assert_ok(rt, splice(list, (3, 4), 3..5, lender));
+    check!(rt; splice(list, (3, 4), 3..5, lender));
     check!(rt; holds(list, &[1, 7, 8, 3, 4], 5));
 }
 
@@ -116,7 +110,7 @@ fn calls_that_fit_the_capacity_take_no_memory(rt: HostRuntime) {
     resize(&rt, &mut list, lender);
     replace(&rt, &mut list, lender);
     list.clear();
-    assert_ok(&rt, list.shrink_to_fit());
+    check!(rt; list.shrink_to_fit());
     check!(rt; holds(&list, &[], 0));
     check!(rt; same(lender.requests(), 0));
 }

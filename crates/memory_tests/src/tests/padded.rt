@@ -102,20 +102,19 @@ fn assert_resized<T: Numbered>(
     len: usize,
     from: usize,
     to: usize,
-) -> Result<(), ThinVecError> {
+) {
     ledger.begin(0);
     let mut list = List::<T>::new(&ledger.alloc);
-    list.reserve_exact(from)?;
-    fill(ledger, &mut list, 0, len)?;
+    check!(rt; list.reserve_exact(from));
+    check!(rt; fill(ledger, &mut list, 0, len));
     ledger.begin(1);
     let refused = make_capacity(&mut list, to);
     check!(rt; same(refused, Err(ThinVecError::OutOfMemory)));
     assert_alone(rt, ledger, &list, (len, from), least);
-    make_capacity(&mut list, to)?;
+    check!(rt; make_capacity(&mut list, to));
     assert_alone(rt, ledger, &list, (len, to), least);
     drop(list);
     assert_nothing(rt, ledger);
-    Ok(())
 }
 
 // Changes the capacity of a list of `len` items from `from` to `to` over the allocator of the
@@ -126,50 +125,44 @@ fn assert_resized_in_place<T: Numbered>(
     len: usize,
     from: usize,
     to: usize,
-) -> Result<(), ThinVecError> {
+) {
     let mut list = ThinVec::<T>::new(ledger.global);
-    list.reserve_exact(from)?;
-    fill(ledger, &mut list, 0, len)?;
-    make_capacity(&mut list, to)?;
+    check!(rt; list.reserve_exact(from));
+    check!(rt; fill(ledger, &mut list, 0, len));
+    check!(rt; make_capacity(&mut list, to));
     assert_filled(rt, ledger, &list, 0, (len, to));
-    Ok(())
 }
 
 // Resizes lists from and to capacities below 32, and from 32 on. Of these, a block of `FULL` items
 // may be one that is not padded.
-fn assert_border<T: Numbered>(
-    rt: &impl Abort,
-    ledger: &'static Ledger,
-    least: Option<usize>,
-) -> Result<(), ThinVecError> {
+fn assert_border<T: Numbered>(rt: &impl Abort, ledger: &'static Ledger, least: Option<usize>) {
     for from in [1, 30, 31, 32, 33, FULL, 64, 500] {
         for to in [1, 30, 31, 32, 33, FULL, 64, 500] {
             for len in [0, 1, 31, 32] {
                 if len <= from && len <= to && from != to {
-                    assert_resized::<T>(rt, ledger, least, len, from, to)?;
-                    assert_resized_in_place::<T>(rt, ledger, len, from, to)?;
+                    assert_resized::<T>(rt, ledger, least, len, from, to);
+                    assert_resized_in_place::<T>(rt, ledger, len, from, to);
                 }
             }
         }
     }
     assert_nothing(rt, ledger);
-    Ok(())
 }
 
 #[test]
 fn a_block_of_large_items_is_padded_from_32_slots_on(rt: HostRuntime) {
     let ledger = check!(rt; Ledger::leaked(rt.alloc()));
-    check!(rt; assert_border::<[u32; 5]>(&rt, ledger, None));
-    check!(rt; assert_border::<[u32; 7]>(&rt, ledger, None));
-    check!(rt; assert_border::<u128>(&rt, ledger, None));
-    check!(rt; assert_border::<Counted<'static>>(&rt, ledger, None));
-    check!(rt; assert_border::<[u8; 32]>(&rt, ledger, None));
-    check!(rt; assert_border::<[u64; 3]>(&rt, ledger, PADDED));
-    check!(rt; assert_border::<Counted<'static, u64>>(&rt, ledger, PADDED));
-    check!(rt; assert_border::<Counted<'static, u128>>(&rt, ledger, PADDED));
-    check!(rt; assert_border::<[u64; 6]>(&rt, ledger, PADDED));
-    check!(rt; assert_border::<[u128; 3]>(&rt, ledger, PADDED));
-    check!(rt; assert_border::<[u64; 40]>(&rt, ledger, PADDED));
+    assert_border::<[u32; 5]>(&rt, ledger, None);
+    assert_border::<[u32; 7]>(&rt, ledger, None);
+    assert_border::<u128>(&rt, ledger, None);
+    assert_border::<Counted<'static>>(&rt, ledger, None);
+    assert_border::<[u8; 32]>(&rt, ledger, None);
+    assert_border::<[u64; 3]>(&rt, ledger, PADDED);
+    assert_border::<Counted<'static, u64>>(&rt, ledger, PADDED);
+    assert_border::<Counted<'static, u128>>(&rt, ledger, PADDED);
+    assert_border::<[u64; 6]>(&rt, ledger, PADDED);
+    assert_border::<[u128; 3]>(&rt, ledger, PADDED);
+    assert_border::<[u64; 40]>(&rt, ledger, PADDED);
 }
 
 // A call that makes, resizes or frees a block.
@@ -235,10 +228,10 @@ fn assert_call<T: Numbered>(
     call: Call,
     len: usize,
     refused: u64,
-) -> Result<(), ThinVecError> {
+) {
     ledger.begin(0);
-    let mut list: List<T> = filled(ledger, 0, len, len.saturating_add(2))?;
-    let mut other: List<T> = filled(ledger, len, len, len)?;
+    let mut list: List<T> = check!(rt; filled(ledger, 0, len, len.saturating_add(2)));
+    let mut other: List<T> = check!(rt; filled(ledger, len, len, len));
     ledger.begin(refused);
     let is_ok = make_call(call, ledger, &mut list, &mut other).is_ok();
     check!(rt; same(is_ok, refused == 0 || ledger.alloc.requests() < refused));
@@ -254,31 +247,29 @@ fn assert_call<T: Numbered>(
     drop(list);
     drop(other);
     assert_nothing(rt, ledger);
-    Ok(())
 }
 
 // Tries each call on lists of fewer than 32 items, and of 32 and more.
-fn assert_calls<T: Numbered>(rt: &impl Abort, ledger: &'static Ledger) -> Result<(), ThinVecError> {
+fn assert_calls<T: Numbered>(rt: &impl Abort, ledger: &'static Ledger) {
     for len in [15, 16, 29, 30, 31, 32, 33, 34, 35] {
         for refused in [0, 1, 2, 32] {
-            assert_call::<T>(rt, ledger, Call::Append, len, refused)?;
-            assert_call::<T>(rt, ledger, Call::SplitOff, len, refused)?;
-            assert_call::<T>(rt, ledger, Call::Clone, len, refused)?;
-            assert_call::<T>(rt, ledger, Call::ShrinkToFit, len, refused)?;
+            assert_call::<T>(rt, ledger, Call::Append, len, refused);
+            assert_call::<T>(rt, ledger, Call::SplitOff, len, refused);
+            assert_call::<T>(rt, ledger, Call::Clone, len, refused);
+            assert_call::<T>(rt, ledger, Call::ShrinkToFit, len, refused);
         }
     }
-    Ok(())
 }
 
 #[test]
 fn calls_make_and_free_padded_blocks(rt: HostRuntime) {
     let ledger = check!(rt; Ledger::leaked(rt.alloc()));
-    check!(rt; assert_calls::<[u64; 3]>(&rt, ledger));
-    check!(rt; assert_calls::<Counted<'static, u64>>(&rt, ledger));
-    check!(rt; assert_calls::<Counted<'static, u128>>(&rt, ledger));
-    check!(rt; assert_calls::<[u64; 6]>(&rt, ledger));
-    check!(rt; assert_calls::<[u128; 3]>(&rt, ledger));
-    check!(rt; assert_calls::<[u64; 40]>(&rt, ledger));
+    assert_calls::<[u64; 3]>(&rt, ledger);
+    assert_calls::<Counted<'static, u64>>(&rt, ledger);
+    assert_calls::<Counted<'static, u128>>(&rt, ledger);
+    assert_calls::<[u64; 6]>(&rt, ledger);
+    assert_calls::<[u128; 3]>(&rt, ledger);
+    assert_calls::<[u64; 40]>(&rt, ledger);
 }
 
 // The number of items that a list gets in the next two tests.
@@ -291,12 +282,12 @@ fn assert_requests<T: Numbered, G: Ruled>(
     rt: &impl Abort,
     ledger: &'static Ledger,
     least: Option<usize>,
-) -> Result<(), ThinVecError> {
+) {
     let mut list = ThinVec::<T, &'static Refusing<Global>, G>::ruled(&ledger.alloc);
     for number in 0..PUSHES {
         let (len, capacity) = (list.len(), list.capacity());
         ledger.begin(0);
-        list.push(T::numbered(ledger, number))?;
+        check!(rt; list.push(T::numbered(ledger, number)));
         let wanted = if len == capacity {
             let grown = G::expected_capacity(T::size(), capacity, len.saturating_add(1));
             (grown, 1, bytes_of::<T>(grown, least))
@@ -308,7 +299,6 @@ fn assert_requests<T: Numbered, G: Ruled>(
     }
     drop(list);
     assert_nothing(rt, ledger);
-    Ok(())
 }
 
 // A block under the rule `PowerBytes` takes 16 bytes and its items, and not the place of two items
@@ -316,27 +306,27 @@ fn assert_requests<T: Numbered, G: Ruled>(
 #[test]
 fn blocks_of_power_bytes_just_fit_into_powers_of_two(rt: HostRuntime) {
     let ledger = check!(rt; Ledger::leaked(rt.alloc()));
-    check!(rt; assert_requests::<[u64; 3], PowerBytes>(&rt, ledger, None));
-    check!(rt; assert_requests::<Counted<'static, u64>, PowerBytes>(&rt, ledger, None));
-    check!(rt; assert_requests::<Counted<'static, u128>, PowerBytes>(&rt, ledger, None));
-    check!(rt; assert_requests::<[u64; 5], PowerBytes>(&rt, ledger, None));
-    check!(rt; assert_requests::<[u64; 6], PowerBytes>(&rt, ledger, None));
-    check!(rt; assert_requests::<[u128; 3], PowerBytes>(&rt, ledger, None));
-    check!(rt; assert_requests::<[u64; 40], PowerBytes>(&rt, ledger, None));
+    assert_requests::<[u64; 3], PowerBytes>(&rt, ledger, None);
+    assert_requests::<Counted<'static, u64>, PowerBytes>(&rt, ledger, None);
+    assert_requests::<Counted<'static, u128>, PowerBytes>(&rt, ledger, None);
+    assert_requests::<[u64; 5], PowerBytes>(&rt, ledger, None);
+    assert_requests::<[u64; 6], PowerBytes>(&rt, ledger, None);
+    assert_requests::<[u128; 3], PowerBytes>(&rt, ledger, None);
+    assert_requests::<[u64; 40], PowerBytes>(&rt, ledger, None);
 }
 
 #[test]
 fn blocks_of_doubling_are_padded_from_32_slots_on(rt: HostRuntime) {
     let ledger = check!(rt; Ledger::leaked(rt.alloc()));
-    check!(rt; assert_requests::<[u64; 3], Doubling>(&rt, ledger, PADDED));
-    check!(rt; assert_requests::<Counted<'static, u64>, Doubling>(&rt, ledger, PADDED));
-    check!(rt; assert_requests::<Counted<'static, u128>, Doubling>(&rt, ledger, PADDED));
-    check!(rt; assert_requests::<[u64; 5], Doubling>(&rt, ledger, PADDED));
-    check!(rt; assert_requests::<[u64; 6], Doubling>(&rt, ledger, PADDED));
-    check!(rt; assert_requests::<[u128; 3], Doubling>(&rt, ledger, PADDED));
-    check!(rt; assert_requests::<Counted<'static, [u64; 6]>, Doubling>(&rt, ledger, PADDED));
-    check!(rt; assert_requests::<[u64; 12], Doubling>(&rt, ledger, PADDED));
-    check!(rt; assert_requests::<Counted<'static, [u64; 14]>, Doubling>(&rt, ledger, PADDED));
-    check!(rt; assert_requests::<[u64; 32], Doubling>(&rt, ledger, PADDED));
-    check!(rt; assert_requests::<[u64; 40], Doubling>(&rt, ledger, PADDED));
+    assert_requests::<[u64; 3], Doubling>(&rt, ledger, PADDED);
+    assert_requests::<Counted<'static, u64>, Doubling>(&rt, ledger, PADDED);
+    assert_requests::<Counted<'static, u128>, Doubling>(&rt, ledger, PADDED);
+    assert_requests::<[u64; 5], Doubling>(&rt, ledger, PADDED);
+    assert_requests::<[u64; 6], Doubling>(&rt, ledger, PADDED);
+    assert_requests::<[u128; 3], Doubling>(&rt, ledger, PADDED);
+    assert_requests::<Counted<'static, [u64; 6]>, Doubling>(&rt, ledger, PADDED);
+    assert_requests::<[u64; 12], Doubling>(&rt, ledger, PADDED);
+    assert_requests::<Counted<'static, [u64; 14]>, Doubling>(&rt, ledger, PADDED);
+    assert_requests::<[u64; 32], Doubling>(&rt, ledger, PADDED);
+    assert_requests::<[u64; 40], Doubling>(&rt, ledger, PADDED);
 }

@@ -259,11 +259,8 @@ fn replayed(
         calls: 0,
         failing: unread,
     };
-    let answered = replay(
-        alloc,
-        check!(rt; BufReader::with_capacity(alloc, CHUNK, script)),
-        page,
-    );
+    let reader = check!(rt; BufReader::with_capacity(alloc, CHUNK, script));
+    let answered = replay(alloc, reader, page);
     assert_message(rt, alloc, &answered, told);
     assert_exit(rt, alloc, answered, told);
     text

@@ -16,15 +16,14 @@ fn set_counted<T: Numbered>(
     table: &mut Rows<T>,
     ledger: &'static Ledger,
     count: usize,
-) -> Result<(), ThinVecError> {
+) {
     for row in 0..table.rows() {
         for column in 0..count {
             assert_row(rt, table, row);
-            table.set(row, column, T::numbered(ledger, 7))?;
+            check!(rt; table.set(row, column, T::numbered(ledger, 7)));
         }
     }
     assert_live(rt, ledger, table);
-    Ok(())
 }
 
 // Removes the values of each row, of which there are `count`.
@@ -67,12 +66,12 @@ fn assert_drops_by_clear_row<T: Numbered>(
 fn assert_drops<T: Numbered>(rt: &impl Abort, alloc: Global, rows: usize, count: usize) {
     let ledger = check!(rt; Ledger::leaked(alloc));
     let mut table = check!(rt; Rows::<T>::with_rows(alloc, rows));
-    check!(rt; set_counted(rt, &mut table, ledger, count));
-    check!(rt; set_counted(rt, &mut table, ledger, count));
+    set_counted(rt, &mut table, ledger, count);
+    set_counted(rt, &mut table, ledger, count);
     assert_drops_by_remove(rt, &mut table, ledger, (rows, count));
-    check!(rt; set_counted(rt, &mut table, ledger, count));
+    set_counted(rt, &mut table, ledger, count);
     assert_drops_by_clear_row(rt, &mut table, ledger, rows);
-    check!(rt; set_counted(rt, &mut table, ledger, count));
+    set_counted(rt, &mut table, ledger, count);
     drop(table);
     check!(rt; same(ledger.live.get(), 0));
 }

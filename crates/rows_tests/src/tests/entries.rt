@@ -32,5 +32,6 @@ fn assert_send_and_sync<X: Send + Sync>(_value: &X) {}
 // The compiler checks this, so no thread is started.
 #[test]
 fn tables_can_be_sent_and_shared(rt: HostRuntime) {
-    assert_send_and_sync(&check!(rt; Rows::<u8>::with_rows(rt.alloc(), 3)));
+    let table = check!(rt; Rows::<u8>::with_rows(rt.alloc(), 3));
+    assert_send_and_sync(&table);
 }

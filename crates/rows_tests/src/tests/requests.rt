@@ -40,14 +40,14 @@ fn set_adds_thousands_of_columns_to_a_row(rt: HostRuntime) {
     let refusing = check!(rt; Refusing::leaked(rt.alloc(), 0));
     let mut table = check!(rt; Rows::with_rows(refusing, 5000));
     for column in 0..4000 {
-        check!(rt; assert_set(
+        assert_set(
             &rt,
             &mut table,
             (0, 4000_usize.saturating_sub(column)),
             7,
             None,
-        ));
-        check!(rt; assert_set(&rt, &mut table, (4999, column), 7, None));
+        );
+        assert_set(&rt, &mut table, (4999, column), 7, None);
     }
     check!(rt; counts(refusing, 23, 3));
     let row = 4096_u64.saturating_mul(16).saturating_add(16);
@@ -110,12 +110,11 @@ fn assert_entries_replaced<V: Copy + PartialEq + Debug + Drop>(
     table: &mut Rows<V, Lender>,
     value: V,
     (count, gap): (usize, usize),
-) -> Result<(), ThinVecError> {
+) {
     for index in 0..count {
-        assert_set(rt, table, (1, column(index, gap)), value, Some(value))?;
+        assert_set(rt, table, (1, column(index, gap)), value, Some(value));
         assert_row_reads(rt, table, column(index, gap), count);
     }
-    Ok(())
 }
 
 // Sets a value at a new column of row 1, which has `count` entries. If the row is full, the request
@@ -126,7 +125,7 @@ fn assert_new_entry<V: Copy + PartialEq + Debug + Drop>(
     refusing: Lender,
     value: V,
     (count, gap): (usize, usize),
-) -> Result<(), ThinVecError> {
+) {
     let new = column(count, gap);
     assert_row(rt, table, 1);
     check!(rt; same(table.get(1, new).is_none(), true));
@@ -137,14 +136,13 @@ fn assert_new_entry<V: Copy + PartialEq + Debug + Drop>(
     if !is_full {
         check!(rt; same(answer, Ok(None)));
         check!(rt; counts(refusing, 0, 2));
-        return Ok(());
+        return;
     }
     check!(rt; same(answer, Err((value, ThinVecError::OutOfMemory))));
     check!(rt; counts(refusing, 1, if count == 0 { 1 } else { 2 }));
     check!(rt; same(table.len(), count));
-    assert_set(rt, table, (1, new), value, None)?;
+    assert_set(rt, table, (1, new), value, None);
     check!(rt; counts(refusing, 2, 2));
-    Ok(())
 }
 
 // Removes the new entry of row 1, and then all but one of its other `count` entries. A column that
@@ -172,39 +170,38 @@ fn assert_row_requests<V: Copy + PartialEq + Debug + Drop>(
     value: V,
     count: usize,
     gap: usize,
-) -> Result<(), ThinVecError> {
+) {
     refusing.refuse(0);
-    let mut table = Rows::with_rows(refusing, 2)?;
+    let mut table = check!(rt; Rows::with_rows(refusing, 2));
     for index in 0..count {
-        assert_set(rt, &mut table, (1, column(index, gap)), value, None)?;
+        assert_set(rt, &mut table, (1, column(index, gap)), value, None);
     }
     refusing.refuse(1);
-    assert_entries_replaced(rt, &mut table, value, (count, gap))?;
-    assert_new_entry(rt, &mut table, refusing, value, (count, gap))?;
+    assert_entries_replaced(rt, &mut table, value, (count, gap));
+    assert_new_entry(rt, &mut table, refusing, value, (count, gap));
     refusing.refuse(1);
     assert_entries_removed(rt, &mut table, value, (count, gap));
     if count > 0 {
-        assert_set(rt, &mut table, (1, 12_345), value, None)?;
+        assert_set(rt, &mut table, (1, 12_345), value, None);
     }
     assert_row(rt, &table, 1);
     table.clear_row(1);
     check!(rt; counts(refusing, 0, 1));
     drop(table);
     check!(rt; counts(refusing, 0, 0));
-    Ok(())
 }
 
 #[test]
 fn only_a_new_entry_in_a_full_row_makes_a_request(rt: HostRuntime) {
     let refusing = check!(rt; Refusing::leaked(rt.alloc(), 0));
     for count in 0..140 {
-        check!(rt; assert_row_requests(&rt, refusing, 7_u32, count, 1));
-        check!(rt; assert_row_requests(&rt, refusing, (), count, 2));
-        check!(rt; assert_row_requests(&rt, refusing, 7_u32, count, usize::MAX / 211));
+        assert_row_requests(&rt, refusing, 7_u32, count, 1);
+        assert_row_requests(&rt, refusing, (), count, 2);
+        assert_row_requests(&rt, refusing, 7_u32, count, usize::MAX / 211);
     }
     for count in 0..40 {
-        check!(rt; assert_row_requests(&rt, refusing, 7_u8, count, 1));
-        check!(rt; assert_row_requests(&rt, refusing, [7_u64; 40], count, 3));
+        assert_row_requests(&rt, refusing, 7_u8, count, 1);
+        assert_row_requests(&rt, refusing, [7_u64; 40], count, 3);
     }
 }
 

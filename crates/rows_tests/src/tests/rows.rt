@@ -28,8 +28,8 @@ pub fn assert_set<V: PartialEq + Debug + Drop, A: Allocator>(
     (row, column): (usize, usize),
     value: V,
     old: Option<V>,
-) -> Result<(), ThinVecError> {
+) {
     assert_row(rt, table, row);
-    check!(rt; same(table.set(row, column, value)?, old));
-    Ok(())
+    let found = check!(rt; table.set(row, column, value));
+    check!(rt; same(found, old));
 }

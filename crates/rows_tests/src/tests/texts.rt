@@ -13,9 +13,9 @@ type Map = BTreeMap<usize, i32>;
 #[test]
 fn prints_each_row_as_a_map(rt: HostRuntime) {
     let mut table = check!(rt; Rows::with_rows(rt.alloc(), 2));
-    check!(rt; assert_set(&rt, &mut table, (1, 7), 10, None));
-    check!(rt; assert_set(&rt, &mut table, (1, 2), 20, None));
-    check!(rt; assert_set(&rt, &mut table, (1, 9), 30, None));
+    assert_set(&rt, &mut table, (1, 7), 10, None);
+    assert_set(&rt, &mut table, (1, 2), 20, None);
+    assert_set(&rt, &mut table, (1, 9), 30, None);
     let lines = "[\n    {},\n    {\n        2: 20,\n        7: 10,\n        9: 30,\n    },\n]";
     let wide = "[{}, {0002: 0020, 0007: 0010, 0009: 0030}]";
     check!(rt; prints(rt.alloc(), &table, ["[{}, {2: 20, 7: 10, 9: 30}]", lines, wide]));
@@ -31,7 +31,7 @@ fn set_and_insert(
 ) {
     assert_row(rt, table, row);
     check!(rt; table.set(row, column, value));
-    check!(rt; map.insert(column, value).ok().ok_or("memory"));
+    check!(rt; map.insert(column, value).ok());
 }
 
 // Sets `count` entries of the row and one at the greatest column. Returns the map of these entries.
@@ -64,7 +64,7 @@ fn assert_printed_as_maps(rt: &impl Abort, alloc: Global, rows: usize, count: us
         } else {
             BTreeMap::new(alloc)
         };
-        check!(rt; maps.push(map).ok().ok_or("memory"));
+        check!(rt; maps.push(map).ok());
     }
     refusing.refuse(1);
     check!(rt; prints_as(alloc, &table, &maps));

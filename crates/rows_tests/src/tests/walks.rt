@@ -26,17 +26,17 @@ fn table_of<A: Allocator + Copy>(
     rt: &impl Abort,
     alloc: A,
     (rows, count): (usize, usize),
-) -> Result<Rows<u32, A>, ThinVecError> {
-    let mut table = Rows::with_rows(alloc, rows)?;
+) -> Rows<u32, A> {
+    let mut table = check!(rt; Rows::with_rows(alloc, rows));
     for row in 0..rows {
         if row % 2 == 1 {
             for column in 0..count {
                 assert_row(rt, &table, row);
-                table.set(row, column.saturating_mul(7), 5)?;
+                check!(rt; table.set(row, column.saturating_mul(7), 5));
             }
         }
     }
-    Ok(table)
+    table
 }
 
 // Returns how many requests a clone of such a table makes.
@@ -60,34 +60,28 @@ fn cloned_to(
     table: &Rows<u32, Lender>,
     other: Lender,
     size: (usize, usize),
-) -> Result<Rows<u32, Lender>, ThinVecError> {
+) -> Rows<u32, Lender> {
     let before = other.bytes();
-    let copy = table.clone(other)?;
+    let copy = check!(rt; table.clone(other));
     let requests = requests_of_clone(size);
     check!(rt; counts(other, requests, requests));
     check!(rt; same(other.bytes().saturating_sub(before), bytes_of_clone(size)));
-    Ok(copy)
+    copy
 }
 
 // Clones a table by the allocator `other`, and asserts that its own allocator gets no request, and
 // that the clone frees its blocks.
-fn assert_clone_requests(
-    rt: &impl Abort,
-    own: Lender,
-    other: Lender,
-    size: (usize, usize),
-) -> Result<(), ThinVecError> {
+fn assert_clone_requests(rt: &impl Abort, own: Lender, other: Lender, size: (usize, usize)) {
     own.refuse(0);
     other.refuse(0);
-    let table = table_of(rt, own, size)?;
+    let table = table_of(rt, own, size);
     own.refuse(1);
-    let copy = cloned_to(rt, &table, other, size)?;
+    let copy = cloned_to(rt, &table, other, size);
     check!(rt; same(own.requests(), 0));
     drop(table);
     check!(rt; same(copy.rows(), size.0));
     drop(copy);
     check!(rt; counts(other, requests_of_clone(size), 0));
-    Ok(())
 }
 
 #[test]
@@ -95,7 +89,7 @@ fn a_clone_requests_what_its_rows_and_entries_take(rt: HostRuntime) {
     let own = check!(rt; Refusing::leaked(rt.alloc(), 0));
     let other = check!(rt; Refusing::leaked(rt.alloc(), 0));
     for size in SIZES {
-        check!(rt; assert_clone_requests(&rt, own, other, size));
+        assert_clone_requests(&rt, own, other, size);
     }
 }
 
@@ -104,27 +98,22 @@ fn cloned<T: Clone>(value: &T) -> Result<T, AllocError> {
 }
 
 // Clones a table by the trait, and asserts the requests to the allocator of the table.
-fn assert_trait_clone_requests(
-    rt: &impl Abort,
-    own: Lender,
-    size: (usize, usize),
-) -> Result<(), ThinVecError> {
+fn assert_trait_clone_requests(rt: &impl Abort, own: Lender, size: (usize, usize)) {
     own.refuse(0);
-    let table = table_of(rt, own, size)?;
+    let table = table_of(rt, own, size);
     own.refuse(0);
     let blocks = own.blocks();
-    let copy = cloned(&table)?;
+    let copy = check!(rt; cloned(&table));
     check!(rt; same(copy == table, true));
     let requests = requests_of_clone(size);
     check!(rt; counts(own, requests, blocks.saturating_add(requests)));
-    Ok(())
 }
 
 #[test]
 fn the_trait_clones_by_the_allocator_of_the_table(rt: HostRuntime) {
     let own = check!(rt; Refusing::leaked(rt.alloc(), 0));
     for size in SIZES {
-        check!(rt; assert_trait_clone_requests(&rt, own, size));
+        assert_trait_clone_requests(&rt, own, size);
     }
 }
 
@@ -141,7 +130,7 @@ fn a_refused_clone_frees_its_rows(rt: HostRuntime) {
     let other = check!(rt; Refusing::leaked(rt.alloc(), 0));
     for size in [(1, 3), (2, 1), (3, 4), (4, 5), (9, 60)] {
         let own = check!(rt; Refusing::leaked(rt.alloc(), 0));
-        let table = check!(rt; table_of(&rt, own, size));
+        let table = table_of(&rt, own, size);
         for refused in 0..requests_of_clone(size) {
             assert_clone_refused(&rt, &table, other, refused.saturating_add(1));
         }
@@ -153,15 +142,15 @@ fn counted_table<'a>(
     rt: &impl Abort,
     ledger: &'a Ledger,
     (rows, count): (usize, usize),
-) -> Result<Rows<Counted<'a>>, ThinVecError> {
-    let mut table = Rows::with_rows(ledger.global, rows)?;
+) -> Rows<Counted<'a>> {
+    let mut table = check!(rt; Rows::with_rows(ledger.global, rows));
     for row in 0..rows {
         for column in 0..count {
             assert_row(rt, &table, row);
-            drop(table.set(row, column, Counted::new(ledger, column as u64, ()))?);
+            drop(check!(rt; table.set(row, column, Counted::new(ledger, column as u64, ()))));
         }
     }
-    Ok(table)
+    table
 }
 
 // Refuses the clone of each value in turn, and asserts that the clones made before are dropped.
@@ -177,21 +166,16 @@ fn assert_clones_dropped(rt: &impl Abort, ledger: &Ledger, table: &Rows<Counted<
 
 // Clones the table. Asserts how many values are alive with both tables, with the clone alone, and
 // with neither.
-fn assert_values_cloned(
-    rt: &impl Abort,
-    ledger: &Ledger,
-    table: Rows<Counted<'_>>,
-) -> Result<(), ThinVecError> {
+fn assert_values_cloned(rt: &impl Abort, ledger: &Ledger, table: Rows<Counted<'_>>) {
     let count = table.len() as u64;
     ledger.begin(0);
-    let copy = table.clone(ledger.global)?;
+    let copy = check!(rt; table.clone(ledger.global));
     let live = count.saturating_mul(2);
     check!(rt; same((ledger.clones.get(), ledger.live.get()), (count, live)));
     drop(table);
     check!(rt; same(ledger.live.get(), count));
     drop(copy);
     check!(rt; same(ledger.live.get(), 0));
-    Ok(())
 }
 
 #[test]
@@ -199,9 +183,9 @@ fn a_clone_that_fails_drops_all_clones(rt: HostRuntime) {
     let ledger = check!(rt; Ledger::leaked(rt.alloc()));
     for size in [(1, 1), (1, 5), (2, 1), (3, 4), (2, 50)] {
         ledger.begin(0);
-        let table = check!(rt; counted_table(&rt, ledger, size));
+        let table = counted_table(&rt, ledger, size);
         assert_clones_dropped(&rt, ledger, &table);
-        check!(rt; assert_values_cloned(&rt, ledger, table));
+        assert_values_cloned(&rt, ledger, table);
     }
 }
 
@@ -223,8 +207,8 @@ fn walks_and_comparisons_make_no_request(rt: HostRuntime) {
     let refusing = check!(rt; Refusing::leaked(rt.alloc(), 0));
     for size in SIZES {
         refusing.refuse(0);
-        let table = check!(rt; table_of(&rt, refusing, size));
-        let other = check!(rt; table_of(&rt, refusing, size));
+        let table = table_of(&rt, refusing, size);
+        let other = table_of(&rt, refusing, size);
         refusing.refuse(1);
         check!(rt; same(table.is_empty(), table.len() == 0));
         check!(rt; same((table == other, table != other), (true, false)));
@@ -237,8 +221,8 @@ fn walks_and_comparisons_make_no_request(rt: HostRuntime) {
 fn a_comparison_compares_each_value_once(rt: HostRuntime) {
     let ledger = check!(rt; Ledger::leaked(rt.alloc()));
     for size in [(0, 0), (1, 1), (3, 4), (2, 50)] {
-        let table = check!(rt; counted_table(&rt, ledger, size));
-        let other = check!(rt; counted_table(&rt, ledger, size));
+        let table = counted_table(&rt, ledger, size);
+        let other = counted_table(&rt, ledger, size);
         ledger.begin(0);
         check!(rt; same(table == other, true));
         check!(rt; same(ledger.comparisons.get(), table.len() as u64));

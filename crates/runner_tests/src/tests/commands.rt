@@ -252,12 +252,12 @@ fn reply_to<R: Abort>(
     command: Asked<Item>,
     number: usize,
     refused: u64,
-) -> Result<(String, u64), AllocError> {
+) -> (String, u64) {
     let ran = run_single(rt, ledger, list, command, &Evens { ledger }, refused);
     let requests = ran.requests;
     let asked = if requests < refused { asked(number) } else { 0 };
     check!(rt; same((number, ledger.calls.get()), (number, asked)));
-    Ok((last_text(rt, ledger.global, ran)?, requests))
+    (last_text(rt, ledger.global, ran), requests)
 }
 
 // Prints the reply and the list, or `=` if the list is as before.
@@ -278,21 +278,21 @@ fn outcome<R: Abort>(
     ledger: &'static Ledger,
     number: usize,
     refused: u64,
-) -> Result<(String, u64), AllocError> {
+) -> (String, u64) {
     ledger.begin(0);
     let (spare, command) = nth_command(rt, ledger, number);
     let mut list: List<Item> = list_of(rt, ledger, items(rt, ledger, &[1, 2, 2, 3]), spare);
-    let before = list_text(ledger.global, &list)?;
-    let (reply, requests) = reply_to(rt, ledger, &mut list, command, number, refused)?;
-    let after = list_text(ledger.global, &list)?;
+    let before = check!(rt; list_text(ledger.global, &list));
+    let (reply, requests) = reply_to(rt, ledger, &mut list, command, number, refused);
+    let after = check!(rt; list_text(ledger.global, &list));
     assert_clean(rt, ledger, list);
     let (reply, before) = (reply.as_str(), before.as_str());
-    let outcome = outcome_text(ledger.global, reply, before, after.as_str())?;
-    Ok((outcome, requests))
+    let outcome = check!(rt; outcome_text(ledger.global, reply, before, after.as_str()));
+    (outcome, requests)
 }
 
 // Prints the last reply, or why there is none. Asserts that the earlier reply is as before.
-fn last_text<R: Abort>(rt: &R, alloc: Global, ran: Ran<Item>) -> Result<String, AllocError> {
+fn last_text<R: Abort>(rt: &R, alloc: Global, ran: Ran<Item>) -> String {
     let Ran {
         cause,
         requests: _,
@@ -302,23 +302,15 @@ fn last_text<R: Abort>(rt: &R, alloc: Global, ran: Ran<Item>) -> Result<String, 
     assert!(rt; matches!(replies.as_slice(), [Reply::Item(None)]));
     drop(replies);
     if let Some(cause) = cause {
-        return format!(in alloc; "no room: {cause:?}");
+        return check!(rt; format!(in alloc; "no room: {cause:?}"));
     }
-    match last {
-        Some(reply) => reply_text(alloc, reply),
-        None => Ok(String::new(alloc)),
-    }
+    check!(rt; reply_text(alloc, check!(rt; last)))
 }
 
 // Executes the command of a line with its first request refused, and asserts the outcome.
-fn assert_no_room<R: Abort>(
-    rt: &R,
-    ledger: &'static Ledger,
-    number: usize,
-) -> Result<(), AllocError> {
-    let (no_room, _requests) = outcome(rt, ledger, number, 1)?;
+fn assert_no_room<R: Abort>(rt: &R, ledger: &'static Ledger, number: usize) {
+    let (no_room, _requests) = outcome(rt, ledger, number, 1);
     check!(rt; same(no_room.as_str(), "no room: OutOfMemory ="));
-    Ok(())
 }
 
 // Appends the outcome to the line, or `same` if it is the last one.
@@ -329,34 +321,31 @@ fn add_outcome(line: &mut String, mark: &str, outcome: &str, last: &str) -> Resu
 
 // Executes the command of a line with each of its requests refused, and then with none refused.
 // Returns the line.
-fn outcomes<R: Abort>(
-    rt: &R,
-    ledger: &'static Ledger,
-    number: usize,
-) -> Result<String, AllocError> {
-    assert_no_room(rt, ledger, number)?;
-    let mut line = title(rt, ledger, number)?;
+fn outcomes<R: Abort>(rt: &R, ledger: &'static Ledger, number: usize) -> String {
+    assert_no_room(rt, ledger, number);
+    let mut line = title(rt, ledger, number);
     let mut last = String::new(ledger.global);
     for granted in 0..MOST {
         let refused = granted.saturating_add(2);
-        let (outcome, requests) = outcome(rt, ledger, number, refused)?;
+        let (outcome, requests) = outcome(rt, ledger, number, refused);
         let mark = if granted == 0 { ": " } else { " | " };
-        add_outcome(&mut line, mark, outcome.as_str(), last.as_str())?;
+        check!(rt; add_outcome(&mut line, mark, outcome.as_str(), last.as_str()));
         if requests < refused {
             assert!(rt; !outcome.as_str().contains("OutOfMemory"), "line {number}");
-            return Ok(line);
+            return line;
         }
         last = outcome;
     }
-    Ok(line)
+    line
 }
 
 // Returns how a line begins.
-fn title<R: Abort>(rt: &R, ledger: &'static Ledger, number: usize) -> Result<String, AllocError> {
+fn title<R: Abort>(rt: &R, ledger: &'static Ledger, number: usize) -> String {
     ledger.begin(0);
     let (spare, command): (usize, Asked<Item>) = nth_command(rt, ledger, number);
-    let command = command_text(ledger.global, &command)?;
-    format!(in ledger.global; "{}, {}", spare.saturating_add(4), command.as_str())
+    let command = check!(rt; command_text(ledger.global, &command));
+    let capacity = spare.saturating_add(4);
+    check!(rt; format!(in ledger.global; "{capacity}, {}", command.as_str()))
 }
 
 #[test]
@@ -364,7 +353,7 @@ fn each_command_with_each_request_refused(rt: HostRuntime) {
     let ledger = leaked_ledger(&rt, rt.alloc());
     let mut number: usize = 0;
     for wanted in &OUTCOMES {
-        let line = check!(rt; outcomes(&rt, ledger, number));
+        let line = outcomes(&rt, ledger, number);
         check!(rt; same(line.as_str(), *wanted));
         number = number.saturating_add(1);
     }

@@ -104,26 +104,21 @@ fn assert_replies<R: Abort>(
     replies: Vec<Told<Item>, Lender>,
     texts: &[&str],
     is_refused: bool,
-) -> Result<usize, AllocError> {
+) -> usize {
     let mut number: usize = 0;
     for reply in replies {
         let is_short = reply.refusal() == Some(ThinVecError::OutOfMemory);
         assert!(rt; is_refused || !is_short);
-        let text = reply_text(ledger.global, reply)?;
+        let text = check!(rt; reply_text(ledger.global, reply));
         assert_nth(rt, texts, number, text.as_str());
         number = number.saturating_add(1);
     }
-    Ok(number)
+    number
 }
 
 // Executes the six commands by one call to `run`, with request number `refused` refused. Asserts
 // that the replies and the list have the given texts. Returns whether a request was refused.
-fn assert_run<R: Abort>(
-    rt: &R,
-    ledger: &'static Ledger,
-    refused: u64,
-    texts: &[&str],
-) -> Result<bool, AllocError> {
+fn assert_run<R: Abort>(rt: &R, ledger: &'static Ledger, refused: u64, texts: &[&str]) -> bool {
     ledger.begin(0);
     let mut list: List<Item> = ThinVec::new(&ledger.alloc);
     let ran = run_all(
@@ -136,18 +131,19 @@ fn assert_run<R: Abort>(
     );
     let is_refused = 0 < refused && refused <= ran.requests;
     check!(rt; same(ran.cause.is_some(), refused == 1));
-    let replies = assert_replies(rt, ledger, ran.replies, texts, is_refused)?;
+    let replies = assert_replies(rt, ledger, ran.replies, texts, is_refused);
     check!(rt; same(replies.saturating_add(1), texts.len()));
-    let left = list_text(ledger.global, &list)?;
+    let left = check!(rt; list_text(ledger.global, &list));
     assert_nth(rt, texts, replies, left.as_str());
     assert_clean(rt, ledger, list);
-    Ok(is_refused)
+    is_refused
 }
 
 #[test]
 fn six_commands_by_one_run(rt: HostRuntime) {
     let ledger = leaked_ledger(&rt, rt.alloc());
-    check!(rt; assert_run(&rt, ledger, 0, REFUSED[4]));
+    let is_refused = assert_run(&rt, ledger, 0, REFUSED[4]);
+    check!(rt; same(is_refused, false));
 }
 
 #[test]
@@ -156,7 +152,7 @@ fn six_commands_with_each_request_refused(rt: HostRuntime) {
     let mut refused: u64 = 0;
     for texts in &REFUSED {
         refused = refused.saturating_add(1);
-        let is_refused = check!(rt; assert_run(&rt, ledger, refused, texts));
+        let is_refused = assert_run(&rt, ledger, refused, texts);
         check!(rt; same((refused, is_refused), (refused, refused < 5)));
     }
 }
@@ -169,14 +165,14 @@ fn single<J: Judge<Item>, R: Abort>(
     command: Asked<Item>,
     judge: &J,
     is_step: bool,
-) -> Result<String, AllocError> {
-    if is_step {
-        let reply = step(&ledger.alloc, list, command, judge);
-        return reply_text(ledger.global, reply);
-    }
-    let mut ran = run_single(rt, ledger, list, command, judge, 0);
-    let reply = ran.replies.pop().expect(rt, "a reply");
-    reply_text(ledger.global, reply)
+) -> String {
+    let reply = if is_step {
+        step(&ledger.alloc, list, command, judge)
+    } else {
+        let mut ran = run_single(rt, ledger, list, command, judge, 0);
+        check!(rt; ran.replies.pop())
+    };
+    check!(rt; reply_text(ledger.global, reply))
 }
 
 // Executes one command by itself, and asserts that the reply and the list have the given texts.
@@ -188,11 +184,10 @@ fn assert_single<J: Judge<Item>, R: Abort>(
     judge: &J,
     is_step: bool,
     texts: (&str, &str),
-) -> Result<(), AllocError> {
-    let reply = single(rt, ledger, list, command, judge, is_step)?;
-    let left = list_text(ledger.global, list)?;
+) {
+    let reply = single(rt, ledger, list, command, judge, is_step);
+    let left = check!(rt; list_text(ledger.global, list));
     check!(rt; same((reply.as_str(), left.as_str()), texts));
-    Ok(())
 }
 
 #[test]
@@ -203,7 +198,7 @@ fn six_commands_one_by_one(rt: HostRuntime) {
         let mut number: usize = 0;
         for texts in &RUN {
             let command = nth_command(&rt, ledger, number);
-            check!(rt; assert_single(
+            assert_single(
                 &rt,
                 ledger,
                 &mut list,
@@ -211,7 +206,7 @@ fn six_commands_one_by_one(rt: HostRuntime) {
                 &Evens { ledger },
                 is_step,
                 *texts,
-            ));
+            );
             number = number.saturating_add(1);
         }
         assert_clean(&rt, ledger, list);
@@ -226,11 +221,10 @@ fn assert_judged<J: Judge<Item>, R: Abort>(
     command: Asked<Item>,
     judge: &J,
     texts: (&str, &str),
-) -> Result<(), AllocError> {
+) {
     let mut list = list_of(rt, ledger, items(rt, ledger, &[1, 2, 3, 4, 5, 6]), 0);
-    assert_single(rt, ledger, &mut list, command, judge, false, texts)?;
+    assert_single(rt, ledger, &mut list, command, judge, false, texts);
     assert_clean(rt, ledger, list);
-    Ok(())
 }
 
 #[test]
@@ -239,9 +233,9 @@ fn a_judge_that_counts_its_calls(rt: HostRuntime) {
     let judge = Digits { digits: TURNS };
     let done = ("Done", "[1, 3, 5] 6");
     let extracted = ("Answers([Some(1), Some(3)])", "[2, 4, 5, 6] 6");
-    check!(rt; assert_judged(&rt, ledger, Command::Retain, &judge, done));
-    check!(rt; assert_judged(&rt, ledger, Command::DedupBy, &judge, done));
-    check!(rt; assert_judged(&rt, ledger, Command::ExtractIf(0, 6, 2), &judge, extracted));
+    assert_judged(&rt, ledger, Command::Retain, &judge, done);
+    assert_judged(&rt, ledger, Command::DedupBy, &judge, done);
+    assert_judged(&rt, ledger, Command::ExtractIf(0, 6, 2), &judge, extracted);
 }
 
 #[test]
@@ -249,7 +243,7 @@ fn a_judge_that_swaps_the_items(rt: HostRuntime) {
     let ledger = leaked_ledger(&rt, rt.alloc());
     let judge = Swaps { digits: TURNS };
     let done = ("Done", "[3, 5, 6] 6");
-    check!(rt; assert_judged(&rt, ledger, Command::DedupBy, &judge, done));
+    assert_judged(&rt, ledger, Command::DedupBy, &judge, done);
 }
 
 // Executes the command on a list of `len` items, numbered from 1, and asserts how often it asks the

@@ -140,7 +140,7 @@ fn drops_of<T: Numbered>(rt: &impl Abort, ledger: &'static Ledger, case: Case) -
         Call::Splice | Call::ReplaceRangeFromList => {
             replace_by(rt, list, &ledger.alloc, case, items);
         }
-        Call::ReplaceRange => check!(rt; replace_range(rt, ledger, list, case, items.as_slice())),
+        Call::ReplaceRange => replace_range(rt, ledger, list, case, items.as_slice()),
         _ => {
             check!(rt; remove_some(ledger, &mut list, case));
             drop(list);
@@ -167,9 +167,9 @@ fn replace_range<T: Numbered>(
     mut list: List<T, Doubling>,
     case: Case,
     items: &[T],
-) -> Result<(), ThinVecError> {
+) {
     assert!(rt; case.start <= case.end && case.end <= list.len());
-    list.replace_range(&ledger.alloc, case.start, case.end, items)
+    check!(rt; list.replace_range(&ledger.alloc, case.start, case.end, items));
 }
 
 // Makes a call that needs neither a range in bounds nor new items.
@@ -434,27 +434,23 @@ fn is_clone_refused<T: Numbered>(
 }
 
 // The first request of each call is for a block, and each other one for a clone.
-fn assert_clones_in_order<T: Numbered>(
-    rt: &impl Abort,
-    ledger: &'static Ledger,
-) -> Result<(), ThinVecError> {
+fn assert_clones_in_order<T: Numbered>(rt: &impl Abort, ledger: &'static Ledger) {
     for call in 0..4 {
         for clones in [0_usize, 1, 2, 30, 99] {
-            let mut list: List<T, Doubling> = filled_list(ledger, 100, 0)?;
+            let mut list: List<T, Doubling> = check!(rt; filled_list(ledger, 100, 0));
             ledger.begin((clones as u64).saturating_add(2));
             let is_refused = is_clone_refused(ledger, call, &mut list);
             let found = (call, clones, is_refused, ledger.dropped.get());
             check!(rt; same(found, (call, clones, true, then(0, 0, clones))));
         }
     }
-    Ok(())
 }
 
 #[test]
 fn clones_are_dropped_in_order_if_one_is_refused(rt: HostRuntime) {
     let ledger = check!(rt; Ledger::leaked(rt.alloc()));
-    check!(rt; assert_clones_in_order::<Counted<'static>>(&rt, ledger));
-    check!(rt; assert_clones_in_order::<Counted<'static, [u64; 14]>>(&rt, ledger));
+    assert_clones_in_order::<Counted<'static>>(&rt, ledger);
+    assert_clones_in_order::<Counted<'static, [u64; 14]>>(&rt, ledger);
 }
 
 // Returns the sum over the drops of two items, in this order.
