@@ -57,9 +57,11 @@ fn assert_boxed_slice_returned(rt: &impl Abort, alloc: Global, refusing: Lender,
 
 #[test]
 fn refused_conversions_into_a_list_return_their_source(rt: HostRuntime) {
-    let (refusing, items) = (check!(rt; Refusing::leaked(rt.alloc(), 1)), [1, 2, 3]);
+    let refusing = check!(rt; Refusing::leaked(rt.alloc(), 1));
+    let items = [1, 2, 3];
     let refused = check!(rt; ThinVec::from_array(refusing, items).err());
-    check!(rt; same((refused.value, refused.cause), (items, OUT_OF_MEMORY)));
+    let value = refused.value;
+    check!(rt; same((value, refused.cause), (items, OUT_OF_MEMORY)));
     check!(rt; counts(refusing, 1, 0));
     assert_vec_returned(&rt, rt.alloc(), refusing, items);
     assert_boxed_slice_returned(&rt, rt.alloc(), refusing, items);
