@@ -101,13 +101,13 @@ IsFilter name command = ⊥
 
 -- `IsCall words call` holds if the words describe the command of `call`, and also its judge if the
 -- command uses one.
-abbrev pub IsCall : Words → Call → Type 0
+abbrev pub IsCall : {A : Type 0} → Words → Call A → Type 0
 IsCall words call = Says words call.command × SaysJudge words call.command call.judge
 
 -- `IsLine words line` holds if the words describe the line. The single words `help`, `new` and
 -- `items` describe the lines `Help`, `New` and `Items`. Any other line contains a call, and the
 -- words must describe this call.
-abbrev pub IsLine : Words → Line → Type 0
+abbrev pub IsLine : {A : Type 0} → Words → Line A → Type 0
 IsLine words Help = HasForm words (codes "help") 1
 IsLine words New = HasForm words (codes "new") 1
 IsLine words Items = HasForm words (codes "items") 1

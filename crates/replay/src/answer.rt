@@ -3,6 +3,7 @@
 
 use crate::forms::{FORMS, NOTES};
 use crate::item::Item;
+use std::alloc::Allocator;
 use std::io::{self, Write};
 use thin_runner::command::Reply;
 use thin_runner::hinted::Hinted;
@@ -22,18 +23,18 @@ pub fn write_help(out: &mut impl Write) -> io::Result<()> {
 }
 
 /// Writes the items of the list, and ends the line.
-pub fn write_items(out: &mut impl Write, list: &ThinVec<Item>) -> io::Result<()> {
+pub fn write_items<A: Allocator>(out: &mut impl Write, list: &ThinVec<Item, A>) -> io::Result<()> {
     writeln!(out, "items {list:?}")
 }
 
 /// Writes the length and the capacity of the list, and ends the line.
-pub fn write_state(out: &mut impl Write, list: &ThinVec<Item>) -> io::Result<()> {
+pub fn write_state<A: Allocator>(out: &mut impl Write, list: &ThinVec<Item, A>) -> io::Result<()> {
     let (length, capacity) = (list.len(), list.capacity());
     writeln!(out, "; length {length}; capacity {capacity}")
 }
 
 /// Writes the reply.
-pub fn write_reply(out: &mut impl Write, reply: Reply<Item>) -> io::Result<()> {
+pub fn write_reply<A: Allocator>(out: &mut impl Write, reply: Reply<Item, A>) -> io::Result<()> {
     match reply {
         Reply::Done => write!(out, "done"),
         Reply::Item(item) => write!(out, "item {item:?}"),
@@ -64,9 +65,9 @@ pub fn write_reply(out: &mut impl Write, reply: Reply<Item>) -> io::Result<()> {
 
 // Writes the items and the capacity of `other`, the list that was passed to `append`. If `append`
 // failed, first writes the cause `refused`.
-fn write_other(
+fn write_other<A: Allocator>(
     out: &mut impl Write,
-    other: &ThinVec<Item>,
+    other: &ThinVec<Item, A>,
     refused: Option<ThinVecError>,
 ) -> io::Result<()> {
     if let Some(cause) = refused {
@@ -77,7 +78,7 @@ fn write_other(
 }
 
 // Writes the items that the iterator `rest` has not yielded yet.
-fn write_rest(out: &mut impl Write, rest: Hinted<Item>) -> io::Result<()> {
+fn write_rest<A: Allocator>(out: &mut impl Write, rest: Hinted<Item, A>) -> io::Result<()> {
     write!(out, "; rest")?;
     for item in rest {
         write!(out, " {item:?}")?;

@@ -12,18 +12,18 @@ mod single;
 use crate::divisor_judge::DivisorJudge;
 use crate::item::Item;
 use crate::line_error::LineError;
-use std::alloc::Global;
+use std::alloc::Allocator;
 use thin_runner::command::Command;
 
 /// A command and a judge, which makes decisions for the command in place of a closure. If the
 /// command uses no judge, the field `judge` may have any value.
 #[derive(Drop)]
-pub struct Call {
-    pub command: Command<Item>,
+pub struct Call<A: Allocator> {
+    pub command: Command<Item, A>,
     pub judge: DivisorJudge,
 }
 
-impl Call {
+impl<A: Allocator + Copy> Call<A> {
     ghost use Rattle.std.specs.Prelude.{◌≡◌, IfOk, IfSome};
     ghost use Rattle.replay.specs.Lines.{IsCall};
 
@@ -34,7 +34,7 @@ impl Call {
     /// # Errors
     ///
     /// Fails if one of the words is invalid, or if there is not enough memory.
-    pub fn parse(alloc: Global, words: &[&str]) -> Result<Option<Call>, LineError>
+    pub fn parse(alloc: A, words: &[&str]) -> Result<Option<Call<A>>, LineError>
         ensures says { IfOk result (λ found. IfSome found (IsCall words.now)) }
     {
         if let Some(call) = filters::parse(words)? {
@@ -45,7 +45,7 @@ impl Call {
     }
 
     // Makes a `Call` from a command that uses no judge. The judge in the `Call` is a placeholder.
-    fn unjudged(command: Command<Item>) -> Call
+    fn unjudged(command: Command<Item, A>) -> Call<A>
         ensures command { result.command ≡ command }
     {
         let judge = DivisorJudge::placeholder();
@@ -55,7 +55,10 @@ impl Call {
 
 // Parses the words of a line as a command that uses no judge. Returns `None` if the words do not
 // have the form of such a command.
-fn parse_command(alloc: Global, words: &[&str]) -> Result<Option<Command<Item>>, LineError>
+fn parse_command<A: Allocator + Copy>(
+    alloc: A,
+    words: &[&str],
+) -> Result<Option<Command<Item, A>>, LineError>
     ensures says { IfOk result (λ found. IfSome found (SaysUnjudged words.now)) }
 {
     if let Some(command) = single::parse(words)? {

@@ -19,7 +19,7 @@ use crate::item::Item;
 use crate::line::Line;
 use crate::line_error::LineError;
 use crate::replay_error::ReplayError;
-use std::alloc::Global;
+use std::alloc::Allocator;
 use std::io::{self, BufRead, BufWriter, ErrorKind, Write};
 use std::process::ExitCode;
 use thin_runner::command::Reply;
@@ -37,14 +37,14 @@ pub fn exit_code(rt: &impl Eprint, answered: Result<(), ReplayError>) -> ExitCod
 }
 
 /// Reads all lines of `input`, and then carries out the commands in order, and writes the answers
-/// to `out`.
+/// to `out`. All memory that this takes is from `alloc`.
 ///
 /// # Errors
 ///
 /// Fails if a line is invalid, if reading, writing or an allocation fails, or if a reply says that
 /// memory was missing. What was answered before an error is written.
-pub fn replay(
-    alloc: Global,
+pub fn replay<A: Allocator + Copy>(
+    alloc: A,
     input: impl BufRead + Drop,
     out: impl Write + Drop,
 ) -> Result<(), ReplayError> {
@@ -56,10 +56,13 @@ pub fn replay(
 }
 
 // A line of the input, after its number.
-type Numbered = (usize, Line);
+type Numbered<A> = (usize, Line<A>);
 
 // Reads and parses all lines, and skips blank lines.
-fn read_lines(alloc: Global, input: impl BufRead + Drop) -> Result<Vec<Numbered>, ReplayError> {
+fn read_lines<A: Allocator + Copy>(
+    alloc: A,
+    input: impl BufRead + Drop,
+) -> Result<Vec<Numbered<A>, A>, ReplayError> {
     let mut lines = Vec::new(alloc);
     for (index, text) in input.lines(alloc).enumerate() {
         let number = index.saturating_add(1);
@@ -88,10 +91,10 @@ fn read_error(number: usize, error: io::Error) -> ReplayError {
 }
 
 // Carries out the lines in order on a new list, and writes the answers.
-fn answer_lines(
+fn answer_lines<A: Allocator + Copy>(
     out: &mut impl Write,
-    alloc: Global,
-    lines: Vec<Numbered>,
+    alloc: A,
+    lines: Vec<Numbered<A>, A>,
 ) -> Result<(), ReplayError> {
     let mut list = ThinVec::new(alloc);
     for (number, line) in lines {
@@ -101,12 +104,12 @@ fn answer_lines(
 }
 
 // Carries out one line of the input, and writes the answer.
-fn answer_line(
+fn answer_line<A: Allocator + Copy>(
     out: &mut impl Write,
-    alloc: Global,
-    list: &mut ThinVec<Item>,
+    alloc: A,
+    list: &mut ThinVec<Item, A>,
     number: usize,
-    line: Line,
+    line: Line<A>,
 ) -> Result<(), ReplayError> {
     match line {
         Line::Help => answer::write_help(out)?,
@@ -131,13 +134,6 @@ fn answer_line(
 }
 
 /// Returns whether the reply says that there was not enough memory. `replay` ends at such a reply.
-pub fn lacks_memory(reply: &Reply<Item>) -> bool {
-    let cause = match reply {
-        Reply::Returned(_item, cause) => cause,
-        Reply::Refused(cause) => cause,
-        Reply::Other(_list, Some(cause)) => cause,
-        Reply::Stopped { cause, .. } => cause,
-        _ => return false,
-    };
-    *cause == ThinVecError::OutOfMemory
+pub fn lacks_memory<A: Allocator>(reply: &Reply<Item, A>) -> bool {
+    reply.refusal() == Some(ThinVecError::OutOfMemory)
 }

@@ -3,11 +3,11 @@
 use crate::call::Call;
 use crate::forms::form_of;
 use crate::line_error::LineError;
-use std::alloc::Global;
+use std::alloc::Allocator;
 
 /// A line of the input.
 #[derive(Drop)]
-pub enum Line {
+pub enum Line<A: Allocator> {
     /// The line `help`. It makes the program print the forms that a line can have.
     Help,
     /// The line `new`: the program drops the list and starts a new one.
@@ -15,26 +15,26 @@ pub enum Line {
     /// The line `items`. It makes the program print the items of the list.
     Items,
     /// Any other line. Such a line describes a command.
-    Carry(Call),
+    Carry(Call<A>),
 }
 
-impl Line {
+impl<A: Allocator + Copy> Line<A> {
     ghost use Rattle.std.specs.Prelude.{IfOk};
     ghost use Rattle.replay.specs.Lines.{HasWords, IsLine};
     ghost use Rattle.replay.specs.Words.{Words};
 
     /// Parses a line. Fails if the line has none of the forms that `help` prints, if a word cannot
     /// be parsed, or if there is not enough memory.
-    pub fn parse(alloc: Global, text: &str) -> Result<Line, LineError>
+    pub fn parse(alloc: A, text: &str) -> Result<Line<A>, LineError>
         ensures says { IfOk result (λ line. (words : Words) × HasWords text.now words
             × IsLine words line) }
     {
-        let words: Vec<&str> = text.split_whitespace().collect(alloc)?;
+        let words: Vec<&str, A> = text.split_whitespace().collect(alloc)?;
         Line::from_words(alloc, words.as_slice())
     }
 
     // Parses the words of a line, and fails in the same cases as `Line::parse`.
-    fn from_words(alloc: Global, words: &[&str]) -> Result<Line, LineError>
+    fn from_words(alloc: A, words: &[&str]) -> Result<Line<A>, LineError>
         ensures says { IfOk result (IsLine words.now) }
     {
         match words {

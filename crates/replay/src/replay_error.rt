@@ -16,11 +16,11 @@ pub enum ReplayError {
         cause: LineError,
     },
     /// Reading the input or writing the output failed, or there was not enough memory for the
-    /// lines of the input.
+    /// lines of the input, or for the buffer of the output.
     #[error("{0}")]
     Io(#[from] io::Error),
-    /// There was not enough memory for the list or for the reply. The commands before this line
-    /// were carried out and answered.
+    /// There was not enough memory to carry out the command, or for its reply. The commands before
+    /// this line were carried out and answered.
     #[error("line {number}: out of memory")]
     Memory {
         /// The number of the line.

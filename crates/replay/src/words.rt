@@ -5,7 +5,7 @@ ghost use Rattle.replay.specs.Words.{IsStep, SpellAll, SpellsSteps};
 
 use crate::item::{Item, item_of};
 use crate::line_error::LineError;
-use std::alloc::{AllocError, Global};
+use std::alloc::{AllocError, Allocator};
 use thin_runner::command::Step;
 use thin_vec::ThinVec;
 
@@ -32,7 +32,7 @@ pub fn count_of(word: &str, name: &'static str) -> Result<usize, LineError>
 }
 
 /// Parses each word as an item, and returns a `Vec` of the items in order.
-pub fn items_of(alloc: Global, words: &[&str]) -> Result<Vec<Item>, LineError>
+pub fn items_of<A: Allocator>(alloc: A, words: &[&str]) -> Result<Vec<Item, A>, LineError>
     ensures items { IfOk result (λ items. SpellAll words.now items.items) }
 {
     let mut items = Vec::new(alloc);
@@ -43,7 +43,7 @@ pub fn items_of(alloc: Global, words: &[&str]) -> Result<Vec<Item>, LineError>
 }
 
 /// Parses each word as an item, and returns a `ThinVec` of the items in order.
-pub fn list_of(alloc: Global, words: &[&str]) -> Result<ThinVec<Item>, LineError>
+pub fn list_of<A: Allocator>(alloc: A, words: &[&str]) -> Result<ThinVec<Item, A>, LineError>
     ensures items { IfOk result (λ list. SpellAll words.now list.items) }
 {
     let mut list = ThinVec::new(alloc);
@@ -55,7 +55,7 @@ pub fn list_of(alloc: Global, words: &[&str]) -> Result<ThinVec<Item>, LineError
 
 /// Parses a word as steps, which are calls to `next` or `next_back`. The word `-` stands for no
 /// steps. In any other word, each letter stands for one step.
-pub fn steps_of(alloc: Global, word: &str) -> Result<Vec<Step>, LineError>
+pub fn steps_of<A: Allocator>(alloc: A, word: &str) -> Result<Vec<Step, A>, LineError>
     ensures steps { IfOk result (λ steps. SpellsSteps word.now steps.items) }
 {
     let mut steps = Vec::new(alloc);

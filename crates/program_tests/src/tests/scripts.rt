@@ -1,17 +1,18 @@
-//! Tests of the crate `replay`: the error messages, the exit status, and reads and writes that
-//! fail. The files `stdin` and `stdout` of the program `thin_replay` test the answers.
+//! Tests of the crate `replay`: the error messages, the exit status, and reads, writes and requests
+//! that fail. The files `stdin` and `stdout` of the program `thin_replay` test the answers.
 use crate::tests::page::Page;
 use replay::answer::write_reply;
 use replay::line::Line;
+use replay::line_error::LineError;
 use replay::replay_error::ReplayError;
 use replay::{exit_code, lacks_memory, replay};
-use std::alloc::{AllocError, Global};
+use std::alloc::{AllocError, Allocator, Global};
 use std::cell::Cell;
 use std::fmt::Display;
 use std::io::{self, BufReader, ErrorKind, Read};
 use std::process::Abort;
 use thin_runner::command::Reply;
-use thin_testing::{check, same};
+use thin_testing::{Lender, Refusing, check, same};
 use thin_vec::{ThinVecError, thin_vec};
 
 // Asserts what is said about a line that has no form.
@@ -238,16 +239,15 @@ fn assert_exit(rt: &impl Abort, alloc: Global, answered: Result<(), ReplayError>
     );
 }
 
-// Replays the lines of `input`, of which the read number `unread` and the write number `unwritten`
-// fail. Returns what is written. Asserts the error message (which is empty if there is no error),
-// that it alone is written to standard error, and the exit status.
-fn replayed(
+// Replays the lines of `input` with memory from `source`. The read number `unread` and the write
+// number `unwritten` fail. Returns what is written, and how the replay ended.
+fn replayed_from<A: Allocator + Copy>(
     rt: &impl Abort,
     alloc: Global,
+    source: A,
     input: &[u8],
     (unread, unwritten): (usize, usize),
-    told: &str,
-) -> String {
+) -> (String, Result<(), ReplayError>) {
     let mut text = String::new(alloc);
     let page = Page {
         text: &mut text,
@@ -260,7 +260,21 @@ fn replayed(
         failing: unread,
     };
     let reader = check!(rt; BufReader::with_capacity(alloc, CHUNK, script));
-    let answered = replay(alloc, reader, page);
+    let answered = replay(source, reader, page);
+    (text, answered)
+}
+
+// Replays the lines of `input`, of which the read number `unread` and the write number `unwritten`
+// fail. Returns what is written. Asserts the error message (which is empty if there is no error),
+// that it alone is written to standard error, and the exit status.
+fn replayed(
+    rt: &impl Abort,
+    alloc: Global,
+    input: &[u8],
+    failing: (usize, usize),
+    told: &str,
+) -> String {
+    let (text, answered) = replayed_from(rt, alloc, alloc, input, failing);
     assert_message(rt, alloc, &answered, told);
     assert_exit(rt, alloc, answered, told);
     text
@@ -400,6 +414,78 @@ fn writes_the_replies_of_refused_commands(rt: HostRuntime) {
     }
 }
 
+// Lines that are answered by one line each. Each command requests memory, and the list that `new`
+// drops has a block.
+static ASKING: &str = "push 1\nextend_from_slice 2 3 4 5\nnew\npush 6\ninsert 0 7\nreserve 9\n\
+    reserve_exact 30\nshrink_to_fit\nresize 9 7\nextend 2 8 9 10 11 12 13 14 15\n\
+    append 16 17 18\nsplit_off 3\nclone\ndrain 0 1 fb\nextract_if 0 1 2 1 0 0\n\
+    splice 0 1 f 1 19 20 21 22 23 24\n";
+
+// Returns how many lines are answered before the error, if it says that memory was missing.
+fn answered_before(answered: Result<(), ReplayError>) -> Option<usize> {
+    match answered {
+        Err(ReplayError::Memory { number }) => number.checked_sub(1),
+        Err(
+            ReplayError::BadLine {
+                number: _,
+                cause: LineError::Memory(_),
+            },
+        ) => Some(0),
+        Err(ReplayError::Io(error)) => match error.kind() {
+            ErrorKind::OutOfMemory => Some(0),
+            _ => None,
+        },
+        _ => None,
+    }
+}
+
+// Replays the lines `ASKING`, of which `whole` are the answers, with one request refused. Asserts
+// that the replay ends there, that only the lines before the one that is named are answered, and
+// that nothing is leaked. Returns how many lines are answered, or `None` if the replay did with
+// less memory.
+fn answered_at(
+    rt: &impl Abort,
+    alloc: Global,
+    refusing: Lender,
+    refused: u64,
+    whole: &str,
+) -> Option<usize> {
+    refusing.refuse(refused);
+    let (text, answered) = replayed_from(rt, alloc, refusing, ASKING.as_bytes(), (0, 0));
+    check!(rt; same((whole.starts_with(text.as_str()), refusing.blocks()), (true, 0)));
+    if answered.is_ok() {
+        check!(rt; same(text.as_str(), whole));
+        return None;
+    }
+    let lines = Some(text.as_str().lines().count());
+    let before = answered_before(answered);
+    check!(rt; same((before, refusing.requests()), (lines, refused)));
+    lines
+}
+
+// Requests are refused while the lines are read and parsed, for the buffer of the writer, and then
+// at each line but `new`, which makes none. The `collect` of the words of a line requests less if
+// its first request is refused.
+#[test]
+fn ends_at_each_refused_request(rt: HostRuntime) {
+    let alloc = rt.alloc();
+    let refusing = check!(rt; Refusing::leaked(alloc, 0));
+    let (whole, answered) = replayed_from(&rt, alloc, refusing, ASKING.as_bytes(), (0, 0));
+    check!(rt; same((answered.is_ok(), refusing.blocks()), (true, 0)));
+    // How many lines are answered before the error, and how many different such numbers there are.
+    let (mut last, mut numbers) = (None, 0_usize);
+    for refused in 1..=refusing.requests() {
+        let lines = answered_at(&rt, alloc, refusing, refused, whole.as_str());
+        if lines.is_none() {
+            check!(rt; same(last.unwrap_or(0), 0));
+        } else if lines != last {
+            last = lines;
+            numbers = numbers.saturating_add(1);
+        }
+    }
+    check!(rt; same((last, numbers, whole.as_str().lines().count()), (Some(15), 15, 16)));
+}
+
 #[test]
 fn fails_if_a_read_fails(rt: HostRuntime) {
     let input = "push 1\nitems\n\npop\nextend_from_slice 1 2 3 4 5 6 7\nitems\n";
@@ -458,12 +544,14 @@ fn returns_the_error_of_a_read(rt: HostRuntime) {
     }
 }
 
-// Replays `input`, whose answers take several calls to `write`. Asserts that the program fails at a
-// call that fails, whichever call it is. What is written is then a beginning of the answers: the
-// writer tries once more to write those that it holds, and no more.
-fn assert_fails_at_a_write(rt: &impl Abort, alloc: Global, input: &String) {
+// Replays `input`. Asserts that its answers take more than one call to `write` if `is_long` is
+// true, and one otherwise, and that the program fails at a call that fails, whichever call it is.
+// What is written is then a beginning of the answers: the writer tries once more to write those
+// that it holds, and no more.
+fn assert_fails_at_a_write(rt: &impl Abort, alloc: Global, input: &String, is_long: bool) {
     let whole = replayed(rt, alloc, input.as_bytes(), (0, 0), "");
     // The writer has room for 8192 bytes.
+    check!(rt; same(whole.len() > 8192, is_long));
     for unwritten in 1..=whole.len().div_ceil(8192) {
         let text = replayed(rt, alloc, input.as_bytes(), (0, unwritten), "broken pipe");
         assert!(rt;
@@ -480,8 +568,8 @@ static REPEATED: [(&str, usize); 12] = [
     ("pop", 280),
     ("remove 9", 240),
     ("append", 190),
-    ("reserve 18446744073709551615", 150),
-    ("drain 0 0 ffff", 130),
+    ("reserve 18446744073709551615", 180),
+    ("drain 0 0 ffff", 155),
     ("clone", 200),
     ("extend 18446744073709551615 3", 90),
     ("new", 340),
@@ -513,7 +601,7 @@ fn fails_if_a_write_fails(rt: HostRuntime) {
                 let input = check!(rt; format!(in alloc;
                     "push {first}\npush {second}\nitems\nnew\n{lines}"
                 ));
-                assert_fails_at_a_write(&rt, alloc, &input);
+                assert_fails_at_a_write(&rt, alloc, &input, *times > 1);
                 second = second.saturating_mul(10_000);
             }
         }
@@ -542,7 +630,7 @@ fn fails_if_a_write_of_a_long_reply_fails(rt: HostRuntime) {
         ("extend 18446744073709551615", "pop"),
     ] {
         let input = check!(rt; format!(in alloc; "{command}{words}\n{line}\n"));
-        assert_fails_at_a_write(&rt, alloc, &input);
+        assert_fails_at_a_write(&rt, alloc, &input, true);
     }
 }
 

@@ -5,12 +5,12 @@ ghost use Rattle.replay.specs.Lines.{SaysUnjudged};
 use crate::item::{Item, item_of};
 use crate::line_error::LineError;
 use crate::words::{count_of, items_of, list_of};
-use std::alloc::Global;
+use std::alloc::Allocator;
 use thin_runner::command::Command;
 
 /// Parses the words of a line as a command that adds several items. Returns `None` if the words do
 /// not have the form of such a command.
-pub fn parse(alloc: Global, words: &[&str]) -> Result<Option<Command<Item>>, LineError>
+pub fn parse<A: Allocator>(alloc: A, words: &[&str]) -> Result<Option<Command<Item, A>>, LineError>
     ensures says { IfOk result (λ found. IfSome found (SaysUnjudged words.now)) }
 {
     Ok(Some(match words {

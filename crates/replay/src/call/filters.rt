@@ -8,6 +8,7 @@ use crate::divisor_judge::DivisorJudge;
 use crate::item::Item;
 use crate::line_error::LineError;
 use crate::words::count_of;
+use std::alloc::Allocator;
 use thin_runner::command::Command;
 
 /// Parses the words of a line as a command and a judge, which makes the decisions that a closure
@@ -17,7 +18,7 @@ use thin_runner::command::Command;
 /// # Errors
 ///
 /// Fails if the words have this form, but a word after the name of the command is invalid.
-pub fn parse(words: &[&str]) -> Result<Option<Call>, LineError>
+pub fn parse<A: Allocator>(words: &[&str]) -> Result<Option<Call<A>>, LineError>
     ensures says { IfOk result (λ found. IfSome found (IsCall words.now)) }
 {
     match words {
@@ -39,9 +40,9 @@ pub fn parse(words: &[&str]) -> Result<Option<Call>, LineError>
     }
 }
 
-// If `name` is the name of the command `Retain`, `RetainMut`, `DedupBy` or `DedupByKey`, returns
-// this command. Otherwise, returns `None`.
-fn filter(name: &str) -> Option<Command<Item>>
+// Returns the command if `name` is that of `Retain`, `RetainMut`, `DedupBy` or `DedupByKey`, and
+// otherwise `None`.
+fn filter<A: Allocator>(name: &str) -> Option<Command<Item, A>>
     ensures filter { IfSome result (IsFilter name.now) }
 {
     match name {

@@ -5,7 +5,7 @@ ghost use Rattle.replay.specs.Lines.{SaysUnjudged};
 use crate::item::Item;
 use crate::line_error::LineError;
 use crate::words::{count_of, items_of, steps_of};
-use std::alloc::Global;
+use std::alloc::Allocator;
 use thin_runner::command::Command;
 
 /// Parses the words of a line as a `dedup` command, or as a command that removes or replaces a
@@ -15,7 +15,10 @@ use thin_runner::command::Command;
 ///
 /// Fails if the words have this form, but one of them is invalid. Also fails if there is not enough
 /// memory.
-pub fn parse(alloc: Global, words: &[&str]) -> Result<Option<Command<Item>>, LineError>
+pub fn parse<A: Allocator + Copy>(
+    alloc: A,
+    words: &[&str],
+) -> Result<Option<Command<Item, A>>, LineError>
     ensures says { IfOk result (λ found. IfSome found (SaysUnjudged words.now)) }
 {
     Ok(Some(match words {

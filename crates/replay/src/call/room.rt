@@ -5,11 +5,12 @@ ghost use Rattle.replay.specs.Lines.{SaysUnjudged};
 use crate::item::Item;
 use crate::line_error::LineError;
 use crate::words::count_of;
+use std::alloc::Allocator;
 use thin_runner::command::Command;
 
 /// Parses the words as a command that changes the capacity of the list, or splits or clones the
 /// list. Returns `None` if they have another form.
-pub fn parse(words: &[&str]) -> Result<Option<Command<Item>>, LineError>
+pub fn parse<A: Allocator>(words: &[&str]) -> Result<Option<Command<Item, A>>, LineError>
     ensures says { IfOk result (λ found. IfSome found (SaysUnjudged words.now)) }
 {
     Ok(Some(match words {

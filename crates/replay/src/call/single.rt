@@ -5,11 +5,12 @@ ghost use Rattle.replay.specs.Lines.{SaysUnjudged};
 use crate::item::{Item, item_of};
 use crate::line_error::LineError;
 use crate::words::count_of;
+use std::alloc::Allocator;
 use thin_runner::command::Command;
 
 /// Parses the words as a command that adds, removes or replaces one item, or as `truncate` or
 /// `clear`. Returns `None` if they have another form.
-pub fn parse(words: &[&str]) -> Result<Option<Command<Item>>, LineError>
+pub fn parse<A: Allocator>(words: &[&str]) -> Result<Option<Command<Item, A>>, LineError>
     ensures says { IfOk result (λ found. IfSome found (SaysUnjudged words.now)) }
 {
     Ok(Some(match words {

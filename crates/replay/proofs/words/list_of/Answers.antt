@@ -8,12 +8,12 @@ use Rattle.replay.proofs.words.list_of.Goals as goal
 -- The loop invariant holds before the first iteration, because no word has been parsed yet, and the
 -- `ThinVec` is empty.
 pub loop-word-init : goal.loop-word-init
-loop-word-init c = rw c.new-list.ensures.new.items tt
+loop-word-init g c = rw c.new-list.ensures.new.items tt
 
 -- Each iteration preserves the loop invariant, because it parses the next word and appends the
 -- resulting number to the `ThinVec`.
 pub loop-word-preserved : goal.loop-word-preserved
-loop-word-preserved c =
+loop-word-preserved g c =
     let grown : c.push.new.self.items ≡ c.loop-word.list.items ++ c.in_ok-item_of.field-0 ∷ [] =
     search rules in
     rw grown
@@ -24,7 +24,7 @@ loop-word-preserved c =
 -- After the loop, all words have been parsed. So the `ThinVec` contains the numbers that the words
 -- spell.
 pub returns : goal.returns
-returns c = record {
+returns g c = record {
   items = zip-all (λ w n. Spells w.now n) c.args.words.now c.loop-word.word-index
       c.loop-word.list.items c.loop-word-test.false c.loop-word.invariant;
 }

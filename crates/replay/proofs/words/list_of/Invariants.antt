@@ -7,4 +7,4 @@ use Rattle.replay.proofs.words.list_of.Given as goal
 -- The `ThinVec` contains exactly the numbers that have been parsed so far, in the order of their
 -- words.
 abbrev pub invariant-loop-word : goal.invariant-loop-word
-invariant-loop-word l = SpellAll (take l.word-index l.words) l.list.items
+invariant-loop-word g l = SpellAll (take l.word-index l.words) l.list.items

@@ -8,12 +8,12 @@ use Rattle.replay.proofs.words.steps_of.Goals as goal
 -- The loop invariant holds before the first iteration, because no letter has been parsed yet, and
 -- the list of steps is empty.
 pub loop-letter-init : goal.loop-letter-init
-loop-letter-init c = rw c.new-steps.ensures.items tt
+loop-letter-init g c = rw c.new-steps.ensures.items tt
 
 -- Each iteration preserves the loop invariant, because it parses the next letter and appends the
 -- resulting step to the list of steps.
 pub loop-letter-preserved : goal.loop-letter-preserved
-loop-letter-preserved c =
+loop-letter-preserved g c =
     rw c.in_ok-push.ensures.items
     (zip-next IsStep c.as_bytes-letters.result.now c.loop-letter.letter-index 0
     c.loop-letter.steps.items c.in_ok-step_of.field-0 c.loop-letter-test.true
@@ -22,7 +22,7 @@ loop-letter-preserved c =
 -- After the loop, all letters have been parsed. So the list of steps contains one step for each
 -- letter of the word, in the same order.
 pub returns : goal.returns
-returns c = record {
+returns g c = record {
   steps = inr (rw (← c.as_bytes-letters.ensures.value)
       (zip-all IsStep c.as_bytes-letters.result.now c.loop-letter.letter-index
       c.loop-letter.steps.items c.loop-letter-test.false c.loop-letter.invariant));

@@ -8,4 +8,4 @@ use Rattle.replay.proofs.words.steps_of.Given as goal
 -- The list of steps contains one step for each letter that has been parsed so far, in the same
 -- order.
 abbrev pub invariant-loop-letter : goal.invariant-loop-letter
-invariant-loop-letter l = AllZip IsStep (take l.letter-index l.letters) l.steps.items
+invariant-loop-letter g l = AllZip IsStep (take l.letter-index l.letters) l.steps.items
