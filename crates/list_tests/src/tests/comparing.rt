@@ -78,7 +78,8 @@ fn digits(alloc: Global, numbers: &[u32]) -> Result<ThinVec<LastDigit>, ThinVecE
     Ok(list)
 }
 
-fn hash_of(list: &ThinVec<LastDigit>) -> u64 {
+// Returns the hash of the list.
+fn hash_of<T: Hash>(list: &ThinVec<T>) -> u64 {
     let mut hasher = DefaultHasher::new();
     list.hash(&mut hasher);
     hasher.finish()
@@ -115,12 +116,6 @@ fn lists_of_equal_items_are_equal_and_hash_alike(rt: HostRuntime) {
     }
 }
 
-fn hash_of_list(list: &ThinVec<i32>) -> u64 {
-    let mut hasher = DefaultHasher::new();
-    list.hash(&mut hasher);
-    hasher.finish()
-}
-
 fn hash_of_slice(items: &[i32]) -> u64 {
     let mut hasher = DefaultHasher::new();
     items.hash(&mut hasher);
@@ -132,7 +127,7 @@ fn a_list_and_its_slice_hash_alike(rt: HostRuntime) {
     for items in [&[][..], &[7], &[1, 2, 3], &[5; 100]] {
         let mut list = check!(rt; list_of(rt.alloc(), items));
         check!(rt; list.reserve(9));
-        check!(rt; same(hash_of_list(&list), hash_of_slice(items)));
+        check!(rt; same(hash_of(&list), hash_of_slice(items)));
     }
 }
 

@@ -1,12 +1,10 @@
 //! Tests of conversions from and to arrays, vectors and boxed slices, granted and refused.
 use std::alloc::Global;
 use std::process::Abort;
-use thin_testing::{Refusing, check, counts, holds, list_of, same, same_items};
+use thin_testing::{Lender, Refusing, check, counts, holds, list_of, same, same_items};
 use thin_vec::{ThinVec, ThinVecError};
 
 const OUT_OF_MEMORY: ThinVecError = ThinVecError::OutOfMemory;
-
-type Lender = &'static Refusing<Global>;
 
 #[test]
 fn into_array_returns_all_items(rt: HostRuntime) {
@@ -14,6 +12,12 @@ fn into_array_returns_all_items(rt: HostRuntime) {
     check!(rt; same(list.into_array::<3>().ok(), Some([1, 2, 3])));
     let nothing = ThinVec::<i32>::new(rt.alloc()).into_array::<0>().ok();
     check!(rt; same(nothing, Some([])));
+}
+
+#[test]
+fn from_array_moves_thousands_of_items(rt: HostRuntime) {
+    let list = check!(rt; ThinVec::from_array(rt.alloc(), [7; 5000]));
+    check!(rt; holds(&list, &[7; 5000], 5000));
 }
 
 // Asserts that the list has these items and no spare capacity, and that a boxed slice takes them.

@@ -174,8 +174,11 @@ fn a_loop_writes_to_each_item(rt: HostRuntime) {
 fn a_loop_over_extracted_items_removes_them(rt: HostRuntime) {
     let mut list = check!(rt; list_of(rt.alloc(), &[1, 2, 3]));
     check!(rt; has_len(&list, 3));
+    let mut removed = 0_usize;
     for item in list.extract_if(0, 3, |x: &mut i32| *x == 2) {
         check!(rt; same(item, 2));
+        removed = removed.saturating_add(1);
     }
+    check!(rt; same(removed, 1));
     check!(rt; same_items(&list, &[1, 3]));
 }

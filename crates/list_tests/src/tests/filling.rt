@@ -1,4 +1,4 @@
-//! Tests of the capacities of lists that are filled.
+//! Tests of lists that are filled: their capacities, and where an iterator ends.
 ghost use Rattle.std.specs.Iterator.{at_most};
 ghost use Rattle.std.specs.Prelude.{◌+◌, length};
 

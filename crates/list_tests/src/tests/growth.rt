@@ -7,7 +7,7 @@ use std::alloc::Global;
 use std::process::Abort;
 use thin_block::{Growth, PowerBytes, first_capacity, fits, next_capacity};
 use thin_testing::{check, same, same_items};
-use thin_vec::{ThinVec, ThinVecError};
+use thin_vec::ThinVec;
 
 #[test]
 fn fits_accepts_capacities_up_to_the_greatest(rt: HostRuntime) {
@@ -82,7 +82,7 @@ fn resize_fills_a_block_of_a_power_of_two(rt: HostRuntime) {
     check!(rt; same(list.capacity(), 12));
 }
 
-// No type of Rattle has an alignment of 32 or 256, so these numbers can only be proved.
+// States numbers that can only be proved, since no type of Rattle has an alignment of 32 or 256.
 #[tactic(auto, unfolding(thin_block::specs::Capacity::fits))]
 fn states_limits_at_greater_alignments()
     ensures byte_items { items_offset 1 ≡ 16 }

@@ -14,7 +14,7 @@ use thin_vec::{
     Doubling, ExtractIf, Growth, IntoIter, Rejected, ThinVec, ThinVecError, fits, thin_vec,
 };
 
-fn assert_list_traits<L>(_list: &L)
+fn needs_list_traits<L>(_list: &L)
 where
     L: Clone + Eq + Ord + Hash + Debug + Drop,
     L: AsSlice<u8> + DerefSlice<Elem = u8> + DerefSliceMut,
@@ -22,16 +22,16 @@ where
     L: Extend<u8> + FromIterator<u8> + Emptied + MadeWith<Global>,
 {}
 
-fn assert_iterator_traits<I>(_items: &I)
+fn needs_iterator_traits<I>(_items: &I)
 where
     I: DoubleEndedIterator + ExactSizeIterator + FusedIterator + Iterator<Item = u8> + Debug + Drop,
 {}
 
-fn assert_is_extract_if<F>(_items: &ExtractIf<'_, u8, F>) {}
+fn needs_extract_if<F>(_items: &ExtractIf<'_, u8, F>) {}
 
-fn assert_is_iterator<I: Iterator<Item = u8> + Drop>(_items: &I) {}
+fn needs_iterator<I: Iterator<Item = u8> + Drop>(_items: &I) {}
 
-fn assert_error_traits<E>(_cause: &E)
+fn needs_error_traits<E>(_cause: &E)
 where
     E: Error + Copy + Eq + From<AllocError> + From<Rejected<u8>>,
 {}
@@ -43,20 +43,20 @@ fn capacity_under_rule<G: Growth, A: Allocator>(list: &ThinVec<u8, A, G>) -> usi
 #[test]
 fn public_names_and_traits_exist(rt: HostRuntime) {
     let list: ThinVec<u8, Global, Doubling> = check!(rt; thin_vec![rt.alloc() => 1, 2]);
-    assert_list_traits(&list);
+    needs_list_traits(&list);
     check!(rt; same(capacity_under_rule::<Doubling, Global>(&list), 2));
-    assert_error_traits(&ThinVecError::OutOfMemory);
+    needs_error_traits(&ThinVecError::OutOfMemory);
     check!(rt; same(fits::<u8>(3), true));
 }
 
 #[test]
 fn public_iterators_and_their_traits_exist(rt: HostRuntime) {
     let mut bytes = ThinVec::new(rt.alloc());
-    assert_iterator_traits(&bytes.drain(0, 0));
-    assert_is_extract_if(&bytes.extract_if(0, 0, |_item: &mut u8| true));
-    assert_is_iterator(&bytes.extract_if(0, 0, |_item: &mut u8| true));
+    needs_iterator_traits(&bytes.drain(0, 0));
+    needs_extract_if(&bytes.extract_if(0, 0, |_item: &mut u8| true));
+    needs_iterator(&bytes.extract_if(0, 0, |_item: &mut u8| true));
     let items: IntoIter<u8, Global, Doubling> = bytes.into_iter();
-    assert_iterator_traits(&items);
+    needs_iterator_traits(&items);
 }
 
 // Deriving `Clone` for a struct asks for `Clone` of its list.

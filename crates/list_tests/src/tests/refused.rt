@@ -73,7 +73,7 @@ fn resize_grows_before_its_second_clone_is_refused(rt: HostRuntime) {
     check!(rt; same((ledger.clones.get(), ledger.live.get()), (1, 1)));
 }
 
-// Clones the items of the list by one of three calls. Returns the cause if a clone is refused.
+// Clones the items of the list by `clone` if `way` is 0, and by `from_slice` otherwise.
 fn clone_by_way(
     way: u32,
     list: &ThinVec<Counted<'static>>,
@@ -86,7 +86,8 @@ fn clone_by_way(
     Ok(())
 }
 
-// Refuses each of the three clones in turn, and asserts which items and clones there are.
+// Clones a list of three items in three ways, with clone number `refused` refused each time.
+// Asserts which items and clones there are.
 fn assert_clones_refused(rt: &impl Abort, ledger: &'static Ledger, alloc: Global, refused: u64) {
     let list = check!(rt; counted_list(ledger, alloc, 3));
     for way in 0..2 {
@@ -100,6 +101,7 @@ fn assert_clones_refused(rt: &impl Abort, ledger: &'static Ledger, alloc: Global
     assert_iter_clone_refused(rt, ledger, alloc, list.into_iter());
 }
 
+// Asserts that a clone of an `IntoIter` of three items is refused, and leaves them.
 fn assert_iter_clone_refused(
     rt: &impl Abort,
     ledger: &'static Ledger,

@@ -1,10 +1,11 @@
 //! Tests of `splice`: what the list has after `finish`, and what a refused `finish` returns.
 ghost use Rattle.std.specs.Prelude.{◌≤◌, length};
 
-use std::alloc::Global;
 use std::process::Abort;
 use thin_runner::hinted::Hinted;
-use thin_testing::{Refusing, check, counts, has_len, holds, list_of, same, same_items, splice};
+use thin_testing::{
+    Lender, Refusing, check, counts, has_len, holds, list_of, same, same_items, splice,
+};
 use thin_vec::{SpliceRefused, ThinVec, ThinVecError};
 
 const NEW: [i32; 5] = [10, 11, 12, 13, 14];
@@ -47,8 +48,6 @@ struct Left {
     rest: &'static [i32],
 }
 
-type Lender = &'static Refusing<Global>;
-
 // Asserts what a refused `finish` left and returned.
 fn assert_left(
     rt: &impl Abort,
@@ -71,7 +70,7 @@ fn assert_left(
     check!(rt; same(rest.next(), None));
 }
 
-// Replaces the items `range.0..range.1` of a list of `old` by those of `new`, and asserts what the
+// Replaces the items `range.0..range.1` of a list of `old` by those of `iter`, and asserts what the
 // refused `finish` leaves and returns.
 fn assert_refused(
     rt: &impl Abort,
@@ -167,7 +166,7 @@ fn finish_does_not_ask_for_the_hint_before_the_range_is_full(rt: HostRuntime) {
     check!(rt; holds(&list, &[9, 3], 3));
 }
 
-// What is left if the hint is too great for any capacity.
+// Returns what is left if the hint is too great for any capacity.
 fn overflow(items: &'static [i32], capacity: usize) -> Left {
     Left {
         cause: ThinVecError::CapacityOverflow,

@@ -160,7 +160,7 @@ fn errors_print_their_texts(rt: HostRuntime) {
     check!(rt; same(ThinVecError::from(AllocError), ThinVecError::OutOfMemory));
 }
 
-// Asserts the texts of an `io::Error` that was made of an error of this crate.
+// Asserts the texts of an `io::Error` that was made of an error of `thin_vec`.
 fn assert_io_error<E: Error>(rt: &impl Abort, alloc: Global, error: E) {
     let printed = check!(rt; format!(in alloc; "{error}, {error:?}"));
     check!(rt; same(printed.as_str(), "out of memory, Kind(OutOfMemory)"));
@@ -187,7 +187,7 @@ fn a_refused_write_is_printed_as_out_of_memory(rt: HostRuntime) {
     }
 }
 
-// An error of the given name and cause, which is printed as an error of this crate should be.
+// An error of the given name and cause, which is printed as an error of `thin_vec` should be.
 #[derive(Drop)]
 struct Named<'a> {
     name: &'a str,

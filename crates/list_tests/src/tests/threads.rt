@@ -27,7 +27,7 @@ fn needs_sync<X: Sync>(value: &X) -> &X
     value
 }
 
-// A list is `Send` whenever its items, its allocator and its growth rule are.
+// Shows that a list is `Send` whenever its items, its allocator and its growth rule are.
 fn send_list<T: Send, A: Allocator + Send, G: Growth + Send>(
     list: ThinVec<T, A, G>,
 ) -> ThinVec<T, A, G>
@@ -36,7 +36,7 @@ fn send_list<T: Send, A: Allocator + Send, G: Growth + Send>(
     needs_send(list)
 }
 
-// A list is `Sync` whenever its items, its allocator and its growth rule are.
+// Shows that a list is `Sync` whenever its items, its allocator and its growth rule are.
 fn share_list<T: Sync, A: Allocator + Sync, G: Growth + Sync>(
     list: &ThinVec<T, A, G>,
 ) -> &ThinVec<T, A, G>

@@ -10,7 +10,7 @@ use std::process::Abort;
 use std::rc::Rc;
 use thin_runner::hinted::Hinted;
 use thin_testing::{
-    Counted, CountedWord, Ledger, Numbered, Refusing, check, counts, has_len, list_of,
+    Counted, CountedWord, Ledger, Lender, Numbered, Refusing, check, counts, has_len, list_of,
     numbered_items, same, splice,
 };
 use thin_vec::{ThinVec, ThinVecError, thin_vec};
@@ -72,7 +72,7 @@ fn finish_holds_items_back_on_the_allocator_passed(rt: HostRuntime) {
 }
 
 // An allocator that a list owns.
-type Owned = Refusing<&'static Refusing<Global>>;
+type Owned = Refusing<Lender>;
 
 // Makes a list of `count` items whose allocator owns a clone of `owner`.
 fn owning_list<T: Numbered>(
@@ -272,7 +272,7 @@ fn has_call<T: Numbered>(ledger: &'static Ledger, function: usize, call: u32) ->
     requires small { 40 * type_size T.row < 2 ^ 63 }
 {
     ledger.begin(0);
-    let list: ThinVec<T, &'static Refusing<Global>> = ThinVec::new(&ledger.alloc);
+    let list: ThinVec<T, Lender> = ThinVec::new(&ledger.alloc);
     end(function, call, list, &ledger.alloc, ledger).is_ok()
 }
 
@@ -286,7 +286,7 @@ fn requested<T: Numbered>(
 ) -> io::Result<(u64, u64)>
     requires small { 40 * type_size T.row < 2 ^ 63 }
 {
-    let mut list: ThinVec<T, &'static Refusing<Global>> = ThinVec::new(&ledger.alloc);
+    let mut list: ThinVec<T, Lender> = ThinVec::new(&ledger.alloc);
     for item in 0..count {
         list.push(T::numbered(ledger, item))?;
     }
@@ -298,7 +298,7 @@ fn requested<T: Numbered>(
 // Makes call number `call.1` of the function `call.0`, on a list of `count` items. The allocator of
 // the list refuses request number `own`, and the one that is passed refuses request number
 // `passed`. Both own a clone of `owner`. Returns whether the call succeeded.
-fn is_ended<T: Numbered>(
+fn ends<T: Numbered>(
     ledger: &'static Ledger,
     owner: &Rc<u64>,
     call: (usize, u32),
@@ -316,7 +316,7 @@ fn is_ended<T: Numbered>(
     Ok(end(call.0, call.1, list, alloc, ledger).is_ok())
 }
 
-// Makes the call of `is_ended` with each of the requests refused. Asserts that all allocators are
+// Makes the call of `ends` with each of the requests refused. Asserts that all allocators are
 // dropped, and that the requests are those of a list that owns no allocator.
 fn assert_call_dropped<T: Numbered>(
     rt: &impl Abort,
@@ -329,7 +329,7 @@ fn assert_call_dropped<T: Numbered>(
 {
     let due = check!(rt; requested::<T>(ledger, call.0, call.1, count));
     for (own, passed) in REFUSED {
-        let is_ok = check!(rt; is_ended::<T>(ledger, owner, call, count, own, passed));
+        let is_ok = check!(rt; ends::<T>(ledger, owner, call, count, own, passed));
         let made = (call, count, own, passed);
         if own == 0 && passed == 0 {
             let found = (ledger.alloc.requests(), ledger.alloc.lent());

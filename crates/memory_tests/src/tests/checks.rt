@@ -1,6 +1,8 @@
 //! Tests of the checks of `thin_testing`: each finds what is wrong, and `check!` stops the test.
+use std::fmt::{self, Debug};
 use thin_testing::{
-    Refusing, check, counts, has_len, holds, list_of, prints, prints_as, same, same_items,
+    Misprinted, Refusing, check, counts, has_len, holds, list_of, prints, prints_as, same,
+    same_items,
 };
 
 #[test]
@@ -51,6 +53,23 @@ fn detects_a_wrong_text(rt: HostRuntime) {
         check!(rt; same(prints(rt.alloc(), &7, texts).is_err(), true));
     }
     check!(rt; same(prints_as(rt.alloc(), &7, &8).is_err(), true));
+}
+
+// A value that is printed without an error even if a write fails.
+#[derive(Drop)]
+struct Unfailing;
+
+impl Debug for Unfailing {
+    fn fmt<W: fmt::Write>(&self, f: &mut fmt::Formatter<W>) -> fmt::Result {
+        let _ = f.debug_struct("Unfailing").finish();
+        Ok(())
+    }
+}
+
+#[test]
+fn detects_an_ignored_failure_of_a_write(rt: HostRuntime) {
+    let printed = prints_as(rt.alloc(), &Unfailing, &Unfailing);
+    check!(rt; same(matches!(printed, Err(Misprinted::End(_))), true));
 }
 
 #[test]

@@ -1,8 +1,9 @@
 //! Tests of the calls that take no memory. They get lists that were made before, and an allocator
-//! that refuses all requests from then on. None of them fails, and none makes a request.
+//! that refuses all requests from then on. None of them fails for lack of memory, and none makes a
+//! request.
 ghost use Rattle.std.specs.Prelude.{◌≡◌, IfOk, length};
 
-use std::alloc::{Allocator, Global};
+use std::alloc::Allocator;
 use std::cmp::Ordering;
 use std::fmt::Debug;
 use std::hash::{DefaultHasher, Hash};
@@ -10,10 +11,8 @@ use std::io::Write;
 use std::iter::empty;
 use std::ops::Bound;
 use std::process::Abort;
-use thin_testing::{Refusing, check, has_len, holds, list_of, same, splice};
+use thin_testing::{Lender, Refusing, check, has_len, holds, list_of, same, splice};
 use thin_vec::{PowerBytes, ThinVec, ThinVecError, bounds, thin_vec};
-
-type Lender = &'static Refusing<Global>;
 
 type List = ThinVec<i32, Lender>;
 
@@ -34,7 +33,7 @@ fn assert_empty<E: Debug>(rt: &impl Abort, made: Result<List, E>) {
     check!(rt; holds(&list, &[], 0));
 }
 
-// Makes lists without items by each constructor.
+// Makes lists without items by several constructors.
 fn make_empty_lists(rt: &impl Abort, lender: Lender) {
     check!(rt; holds(&ThinVec::default_in(lender), &[], 0));
     check!(rt; holds(&ThinVec::<i32, Lender, PowerBytes>::ruled(lender), &[], 0));
@@ -181,7 +180,7 @@ fn splice_two<A: Allocator>(rt: &impl Abort, list: &mut ThinVec<i32, A>, alloc: 
     let mut splice = list.splice(0, 2, empty());
     check!(rt; same((splice.len(), splice.size_hint()), (2, (2, Some(2)))));
     check!(rt; same((splice.next(), splice.next_back()), (Some(1), Some(2))));
-    check!(rt; same(splice.finish(alloc).is_ok(), true));
+    check!(rt; splice.finish(alloc));
 }
 
 // Takes an item from each end of the list 1, 2, 3, and drops the iterator.

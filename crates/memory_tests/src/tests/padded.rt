@@ -2,14 +2,13 @@
 //! than 16 bytes and is aligned to 8, unless a block just fits into a power of two of bytes. The
 //! tests compare the number of allocated bytes, so they see which blocks are padded, and that each
 //! block is freed with its size. Each request for a padded block is refused once and then granted.
-use crate::tests::in_place::make_capacity;
-use std::alloc::{Allocator, Global};
+use crate::tests::in_place::{assert_filled, fill, make_capacity};
 use std::process::Abort;
-use thin_testing::{Counted, Ledger, Numbered, Refusing, Ruled, check, same};
+use thin_testing::{Counted, Ledger, Lender, Numbered, Ruled, check, same};
 use thin_vec::{Doubling, PowerBytes, ThinVec, ThinVecError};
 
 // The lists of these tests.
-type List<T> = ThinVec<T, &'static Refusing<Global>>;
+type List<T> = ThinVec<T, Lender>;
 
 // The least capacity of a padded block, if items of a type have one.
 const PADDED: Option<usize> = Some(32);
@@ -37,37 +36,6 @@ fn bytes_of<T: Numbered>(capacity: usize, least: Option<usize>) -> usize {
             bytes.div_ceil(8).saturating_mul(8)
         }
     }
-}
-
-// Pushes items that are made from their indices, plus `first`, until the list has `len` items.
-fn fill<T: Numbered, A: Allocator>(
-    ledger: &'static Ledger,
-    list: &mut ThinVec<T, A>,
-    first: usize,
-    len: usize,
-) -> Result<(), ThinVecError> {
-    for index in list.len()..len {
-        list.push(T::numbered(ledger, index.saturating_add(first) as u64))?;
-    }
-    Ok(())
-}
-
-// Asserts the length and the capacity of the list, and that its items are as `fill` makes them.
-fn assert_filled<T: Numbered, A: Allocator>(
-    rt: &impl Abort,
-    ledger: &'static Ledger,
-    list: &ThinVec<T, A>,
-    first: usize,
-    wanted: (usize, usize),
-) {
-    let mut right = 0_usize;
-    for item in list.as_slice() {
-        if *item == T::numbered(ledger, right.saturating_add(first) as u64) {
-            right = right.saturating_add(1);
-        }
-    }
-    let found = (right, list.len(), list.capacity());
-    check!(rt; same(found, (wanted.0, wanted.0, wanted.1)));
 }
 
 // Asserts how many bytes of memory are allocated.
@@ -283,7 +251,7 @@ fn assert_requests<T: Numbered, G: Ruled>(
     ledger: &'static Ledger,
     least: Option<usize>,
 ) {
-    let mut list = ThinVec::<T, &'static Refusing<Global>, G>::ruled(&ledger.alloc);
+    let mut list = ThinVec::<T, Lender, G>::ruled(&ledger.alloc);
     for number in 0..PUSHES {
         let (len, capacity) = (list.len(), list.capacity());
         ledger.begin(0);

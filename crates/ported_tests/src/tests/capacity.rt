@@ -2,7 +2,7 @@
 use std::alloc::Global;
 use std::mem::size_of;
 use std::process::Abort;
-use thin_testing::{Refusing, check, holds, same};
+use thin_testing::{Lender, Refusing, check, holds, same};
 use thin_vec::{ThinVec, ThinVecError};
 
 #[test]
@@ -64,8 +64,8 @@ fn reserve_doubles_and_reserve_exact_does_not(rt: HostRuntime) {
 }
 
 // Asserts that `with_capacity(capacity)` fails because the capacity is too large.
-fn assert_overflows<T: Drop>(rt: &impl Abort, alloc: &'static Refusing<Global>, capacity: usize) {
-    let refused = ThinVec::<T, &'static Refusing<Global>>::with_capacity(alloc, capacity).err();
+fn assert_overflows<T: Drop>(rt: &impl Abort, alloc: Lender, capacity: usize) {
+    let refused = ThinVec::<T, Lender>::with_capacity(alloc, capacity).err();
     let overflow = Some(ThinVecError::CapacityOverflow);
     check!(rt; same((capacity, refused), (capacity, overflow)));
 }

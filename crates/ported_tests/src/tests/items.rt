@@ -1,9 +1,7 @@
-//! The items after each call, and when they are dropped.
+//! The items after each call.
 use crate::tests::boxes_of;
-use std::alloc::Global;
-use std::process::Abort;
-use thin_testing::{Refusing, check, holds, list_of, same, same_items};
-use thin_vec::{ThinVec, ThinVecError};
+use thin_testing::{check, holds, list_of, same, same_items};
+use thin_vec::ThinVec;
 
 #[test]
 fn index_reads_and_writes_an_item(rt: HostRuntime) {

@@ -7,16 +7,17 @@ use std::process::Abort;
 use thin_testing::{Refusing, check};
 use thin_vec::{ThinVec, ThinVecError, thin_vec};
 
-// Returns what `report` writes if every row is ok. Only tests run the rows that are missing here.
+// Returns what `report` writes if every row is ok. The missing numbers are those of promises that
+// tests show, and no row.
 fn usual_text(rt: &impl Abort, alloc: Global) -> String {
     let mut text = String::new(alloc);
     for (first, last) in [(1, 11), (13, 15), (17, 25), (27, 36), (40, 41)] {
         for number in first..=last {
-            let line = format!(in alloc; "row {number} ok\n").expect(rt, "memory");
-            text.push_str(line.as_str()).expect(rt, "memory");
+            let line = check!(rt; format!(in alloc; "row {number} ok\n"));
+            check!(rt; text.push_str(line.as_str()));
         }
     }
-    text.push_str("35 rows ok\n").expect(rt, "memory");
+    check!(rt; text.push_str("35 rows ok\n"));
     text
 }
 

@@ -2,7 +2,7 @@
 use crate::tests::rows::assert_row;
 use std::alloc::Global;
 use std::process::Abort;
-use thin_rows::{Rows, ThinVecError};
+use thin_rows::Rows;
 use thin_testing::{Counted, CountedWord, Ledger, Numbered, check, same};
 
 // Asserts that as many values are alive as the table has entries.

@@ -1,11 +1,10 @@
 //! Tests of the entries of a row, and that a table is `Send` and `Sync`.
 use crate::tests::rows::assert_rows;
-use std::alloc::Global;
 use std::marker::{Send, Sync};
 use thin_rows::Rows;
-use thin_testing::{Refusing, check, counts, same, same_items};
+use thin_testing::{Lender, Refusing, check, counts, same, same_items};
 
-type Table = Rows<u32, &'static Refusing<Global>>;
+type Table = Rows<u32, Lender>;
 
 #[test]
 fn row_is_in_the_order_of_the_columns(rt: HostRuntime) {
@@ -27,11 +26,11 @@ fn row_is_in_the_order_of_the_columns(rt: HostRuntime) {
     check!(rt; same_items(table.row(0), &[(0, 3), (usize::MAX, 1)]));
 }
 
-fn assert_send_and_sync<X: Send + Sync>(_value: &X) {}
+fn needs_send_and_sync<X: Send + Sync>(_value: &X) {}
 
 // The compiler checks this, so no thread is started.
 #[test]
 fn tables_can_be_sent_and_shared(rt: HostRuntime) {
     let table = check!(rt; Rows::<u8>::with_rows(rt.alloc(), 3));
-    assert_send_and_sync(&table);
+    needs_send_and_sync(&table);
 }

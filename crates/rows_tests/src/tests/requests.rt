@@ -4,9 +4,7 @@ use std::alloc::{Allocator, Global};
 use std::fmt::Debug;
 use std::process::Abort;
 use thin_rows::{Rows, ThinVecError};
-use thin_testing::{Refusing, check, counts, same, same_items};
-
-type Lender = &'static Refusing<Global>;
+use thin_testing::{Lender, Refusing, check, counts, same, same_items};
 
 // Removes a value, and asserts that it was `old`.
 fn assert_removed<V: PartialEq + Debug + Drop, A: Allocator>(
@@ -84,7 +82,8 @@ fn a_new_table_makes_one_request_for_its_rows(rt: HostRuntime) {
     assert_table_requests::<[u64; 40]>(&rt, rt.alloc());
 }
 
-// The column of entry number `index` of a row. The entries are not in the order of the columns.
+// Returns the column of entry number `index` of a row. The entries are not in the order of the
+// columns.
 fn column(index: usize, gap: usize) -> usize {
     (index.wrapping_mul(37) % 211).wrapping_mul(gap)
 }

@@ -4,7 +4,7 @@ ghost use Rattle.std.specs.Prelude.{◌<◌, ◌≡◌, length};
 use std::alloc::Allocator;
 use std::fmt::Debug;
 use std::process::Abort;
-use thin_rows::{Rows, ThinVecError};
+use thin_rows::Rows;
 use thin_testing::{check, same};
 
 /// Asserts how many rows the table has. The prover knows it afterwards.

@@ -1,12 +1,10 @@
 //! Tests of calls that visit all entries of a sparse table `Rows`: what a clone requests and drops,
 //! and that walks and comparisons request no memory.
 use crate::tests::rows::assert_row;
-use std::alloc::{AllocError, Allocator, Global};
+use std::alloc::{AllocError, Allocator};
 use std::process::Abort;
 use thin_rows::{Rows, ThinVecError};
-use thin_testing::{Counted, Ledger, Refusing, check, counts, same};
-
-type Lender = &'static Refusing<Global>;
+use thin_testing::{Counted, Ledger, Lender, Refusing, check, counts, same};
 
 // The numbers of rows, and of entries in each row with an odd number.
 const SIZES: [(usize, usize); 9] = [

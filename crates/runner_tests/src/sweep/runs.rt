@@ -131,7 +131,8 @@ fn sole<T: Drop, A: Allocator>(alloc: A, item: T) -> Result<Vec<T, A>, AllocErro
     Ok(items)
 }
 
-// The number of requests that a reply shows: one for each block of a list or a `Vec` in it.
+// Returns the number of requests that a reply shows: one for each block of a list or a `Vec` in it,
+// or 99, which is too many, if a `Vec` has much more room than it needs.
 fn blocks_in<T: Drop, G: Growth>(reply: &Reply<T, Lender, G>) -> u64 {
     match reply {
         Reply::List(list) => u64::from(list.has_capacity()),
@@ -141,8 +142,8 @@ fn blocks_in<T: Drop, G: Growth>(reply: &Reply<T, Lender, G>) -> u64 {
     }
 }
 
-// Whether a command makes as many requests as its iterator's hint and items need, which contracts
-// and `thin_vec_sweep` say.
+// Returns whether a command makes as many requests as its iterator's hint and items need, which
+// contracts and `thin_vec_sweep` say.
 fn is_filling<T: Drop, G: Growth>(command: &Command<T, Lender, G>) -> bool {
     matches!(command, Command::Extend(..) | Command::Splice(..))
 }
@@ -258,7 +259,7 @@ fn random_run<T: Numbered, G: Growth>(
 
 /// Executes random commands on lists of `T` with the growth rule `G`, and asserts that each of them
 /// is right. Also asserts that the runs differ, and that some requests are to be refused.
-pub fn assert_runs_right<T: Numbered, G: Growth, R: Abort>(rt: &R, ledger: &'static Ledger) {
+pub fn assert_runs_right<T: Numbered, G: Growth>(rt: &impl Abort, ledger: &'static Ledger) {
     let (mut shortest, mut longest, mut refusals) = (usize::MAX, 0_usize, 0_usize);
     for seed in 0..1500 {
         let run = random_run::<T, G>(ledger, seed).ok().flatten();
@@ -276,12 +277,12 @@ pub fn assert_runs_right<T: Numbered, G: Growth, R: Abort>(rt: &R, ledger: &'sta
 const FOURTHS: u64 = 0x1111_1111_1111_1111;
 
 // Returns a command that needs memory for a list of 3,000 items without spare capacity.
-fn long_command<T: Numbered, G: Growth, R: Abort>(
-    rt: &R,
+fn long_command<T: Numbered, G: Growth>(
+    rt: &impl Abort,
     ledger: &'static Ledger,
     number: usize,
-) -> Result<Command<T, Lender, G>, AllocError> {
-    Ok(match number {
+) -> Command<T, Lender, G> {
+    match number {
         0 => Command::Push(T::numbered(ledger, 7)),
         1 => Command::Insert(1500, T::numbered(ledger, 7)),
         2 => Command::Reserve(9000),
@@ -290,7 +291,7 @@ fn long_command<T: Numbered, G: Growth, R: Abort>(
         5 => Command::ExtendFromSlice(items(rt, ledger, &[7; 3000])),
         6 => Command::Extend(items(rt, ledger, &[7; 3000]), 0),
         7 => Command::Extend(items(rt, ledger, &[7; 3000]), 3000),
-        8 => Command::Append(filled_list(ledger, 3000, 0)?),
+        8 => Command::Append(check!(rt; filled_list(ledger, 3000, 0))),
         9 => Command::SplitOff(1500),
         10 => Command::Clone,
         11 => Command::Drain(0, 1500, steps(rt, ledger, 1500, FOURTHS)),
@@ -299,35 +300,32 @@ fn long_command<T: Numbered, G: Growth, R: Abort>(
             let steps = steps(rt, ledger, 1500, FOURTHS);
             Command::Splice(1, 1500, steps, items(rt, ledger, &[7; 3000]), 0)
         }
-    })
+    }
 }
 
-// Executes a long command on a list of 3,000 items, with request number `refused` refused. Returns
-// whether it is right.
-fn is_long_right<T: Numbered, G: Growth, R: Abort>(
-    rt: &R,
+// Executes a long command on a list of 3,000 items, with request number `refused` refused, and
+// asserts that it is right.
+fn assert_long_command_right<T: Numbered, G: Growth>(
+    rt: &impl Abort,
     ledger: &'static Ledger,
     number: usize,
     refused: u64,
-) -> Result<bool, AllocError> {
+) {
     ledger.begin(0);
-    let mut list: List<T, G> = filled_list(ledger, 3000, 0)?;
-    let command = long_command(rt, ledger, number)?;
-    is_right(ledger, &mut list, command, 0, refused)
+    let mut list: List<T, G> = check!(rt; filled_list(ledger, 3000, 0));
+    let command = long_command(rt, ledger, number);
+    let right = check!(rt; is_right(ledger, &mut list, command, 0, refused));
+    check!(rt; same((number, refused, right), (number, refused, true)));
 }
 
 /// Executes commands that need memory on lists of 3,000 items, and asserts that each is right.
-pub fn assert_long_commands_right<T: Numbered, G: Growth, R: Abort>(
-    rt: &R,
+pub fn assert_long_commands_right<T: Numbered, G: Growth>(
+    rt: &impl Abort,
     ledger: &'static Ledger,
 ) {
     for number in 0..14 {
         for refused in 0..4 {
-            let right = is_long_right::<T, G, R>(rt, ledger, number, refused);
-            assert!(rt;
-                right.unwrap_or(false),
-                "command {number}, request {refused}"
-            );
+            assert_long_command_right::<T, G>(rt, ledger, number, refused);
         }
     }
 }
@@ -345,15 +343,15 @@ fn pushes<T: Numbered, G: Growth>(
 }
 
 // Pushes `count` items by one run, with request number `refused` refused.
-fn run_pushes<T: Numbered, G: Growth, R: Abort>(
-    rt: &R,
+fn run_pushes<T: Numbered, G: Growth>(
+    rt: &impl Abort,
     ledger: &'static Ledger,
     list: &mut List<T, G>,
     replies: &mut Vec<Reply<T, Lender, G>, Lender>,
     count: usize,
     refused: u64,
 ) -> Result<(), ThinVecError> {
-    let commands = pushes(ledger, count).ok().expect(rt, "memory");
+    let commands = check!(rt; pushes(ledger, count));
     ledger.begin(refused);
     run(
         &ledger.alloc,
@@ -374,7 +372,7 @@ fn count_done<T: Drop, G: Growth>(replies: &[Reply<T, Lender, G>]) -> usize {
 
 /// Runs thousands of commands at once. Then refuses the room for the replies, and asserts that no
 /// command is executed, that all are dropped, and that the earlier replies stay.
-pub fn assert_long_run_right<T: Numbered, G: Growth, R: Abort>(rt: &R, ledger: &'static Ledger) {
+pub fn assert_long_run_right<T: Numbered, G: Growth>(rt: &impl Abort, ledger: &'static Ledger) {
     let alloc = &ledger.alloc;
     let mut list: List<T, G> = ThinVec::ruled(alloc);
     let mut replies = Vec::new(alloc);

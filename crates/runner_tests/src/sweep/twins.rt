@@ -18,7 +18,7 @@ struct Twins {
 
 /// Compares the two kinds of lists after each call, for several lengths and arguments. Also asserts
 /// that `CALLS` counts the calls: one of this number does not agree.
-pub fn assert_twins_agree<R: Abort>(rt: &R, alloc: Global) {
+pub fn assert_twins_agree(rt: &impl Abort, alloc: Global) {
     assert!(rt; !agree(alloc, 3, 0, CALLS), "more calls");
     for length in [0, 1, 2, 3, 4, 8, 33, 300] {
         for argument in 0..27 {

@@ -1,7 +1,7 @@
 //! Tests each command with each of its requests refused in turn.
 use crate::tests::judges::Evens;
 use crate::tests::made::{
-    Asked, Item, List, Ran, assert_clean, items, leaked_ledger, list_of, run_single, steps,
+    Asked, Item, List, Ran, assert_clean, items, list_from, run_single, steps,
 };
 use crate::tests::shown::{command_text, list_text, reply_text};
 use std::alloc::{AllocError, Global};
@@ -91,8 +91,8 @@ const MOST: u64 = 20;
 
 // Makes a splice over a range, with `walk.0` steps. Step number `i` is from the back if bit `i` of
 // `walk.1` is 1.
-fn splice<T: Numbered, R: Abort>(
-    rt: &R,
+fn splice<T: Numbered>(
+    rt: &impl Abort,
     ledger: &'static Ledger,
     range: (usize, usize),
     walk: (usize, u64),
@@ -105,14 +105,14 @@ fn splice<T: Numbered, R: Abort>(
 }
 
 // Makes the list that `append` empties.
-fn other<T: Numbered, R: Abort>(rt: &R, ledger: &'static Ledger) -> List<T> {
-    list_of(rt, ledger, items(rt, ledger, &[7, 8]), 1)
+fn other<T: Numbered>(rt: &impl Abort, ledger: &'static Ledger) -> List<T> {
+    list_from(rt, ledger, items(rt, ledger, &[7, 8]), 1)
 }
 
 // Returns the command of a line of `OUTCOMES`, after the spare capacity of the list. Each call
 // makes the command anew, because `run` takes it.
-fn nth_command<T: Numbered, R: Abort>(
-    rt: &R,
+fn nth_command<T: Numbered>(
+    rt: &impl Abort,
     ledger: &'static Ledger,
     number: usize,
 ) -> (usize, Asked<T>) {
@@ -164,8 +164,8 @@ fn size_command<T: Numbered>(ledger: &'static Ledger, number: usize) -> (usize, 
 }
 
 // Returns a command of `nth_command` that appends several items.
-fn many_items_command<T: Numbered, R: Abort>(
-    rt: &R,
+fn many_items_command<T: Numbered>(
+    rt: &impl Abort,
     ledger: &'static Ledger,
     number: usize,
 ) -> (usize, Asked<T>) {
@@ -199,8 +199,8 @@ fn whole_list_command<T: Numbered>(number: usize) -> (usize, Asked<T>) {
 }
 
 // Returns a command of `nth_command` that takes items of a range.
-fn range_command<T: Numbered, R: Abort>(
-    rt: &R,
+fn range_command<T: Numbered>(
+    rt: &impl Abort,
     ledger: &'static Ledger,
     number: usize,
 ) -> (usize, Asked<T>) {
@@ -217,8 +217,8 @@ fn range_command<T: Numbered, R: Abort>(
 }
 
 // Returns a command of `nth_command` that replaces a range.
-fn splice_command<T: Numbered, R: Abort>(
-    rt: &R,
+fn splice_command<T: Numbered>(
+    rt: &impl Abort,
     ledger: &'static Ledger,
     number: usize,
 ) -> (usize, Asked<T>) {
@@ -245,8 +245,8 @@ fn asked(number: usize) -> u64 {
 // Executes the command of a line after an earlier one, with request number `refused` refused. The
 // first request is that for the room for the reply. Asserts how often the judge is asked. Returns
 // the reply, and the number of requests.
-fn reply_to<R: Abort>(
-    rt: &R,
+fn reply_to(
+    rt: &impl Abort,
     ledger: &'static Ledger,
     list: &mut List<Item>,
     command: Asked<Item>,
@@ -273,15 +273,10 @@ fn outcome_text(
 
 // Executes the command of a line, with request number `refused` refused. Returns the outcome, and
 // the number of requests.
-fn outcome<R: Abort>(
-    rt: &R,
-    ledger: &'static Ledger,
-    number: usize,
-    refused: u64,
-) -> (String, u64) {
+fn outcome(rt: &impl Abort, ledger: &'static Ledger, number: usize, refused: u64) -> (String, u64) {
     ledger.begin(0);
     let (spare, command) = nth_command(rt, ledger, number);
-    let mut list: List<Item> = list_of(rt, ledger, items(rt, ledger, &[1, 2, 2, 3]), spare);
+    let mut list: List<Item> = list_from(rt, ledger, items(rt, ledger, &[1, 2, 2, 3]), spare);
     let before = check!(rt; list_text(ledger.global, &list));
     let (reply, requests) = reply_to(rt, ledger, &mut list, command, number, refused);
     let after = check!(rt; list_text(ledger.global, &list));
@@ -292,7 +287,7 @@ fn outcome<R: Abort>(
 }
 
 // Prints the last reply, or why there is none. Asserts that the earlier reply is as before.
-fn last_text<R: Abort>(rt: &R, alloc: Global, ran: Ran<Item>) -> String {
+fn last_text(rt: &impl Abort, alloc: Global, ran: Ran<Item>) -> String {
     let Ran {
         cause,
         requests: _,
@@ -308,7 +303,7 @@ fn last_text<R: Abort>(rt: &R, alloc: Global, ran: Ran<Item>) -> String {
 }
 
 // Executes the command of a line with its first request refused, and asserts the outcome.
-fn assert_no_room<R: Abort>(rt: &R, ledger: &'static Ledger, number: usize) {
+fn assert_no_room(rt: &impl Abort, ledger: &'static Ledger, number: usize) {
     let (no_room, _requests) = outcome(rt, ledger, number, 1);
     check!(rt; same(no_room.as_str(), "no room: OutOfMemory ="));
 }
@@ -321,7 +316,7 @@ fn add_outcome(line: &mut String, mark: &str, outcome: &str, last: &str) -> Resu
 
 // Executes the command of a line with each of its requests refused, and then with none refused.
 // Returns the line.
-fn outcomes<R: Abort>(rt: &R, ledger: &'static Ledger, number: usize) -> String {
+fn outcomes(rt: &impl Abort, ledger: &'static Ledger, number: usize) -> String {
     assert_no_room(rt, ledger, number);
     let mut line = title(rt, ledger, number);
     let mut last = String::new(ledger.global);
@@ -340,7 +335,7 @@ fn outcomes<R: Abort>(rt: &R, ledger: &'static Ledger, number: usize) -> String 
 }
 
 // Returns how a line begins.
-fn title<R: Abort>(rt: &R, ledger: &'static Ledger, number: usize) -> String {
+fn title(rt: &impl Abort, ledger: &'static Ledger, number: usize) -> String {
     ledger.begin(0);
     let (spare, command): (usize, Asked<Item>) = nth_command(rt, ledger, number);
     let command = check!(rt; command_text(ledger.global, &command));
@@ -350,7 +345,7 @@ fn title<R: Abort>(rt: &R, ledger: &'static Ledger, number: usize) -> String {
 
 #[test]
 fn each_command_with_each_request_refused(rt: HostRuntime) {
-    let ledger = leaked_ledger(&rt, rt.alloc());
+    let ledger = check!(rt; Ledger::leaked(rt.alloc()));
     let mut number: usize = 0;
     for wanted in &OUTCOMES {
         let line = outcomes(&rt, ledger, number);

@@ -1,15 +1,14 @@
 //! Tests of `Drain`, `ExtractIf` and `Splice` that are given up or finished after each number of
 //! steps, in each order of ends, one step past the range among them.
 use crate::tests::judges::Digits;
-use crate::tests::made::{
-    Asked, Item, Lender, List, Told, assert_clean, is_one, leaked_ledger, list_of, room,
-    run_of_items, steps,
-};
+use crate::tests::made::{Asked, Item, List, Told, assert_clean, is_one, room, steps};
 use std::alloc::Global;
 use std::process::Abort;
 use thin_runner::command::{Command, Reply};
 use thin_runner::runner::step;
-use thin_testing::{Counted, CountedWord, Ledger, Numbered, check, same};
+use thin_testing::{
+    Counted, CountedWord, Ledger, Lender, Numbered, check, filled_list, numbered_items, same,
+};
 
 // The number of the first new item of a splice.
 const NEW: u64 = 200;
@@ -73,9 +72,9 @@ impl Edit {
     }
 
     // Makes the command that executes the edit.
-    fn command<T: Numbered, R: Abort>(self, rt: &R, ledger: &'static Ledger) -> Asked<T> {
+    fn command<T: Numbered>(self, rt: &impl Abort, ledger: &'static Ledger) -> Asked<T> {
         let steps = steps(rt, ledger, self.steps, self.bits);
-        let items = run_of_items(rt, ledger, NEW, self.new);
+        let items = check!(rt; numbered_items(ledger, &ledger.alloc, NEW, self.new));
         match self.kind {
             Kind::Drain => Command::Drain(self.start, self.end, steps),
             Kind::ExtractIf => Command::ExtractIf(self.start, self.end, self.steps),
@@ -129,9 +128,9 @@ impl Rest {
 
 // Executes the edit on lists of `T`, and asserts that it answers and leaves what it should.
 #[inline(never)]
-fn assert_edit<T: Numbered, R: Abort>(rt: &R, ledger: &'static Ledger, edit: Edit) {
+fn assert_edit<T: Numbered>(rt: &impl Abort, ledger: &'static Ledger, edit: Edit) {
     ledger.begin(0);
-    let mut list: List<T> = list_of(rt, ledger, run_of_items(rt, ledger, 0, edit.len), 0);
+    let mut list: List<T> = check!(rt; filled_list(ledger, edit.len, 0));
     let command = edit.command(rt, ledger);
     let judge = Digits { digits: edit.bits };
     let reply = step(&ledger.alloc, &mut list, command, &judge);
@@ -144,8 +143,8 @@ fn assert_edit<T: Numbered, R: Abort>(rt: &R, ledger: &'static Ledger, edit: Edi
 }
 
 // Returns the answers of the reply to an edit. `Done` has none.
-fn answers_in<T: Numbered, R: Abort>(
-    rt: &R,
+fn answers_in<T: Numbered>(
+    rt: &impl Abort,
     ledger: &'static Ledger,
     edit: Edit,
     reply: Told<T>,
@@ -158,8 +157,8 @@ fn answers_in<T: Numbered, R: Abort>(
 }
 
 // Asserts that the answer to step number `step` is the item of the given number.
-fn assert_answer<T: Numbered, R: Abort>(
-    rt: &R,
+fn assert_answer<T: Numbered>(
+    rt: &impl Abort,
     ledger: &'static Ledger,
     edit: Edit,
     step: usize,
@@ -172,8 +171,8 @@ fn assert_answer<T: Numbered, R: Abort>(
 
 // Asserts that the reply has the right items. Returns which items are no longer in the list: bit
 // `i` is 1 if item number `i` is not.
-fn assert_answers<T: Numbered, R: Abort>(
-    rt: &R,
+fn assert_answers<T: Numbered>(
+    rt: &impl Abort,
     ledger: &'static Ledger,
     edit: Edit,
     reply: Told<T>,
@@ -211,8 +210,8 @@ fn assert_answers<T: Numbered, R: Abort>(
 
 // Asserts that the list has the items that were not removed, and the new items at the place of the
 // range.
-fn assert_left<T: Numbered, R: Abort>(
-    rt: &R,
+fn assert_left<T: Numbered>(
+    rt: &impl Abort,
     ledger: &'static Ledger,
     edit: Edit,
     removed: u64,
@@ -236,8 +235,8 @@ fn assert_left<T: Numbered, R: Abort>(
 }
 
 // Asserts that the item has the given number.
-fn assert_item<T: Numbered, R: Abort>(
-    rt: &R,
+fn assert_item<T: Numbered>(
+    rt: &impl Abort,
     ledger: &'static Ledger,
     edit: Edit,
     item: Option<&T>,
@@ -248,17 +247,17 @@ fn assert_item<T: Numbered, R: Abort>(
 }
 
 // Executes the edit with each number of steps up to `most`, and each order of ends.
-fn assert_walks<T: Numbered, R: Abort>(rt: &R, ledger: &'static Ledger, edit: Edit, most: usize) {
+fn assert_walks<T: Numbered>(rt: &impl Abort, ledger: &'static Ledger, edit: Edit, most: usize) {
     for steps in 0..most.saturating_add(1) {
         for bits in 0..1_u64 << (steps % 64) {
-            assert_edit::<T, R>(rt, ledger, edit.walked(steps, bits));
+            assert_edit::<T>(rt, ledger, edit.walked(steps, bits));
         }
     }
 }
 
 // Executes each edit of the range with each number of steps, up to one past the range.
-fn assert_range<T: Numbered, R: Abort>(
-    rt: &R,
+fn assert_range<T: Numbered>(
+    rt: &impl Abort,
     ledger: &'static Ledger,
     len: usize,
     start: usize,
@@ -268,42 +267,42 @@ fn assert_range<T: Numbered, R: Abort>(
     let splice = Edit::new(Kind::Splice, len, start, end);
     let extract = Edit::new(Kind::ExtractIf, len, start, end);
     let most = drain.width().saturating_add(1);
-    assert_walks::<T, R>(rt, ledger, drain, most);
+    assert_walks::<T>(rt, ledger, drain, most);
     for (new, lower) in [(0, 0), (1, 1), (2, 0), (6, 2)] {
-        assert_walks::<T, R>(rt, ledger, splice.given(new, lower), most);
+        assert_walks::<T>(rt, ledger, splice.given(new, lower), most);
     }
     for steps in 0..most.saturating_add(1) {
         for bits in 0..1_u64 << (extract.width() % 64) {
-            assert_edit::<T, R>(rt, ledger, extract.walked(steps, bits));
+            assert_edit::<T>(rt, ledger, extract.walked(steps, bits));
         }
     }
 }
 
 // Executes each edit of each range of a list of at most 4 items.
-fn assert_ranges<T: Numbered, R: Abort>(rt: &R, ledger: &'static Ledger) {
+fn assert_ranges<T: Numbered>(rt: &impl Abort, ledger: &'static Ledger) {
     for len in 0_usize..5 {
         for end in 0..len.saturating_add(1) {
             for start in 0..end.saturating_add(1) {
-                assert_range::<T, R>(rt, ledger, len, start, end);
+                assert_range::<T>(rt, ledger, len, start, end);
             }
         }
     }
 }
 
 // Executes each edit of a range of a list of 40 items, with each number of steps and some orders.
-fn assert_long_ranges<T: Numbered, R: Abort>(rt: &R, ledger: &'static Ledger) {
+fn assert_long_ranges<T: Numbered>(rt: &impl Abort, ledger: &'static Ledger) {
     for kind in [Kind::Drain, Kind::ExtractIf, Kind::Splice] {
         for bits in [0, u64::MAX, 0x5555_5555_5555_5555, 0x3333_3333_0000_ffff] {
             for steps in 0..40 {
                 let edit = Edit::new(kind, 40, 1, 39).walked(steps, bits);
-                assert_edit::<T, R>(rt, ledger, edit);
+                assert_edit::<T>(rt, ledger, edit);
             }
         }
     }
 }
 
 // Asserts that the reply has answers, and no more room than they need.
-fn assert_room<T: Drop, R: Abort>(rt: &R, edit: Edit, reply: &Told<T>) {
+fn assert_room<T: Drop>(rt: &impl Abort, edit: Edit, reply: &Told<T>) {
     let room = match reply {
         Reply::Answers(answers) => answers.capacity(),
         _ => 0,
@@ -312,9 +311,9 @@ fn assert_room<T: Drop, R: Abort>(rt: &R, edit: Edit, reply: &Told<T>) {
 }
 
 // Executes the edit, and asserts that nothing is left behind.
-fn assert_all_freed<T: Numbered, R: Abort>(rt: &R, ledger: &'static Ledger, edit: Edit) {
+fn assert_all_freed<T: Numbered>(rt: &impl Abort, ledger: &'static Ledger, edit: Edit) {
     ledger.begin(0);
-    let mut list: List<T> = list_of(rt, ledger, run_of_items(rt, ledger, 0, edit.len), 0);
+    let mut list: List<T> = check!(rt; filled_list(ledger, edit.len, 0));
     let command = edit.command(rt, ledger);
     let judge = Digits { digits: edit.bits };
     let reply = step(&ledger.alloc, &mut list, command, &judge);
@@ -324,13 +323,13 @@ fn assert_all_freed<T: Numbered, R: Abort>(rt: &R, ledger: &'static Ledger, edit
 }
 
 // Executes edits of a list of 300 items with many steps, and asserts that nothing is left behind.
-fn assert_longer_ranges<T: Numbered, R: Abort>(rt: &R, ledger: &'static Ledger) {
+fn assert_longer_ranges<T: Numbered>(rt: &impl Abort, ledger: &'static Ledger) {
     for kind in [Kind::Drain, Kind::ExtractIf, Kind::Splice] {
         for bits in [0, u64::MAX, 0x5555_5555_5555_5555] {
             for steps in [50, 64, 65, 100, 200, 297, 298, 299] {
                 for new in [0, 5] {
                     let edit = Edit::new(kind, 300, 1, 299).walked(steps, bits);
-                    assert_all_freed::<T, R>(rt, ledger, edit.given(new, 0));
+                    assert_all_freed::<T>(rt, ledger, edit.given(new, 0));
                 }
             }
         }
@@ -338,56 +337,56 @@ fn assert_longer_ranges<T: Numbered, R: Abort>(rt: &R, ledger: &'static Ledger) 
 }
 
 // Executes the edits on lists of `T`.
-fn assert_edits<T: Numbered, R: Abort>(rt: &R, alloc: Global) {
-    let ledger = leaked_ledger(rt, alloc);
-    assert_ranges::<T, R>(rt, ledger);
-    assert_long_ranges::<T, R>(rt, ledger);
-    assert_longer_ranges::<T, R>(rt, ledger);
+fn assert_edits<T: Numbered>(rt: &impl Abort, alloc: Global) {
+    let ledger = check!(rt; Ledger::leaked(alloc));
+    assert_ranges::<T>(rt, ledger);
+    assert_long_ranges::<T>(rt, ledger);
+    assert_longer_ranges::<T>(rt, ledger);
 }
 
 #[test]
 fn edits_of_counted_items_after_each_number_of_steps(rt: HostRuntime) {
-    assert_edits::<CountedWord<'static>, _>(&rt, rt.alloc());
-    assert_edits::<Item, _>(&rt, rt.alloc());
-    assert_edits::<Counted<'static, u64>, _>(&rt, rt.alloc());
-    assert_edits::<Counted<'static, [u64; 62]>, _>(&rt, rt.alloc());
+    assert_edits::<CountedWord<'static>>(&rt, rt.alloc());
+    assert_edits::<Item>(&rt, rt.alloc());
+    assert_edits::<Counted<'static, u64>>(&rt, rt.alloc());
+    assert_edits::<Counted<'static, [u64; 62]>>(&rt, rt.alloc());
 }
 
 #[test]
 fn edits_of_units_and_numbers_after_each_number_of_steps(rt: HostRuntime) {
-    assert_edits::<(), _>(&rt, rt.alloc());
-    assert_edits::<u8, _>(&rt, rt.alloc());
-    assert_edits::<i32, _>(&rt, rt.alloc());
+    assert_edits::<()>(&rt, rt.alloc());
+    assert_edits::<u8>(&rt, rt.alloc());
+    assert_edits::<i32>(&rt, rt.alloc());
 }
 
 #[test]
 fn edits_of_large_and_aligned_items_after_each_number_of_steps(rt: HostRuntime) {
-    assert_edits::<[u64; 40], _>(&rt, rt.alloc());
-    assert_edits::<u128, _>(&rt, rt.alloc());
+    assert_edits::<[u64; 40]>(&rt, rt.alloc());
+    assert_edits::<u128>(&rt, rt.alloc());
 }
 
 // Drains items 1 to 4 of six, after each sequence of at most five steps. Also drains nothing at the
 // end, with one step, and everything, with none.
 #[test]
 fn drain_of_six_items_after_each_sequence_of_steps(rt: HostRuntime) {
-    let ledger = leaked_ledger(&rt, rt.alloc());
-    assert_walks::<Item, _>(&rt, ledger, Edit::new(Kind::Drain, 6, 1, 5), 5);
-    assert_walks::<Item, _>(&rt, ledger, Edit::new(Kind::Drain, 6, 6, 6), 1);
-    assert_walks::<Item, _>(&rt, ledger, Edit::new(Kind::Drain, 6, 0, 6), 0);
+    let ledger = check!(rt; Ledger::leaked(rt.alloc()));
+    assert_walks::<Item>(&rt, ledger, Edit::new(Kind::Drain, 6, 1, 5), 5);
+    assert_walks::<Item>(&rt, ledger, Edit::new(Kind::Drain, 6, 6, 6), 1);
+    assert_walks::<Item>(&rt, ledger, Edit::new(Kind::Drain, 6, 0, 6), 0);
 }
 
 // Executes the edit with each number of new items up to 300, none of which the iterator claims.
-fn assert_unclaimed<T: Numbered, R: Abort>(rt: &R, ledger: &'static Ledger, edit: Edit) {
+fn assert_unclaimed<T: Numbered>(rt: &impl Abort, ledger: &'static Ledger, edit: Edit) {
     for new in 0..301 {
-        assert_edit::<T, R>(rt, ledger, edit.given(new, 0));
+        assert_edit::<T>(rt, ledger, edit.given(new, 0));
     }
 }
 
 #[test]
 fn extend_and_splice_of_up_to_300_unclaimed_items(rt: HostRuntime) {
-    let ledger = leaked_ledger(&rt, rt.alloc());
-    assert_unclaimed::<Item, _>(&rt, ledger, Edit::new(Kind::Extend, 3, 3, 3));
-    assert_unclaimed::<Item, _>(&rt, ledger, Edit::new(Kind::Splice, 3, 1, 2));
-    assert_unclaimed::<i32, _>(&rt, ledger, Edit::new(Kind::Extend, 3, 3, 3));
-    assert_unclaimed::<i32, _>(&rt, ledger, Edit::new(Kind::Splice, 3, 1, 2));
+    let ledger = check!(rt; Ledger::leaked(rt.alloc()));
+    assert_unclaimed::<Item>(&rt, ledger, Edit::new(Kind::Extend, 3, 3, 3));
+    assert_unclaimed::<Item>(&rt, ledger, Edit::new(Kind::Splice, 3, 1, 2));
+    assert_unclaimed::<i32>(&rt, ledger, Edit::new(Kind::Extend, 3, 3, 3));
+    assert_unclaimed::<i32>(&rt, ledger, Edit::new(Kind::Splice, 3, 1, 2));
 }

@@ -1,17 +1,14 @@
 //! Makes the lists, vectors and steps of the tests. The test ends if there is no memory for them.
-use std::alloc::{Allocator, Global};
+use std::alloc::Allocator;
 use std::process::Abort;
 use thin_runner::command::{Command, Reply, Step};
 use thin_runner::judge::Judge;
 use thin_runner::runner::run;
-use thin_testing::{Counted, Ledger, Numbered, Refusing, check, same};
+use thin_testing::{Counted, Ledger, Lender, Numbered, check, same};
 use thin_vec::{ThinVec, ThinVecError};
 
 /// An item that the ledger counts. A clone of it is a request.
 pub type Item = Counted<'static>;
-
-/// The allocator of all lists and vectors. It counts the requests, and can refuse one of them.
-pub type Lender = &'static Refusing<Global>;
 
 pub type List<T> = ThinVec<T, Lender>;
 
@@ -19,26 +16,19 @@ pub type Asked<T> = Command<T, Lender>;
 
 pub type Told<T> = Reply<T, Lender>;
 
-/// Returns a ledger that is never freed.
-pub fn leaked_ledger<R: Abort>(rt: &R, alloc: Global) -> &'static Ledger {
-    Ledger::leaked(alloc).ok().expect(rt, "memory")
-}
-
 /// Makes an empty vector with room for `capacity` values.
-pub fn room<V: Drop, A: Allocator, R: Abort>(rt: &R, alloc: A, capacity: usize) -> Vec<V, A> {
-    Vec::with_capacity(alloc, capacity)
-        .ok()
-        .expect(rt, "memory")
+pub fn room<V: Drop, A: Allocator>(rt: &impl Abort, alloc: A, capacity: usize) -> Vec<V, A> {
+    check!(rt; Vec::with_capacity(alloc, capacity))
 }
 
 /// Appends a value.
-pub fn put<V: Drop, A: Allocator, R: Abort>(rt: &R, values: &mut Vec<V, A>, value: V) {
-    values.push(value).ok().expect(rt, "memory");
+pub fn put<V: Drop, A: Allocator>(rt: &impl Abort, values: &mut Vec<V, A>, value: V) {
+    check!(rt; values.push(value).ok());
 }
 
 /// Makes items of the given numbers.
-pub fn items<T: Numbered, R: Abort>(
-    rt: &R,
+pub fn items<T: Numbered>(
+    rt: &impl Abort,
     ledger: &'static Ledger,
     numbers: &[u64],
 ) -> Vec<T, Lender> {
@@ -49,42 +39,25 @@ pub fn items<T: Numbered, R: Abort>(
     items
 }
 
-/// Makes `count` items of consecutive numbers.
-pub fn run_of_items<T: Numbered, R: Abort>(
-    rt: &R,
-    ledger: &'static Ledger,
-    first: u64,
-    count: usize,
-) -> Vec<T, Lender> {
-    let mut items = room(rt, &ledger.alloc, count);
-    for index in 0..count {
-        let number = first.saturating_add(index as u64);
-        put(rt, &mut items, T::numbered(ledger, number));
-    }
-    items
-}
-
 /// Makes a list that takes over the items of the vector, with the given spare capacity.
-pub fn list_of<T: Numbered, R: Abort>(
-    rt: &R,
+pub fn list_from<T: Numbered>(
+    rt: &impl Abort,
     ledger: &'static Ledger,
     items: Vec<T, Lender>,
     spare: usize,
 ) -> List<T> {
     let mut list = ThinVec::new(&ledger.alloc);
-    list.reserve_exact(items.len().saturating_add(spare))
-        .ok()
-        .expect(rt, "memory");
+    check!(rt; list.reserve_exact(items.len().saturating_add(spare)));
     for item in items {
-        list.push(item).ok().expect(rt, "memory");
+        check!(rt; list.push(item).ok());
     }
     list
 }
 
 /// Makes `count` steps. Step number `i` is `Back` if bit `i` of `backs` is 1. The bits repeat after
 /// 64 steps.
-pub fn steps<R: Abort>(
-    rt: &R,
+pub fn steps(
+    rt: &impl Abort,
     ledger: &'static Ledger,
     count: usize,
     backs: u64,
@@ -118,8 +91,8 @@ pub struct Ran<T: Drop> {
 /// Executes the commands by one call to `run`, with request number `refused` refused. Before, the
 /// replies are one `Item(None)`, and there is no room for another one. Afterwards, there is room
 /// for no more replies than needed, or for 4.
-pub fn run_all<T: Numbered, J: Judge<T>, R: Abort>(
-    rt: &R,
+pub fn run_all<T: Numbered, J: Judge<T>>(
+    rt: &impl Abort,
     ledger: &'static Ledger,
     list: &mut List<T>,
     commands: Vec<Asked<T>, Lender>,
@@ -144,8 +117,8 @@ pub fn run_all<T: Numbered, J: Judge<T>, R: Abort>(
 }
 
 /// Executes one command as `run_all` does.
-pub fn run_single<T: Numbered, J: Judge<T>, R: Abort>(
-    rt: &R,
+pub fn run_single<T: Numbered, J: Judge<T>>(
+    rt: &impl Abort,
     ledger: &'static Ledger,
     list: &mut List<T>,
     command: Asked<T>,
@@ -159,15 +132,15 @@ pub fn run_single<T: Numbered, J: Judge<T>, R: Abort>(
 
 /// Asserts that exactly the items of the list exist, and one block if it has a capacity. Then drops
 /// the list, and asserts that nothing is left.
-pub fn assert_clean<T: Numbered, R: Abort>(rt: &R, ledger: &'static Ledger, list: List<T>) {
-    assert_live::<T, R>(rt, ledger, list.len(), list.has_capacity());
+pub fn assert_clean<T: Numbered>(rt: &impl Abort, ledger: &'static Ledger, list: List<T>) {
+    assert_live::<T>(rt, ledger, list.len(), list.has_capacity());
     drop(list);
-    assert_live::<T, R>(rt, ledger, 0, false);
+    assert_live::<T>(rt, ledger, 0, false);
 }
 
 // Asserts that `items` items exist, and one block if `has_block` is true.
-fn assert_live<T: Numbered, R: Abort>(
-    rt: &R,
+fn assert_live<T: Numbered>(
+    rt: &impl Abort,
     ledger: &'static Ledger,
     items: usize,
     has_block: bool,

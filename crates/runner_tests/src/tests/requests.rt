@@ -1,11 +1,11 @@
 //! Tests of `run` and `step`: `run` makes no request for replies for which there is room, and a
 //! reply uses the allocator that was passed.
 use crate::tests::judges::Digits;
-use std::alloc::{Allocator, Global};
+use std::alloc::Allocator;
 use std::process::Abort;
 use thin_runner::command::{Command, Reply, Step};
 use thin_runner::runner::{run, step};
-use thin_testing::{Refusing, check, list_of, same};
+use thin_testing::{Lender, Refusing, check, list_of, same};
 use thin_vec::ThinVec;
 
 // A judge that answers `false`.
@@ -14,7 +14,7 @@ const NEVER: Digits = Digits { digits: 0 };
 #[test]
 fn run_makes_no_request_without_commands(rt: HostRuntime) {
     let refusing = check!(rt; Refusing::leaked(rt.alloc(), 1));
-    let mut list = ThinVec::<i32, &'static Refusing<Global>>::new(refusing);
+    let mut list = ThinVec::<i32, Lender>::new(refusing);
     let mut replies = Vec::new(refusing);
     let commands = Vec::new(refusing);
     check!(rt; same(run(refusing, &mut list, commands, &mut replies, &NEVER), Ok(())));
@@ -64,12 +64,7 @@ fn nth_command<A: Allocator + Copy>(rt: &impl Abort, number: u32, alloc: A) -> C
 }
 
 // Executes a command on a list over `own` by `step`, to which it passes `other`.
-fn reply_on(
-    rt: &impl Abort,
-    own: &'static Refusing<Global>,
-    other: &'static Refusing<Global>,
-    number: u32,
-) -> Reply<i32, &'static Refusing<Global>> {
+fn reply_on(rt: &impl Abort, own: Lender, other: Lender, number: u32) -> Reply<i32, Lender> {
     let mut list = check!(rt; list_of(own, &[1, 2, 3]));
     let command = nth_command(rt, number, own);
     own.refuse(0);

@@ -1,20 +1,18 @@
 //! Tests of one run of six commands, and of the commands that ask a judge.
 use crate::tests::judges::{Digits, Evens, Swaps, TURNS};
 use crate::tests::made::{
-    Asked, Item, Lender, List, Told, assert_clean, items, leaked_ledger, list_of, put, room,
-    run_all, run_of_items, run_single, steps,
+    Asked, Item, List, Told, assert_clean, items, list_from, put, room, run_all, run_single, steps,
 };
 use crate::tests::shown::{list_text, reply_text};
-use std::alloc::AllocError;
 use std::process::Abort;
 use thin_runner::command::Command;
 use thin_runner::judge::Judge;
 use thin_runner::runner::step;
-use thin_testing::{Ledger, Numbered, check, same};
+use thin_testing::{Ledger, Lender, Numbered, check, numbered_items, same};
 use thin_vec::{ThinVec, ThinVecError};
 
 // Returns a command of the run.
-fn nth_command<T: Numbered, R: Abort>(rt: &R, ledger: &'static Ledger, number: usize) -> Asked<T> {
+fn nth_command<T: Numbered>(rt: &impl Abort, ledger: &'static Ledger, number: usize) -> Asked<T> {
     match number {
         0 => Command::Extend(items(rt, ledger, &[1, 2, 3, 4, 5, 6]), 6),
         1 => Command::Splice(1, 3, steps(rt, ledger, 1, 0), items(rt, ledger, &[9]), 1),
@@ -83,7 +81,7 @@ static REFUSED: [&[&str]; 5] = [
 ];
 
 // Returns the commands of the run.
-fn six_commands<T: Numbered, R: Abort>(rt: &R, ledger: &'static Ledger) -> Vec<Asked<T>, Lender> {
+fn six_commands<T: Numbered>(rt: &impl Abort, ledger: &'static Ledger) -> Vec<Asked<T>, Lender> {
     let mut commands = room(rt, &ledger.alloc, 6);
     for number in 0..6 {
         put(rt, &mut commands, nth_command(rt, ledger, number));
@@ -92,14 +90,14 @@ fn six_commands<T: Numbered, R: Abort>(rt: &R, ledger: &'static Ledger) -> Vec<A
 }
 
 // Asserts that the text is number `number` of the texts.
-fn assert_nth<R: Abort>(rt: &R, texts: &[&str], number: usize, text: &str) {
+fn assert_nth(rt: &impl Abort, texts: &[&str], number: usize, text: &str) {
     check!(rt; same((number, Some(text)), (number, texts.get(number).copied())));
 }
 
 // Asserts that the replies have the first of the given texts, and that none of them lacks memory
 // unless a request was refused. Returns the number of replies.
-fn assert_replies<R: Abort>(
-    rt: &R,
+fn assert_replies(
+    rt: &impl Abort,
     ledger: &'static Ledger,
     replies: Vec<Told<Item>, Lender>,
     texts: &[&str],
@@ -118,7 +116,7 @@ fn assert_replies<R: Abort>(
 
 // Executes the six commands by one call to `run`, with request number `refused` refused. Asserts
 // that the replies and the list have the given texts. Returns whether a request was refused.
-fn assert_run<R: Abort>(rt: &R, ledger: &'static Ledger, refused: u64, texts: &[&str]) -> bool {
+fn assert_run(rt: &impl Abort, ledger: &'static Ledger, refused: u64, texts: &[&str]) -> bool {
     ledger.begin(0);
     let mut list: List<Item> = ThinVec::new(&ledger.alloc);
     let ran = run_all(
@@ -141,14 +139,14 @@ fn assert_run<R: Abort>(rt: &R, ledger: &'static Ledger, refused: u64, texts: &[
 
 #[test]
 fn six_commands_by_one_run(rt: HostRuntime) {
-    let ledger = leaked_ledger(&rt, rt.alloc());
+    let ledger = check!(rt; Ledger::leaked(rt.alloc()));
     let is_refused = assert_run(&rt, ledger, 0, REFUSED[4]);
     check!(rt; same(is_refused, false));
 }
 
 #[test]
 fn six_commands_with_each_request_refused(rt: HostRuntime) {
-    let ledger = leaked_ledger(&rt, rt.alloc());
+    let ledger = check!(rt; Ledger::leaked(rt.alloc()));
     let mut refused: u64 = 0;
     for texts in &REFUSED {
         refused = refused.saturating_add(1);
@@ -158,8 +156,8 @@ fn six_commands_with_each_request_refused(rt: HostRuntime) {
 }
 
 // Executes one command by `step`, or by a `run` of its own. Returns the text of the reply.
-fn single<J: Judge<Item>, R: Abort>(
-    rt: &R,
+fn single<J: Judge<Item>>(
+    rt: &impl Abort,
     ledger: &'static Ledger,
     list: &mut List<Item>,
     command: Asked<Item>,
@@ -176,8 +174,8 @@ fn single<J: Judge<Item>, R: Abort>(
 }
 
 // Executes one command by itself, and asserts that the reply and the list have the given texts.
-fn assert_single<J: Judge<Item>, R: Abort>(
-    rt: &R,
+fn assert_single<J: Judge<Item>>(
+    rt: &impl Abort,
     ledger: &'static Ledger,
     list: &mut List<Item>,
     command: Asked<Item>,
@@ -192,7 +190,7 @@ fn assert_single<J: Judge<Item>, R: Abort>(
 
 #[test]
 fn six_commands_one_by_one(rt: HostRuntime) {
-    let ledger = leaked_ledger(&rt, rt.alloc());
+    let ledger = check!(rt; Ledger::leaked(rt.alloc()));
     for is_step in [false, true] {
         let mut list: List<Item> = ThinVec::new(&ledger.alloc);
         let mut number: usize = 0;
@@ -215,21 +213,21 @@ fn six_commands_one_by_one(rt: HostRuntime) {
 
 // Executes the command on the list 1, 2, 3, 4, 5, 6. Asserts that the reply and the list have the
 // given texts.
-fn assert_judged<J: Judge<Item>, R: Abort>(
-    rt: &R,
+fn assert_judged<J: Judge<Item>>(
+    rt: &impl Abort,
     ledger: &'static Ledger,
     command: Asked<Item>,
     judge: &J,
     texts: (&str, &str),
 ) {
-    let mut list = list_of(rt, ledger, items(rt, ledger, &[1, 2, 3, 4, 5, 6]), 0);
+    let mut list = list_from(rt, ledger, items(rt, ledger, &[1, 2, 3, 4, 5, 6]), 0);
     assert_single(rt, ledger, &mut list, command, judge, false, texts);
     assert_clean(rt, ledger, list);
 }
 
 #[test]
 fn a_judge_that_counts_its_calls(rt: HostRuntime) {
-    let ledger = leaked_ledger(&rt, rt.alloc());
+    let ledger = check!(rt; Ledger::leaked(rt.alloc()));
     let judge = Digits { digits: TURNS };
     let done = ("Done", "[1, 3, 5] 6");
     let extracted = ("Answers([Some(1), Some(3)])", "[2, 4, 5, 6] 6");
@@ -240,7 +238,7 @@ fn a_judge_that_counts_its_calls(rt: HostRuntime) {
 
 #[test]
 fn a_judge_that_swaps_the_items(rt: HostRuntime) {
-    let ledger = leaked_ledger(&rt, rt.alloc());
+    let ledger = check!(rt; Ledger::leaked(rt.alloc()));
     let judge = Swaps { digits: TURNS };
     let done = ("Done", "[3, 5, 6] 6");
     assert_judged(&rt, ledger, Command::DedupBy, &judge, done);
@@ -248,14 +246,19 @@ fn a_judge_that_swaps_the_items(rt: HostRuntime) {
 
 // Executes the command on a list of `len` items, numbered from 1, and asserts how often it asks the
 // judge.
-fn assert_asked<R: Abort>(
-    rt: &R,
+fn assert_asked(
+    rt: &impl Abort,
     ledger: &'static Ledger,
     len: usize,
     command: Asked<Item>,
     asked: usize,
 ) {
-    let mut list = list_of(rt, ledger, run_of_items(rt, ledger, 1, len), 0);
+    let mut list = list_from(
+        rt,
+        ledger,
+        check!(rt; numbered_items(ledger, &ledger.alloc, 1, len)),
+        0,
+    );
     ledger.begin(0);
     drop(step(&ledger.alloc, &mut list, command, &Evens { ledger }));
     check!(rt; same((len, ledger.calls.get()), (len, asked as u64)));
@@ -264,7 +267,7 @@ fn assert_asked<R: Abort>(
 
 #[test]
 fn a_judge_is_asked_no_more_than_needed(rt: HostRuntime) {
-    let ledger = leaked_ledger(&rt, rt.alloc());
+    let ledger = check!(rt; Ledger::leaked(rt.alloc()));
     for len in [0_usize, 1, 2, 6, 100, 300] {
         let (pairs, more) = (len.saturating_sub(1), len.saturating_add(1));
         assert_asked(&rt, ledger, len, Command::Retain, len);

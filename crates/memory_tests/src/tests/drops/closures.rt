@@ -3,7 +3,7 @@ use std::alloc::Global;
 use std::cmp::Ordering;
 use std::process::Abort;
 use std::rc::Rc;
-use thin_testing::{Counted, Ledger, Refusing, check, has_len, list_of, same};
+use thin_testing::{Counted, Ledger, Lender, check, has_len, list_of, same};
 use thin_vec::{ThinVec, ThinVecError};
 
 // Tests an item in a closure that owns a `Counted`.
@@ -145,10 +145,7 @@ const SORTS: [Sort; 5] = [
 ];
 
 // Returns a list of `len` numbers that are not in order.
-fn unsorted(
-    ledger: &'static Ledger,
-    len: u64,
-) -> Result<ThinVec<u64, &'static Refusing<Global>>, ThinVecError> {
+fn unsorted(ledger: &'static Ledger, len: u64) -> Result<ThinVec<u64, Lender>, ThinVecError> {
     let mut list = ThinVec::new(&ledger.alloc);
     for number in 0..len {
         list.push(number.wrapping_mul(7919) % 1009)?;
@@ -162,11 +159,7 @@ fn compared(_owned: &Counted<'_>, a: u64, b: u64) -> Ordering {
 }
 
 // Sorts the list by a closure that owns a `Counted`, and returns whether the call succeeds.
-fn sorts(
-    ledger: &'static Ledger,
-    sort: Sort,
-    list: &mut ThinVec<u64, &'static Refusing<Global>>,
-) -> bool {
+fn sorts(ledger: &'static Ledger, sort: Sort, list: &mut ThinVec<u64, Lender>) -> bool {
     let owned = Counted::new(ledger, 7, ());
     match sort {
         Sort::By => list.sort_by(move |a, b| compared(&owned, *a, *b)).is_ok(),

@@ -4,7 +4,7 @@ use std::error::Error;
 use std::io;
 use std::process::Abort;
 use thin_testing::{Counted, Ledger, check, counted_list, same};
-use thin_vec::{CollectRefused, ExtendRefused, Rejected, SpliceRefused, ThinVec, ThinVecError};
+use thin_vec::{CollectRefused, ExtendRefused, Rejected, SpliceRefused, ThinVecError};
 
 // Converts the error with `?`, and returns the new error.
 fn convert<R, E: From<R>>(refused: R) -> Result<(), E> {

@@ -416,7 +416,7 @@ fn filters_drop_an_item_before_they_test_the_next_one(rt: HostRuntime) {
 }
 
 // Clones the items of the list by one of four calls. Returns whether the call failed.
-fn is_clone_refused<T: Numbered>(
+fn fails_to_clone<T: Numbered>(
     ledger: &'static Ledger,
     call: u32,
     list: &mut List<T, Doubling>,
@@ -433,13 +433,14 @@ fn is_clone_refused<T: Numbered>(
     }
 }
 
-// The first request of each call is for a block, and each other one for a clone.
+// Refuses a clone of each call, and asserts that the clones before it are dropped in order. The
+// first request of each call is for a block, and each other one for a clone.
 fn assert_clones_in_order<T: Numbered>(rt: &impl Abort, ledger: &'static Ledger) {
     for call in 0..4 {
         for clones in [0_usize, 1, 2, 30, 99] {
             let mut list: List<T, Doubling> = check!(rt; filled_list(ledger, 100, 0));
             ledger.begin((clones as u64).saturating_add(2));
-            let is_refused = is_clone_refused(ledger, call, &mut list);
+            let is_refused = fails_to_clone(ledger, call, &mut list);
             let found = (call, clones, is_refused, ledger.dropped.get());
             check!(rt; same(found, (call, clones, true, then(0, 0, clones))));
         }
