@@ -10,15 +10,16 @@ use crate::shifts::copy_overlapping;
 use crate::sizes::HEADER_WORDS;
 use std::alloc::Allocator;
 
-// Evaluates `$constant` if `$gap` is one of the numbers, and `$other` otherwise. Each number has an
-// arm of its own, in which LLVM knows the gap, and so turns the move into a `memmove`.
-macro_rules! match_gap {
-    ($gap:ident, $constant:expr, $other:expr) => {
-        match_gap!(1 2 3 4 5 6 7 8 9 10 11 12 13 14 15; $gap, $constant, $other)
+// Evaluates `$constant` if `$number` is one of the literals, and `$other` otherwise. Each literal
+// has an arm of its own, in which LLVM knows the number, and so turns a move by so many slots, or
+// of so many items, into a `memmove` or a few copies.
+macro_rules! match_number {
+    ($number:ident, $constant:expr, $other:expr) => {
+        match_number!(1 2 3 4 5 6 7 8 9 10 11 12 13 14 15; $number, $constant, $other)
     };
-    ($($number:literal)*; $gap:ident, $constant:expr, $other:expr) => {
-        match $gap {
-            $($number => $constant,)*
+    ($($literal:literal)*; $number:ident, $constant:expr, $other:expr) => {
+        match $number {
+            $($literal => $constant,)*
             _ => $other,
         }
     };
@@ -93,10 +94,34 @@ impl<T, A: Allocator> Block<T, A> {
         ensures capacity { length result.slots ≡ length self.slots }
     {
         let mut block = self;
-        match_gap!(
+        match_number!(
             gap,
             block.move_down(to, gap, k),
             block.move_run(to + gap, to, k)
+        );
+        block
+    }
+
+    /// Moves the `k` items from slot `from` onward down to the slots from `to` onward. Up to three
+    /// items are moved without a call.
+    #[inline(always)]
+    pub fn move_run_down(self, from: usize, to: usize, k: usize) -> Block<T, A>
+        requires below { to < from }
+        requires in_bounds { from + k ≤ length self.slots }
+        requires empty { AreEmpty self.slots to (from - to) }
+        requires filled { AreFilled self.slots from k }
+        ensures changes { block_view result ≡ record (block_view self) {
+          slots = move_slots from to k self.slots;
+          cost = add_moves k self.cost;
+        } }
+        ensures capacity { length result.slots ≡ length self.slots }
+    {
+        let mut block = self;
+        match_number!(
+            1 2 3;
+            k,
+            block.move_within(0, from, to, k, false),
+            block = block.close_gap(to, from - to, k)
         );
         block
     }
@@ -114,7 +139,7 @@ impl<T, A: Allocator> Block<T, A> {
         ensures capacity { length result.slots ≡ length self.slots }
     {
         let mut block = self;
-        match_gap!(1 2; gap, block.move_down(to, gap, k), block = block.close_gap(to, gap, k));
+        match_number!(1 2; gap, block.move_down(to, gap, k), block = block.close_gap(to, gap, k));
         block
     }
 
@@ -131,7 +156,7 @@ impl<T, A: Allocator> Block<T, A> {
         ensures capacity { length result.slots ≡ length self.slots }
     {
         let mut block = self;
-        match_gap!(
+        match_number!(
             gap,
             block.move_up(from, gap, k),
             block.move_run(from, from + gap, k)
