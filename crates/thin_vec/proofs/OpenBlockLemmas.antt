@@ -75,6 +75,10 @@ module _ {T A : Type 0} where
   abbrev pub past_middle : OpenView T A → List (Option T)
   past_middle v = empty_slots v.gap_after ++ past_after v
 
+  -- `middle_at v` is the index of the slot of the first middle item.
+  abbrev pub middle_at : OpenView T A → ℕ
+  middle_at v = length v.front + v.gap_before
+
   module _ (h : Inside T A) (v : OpenView T A) (s : IsOpenViewOf h v) where
     pub by_middle : h.block.slots ≡ to_middle v ++ (filled_slots v.middle ++ past_middle v)
     by_middle = s.row ∙ simp append_assoc
@@ -168,6 +172,14 @@ module _ {T A : Type 0} where
         (filled_slots v.middle ++ past_middle v) j
         (omega (arith, length-full v.front, s.front))
         (omega (arith, length-full v.front, s.front, s.gap_before))
+
+  module _ (h : Inside T A) (o : IsOpen h) {v : OpenView T A} (is : open_view h ≡ v) where
+    pub middle_start-is : h.middle_start ≡ middle_at v
+    middle_start-is = omega
+        (arith, o.front, o.gap_before, ap (λ u. length u.front) is, ap (λ u. u.gap_before) is)
+
+    pub middle_end-is : h.middle_end ≡ middle_at v + length v.middle
+    middle_end-is = omega (arith, middle_start-is, o.middle, ap (λ u. length u.middle) is)
 
   pub middle-run : (h : Inside T A) (xs : List T) → filled_slots xs
       ≡ slice_range h.block.slots h.middle_start h.middle_end

@@ -163,6 +163,14 @@ impl<T, A: Allocator> OpenBlock<T, A> {
         self.middle_end - self.middle_start
     }
 
+    // Returns whether there are at least two middle items. With `middle_len() > 1`, LLVM would
+    // compute a difference that it needs for nothing else.
+    pub(crate) fn has_second(&self) -> bool
+        ensures value { IsTrue result ↔ (1 < length self.now.middle) }
+    {
+        self.middle_start + 1 < self.middle_end
+    }
+
     pub(crate) fn take_first(&mut self) -> T
         requires nonempty { 0 < length self.old.middle }
         ensures middle { self.old.middle ≡ result ∷ self.new.middle }

@@ -1,6 +1,6 @@
 -- These definitions describe how items that fail a test are removed from an open block, as in std's
 -- `Vec::retain_mut`.
-use Rattle.std.specs.Prelude.{◌≡◌, ℕ, ◌<◌, ◌==◌, List, [], ◌∷◌, ◌++◌, Bool, true, false, drop, if◌then◌else◌, length, take}
+use Rattle.std.specs.Prelude.{◌≡◌, ℕ, ◌+◌, ◌<◌, ◌==◌, List, [], ◌∷◌, ◌++◌, Bool, true, false, drop, if◌then◌else◌, length, take}
 use Rattle.thin_block.specs.Cost.{add_moves}
 use Rattle.thin_vec.specs.Edits.Retain.{TestResults, flags_of, items_where, moves_of_retain, all_kept, count_true}
 use Rattle.thin_vec.specs.OpenView.{OpenView}
@@ -49,6 +49,20 @@ module _ {S T : Type 0} (R : S → T → Bool → S → T → Type 0) where
     pub asked : TestsInTurn s run (all_kept left) between
     pub stops : IsRemovedFirst between after t end
     pub now : ys ≡ left ++ end
+
+  -- `TestsFrom n m s xs t ys` states that the items of `xs` from index `n` onward were tested, up
+  -- to the first one that failed the test. `m` is the index of that item, or the length of `xs` if
+  -- there is none. The list `others` contains the items from index `n` onward.
+  pub record TestsFrom (n m : ℕ) (s : S) (xs : List T) (t : S) (ys : List T) : Type 0 where
+    pub before : List T
+    pub others : List T
+    pub left : List T
+    pub count : ℕ
+    pub place : length before ≡ n
+    pub reached : n + count ≡ m
+    pub was : xs ≡ before ++ others
+    pub run : TestsUpTo count s others t left
+    pub now : ys ≡ before ++ left
 
   -- `SeeksRemoved s v t w` describes a search in the open block `v` for the next item that fails a
   -- test. The kept items are added to the front. An item that fails the test becomes the first

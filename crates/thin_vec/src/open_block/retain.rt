@@ -28,9 +28,10 @@ pub(crate) trait Test<T> {
 }
 
 impl<T, A: Allocator> OpenBlock<T, A> {
-    ghost use Rattle.thin_vec.specs.OpenBlock.Retain.{TestsAt, TestsUpTo};
+    ghost use Rattle.thin_vec.specs.OpenBlock.Retain.{TestsAt, TestsFrom};
 
     // Tests the middle item at index `k`.
+    #[inline(always)]
     pub(crate) fn test<J: Test<T>>(&mut self, k: usize, test: &mut J) -> bool
         requires in_bounds { k < length self.old.middle }
         requires callable { J.ready test.old }
@@ -41,22 +42,42 @@ impl<T, A: Allocator> OpenBlock<T, A> {
         test.test(self.block.slot_mut(self.middle_start + k))
     }
 
-    // Tests the middle items up to the first one that is not to be kept. Returns the number of
-    // items before that one.
-    pub(crate) fn test_run<J: Test<T>>(&mut self, test: &mut J) -> usize
+    // Tests the middle items from index `from` onward, up to the first one that is not to be kept.
+    // Returns the index of that one, or the number of middle items if there is none.
+    #[inline(always)]
+    pub(crate) fn test_run<J: Test<T>>(&mut self, from: usize, test: &mut J) -> usize
+        requires in_bounds { from ≤ length self.old.middle }
         requires callable { J.ready test.old }
-        ensures tested { TestsUpTo J.tests result test.old self.old.middle test.new self.new.middle }
+        ensures tested { TestsFrom J.tests from result test.old self.old.middle test.new
+            self.new.middle }
         ensures callable { J.ready test.new }
         ensures changes { self.new ≡ record self.old { middle = self.new.middle } }
     {
-        let mut at = 0;
-        while at < self.middle_len() {
-            if !self.test(at, test) {
-                return at;
+        let mut at = self.middle_start + from;
+        while at < self.middle_end {
+            if !self.test(at - self.middle_start, test) {
+                break;
             }
             at += 1;
         }
-        at
+        at - self.middle_start
+    }
+
+    // Does the same as `test_run` from index 1 onward. The test of the second item stands apart, so
+    // that LLVM knows the length of a run of one item.
+    #[inline(always)]
+    pub(crate) fn test_rest<J: Test<T>>(&mut self, test: &mut J) -> usize
+        requires nonempty { 0 < length self.old.middle }
+        requires callable { J.ready test.old }
+        ensures tested { TestsFrom J.tests 1 result test.old self.old.middle test.new
+            self.new.middle }
+        ensures callable { J.ready test.new }
+        ensures changes { self.new ≡ record self.old { middle = self.new.middle } }
+    {
+        if self.has_second() && self.test(1, test) {
+            return self.test_run(2, test);
+        }
+        1
     }
 }
 
@@ -72,12 +93,12 @@ impl<T, A: Allocator> OpenBlock<T, A> {
         ensures callable { J.ready test.new }
     {
         if self.front_end == self.middle_start {
-            let count = self.test_run(test);
+            let count = self.test_run(0, test);
             self.keep_in_place(count);
             return self.middle_len() > 0;
         }
         if item_size::<T>() >= LARGE_FOR_RETAIN {
-            let count = self.test_run(test);
+            let count = self.test_run(0, test);
             self.move_down(count);
             return self.middle_len() > 0;
         }
@@ -104,7 +125,7 @@ impl<T: Drop, A: Allocator> OpenBlock<T, A> {
         requires callable { J.ready test.old }
         ensures retained { RetainsMiddle J.tests test.old self.old test.new self.new }
     {
-        let first = self.test_run(test);
+        let first = self.test_run(0, test);
         self.keep_in_place(first);
         if self.middle_len() > 0 {
             drop(self.take_first());

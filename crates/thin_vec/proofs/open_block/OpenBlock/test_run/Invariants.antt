@@ -1,14 +1,18 @@
--- The first `at` middle items have been tested and kept, and only middle items have changed.
-use Rattle.std.proofs.Common.{◌≡◌, ◌-◌, length}
+-- The middle items from index `from` up to slot `at` have been tested and kept, and only middle
+-- items have changed.
+use Rattle.std.proofs.Common.{◌≡◌, ◌+◌, ◌-◌, ◌≤◌, length}
+use Rattle.thin_vec.proofs.OpenBlockLemmas.{middle_at}
 use Rattle.thin_vec.proofs.open_block.TestLemmas.{Stays}
 use Rattle.thin_vec.proofs.open_block.OpenBlock.test_run.Given as goal
 
 abbrev pub invariant-loop-at : goal.invariant-loop-at
 invariant-loop-at g l = record {
-  stays : Stays g.J.Test.tests l.at l.fn.test l.fn.self.middle l.test l.self.middle;
+  stays : Stays g.J.Test.tests l.from (l.at - middle_at l.fn.self) l.fn.test l.fn.self.middle l.test
+      l.self.middle;
+  low : middle_at l.fn.self ≤ l.at;
   ready : g.J.Test.ready l.test;
   same : l.self ≡ record l.fn.self { middle = l.self.middle };
 }
 
 abbrev pub decreases-loop-at : goal.decreases-loop-at
-decreases-loop-at g l = length l.self.middle - l.at
+decreases-loop-at g l = middle_at l.fn.self + length l.self.middle - l.at
