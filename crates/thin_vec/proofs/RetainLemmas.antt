@@ -33,6 +33,10 @@ pub moving-before : (gap k : ℕ) (c : Cost) → (0 < gap → ⊥)
 moving-before zero k c none = refl
 moving-before (suc gap) k c none = absurd (none (omega arith))
 
+pub moving-zero : (gap : ℕ) (c : Cost) → (if gap == 0 then c else add_moves 0 c) ≡ c
+moving-zero zero c = refl
+moving-zero (suc gap) c = moving-after (suc gap) 0 c (omega arith) ∙ moving-none c
+
 pub cons-head : {X : Type 0} {x y : X} {xs ys : List X} → x ∷ xs ≡ y ∷ ys → x ≡ y
 cons-head e = cc
 

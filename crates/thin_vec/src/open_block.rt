@@ -236,7 +236,8 @@ impl<T, A: Allocator> OpenBlock<T, A> {
         self.append_to_front(value);
     }
 
-    // Moves the first `k` middle items to the end of the front, a single one without `close_gap`.
+    // Moves the first `k` middle items to the end of the front.
+    #[inline(always)]
     pub(crate) fn move_down(&mut self, k: usize)
         requires in_bounds { k ≤ length self.old.middle }
         requires gap_before { 0 < self.old.gap_before }
@@ -246,15 +247,8 @@ impl<T, A: Allocator> OpenBlock<T, A> {
           cost = add_moves k self.old.cost;
         } }
     {
-        if k == 0 {
-            return;
-        }
-        if k == 1 {
-            self.move_one_down();
-            return;
-        }
         let block = mem::replace(&mut self.block, Block::none());
-        let block = block.close_gap(self.front_end, self.middle_start - self.front_end, k);
+        let block = block.move_run_down(self.middle_start, self.front_end, k);
         self.block.replace_unallocated(block);
         self.front_end += k;
         self.middle_start += k;

@@ -1,18 +1,20 @@
 -- These lemmas state what an open block contains after a closure has tested some of its middle
 -- items, and each tested item has been kept or removed.
 use Rattle.std.proofs.Common.{◌≡◌, ℕ, ◌+◌, ◌<◌, ◌≤◌, Bool, true, false, List, [], ◌∷◌, ◌++◌, length, take, drop, refl, sym, ap, subst, ◌∙◌, arith, length-append, append_assoc}
-use Rattle.std.proofs.Math.Seq.{take-add}
-use Rattle.std.proofs.lemmas.List.{append-nil, drop-drop, drop_at, length-take-le, nil_from_length, take-append-drop, take_at}
+use Rattle.std.proofs.lemmas.Bool.{false≢true}
+use Rattle.std.proofs.lemmas.List.{append-nil, drop_at, length-drop}
+use Rattle.std.specs.Prelude.{MatchBool, if◌then◌else◌}
 use Rattle.thin_block.specs.Cost.{add_moves}
 use Rattle.thin_vec.specs.Edits.Retain.{TestResults, flags_of, items_where, moves_of_retain, all_kept, count_true}
 use Rattle.thin_vec.specs.OpenView.{OpenView}
-use Rattle.thin_vec.specs.OpenBlock.Retain.{IsRemovedFirst, SeeksRemoved, TestsAt, RetainsMiddle, TestsUpTo, RetainsSome, TestsInTurn}
-use Rattle.thin_vec.proofs.RetainLemmas.{items_where-append, items_where-stay, moves_of_retain-stay, moving-after, moving-more, moving-none, count_true-append, count_true-stay}
-use Rattle.thin_vec.proofs.open_block.TestLemmas.{Part, Stays, asked-append, part-ends, part-goes, stays-goes, stays-more, stays-start}
+use Rattle.thin_vec.specs.OpenBlock.Retain.{IsRemovedFirst, SeeksRemoved, TestsAt, TestsFrom, RetainsMiddle, TestsUpTo, RetainsSome, TestsInTurn}
+use Rattle.thin_vec.proofs.RetainLemmas.{items_where-append, moves_of_retain-stay, moving-after, moving-before, moving-more, moving-none, moving-zero, count_true-append}
+use Rattle.thin_vec.proofs.OpenBlockLemmas.{first-of}
+use Rattle.thin_vec.proofs.open_block.TestLemmas.{Part, asked-append, first-goes, first-stays, part-ends, part-goes, stays-ends, stays-start, stays-then, tests-all}
 
 module _ {S T : Type 0} (R : S → T → Bool → S → T → Type 0) where
   module _ {A : Type 0} (v w : OpenView T A) where
-    pub retains-of : (m : ℕ) (s t : S) (kept : List T) → Part R m s v.middle t kept w.middle
+    retains-of : (m : ℕ) (s t : S) (kept : List T) → Part R m s v.middle t kept w.middle
         → 0 < w.gap_before → w ≡ record v {
           front = v.front ++ kept;
           gap_before = w.gap_before;
@@ -41,8 +43,8 @@ module _ {S T : Type 0} (R : S → T → Bool → S → T → Type 0) where
     moved : w.cost ≡ add_moves h.count v.cost
     moved = ap (λ u. u.cost) h.now ∙ moving-after v.gap_before h.count v.cost gap_before
 
-    -- The lemmas `advanced-..` and `keeps-retains` are for the cases of `retain_middle`.
-    pub advanced-goes : (value : T) (z : OpenView T A) → w.middle ≡ value ∷ z.middle
+    -- The lemmas `advanced-..` are for the cases of the loop of `retain_middle`.
+    advanced-goes : (value : T) (z : OpenView T A) → w.middle ≡ value ∷ z.middle
         → z ≡ record w { middle = z.middle; gap_before = w.gap_before + 1 } → RetainsSome R s v t z
     advanced-goes value z middle same =
         retains-of v z h.count s t kept
@@ -52,7 +54,7 @@ module _ {S T : Type 0} (R : S → T → Bool → S → T → Type 0) where
         (same ∙ (λ i. record (h.now i)
         { gap_before = sym (ap (λ u. u.gap_before) same) i; middle = z.middle; cost = moved i }))
 
-    pub advanced-ends : w.middle ≡ [] → RetainsSome R s v t w
+    advanced-ends : w.middle ≡ [] → RetainsSome R s v t w
     advanced-ends none =
         retains-of v w h.count s t kept
         (subst (λ (l : List T). Part R h.count s v.middle t kept l) (sym none)
@@ -60,23 +62,13 @@ module _ {S T : Type 0} (R : S → T → Bool → S → T → Type 0) where
         (omega (arith, ap (λ u. u.gap_before) h.now, gap_before))
         (λ i. record (h.now i) { gap_before = w.gap_before; middle = w.middle; cost = moved i })
 
-  -- A test changes no length, and a search only moves items from the middle to the front.
-  pub length-tested : {k : ℕ} {s t : S} {b : Bool} {xs ys : List T} → TestsAt R k s xs b t ys
-      → length ys ≡ length xs
-  length-tested a = omega (
-    arith,
-    ap length a.was,
-    ap length a.now,
-    length-append a.before (a.item ∷ a.after),
-    length-append a.before (a.left ∷ a.after),
-  )
-
+  -- A search only moves items from the middle to the front.
   length-stops : (s : S) (xs : List T) (t : S) (ys : List T) → IsRemovedFirst R s xs t ys
       → length ys ≡ length xs
   length-stops s [] t ys h = ap length h.0
   length-stops s (x ∷ xs) t ys h = ap length h.2
 
-  pub length-sought : {A : Type 0} {s t : S} {v w : OpenView T A} → SeeksRemoved R s v t w
+  length-sought : {A : Type 0} {s t : S} {v w : OpenView T A} → SeeksRemoved R s v t w
       → length w.middle ≤ length v.middle
   length-sought {t = t} h =
       let r = h.run in
@@ -90,125 +82,76 @@ module _ {S T : Type 0} (R : S → T → Bool → S → T → Type 0) where
         length-append r.run r.after,
       )
 
-  asked-later : (n : ℕ) (t : S) (ys : List T) (b : Bool) (u : S) (zs : List T) → n ≤ length ys
-      → TestsAt R 0 t (drop n ys) b u zs → TestsAt R n t ys b u (take n ys ++ zs)
-  asked-later n t ys b u zs low a =
-      let none = nil_from_length a.before a.place in
-      record {
-        before = take n ys;
-        item = a.item;
-        left = a.left;
-        after = a.after;
-        place = length-take-le n ys low;
-        was = sym (take-append-drop n ys) ∙ ap (λ (l : List T). take n ys ++ l)
-            (a.was ∙ ap (λ (l : List T). l ++ a.item ∷ a.after) none);
-        asked = a.asked;
-        now = ap (λ (l : List T). take n ys ++ l)
-            (a.now ∙ ap (λ (l : List T). l ++ a.left ∷ a.after) none);
-      }
-
-  -- `Keeps s v t w` states that the first `count` middle items of the open block `v` were tested
-  -- and kept, and moved to the end of the front items. The list `left` contains all middle items of
-  -- `v`, as the tests left them.
-  pub record Keeps {A : Type 0} (s : S) (v : OpenView T A) (t : S) (w : OpenView T A) : Type 0 where
-    pub count : ℕ
-    pub left : List T
-    pub run : Stays R count s v.middle t left
-    pub now : w ≡ record v {
-      front = v.front ++ take count left;
-      middle = drop count left;
-      cost = add_moves count v.cost;
-    }
-
-  pub keeps-start : {A : Type 0} (s : S) (v : OpenView T A) → Keeps s v s v
-  keeps-start s v =
+  -- The following lemmas are the cases of `seek_removed` and of the loop of `retain_middle`: there
+  -- is no item, or the first item is to be removed, or it is kept with the items after it, up to
+  -- the next one that is to be removed.
+  pub sought-none : {A : Type 0} (s : S) (v : OpenView T A) → v.middle ≡ []
+      → SeeksRemoved R s v s v
+  sought-none s v none =
       record {
         count = 0;
         left = v.middle;
-        run = stays-start R s v.middle;
-        now = λ i. record v
-            { front = sym (append-nil v.front) i; cost = sym (moving-none v.cost) i };
+        run = tests-all R 0 s v.middle s v.middle
+            (stays-ends R 0 0 s v.middle s v.middle (stays-start R 0 s v.middle (omega arith))
+            (omega (arith, ap length none)));
+        now = λ i. record v {
+          front = sym (append-nil v.front) i;
+          cost = sym (moving-zero v.gap_before v.cost) i;
+        };
       }
 
-  module _ {A : Type 0} (s : S) (v : OpenView T A) (t : S) (w : OpenView T A)
-      (h : Keeps s v t w) where
-    room : h.count ≤ length h.left
-    room = omega
-        (arith, ap length h.run.now, length-append h.run.left h.run.more, h.run.reached)
+  pub sought-goes : {A : Type 0} {s t : S} {v w : OpenView T A}
+      → TestsAt R 0 s v.middle false t w.middle → w ≡ record v { middle = w.middle }
+      → SeeksRemoved R s v t w
+  sought-goes {s = s} {t} {v} {w} a now =
+      record {
+        count = 0;
+        left = w.middle;
+        run = first-goes R s v.middle t w.middle a;
+        now = now ∙ (λ i. record v {
+          front = sym (append-nil v.front) i;
+          middle = w.middle;
+          cost = sym (moving-zero v.gap_before v.cost) i;
+        });
+      }
 
-    -- In this module, the first middle item of `w` was tested. The test returned `b`, and changed
-    -- the middle items to `zs`, the state of the test to `u`, and the block to `z`.
-    module _ (b : Bool) (u : S) (zs : List T) (a : TestsAt R 0 t w.middle b u zs) (z : OpenView T A)
-        (changes : z ≡ record w { middle = zs }) where
-      -- `all` contains all middle items of `v`, as the tests left them.
-      abbrev all : List T
-      all = take h.count h.left ++ zs
+  -- In this module, the first item was tested, which turned the block `v` into `w`. Then the items
+  -- after it were tested, which turned `w` into `x`.
+  module _ {A : Type 0} {s t u : S} {v w x : OpenView T A}
+      (a : TestsAt R 0 s v.middle true t w.middle) (tested : w ≡ record v { middle = w.middle })
+      (count : ℕ) (f : TestsFrom R 1 count t w.middle u x.middle)
+      (others : x ≡ record w { middle = x.middle }) (z : OpenView T A) where
+    run-all : TestsUpTo R count s v.middle u x.middle
+    run-all = tests-all R count s v.middle u x.middle
+        (stays-then R 0 1 s v.middle t w.middle (first-stays R s v.middle t w.middle a) count u
+        x.middle f)
 
-      asked-all : TestsAt R h.count t h.left b u all
-      asked-all = asked-later h.count t h.left b u zs room
-          (subst (λ (l : List T). TestsAt R 0 t l b u zs) (ap (λ x. x.middle) h.now) a)
+    pub sought-moved : 0 < v.gap_before → z ≡ record x {
+      front = x.front ++ take count x.middle;
+      middle = drop count x.middle;
+      cost = add_moves count x.cost;
+    } → SeeksRemoved R s v u z
+    sought-moved some moved =
+        record {
+          count = count;
+          left = x.middle;
+          run = run-all;
+          now = cc (moved, others, tested, moving-after v.gap_before count v.cost some);
+        }
 
-      before-is : take h.count all ≡ take h.count h.left
-      before-is = take_at (take h.count h.left) zs h.count (length-take-le h.count h.left room)
+    pub sought-kept : (0 < v.gap_before → ⊥) → z ≡ record x {
+      front = x.front ++ take count x.middle;
+      middle = drop count x.middle;
+    } → SeeksRemoved R s v u z
+    sought-kept none kept =
+        record {
+          count = count;
+          left = x.middle;
+          run = run-all;
+          now = cc (kept, others, tested, moving-before v.gap_before count v.cost none);
+        }
 
-      after-is : drop h.count all ≡ zs
-      after-is = drop_at (take h.count h.left) zs h.count (length-take-le h.count h.left room)
-
-      pub keeps-more : b ≡ true → (y : OpenView T A) → y ≡ record z {
-        front = z.front ++ take 1 z.middle;
-        middle = drop 1 z.middle;
-        cost = add_moves 1 z.cost;
-      } → Keeps s v u y
-      keeps-more stays y moved =
-          let n = h.count in
-          record {
-            count = n + 1;
-            left = all;
-            run = stays-more R n s v.middle t h.left h.run u all
-                (subst (λ (c : Bool). TestsAt R n t h.left c u all) stays asked-all);
-            now = cc (
-              moved,
-              h.now,
-              before-is,
-              after-is,
-              append_assoc v.front (take n h.left) (take 1 zs),
-              take-add n 1 all,
-              drop-drop 1 n all,
-              moving-more 1 n v.cost,
-            );
-          }
-
-      pub keeps-goes : b ≡ false → 0 < v.gap_before → SeeksRemoved R s v u z
-      keeps-goes goes gap_before =
-          let n = h.count in
-          record {
-            count = n;
-            left = all;
-            run = stays-goes R n s v.middle t h.left h.run u all
-                (subst (λ (c : Bool). TestsAt R n t h.left c u all) goes asked-all);
-            now = cc (h.now, before-is, after-is, moving-after v.gap_before n v.cost gap_before);
-          }
-
-    pub keeps-retains : 0 < v.gap_before → RetainsSome R s v t w
-    keeps-retains gap_before =
-        let n = h.count in
-        let r = h.run in
-        retains-of v w n s t (take n h.left)
-        (record {
-          done = r.run;
-          results = all_kept r.left;
-          was = r.was ∙ ap (λ (l : List T). r.run ++ l)
-              (sym (ap (λ x. x.middle) h.now
-              ∙ (ap (drop n) r.now ∙ drop_at r.left r.more n r.reached)));
-          asked = r.asked;
-          left = items_where-stay r.left
-              ∙ sym (ap (take n) r.now ∙ take_at r.left r.more n r.reached);
-          count = count_true-stay r.left ∙ r.reached;
-        })
-        (omega (arith, gap_before, ap (λ x. x.gap_before) h.now))
-        (cc h.now)
-
-  pub retains-start : {A : Type 0} (s : S) (v : OpenView T A) → 0 < v.gap_before
+  retains-start : {A : Type 0} (s : S) (v : OpenView T A) → 0 < v.gap_before
       → RetainsSome R s v s v
   retains-start s v gap_before =
       record {
@@ -221,7 +164,7 @@ module _ {S T : Type 0} (R : S → T → Bool → S → T → Type 0) where
             { front = sym (append-nil v.front) i; cost = sym (moving-none v.cost) i };
       }
 
-  pub retains-then : {A : Type 0} {s t u : S} {v w z : OpenView T A} → RetainsSome R s v t w
+  retains-then : {A : Type 0} {s t u : S} {v w z : OpenView T A} → RetainsSome R s v t w
       → RetainsSome R t w u z → RetainsSome R s v u z
   retains-then {s = s} {t} {u} {v} {w} {z} h k =
       record {
@@ -251,7 +194,7 @@ module _ {S T : Type 0} (R : S → T → Bool → S → T → Type 0) where
         { front = v.front ++ take m ys; gap_before = w.gap_before; middle = w.middle }
 
     -- The lemmas `retained-goes` and `retained-ends` are the cases of `retain_middle`.
-    pub retained-goes : (value : T) (u : S) (z : OpenView T A) → Passed → drop m ys
+    retained-goes : (value : T) (u : S) (z : OpenView T A) → Passed → drop m ys
         ≡ value ∷ w.middle
         → RetainsSome R t w u z → z.middle ≡ [] → RetainsMiddle R s v u z
     unfolding part-goes
@@ -278,7 +221,7 @@ module _ {S T : Type 0} (R : S → T → Bool → S → T → Type 0) where
           );
         }
 
-    pub retained-ends : Passed → drop m ys ≡ [] → w.middle ≡ [] → RetainsMiddle R s v t w
+    retained-ends : Passed → drop m ys ≡ [] → w.middle ≡ [] → RetainsMiddle R s v t w
     unfolding part-ends
     retained-ends p k none =
         let part = part-ends R m s v.middle t ys run k in

@@ -86,29 +86,28 @@ impl<T, A: Allocator> OpenBlock<T, A> {
 
     // Tests the middle items up to the first one that is not to be kept, and appends those before
     // it to the front. Returns whether there is one. It is then the first middle item.
+    #[inline(always)]
     pub(crate) fn seek_removed<J: Test<T>>(&mut self, test: &mut J) -> bool
         requires callable { J.ready test.old }
         ensures tested { SeeksRemoved J.tests test.old self.old test.new self.new }
         ensures value { IsTrue result ↔ (0 < length self.new.middle) }
         ensures callable { J.ready test.new }
     {
+        if self.middle_len() == 0 {
+            return false;
+        }
+        if !self.test(0, test) {
+            return true;
+        }
+        // One call of `test_rest` before the branches took a quarter more instructions.
         if self.front_end == self.middle_start {
-            let count = self.test_run(0, test);
+            let count = self.test_rest(test);
             self.keep_in_place(count);
             return self.middle_len() > 0;
         }
-        if item_size::<T>() >= LARGE_FOR_RETAIN {
-            let count = self.test_run(0, test);
-            self.move_down(count);
-            return self.middle_len() > 0;
-        }
-        while self.middle_len() > 0 {
-            if !self.test(0, test) {
-                return true;
-            }
-            self.move_one_down();
-        }
-        false
+        let count = self.test_rest(test);
+        self.move_down(count);
+        self.middle_len() > 0
     }
 }
 

@@ -1,6 +1,6 @@
--- `close_gap` moves the first `k` middle items into the slots directly after the front items.
+-- `move_run_down` moves the first `k` middle items into the slots directly after the front items.
 use Rattle.thin_block.specs.Block.{block_view}
-use Rattle.std.proofs.Common.{◌≡◌, ◌≤◌, ◌+◌, ◌-◌, ◌++◌, ap, sym, subst, ◌∙◌, arith, length, take, drop}
+use Rattle.std.proofs.Common.{◌≡◌, ◌≤◌, ◌++◌, ap, sym, subst, ◌∙◌, arith, length, take, drop}
 use Rattle.std.specs.Prelude.{IsSome}
 use Rattle.thin_block.specs.Cost.{add_moves}
 use Rattle.thin_block.specs.Slots.{move_slots, slot}
@@ -9,15 +9,15 @@ use Rattle.thin_vec.proofs.OpenBlockLemmas.{Found, before-empty, middle-filled}
 use Rattle.thin_vec.proofs.open_block.MiddleLemmas.{moved_run, moved_run-view, move_down-step}
 use Rattle.thin_vec.proofs.open_block.OpenBlock.move_down.Goals as goal
 
-pub close_gap-block-requires-clause-empty : goal.close_gap-block-requires-clause-empty
-close_gap-block-requires-clause-empty g c = λ j low high.
+pub move_run_down-block-requires-clause-empty : goal.move_run_down-block-requires-clause-empty
+move_run_down-block-requires-clause-empty g c = λ j low high.
     let o = c.self.invariant in
     ap (λ b. slot b.slots j) c.replace-block.ensures.value
     ∙ before-empty c.self.inside (open_view c.self.inside) o j low
     (omega (arith, high, o.gap_before))
 
-pub close_gap-block-requires-clause-filled : goal.close_gap-block-requires-clause-filled
-close_gap-block-requires-clause-filled g c = λ j low high.
+pub move_run_down-block-requires-clause-filled : goal.move_run_down-block-requires-clause-filled
+move_run_down-block-requires-clause-filled g c = λ j low high.
     let o = c.self.invariant in
     subst (λ b. IsSome (slot b.slots j)) (sym c.replace-block.ensures.value)
     (middle-filled c.self.inside (open_view c.self.inside) o j (omega (arith, low, o.gap_before))
@@ -33,13 +33,11 @@ facts g c =
     let o = c.self.invariant in
     let low : c.args.k ≤ length (open_view h).middle =
     omega (arith, c.requires.in_bounds, ap (λ v. length v.middle) c.self.view_is) in
-    let same : h.front_end + (h.middle_start - h.front_end) ≡ h.middle_start =
-    omega (arith, o.gap_before) in
     move_down-step h o c.args.k low c.replace_unallocated.new.self
     (ap block_view c.replace_unallocated.ensures.value
-    ∙ (c.close_gap-block.ensures.changes
+    ∙ (c.move_run_down-block.ensures.changes
     ∙ (λ i. let v = block_view (c.replace-block.ensures.value i) in record v {
-      slots = move_slots (same i) h.front_end c.args.k v.slots;
+      slots = move_slots h.middle_start h.front_end c.args.k v.slots;
       cost = add_moves c.args.k v.cost;
     })))
 
@@ -50,7 +48,7 @@ pub returns : goal.returns
 returns g c =
     let spent : c.replace_unallocated.new.self.cost ≡ add_moves c.args.k c.args.self.now.cost =
     ap (λ b. b.cost) c.replace_unallocated.ensures.value
-    ∙ (ap (λ v. v.cost) c.close_gap-block.ensures.changes
+    ∙ (ap (λ v. v.cost) c.move_run_down-block.ensures.changes
     ∙ (ap (λ b. add_moves c.args.k b.cost) c.replace-block.ensures.value
     ∙ ap (λ v. add_moves c.args.k v.cost) c.self.view_is)) in
     (facts g c).view ∙ (λ i. let v = c.self.view_is i in record v

@@ -1,56 +1,51 @@
--- There are three cases. If there is no gap, the kept items stay in their slots. If the items are
--- large, the kept items are moved together. Otherwise, each iteration tests and moves one item.
-use Rattle.std.proofs.Common.{◌≡◌, ◌<◌, ◌++◌, ◌∙◌, ap, arith, drop, rules, sym, take}
-use Rattle.thin_vec.proofs.RetainLemmas.{moving-before}
-use Rattle.thin_vec.proofs.open_block.RetainMiddleLemmas.{keeps-goes, keeps-more, keeps-start}
+-- There are four cases. There is no item, or the first one is to be removed. Otherwise it is kept
+-- with those that follow it: without a gap, they stay in their slots, else they are moved together.
+use Rattle.std.proofs.Common.{◌<◌, ◌∙◌, ap, arith, refl, sym}
+use Rattle.std.proofs.lemmas.List.{nil_from_length}
+use Rattle.thin_vec.proofs.open_block.RetainMiddleLemmas.{sought-goes, sought-kept, sought-moved, sought-none}
+use Rattle.thin_vec.proofs.open_block.TestLemmas.{at-place}
 use Rattle.thin_vec.proofs.open_block.OpenBlock.seek_removed.Goals as goal
+
+pub returns-then-middle_len-eq0-clause-tested : goal.returns-then-middle_len-eq0-clause-tested
+returns-then-middle_len-eq0-clause-tested g c =
+    sought-none g.J.Test.tests c.args.test.now c.args.self.now
+    (nil_from_length c.args.self.now.middle
+    (sym c.middle_len.ensures.value ∙ c.if-middle_len-eq0.true))
+
+pub returns-then-not-test-clause-tested : goal.returns-then-not-test-clause-tested
+returns-then-not-test-clause-tested g c =
+    sought-goes g.J.Test.tests
+    (at-place g.J.Test.tests refl c.if-not-test.true c.test.ensures.tested) c.test.ensures.changes
 
 -- If there is no gap after the kept items, then no item is moved, and no move is counted.
 pub returns-then-self-clause-tested : goal.returns-then-self-clause-tested
 returns-then-self-clause-tested g c =
-    let v = c.args.self.now in
-    let run = c.test_run-count in
-    let none : 0 < v.gap_before → ⊥ = λ some.
-    absurd (omega (arith, some, c.if-self.true, ap (λ u. u.gap_before) c.self.view_is)) in
-    let run-cost : run.new.self.cost ≡ v.cost = ap (λ u. u.cost) run.ensures.changes in
-    record {
-      count = run.result;
-      left = run.new.self.middle;
-      run = run.ensures.tested;
-      now = c.keep_in_place.ensures ∙ (λ i. let u = run.ensures.changes i in record u {
-        front = u.front ++ take run.result run.new.self.middle;
-        middle = drop run.result run.new.self.middle;
-        cost = (run-cost ∙ sym (moving-before v.gap_before run.result v.cost none)) i;
-      });
-    }
-
-pub loop-self-init : goal.loop-self-init
-loop-self-init g c = record {
-  keeps = keeps-start g.J.Test.tests c.args.test.now c.args.self.now;
-  ready = c.requires.callable;
-}
-
--- If the test decides to remove an item, this item remains in its slot, and the search ends.
-pub returns-then-not-test-clause-tested : goal.returns-then-not-test-clause-tested
-returns-then-not-test-clause-tested g c =
-    let l = c.loop-self in
-    keeps-goes g.J.Test.tests c.args.test.now c.args.self.now l.test l.self l.invariant.keeps
-    c.test.result c.test.new.test c.test.new.self.middle c.test.ensures.tested c.test.new.self
-    c.test.ensures.changes (search rules)
-    (omega (
+    let run = c.test_rest-count in
+    let none : 0 < c.args.self.now.gap_before → ⊥ = λ some.
+    absurd (omega (
       arith,
-      ap (λ u. u.gap_before)
-          c.self.view_is,
-    ))
+      some,
+      c.if-self.true,
+      ap (λ u. u.gap_before) c.self.view_is,
+      ap (λ u. u.gap_before) c.test.ensures.changes,
+    )) in
+    sought-kept g.J.Test.tests
+    (at-place g.J.Test.tests refl c.if-not-test.false c.test.ensures.tested)
+    c.test.ensures.changes run.result run.ensures.tested run.ensures.changes
+    c.keep_in_place.new.self none c.keep_in_place.ensures
 
-pub loop-self-preserved : goal.loop-self-preserved
-loop-self-preserved g c =
-    let l = c.loop-self in
-    record {
-      keeps = keeps-more g.J.Test.tests c.args.test.now c.args.self.now l.test l.self
-          l.invariant.keeps c.test.result c.test.new.test c.test.new.self.middle
-          c.test.ensures.tested
-          c.test.new.self c.test.ensures.changes (search rules) c.move_one_down.new.self
-          c.move_one_down.ensures;
-      ready = search rules;
-    }
+pub returns-clause-tested : goal.returns-clause-tested
+returns-clause-tested g c =
+    let run = c.test_rest-count-2 in
+    let some : 0 < c.args.self.now.gap_before =
+    omega (
+      arith,
+      c.if-self.false,
+      c.self.invariant.gap_before,
+      ap (λ u. u.gap_before) c.self.view_is,
+      ap (λ u. u.gap_before) c.test.ensures.changes,
+    ) in
+    sought-moved g.J.Test.tests
+    (at-place g.J.Test.tests refl c.if-not-test.false c.test.ensures.tested)
+    c.test.ensures.changes run.result run.ensures.tested run.ensures.changes
+    c.move_down.new.self some c.move_down.ensures
