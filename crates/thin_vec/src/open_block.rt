@@ -223,19 +223,6 @@ impl<T, A: Allocator> OpenBlock<T, A> {
         self.middle_start += k;
     }
 
-    pub(crate) fn move_one_down(&mut self)
-        requires nonempty { 0 < length self.old.middle }
-        requires gap_before { 0 < self.old.gap_before }
-        ensures { self.new ≡ record self.old {
-          front = self.old.front ++ take 1 self.old.middle;
-          middle = drop 1 self.old.middle;
-          cost = add_moves 1 self.old.cost;
-        } }
-    {
-        let value = self.take_first();
-        self.append_to_front(value);
-    }
-
     // Moves the first `k` middle items to the end of the front.
     #[inline(always)]
     pub(crate) fn move_down(&mut self, k: usize)
@@ -368,5 +355,21 @@ impl<T: Drop, A: Allocator> OpenBlock<T, A> {
             drop(self.take_first());
         }
         self.merge_gaps();
+    }
+
+    // Drops the first middle item if another one follows it. Returns whether one does.
+    #[inline(always)]
+    pub(crate) fn drop_before_next(&mut self) -> bool
+        ensures value { IsTrue result ↔ (1 < length self.old.middle) }
+        ensures changes { self.new ≡ (if result then record self.old {
+          gap_before = self.old.gap_before + 1;
+          middle = drop 1 self.old.middle;
+        } else self.old) }
+    {
+        if !self.has_second() {
+            return false;
+        }
+        drop(self.take_first());
+        true
     }
 }

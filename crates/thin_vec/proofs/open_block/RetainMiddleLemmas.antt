@@ -234,3 +234,171 @@ module _ {S T : Type 0} (R : S → T → Bool → S → T → Type 0) where
               (sym (append-nil part.done) ∙ sym part.was) part.asked;
           now = cc (part.left, moving-none v.cost);
         }
+
+  -- The following definitions and lemmas are about the loop of `retain_middle`.
+
+  -- `emptied w` is the open block `w` after its middle items were dropped and its gaps joined.
+  abbrev pub emptied : {A : Type 0} → OpenView T A → OpenView T A
+  emptied w = record w {
+    gap_before = w.gap_before + length w.middle + w.gap_after;
+    middle = [];
+    gap_after = 0;
+  }
+
+  -- `Removes s v t w` holds if testing some or all middle items of the open block `v` turned `v`
+  -- into `w`, and at least one item was removed: `value` is the first such item, and `start` is the
+  -- block without it.
+  pub record Removes {A : Type 0} (s : S) (v : OpenView T A) (t : S)
+      (w : OpenView T A) : Type 0 where
+    pub count : ℕ
+    pub left : List T
+    pub between : S
+    pub value : T
+    pub start : OpenView T A
+    pub run : TestsUpTo R count s v.middle between left
+    pub passed : Passed v start count s between left run
+    pub first : drop count left ≡ value ∷ start.middle
+    pub some : RetainsSome R between start t w
+
+  -- `Rounds s v b t w` is the invariant of the loop. If `b` is true, the loop goes on, and the
+  -- middle items of `w` have not been tested. Otherwise all items have been tested, and what is
+  -- left in the middle is to be dropped.
+  abbrev pub Rounds : {A : Type 0} → S → OpenView T A → Bool → S → OpenView T A → Type 0
+  Rounds s v b t w =
+      MatchBool b (Removes s v t w × (0 < length w.middle)) (RetainsMiddle R s v t (emptied w))
+
+  removes-all : {A : Type 0} {s t : S} {v w : OpenView T A} → Removes s v t w → w.middle ≡ []
+      → RetainsMiddle R s v t w
+  removes-all {s = s} {t} {v} {w} h none =
+      retained-goes v h.start h.count s h.between h.left h.run h.value t w h.passed h.first h.some
+      none
+
+  -- `x` is `w` without its first middle item.
+  abbrev Dropped : {A : Type 0} → OpenView T A → OpenView T A → Type 0
+  Dropped w x = x ≡ record w { gap_before = w.gap_before + 1; middle = drop 1 w.middle }
+
+  dropped-first : {A : Type 0} (w x : OpenView T A) → 1 < length w.middle → Dropped w x
+      → (value : T) × (w.middle ≡ value ∷ x.middle) × (0 < length x.middle)
+  dropped-first w x more now =
+      let f = first-of w.middle (omega arith) in
+      let same : x.middle ≡ f.1 = ap (λ u. u.middle) now ∙ ap (drop 1) f.2 in (
+        f.0,
+        f.2 ∙ ap (λ (l : List T). f.0 ∷ l) (sym same),
+        omega (arith, more, ap length f.2, ap length same),
+      )
+
+  -- The loop begins: the first middle item of `w`, if there is one, is to be removed.
+  module _ {A : Type 0} (s t : S) (v w : OpenView T A) (m : ℕ) (ys : List T)
+      (run : TestsUpTo R m s v.middle t ys)
+      (now : w ≡ record v { front = v.front ++ take m ys; middle = drop m ys })
+      (none : v.gap_after ≡ 0) where
+    left-is : drop m ys ≡ w.middle
+    left-is = sym (ap (λ u. u.middle) now)
+
+    passed-empty : Passed v (emptied w) m s t ys run
+    passed-empty = λ i. record (now i) {
+      gap_before = (emptied w).gap_before;
+      middle = [];
+      gap_after = sym none i;
+    }
+
+    begins-ends : (xs : List T) → w.middle ≡ xs → (1 < length xs → ⊥)
+        → RetainsMiddle R s v t (emptied w)
+    begins-ends [] e few =
+        retained-ends v (emptied w) m s t ys run passed-empty (left-is ∙ e) refl
+    begins-ends (x ∷ []) e few =
+        retained-goes v (emptied w) m s t ys run x t (emptied w) passed-empty (left-is ∙ e)
+        (retains-start t (emptied w) (omega (arith, ap length e))) refl
+    begins-ends (x ∷ y ∷ xs) e few = absurd (few (omega arith))
+
+    pub rounds-begin : (b : Bool) (x : OpenView T A) → (b ≡ true → 1 < length w.middle)
+        → (1 < length w.middle → b ≡ true)
+        → x ≡ (if b then record w { gap_before = w.gap_before + 1; middle = drop 1 w.middle } else w)
+        → Rounds s v b t x
+    rounds-begin true x more few next =
+        let f = dropped-first w x (more refl) next in (
+          record {
+            count = m;
+            left = ys;
+            between = t;
+            value = f.0;
+            start = x;
+            run = run;
+            passed = next ∙ (λ i. record (now i) {
+              gap_before = sym (ap (λ o. o.gap_before) next) i;
+              middle = sym (ap (λ o. o.middle) next) i;
+            });
+            first = left-is ∙ f.1;
+            some = retains-start t x (omega (arith, ap (λ u. u.gap_before) next));
+          },
+          f.2,
+        )
+    rounds-begin false x more few next =
+        subst (λ (u : OpenView T A). RetainsMiddle R s v t (emptied u)) (sym next)
+        (begins-ends w.middle refl (λ some. false≢true (few some)))
+
+  -- The loop goes on: the tests turned the block `w` into `x`.
+  module _ {A : Type 0} (s t u : S) (v w x : OpenView T A) (h : Removes s v t w)
+      (k : SeeksRemoved R t w u x) (none : v.gap_after ≡ 0) where
+    joined : (z : OpenView T A) → RetainsSome R t w u z → Removes s v u z
+    joined z r = record {
+      count = h.count;
+      left = h.left;
+      between = h.between;
+      value = h.value;
+      start = h.start;
+      run = h.run;
+      passed = h.passed;
+      first = h.first;
+      some = retains-then h.some r;
+    }
+
+    no-gap : x.gap_after ≡ 0
+    no-gap = ap (λ o. o.gap_after) k.now ∙ (ap (λ o. o.gap_after) h.some.now
+        ∙ (ap (λ o. o.gap_after) h.passed ∙ none))
+
+    goes-ends : (xs : List T) → x.middle ≡ xs → (1 < length xs → ⊥)
+        → RetainsMiddle R s v u (emptied x)
+    goes-ends [] e few =
+        let gap : x.gap_before ≡ (emptied x).gap_before = omega (arith, no-gap, ap length e) in
+        let same : x ≡ emptied x =
+        λ i. record x { gap_before = gap i; middle = e i; gap_after = no-gap i } in
+        removes-all (joined (emptied x) (subst (λ (o : OpenView T A). RetainsSome R t w u o) same
+        (advanced-ends t u w x h.some.gap_before k e))) refl
+    goes-ends (y ∷ []) e few =
+        let gap : (emptied x).gap_before ≡ x.gap_before + 1 =
+        omega (arith, no-gap, ap length e) in
+        removes-all (joined (emptied x) (advanced-goes t u w x h.some.gap_before k y (emptied x) e
+        (λ i. record x { gap_before = gap i; middle = []; gap_after = sym no-gap i }))) refl
+    goes-ends (y ∷ z ∷ xs) e few = absurd (few (omega arith))
+
+    pub rounds-go : (b : Bool) (z : OpenView T A) → (b ≡ true → 1 < length x.middle)
+        → (1 < length x.middle → b ≡ true)
+        → z ≡ (if b then record x { gap_before = x.gap_before + 1; middle = drop 1 x.middle } else x)
+        → Rounds s v b u z
+    rounds-go true z more few next =
+        let f = dropped-first x z (more refl) next in (
+          joined z (advanced-goes t u w x h.some.gap_before k f.0 z f.1
+              (next ∙ (λ i. record x
+              { gap_before = x.gap_before + 1; middle = sym (ap (λ o. o.middle) next) i }))),
+          f.2,
+        )
+    rounds-go false z more few next =
+        subst (λ (o : OpenView T A). RetainsMiddle R s v u (emptied o)) (sym next)
+        (goes-ends x.middle refl (λ some. false≢true (few some)))
+
+    -- In each iteration, the middle gets shorter, or the loop ends.
+    pub rounds-shorter : (more b : Bool) (z : OpenView T A) → more ≡ true
+        → (b ≡ true → 1 < length x.middle)
+        → z ≡ (if b then record x { gap_before = x.gap_before + 1; middle = drop 1 x.middle } else x)
+        → length z.middle + (if b then 1 else 0) < length w.middle + (if more then 1 else 0)
+    rounds-shorter false b z e some next = absurd (false≢true e)
+    rounds-shorter true true z e some next = omega (
+      arith,
+      length-sought k,
+      some refl,
+      ap (λ o. length o.middle) next,
+      length-drop 1 x.middle,
+    )
+    rounds-shorter true false z e some next =
+        omega (arith, length-sought k, ap (λ o. length o.middle) next)

@@ -1,13 +1,15 @@
--- `RetainsSome` describes all tests so far. Each iteration reduces the number of untested items.
-use Rattle.std.proofs.Common.{length}
-use Rattle.thin_vec.specs.OpenBlock.Retain.{RetainsSome}
+-- `Rounds` describes all tests so far. Each iteration reduces the number of untested items, or ends
+-- the loop.
+use Rattle.std.proofs.Common.{◌+◌, length}
+use Rattle.std.specs.Prelude.{if◌then◌else◌}
+use Rattle.thin_vec.proofs.open_block.RetainMiddleLemmas.{Rounds}
 use Rattle.thin_vec.proofs.open_block.OpenBlock.retain_middle.Given as goal
 
-abbrev pub invariant-loop-self : goal.invariant-loop-self
-invariant-loop-self g l = record {
-  retains : RetainsSome g.J.Test.tests l.initial.test l.initial.self l.test l.self;
+abbrev pub invariant-loop-more : goal.invariant-loop-more
+invariant-loop-more g l = record {
+  rounds : Rounds g.J.Test.tests l.fn.test l.fn.self l.more l.test l.self;
   ready : g.J.Test.ready l.test;
 }
 
-abbrev pub decreases-loop-self : goal.decreases-loop-self
-decreases-loop-self g l = length l.self.middle
+abbrev pub decreases-loop-more : goal.decreases-loop-more
+decreases-loop-more g l = length l.self.middle + (if l.more then 1 else 0)
