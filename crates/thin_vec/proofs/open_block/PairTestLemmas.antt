@@ -1,7 +1,7 @@
 -- These lemmas state which items of a list are kept when a closure compares each item with the last
 -- item kept before it. `R` describes the calls to the closure.
-use Rattle.std.proofs.Common.{◌≡◌, ℕ, zero, suc, ◌+◌, ◌<◌, Bool, true, false, List, [], ◌∷◌, ◌++◌, length, take, drop, refl, sym, ap, subst, ◌∙◌, arith, inl, inr, append_assoc}
-use Rattle.std.proofs.lemmas.List.{drop_at, length_push, replicate-append-replicate, same_from_push, take_at}
+use Rattle.std.proofs.Common.{◌≡◌, ℕ, zero, suc, ◌+◌, ◌<◌, ◌≤◌, Bool, true, false, List, [], ◌∷◌, ◌++◌, length, take, drop, refl, sym, ap, subst, ◌∙◌, arith, inl, inr, length-append, append_assoc}
+use Rattle.std.proofs.lemmas.List.{drop_at, length_push, nil_from_length, replicate-append-replicate, same_from_push, take_at}
 use Rattle.std.specs.Prelude.{MatchBool, map, not, replicate}
 use Rattle.thin_vec.specs.Edits.Retain.{moves_of_retain, count_true}
 use Rattle.thin_vec.specs.Edits.Dedup.{TestsEachAgainstLast}
@@ -204,6 +204,48 @@ module _ {S T : Type 0} (R : OnPairs S T) where
           now = next-now true u zs a;
           stops = inl (refl, refl);
         }
+
+    -- No item is left to be tested.
+    pub pair-ends : length ys ≤ m → TestsPairsUpTo R m s xs t ys
+    pair-ends few =
+        let none : h.after ≡ [] = nil_from_length h.after (omega (
+          arith,
+          few,
+          ap length h.now,
+          length-append h.pre (h.last ∷ h.after),
+          h.kept,
+        )) in
+        record {
+          first = h.first;
+          done = h.done;
+          after = h.after;
+          more = length h.pre;
+          removed = all-stay (length h.pre);
+          left = h.pre ++ h.last ∷ [];
+          over = [];
+          was = h.was;
+          asked = h.asked;
+          kept = h.kept;
+          long = omega (arith, length_push h.pre h.last, h.kept);
+          now = h.now ∙ sym (append_assoc h.pre (h.last ∷ []) h.after);
+          stops = inr (refl, (none, refl));
+        }
+
+  pub pair-place : {k m : ℕ} {b c : Bool} {s t : S} {xs ys : List T} → k ≡ m → b ≡ c
+      → TestsPairAt R k s xs b t ys → TestsPairAt R m s xs c t ys
+  pair-place {s = s} {t} e f a =
+      record {
+        before = a.before;
+        kept = a.kept;
+        later = a.later;
+        kept_left = a.kept_left;
+        later_left = a.later_left;
+        after = a.after;
+        place = a.place ∙ e;
+        was = a.was;
+        asked = subst (λ (q : Bool). R s a.later a.kept q t a.later_left a.kept_left) f a.asked;
+        now = a.now;
+      }
 
   -- The following lemmas are about tests that stop at the first item to be removed.
 

@@ -4,11 +4,6 @@ ghost use Rattle.thin_block.specs.Cost.{add_moves};
 
 use crate::open_block::OpenBlock;
 use std::alloc::Allocator;
-use thin_block::item_size;
-
-// The size of an item in bytes from which kept items that lie side by side are moved together.
-// Moving smaller items one by one was measured to be faster.
-const LARGE_FOR_DEDUP: usize = 128;
 
 /// A test of an item against the last kept item before it.
 pub(crate) trait PairTest<T> {
@@ -33,6 +28,7 @@ impl<T, A: Allocator> OpenBlock<T, A> {
     ghost use Rattle.thin_vec.specs.OpenBlock.Dedup.{TestsPairAt, TestsLast, TestsNext};
 
     // Tests the middle item at index `k` against the one before it.
+    #[inline(always)]
     pub(crate) fn test_pair<J: PairTest<T>>(&mut self, k: usize, test: &mut J) -> bool
         requires nonzero { 0 < k }
         requires in_bounds { k < length self.old.middle }
@@ -48,6 +44,7 @@ impl<T, A: Allocator> OpenBlock<T, A> {
     }
 
     // Tests the item `later` against the last front item.
+    #[inline(always)]
     pub(crate) fn test_last<J: PairTest<T>>(&mut self, later: &mut T, test: &mut J) -> bool
         requires nonempty { 0 < length self.old.front }
         requires callable { J.ready test.old }
@@ -60,6 +57,7 @@ impl<T, A: Allocator> OpenBlock<T, A> {
     }
 
     // Tests the first middle item against the item `kept`.
+    #[inline(always)]
     pub(crate) fn test_next<J: PairTest<T>>(&mut self, kept: &mut T, test: &mut J) -> bool
         requires nonempty { 0 < length self.old.middle }
         requires callable { J.ready test.old }
@@ -77,6 +75,7 @@ impl<T, A: Allocator> OpenBlock<T, A> {
 
     // Tests neighboring middle items up to the first one that is not to be kept. Returns the number
     // of items before that one.
+    #[inline(always)]
     fn test_pairs<J: PairTest<T>>(&mut self, test: &mut J) -> usize
         requires nonempty { 0 < length self.old.middle }
         requires callable { J.ready test.old }
@@ -85,14 +84,14 @@ impl<T, A: Allocator> OpenBlock<T, A> {
         ensures callable { J.ready test.new }
         ensures changes { self.new ≡ record self.old { middle = self.new.middle } }
     {
-        let mut kept = 1;
-        while kept < self.middle_len() {
-            if !self.test_pair(kept, test) {
-                return kept;
+        let mut at = self.middle_start + 1;
+        while at < self.middle_end {
+            if !self.test_pair(at - self.middle_start, test) {
+                break;
             }
-            kept += 1;
+            at += 1;
         }
-        kept
+        at - self.middle_start
     }
 }
 
@@ -100,6 +99,7 @@ impl<T: Drop, A: Allocator> OpenBlock<T, A> {
     ghost use Rattle.thin_vec.specs.OpenBlock.Dedup.{DedupsMiddle, DedupsSome};
 
     // Tests each middle item but the first, which is kept, and drops those that are not to be kept.
+    #[inline(always)]
     pub(crate) fn dedup_middle<J: PairTest<T>>(&mut self, test: &mut J)
         requires nonempty { 0 < length self.old.middle }
         requires is_empty { self.old.front ≡ [] }
@@ -117,12 +117,12 @@ impl<T: Drop, A: Allocator> OpenBlock<T, A> {
         }
     }
 
-    // Tests the first middle item, and appends it to the front or drops it. If it is kept and the
-    // items are large, goes on up to the next item that is not to be kept, drops this one, and
-    // moves those before it together.
+    // Tests the first middle item. Drops it, or appends it to the front with the items to be kept
+    // that follow it, and drops the next one, which is not to be kept.
     //
     // The item is taken out of the block before its test, because the block provides two mutable
     // references only for adjacent items.
+    #[inline(always)]
     fn dedup_next<J: PairTest<T>>(&mut self, test: &mut J)
         requires has_front { 0 < length self.old.front }
         requires nonempty { 0 < length self.old.middle }
@@ -140,7 +140,7 @@ impl<T: Drop, A: Allocator> OpenBlock<T, A> {
             drop(later);
             return;
         }
-        if item_size::<T>() < LARGE_FOR_DEDUP || self.middle_len() == 0 {
+        if self.middle_len() == 0 {
             self.append_to_front(later);
             return;
         }

@@ -1,6 +1,6 @@
--- The clause `deduped` holds in each of five cases: the first item is removed, it is kept alone
--- (since the items are small, or no item follows it), or it is kept and the items are large. Then
--- the second item is removed, a later item is removed, or no item is removed.
+-- The clause `deduped` holds in each of five cases: the first item is removed, it is kept and no
+-- item follows it, or it is kept and the second item is tested against it. Then the second item is
+-- removed, a later item is removed, or no item is removed.
 use Rattle.std.specs.Prelude.{not}
 use Rattle.std.proofs.Common.{◌≡◌, ◌∷◌, [], ap, false, refl, sym, true, ◌∙◌, arith, rules}
 use Rattle.std.proofs.lemmas.List.{append-nil, nil_from_length}
@@ -17,10 +17,9 @@ returns-then-not-test_last-clause-deduped g c =
     c.take_first-later.result c.test_last.new.later c.test_last.new.self.front
     (search rules) (search rules) (search rules) (search rules)
 
--- The first item is kept alone.
-pub returns-then-item_size-lt-LARGE_FOR_DEDUP-clause-deduped :
-    goal.returns-then-item_size-lt-LARGE_FOR_DEDUP-clause-deduped
-returns-then-item_size-lt-LARGE_FOR_DEDUP-clause-deduped g c =
+-- The first item is kept, and no item follows it.
+pub returns-then-middle_len-eq0-clause-deduped : goal.returns-then-middle_len-eq0-clause-deduped
+returns-then-middle_len-eq0-clause-deduped g c =
     let stays : not c.test_last.result ≡ false = ap not c.if-not-test_last.false in
     dedups-stays g.J.PairTest.tests c.args.self.now c.append_to_front.new.self
     c.take_first-later.result c.test_last.new.later c.test_last.new.self.front

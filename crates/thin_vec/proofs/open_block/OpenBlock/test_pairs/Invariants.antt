@@ -1,14 +1,18 @@
--- `kept` middle items have been kept so far. Each iteration reduces the number of untested items.
-use Rattle.std.proofs.Common.{◌≡◌, ◌-◌, length}
+-- The middle items up to slot `at` have been kept. Each iteration reduces the number of untested
+-- items.
+use Rattle.std.proofs.Common.{◌≡◌, ◌+◌, ◌-◌, ◌<◌, length}
+use Rattle.thin_vec.proofs.OpenBlockLemmas.{middle_at}
 use Rattle.thin_vec.proofs.open_block.PairTestLemmas.{PairStays}
 use Rattle.thin_vec.proofs.open_block.OpenBlock.test_pairs.Given as goal
 
-abbrev pub invariant-loop-kept : goal.invariant-loop-kept
-invariant-loop-kept g l = record {
-  stays : PairStays g.J.PairTest.tests l.kept l.fn.test l.fn.self.middle l.test l.self.middle;
+abbrev pub invariant-loop-at : goal.invariant-loop-at
+invariant-loop-at g l = record {
+  stays : PairStays g.J.PairTest.tests (l.at - middle_at l.fn.self) l.fn.test l.fn.self.middle
+      l.test l.self.middle;
+  low : middle_at l.fn.self < l.at;
   ready : g.J.PairTest.ready l.test;
   same : l.self ≡ record l.fn.self { middle = l.self.middle };
 }
 
-abbrev pub decreases-loop-kept : goal.decreases-loop-kept
-decreases-loop-kept g l = length l.self.middle - l.kept
+abbrev pub decreases-loop-at : goal.decreases-loop-at
+decreases-loop-at g l = middle_at l.fn.self + length l.self.middle - l.at
