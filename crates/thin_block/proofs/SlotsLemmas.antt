@@ -14,10 +14,15 @@ use Rattle.thin_block.specs.Slots.{filled_slots, empty_slots, slot, items_in, Is
 pub same_or_not : (i j : ℕ) → (i ≡ j) ⊎ (i ≡ j → ⊥)
 same_or_not i j = cases_eq i j
 
-bare-long : (T : Type 0) (k : ℕ) → length (empty_slots {T = T} k) ≡ k
+pub bare-long : (T : Type 0) (k : ℕ) → length (empty_slots {T = T} k) ≡ k
 bare-long T k = length-replicate k (let o : Option T = None in o)
 
 module _ {T : Type 0} where
+  pub empty-slot : (k i : ℕ) → slot (empty_slots {T = T} k) i ≡ None
+  empty-slot zero i = refl
+  empty-slot (suc k) zero = refl
+  empty-slot (suc k) (suc i) = empty-slot k i
+
   pub the_item : (x : Option T) → IsSome x → (y : T) × (x ≡ Some y)
   the_item (Some y) is = (y, refl)
   the_item None is = absurd (clash is)

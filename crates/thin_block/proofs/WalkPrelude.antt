@@ -69,7 +69,7 @@ pub use Rattle.std.specs.Prelude.{IsSome, if◌then◌else◌}
 pub use Rattle.std_alloc.proofs.ResultValues.{err_of, ok_of}
 pub use Rattle.thin_block.specs.Block.{block_view}
 pub use Rattle.thin_block.specs.Capacity.{Fits, block_align, block_bytes}
-pub use Rattle.thin_block.specs.Cost.{add_moves, add_realloc, add_request}
+pub use Rattle.thin_block.specs.Cost.{add_moves, add_realloc, no_cost}
 pub use Rattle.thin_block.specs.InPlace.{FitsGap, gapped_if_ok, gapped_items}
 pub use Rattle.thin_block.specs.Lends.{set_slot, set_slots, with_slots}
 pub use Rattle.thin_block.specs.Ownership.{block_owns, block_shares, dealloc_right, dealloc_right_if, end_of, erased_type, fits_block, header_owns, header_room, header_wand, is_nonempty, pads, rejoin_wand, slot_owns, slot_shares, slots_own, slots_share, slots_wand, word_of, word_wand, word_wands, words_of}

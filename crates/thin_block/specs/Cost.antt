@@ -28,14 +28,6 @@ cost_code =
 abbrev pub no_cost : Cost
 no_cost = record { blocks = 0; grown = 0; moves = 0 }
 
--- `add_request c` is the cost `c` with one more granted request for memory.
-abbrev pub add_request : Cost → Cost
-add_request c = record { blocks = c.blocks + 1; grown = c.grown; moves = c.moves }
-
--- `add_copies k c` is the cost `c` with `k` more copied items.
-abbrev pub add_copies : ℕ → Cost → Cost
-add_copies k c = record { blocks = c.blocks; grown = c.grown + k; moves = c.moves }
-
 -- `add_realloc k c` is the cost `c` with one more granted request for memory and `k` more copied
 -- items.
 abbrev pub add_realloc : ℕ → Cost → Cost

@@ -4,7 +4,7 @@ ghost use Rattle.std.specs.declared.option.Option.TheVariants.{Some};
 ghost use Rattle.std.specs.Mem.{type_size};
 ghost use Rattle.std.specs.Align.{type_align};
 ghost use Rattle.thin_block.specs.Capacity.{Fits, block_align, front_bytes, memory_bytes};
-ghost use Rattle.thin_block.specs.Cost.{add_realloc, no_cost, add_request};
+ghost use Rattle.thin_block.specs.Cost.{add_realloc, no_cost};
 ghost use Rattle.thin_block.specs.Slots.{IsPacked, empty_slots};
 
 use crate::block::Block;
@@ -41,20 +41,11 @@ impl<T, A: Allocator> Block<T, A> {
         // On failure.
         ensures cause { IfErr result (λ cause. cause ≡ ThinVecError.OutOfMemory) }
     {
-        let none = Block::none();
-        let block = none.replacement(alloc, cap, layout_of::<T>(cap));
-        none.forget_unallocated();
-        block
+        Block::allocate_as(alloc, cap, layout_of::<T>(cap))
     }
 
-    // Allocates a block of `cap` empty slots with one request for memory. The new block is meant to
-    // replace this block, so it continues the counters of this block, which does not change.
-    fn replacement(
-        &self,
-        alloc: &A,
-        cap: usize,
-        layout: Layout,
-    ) -> Result<Block<T, A>, ThinVecError>
+    // Does the same as `allocate`. `layout` is the layout of a block of `cap` slots.
+    fn allocate_as(alloc: &A, cap: usize, layout: Layout) -> Result<Block<T, A>, ThinVecError>
         requires nonzero { 0 < cap }
         requires fits { Fits T.row cap }
         requires bytes { layout.bytes ≡ memory_bytes (type_size T.row) (type_align T.row) cap }
@@ -63,13 +54,13 @@ impl<T, A: Allocator> Block<T, A> {
           slots = empty_slots cap;
           len = 0;
           alloc = Some alloc.now;
-          cost = add_request self.now.cost;
+          cost = add_realloc 0 no_cost;
         }) }
         ensures cause { IfErr result (λ cause. cause ≡ ThinVecError.OutOfMemory) }
     {
         let Layout { bytes, front, .. } = layout;
         let align = block_align::<T>();
-        Ok(Block::allocate_sized(alloc, cap, bytes, align, front, self)?)
+        Ok(Block::allocate_sized(alloc, cap, bytes, align, front)?)
     }
 
     /// Grows the block to `cap` slots with one request for memory.
@@ -96,8 +87,9 @@ impl<T, A: Allocator> Block<T, A> {
         ensures cause { IfErr result (λ cause. cause ≡ ThinVecError.OutOfMemory) }
     {
         if self.cap() == 0 {
-            let block = self.replacement(alloc, cap, layout_of::<T>(cap))?;
-            self.replace_unallocated(block);
+            let mut other = Block::allocate(alloc, cap)?;
+            self.move_items_to(0, &mut other, 0, 0);
+            self.replace_unallocated(other);
             return Ok(());
         }
         self.resize(alloc, self.len(), cap)
@@ -161,9 +153,9 @@ impl<T, A: Allocator> Block<T, A> {
                     self.resize_padded(alloc, len, old, cap, old + 2, items, front)?;
                     return Ok(());
                 }
-                let mut other = self.replacement(alloc, cap, layout)?;
+                let mut other = Block::allocate_as(alloc, cap, layout)?;
+                self.move_items_to(0, &mut other, 0, len);
                 other.store_len(len);
-                self.move_items_to(0, &mut other, 0, len, true);
                 let emptied = replace(self, other);
                 let held = emptied.cap();
                 emptied.free(alloc, held);
@@ -234,18 +226,15 @@ impl<T, A: Allocator> Block<T, A> {
         replace(self, block).forget_unallocated();
     }
 
-    // Allocates a block that is to replace the block `old`, as `replacement` does. At run time,
-    // `old` is not used: it names the counters that the new block continues. `front` is the number
-    // of bytes before the header: it is 0 unless the block is padded. The caller computes `bytes`,
-    // `align` and `front`, so that the proof by hand has no other call to follow than that of the
-    // allocator.
+    // Does the same as `allocate`. `front` is the number of bytes before the header: it is 0 unless
+    // the block is padded. The caller computes `bytes`, `align` and `front`, so that the proof by
+    // hand has no other call to follow than that of the allocator.
     fn allocate_sized(
         alloc: &A,
         cap: usize,
         bytes: usize,
         align: usize,
         front: usize,
-        _old: &Block<T, A>,
     ) -> Result<Block<T, A>, AllocError>
         requires nonzero { 0 < cap }
         requires fits { Fits T.row cap }
@@ -256,7 +245,7 @@ impl<T, A: Allocator> Block<T, A> {
           slots = empty_slots cap;
           len = 0;
           alloc = Some alloc.now;
-          cost = add_request _old.now.cost;
+          cost = add_realloc 0 no_cost;
         }) }
     {
         match alloc.allocate(bytes, align) {

@@ -1,8 +1,8 @@
 //! Methods that move runs of items within a block or to another block. A run consists of the items
 //! in adjacent slots. A clause `capacity` follows from the clause `changes` before it.
-ghost use Rattle.std.specs.Prelude.{◌≡◌, ◌⊎◌, ℕ, ◌+◌, ◌-◌, ◌<◌, ◌≤◌, false, if◌then◌else◌, length, true};
+ghost use Rattle.std.specs.Prelude.{◌≡◌, ◌⊎◌, ℕ, ◌+◌, ◌-◌, ◌<◌, ◌≤◌, Bool, false, if◌then◌else◌, length, true};
 ghost use Rattle.std.specs.declared.option.Option.TheVariants.{None};
-ghost use Rattle.thin_block.specs.Cost.{add_moves, add_copies};
+ghost use Rattle.thin_block.specs.Cost.{add_moves, add_realloc, no_cost};
 ghost use Rattle.thin_block.specs.Slots.{AreEmpty, AreFilled, slot, slot_range, write_slots, clear_slots, move_slots};
 
 use crate::block::Block;
@@ -224,29 +224,32 @@ impl<T, A: Allocator> Block<T, A> {
           cost = add_moves k other.old.cost;
         } }
     {
-        self.move_items_to(from, other, to, k, false);
+        self.move_items_to(from, other, to, k);
     }
 
-    // Moves items as `move_run_to` does. At run time, `relocates` is not used: it says whether the
-    // cost of `other` counts the items as copies of a reallocation, or as moves.
+    // Moves items as `move_run_to` does, or relocates all items of this block to the new block
+    // `other`: then `other` continues the counters of this block, and the items count as copies.
+    // The ghost parameter `relocates` says which of both.
     pub(crate) fn move_items_to(
         &mut self,
         from: usize,
         other: &mut Block<T, A>,
         to: usize,
         k: usize,
-        _relocates: bool,
     )
+        ghost relocates: { Bool }
         requires in_bounds { from + k ≤ length self.old.slots }
         requires target { to + k ≤ length other.old.slots }
         requires filled { AreFilled self.old.slots from k }
         requires empty { AreEmpty other.old.slots to k }
+        requires all { relocates ≡ true → k ≡ self.old.len }
+        requires new { relocates ≡ true → other.old.cost ≡ add_realloc 0 no_cost }
         ensures changes { block_view self.new ≡ record (block_view self.old) {
           slots = clear_slots from k self.old.slots;
         } }
         ensures other_changes { block_view other.new ≡ record (block_view other.old) {
           slots = write_slots to (slot_range from k self.old.slots) other.old.slots;
-          cost = if _relocates then add_copies k other.old.cost else add_moves k other.old.cost;
+          cost = if relocates then add_realloc k self.old.cost else add_moves k other.old.cost;
         } }
     {
         let from_at = self.at;

@@ -344,6 +344,7 @@ fn show_splice(rt: &impl Print, alloc: Global) -> io::Result<()> {
     show_splice_numbers(rt, alloc)?;
     show_splice_by(rt, alloc)?;
     show_splice_one(rt, alloc)?;
+    show_splice_end(rt, alloc)?;
     show_paste(rt, alloc)
 }
 
@@ -371,6 +372,12 @@ fn show_splice_one(rt: &impl Print, alloc: Global) -> io::Result<()> {
     show(rt, "splice_one", list)
 }
 
+fn show_splice_end(rt: &impl Print, alloc: Global) -> io::Result<()> {
+    let mut list = ThinVec::from_array(alloc, [1, 2, 3, 4])?;
+    replace::splice_end(&mut list, 1, 9, alloc);
+    show(rt, "splice_end", list)
+}
+
 fn show_paste(rt: &impl Print, alloc: Global) -> io::Result<()> {
     let mut text = ThinVec::from_array(alloc, ["a", "b", "c"])?;
     let pasted = ThinVec::from_array(alloc, ["x", "y"])?;
@@ -383,6 +390,7 @@ fn show_transfer(rt: &impl Print, alloc: Global) -> io::Result<()> {
     show_move_range(rt, alloc)?;
     show_divide(rt, alloc)?;
     show_second_half(rt, alloc)?;
+    show_hand_over_where(rt, alloc)?;
     show_hand_over_odd(rt, alloc)
 }
 
@@ -411,6 +419,13 @@ fn show_second_half(rt: &impl Print, alloc: Global) -> io::Result<()> {
     let mut list = ThinVec::from_array(alloc, [4, 5, 6, 7])?;
     let half = transfer::second_half(alloc, &mut list)?;
     println!(rt; "second_half: {list:?} and {half:?}")
+}
+
+fn show_hand_over_where(rt: &impl Print, alloc: Global) -> io::Result<()> {
+    let mut list = ThinVec::from_array(alloc, [1, 2, 3, 4])?;
+    let mut other = ThinVec::from_array(alloc, [9])?;
+    transfer::hand_over_where(&mut list, 0, 3, &mut other, |number: &mut u32| *number > 1)?;
+    println!(rt; "hand_over_where: {list:?} and {other:?}")
 }
 
 fn show_hand_over_odd(rt: &impl Print, alloc: Global) -> io::Result<()> {

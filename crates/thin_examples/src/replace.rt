@@ -147,7 +147,8 @@ pub fn splice_by<T: Drop, A: Allocator, G: Growth, I: Iterator<Item = T>>(
 }
 
 /// Replaces the numbers at the indices `start..end`, of which there is at least one, with `number`.
-/// The range has a slot for it, so the call cannot fail, and the list requests no memory.
+/// The range has a slot for it, so the call cannot fail, and the list requests no memory. Each
+/// number after the range is moved at most once.
 pub fn splice_one<A: Allocator, G: Growth>(
     list: &mut ThinVec<u32, A, G>,
     start: usize,
@@ -161,7 +162,29 @@ pub fn splice_one<A: Allocator, G: Growth>(
         ≡ (take start list.old.items ++ number ∷ []) ++ drop end list.old.items }
     ensures capacity { list.new.capacity ≡ list.old.capacity }
     ensures no_request { list.new.cost.blocks ≡ list.old.cost.blocks }
+    ensures moves { list.new.cost.moves
+        ≤ list.old.cost.moves + 1 + (length list.old.items - end) }
 {
+    match list.splice(start, end, once(number)).finish(alloc) {
+        Ok(()) => (),
+        Err(_refused) => unreachable!(),
+    }
+}
+
+/// Replaces all numbers from the index `start` on with `number`. No number follows the range and
+/// the list has a slot for `number`, so the call cannot fail.
+pub fn splice_end<A: Allocator, G: Growth>(
+    list: &mut ThinVec<u32, A, G>,
+    start: usize,
+    number: u32,
+    alloc: A,
+)
+    requires in_bounds { start ≤ length list.old.items }
+    requires room { start < list.old.capacity }
+    ensures items { list.new.items ≡ take start list.old.items ++ number ∷ [] }
+    ensures capacity { list.new.capacity ≡ list.old.capacity }
+{
+    let end = list.len();
     match list.splice(start, end, once(number)).finish(alloc) {
         Ok(()) => (),
         Err(_refused) => unreachable!(),

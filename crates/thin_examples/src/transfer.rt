@@ -1,5 +1,7 @@
 //! Examples that move items from one list to another, or to a `Vec`.
-ghost use Rattle.std.specs.Prelude.{◌≡◌, ◌-◌, ◌/◌, ◌%◌, ◌==◌, ◌≤◌, ◌++◌, IfOk, IsOk, OnErr, OnOk, drop, filter, length, not, slice_range, take, vec_capacity};
+ghost use Rattle.std.specs.Fn.{CalledAtMut};
+ghost use Rattle.std.specs.Prelude.{◌≡◌, ◌-◌, ◌/◌, ◌%◌, ◌==◌, ◌≤◌, ◌++◌, IfOk, IsOk, List, OnErr, OnOk, drop, filter, length, not, slice_range, take, vec_capacity};
+ghost use Rattle.thin_vec.specs.Edits.ExtractIf.{ExtractsInTurn};
 ghost use Rattle.thin_vec.specs.ThinVec.{HasRoomFor};
 
 use std::alloc::{AllocError, Allocator, Global};
@@ -110,6 +112,39 @@ pub fn second_half<A: Allocator, G: Growth>(
     list.split_off(alloc, middle)
 }
 
+/// Moves the items of `list` at the indices `start..end` for which `pick` returns true to the end
+/// of `other`. The contract says which calls of `pick` were made, and what they returned.
+///
+/// # Errors
+///
+/// Fails if there is no room for the whole range in `other`. On failure, both lists are unchanged.
+pub fn hand_over_where<T: Drop, A: Allocator, G: Growth, F: FnMut(&mut T) -> bool + Drop>(
+    list: &mut ThinVec<T, A, G>,
+    start: usize,
+    end: usize,
+    other: &mut ThinVec<T, A, G>,
+    pick: F,
+) -> Result<(), ThinVecError>
+    requires start_le_end { start ≤ end }
+    requires in_bounds { end ≤ length list.old.items }
+    requires callable { F.IsAlwaysCallable pick }
+    ensures succeeds { HasRoomFor other.old (end - start) → IsOk result }
+    ensures moved { OnOk result ((moved kept : List T) × (last : F)
+        × ExtractsInTurn (CalledAtMut F.FnMut) pick (slice_range list.old.items start end) moved kept
+        last
+        × (list.new.items ≡ (take start list.old.items ++ kept) ++ drop end list.old.items)
+        × (other.new.items ≡ other.old.items ++ moved)) }
+    ensures err { OnErr result (list.new ≡ list.old) }
+    ensures other_err { OnErr result (other.new ≡ other.old) }
+{
+    other.reserve(end - start)?;
+    let mut picked = list.extract_if(start, end, pick);
+    while let Some(item) = picked.next() {
+        other.push_reserved(item);
+    }
+    Ok(())
+}
+
 /// Moves the odd numbers of `list` to the end of `other`, and leaves the even numbers in `list`.
 ///
 /// # Errors
@@ -129,11 +164,7 @@ pub fn hand_over_odd<A: Allocator, G: Growth>(
     ensures other_err { OnErr result (other.new ≡ other.old) }
 {
     let len = list.len();
-    other.reserve(len)?;
-    let mut odd = list.extract_if(0, len, |number: &mut u32| *number % 2 == 1);
-    while let Some(number) = odd.next() {
-        other.push_reserved(number);
-    }
+    hand_over_where(list, 0, len, other, |number: &mut u32| *number % 2 == 1)?;
     Ok(())
 }
 

@@ -1,12 +1,11 @@
 -- An `ExtractIf` whose closure asks a judge: what `next` returns, and which items the list has
 -- afterwards.
 use Rattle.std.proofs.Common.{◌≡◌, ℕ, zero, suc, ◌+◌, ◌-◌, ◌≤◌, ◌==◌, Bool, true, false, List, [], ◌∷◌, ◌++◌, Option, None, Some, length, take, drop, refl, arith, ap, subst, sym, ◌∙◌, append_assoc}
-use Rattle.std.proofs.Math.Dec.{eqb-suc-zero}
 use Rattle.std.proofs.lemmas.List.{append-nil, length-append, length-drop, length-map, length-take}
 use Rattle.std.specs.List.Retain.{ExtractsNext}
 use Rattle.std.specs.Option.{option_to_list}
 use Rattle.std.specs.Prelude.{MatchBool, if◌then◌else◌, not, replicate, slice_range}
-use Rattle.thin_vec.proofs.RetainLemmas.{items_where-append, items_where-stay, moves_of_retain-stay, moving-more, moving-none, count_true-append, count_true-stay}
+use Rattle.thin_vec.proofs.RetainLemmas.{gone-append, gone-stay, items_where-append, items_where-stay, moves_of_retain-stay, moving-none, paid-more, count_true-append, count_true-stay}
 use Rattle.thin_vec.specs.Cost.{Cost, add_moves}
 use Rattle.thin_vec.specs.Edits.Retain.{TestResults, flags_of, items_where, moves_of_retain, all_kept, count_true}
 use Rattle.thin_vec.specs.ThinVec.{ListView}
@@ -24,16 +23,6 @@ module _ {T : Type 0} where
   -- The results of `k` calls to `next` on an iterator that yields the items `xs`.
   abbrev pub handed_out : ℕ → List T → List (Option T)
   handed_out k xs = ends_taken xs (replicate k Front)
-
-  gone-append : (a b : TestResults T)
-      → items_where false (a ++ b) ≡ items_where false a ++ items_where false b
-  gone-append [] b = refl
-  gone-append ((true, x) ∷ a) b = gone-append a b
-  gone-append ((false, x) ∷ a) b = ap (λ (l : List T). x ∷ l) (gone-append a b)
-
-  gone-stay : (xs : List T) → items_where false (all_kept xs) ≡ []
-  gone-stay [] = refl
-  gone-stay (x ∷ xs) = gone-stay xs
 
   gone-after : (xs : List T) (a : TestResults T)
       → items_where false (all_kept xs ++ a) ≡ items_where false a
@@ -58,18 +47,6 @@ module _ {T : Type 0} where
   few-goes : (item : Option T) → count_true (flags_of (goes item)) ≡ 0
   few-goes None = refl
   few-goes (Some x) = refl
-
-  -- A kept item moves if an item before it was removed.
-  pub moves-append : (a b : TestResults T) → moves_of_retain (flags_of (a ++ b))
-      ≡ moves_of_retain (flags_of a) + (if length (items_where false a) == 0 then moves_of_retain
-      (flags_of b) else count_true (flags_of b))
-  moves-append [] b = omega arith
-  moves-append ((true, x) ∷ a) b = moves-append a b
-  moves-append ((false, x) ∷ a) b =
-      count_true-append a b
-      ∙ sym (ap (λ t. count_true (flags_of a)
-      + (if t then moves_of_retain (flags_of b) else count_true (flags_of b)))
-      (eqb-suc-zero (length (items_where false a))))
 
 module _ {S T J : Type 0} (R : S → T → Bool → S → T → Type 0) (judge_of : S → J)
     (ask : J → T → Bool × T × J) (told : AsksJudge R judge_of ask) where
@@ -139,15 +116,6 @@ module _ {S T J : Type 0} (R : S → T → Bool → S → T → Type 0) (judge_o
             ∙ ap (items_where false) (none-left (judge_of t) k) in
             subst (λ l. handed_out (suc k) l ≡ None ∷ handed_out k l) (sym empty) refl
 
-charged : (gone m k : ℕ) (c : Cost)
-    → (if gone == 0 then add_moves m c else add_moves k (add_moves m c))
-    ≡ add_moves (m + (if gone == 0 then 0 else k)) c
-charged zero m k c = let e : m ≡ m + 0 = omega arith in ap (λ x. add_moves x c) e
-charged (suc gone) m k c =
-    subst (λ t. (if t then add_moves m c else add_moves k (add_moves m c))
-    ≡ add_moves (m + (if t then 0 else k)) c)
-    (sym (eqb-suc-zero gone)) (moving-more k m c)
-
 -- The state of an `ExtractIf` between two calls to `next`.
 pub record Stand (T : Type 0) : Type 0 where
   -- The results for the untested items of the range.
@@ -174,13 +142,8 @@ module _ {T : Type 0} (results : TestResults T) (start : List T) (before : Cost)
       → (if at.out == 0 then at.paid else add_moves k at.paid)
       ≡ add_moves (moves_of_retain (flags_of (h.done ++ now))) before
   paid-next at h now k still moved =
-      let some = length (items_where false h.done) == 0 in
       (λ i. if h.out i == 0 then h.paid i else add_moves k (h.paid i))
-      ∙ (charged (length (items_where false h.done)) (moves_of_retain (flags_of h.done)) k before
-      ∙ ((λ i. add_moves
-      (moves_of_retain (flags_of h.done) + (if some then sym still i else sym moved i))
-      before)
-      ∙ ap (λ m. add_moves m before) (sym (moves-append h.done now))))
+      ∙ paid-more h.done now k before still moved
 
   pub extracting-none : (at : Stand T) → at.left ≡ results → at.front ≡ start → at.out ≡ 0
       → at.paid ≡ before → IsExtracting at

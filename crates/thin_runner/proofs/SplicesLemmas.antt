@@ -5,14 +5,13 @@ use Rattle.std.proofs.Math.Seq.{drop-length, take-length}
 use Rattle.std.proofs.lemmas.List.{append-nil, length-drop, take-append-drop}
 use Rattle.std.specs.Iterator.{Count, at_most, size}
 use Rattle.std.specs.Iterator.SizeHint.{IsWithinCount}
-use Rattle.std.specs.declared.result.Result.{Result}
 use Rattle.std.specs.Borrow.{RattleType}
 use Rattle.std.specs.declared.iter.Iterator.{can_next-default}
 use Rattle.std.specs.Option.{option_to_list}
 use Rattle.std.specs.Prelude.{◌⊎◌, IsSome, MatchOption}
 use Rattle.thin_vec.specs.List.Extend.{CostsInserting, IsAfterExtend}
 use Rattle.thin_vec.specs.List.Capacity.{PreservesList}
-use Rattle.thin_vec.specs.Edits.Splice.{FinishesAtEnd, FinishesBeforeTail, SpliceErrorAccountsFor}
+use Rattle.thin_vec.specs.Edits.Splice.{IsAfterSplice, SpliceErrorAccountsFor}
 use Rattle.thin_vec.specs.declared.SpliceRefused.{SpliceRefused}
 use Rattle.thin_vec.specs.Growth.{GrowthRule}
 use Rattle.thin_vec.specs.ThinVec.{HasRoomFor, ListView}
@@ -98,16 +97,15 @@ module _ {T A : Type 0} {rule : GrowthRule} {R : RattleType} {tail : List T} {k 
     before_tail = λ some. absurd (omega (arith, some, ap length none));
   }
 
-  pub finishes-splices : {S : Type 0} {s : S} {r : Result (Unit {0}) (SpliceRefused T S A)}
-      → (HasRoomFor v (size limit)
+  pub finishes-splices : (HasRoomFor v (size limit)
       → (w.capacity ≡ v.capacity) × (w.cost.blocks ≡ v.cost.blocks))
-      → (tail ≡ [] → FinishesAtEnd rule R v w s limit r)
-      → (0 < length tail → FinishesBeforeTail rule R k (length tail) v w limit r)
+      → (tail ≡ [] → (h : ℕ) × IsWithinCount h limit × IsAfterExtend rule R v h w)
+      → (0 < length tail → (h : ℕ) × IsAfterSplice rule R k (length tail) v h w limit)
       → SplicesCapacity rule R tail k v w limit
   finishes-splices room at_end before_tail = record {
     had_room = λ fit. (room fit).0;
-    at_end = λ none. (at_end none).after;
-    before_tail = λ some. (before_tail some).after;
+    at_end = at_end;
+    before_tail = before_tail;
   }
 
 module _ {T A : Type 0} {rule : GrowthRule} {R : RattleType} {old : ListView T A} {a b : ℕ} where

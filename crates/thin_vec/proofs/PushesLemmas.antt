@@ -17,13 +17,11 @@ use Rattle.thin_block.proofs.CapacityLemmas.{exact-fits, exact-same, ruled-grows
 use Rattle.thin_block.proofs.ResultLemmas.{none-some, some-same}
 use Rattle.thin_block.specs.Capacity.{Fits, fits}
 use Rattle.thin_block.specs.Growth.{GrowthRule, IsLawful, checked_capacity, doubling, exact_capacity, grown_capacity}
-use Rattle.thin_vec.specs.Edits.Splice.{FinishesAtEnd, FinishesBeforeTail, IsAfterSplice, cost_after_growth, list_without_range, splice_front, splice_iter, splice_range_len, splice_tail}
+use Rattle.thin_vec.specs.Edits.Splice.{IsAfterSplice, cost_after_growth, list_without_range, splice_front, splice_range_len, splice_tail}
 use Rattle.thin_block.specs.declared.growth.Growth.{Ghosts}
-use Rattle.std.specs.declared.result.Result.{Result}
 use Rattle.thin_vec.specs.OpenView.{OpenView}
 use Rattle.thin_vec.specs.declared.edits.holder.IntoInner.{Ghosts as IntoInnerGhosts}
 use Rattle.thin_vec.specs.declared.edits.splice.Splice.{Splice}
-use Rattle.thin_vec.specs.declared.errors.SpliceRefused.{SpliceRefused}
 use Rattle.thin_vec.specs.List.Capacity.{PreservesList}
 use Rattle.thin_vec.specs.List.Extend.{CostsInserting, IsAfterCollect, IsAfterExtend, IsAfterPushes, capacity_after_pushes, cost_after_pushes}
 use Rattle.thin_vec.specs.ThinVec.{HasRoomFor, IsBounded, ListView, capacity_after_reserve, cost_after_resize, cost_of_new}
@@ -292,30 +290,26 @@ module _ (rule : GrowthRule) (R : RattleType) where
         → length v.items + k ≤ v.capacity → w.capacity ≡ v.capacity
         → w.cost ≡ add_moves (length w.items - length v.items + m) v.cost
         → length w.items ≤ length v.items + k → (length w.items < length v.items + k → m ≡ t)
-        → (length w.items ≡ length v.items + k → m ≡ 0)
-        → (p : IsAfterSplice rule R k t v w left) × (p.hint ≡ 0)
+        → (length w.items ≡ length v.items + k → m ≡ 0) → IsAfterSplice rule R k t v 0 w left
     spliced-none w k t m left room same paid low short full =
         let n = length w.items - length v.items in
         let end = length v.items + k + 0 in
         let once = tail-moves (length w.items) end t m
         (λ less. short (omega (arith, less))) (λ all. full (omega (arith, all))) (omega arith) in
-        let count : n + m ≡ n + 0 + m = omega arith in (
-          record {
-            hint = 0;
-            within = inl refl;
-            short = λ _. refl;
-            reserved = v.capacity;
-            reserves = reserved-none (k + 0) (omega (arith, room));
-            capacity = ruled-same rule _ _ v.capacity (length w.items) (omega (arith, low, room))
-                ∙ ap Some (sym same);
-            cost = paid
-                ∙ (ap (λ q. add_moves q v.cost) (count ∙ ap (λ q. n + 0 + q) (sym once))
-                ∙ ap (add_moves (n + 0 + (if eqb (length w.items) end then 0 else t)))
-                (sym (growth-same end v.capacity w.capacity _ same
-                ∙ growth-same (length v.items + k) v.capacity v.capacity v.cost refl)));
-          },
-          refl,
-        )
+        let count : n + m ≡ n + 0 + m = omega arith in
+        record {
+          within = inl refl;
+          short = λ _. refl;
+          reserved = v.capacity;
+          reserves = reserved-none (k + 0) (omega (arith, room));
+          capacity = ruled-same rule _ _ v.capacity (length w.items) (omega (arith, low, room))
+              ∙ ap Some (sym same);
+          cost = paid
+              ∙ (ap (λ q. add_moves q v.cost) (count ∙ ap (λ q. n + 0 + q) (sym once))
+              ∙ ap (add_moves (n + 0 + (if eqb (length w.items) end then 0 else t)))
+              (sym (growth-same end v.capacity w.capacity _ same
+              ∙ growth-same (length v.items + k) v.capacity v.capacity v.cost refl)));
+        }
 
 -- A new list that was made with room for `h` items has exactly this capacity.
 pub exact-is : (s a h d : ℕ) → exact_capacity s a 0 h ≡ Some d → d ≡ h
@@ -623,12 +617,12 @@ module _ (rule : GrowthRule) (R : RattleType) (law : IsLawful rule) where
       | inr chosen ↦ inl chosen
     ]
 
-  module _ {T A : Type 0} (k t : ℕ) (v w : ListView T A) (left : Count)
-      (p : IsAfterSplice rule R k t v w left) where
+  module _ {T A : Type 0} (k t : ℕ) (v : ListView T A) (h : ℕ) (w : ListView T A) (left : Count)
+      (p : IsAfterSplice rule R k t v h w left) where
     pub spliced-at_least : IsKeptOrGrown rule R v.capacity w.capacity
     spliced-at_least =
         kept-join v.capacity p.reserved w.capacity
-        (grown-kept v.capacity (length v.items + (k + p.hint)) p.reserved p.reserves)
+        (grown-kept v.capacity (length v.items + (k + h)) p.reserved p.reserves)
         (grown-kept p.reserved (length w.items) w.capacity p.capacity)
 
     pub spliced-ruled : length v.items + k ≤ v.capacity
@@ -650,14 +644,14 @@ module _ (rule : GrowthRule) (R : RattleType) (law : IsLawful rule) where
               inr (elim p.within [
                 | inl none ↦
                     let kept : p.reserved ≡ v.capacity =
-                    cap-kept rule R law v (k + p.hint) p.reserved (omega (arith, room, none))
+                    cap-kept rule R law v (k + h) p.reserved (omega (arith, room, none))
                     p.reserves in (
                       0,
                       (λ _. omega arith),
                       reserved-none rule R v 0 (omega (arith, room))
                           ∙ ap Some (sym (same ∙ kept)),
                     )
-                | inr within ↦ (k + p.hint, within, p.reserves ∙ ap Some (sym same))
+                | inr within ↦ (k + h, within, p.reserves ∙ ap Some (sym same))
               ])
         ]
 
@@ -666,21 +660,21 @@ module _ (rule : GrowthRule) (R : RattleType) (law : IsLawful rule) where
         → CostsInserting (2 * t) v w
     spliced-costs room longer =
         let start = length v.items + k in
-        let fit : start + p.hint ≤ p.reserved =
+        let fit : start + h ≤ p.reserved =
         omega (
           arith,
-          grown-room v.capacity (length v.items + (k + p.hint)) p.reserved p.reserves,
+          grown-room v.capacity (length v.items + (k + h)) p.reserved p.reserves,
         ) in
-        two-growths v w start (start + p.hint) p.reserved t (if eqb p.hint 0 then 0 else t)
-        (if eqb (length w.items) (start + p.hint) then 0 else t)
+        two-growths v w start (start + h) p.reserved t (if eqb h 0 then 0 else t)
+        (if eqb (length w.items) (start + h) then 0 else t)
         (cost_after_growth start v.capacity p.reserved v.cost)
-        (cost_after_growth (start + p.hint) p.reserved w.capacity
+        (cost_after_growth (start + h) p.reserved w.capacity
         (cost_after_growth start v.capacity p.reserved v.cost))
-        (growth-costs start v.capacity (length v.items + (k + p.hint)) p.reserved v.cost room
+        (growth-costs start v.capacity (length v.items + (k + h)) p.reserved v.cost room
         p.reserves)
-        (growth-costs (start + p.hint) p.reserved (length w.items) w.capacity
+        (growth-costs (start + h) p.reserved (length w.items) w.capacity
         (cost_after_growth start v.capacity p.reserved v.cost) fit p.capacity)
-        p.cost (at-most (eqb p.hint 0)) (at-most (eqb (length w.items) (start + p.hint))) longer
+        p.cost (at-most (eqb h 0)) (at-most (eqb (length w.items) (start + h))) longer
         (omega arith) (omega arith)
       where
         at-most : (b : Bool) → (if b then 0 else t) ≤ t
@@ -733,18 +727,18 @@ module _ (R : RattleType) {T A : Type 0} (v w : ListView T A) (h : ℕ) where
       ]
 
 -- The bounds on the cost of `finish` follow from its exact cost.
-pub finished-costs : {S T A : Type 0} (rule : GrowthRule) (R : RattleType) (tail : List T) (k : ℕ)
-    (v w : ListView T A) (s : S) (limit : Count) (r : Result (Unit {0}) (SpliceRefused T S A))
-    → IsLawful rule → (tail ≡ [] → FinishesAtEnd rule R v w s limit r)
-    → (0 < length tail → FinishesBeforeTail rule R k (length tail) v w limit r)
+pub finished-costs : {T A : Type 0} (rule : GrowthRule) (R : RattleType) (tail : List T) (k : ℕ)
+    (v w : ListView T A) (limit : Count) → IsLawful rule
+    → (tail ≡ [] → (h : ℕ) × IsWithinCount h limit × IsAfterExtend rule R v h w)
+    → (0 < length tail → (h : ℕ) × IsAfterSplice rule R k (length tail) v h w limit)
     → length v.items + k ≤ v.capacity → length v.items ≤ length w.items
     → CostsInserting (2 * length tail) v w
-finished-costs rule R [] k v w s limit r law at_end before_tail room longer =
-    let after = (at_end refl).after in
+finished-costs rule R [] k v w limit law at_end before_tail room longer =
+    let after = at_end refl in
     (extended-costs rule R law v w after.0 (omega (arith, room)) longer after.2).inserting
-finished-costs rule R (x ∷ xs) k v w s limit r law at_end before_tail room longer =
-    spliced-costs rule R law k (length (x ∷ xs)) v w limit (before_tail (omega arith)).after room
-    longer
+finished-costs rule R (x ∷ xs) k v w limit law at_end before_tail room longer =
+    let after = before_tail (omega arith) in
+    spliced-costs rule R law k (length (x ∷ xs)) v after.0 w limit after.1 room longer
 
 -- The same for the clauses of `extend`, which appended the items `xs`.
 pub extend-costs : {T A : Type 0} {rule : GrowthRule} {R : RattleType} {v w : ListView T A} {h : ℕ}
@@ -758,18 +752,18 @@ extend-costs {rule = rule} {R} {v} {w} {h} law xs items kept after =
 module _ {I T A G H : Type 0} {g : Ghosts G} {h : IntoInnerGhosts H (OpenView T A)}
     (s : Splice I T A G H g h) where
   pub finish-costs : {rule : GrowthRule} {R : RattleType} {w : ListView T A} {limit : Count}
-      {r : Result (Unit {0}) (SpliceRefused T I A)} → IsLawful rule
-      → (xs : List T) → w.items ≡ (splice_front s ++ xs) ++ splice_tail s
-      → (splice_tail s ≡ [] → FinishesAtEnd rule R (list_without_range s) w (splice_iter s) limit r)
-      → (0 < length (splice_tail s) → FinishesBeforeTail rule R (splice_range_len s)
-      (length (splice_tail s)) (list_without_range s) w limit r)
+      → IsLawful rule → (xs : List T) → w.items ≡ (splice_front s ++ xs) ++ splice_tail s
+      → (splice_tail s ≡ [] → (h : ℕ) × IsWithinCount h limit
+      × IsAfterExtend rule R (list_without_range s) h w)
+      → (0 < length (splice_tail s) → (h : ℕ) × IsAfterSplice rule R (splice_range_len s)
+      (length (splice_tail s)) (list_without_range s) h w limit)
       → HasRoomFor (list_without_range s) (splice_range_len s)
       → CostsInserting (2 * length (splice_tail s)) (list_without_range s) w
   unfolding list_without_range
-  finish-costs {rule} {R} {w} {limit} {r} law xs items at_end before_tail room =
+  finish-costs {rule} {R} {w} {limit} law xs items at_end before_tail room =
       let front = splice_front s in let tail = splice_tail s in
-      finished-costs rule R tail (splice_range_len s) (list_without_range s) w (splice_iter s) limit
-      r law at_end before_tail room
+      finished-costs rule R tail (splice_range_len s) (list_without_range s) w limit law at_end
+      before_tail room
       (omega (
         arith,
         ap length items,

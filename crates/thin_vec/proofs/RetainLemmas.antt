@@ -2,7 +2,7 @@
 -- the items that `retain` keeps. `R` describes the calls to the closure, and `s` and `t` are its
 -- states.
 use Rattle.std.proofs.Common.{◌≡◌, ℕ, zero, suc, ◌+◌, ◌<◌, ◌≤◌, Bool, true, false, List, [], ◌∷◌, ◌++◌, length, drop, take, refl, sym, ap, ◌∙◌, arith}
-use Rattle.std.proofs.lemmas.Bool.{ne_eqb}
+use Rattle.std.proofs.Math.Dec.{eqb-suc-zero}
 use Rattle.std.proofs.lemmas.List.{drop_at, take_at}
 use Rattle.std.specs.Prelude.{◌==◌, cond, if◌then◌else◌}
 use Rattle.std.specs.List.{filter, items_where_true}
@@ -22,20 +22,15 @@ pub moving-none : (c : Cost) → add_moves 0 c ≡ c
 moving-none c = let e : c.moves + 0 ≡ c.moves = omega arith in
     λ i. record { blocks = c.blocks; grown = c.grown; moves = e i }
 
-pub moving-after : (gap k : ℕ) (c : Cost) → 0 < gap
-    → (if gap == 0 then c else add_moves k c) ≡ add_moves k c
-moving-after gap k c some =
-    ap (λ (b : Bool). if b then c else add_moves k c)
-    (ne_eqb gap 0 (λ (e : gap ≡ 0). omega (arith, e)))
+moving-if : (b : Bool) (a k : ℕ) (c : Cost)
+    → (if b then add_moves a c else add_moves k (add_moves a c))
+    ≡ add_moves (a + (if b then 0 else k)) c
+moving-if true a k c = let e : a ≡ a + 0 = omega arith in ap (λ n. add_moves n c) e
+moving-if false a k c = moving-more k a c
 
-pub moving-before : (gap k : ℕ) (c : Cost) → (0 < gap → ⊥)
-    → (if gap == 0 then c else add_moves k c) ≡ c
-moving-before zero k c none = refl
-moving-before (suc gap) k c none = absurd (none (omega arith))
-
-pub moving-zero : (gap : ℕ) (c : Cost) → (if gap == 0 then c else add_moves 0 c) ≡ c
-moving-zero zero c = refl
-moving-zero (suc gap) c = moving-after (suc gap) 0 c (omega arith) ∙ moving-none c
+pub moving-zero : (b : Bool) (c : Cost) → (if b then c else add_moves 0 c) ≡ c
+moving-zero true c = refl
+moving-zero false c = moving-none c
 
 pub cons-head : {X : Type 0} {x y : X} {xs ys : List X} → x ∷ xs ≡ y ∷ ys → x ≡ y
 cons-head e = cc
@@ -75,6 +70,16 @@ module _ {T : Type 0} where
   items_where-append ((true, x) ∷ a) b = ap (λ (l : List T). x ∷ l) (items_where-append a b)
   items_where-append ((false, x) ∷ a) b = items_where-append a b
 
+  pub gone-append : (a b : TestResults T)
+      → items_where false (a ++ b) ≡ items_where false a ++ items_where false b
+  gone-append [] b = refl
+  gone-append ((true, x) ∷ a) b = gone-append a b
+  gone-append ((false, x) ∷ a) b = ap (λ (l : List T). x ∷ l) (gone-append a b)
+
+  pub gone-stay : (xs : List T) → items_where false (all_kept xs) ≡ []
+  gone-stay [] = refl
+  gone-stay (x ∷ xs) = gone-stay xs
+
   pub count_true-append : (a b : TestResults T) → count_true (flags_of (a ++ b)) ≡ count_true
       (flags_of a) + count_true (flags_of b)
   count_true-append [] b = omega arith
@@ -94,6 +99,31 @@ module _ {T : Type 0} where
       ≡ moves_of_retain (flags_of a)
   moves_of_retain-stay [] a = refl
   moves_of_retain-stay (x ∷ xs) a = moves_of_retain-stay xs a
+
+  -- A kept item moves if an item before it was removed.
+  moves-append : (a b : TestResults T) → moves_of_retain (flags_of (a ++ b))
+      ≡ moves_of_retain (flags_of a) + (if length (items_where false a) == 0 then moves_of_retain
+      (flags_of b) else count_true (flags_of b))
+  moves-append [] b = omega arith
+  moves-append ((true, x) ∷ a) b = moves-append a b
+  moves-append ((false, x) ∷ a) b =
+      count_true-append a b
+      ∙ sym (ap (λ t. count_true (flags_of a)
+      + (if t then moves_of_retain (flags_of b) else count_true (flags_of b)))
+      (eqb-suc-zero (length (items_where false a))))
+
+  -- A search after the results `done` keeps `k` items. They move if an item was removed before.
+  pub paid-more : (done new : TestResults T) (k : ℕ) (c : Cost)
+      → moves_of_retain (flags_of new) ≡ 0 → count_true (flags_of new) ≡ k
+      → (if length (items_where false done) == 0 then add_moves (moves_of_retain (flags_of done)) c
+      else add_moves k (add_moves (moves_of_retain (flags_of done)) c))
+      ≡ add_moves (moves_of_retain (flags_of (done ++ new))) c
+  paid-more done new k c still count =
+      let some = length (items_where false done) == 0 in
+      let paid = moves_of_retain (flags_of done) in
+      moving-if some paid k c
+      ∙ ((λ i. add_moves (paid + (if some then sym still i else sym count i)) c)
+      ∙ ap (λ n. add_moves n c) (sym (moves-append done new)))
 
 module _ {T : Type 0} where
   kept-first : (b : Bool) (y : T) (a : TestResults T)

@@ -2,7 +2,7 @@
 //! allocation, before the items. It is a port of the Rust crate thin-vec. `docs/FROM_RUST.md` lists
 //! the differences.
 //!
-//! Version 6 of 29 November 2026. `CHANGELOG.md` says what a caller has to change.
+//! Version 7 of 30 November 2026. `CHANGELOG.md` says what a caller has to change.
 #![tactic(auto)]
 
 mod convert;

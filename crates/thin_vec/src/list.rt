@@ -21,7 +21,7 @@ mod slices;
 
 use std::alloc::{Allocator, Global};
 use std::marker::{Model, PhantomData};
-use thin_block::{Block, Doubling, Growth, ThinVecError};
+use thin_block::{Block, Doubling, Growth};
 
 /// A growable list like Rust's `Vec`, but only one pointer wide if its allocator is zero-sized, as
 /// `Global` is. The length and the capacity are stored in the allocation, before the items. This
@@ -56,6 +56,8 @@ impl<T, A: Allocator> ThinVec<T, A> {
     /// Returns an empty list that owns the allocator `alloc`. The call allocates nothing.
     pub fn new(alloc: A) -> ThinVec<T, A>
         ensures new { IsNew result alloc }
+
+        // These follow from `new`.
         ensures items { result.items ≡ [] }
         ensures len { length result.items ≡ 0 }
         ensures capacity { result.capacity ≡ 0 }
@@ -68,6 +70,11 @@ impl<T, A: Allocator> ThinVec<T, A> {
     /// allocator.
     pub fn default_in(alloc: A) -> ThinVec<T, A>
         ensures new { IsNew result alloc }
+
+        // These follow from `new`.
+        ensures items { result.items ≡ [] }
+        ensures len { length result.items ≡ 0 }
+        ensures capacity { result.capacity ≡ 0 }
         ensures bounds { IsBounded T.row result }
     {
         ThinVec::new(alloc)
@@ -83,6 +90,11 @@ impl<T, A: Allocator, G: Growth> ThinVec<T, A, G> {
     /// Does the same as `new`, for a list with the growth rule `G`.
     pub fn ruled(alloc: A) -> ThinVec<T, A, G>
         ensures new { IsNew result alloc }
+
+        // These follow from `new`.
+        ensures items { result.items ≡ [] }
+        ensures len { length result.items ≡ 0 }
+        ensures capacity { result.capacity ≡ 0 }
         ensures bounds { IsBounded T.row result }
     {
         ThinVec {
@@ -155,15 +167,17 @@ impl<T, A: Allocator, G: Growth> ThinVec<T, A, G> {
     /// Removes the last item and returns it, or returns `None` if the list is empty.
     pub fn pop(&mut self) -> Option<T>
         ensures variant { IsSome result ↔ (0 < length self.old.items) }
+        ensures items { self.old.items ≡ self.new.items ++ option_to_list result }
+        ensures changes { self.new ≡ record self.old { items = self.new.items } }
+        ensures bounds_before { IsBounded T.row self.old }
+
+        // These follow from `variant`, `items` and `changes`.
         ensures value { (d : T) → 0 < length self.old.items
             → result ≡ Some (slice_index_or self.old.items (length self.old.items - 1) d) }
-        ensures items { self.old.items ≡ self.new.items ++ option_to_list result }
         ensures cases { MatchOption result
             ((length self.old.items ≡ 0) × (length self.new.items ≡ 0))
             (λ _. length self.new.items + 1 ≡ length self.old.items) }
         ensures capacity { self.new.capacity ≡ self.old.capacity }
-        ensures changes { self.new ≡ record self.old { items = self.new.items } }
-        ensures bounds_before { IsBounded T.row self.old }
     {
         if self.len() == 0 {
             return None;

@@ -163,14 +163,6 @@ impl<T, A: Allocator> OpenBlock<T, A> {
         self.middle_end - self.middle_start
     }
 
-    // Returns whether there are at least two middle items. With `middle_len() > 1`, LLVM would
-    // compute a difference that it needs for nothing else.
-    pub(crate) fn has_second(&self) -> bool
-        ensures value { IsTrue result ↔ (1 < length self.now.middle) }
-    {
-        self.middle_start + 1 < self.middle_end
-    }
-
     pub(crate) fn take_first(&mut self) -> T
         requires nonempty { 0 < length self.old.middle }
         ensures middle { self.old.middle ≡ result ∷ self.new.middle }
@@ -357,7 +349,21 @@ impl<T: Drop, A: Allocator> OpenBlock<T, A> {
         self.merge_gaps();
     }
 
-    // Drops the first middle item if another one follows it. Returns whether one does.
+    // Drops the first middle item, if there is one.
+    #[inline(always)]
+    pub(crate) fn drop_first(&mut self)
+        ensures { self.new ≡ record self.old {
+          gap_before = self.old.gap_before + length (take 1 self.old.middle);
+          middle = drop 1 self.old.middle;
+        } }
+    {
+        if self.middle_len() > 0 {
+            drop(self.take_first());
+        }
+    }
+
+    // Drops the first middle item if another one follows it. Returns whether one does. With
+    // `middle_len() < 2`, LLVM would compute a difference that it needs for nothing else.
     #[inline(always)]
     pub(crate) fn drop_before_next(&mut self) -> bool
         ensures value { IsTrue result ↔ (1 < length self.old.middle) }
@@ -366,7 +372,7 @@ impl<T: Drop, A: Allocator> OpenBlock<T, A> {
           middle = drop 1 self.old.middle;
         } else self.old) }
     {
-        if !self.has_second() {
+        if self.middle_start + 1 >= self.middle_end {
             return false;
         }
         drop(self.take_first());

@@ -67,7 +67,7 @@ impl<A: Allocator, G: Growth> Write for ThinVec<u8, A, G> {
             → self.new.capacity ≡ self.old.capacity }
         ensures preserved { PreservesList u8 self.old self.new }
     {
-        match self.reserve_run(buf.len()) {
+        match self.reserve(buf.len()) {
             Ok(()) => (),
             Err(_refused) => return Err(io::Error::from(ErrorKind::OutOfMemory)),
         }

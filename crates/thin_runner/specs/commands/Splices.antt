@@ -26,7 +26,7 @@ pub record SplicesCapacity {T A : Type 0} (rule : GrowthRule) (R : RattleType) (
   pub had_room : HasRoomFor v (size limit) → w.capacity ≡ v.capacity
   -- If no item follows the range, the capacity and the cost are those after `extend`.
   pub at_end : tail ≡ [] → (h : ℕ) × IsWithinCount h limit × IsAfterExtend rule R v h w
-  pub before_tail : 0 < length tail → IsAfterSplice rule R k (length tail) v w limit
+  pub before_tail : 0 < length tail → (h : ℕ) × IsAfterSplice rule R k (length tail) v h w limit
 
 module _ {T A : Type 0} (old : ListView T A) (a b : ℕ) where
   -- `without_range` is the list `old` without the items `a..b`, and otherwise unchanged.

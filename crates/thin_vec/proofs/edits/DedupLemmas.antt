@@ -8,27 +8,29 @@
 --    removed is dropped, which leaves a gap.
 -- 2. From then on, each kept item is moved once, across the gap. `DedupsSome` says this of a part
 --    of the items. Such parts follow each other (`dedups-start`, `dedups-then`), and each call of
---    `dedup_next` is one: it removes an item (`dedups-goes`), keeps one (`dedups-stays`), keeps one
---    and removes the next (`dedups-two`), or keeps several (`dedups-run`). So the moves are the
---    kept items that follow the first removed one (`deduped-goes`), as `moves_of_retain` counts.
+--    `dedup_next` is one: it removes an item (`dedups-goes`), keeps one (`dedups-one`), or keeps
+--    several (`dedups-run`), and then removes the next one. So the moves are the kept items that
+--    follow the first removed one (`deduped-goes`), as `moves_of_retain` counts.
 -- 3. The test of the block is a wrapper around the closure of the caller. What the contract says of
 --    the wrapper, it also says of the closure (`deduped-through`).
 -- 4. Of the tests follow the items and the flags of `dedup` (`pairs-compare`), and for each method
---    that no item is added and none is moved twice (`few-deduped`, `deduped-moves`).
+--    that no item is added and none is moved twice (`few-deduped`, `deduped-moves`). What `dedup`
+--    leaves is also what std's `Vec` says that it leaves (`filtered-dedup`).
 use Rattle.std.proofs.Common.{◌≡◌, ℕ, suc, ◌+◌, ◌<◌, ◌≤◌, Bool, true, false, List, [], ◌∷◌, ◌++◌, length, take, drop, refl, sym, ap, subst, ◌∙◌, arith, append_assoc}
 use Rattle.std.proofs.lemmas.List.{append-nil, same_from_push}
-use Rattle.std.specs.List.{dedup, dedup_from}
+use Rattle.std.specs.List.{dedup, dedup_from, items_where_true}
+use Rattle.std.specs.List.Retain.{DiffersFromLast, IsFiltered, ReturnsInTurn}
 use Rattle.std.specs.Prelude.{MatchBool, map, not}
 use Rattle.thin_block.specs.Cost.{Cost, add_moves}
 use Rattle.thin_vec.specs.Edits.Retain.{moves_of_retain}
 use Rattle.thin_vec.specs.Edits.Dedup.{TestsEachAgainstLast, TestsAllAgainstLast, Compares, IsDedupedBy, dedup_flags, dedup_flags_from}
 use Rattle.thin_vec.specs.List.Capacity.{MovesAtMost}
 use Rattle.thin_vec.specs.OpenView.{OpenView}
-use Rattle.thin_vec.specs.OpenBlock.Dedup.{TestsLast, TestsNext, DedupsMiddle, TestsPairsUpTo, DedupsSome}
+use Rattle.thin_vec.specs.OpenBlock.Dedup.{TestsLast, TestsNext, DedupsMiddle, TestsPairsUpTo, DedupsSome, found}
 use Rattle.thin_vec.specs.ThinVec.{ListView}
 use Rattle.thin_vec.proofs.RetainLemmas.{cons-head, cons-tail, moves_of_retain-few, moving-more, moving-none}
 use Rattle.thin_vec.proofs.OpenBlockLemmas.{last-of}
-use Rattle.thin_vec.proofs.open_block.PairTestLemmas.{OnPairs, all-stay, by-answer, count_kept, count_kept-join, last-append, last-goes, last-some, last-stays, map-answer, moved-all, run-ends, run-goes, run-left}
+use Rattle.thin_vec.proofs.open_block.PairTestLemmas.{OnPairs, all-stay, by-answer, count_kept, count_kept-all, count_kept-found, count_kept-join, last-append, last-goes, last-some, last-stays, map-answer, moved-all, next-ends, next-kept, run-end, run-left}
 
 module _ {S T : Type 0} (R : OnPairs S T) where
   -- The following definitions and lemmas are about open blocks.
@@ -66,8 +68,8 @@ module _ {S T : Type 0} (R : OnPairs S T) where
             now = now;
           }
 
-    -- The lemmas `dedups-goes`, `-stays`, `-two` and `-run` are the cases of `dedup_next`. The
-    -- first middle item of `v` is `x`. In the first case, it is removed.
+    -- The lemmas `dedups-goes`, `-one` and `-run` are the cases of `dedup_next`. The first middle
+    -- item of `v` is `x`. In the first case, it is removed.
     pub dedups-goes : {s t : S} (x y : T) (front : List T)
         → TestsLast R s x v.front true t y front → v.middle ≡ x ∷ w.middle → 0 < w.gap_before
         → Moved front v.cost → DedupsSome R s v t w
@@ -76,70 +78,68 @@ module _ {S T : Type 0} (R : OnPairs S T) where
         (last-goes R s t a.kept x y a.kept_left a.asked) gap_before
         (now ∙ moved (λ i. a.now i) (sym (moving-none v.cost)))
 
-    -- The item `x` is kept as `y`, and moved to the front.
-    pub dedups-stays : {s t : S} (x y : T) (front : List T)
-        → TestsLast R s x v.front false t y front → v.middle ≡ x ∷ w.middle
-        → 0 < w.gap_before → Moved (front ++ y ∷ []) (add_moves 1 v.cost) → DedupsSome R s v t w
-    dedups-stays {s} {t} x y front a middle gap_before now =
-        dedups-of s t a.before a.kept (x ∷ []) (false ∷ []) (a.kept_left ∷ y ∷ []) a.was middle
-        (last-stays R s t a.kept x y a.kept_left a.asked) gap_before
-        (now ∙ moved (ap (λ (l : List T). l ++ y ∷ []) a.now
-        ∙ append_assoc a.before (a.kept_left ∷ []) (y ∷ [])) refl)
+    -- In this module, `x` is kept as `y`. The tests of the items after it leave it as `z`.
+    module _ {s t : S} (x y z : T) (front : List T) (a : TestsLast R s x v.front false t y front)
+      where
+        -- Of the items `xs`, the tests keep `more`.
+        dedups-kept : (q : S) (xs : List T) (f : List Bool) (more : List T)
+            → TestsEachAgainstLast R t y xs f (z ∷ more) q → v.middle ≡ x ∷ (xs ++ w.middle)
+            → 0 < w.gap_before
+            → Moved (front ++ z ∷ more) (add_moves (suc (count_kept f)) v.cost)
+            → DedupsSome R s v q w
+        dedups-kept q xs f more asked middle gap_before now =
+            dedups-of s q a.before a.kept (x ∷ xs) (false ∷ f) (a.kept_left ∷ z ∷ more) a.was middle
+            (last-append R t q y f (z ∷ more) xs asked
+            (x ∷ []) s a.kept (false ∷ []) (a.kept_left ∷ [])
+            (last-stays R s t a.kept x y a.kept_left a.asked))
+            gap_before
+            (now ∙ moved (ap (λ (l : List T). l ++ z ∷ more) a.now
+            ∙ append_assoc a.before (a.kept_left ∷ []) (z ∷ more)) refl)
 
-    -- In this module, `x` is kept as `y`. Then the next item is tested against it, which leaves it
-    -- as `z`.
-    module _ (s t u : S) (x y z : T) (front ys zs : List T)
-        (a : TestsLast R s x v.front false t y front) (b : Bool)
-        (n : TestsNext R t y ys b u z zs) (whole : v.middle ≡ x ∷ ys) where
-      two-front : (front ++ z ∷ [] ≡ a.before ++ a.kept_left ∷ z ∷ [])
-      two-front = ap (λ (l : List T). l ++ z ∷ []) a.now
-          ∙ append_assoc a.before (a.kept_left ∷ []) (z ∷ [])
+        -- The next item, if there is one, is removed.
+        pub dedups-one : {u : S} (ys zs : List T) → TestsNext R t y ys true u z zs → v.middle ≡ x ∷ ys
+            → w.middle ≡ drop 1 zs → 0 < w.gap_before
+            → Moved (front ++ z ∷ []) (add_moves 1 v.cost) → DedupsSome R s v u w
+        dedups-one {u} ys zs n whole middle gap_before now =
+            let e = next-ends R t y ys u z zs n in
+            dedups-kept u e.0 (found zs) [] e.2
+            (whole ∙ ap (λ (l : List T). x ∷ l)
+            (e.1 ∙ ap (λ (l : List T). e.0 ++ l) (sym middle)))
+            gap_before
+            (now ∙ moved refl
+            (ap (λ (k : ℕ). add_moves (suc k) v.cost) (sym (count_kept-found zs))))
 
-      -- The next item is removed.
-      pub dedups-two : b ≡ true → (value : T) → zs ≡ value ∷ w.middle → 0 < w.gap_before
-          → Moved (front ++ z ∷ []) (add_moves 1 v.cost) → DedupsSome R s v u w
-      dedups-two e value middle gap_before now =
-          let asked = last-append R t u y (true ∷ []) (z ∷ []) (n.later ∷ [])
-          (last-goes R t u y n.later n.later_left z
-          (subst (λ (q : Bool). R t n.later y q u n.later_left z) e n.asked))
-          (x ∷ []) s a.kept (false ∷ []) (a.kept_left ∷ [])
-          (last-stays R s t a.kept x y a.kept_left a.asked) in
-          let same : n.after ≡ w.middle = cons-tail (sym n.now ∙ middle) in
-          dedups-of s u a.before a.kept (x ∷ n.later ∷ []) (false ∷ true ∷ [])
-          (a.kept_left ∷ z ∷ []) a.was (whole ∙ ap (λ (l : List T). x ∷ l)
-          (n.was ∙ ap (λ (l : List T). n.later ∷ l) same)) asked gap_before
-          (now ∙ moved two-front refl)
-
-      -- The next item is kept, too. It is the first of `m` kept neighbors, `r.left`, which are
-      -- moved together.
-      pub dedups-run : b ≡ false → (m : ℕ) (q : S) (ws : List T) (r : TestsPairsUpTo R m u zs q ws)
-          → r.after ≡ w.middle → suc (count_kept r.removed) ≡ m
-          → 0 < w.gap_before
-          → Moved ((front ++ z ∷ []) ++ take m ws) (add_moves m (add_moves 1 v.cost))
-          → DedupsSome R s v q w
-      dedups-run e m q ws r middle count gap_before now =
-          let pair = last-append R t u y (false ∷ []) (z ∷ n.later_left ∷ []) (n.later ∷ [])
-          (last-stays R t u y n.later n.later_left z
-          (subst (λ (c : Bool). R t n.later y c u n.later_left z) e n.asked))
-          (x ∷ []) s a.kept (false ∷ []) (a.kept_left ∷ [])
-          (last-stays R s t a.kept x y a.kept_left a.asked) in
-          let heads : n.later_left ∷ n.after ≡ r.first ∷ (r.done ++ r.after) = sym n.now
-          ∙ r.was in
-          let from : TestsEachAgainstLast R u n.later_left r.done r.removed r.left q =
-          subst (λ (k : T). TestsEachAgainstLast R u k r.done r.removed r.left q)
-          (sym (cons-head heads)) r.asked in
-          let asked = last-append R u q n.later_left r.removed r.left r.done from
-          (x ∷ n.later ∷ []) s a.kept (false ∷ false ∷ []) (a.kept_left ∷ z ∷ []) pair in
-          let all : v.middle ≡ x ∷ n.later ∷ (r.done ++ w.middle) =
-          whole ∙ ap (λ (l : List T). x ∷ l)
-          (n.was ∙ ap (λ (l : List T). n.later ∷ l)
-          (cons-tail heads ∙ ap (λ (l : List T). r.done ++ l) middle)) in
-          let paid : 1 + m ≡ suc (suc (count_kept r.removed)) = omega (arith, count) in
-          dedups-of s q a.before a.kept (x ∷ n.later ∷ r.done) (false ∷ false ∷ r.removed)
-          (a.kept_left ∷ z ∷ r.left) a.was all asked gap_before
-          (now ∙ moved ((λ i. two-front i ++ run-left R m u zs q ws r i)
-          ∙ append_assoc a.before (a.kept_left ∷ z ∷ []) r.left)
-          (moving-more m 1 v.cost ∙ ap (λ (k : ℕ). add_moves k v.cost) paid))
+        -- The next item is kept, too. It is the first of `m` kept neighbors, which are moved
+        -- together.
+        pub dedups-run : {m : ℕ} {u q : S} {ws : List T} (ys zs : List T)
+            → TestsNext R t y ys false u z zs → v.middle ≡ x ∷ ys
+            → (r : TestsPairsUpTo R m u zs q ws) → w.middle ≡ drop 1 (drop m ws)
+            → 0 < w.gap_before
+            → Moved ((front ++ z ∷ []) ++ take m ws) (add_moves m (add_moves 1 v.cost))
+            → DedupsSome R s v q w
+        dedups-run {m} {u} {q} {ws} ys zs n whole r middle gap_before now =
+            let k = next-kept R t y ys u z zs n in
+            let flags = all-stay r.more ++ found r.end in
+            let heads : k.1 ∷ k.2 ≡ r.first ∷ (r.done ++ drop 1 r.end) = sym k.5 ∙ r.was in
+            let rest : drop 1 r.end ≡ w.middle = sym (middle ∙ ap (drop 1) (run-end R r)) in
+            let paid : 1 + m ≡ suc (suc (count_kept flags)) = omega (
+              arith,
+              r.count,
+              count_kept-join (all-stay r.more) (found r.end),
+              count_kept-all r.more,
+              count_kept-found r.end,
+            ) in
+            dedups-kept q (k.0 ∷ r.done) (false ∷ flags) r.kept
+            (last-append R u q k.1 flags r.kept r.done
+            (subst (λ (l : T). TestsEachAgainstLast R u l r.done flags r.kept q)
+            (sym (cons-head heads)) r.asked)
+            (k.0 ∷ []) t y (false ∷ []) (z ∷ []) (last-stays R t u y k.0 k.1 z k.3))
+            (whole ∙ ap (λ (l : List T). x ∷ l) (k.4 ∙ ap (λ (l : List T). k.0 ∷ l)
+            (cons-tail heads ∙ ap (λ (l : List T). r.done ++ l) rest)))
+            gap_before
+            (now ∙ moved (append_assoc front (z ∷ []) (take m ws)
+            ∙ ap (λ (l : List T). front ++ z ∷ l) (run-left R r))
+            (moving-more m 1 v.cost ∙ ap (λ (k : ℕ). add_moves k v.cost) paid))
 
   -- The series of tests begins with the last front item as the last kept one.
   pub dedups-start : {A : Type 0} (s : S) (v : OpenView T A) → 0 < length v.front
@@ -209,27 +209,27 @@ module _ {S T : Type 0} (R : OnPairs S T) where
         → drop m ys ≡ value ∷ w.middle
         → DedupsSome R t w u z → z.middle ≡ [] → DedupsMiddle R s v u z
     deduped-goes value u z p k h none =
-        let g = run-goes R m s v.middle t ys r value w.middle k in
-        let here : w.front ≡ r.left = ap (λ x. x.front) p
-        ∙ run-left R m s v.middle t ys r in
-        let flags : r.removed ++ h.removed ≡ all-stay r.more ++ true ∷ h.removed =
-        ap (λ (f : List Bool). f ++ h.removed) g.1 ∙ append_assoc (all-stay r.more)
-        (true ∷ []) h.removed in
-        let up : moves_of_retain (map not (r.removed ++ h.removed)) ≡ count_kept h.removed =
+        let removed = all-stay r.more ++ found r.end in
+        let end : r.end ≡ value ∷ w.middle = sym (run-end R r) ∙ k in
+        let here : w.front ≡ r.kept = ap (λ x. x.front) p ∙ run-left R r in
+        let flags : removed ++ h.removed ≡ all-stay r.more ++ true ∷ h.removed =
+        ap (λ (l : List T). (all-stay r.more ++ found l) ++ h.removed) end
+        ∙ append_assoc (all-stay r.more) (true ∷ []) h.removed in
+        let up : moves_of_retain (map not (removed ++ h.removed)) ≡ count_kept h.removed =
         ap (λ f. moves_of_retain (map not f)) flags ∙ moved-all r.more (true ∷ h.removed) in
-        let all : r.after ≡ h.done = g.0
+        let all : drop 1 r.end ≡ h.done = ap (drop 1) end
         ∙ (h.middle ∙ (ap (λ (l : List T). h.done ++ l) none ∙ append-nil h.done)) in
-        let asked : TestsEachAgainstLast R s r.first (r.done ++ h.done) (r.removed ++ h.removed)
+        let asked : TestsEachAgainstLast R s r.first (r.done ++ h.done) (removed ++ h.removed)
         (h.before ++ h.kept) u =
-        last-append R t u h.first h.removed h.kept h.done h.asked r.done s r.first r.removed h.before
-        (subst (λ (l : List T). TestsEachAgainstLast R s r.first r.done r.removed l t)
+        last-append R t u h.first h.removed h.kept h.done h.asked r.done s r.first removed h.before
+        (subst (λ (l : List T). TestsEachAgainstLast R s r.first r.done removed l t)
         (sym here ∙ h.was) r.asked) in
         record {
-          removed = r.removed ++ h.removed;
-          asked = subst (λ (l : List T). TestsAllAgainstLast R s l (r.removed ++ h.removed) z.front u)
+          removed = removed ++ h.removed;
+          asked = subst (λ (l : List T). TestsAllAgainstLast R s l (removed ++ h.removed) z.front u)
               (ap (λ (l : List T). r.first ∷ (r.done ++ l)) (sym all) ∙ sym r.was)
               (subst (λ (l : List T). TestsEachAgainstLast R s r.first (r.done ++ h.done)
-              (r.removed ++ h.removed)
+              (removed ++ h.removed)
               l u) (sym (ap (λ x. x.front) h.now)) asked);
           now = h.now ∙ (λ i. let x = p i in record x {
             front = sym (ap (λ y. y.front) h.now) i;
@@ -242,17 +242,18 @@ module _ {S T : Type 0} (R : OnPairs S T) where
     -- No item is to be removed.
     pub deduped-ends : RunPassed → drop m ys ≡ [] → w.middle ≡ [] → DedupsMiddle R s v t w
     deduped-ends p k none =
-        let g = run-ends R m s v.middle t ys r k in
-        let up : moves_of_retain (map not r.removed) ≡ 0 =
-        ap (λ f. moves_of_retain (map not f)) (g.1 ∙ sym (append-nil (all-stay r.more)))
+        let removed = all-stay r.more ++ found r.end in
+        let end : r.end ≡ [] = sym (run-end R r) ∙ k in
+        let up : moves_of_retain (map not removed) ≡ 0 =
+        ap (λ (l : List T). moves_of_retain (map not (all-stay r.more ++ found l))) end
         ∙ moved-all r.more [] in
         record {
-          removed = r.removed;
-          asked = subst (λ (l : List T). TestsAllAgainstLast R s l r.removed w.front t)
+          removed = removed;
+          asked = subst (λ (l : List T). TestsAllAgainstLast R s l removed w.front t)
               (sym (append-nil (r.first ∷ r.done))
-              ∙ (ap (λ (l : List T). r.first ∷ (r.done ++ l)) (sym g.0) ∙ sym r.was))
-              (subst (λ (l : List T). TestsEachAgainstLast R s r.first r.done r.removed l t)
-              (sym (ap (λ x. x.front) p ∙ run-left R m s v.middle t ys r)) r.asked);
+              ∙ (ap (λ (l : List T). r.first ∷ (r.done ++ l)) (ap (drop 1) (sym end)) ∙ sym r.was))
+              (subst (λ (l : List T). TestsEachAgainstLast R s r.first r.done removed l t)
+              (sym (ap (λ x. x.front) p ∙ run-left R r)) r.asked);
           now = p ∙ (λ i. record v {
             front = sym (ap (λ x. x.front) p) i;
             gap_before = w.gap_before;
@@ -321,6 +322,31 @@ module _ {S T : Type 0} (E : T → T → Bool) where
       → TestsAllAgainstLast (Compares E) s xs f ys t → (f ≡ dedup_flags E xs) × (ys ≡ dedup E xs)
   pairs-compare [] s t f ys h = (h.0, h.1)
   pairs-compare (x ∷ xs) s t f ys h = last-compares xs s t x f ys h
+
+module _ {T : Type 0} (E : T → T → Bool) where
+  -- These are the flags with which `DiffersFromLast` describes a `dedup` of the items after `k`.
+  filtered-after : (k : T) (p xs : List T) → (kept : List Bool) × (q : List T)
+      × (length kept ≡ length xs) × ReturnsInTurn (DiffersFromLast E) (k ∷ p) kept xs q
+      × (dedup_from E k xs ≡ k ∷ items_where_true kept xs)
+  filtered-after k p [] = ([], k ∷ p, refl, refl, refl)
+  filtered-after k p (x ∷ xs) =
+      elim (E x k) as (λ b. E x k ≡ b → (kept : List Bool) × (q : List T)
+      × (length kept ≡ suc (length xs))
+      × ReturnsInTurn (DiffersFromLast E) (k ∷ p) kept (x ∷ xs) q
+      × (dedup_from E k (x ∷ xs) ≡ k ∷ items_where_true kept (x ∷ xs))) [
+        | true ↦ λ e. let r = filtered-after k p xs in
+            (false ∷ r.0, r.1, ap suc r.2, (k ∷ p, (e, refl), r.3), rw e r.4)
+        | false ↦ λ e. let r = filtered-after x [] xs in
+            (true ∷ r.0, r.1, ap suc r.2, (x ∷ [], (e, refl), r.3), rw e (ap (λ l. k ∷ l) r.4))
+      ]
+      refl
+
+  -- What `dedup` leaves is what the clause `filtered` says in the words of std.
+  pub filtered-dedup : (xs : List T) → IsFiltered (DiffersFromLast E) [] xs (dedup E xs)
+  filtered-dedup [] = ([], [], refl, refl, refl)
+  filtered-dedup (x ∷ xs) =
+      let r = filtered-after x [] xs in
+      (true ∷ r.0, r.1, ap suc r.2, (x ∷ [], (refl, refl), r.3), r.4)
 
 module _ {S T : Type 0} (R : OnPairs S T) where
   few-last : (xs : List T) (s t : S) (k : T) (removed : List Bool) (ys : List T)

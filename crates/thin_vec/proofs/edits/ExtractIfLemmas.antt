@@ -1,17 +1,18 @@
 -- These lemmas are about the item that `next` on an `ExtractIf` extracts: the first untested item
 -- for which the closure returns true.
-use Rattle.std.proofs.Common.{◌≡◌, ℕ, ◌+◌, ◌≤◌, Bool, true, false, List, [], ◌∷◌, ◌++◌, Option, None, Some, length, take, drop, refl, sym, ap, subst, ◌∙◌, append_assoc, arith, length-append}
-use Rattle.std.proofs.lemmas.List.{append-nil, drop_at, length-take-le, nil_from_length, take-append-drop, take_at}
+use Rattle.std.proofs.Common.{◌≡◌, ℕ, ◌+◌, ◌-◌, ◌≤◌, Bool, true, false, List, [], ◌∷◌, ◌++◌, Option, None, Some, length, take, drop, refl, sym, ap, subst, ◌∙◌, append_assoc, arith, length-append}
+use Rattle.std.proofs.lemmas.List.{append-nil, drop_at, length-drop, length-take-le, nil_from_length, take-append-drop, take_at}
 use Rattle.std.proofs.lemmas.List.Folds.{drop_split}
 use Rattle.std.specs.List.Retain.{ExtractsNext}
 use Rattle.std.specs.Option.{option_to_list}
 use Rattle.std.specs.Prelude.{◌==◌, MatchBool, cond, if◌then◌else◌, not, slice_range}
 use Rattle.thin_block.specs.Cost.{Cost, add_moves}
 use Rattle.thin_block.specs.declared.growth.Growth.{Ghosts}
-use Rattle.thin_vec.specs.Edits.ExtractIf.{ExtractKeepsAlong, ExtractLeaves, ExtractSteps, ExtractsInTurn, ExtractsToEnd, extract_block, extract_closure, extract_rest, list_after_extract_if}
+use Rattle.thin_vec.specs.Edits.ExtractIf.{ExtractKeepsAlong, ExtractLeaves, ExtractSteps, ExtractsInTurn, ExtractsRange, ExtractsToEnd, extract_block, extract_closure, extract_rest, list_after_extract_if}
 use Rattle.thin_vec.specs.Edits.Retain.{all_kept}
 use Rattle.thin_vec.specs.List.Capacity.{MovesAtMost}
-use Rattle.thin_vec.specs.OpenBlock.Retain.{TestsUpTo, IsRemovedFirst, TestsInTurn}
+use Rattle.thin_vec.specs.OpenBlock.Retain.{TestsFirst, TestsInTurn, TestsUntil}
+use Rattle.thin_vec.specs.ThinVec.{ListView}
 use Rattle.thin_vec.specs.declared.edits.extract_if.ExtractIf.{ExtractIf}
 use Rattle.thin_vec.specs.declared.edits.extract_if.ExtractState.{ExtractState}
 use Rattle.thin_vec.specs.declared.edits.holder.IntoInner.{Ghosts as IntoInnerGhosts}
@@ -112,55 +113,34 @@ module _ {F T : Type 0} (R : F → T → Bool → F → T → Type 0) where
           let on = picked-after a.2 run left (rw (← cons-tail a.6) at a.5) in
           (false, of a.2, z, called, (left, on, refl))
 
-    stops-at-end : (between t : S) (after ys : List T) → IsRemovedFirst J between after t ys
-        → ys ≡ []
+    stops-at-end : (between t : S) (after ys : List T)
+        → TestsFirst J between after false t ys → ys ≡ []
         → ExtractsNext R (of between) after None (of t) [] ys
     stops-at-end between t [] ys a none = (refl, ap of a.1, refl, none)
     stops-at-end between t (x ∷ xs) ys a none = absurd (cons-not-nil (sym a.2 ∙ none))
 
     stops-at-item : (between t : S) (after ys : List T) (v : T) (zs : List T)
-        → IsRemovedFirst J between after t ys → ys ≡ v ∷ zs → ExtractsNext R (of between)
+        → TestsFirst J between after false t ys → ys ≡ v ∷ zs → ExtractsNext R (of between)
         after (Some v) (of t) [] zs
-    stops-at-item between t [] ys v zs a some = absurd (cons-not-nil (sym some ∙ a.0))
+    stops-at-item between t [] ys v zs a some = absurd (cons-not-nil (sym some ∙ a.2))
     stops-at-item between t (x ∷ xs) ys v zs a some =
         let same : v ∷ zs ≡ a.0 ∷ xs = sym some ∙ a.2 in
         (true, of t, a.0, a.1, (ap Some (cons-head same), refl, refl, cons-tail same))
 
-    module _ (m : ℕ) (s : S) (xs : List T) (t : S) (ys : List T)
-        (h : TestsUpTo J m s xs t ys) where
-      left-is : take m ys ≡ h.left
-      left-is = ap (take m) h.now ∙ take_at h.left h.end m h.reached
-
-      end-is : drop m ys ≡ h.end
-      end-is = ap (drop m) h.now ∙ drop_at h.left h.end m h.reached
-
-      pub picked-room : m ≤ length ys
-      picked-room = omega (arith, h.reached, ap length h.now, length-append h.left h.end)
-
+    module _ {s t : S} {xs kept end : List T} (h : TestsUntil J s xs kept t end) where
       whole : (item : Option T) (untested : List T)
-          → ExtractsNext R (of h.between) h.after item (of t)
-          [] untested → ExtractsNext R (of s) xs item (of t) (take m ys) untested
+          → ExtractsNext R (of h.between) h.after item (of t) [] untested
+          → ExtractsNext R (of s) xs item (of t) kept untested
       whole item untested e =
-          rw (h.was, left-is)
-          (picked-after h.between h.after item (of t) untested e s h.run h.left h.asked)
+          rw h.was (picked-after h.between h.after item (of t) untested e s h.run kept h.asked)
 
-      pub picked-none : drop m ys ≡ [] → ExtractsNext R (of s) xs None (of t)
-          (take m ys) (drop m ys)
-      picked-none none =
-          whole None (drop m ys)
-          (rw end-is (stops-at-end h.between t h.after h.end h.stops (sym end-is ∙ none)))
+      pub picked-none : end ≡ [] → ExtractsNext R (of s) xs None (of t) kept end
+      picked-none none = whole None end (stops-at-end h.between t h.after end h.stops none)
 
-      pub picked-some : (v : T) (zs : List T) → drop m ys ≡ v ∷ zs
-          → ExtractsNext R (of s) xs (Some v) (of t) (take m ys) zs
+      pub picked-some : (v : T) (zs : List T) → end ≡ v ∷ zs
+          → ExtractsNext R (of s) xs (Some v) (of t) kept zs
       picked-some v zs some =
-          whole (Some v) zs (stops-at-item h.between t h.after h.end v zs
-          h.stops (sym end-is ∙ some))
-
-pub cost-of : {T : Type 0} (gap : ℕ) (cost : Cost) (k : ℕ) (xs : List T) → k ≤ length xs
-    → (if gap == 0 then cost else add_moves k cost)
-    ≡ (if gap == 0 then cost else add_moves (length (take k xs)) cost)
-cost-of gap cost k xs room =
-    ap (λ (n : ℕ). if gap == 0 then cost else add_moves n cost) (sym (length-take-le k xs room))
+          whole (Some v) zs (stops-at-item h.between t h.after end v zs h.stops some)
 
 -- The parts of a list before, in and after a range are the whole list.
 pub in-parts : {T : Type 0} (xs : List T) (start end : ℕ) → start ≤ end
@@ -281,3 +261,37 @@ module _ {T F A G H : Type 0} {g : Ghosts G} {h : IntoInnerGhosts H (ExtractStat
   extracts_to_end d (x ∷ xs) last (m, (j, one, e), end) =
       let on = extracts_to_end j xs last (m, e, end) in
       (leaves-first d j last (Some x) xs one on.0, on.1)
+
+  -- The list `v` is the one that `d` leaves if it is dropped before the first call to `next`.
+  pub extracts_range : (v : ListView T A) (start end : ℕ) (d : ExtractIf T F A G H g h)
+      → (extract_block d).front ≡ take start v.items → extract_rest d ≡ slice_range v.items start end
+      → (extract_block d).tail ≡ drop end v.items → (extract_block d).gap_before ≡ 0
+      → list_after_extract_if d ≡ v → ExtractsRange R (extract_closure d) v start end d
+  extracts_range v start end d front rest tail gap is yielded last e =
+      let b = extract_block d in
+      let all = extracts_to_end d yielded last e in let l = all.0 in let none = all.1 in
+      let tested : l.tested ≡ slice_range v.items start end =
+      sym (append-nil l.tested) ∙ (ap (λ r. l.tested ++ r) (sym none) ∙ (sym l.rest ∙ rest)) in
+      let paid : b.cost ≡ v.cost =
+      (λ i. if sym gap i == 0 then b.cost else add_moves (length b.middle + length b.tail) b.cost)
+      ∙ ap (λ z. z.cost) is in
+      record {
+        kept = l.kept;
+        calls = subst (λ xs. ExtractsInTurn R (extract_closure d) xs yielded l.kept
+            (extract_closure last)) tested l.calls;
+        after_drop = l.after_drop ∙ (λ i. record (is i) {
+          items = (front i ++ l.kept) ++ (none i ++ tail i);
+          cost = (list_after_extract_if last).cost;
+        });
+        moves_at_most = record {
+          moves = l.moves_at_most.moves;
+          few = omega (
+            arith,
+            l.moves_at_most.few,
+            ap length none,
+            ap length tail,
+            length-drop end v.items,
+          );
+          cost = l.moves_at_most.cost ∙ ap (add_moves l.moves_at_most.moves) paid;
+        };
+      }

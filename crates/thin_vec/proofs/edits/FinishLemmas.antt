@@ -1,6 +1,6 @@
 -- These lemmas are about `finish`, which completes a splice. They state what the list contains
 -- after each step of `finish`, and how these steps combine.
-use Rattle.std.proofs.Common.{if◌then◌else◌, inl, inr, None, Option, Some, drop, take, subst, ◌≡◌, ℕ, ◌+◌, ◌-◌, ◌<◌, ◌≤◌, true, false, eqb, List, [], ◌++◌, ap, arith, length, length-append, refl, sym, ◌∙◌}
+use Rattle.std.proofs.Common.{if◌then◌else◌, inl, inr, Bool, None, Option, Some, drop, take, subst, ◌≡◌, ℕ, ◌+◌, ◌-◌, ◌<◌, ◌≤◌, true, false, eqb, List, [], ◌∷◌, ◌++◌, ap, arith, length, length-append, refl, sym, ◌∙◌}
 use Rattle.std.proofs.lemmas.Bool.{cases_lt}
 use Rattle.std.proofs.lemmas.Bool.Decides.{nat_tests}
 use Rattle.std.specs.Align.{type_align}
@@ -12,7 +12,7 @@ use Rattle.std.specs.declared.result.Result.TheVariants.{Ok, Err}
 use Rattle.std.specs.Iterator.{Count, Drains, IsFinite, Yields, size}
 use Rattle.std.specs.Iterator.SizeHint.{IsWithinCount}
 use Rattle.thin_block.specs.Cost.{add_moves}
-use Rattle.thin_block.specs.Growth.{GrowthRule, grown_capacity}
+use Rattle.thin_block.specs.Growth.{GrowthRule, IsLawful, grown_capacity}
 use Rattle.thin_vec.specs.Put.{YieldsThenMayEnd, IsFilledBy}
 use Rattle.thin_vec.specs.declared.put.Filled.{Filled}
 use Rattle.thin_vec.specs.Edits.Splice.{IsAfterSplice, IsSpliceCause, SpliceErrorAccountsFor, cost_after_growth}
@@ -22,8 +22,9 @@ use Rattle.thin_vec.specs.OpenView.{OpenView, cost_closed, items_of}
 use Rattle.thin_vec.specs.ThinVec.{ListView, capacity_after_reserve, cost_after_resize}
 use Rattle.thin_vec.specs.declared.errors.SpliceRefused.{SpliceRefused}
 use Rattle.thin_vec.proofs.list.ExtendLemmas.{yields-join}
-use Rattle.thin_vec.proofs.PushesLemmas.{growth-once}
+use Rattle.thin_vec.proofs.PushesLemmas.{grown-le, growth-once, growth-same, paid-none, pushes-costs}
 use Rattle.thin_vec.proofs.PutLemmas.{filled-fits}
+use Rattle.thin_vec.proofs.ThinVecLemmas.{cost_after_resize-same}
 use Rattle.thin_vec.proofs.edits.SpliceLemmas.{between-length, between-more, closed-moves, drains-more, run-moves, stopped-more, taken-join, taken-spare}
 
 module _ {T A : Type 0} where
@@ -286,11 +287,12 @@ module _ {S T A : Type 0} {steps : S → Option T → S → Type 0} {can : S →
         → AddsFromIter (without_middle v a) w (remaining s)
         → (v.tail ≡ [] → (h : ℕ) × IsWithinCount h (remaining s)
         × IsAfterExtend rule R (without_middle v a) h w)
-        → (0 < length v.tail → IsAfterSplice rule R v.gap_before (length v.tail)
-        (without_middle v a) w (remaining s))
+        → (0 < length v.tail → (h : ℕ) × IsAfterSplice rule R v.gap_before (length v.tail)
+        (without_middle v a) h w (remaining s))
         → FinishesSplice steps can remaining rule R v a s w (Ok x)
     finished-ok x items taken at_end before_tail = record {
       succeeds = λ _. refl;
+      succeeds_at_end = λ _ _. refl;
       items = items;
       longer = omega (
         arith,
@@ -299,15 +301,13 @@ module _ {S T A : Type 0} {steps : S → Option T → S → Type 0} {can : S →
         length-append v.front v.tail,
       );
       taken = taken;
-      at_end = λ none. record {
-        succeeds = λ _. refl;
-        after = at_end none;
-        held = tt;
-        in_hand = tt;
-      };
-      before_tail = λ some. record { after = before_tail some; filled = tt; at_hint = tt };
+      at_end = at_end;
+      before_tail = λ some. let grew = before_tail some in (grew.0, grew.1, tt);
       placed = tt;
       cause = tt;
+      held_at_end = λ _. tt;
+      in_hand_at_end = λ _. tt;
+      in_hand_before_tail = λ _. tt;
     }
 
     pub finished-from : {t : S} {u : ListView T A} {xs : List T} {end : ℕ}
@@ -320,21 +320,23 @@ module _ {S T A : Type 0} {steps : S → Option T → S → Type 0} {can : S →
         → IfErr r (λ error. IsSpliceCause rule R w v.tail (remaining error.rest) error)
         → OnErr r (w ≡ u)
         → AddsFromIter (without_middle v a) w (remaining s)
-        → (grew : IsAfterSplice rule R v.gap_before (length v.tail) (without_middle v a) w
-        (remaining s))
-        → IfErr r (λ error. (length u.items ≡ length (v.front ++ v.tail) + v.gap_before + grew.hint)
-        × (error.held.items ≡ [] → error.in_hand ≡ None → grew.hint ≡ 0))
+        → (h : ℕ) → IsAfterSplice rule R v.gap_before (length v.tail) (without_middle v a) h w
+        (remaining s)
+        → IfErr r (λ error. (length u.items ≡ length (v.front ++ v.tail) + v.gap_before + h)
+        × (error.held.items ≡ [] → error.in_hand ≡ None → h ≡ 0))
         → FinishesSplice steps can remaining rule R v a s w r
-    finished-from {t} {u} {xs} {end} (Ok x) p some ends items placed cause err taken grew stops =
+    finished-from {t} {u} {xs} {end} (Ok x) p some ends items placed cause err taken h grew stops =
         finished-ok x (
           xs ++ items.0,
           drains-more steps s t xs items.0 p.gave items.1,
           items.2 ∙ between-more v u.items xs items.0 end p.items p.ends,
         )
-        taken (λ none. absurd (omega (arith, some, ap length none))) (λ _. grew)
-    finished-from {t} {u} {xs} (Err e) p some ends items placed cause err taken grew stops =
+        taken (λ none. absurd (omega (arith, some, ap length none))) (λ _. (h, grew))
+    finished-from {t} {u} {xs} (Err e) p some ends items placed cause err taken h grew stops =
+        let long = ap (λ z. length z.items) err ∙ stops.0 in
         record {
           succeeds = λ few. ends (omega (arith, few, p.full, p.nearer));
+          succeeds_at_end = λ none. absurd (omega (arith, some, ap length none));
           items = tt;
           longer = omega (
             arith,
@@ -345,15 +347,67 @@ module _ {S T A : Type 0} {steps : S → Option T → S → Type 0} {can : S →
           );
           taken = taken;
           at_end = λ none. absurd (omega (arith, some, ap length none));
-          before_tail = λ _. record {
-            after = grew;
-            filled = ap (λ z. length z.items) err ∙ stops.0;
-            at_hint = stops.1;
-          };
+          before_tail = λ _. (h, grew, long);
           placed = (
             xs,
             ap (λ z. z.items) err ∙ p.items,
             stopped-more steps can remaining s t xs e p.gave placed,
           );
           cause = cause;
+          held_at_end = λ none. absurd (omega (arith, some, ap length none));
+          in_hand_at_end = λ none. absurd (omega (arith, some, ap length none));
+          in_hand_before_tail = λ _ none hand. omega (arith, long, stops.1 none hand);
         }
+
+plus-none : (d x : ℕ) → d + 0 + x ≡ d + x
+plus-none d x = omega arith
+
+plus-either : (b : Bool) (d : ℕ) → d + (if b then 0 else 0) ≡ d
+plus-either true d = omega arith
+plus-either false d = omega arith
+
+-- If the capacity did not change and the range, which has `k` slots, had one for each item that the
+-- iterator could yield, each item after the range moved at most once.
+pub finished-moves : {T A : Type 0} (rule : GrowthRule) (R : RattleType) (tail : List T) (k : ℕ)
+    (v w : ListView T A) (limit : Count) → IsLawful rule
+    → (tail ≡ [] → (h : ℕ) × IsWithinCount h limit × IsAfterExtend rule R v h w)
+    → (0 < length tail → (h : ℕ) × IsAfterSplice rule R k (length tail) v h w limit)
+    → length v.items ≤ length w.items → length w.items ≤ w.capacity → w.capacity ≡ v.capacity
+    → IsFinite limit → size limit ≤ k
+    → w.cost ≡ add_moves (length w.items - length v.items
+    + (if eqb (length w.items - length v.items) k then 0 else length tail)) v.cost
+finished-moves rule R [] k v w limit law at_end before_tail longer room same finite few =
+    let grew = at_end refl in let after = grew.2 in
+    let d = length w.items - length v.items in let c = after.reserved in
+    let low = grown-le rule R law v.capacity (length v.items + grew.0) c after.reserves in
+    let high = pushes-costs rule R law c (length w.items) w.capacity v.cost after.capacity in
+    let kept : c ≡ v.capacity = omega (arith, low, high.never_less.0, same) in
+    after.cost
+    ∙ (ap (add_moves d)
+    (paid-none rule R c (length w.items) (cost_after_resize v c) (omega (arith, room, same, kept))
+    ∙ cost_after_resize-same v c kept)
+    ∙ ap (λ m. add_moves m v.cost) (sym (plus-either (eqb d k) d)))
+finished-moves rule R (x ∷ xs) k v w limit law at_end before_tail longer room same finite few =
+    let t = length (x ∷ xs) in
+    let grew = before_tail (omega arith) in let h = grew.0 in let after = grew.1 in
+    let d = length w.items - length v.items in let c = after.reserved in
+    let n = length v.items in
+    let low = grown-le rule R law v.capacity (n + (k + h)) c after.reserves in
+    let high = grown-le rule R law c (length w.items) w.capacity after.capacity in
+    let kept : c ≡ v.capacity = omega (arith, low, high, same) in
+    let none : h ≡ 0 = elim after.within [
+      | inl zero ↦ zero
+      | inr within ↦ omega (arith, within finite, few)
+    ] in
+    let unhinted : eqb h 0 ≡ true = grind (arith, nat_tests) in
+    let exact : eqb (length w.items) (n + k + h) ≡ eqb d k =
+    eqb-plus (length w.items) (n + k + h) n d k (omega (arith, longer)) (omega (arith, none)) in
+    after.cost
+    ∙ ((λ i. add_moves (d + (if unhinted i then 0 else t) + (if exact i then 0 else t))
+    (cost_after_growth (n + k + h) c w.capacity (cost_after_growth (n + k) v.capacity c v.cost)))
+    ∙ (ap (λ m. add_moves m (cost_after_growth (n + k + h) c w.capacity
+    (cost_after_growth (n + k) v.capacity c v.cost)))
+    (plus-none d (if eqb d k then 0 else t))
+    ∙ ap (add_moves (d + (if eqb d k then 0 else t)))
+    (growth-same (n + k + h) c w.capacity _ (omega (arith, kept, same))
+    ∙ growth-same (n + k) v.capacity c v.cost kept)))

@@ -1,15 +1,15 @@
 -- These lemmas prove that calls satisfy `PreservesList` and `OverflowsIff`. These definitions say
 -- what a call preserves of a list, and when it returns the error `CapacityOverflow`.
-use Rattle.std.proofs.Common.{◌≡◌, ℕ, ◌+◌, Err, List, None, Ok, Option, Result, Some, ap, arith, length, sym, ◌∙◌}
+use Rattle.std.proofs.Common.{◌≡◌, ℕ, ◌+◌, ◌*◌, ◌≤◌, ◌⊎◌, Err, List, None, Ok, Option, Result, Some, ap, arith, inr, length, sym, ◌∙◌}
 use Rattle.std.specs.Align.{type_align}
 use Rattle.std.specs.Mem.{type_size}
 use Rattle.std.specs.Borrow.{RattleType}
-use Rattle.std.specs.Prelude.{◌↔◌, IfErr, IsErrOf}
+use Rattle.std.specs.Prelude.{◌↔◌, IfErr, IsErrOf, OnOk}
 use Rattle.thin_block.specs.declared.errors.ThinVecError.{ThinVecError}
 use Rattle.thin_block.specs.declared.errors.ThinVecError.TheVariants.{CapacityOverflow, OutOfMemory}
 use Rattle.thin_block.specs.Capacity.{Fits}
 use Rattle.thin_block.specs.Cost.{Cost}
-use Rattle.thin_block.specs.Growth.{GrowthRule, exact_capacity}
+use Rattle.thin_block.specs.Growth.{GrowsValidly, GrowthRule, exact_capacity}
 use Rattle.thin_block.specs.declared.block.Block.{Block}
 use Rattle.thin_block.proofs.CapacityLemmas.{ruled-same}
 use Rattle.thin_block.proofs.ResultLemmas.{err-same, none-some, ok-err}
@@ -54,6 +54,13 @@ tells-then named n (Err cause) is memory = record {
     λ none. absurd (none-some none is),
   );
 }
+
+-- By the law of growth rules, a growth at least doubles the capacity.
+pub doubles-grown : {X : Type 0} {T A : Type 0} (r : Result X ThinVecError) (R : RattleType)
+    (v : ListView T A) (k want c : ℕ) → OnOk r (GrowsValidly R v.capacity want c)
+    → OnOk r (HasRoomFor v k ⊎ (2 * v.capacity ≤ c))
+doubles-grown (Ok x) R v k want c grown = inr grown.doubled
+doubles-grown (Err e) R v k want c _ = tt
 
 -- `PreservesList` is transitive.
 pub keeps-join : {T A : Type 0} {R : RattleType} {u v w : ListView T A} → PreservesList R u v

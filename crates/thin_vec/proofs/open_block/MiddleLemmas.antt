@@ -56,6 +56,7 @@ module _ {T A : Type 0} where
       pub post : List T
       pub place : length pre ≡ k
       pub was : v.middle ≡ pre ++ x ∷ post
+      pub count : length (pre ++ y ∷ post) ≡ length v.middle
       pub shown : Found written (written-view (pre ++ y ∷ post))
 
     pub write-step : (x y : T) → slot h.block.slots (h.middle_start + k) ≡ Some x
@@ -103,6 +104,7 @@ module _ {T A : Type 0} where
           post = post;
           place = p.3;
           was = p.4 ∙ ap (λ (z : T). pre ++ z ∷ post) same;
+          count = count;
           shown = found written w (record {
             row = after;
             front = o.front;

@@ -1,12 +1,14 @@
 -- These lemmas state which items of a list are kept when a closure compares each item with the last
 -- item kept before it. `R` describes the calls to the closure.
-use Rattle.std.proofs.Common.{◌≡◌, ℕ, zero, suc, ◌+◌, ◌<◌, ◌≤◌, Bool, true, false, List, [], ◌∷◌, ◌++◌, length, take, drop, refl, sym, ap, subst, ◌∙◌, arith, inl, inr, length-append, append_assoc}
-use Rattle.std.proofs.lemmas.List.{drop_at, length_push, nil_from_length, replicate-append-replicate, same_from_push, take_at}
+use Rattle.std.proofs.Common.{◌≡◌, ℕ, zero, suc, ◌+◌, ◌<◌, ◌≤◌, Bool, true, false, List, [], ◌∷◌, ◌++◌, length, take, drop, refl, sym, ap, subst, ◌∙◌, arith, append_assoc}
+use Rattle.std.proofs.lemmas.Bool.{false≢true}
+use Rattle.std.proofs.lemmas.List.{drop_at, length_push, replicate-append-replicate, same_from_push, take_at}
 use Rattle.std.specs.Prelude.{MatchBool, map, not, replicate}
 use Rattle.thin_vec.specs.Edits.Retain.{moves_of_retain, count_true}
 use Rattle.thin_vec.specs.Edits.Dedup.{TestsEachAgainstLast}
-use Rattle.thin_vec.specs.OpenBlock.Dedup.{TestsPairAt, TestsPairsUpTo}
-use Rattle.thin_vec.proofs.RetainLemmas.{cons-head, cons-not-nil, cons-tail, same-parts, single}
+use Rattle.thin_vec.specs.OpenBlock.Dedup.{TestsNext, TestsPairAt, TestsPairsUpTo, found}
+use Rattle.thin_vec.proofs.OpenBlockLemmas.{last-of}
+use Rattle.thin_vec.proofs.RetainLemmas.{cons-head, cons-tail, same-parts}
 
 -- `OnPairs S T` is the type of the relations that describe a test of two items of type `T` by a
 -- closure with states of type `S`.
@@ -28,9 +30,13 @@ count_kept-join [] b = omega arith
 count_kept-join (true ∷ a) b = count_kept-join a b
 count_kept-join (false ∷ a) b = let e = count_kept-join a b in omega arith
 
-count_kept-all : (n : ℕ) → count_kept (all-stay n) ≡ n
+pub count_kept-all : (n : ℕ) → count_kept (all-stay n) ≡ n
 count_kept-all zero = refl
 count_kept-all (suc n) = ap suc (count_kept-all n)
+
+pub count_kept-found : {T : Type 0} (xs : List T) → count_kept (found xs) ≡ 0
+count_kept-found [] = refl
+count_kept-found (x ∷ xs) = refl
 
 pub moved-all : (n : ℕ) (b : List Bool)
     → moves_of_retain (map not (all-stay n ++ b)) ≡ moves_of_retain (map not b)
@@ -127,157 +133,94 @@ module _ {S T : Type 0} (R : OnPairs S T) where
         now = refl;
       }
 
-  module _ (m : ℕ) (s : S) (xs : List T) (t : S) (ys : List T) (h : PairStays m s xs t ys) where
-    -- `NextPair b u zs a` holds if the next test, `a`, compared the first untested item with the
-    -- last kept item. It returned `b`, and left the state `u` and the list `zs`.
-    pub record NextPair (b : Bool) (u : S) (zs : List T)
-        (a : TestsPairAt R m t ys b u zs) : Type 0 where
-      pub front : a.before ≡ h.pre
-      pub last : a.kept ≡ h.last
-      pub after : h.after ≡ a.later ∷ a.after
+  -- No item is left to be tested.
+  pub pair-none : {k : ℕ} (s : S) (xs : List T) → 0 < k → length xs ≡ k
+      → TestsPairAt R k s xs true s xs
+  pair-none s xs some e =
+      let p = last-of xs (omega arith) in
+      record {
+        before = p.0;
+        kept = p.1;
+        left = p.1;
+        after = [];
+        end = [];
+        place = omega (arith, ap length p.2, length_push p.0 p.1);
+        was = p.2;
+        asked = (refl, refl, refl, refl);
+        now = p.2;
+      }
 
-    next-pair : (b : Bool) (u : S) (zs : List T) (a : TestsPairAt R m t ys b u zs)
-        → NextPair b u zs a
-    next-pair b u zs a =
-        let p = same-parts h.pre (h.last ∷ h.after) a.before (a.kept ∷ a.later ∷ a.after)
-        (omega (arith, a.place, h.kept)) (sym h.now ∙ a.was) in
-        record { front = sym p.0; last = sym (cons-head p.1); after = cons-tail p.1 }
+  pub next-ends : (s : S) (k : T) (xs : List T) (t : S) (l : T) (ys : List T)
+      → TestsNext R s k xs true t l ys
+      → (done : List T) × (xs ≡ done ++ drop 1 ys)
+      × TestsEachAgainstLast R s k done (found ys) (l ∷ []) t
+  next-ends s k [] t l ys h = rw h.3 ([], refl, (refl, ap (λ (x : T). x ∷ []) h.2, h.1))
+  next-ends s k (x ∷ xs) t l ys h = rw h.2 (x ∷ [], refl, last-goes s t k x h.0 l h.1)
 
-    next-asked : (b : Bool) (u : S) (zs : List T) (a : TestsPairAt R m t ys b u zs)
-        → R t a.later h.last b u a.later_left a.kept_left
-    next-asked b u zs a = subst (λ (k : T). R t a.later k b u a.later_left a.kept_left)
-        (next-pair b u zs a).last a.asked
+  pub next-kept : (s : S) (k : T) (xs : List T) (t : S) (l : T) (ys : List T)
+      → TestsNext R s k xs false t l ys
+      → (x : T) × (y : T) × (later : List T) × R s x k false t y l × (xs ≡ x ∷ later) × (ys ≡ y ∷ later)
+  next-kept s k [] t l ys h = absurd (false≢true h.0)
+  next-kept s k (x ∷ xs) t l ys h = (x, h.0, xs, h.1, refl, h.2)
 
-    next-was : (b : Bool) (u : S) (zs : List T) (a : TestsPairAt R m t ys b u zs)
-        → xs ≡ h.first ∷ ((h.done ++ a.later ∷ []) ++ a.after)
-    next-was b u zs a = h.was ∙ ap (λ (l : List T). h.first ∷ l)
-        (ap (λ (l : List T). h.done ++ l) (next-pair b u zs a).after
-        ∙ sym (append_assoc h.done (a.later ∷ []) a.after))
+  module _ {m : ℕ} {s t u : S} {xs ys zs : List T} (h : PairStays m s xs t ys) where
+    -- The next test compares the first untested item with the last kept item.
+    next-pair : {b : Bool} (a : TestsPairAt R m t ys b u zs)
+        → TestsNext R t h.last h.after b u a.left a.end × (zs ≡ h.pre ++ a.left ∷ a.end)
+    next-pair {b} a =
+        let p = same-parts h.pre (h.last ∷ h.after) a.before (a.kept ∷ a.after)
+        (omega (arith, a.place, h.kept)) (sym h.now ∙ a.was) in (
+          rw (cons-head p.1, cons-tail p.1) a.asked,
+          a.now ∙ ap (λ (l : List T). l ++ a.left ∷ a.end) (sym p.0),
+        )
 
-    next-now : (b : Bool) (u : S) (zs : List T) (a : TestsPairAt R m t ys b u zs)
-        → zs ≡ (h.pre ++ a.kept_left ∷ []) ++ a.later_left ∷ a.after
-    next-now b u zs a =
-        a.now ∙ (ap (λ (l : List T). l ++ a.kept_left ∷ a.later_left ∷ a.after)
-        (next-pair b u zs a).front
-        ∙ sym (append_assoc h.pre (a.kept_left ∷ []) (a.later_left ∷ a.after)))
-
-    pub pair-more : (u : S) (zs : List T) → TestsPairAt R m t ys false u zs
-        → PairStays (m + 1) s xs u zs
-    pair-more u zs a =
-        let pre : List T = h.pre ++ a.kept_left ∷ [] in
-        let longer : length h.pre + 1 ≡ length pre = sym (length_push h.pre a.kept_left) in
+    pub pair-more : TestsPairAt R m t ys false u zs → PairStays (m + 1) s xs u zs
+    pair-more a =
+        let p = next-pair a in
+        let n = next-kept t h.last h.after u a.left a.end p.0 in
+        let pre : List T = h.pre ++ a.left ∷ [] in
+        let longer : length h.pre + 1 ≡ length pre = sym (length_push h.pre a.left) in
         let flags : all-stay (length h.pre) ++ false ∷ [] ≡ all-stay (length pre) =
         replicate-append-replicate (length h.pre) 1 false ∙ ap (λ (n : ℕ). all-stay n) longer in
-        let asked = last-append t u h.last (false ∷ []) (a.kept_left ∷ a.later_left ∷ [])
-        (a.later ∷ [])
-        (last-stays t u h.last a.later a.later_left a.kept_left (next-asked false u zs a))
+        let asked = last-append t u h.last (false ∷ []) (a.left ∷ n.1 ∷ []) (n.0 ∷ [])
+        (last-stays t u h.last n.0 n.1 a.left n.3)
         h.done s h.first (all-stay (length h.pre)) h.pre h.asked in
         record {
           first = h.first;
-          done = h.done ++ a.later ∷ [];
-          after = a.after;
+          done = h.done ++ n.0 ∷ [];
+          after = n.2;
           pre = pre;
-          last = a.later_left;
-          was = next-was false u zs a;
-          asked = rw (← flags, append_assoc h.pre (a.kept_left ∷ []) (a.later_left ∷ [])) asked;
+          last = n.1;
+          was = h.was ∙ ap (λ (l : List T). h.first ∷ l)
+              (ap (λ (l : List T). h.done ++ l) n.4 ∙ sym (append_assoc h.done (n.0 ∷ []) n.2));
+          asked = rw (← flags, append_assoc h.pre (a.left ∷ []) (n.1 ∷ [])) asked;
           kept = omega (arith, longer, h.kept);
-          now = next-now false u zs a;
+          now = p.1 ∙ (ap (λ (l : List T). h.pre ++ a.left ∷ l) n.5
+              ∙ sym (append_assoc h.pre (a.left ∷ []) (n.1 ∷ n.2)));
         }
 
-    pub pair-goes : (u : S) (zs : List T) → TestsPairAt R m t ys true u zs
-        → TestsPairsUpTo R m s xs u zs
-    pair-goes u zs a =
+    pub pair-stops : TestsPairAt R m t ys true u zs → TestsPairsUpTo R m s xs u zs
+    pair-stops a =
+        let p = next-pair a in
+        let e = next-ends t h.last h.after u a.left a.end p.0 in
         record {
           first = h.first;
-          done = h.done ++ a.later ∷ [];
-          after = a.after;
+          done = h.done ++ e.0;
+          kept = h.pre ++ a.left ∷ [];
+          end = a.end;
           more = length h.pre;
-          removed = all-stay (length h.pre) ++ true ∷ [];
-          left = h.pre ++ a.kept_left ∷ [];
-          over = a.later_left ∷ [];
-          was = next-was true u zs a;
-          asked = last-append t u h.last (true ∷ []) (a.kept_left ∷ []) (a.later ∷ [])
-              (last-goes t u h.last a.later a.later_left a.kept_left (next-asked true u zs a))
-              h.done s h.first (all-stay (length h.pre)) h.pre h.asked;
-          kept = h.kept;
-          long = omega (arith, length_push h.pre a.kept_left, h.kept);
-          now = next-now true u zs a;
-          stops = inl (refl, refl);
+          was = h.was ∙ ap (λ (l : List T). h.first ∷ l)
+              (ap (λ (l : List T). h.done ++ l) e.1 ∙ sym (append_assoc h.done e.0 (drop 1 a.end)));
+          asked = last-append t u h.last (found a.end) (a.left ∷ []) e.0 e.2 h.done s h.first
+              (all-stay (length h.pre)) h.pre h.asked;
+          count = h.kept;
+          reached = omega (arith, length_push h.pre a.left, h.kept);
+          now = p.1 ∙ sym (append_assoc h.pre (a.left ∷ []) a.end);
         }
 
-    -- No item is left to be tested.
-    pub pair-ends : length ys ≤ m → TestsPairsUpTo R m s xs t ys
-    pair-ends few =
-        let none : h.after ≡ [] = nil_from_length h.after (omega (
-          arith,
-          few,
-          ap length h.now,
-          length-append h.pre (h.last ∷ h.after),
-          h.kept,
-        )) in
-        record {
-          first = h.first;
-          done = h.done;
-          after = h.after;
-          more = length h.pre;
-          removed = all-stay (length h.pre);
-          left = h.pre ++ h.last ∷ [];
-          over = [];
-          was = h.was;
-          asked = h.asked;
-          kept = h.kept;
-          long = omega (arith, length_push h.pre h.last, h.kept);
-          now = h.now ∙ sym (append_assoc h.pre (h.last ∷ []) h.after);
-          stops = inr (refl, (none, refl));
-        }
+  module _ {m : ℕ} {s t : S} {xs ys : List T} (r : TestsPairsUpTo R m s xs t ys) where
+    pub run-left : take m ys ≡ r.kept
+    run-left = ap (take m) r.now ∙ take_at r.kept r.end m r.reached
 
-  pub pair-place : {k m : ℕ} {b c : Bool} {s t : S} {xs ys : List T} → k ≡ m → b ≡ c
-      → TestsPairAt R k s xs b t ys → TestsPairAt R m s xs c t ys
-  pair-place {s = s} {t} e f a =
-      record {
-        before = a.before;
-        kept = a.kept;
-        later = a.later;
-        kept_left = a.kept_left;
-        later_left = a.later_left;
-        after = a.after;
-        place = a.place ∙ e;
-        was = a.was;
-        asked = subst (λ (q : Bool). R s a.later a.kept q t a.later_left a.kept_left) f a.asked;
-        now = a.now;
-      }
-
-  -- The following lemmas are about tests that stop at the first item to be removed.
-
-  module _ (m : ℕ) (s : S) (xs : List T) (t : S) (ys : List T)
-      (r : TestsPairsUpTo R m s xs t ys) where
-    pub run-left : take m ys ≡ r.left
-    run-left = ap (take m) r.now ∙ take_at r.left (r.over ++ r.after) m r.long
-
-    pub run-over : drop m ys ≡ r.over ++ r.after
-    run-over = ap (drop m) r.now ∙ drop_at r.left (r.over ++ r.after) m r.long
-
-    pub run-goes : (value : T) (untested : List T) → drop m ys ≡ value ∷ untested
-        → (r.after ≡ untested)
-        × (r.removed ≡ all-stay r.more ++ true ∷ [])
-    run-goes value untested k =
-        elim r.stops [
-          | inl p ↦ let v = single r.over p.0 in
-              (cons-tail (ap (λ (l : List T). l ++ r.after) (sym v.1) ∙ (sym run-over ∙ k)), p.1)
-          | inr q ↦ absurd (cons-not-nil (sym k ∙ (run-over ∙ (λ i. q.0 i ++ q.1.0 i))))
-        ]
-
-    pub run-ends : drop m ys ≡ [] → (r.after ≡ []) × (r.removed ≡ all-stay r.more)
-    run-ends k =
-        elim r.stops [
-          | inl p ↦ let v = single r.over p.0 in
-              absurd (cons-not-nil
-              (ap (λ (l : List T). l ++ r.after) (sym v.1) ∙ (sym run-over ∙ k)))
-          | inr q ↦ (q.1.0, q.1.1)
-        ]
-
-    -- The first item is kept without a test, so `r.removed` has no flag for it.
-    pub run-count : (f : List Bool) → count_kept f ≡ 0 → r.removed ≡ all-stay r.more ++ f
-        → suc (count_kept r.removed) ≡ m
-    run-count f none e =
-        omega (arith, ap count_kept e, count_kept-join (all-stay r.more) f, count_kept-all r.more)
+    pub run-end : drop m ys ≡ r.end
+    run-end = ap (drop m) r.now ∙ drop_at r.kept r.end m r.reached

@@ -1,404 +1,198 @@
 -- These lemmas state what an open block contains after a closure has tested some of its middle
 -- items, and each tested item has been kept or removed.
-use Rattle.std.proofs.Common.{◌≡◌, ℕ, ◌+◌, ◌<◌, ◌≤◌, Bool, true, false, List, [], ◌∷◌, ◌++◌, length, take, drop, refl, sym, ap, subst, ◌∙◌, arith, length-append, append_assoc}
+use Rattle.std.proofs.Common.{◌≡◌, ℕ, ◌+◌, ◌<◌, ◌≤◌, Bool, true, false, List, [], ◌∷◌, ◌++◌, length, take, drop, refl, sym, ap, ◌∙◌, arith, length-append, append_assoc}
 use Rattle.std.proofs.lemmas.Bool.{false≢true}
-use Rattle.std.proofs.lemmas.List.{append-nil, drop_at, length-drop}
-use Rattle.std.specs.Prelude.{MatchBool, if◌then◌else◌}
+use Rattle.std.proofs.lemmas.List.{append-nil, drop_all, length-drop, length-take-le, take_all}
+use Rattle.std.specs.Prelude.{◌==◌, if◌then◌else◌}
 use Rattle.thin_block.specs.Cost.{add_moves}
 use Rattle.thin_vec.specs.Edits.Retain.{TestResults, flags_of, items_where, moves_of_retain, all_kept, count_true}
 use Rattle.thin_vec.specs.OpenView.{OpenView}
-use Rattle.thin_vec.specs.OpenBlock.Retain.{IsRemovedFirst, SeeksRemoved, TestsAt, TestsFrom, RetainsMiddle, TestsUpTo, RetainsSome, TestsInTurn}
-use Rattle.thin_vec.proofs.RetainLemmas.{items_where-append, moves_of_retain-stay, moving-after, moving-before, moving-more, moving-none, moving-zero, count_true-append}
-use Rattle.thin_vec.proofs.OpenBlockLemmas.{first-of}
-use Rattle.thin_vec.proofs.open_block.TestLemmas.{Part, asked-append, first-goes, first-stays, part-ends, part-goes, stays-ends, stays-start, stays-then, tests-all}
+use Rattle.thin_vec.specs.OpenBlock.Retain.{Retains, SeeksRemoved, TestsFirst, TestsInTurn, TestsUntil}
+use Rattle.thin_vec.proofs.RetainLemmas.{count_true-append, count_true-stay, gone-append, gone-stay, items_where-append, items_where-stay, moves_of_retain-stay, moving-none, paid-more}
+use Rattle.thin_vec.proofs.open_block.TestLemmas.{asked-append}
 
 module _ {S T : Type 0} (R : S → T → Bool → S → T → Type 0) where
-  module _ {A : Type 0} (v w : OpenView T A) where
-    retains-of : (m : ℕ) (s t : S) (kept : List T) → Part R m s v.middle t kept w.middle
-        → 0 < w.gap_before → w ≡ record v {
-          front = v.front ++ kept;
-          gap_before = w.gap_before;
-          middle = w.middle;
-          cost = add_moves m v.cost;
-        } → RetainsSome R s v t w
-    retains-of m s t kept p gap_before now =
-        record {
-          done = p.done;
-          results = p.results;
-          middle = p.was;
-          asked = p.asked;
-          gap_before = gap_before;
-          now = cc;
-        }
-
-  -- In this module, the open block `v` has a gap of empty slots before its middle items. These
-  -- items were tested in order until a test found an item to be removed, or no item remained. The
-  -- tests turned `v` into the open block `w`, and changed the state of the closure from `s` to `t`.
-  module _ {A : Type 0} (s t : S) (v w : OpenView T A) (gap_before : 0 < v.gap_before)
-      (h : SeeksRemoved R s v t w) where
-    -- `kept` is the list of the tested items that are kept, as the closure left them.
-    abbrev kept : List T
-    kept = take h.count h.left
-
-    moved : w.cost ≡ add_moves h.count v.cost
-    moved = ap (λ u. u.cost) h.now ∙ moving-after v.gap_before h.count v.cost gap_before
-
-    -- The lemmas `advanced-..` are for the cases of the loop of `retain_middle`.
-    advanced-goes : (value : T) (z : OpenView T A) → w.middle ≡ value ∷ z.middle
-        → z ≡ record w { middle = z.middle; gap_before = w.gap_before + 1 } → RetainsSome R s v t z
-    advanced-goes value z middle same =
-        retains-of v z h.count s t kept
-        (part-goes R h.count s v.middle t h.left h.run value z.middle
-        (sym (ap (λ u. u.middle) h.now) ∙ middle))
-        (omega (arith, ap (λ u. u.gap_before) same))
-        (same ∙ (λ i. record (h.now i)
-        { gap_before = sym (ap (λ u. u.gap_before) same) i; middle = z.middle; cost = moved i }))
-
-    advanced-ends : w.middle ≡ [] → RetainsSome R s v t w
-    advanced-ends none =
-        retains-of v w h.count s t kept
-        (subst (λ (l : List T). Part R h.count s v.middle t kept l) (sym none)
-        (part-ends R h.count s v.middle t h.left h.run (sym (ap (λ u. u.middle) h.now) ∙ none)))
-        (omega (arith, ap (λ u. u.gap_before) h.now, gap_before))
-        (λ i. record (h.now i) { gap_before = w.gap_before; middle = w.middle; cost = moved i })
-
-  -- A search only moves items from the middle to the front.
-  length-stops : (s : S) (xs : List T) (t : S) (ys : List T) → IsRemovedFirst R s xs t ys
-      → length ys ≡ length xs
-  length-stops s [] t ys h = ap length h.0
-  length-stops s (x ∷ xs) t ys h = ap length h.2
-
-  length-sought : {A : Type 0} {s t : S} {v w : OpenView T A} → SeeksRemoved R s v t w
-      → length w.middle ≤ length v.middle
-  length-sought {t = t} h =
-      let r = h.run in
-      omega (
-        arith,
-        ap (λ u. length u.middle) h.now,
-        ap (λ (l : List T). length (drop h.count l)) r.now,
-        ap length (drop_at r.left r.end h.count r.reached),
-        length-stops r.between r.after t r.end r.stops,
-        ap length r.was,
-        length-append r.run r.after,
-      )
-
-  -- The following lemmas are the cases of `seek_removed` and of the loop of `retain_middle`: there
-  -- is no item, or the first item is to be removed, or it is kept with the items after it, up to
-  -- the next one that is to be removed.
-  pub sought-none : {A : Type 0} (s : S) (v : OpenView T A) → v.middle ≡ []
-      → SeeksRemoved R s v s v
-  sought-none s v none =
-      record {
-        count = 0;
-        left = v.middle;
-        run = tests-all R 0 s v.middle s v.middle
-            (stays-ends R 0 0 s v.middle s v.middle (stays-start R 0 s v.middle (omega arith))
-            (omega (arith, ap length none)));
-        now = λ i. record v {
-          front = sym (append-nil v.front) i;
-          cost = sym (moving-zero v.gap_before v.cost) i;
-        };
-      }
-
-  pub sought-goes : {A : Type 0} {s t : S} {v w : OpenView T A}
-      → TestsAt R 0 s v.middle false t w.middle → w ≡ record v { middle = w.middle }
-      → SeeksRemoved R s v t w
-  sought-goes {s = s} {t} {v} {w} a now =
-      record {
-        count = 0;
-        left = w.middle;
-        run = first-goes R s v.middle t w.middle a;
-        now = now ∙ (λ i. record v {
-          front = sym (append-nil v.front) i;
-          middle = w.middle;
-          cost = sym (moving-zero v.gap_before v.cost) i;
-        });
-      }
-
-  -- In this module, the first item was tested, which turned the block `v` into `w`. Then the items
-  -- after it were tested, which turned `w` into `x`.
-  module _ {A : Type 0} {s t u : S} {v w x : OpenView T A}
-      (a : TestsAt R 0 s v.middle true t w.middle) (tested : w ≡ record v { middle = w.middle })
-      (count : ℕ) (f : TestsFrom R 1 count t w.middle u x.middle)
-      (others : x ≡ record w { middle = x.middle }) (z : OpenView T A) where
-    run-all : TestsUpTo R count s v.middle u x.middle
-    run-all = tests-all R count s v.middle u x.middle
-        (stays-then R 0 1 s v.middle t w.middle (first-stays R s v.middle t w.middle a) count u
-        x.middle f)
-
-    pub sought-moved : 0 < v.gap_before → z ≡ record x {
-      front = x.front ++ take count x.middle;
-      middle = drop count x.middle;
-      cost = add_moves count x.cost;
-    } → SeeksRemoved R s v u z
-    sought-moved some moved =
-        record {
-          count = count;
-          left = x.middle;
-          run = run-all;
-          now = cc (moved, others, tested, moving-after v.gap_before count v.cost some);
-        }
-
-    pub sought-kept : (0 < v.gap_before → ⊥) → z ≡ record x {
-      front = x.front ++ take count x.middle;
-      middle = drop count x.middle;
-    } → SeeksRemoved R s v u z
-    sought-kept none kept =
-        record {
-          count = count;
-          left = x.middle;
-          run = run-all;
-          now = cc (kept, others, tested, moving-before v.gap_before count v.cost none);
-        }
-
-  retains-start : {A : Type 0} (s : S) (v : OpenView T A) → 0 < v.gap_before
-      → RetainsSome R s v s v
-  retains-start s v gap_before =
+  pub retains-start : {A : Type 0} (s : S) (v : OpenView T A) → v.gap_before ≡ 0
+      → Retains R s v s v
+  retains-start s v none =
       record {
         done = [];
         results = [];
         middle = refl;
         asked = (refl, refl);
-        gap_before = gap_before;
-        now = λ i. record v
-            { front = sym (append-nil v.front) i; cost = sym (moving-none v.cost) i };
+        now = λ i. record v {
+          front = sym (append-nil v.front) i;
+          gap_before = none i;
+          cost = sym (moving-none v.cost) i;
+        };
       }
 
-  retains-then : {A : Type 0} {s t u : S} {v w z : OpenView T A} → RetainsSome R s v t w
-      → RetainsSome R t w u z → RetainsSome R s v u z
-  retains-then {s = s} {t} {u} {v} {w} {z} h k =
-      record {
-        done = h.done ++ k.done;
-        results = h.results ++ k.results;
-        middle = h.middle ∙ (ap (λ (l : List T). h.done ++ l) k.middle
-            ∙ sym (append_assoc h.done k.done z.middle));
-        asked = asked-append R t u k.done k.results k.asked h.done s h.results h.asked;
-        gap_before = k.gap_before;
-        now = cc (
-          k.now,
-          h.now,
-          append_assoc v.front (items_where true h.results) (items_where true k.results),
-          items_where-append h.results k.results,
-          moving-more (count_true (flags_of k.results)) (count_true (flags_of h.results)) v.cost,
-          count_true-append h.results k.results,
-        );
-      }
+  -- A search ends with a test that fails, whose result is the only one in the list here, or with no
+  -- test.
+  last : (s : S) (xs : List T) (t : S) (ys : List T) → TestsFirst R s xs false t ys
+      → (done : List T) × (results : TestResults T) × (xs ≡ done ++ drop 1 ys)
+      × TestsInTurn R s done results t × (items_where true results ≡ [])
+      × (items_where false results ≡ take 1 ys) × (count_true (flags_of results) ≡ 0)
+      × (moves_of_retain (flags_of results) ≡ 0)
+  last s [] t ys h = rw h.2 ([], [], refl, (refl, h.1), refl, refl, refl, refl)
+  last s (x ∷ xs) t ys h = rw h.2 (
+    x ∷ [],
+    (false, h.0) ∷ [],
+    refl,
+    (false, h.0, t, [], h.1, (refl, refl), refl),
+    refl,
+    refl,
+    refl,
+    refl,
+  )
 
-  module _ {A : Type 0} (v w : OpenView T A) (m : ℕ) (s t : S) (ys : List T)
-      (run : TestsUpTo R m s v.middle t ys) where
-    -- `Passed` states that the open block `w` is `v` after the first `m` tested items were kept
-    -- without being moved. These items are added to the front items. Apart from this, `w` may
-    -- differ from `v` only in its gap and its middle items.
-    abbrev Passed : Type 0
-    Passed = w ≡ record v
-        { front = v.front ++ take m ys; gap_before = w.gap_before; middle = w.middle }
+  -- A search turned the block `w` into `x`. Then the item that it found, if any, was removed.
+  pub retains-more : {A : Type 0} {s t u : S} {v w x : OpenView T A} → Retains R s v t w
+      → SeeksRemoved R t w u x → (y : OpenView T A) → y ≡ record x {
+        gap_before = x.gap_before + length (take 1 x.middle);
+        middle = drop 1 x.middle;
+      } → Retains R s v u y
+  retains-more {s = s} {t} {u} {v} {w} {x} h k y now =
+      let r = k.run in
+      let l = last r.between r.after u x.middle r.stops in
+      let run = all_kept k.kept in
+      let new : TestResults T = run ++ l.1 in
+      let kept : items_where true new ≡ k.kept =
+      items_where-append run l.1
+      ∙ ((λ i. items_where-stay k.kept i ++ l.4 i) ∙ append-nil k.kept) in
+      let gone : items_where false new ≡ take 1 x.middle =
+      gone-append run l.1 ∙ (λ i. gone-stay k.kept i ++ l.5 i) in
+      let still : moves_of_retain (flags_of new) ≡ 0 = moves_of_retain-stay k.kept l.1
+      ∙ l.7 in
+      let count : count_true (flags_of new) ≡ length k.kept = omega (
+        arith,
+        count_true-append run l.1,
+        count_true-stay k.kept,
+        l.6,
+      ) in
+      let gap : x.gap_before + length (take 1 x.middle)
+      ≡ length (items_where false (h.results ++ new)) =
+      omega (
+        arith,
+        ap (λ o. o.gap_before) k.now,
+        ap (λ o. o.gap_before) h.now,
+        ap length (gone-append h.results new),
+        length-append (items_where false h.results) (items_where false new),
+        ap length gone,
+      ) in
+      let front : w.front ++ k.kept ≡ v.front ++ items_where true (h.results ++ new) =
+      ap (λ o. o.front ++ k.kept) h.now
+      ∙ (append_assoc v.front (items_where true h.results) k.kept
+      ∙ ap (λ (o : List T). v.front ++ o)
+      (ap (λ (o : List T). items_where true h.results ++ o) (sym kept)
+      ∙ sym (items_where-append h.results new))) in
+      let cost : (if w.gap_before == 0 then w.cost else add_moves (length k.kept) w.cost)
+      ≡ add_moves (moves_of_retain (flags_of (h.results ++ new))) v.cost =
+      ap (λ o. if o.gap_before == 0 then o.cost else add_moves (length k.kept) o.cost) h.now
+      ∙ paid-more h.results new (length k.kept) v.cost still count in
+      rw now (record {
+        done = h.done ++ (r.run ++ l.0);
+        results = h.results ++ new;
+        middle = h.middle ∙ (ap (λ (o : List T). h.done ++ o)
+            (r.was ∙ (ap (λ (o : List T). r.run ++ o) l.2
+            ∙ sym (append_assoc r.run l.0 (drop 1 x.middle))))
+            ∙ sym (append_assoc h.done (r.run ++ l.0) (drop 1 x.middle)));
+        asked = asked-append R t u (r.run ++ l.0) new
+            (asked-append R r.between u l.0 l.1 l.3 r.run t run r.asked)
+            h.done s h.results h.asked;
+        now = (λ i. record (k.now i) {
+          gap_before = x.gap_before + length (take 1 x.middle);
+          middle = drop 1 x.middle;
+        }) ∙ (λ i. record (h.now i) {
+          front = front i;
+          gap_before = gap i;
+          middle = drop 1 x.middle;
+          cost = cost i;
+        });
+      })
 
-    -- The lemmas `retained-goes` and `retained-ends` are the cases of `retain_middle`.
-    retained-goes : (value : T) (u : S) (z : OpenView T A) → Passed → drop m ys
-        ≡ value ∷ w.middle
-        → RetainsSome R t w u z → z.middle ≡ [] → RetainsMiddle R s v u z
-    unfolding part-goes
-    retained-goes value u z p k h none =
-        let part = part-goes R m s v.middle t ys run value w.middle k in
-        let stays : List T = run.left in
-        let results : TestResults T = part.results ++ h.results in
-        let up : moves_of_retain (flags_of results) ≡ count_true (flags_of h.results) =
-        ap (λ (a : TestResults T). moves_of_retain (flags_of a))
-        (append_assoc (all_kept stays) ((false, value) ∷ []) h.results)
-        ∙ moves_of_retain-stay stays ((false, value) ∷ h.results) in
-        let all : h.done ≡ w.middle =
-        sym (h.middle ∙ (ap (λ (l : List T). h.done ++ l) none ∙ append-nil h.done)) in
-        record {
-          results = results;
-          asked = subst (λ (l : List T). TestsInTurn R s l results u)
-              (ap (λ (l : List T). part.done ++ l) all ∙ sym part.was)
-              (asked-append R t u h.done h.results h.asked part.done s part.results part.asked);
-          now = cc (
-            h.now,
-            part.left,
-            append_assoc v.front (items_where true part.results) (items_where true h.results),
-            items_where-append part.results h.results,
-          );
-        }
-
-    retained-ends : Passed → drop m ys ≡ [] → w.middle ≡ [] → RetainsMiddle R s v t w
-    unfolding part-ends
-    retained-ends p k none =
-        let part = part-ends R m s v.middle t ys run k in
-        let up : moves_of_retain (flags_of part.results) ≡ 0 =
-        ap (λ (a : TestResults T). moves_of_retain (flags_of a)) (sym (append-nil part.results))
-        ∙ moves_of_retain-stay run.left [] in
-        record {
-          results = part.results;
-          asked = subst (λ (l : List T). TestsInTurn R s l part.results t)
-              (sym (append-nil part.done) ∙ sym part.was) part.asked;
-          now = cc (part.left, moving-none v.cost);
-        }
-
-  -- The following definitions and lemmas are about the loop of `retain_middle`.
-
-  -- `emptied w` is the open block `w` after its middle items were dropped and its gaps joined.
-  abbrev pub emptied : {A : Type 0} → OpenView T A → OpenView T A
-  emptied w = record w {
-    gap_before = w.gap_before + length w.middle + w.gap_after;
-    middle = [];
-    gap_after = 0;
-  }
-
-  -- `Removes s v t w` holds if testing some or all middle items of the open block `v` turned `v`
-  -- into `w`, and at least one item was removed: `value` is the first such item, and `start` is the
-  -- block without it.
-  pub record Removes {A : Type 0} (s : S) (v : OpenView T A) (t : S)
+  -- `Walks s v t w` states that items of `v` were tested and kept or removed, which turned `v` into
+  -- `between`, and that then a search turned `between` into `w`.
+  pub record Walks {A : Type 0} (s : S) (v : OpenView T A) (t : S)
       (w : OpenView T A) : Type 0 where
-    pub count : ℕ
-    pub left : List T
-    pub between : S
-    pub value : T
-    pub start : OpenView T A
-    pub run : TestsUpTo R count s v.middle between left
-    pub passed : Passed v start count s between left run
-    pub first : drop count left ≡ value ∷ start.middle
-    pub some : RetainsSome R between start t w
+    pub state : S
+    pub between : OpenView T A
+    pub retains : Retains R s v state between
+    pub seeks : SeeksRemoved R state between t w
 
-  -- `Rounds s v b t w` is the invariant of the loop. If `b` is true, the loop goes on, and the
-  -- middle items of `w` have not been tested. Otherwise all items have been tested, and what is
-  -- left in the middle is to be dropped.
-  abbrev pub Rounds : {A : Type 0} → S → OpenView T A → Bool → S → OpenView T A → Type 0
-  Rounds s v b t w =
-      MatchBool b (Removes s v t w × (0 < length w.middle)) (RetainsMiddle R s v t (emptied w))
+  -- `Rounds s v b t w` is the invariant of the loop of `retain_middle`. If `b` is true, the loop
+  -- goes on, and no middle item of `w` was tested. Otherwise at most one middle item is left.
+  pub record Rounds {A : Type 0} (s : S) (v : OpenView T A) (b : Bool) (t : S)
+      (w : OpenView T A) : Type 0 where
+    pub on : b ≡ true → Retains R s v t w × (0 < w.gap_before) × (0 < length w.middle)
+    pub off : b ≡ false → Walks s v t w × (1 < length w.middle → ⊥)
 
-  removes-all : {A : Type 0} {s t : S} {v w : OpenView T A} → Removes s v t w → w.middle ≡ []
-      → RetainsMiddle R s v t w
-  removes-all {s = s} {t} {v} {w} h none =
-      retained-goes v h.start h.count s h.between h.left h.run h.value t w h.passed h.first h.some
-      none
+  -- After the search, the item that it found is dropped if another one follows.
+  pub rounds-next : {A : Type 0} {s t : S} {v w : OpenView T A} → Walks s v t w
+      → (b : Bool) (x : OpenView T A) → (b ≡ true → 1 < length w.middle)
+      → (1 < length w.middle → b ≡ true)
+      → x ≡ (if b then record w { gap_before = w.gap_before + 1; middle = drop 1 w.middle } else w)
+      → Rounds s v b t x
+  rounds-next {w = w} h b x more few now =
+      record {
+        on = λ e.
+            let dropped = rw e at now in
+            let one : length (take 1 w.middle) ≡ 1 =
+            length-take-le 1 w.middle (omega (arith, more e)) in (
+              retains-more h.retains h.seeks x (dropped ∙ (λ i. record w {
+                gap_before = w.gap_before + sym one i;
+                middle = drop 1 w.middle;
+              })),
+              omega (arith, ap (λ o. o.gap_before) dropped),
+              omega (
+                arith,
+                more e,
+                ap (λ o. length o.middle) dropped,
+                length-drop 1 w.middle,
+              ),
+            );
+        off = λ e. let same = rw e at now in
+            rw same (h, λ some. false≢true (sym e ∙ few some));
+      }
 
-  -- `x` is `w` without its first middle item.
-  abbrev Dropped : {A : Type 0} → OpenView T A → OpenView T A → Type 0
-  Dropped w x = x ≡ record w { gap_before = w.gap_before + 1; middle = drop 1 w.middle }
+  -- The last search found nothing, or the last item, which is dropped.
+  pub walks-end : {A : Type 0} {s t : S} {v w : OpenView T A} → Walks s v t w → v.gap_after ≡ 0
+      → (1 < length w.middle → ⊥) → (z : OpenView T A) → z ≡ record w {
+        gap_before = w.gap_before + length w.middle + w.gap_after;
+        middle = [];
+        gap_after = 0;
+      } → Retains R s v t z
+  walks-end {w = w} h none few z now =
+      let end : w.gap_after ≡ 0 = ap (λ o. o.gap_after) h.seeks.now
+      ∙ (ap (λ o. o.gap_after) h.retains.now ∙ none) in
+      let low : length w.middle ≤ 1 = omega (arith, few) in
+      let gap : w.gap_before + length w.middle + w.gap_after
+      ≡ w.gap_before + length (take 1 w.middle) =
+      omega (arith, end, ap length (take_all 1 w.middle low)) in
+      retains-more h.retains h.seeks z (now ∙ (λ i. record w {
+        gap_before = gap i;
+        middle = sym (drop_all 1 w.middle low) i;
+        gap_after = sym end i;
+      }))
 
-  dropped-first : {A : Type 0} (w x : OpenView T A) → 1 < length w.middle → Dropped w x
-      → (value : T) × (w.middle ≡ value ∷ x.middle) × (0 < length x.middle)
-  dropped-first w x more now =
-      let f = first-of w.middle (omega arith) in
-      let same : x.middle ≡ f.1 = ap (λ u. u.middle) now ∙ ap (drop 1) f.2 in (
-        f.0,
-        f.2 ∙ ap (λ (l : List T). f.0 ∷ l) (sym same),
-        omega (arith, more, ap length f.2, ap length same),
-      )
-
-  -- The loop begins: the first middle item of `w`, if there is one, is to be removed.
-  module _ {A : Type 0} (s t : S) (v w : OpenView T A) (m : ℕ) (ys : List T)
-      (run : TestsUpTo R m s v.middle t ys)
-      (now : w ≡ record v { front = v.front ++ take m ys; middle = drop m ys })
-      (none : v.gap_after ≡ 0) where
-    left-is : drop m ys ≡ w.middle
-    left-is = sym (ap (λ u. u.middle) now)
-
-    passed-empty : Passed v (emptied w) m s t ys run
-    passed-empty = λ i. record (now i) {
-      gap_before = (emptied w).gap_before;
-      middle = [];
-      gap_after = sym none i;
-    }
-
-    begins-ends : (xs : List T) → w.middle ≡ xs → (1 < length xs → ⊥)
-        → RetainsMiddle R s v t (emptied w)
-    begins-ends [] e few =
-        retained-ends v (emptied w) m s t ys run passed-empty (left-is ∙ e) refl
-    begins-ends (x ∷ []) e few =
-        retained-goes v (emptied w) m s t ys run x t (emptied w) passed-empty (left-is ∙ e)
-        (retains-start t (emptied w) (omega (arith, ap length e))) refl
-    begins-ends (x ∷ y ∷ xs) e few = absurd (few (omega arith))
-
-    pub rounds-begin : (b : Bool) (x : OpenView T A) → (b ≡ true → 1 < length w.middle)
-        → (1 < length w.middle → b ≡ true)
-        → x ≡ (if b then record w { gap_before = w.gap_before + 1; middle = drop 1 w.middle } else w)
-        → Rounds s v b t x
-    rounds-begin true x more few next =
-        let f = dropped-first w x (more refl) next in (
-          record {
-            count = m;
-            left = ys;
-            between = t;
-            value = f.0;
-            start = x;
-            run = run;
-            passed = next ∙ (λ i. record (now i) {
-              gap_before = sym (ap (λ o. o.gap_before) next) i;
-              middle = sym (ap (λ o. o.middle) next) i;
-            });
-            first = left-is ∙ f.1;
-            some = retains-start t x (omega (arith, ap (λ u. u.gap_before) next));
-          },
-          f.2,
-        )
-    rounds-begin false x more few next =
-        subst (λ (u : OpenView T A). RetainsMiddle R s v t (emptied u)) (sym next)
-        (begins-ends w.middle refl (λ some. false≢true (few some)))
-
-  -- The loop goes on: the tests turned the block `w` into `x`.
-  module _ {A : Type 0} (s t u : S) (v w x : OpenView T A) (h : Removes s v t w)
-      (k : SeeksRemoved R t w u x) (none : v.gap_after ≡ 0) where
-    joined : (z : OpenView T A) → RetainsSome R t w u z → Removes s v u z
-    joined z r = record {
-      count = h.count;
-      left = h.left;
-      between = h.between;
-      value = h.value;
-      start = h.start;
-      run = h.run;
-      passed = h.passed;
-      first = h.first;
-      some = retains-then h.some r;
-    }
-
-    no-gap : x.gap_after ≡ 0
-    no-gap = ap (λ o. o.gap_after) k.now ∙ (ap (λ o. o.gap_after) h.some.now
-        ∙ (ap (λ o. o.gap_after) h.passed ∙ none))
-
-    goes-ends : (xs : List T) → x.middle ≡ xs → (1 < length xs → ⊥)
-        → RetainsMiddle R s v u (emptied x)
-    goes-ends [] e few =
-        let gap : x.gap_before ≡ (emptied x).gap_before = omega (arith, no-gap, ap length e) in
-        let same : x ≡ emptied x =
-        λ i. record x { gap_before = gap i; middle = e i; gap_after = no-gap i } in
-        removes-all (joined (emptied x) (subst (λ (o : OpenView T A). RetainsSome R t w u o) same
-        (advanced-ends t u w x h.some.gap_before k e))) refl
-    goes-ends (y ∷ []) e few =
-        let gap : (emptied x).gap_before ≡ x.gap_before + 1 =
-        omega (arith, no-gap, ap length e) in
-        removes-all (joined (emptied x) (advanced-goes t u w x h.some.gap_before k y (emptied x) e
-        (λ i. record x { gap_before = gap i; middle = []; gap_after = sym no-gap i }))) refl
-    goes-ends (y ∷ z ∷ xs) e few = absurd (few (omega arith))
-
-    pub rounds-go : (b : Bool) (z : OpenView T A) → (b ≡ true → 1 < length x.middle)
-        → (1 < length x.middle → b ≡ true)
-        → z ≡ (if b then record x { gap_before = x.gap_before + 1; middle = drop 1 x.middle } else x)
-        → Rounds s v b u z
-    rounds-go true z more few next =
-        let f = dropped-first x z (more refl) next in (
-          joined z (advanced-goes t u w x h.some.gap_before k f.0 z f.1
-              (next ∙ (λ i. record x
-              { gap_before = x.gap_before + 1; middle = sym (ap (λ o. o.middle) next) i }))),
-          f.2,
-        )
-    rounds-go false z more few next =
-        subst (λ (o : OpenView T A). RetainsMiddle R s v u (emptied o)) (sym next)
-        (goes-ends x.middle refl (λ some. false≢true (few some)))
-
-    -- In each iteration, the middle gets shorter, or the loop ends.
-    pub rounds-shorter : (more b : Bool) (z : OpenView T A) → more ≡ true
-        → (b ≡ true → 1 < length x.middle)
-        → z ≡ (if b then record x { gap_before = x.gap_before + 1; middle = drop 1 x.middle } else x)
-        → length z.middle + (if b then 1 else 0) < length w.middle + (if more then 1 else 0)
-    rounds-shorter false b z e some next = absurd (false≢true e)
-    rounds-shorter true true z e some next = omega (
-      arith,
-      length-sought k,
-      some refl,
-      ap (λ o. length o.middle) next,
-      length-drop 1 x.middle,
-    )
-    rounds-shorter true false z e some next =
-        omega (arith, length-sought k, ap (λ o. length o.middle) next)
+  -- The first `m` middle items of `x` were tested and kept, and then moved to the front of `y`,
+  -- unless there was no gap.
+  pub sought : {A : Type 0} {s t : S} {v y : OpenView T A} {b : Bool} (x : OpenView T A) (m : ℕ)
+      → TestsUntil R s v.middle (take m x.middle) t (drop m x.middle)
+      → x ≡ record v { middle = x.middle } → m ≤ length x.middle → b ≡ (v.gap_before == 0)
+      → y ≡ record x {
+        front = x.front ++ take m x.middle;
+        middle = drop m x.middle;
+        cost = if b then x.cost else add_moves m x.cost;
+      } → SeeksRemoved R s v t y
+  sought {y = y} x m run tested low gap now =
+      let few = length-take-le m x.middle low in
+      record {
+        kept = take m x.middle;
+        run = rw (ap (λ o. o.middle) now) run;
+        now = now ∙ (λ i. let o = tested i in record o {
+          front = o.front ++ take m x.middle;
+          middle = sym (ap (λ o. o.middle) now) i;
+          cost = if gap i then o.cost else add_moves (sym few i) o.cost;
+        });
+      }

@@ -94,6 +94,7 @@ module _ {T A : Type 0} where
     pub post : List T
     pub place : length pre ≡ k
     pub was : (open_view h).middle ≡ pre ++ x ∷ y ∷ post
+    pub count : length (pre ++ x' ∷ y' ∷ post) ≡ length (open_view h).middle
     pub shown : Found (record h { block = b })
         (record (open_view h) { middle = pre ++ x' ∷ y' ∷ post })
 
@@ -114,19 +115,12 @@ module _ {T A : Type 0} where
         let apart : suc (h.middle_start + k) ≢ h.middle_start + k = omega arith in
         let middle : (open_view m).middle ≡ one.pre ++ x' ∷ one.post =
         ap (λ v. v.middle) one.shown.view in
-        let count : length (one.pre ++ x' ∷ one.post) ≡ length (open_view h).middle =
-        omega (
-          arith,
-          ap length one.was,
-          length-append one.pre (x ∷ one.post),
-          length-append one.pre (x' ∷ one.post),
-        ) in
         let there : slot c.slots (h.middle_start + suc k) ≡ Some y =
         ap (slot c.slots) (sym next)
         ∙ (get_or-set_other h.block.slots (h.middle_start + k) (suc (h.middle_start + k)) (Some x')
         None apart ∙ second) in
         let two = write-step m one.shown.lies b (suc k)
-        (omega (arith, low, ap length middle, count)) y y' there
+        (omega (arith, low, ap length middle, one.count)) y y' there
         (slots-are kept (now ∙ ap (λ (n : ℕ). set c.slots n (Some y')) next)) in
         let same : one.pre ++ x' ∷ one.post ≡ two.pre ++ y ∷ two.post = sym middle ∙ two.was in
         let parts = same-parts (one.pre ++ x' ∷ []) one.post two.pre (y ∷ two.post)
@@ -140,6 +134,7 @@ module _ {T A : Type 0} where
           post = two.post;
           place = one.place;
           was = one.was ∙ ap (λ (l : List T). one.pre ++ x ∷ l) parts.1;
+          count = omega (arith, ap length final, two.count, ap length middle, one.count);
           shown = record {
             lies = two.shown.lies;
             view = two.shown.view

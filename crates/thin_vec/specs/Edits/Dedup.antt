@@ -32,7 +32,8 @@ module _ {S T : Type 0} (R : S → T → T → Bool → S → T → T → Type 0
   TestsAllAgainstLast s (x ∷ xs) removed ys t = TestsEachAgainstLast s x xs removed ys t
 
   -- `IsDedupedBy s v w` holds if removing the duplicates turned the list `v` into `w`. The test,
-  -- whose state was `s` at first, returned `removed`.
+  -- whose state was `s` at first, returned `removed`. The first item has no flag: it stays at its
+  -- place, and adds no move.
   pub record IsDedupedBy {A : Type 0} (s : S) (v w : ListView T A) : Type 0 where
     pub removed : List Bool
     pub last : S

@@ -1,6 +1,6 @@
 -- These definitions are for the contracts of `ExtractIf`. They name the parts of an `ExtractIf`,
 -- and they say what a call to `next` changes. (std: `Vec::extract_if`)
-use Rattle.std.specs.Prelude.{◌≡◌, ◌+◌, ◌==◌, ◌++◌, ◌∷◌, [], Bool, List, None, Option, cond, if◌then◌else◌, length}
+use Rattle.std.specs.Prelude.{◌≡◌, ◌+◌, ◌-◌, ◌==◌, ◌++◌, ◌∷◌, [], Bool, List, None, Option, cond, drop, if◌then◌else◌, length, slice_range, take, ℕ}
 use Rattle.std.specs.List.Retain.{ExtractsNext}
 use Rattle.std.specs.Option.{option_to_list}
 use Rattle.std.specs.Iterator.{Yields, YieldsThen}
@@ -60,8 +60,8 @@ module _ {T F A G H : Type 0} {g : Ghosts G} {h : IntoInnerGhosts H (ExtractStat
   extract_rest e = (extract_block e).middle
 
   -- `list_after_extract_if e` is the list that the `ExtractIf` `e` leaves if it is dropped now: its
-  -- items are those that have not been yielded. If there is a gap, the drop moves each item after
-  -- it, and the cost includes these moves.
+  -- items are those that have not been yielded. If any item was yielded, the drop moves each item
+  -- after the gap once, and the cost includes these moves.
   abbrev pub list_after_extract_if : ExtractIf T F A G H g h → ListView T A
   list_after_extract_if e = record {
     items = (extract_block e).front ++ (extract_rest e ++ (extract_block e).tail);
@@ -93,13 +93,11 @@ module _ {T F A G H : Type 0} {g : Ghosts G} {h : IntoInnerGhosts H (ExtractStat
     pub lender : extract_lender new ≡ extract_lender old
     pub meanwhile : extract_list new ≡ extract_list old
     -- If `new` is dropped, the list has the items `extracts.kept`, and the items that `new` has not
-    -- tested, in place of those that `old` had not tested. Capacity and allocator stay. The drop
-    -- moves each item after the gap, if there is one.
+    -- tested, in place of those that `old` had not tested. Capacity and allocator stay.
     pub after_drop : list_after_extract_if new ≡ record (list_after_extract_if old) {
       items = ((extract_block old).front ++ extracts.kept)
           ++ (extract_rest new ++ (extract_block old).tail);
-      cost = if (extract_block new).gap_before == 0 then (extract_block new).cost else add_moves
-          (length (extract_rest new) + length (extract_block old).tail) (extract_block new).cost;
+      cost = (list_after_extract_if new).cost;
     }
 
   -- `ExtractLeaves R first yielded later` states what calls to `next` leave, after they yielded the
@@ -125,9 +123,7 @@ module _ {T F A G H : Type 0} {g : Ghosts G} {h : IntoInnerGhosts H (ExtractStat
     pub after_drop : list_after_extract_if later ≡ record (list_after_extract_if first) {
       items = ((extract_block first).front ++ kept)
           ++ (extract_rest later ++ (extract_block first).tail);
-      cost = if (extract_block later).gap_before == 0 then (extract_block later).cost else add_moves
-          (length (extract_rest later) + length (extract_block first).tail)
-          (extract_block later).cost;
+      cost = (list_after_extract_if later).cost;
     }
     -- From `first` on, and with the moves of the drop, at most each item after the front of `first`
     -- that stays in the list is moved, once. If no item was yielded, the calls cost nothing.
@@ -136,6 +132,24 @@ module _ {T F A G H : Type 0} {g : Ghosts G} {h : IntoInnerGhosts H (ExtractStat
         (list_after_extract_if later).cost
     pub unmoved : yielded ≡ []
         → (list_after_extract_if later).cost ≡ (list_after_extract_if first).cost
+
+  -- `LeavesKept R pick v start end yielded last` says what the `ExtractIf` `last` leaves if it is
+  -- dropped now. `ExtractsRange` has the meaning of the arguments.
+  pub record LeavesKept (R : F → T → Bool → F → T → Type 0) (pick : F) (v : ListView T A)
+      (start end : ℕ) (yielded : List T) (last : ExtractIf T F A G H g h) : Type 0 where
+    -- The closure was called once for each item of the range, in order. It returned true for the
+    -- items `yielded`, and false for the items `kept`. Both are as the calls left them.
+    pub kept : List T
+    pub calls : ExtractsInTurn R pick (slice_range v.items start end) yielded kept
+        (extract_closure last)
+    -- The items `kept` are in the place of the range. Capacity and allocator are those of `v`.
+    pub after_drop : list_after_extract_if last ≡ record v {
+      items = (take start v.items ++ kept) ++ drop end v.items;
+      cost = (list_after_extract_if last).cost;
+    }
+    -- The items `kept` and those after the range are moved at most once each.
+    pub moves_at_most : MovesAtMost (length kept + (length v.items - end)) v.cost
+        (list_after_extract_if last).cost
 
   -- `ExtractKeepsAlong R e` states what calls to `next` on the `ExtractIf` `e` leave, as long as
   -- they yield items. `R` describes the calls to the closure.
@@ -152,3 +166,13 @@ module _ {T F A G H : Type 0} {g : Ghosts G} {h : IntoInnerGhosts H (ExtractStat
       (yielded : List T) (last : ExtractIf T F A G H g h)
       → YieldsThen (ExtractSteps R) first yielded None last
       → ExtractLeaves R first yielded last × (extract_rest last ≡ [])
+
+  -- `ExtractsRange R pick v start end e` says what becomes of the list `v`, from whose range
+  -- `start..end` the `ExtractIf` `e` extracts. Calls to `next` yielded the items `yielded`, and
+  -- then returned `None`. `R` describes the calls to the closure, whose first state is `pick`.
+  abbrev pub ExtractsRange : (F → T → Bool → F → T → Type 0) → F → ListView T A → ℕ → ℕ
+      → ExtractIf T F A G H g h → Type 0
+  ExtractsRange R pick v start end first =
+      (yielded : List T) (last : ExtractIf T F A G H g h)
+      → YieldsThen (ExtractSteps R) first yielded None last
+      → LeavesKept R pick v start end yielded last

@@ -1,12 +1,14 @@
 -- These definitions are for the private functions that `Splice::finish` calls. No public contract
 -- uses these definitions.
-use Rattle.std.specs.Prelude.{◌≡◌, ◌<◌, ◌≤◌, List, [], ◌++◌, IfErr, IsOk, OnOk, Option, length}
+use Rattle.std.specs.Prelude.{◌≡◌, ◌+◌, ◌<◌, ◌≤◌, List, [], ◌++◌, IfErr, IsOk, MatchOption, None, OnErr, OnOk, Option, length, ℕ}
 use Rattle.std.specs.Iterator.{Count, Drains, size}
+use Rattle.std.specs.Iterator.SizeHint.{IsWithinCount}
 use Rattle.std.specs.declared.result.Result.{Result}
 use Rattle.std.specs.Borrow.{RattleType}
 use Rattle.thin_block.specs.Growth.{GrowthRule}
 use Rattle.thin_vec.specs.Cheap.{IsCheap}
-use Rattle.thin_vec.specs.Edits.Splice.{FinishesAtEnd, FinishesBeforeTail, IsSpliceCause, SpliceErrorAccountsFor}
+use Rattle.thin_vec.specs.Edits.Splice.{IsAfterSplice, IsSpliceCause, SpliceErrorAccountsFor}
+use Rattle.thin_vec.specs.List.Extend.{IsAfterExtend}
 use Rattle.thin_vec.specs.OpenView.{OpenView}
 use Rattle.thin_vec.specs.ThinVec.{HasRoomFor, ListView}
 use Rattle.thin_vec.specs.declared.errors.SpliceRefused.{SpliceRefused}
@@ -44,13 +46,23 @@ module _ {S T A : Type 0} (steps : S → Option T → S → Type 0) (can : S →
   pub record FinishesSplice (rule : GrowthRule) (R : RattleType) (v : OpenView T A) (a : A) (s : S)
       (w : ListView T A) (result : Result (Unit {0}) (SpliceRefused T S A)) : Type 0 where
     pub succeeds : size (remaining s) ≤ v.gap_before → IsOk result
+    pub succeeds_at_end : v.tail ≡ [] → HasRoomFor (without_middle v a) (size (remaining s))
+        → IsOk result
     pub items : OnOk result ((xs : List T) × Drains steps s xs × (w.items ≡ with_replacement v xs))
     pub longer : length (v.front ++ v.tail) ≤ length w.items
     pub taken : AddsFromIter (without_middle v a) w (remaining s)
-    pub at_end : v.tail ≡ [] → FinishesAtEnd rule R (without_middle v a) w s (remaining s) result
-    pub before_tail : 0 < length v.tail → FinishesBeforeTail rule R v.gap_before (length v.tail)
-        (without_middle v a) w (remaining s) result
+    pub at_end : v.tail ≡ [] → (h : ℕ) × IsWithinCount h (remaining s)
+        × IsAfterExtend rule R (without_middle v a) h w
+    pub before_tail : 0 < length v.tail → (h : ℕ)
+        × IsAfterSplice rule R v.gap_before (length v.tail) (without_middle v a) h w (remaining s)
+        × OnErr result (length w.items ≡ length (v.front ++ v.tail) + v.gap_before + h)
     pub placed : IfErr result (λ error. (xs : List T) × (w.items ≡ with_replacement v xs)
         × SpliceErrorAccountsFor steps can remaining s xs error)
     pub cause : IfErr result
         (λ error. IsSpliceCause rule R w v.tail (remaining error.rest) error)
+    pub held_at_end : v.tail ≡ [] → IfErr result (λ error. error.held.items ≡ [])
+    pub in_hand_at_end : v.tail ≡ [] → IfErr result (λ error. MatchOption error.in_hand
+        ((w ≡ without_middle v a) × (error.rest ≡ s))
+        (λ _. length w.items ≡ w.capacity))
+    pub in_hand_before_tail : 0 < length v.tail → IfErr result (λ error. error.held.items ≡ []
+        → error.in_hand ≡ None → length w.items ≡ length (v.front ++ v.tail) + v.gap_before)

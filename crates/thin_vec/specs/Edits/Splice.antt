@@ -1,11 +1,10 @@
 -- These definitions name the parts of a `Splice`, and describe the list and the error after a call
 -- to `finish`. (std: `Vec::splice`)
-use Rattle.std.specs.Prelude.{◌≡◌, ◌⊎◌, ◌+◌, ◌-◌, ◌<◌, [], ◌++◌, IfErr, IsOk, IsSome, List, MatchOption, OnErr, Option, if◌then◌else◌, ◌==◌, length, vec_capacity, ℕ}
-use Rattle.std.specs.Iterator.{Count, YieldsFirst, YieldsLast, YieldsThen, size}
+use Rattle.std.specs.Prelude.{◌≡◌, ◌⊎◌, ◌+◌, ◌-◌, ◌<◌, [], ◌++◌, IsSome, List, Option, if◌then◌else◌, ◌==◌, length, vec_capacity, ℕ}
+use Rattle.std.specs.Iterator.{Count, YieldsFirst, YieldsLast, YieldsThen}
 use Rattle.std.specs.Iterator.SizeHint.{IsWithinCount}
 use Rattle.std.specs.Option.{option_to_list}
 use Rattle.std.specs.declared.option.Option.TheVariants.{None, Some}
-use Rattle.std.specs.declared.result.Result.{Result}
 use Rattle.std.specs.Align.{type_align}
 use Rattle.std.specs.Borrow.{GName, RattleType}
 use Rattle.std.specs.Mem.{type_size}
@@ -14,9 +13,9 @@ use Rattle.thin_block.specs.Cost.{Cost, add_moves, add_realloc}
 use Rattle.thin_block.specs.Growth.{GrowthRule, grown_capacity}
 use Rattle.thin_block.specs.declared.growth.Growth.{Ghosts}
 use Rattle.thin_vec.specs.List.Capacity.{FailsForRoom}
-use Rattle.thin_vec.specs.List.Extend.{IsAfterExtend, YieldsAndCanContinue}
+use Rattle.thin_vec.specs.List.Extend.{YieldsAndCanContinue}
 use Rattle.thin_vec.specs.OpenView.{OpenView}
-use Rattle.thin_vec.specs.ThinVec.{HasRoomFor, ListView, capacity_after_reserve}
+use Rattle.thin_vec.specs.ThinVec.{ListView, capacity_after_reserve}
 use Rattle.thin_vec.specs.declared.errors.SpliceRefused.{SpliceRefused}
 use Rattle.thin_vec.specs.declared.edits.splice.Splice.{Splice}
 use Rattle.thin_vec.specs.declared.edits.holder.IntoInner.{Ghosts as IntoInnerGhosts}
@@ -45,60 +44,32 @@ abbrev pub cost_after_growth : ℕ → ℕ → ℕ → Cost → Cost
 cost_after_growth n c d cost = if d == c then cost else add_realloc n cost
 
 module _ {T A : Type 0} where
-  -- `IsAfterSplice rule R k t v w limit` says which capacity and which cost the list `w` has. It is
-  -- the list `v` after `finish` inserted items of an iterator before the last `t` items. The range
-  -- has `k` slots, the growth rule is `rule`, the item type is `R`, and the iterator could yield at
-  -- most `limit` items.
-  pub record IsAfterSplice (rule : GrowthRule) (R : RattleType) (k t : ℕ) (v w : ListView T A)
-      (limit : Count) : Type 0 where
-    -- Some number within the limit, or 0. Tests show that it is the lower bound in the size hint
-    -- after the range was filled, or 0 if nothing was reserved.
-    pub hint : ℕ
-    pub within : (hint ≡ 0) ⊎ IsWithinCount (k + hint) limit
+  -- `IsAfterSplice rule R k t v h w limit` says which capacity and which cost the list `w` has. It
+  -- is the list `v` after `finish` inserted items of an iterator before the last `t` items. The
+  -- range has `k` slots, the growth rule is `rule`, the item type is `R`, and the iterator could
+  -- yield at most `limit` items.
+  --
+  -- The list makes room for the new items in two steps: once the range is full, it reserves `h`
+  -- more slots, and once these are full, too, it makes room for all items that are left.
+  pub record IsAfterSplice (rule : GrowthRule) (R : RattleType) (k t : ℕ) (v : ListView T A) (h : ℕ)
+      (w : ListView T A) (limit : Count) : Type 0 where
+    -- The range and the `h` slots have at most as many slots as the iterator could yield items.
+    -- Tests show that `h` is the lower bound in the size hint, or 0 if nothing was reserved.
+    pub within : (h ≡ 0) ⊎ IsWithinCount (k + h) limit
     -- If the new items do not fill the range, nothing was reserved.
-    pub short : length w.items < length v.items + k → hint ≡ 0
-    -- The capacity after slots were reserved for the hint.
+    pub short : length w.items < length v.items + k → h ≡ 0
+    -- The capacity after the first step.
     pub reserved : ℕ
-    pub reserves : capacity_after_reserve rule R v (k + hint) ≡ Some reserved
-    -- The list then made room for all items that did not fit into these slots.
+    pub reserves : capacity_after_reserve rule R v (k + h) ≡ Some reserved
+    -- The capacity after the second step.
     pub capacity : grown_capacity rule (type_size R) (type_align R) reserved (length w.items)
         ≡ Some w.capacity
     -- The last `t` items move once if slots were reserved, and once more unless the new items fill
     -- exactly the slots of the range and these slots.
-    pub cost : w.cost ≡ add_moves (length w.items - length v.items + (if hint == 0 then 0 else t)
-        + (if length w.items == length v.items + k + hint then 0 else t))
-        (cost_after_growth (length v.items + k + hint) reserved w.capacity
+    pub cost : w.cost ≡ add_moves (length w.items - length v.items + (if h == 0 then 0 else t)
+        + (if length w.items == length v.items + k + h then 0 else t))
+        (cost_after_growth (length v.items + k + h) reserved w.capacity
         (cost_after_growth (length v.items + k) v.capacity reserved v.cost))
-
-  -- `FinishesAtEnd rule R v w s limit result` describes a call to `finish` that returned `result`,
-  -- if no item follows the range. It appended items of the iterator `s` to the list `v`, which
-  -- became `w`. The growth rule is `rule`, the item type is `R`, and `s` could yield at most
-  -- `limit` items.
-  pub record FinishesAtEnd {S : Type 0} (rule : GrowthRule) (R : RattleType) (v w : ListView T A)
-      (s : S) (limit : Count) (result : Result (Unit {0}) (SpliceRefused T S A)) : Type 0 where
-    pub succeeds : HasRoomFor v (size limit) → IsOk result
-    -- The number `h` is some number within the limit. Tests show that it is the lower bound in the
-    -- size hint, or 0 if nothing was reserved.
-    pub after : (h : ℕ) × IsWithinCount h limit × IsAfterExtend rule R v h w
-    pub held : IfErr result (λ error. error.held.items ≡ [])
-    -- With no item in hand, the call took none from `s`. Otherwise, the list is full.
-    pub in_hand : IfErr result (λ error. MatchOption error.in_hand
-        ((w ≡ v) × (error.rest ≡ s))
-        (λ _. length w.items ≡ w.capacity))
-
-  -- `FinishesBeforeTail rule R k t v w limit result` describes a call to `finish` that returned
-  -- `result`, if items follow the range. It inserted items of an iterator before the last `t` items
-  -- of the list `v`, which became `w`. The range has `k` slots, the growth rule is `rule`, the item
-  -- type is `R`, and the iterator could yield at most `limit` items.
-  pub record FinishesBeforeTail {S : Type 0} (rule : GrowthRule) (R : RattleType) (k t : ℕ)
-      (v w : ListView T A) (limit : Count) (result : Result (Unit {0}) (SpliceRefused T S A))
-      : Type 0 where
-    pub after : IsAfterSplice rule R k t v w limit
-    -- A call that fails has filled the slots of the range and those that it reserved.
-    pub filled : OnErr result (length w.items ≡ length v.items + k + after.hint)
-    -- If the error contains no item, nothing was reserved.
-    pub at_hint : IfErr result
-        (λ error. error.held.items ≡ [] → error.in_hand ≡ None → after.hint ≡ 0)
 
   -- `IsSpliceCause rule R w tail limit error` states why a call to `finish` failed with `error`.
   -- The growth rule is `rule`, the item type is `R`, the list after the call is `w`, and the items

@@ -1,6 +1,6 @@
 -- These definitions describe calls that need room in a list: their errors, their cost, and what
 -- they preserve. (std: `Vec::reserve`)
-use Rattle.std.specs.Prelude.{◌≡◌, ◌↔◌, ℕ, ◌≤◌, IsErrOf, Option, Result}
+use Rattle.std.specs.Prelude.{◌≡◌, ◌↔◌, ℕ, ◌<◌, ◌≤◌, IsErrOf, Option, Result}
 use Rattle.std.specs.declared.option.Option.TheVariants.{None}
 use Rattle.std.specs.declared.result.Result.TheVariants.{Ok, Err}
 use Rattle.std.specs.Align.{type_align}
@@ -34,6 +34,14 @@ pub record OverflowsIffTooLarge {X : Type 0} (R : RattleType) (n : ℕ)
   where
     pub overflow : IsErrOf r CapacityOverflow
         ↔ (exact_capacity (type_size R) (type_align R) 0 n ≡ None)
+
+-- `FailsToAllocate R h cause` states why a call failed with the error `cause`: it could not
+-- allocate a block of capacity `h`, which is not 0, for items of the type `R`. The cause is
+-- `CapacityOverflow` if and only if this block would be too large.
+abbrev pub FailsToAllocate : RattleType → ℕ → ThinVecError → Type 0
+FailsToAllocate R h cause =
+    (0 < h) × ((cause ≡ CapacityOverflow)
+    ↔ (exact_capacity (type_size R) (type_align R) 0 h ≡ None))
 
 -- `MovesAtMost n before after` states that the recorded cost `after` is the cost `before` plus at
 -- most `n` moves. No request was made, and nothing was copied.

@@ -56,8 +56,8 @@ pub record IsResized {T : Type 0} (clones : T → T → Type 0) (xs : List T) (n
 -- `after` at the end of the call. `infallible x` states that cloning `x` cannot fail.
 pub record FailsAtClone {T : Type 0} (infallible : T → Type 0) (sources : List T)
     (before after : Cost) : Type 0 where
-  -- The index of an item whose clone may fail. The cost is that of as many clones as there are
-  -- items before it.
+  -- The index of the item whose clone failed. (For an unknown type, only a failed clone can show
+  -- that an item is fallible.)
   pub at : ℕ
   pub in_bounds : at < length sources
   pub fallible : HoldsAt (λ x. ¬ (infallible x)) sources at
@@ -72,8 +72,8 @@ pub record LeftByFailedClone {T A : Type 0} (wanted : Option ℕ) (infallible : 
     (sources : List T) (v w : ListView T A) : Type 0 where
   pub items : w.items ≡ v.items
   pub capacity : wanted ≡ Some w.capacity
-  -- The index of an item whose clone may fail. The cost is that of as many clones as there are
-  -- items before it.
+  -- The index of the item whose clone failed. (For an unknown type, only a failed clone can show
+  -- that an item is fallible.)
   pub at : ℕ
   pub in_bounds : at < length sources
   pub fallible : HoldsAt (λ x. ¬ (infallible x)) sources at

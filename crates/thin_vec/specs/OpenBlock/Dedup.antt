@@ -1,30 +1,41 @@
 -- These definitions describe how duplicates are removed from an open block, as in std's
 -- `Vec::dedup_by`. A test decides for each item whether the item duplicates the last kept item.
-use Rattle.std.specs.Prelude.{◌≡◌, ◌⊎◌, ℕ, suc, ◌<◌, List, [], ◌∷◌, ◌++◌, Bool, true, false, length, map, not, replicate}
+use Rattle.std.specs.Prelude.{◌≡◌, ℕ, suc, ◌<◌, List, [], ◌∷◌, ◌++◌, Bool, true, false, drop, length, map, not, replicate}
 use Rattle.thin_block.specs.Cost.{add_moves}
 use Rattle.thin_vec.specs.Edits.Retain.{moves_of_retain, count_true}
 use Rattle.thin_vec.specs.Edits.Dedup.{TestsEachAgainstLast, TestsAllAgainstLast}
 use Rattle.thin_vec.specs.OpenView.{OpenView}
+
+-- A search for an item to be removed ends with a list of which this item is the first. `found end`
+-- has the flag of this item, or none if `end` is empty.
+abbrev pub found : {T : Type 0} → List T → List Bool
+found [] = []
+found (x ∷ xs) = true ∷ []
 
 -- `R s x k b t y l` describes one call of a test that compares the item `x` with the last kept item
 -- `k`. `b` is true if `x` is to be removed. The call changes the state of the test from `s` to `t`,
 -- the item from `x` to `y`, and the kept item from `k` to `l`. In the definitions below, the tests
 -- also change the list from `xs` to `ys`.
 module _ {S T : Type 0} (R : S → T → T → Bool → S → T → T → Type 0) where
+  -- `TestsNext s k xs b t l ys` states that the first item of the list `xs` was tested against the
+  -- kept item `k`. If `xs` is empty, nothing happened, and `b` is true.
+  abbrev pub TestsNext : S → T → List T → Bool → S → T → List T → Type 0
+  TestsNext s k [] b t l ys = (b ≡ true) × (t ≡ s) × (l ≡ k) × (ys ≡ [])
+  TestsNext s k (x ∷ xs) b t l ys = (y : T) × R s x k b t y l × (ys ≡ y ∷ xs)
+
   -- `TestsPairAt k s xs b t ys` states that the item at index `k` of `xs` was tested against the
-  -- item directly before it.
+  -- item directly before it. If `k` is the length of `xs`, nothing happened, and `b` is true.
   pub record TestsPairAt (k : ℕ) (s : S) (xs : List T) (b : Bool) (t : S)
       (ys : List T) : Type 0 where
     pub before : List T
     pub kept : T
-    pub later : T
-    pub kept_left : T
-    pub later_left : T
+    pub left : T
     pub after : List T
+    pub end : List T
     pub place : suc (length before) ≡ k
-    pub was : xs ≡ before ++ kept ∷ later ∷ after
-    pub asked : R s later kept b t later_left kept_left
-    pub now : ys ≡ before ++ kept_left ∷ later_left ∷ after
+    pub was : xs ≡ before ++ kept ∷ after
+    pub asked : TestsNext s kept after b t left end
+    pub now : ys ≡ before ++ left ∷ end
 
   -- `TestsLast s x xs b t y ys` states that the item `x` was tested against the last item of the
   -- list `xs`.
@@ -37,36 +48,22 @@ module _ {S T : Type 0} (R : S → T → T → Bool → S → T → T → Type 0
     pub asked : R s x kept b t y kept_left
     pub now : ys ≡ before ++ kept_left ∷ []
 
-  -- `TestsNext s k xs b t l ys` states that the first item of the list `xs` was tested against the
-  -- kept item `k`.
-  pub record TestsNext (s : S) (k : T) (xs : List T) (b : Bool) (t : S) (l : T)
-      (ys : List T) : Type 0 where
-    pub later : T
-    pub later_left : T
-    pub after : List T
-    pub was : xs ≡ later ∷ after
-    pub asked : R s later k b t later_left l
-    pub now : ys ≡ later_left ∷ after
-
   -- `TestsPairsUpTo m s xs t ys` describes a search for the first item of the list `xs` that is to
   -- be removed. The items were tested in order, from the second item onward, each against the item
   -- directly before it. `m` is the index of the item that the search found, or the length of `xs`
-  -- if it found none. `over` contains this item, if there is one, and `after` the untested items.
+  -- if it found none. The list `end` has the items from that index onward, as the tests left them.
+  -- All but its first item are untested.
   pub record TestsPairsUpTo (m : ℕ) (s : S) (xs : List T) (t : S) (ys : List T) : Type 0 where
     pub first : T
     pub done : List T
-    pub after : List T
+    pub kept : List T
+    pub end : List T
     pub more : ℕ
-    pub removed : List Bool
-    pub left : List T
-    pub over : List T
-    pub was : xs ≡ first ∷ (done ++ after)
-    pub asked : TestsEachAgainstLast R s first done removed left t
-    pub kept : suc more ≡ m
-    pub long : length left ≡ m
-    pub now : ys ≡ left ++ (over ++ after)
-    pub stops : ((length over ≡ 1) × (removed ≡ replicate more false ++ true ∷ []))
-        ⊎ ((over ≡ []) × ((after ≡ []) × (removed ≡ replicate more false)))
+    pub was : xs ≡ first ∷ (done ++ drop 1 end)
+    pub asked : TestsEachAgainstLast R s first done (replicate more false ++ found end) kept t
+    pub count : suc more ≡ m
+    pub reached : length kept ≡ m
+    pub now : ys ≡ kept ++ end
 
   -- `DedupsSome s v t w` holds if testing some or all middle items of the open block `v` for
   -- duplicates turned `v` into `w`. The kept items were appended to the front items, and the other

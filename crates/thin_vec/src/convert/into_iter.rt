@@ -211,6 +211,7 @@ impl<T: Clone, A: Allocator, G: Growth> IntoIter<T, A, G> {
 impl<T: Drop, A: Allocator, G: Growth> Iterator for IntoIter<T, A, G> {
     type Item = T;
 
+    // What one call to `next` does: its contract.
     ghost next_gives = { YieldsFirst into_iter_items };
 
     ghost remaining = { item_count into_iter_items };
@@ -227,6 +228,7 @@ impl<T: Drop, A: Allocator, G: Growth> Iterator for IntoIter<T, A, G> {
 }
 
 impl<T: Drop, A: Allocator, G: Growth> DoubleEndedIterator for IntoIter<T, A, G> {
+    // What one call to `next_back` does: its contract.
     ghost next_back_gives = { YieldsLast into_iter_items };
 
     fn next_back(&mut self) -> Option<T> {

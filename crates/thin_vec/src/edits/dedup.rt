@@ -1,8 +1,8 @@
 //! The methods `dedup`, `dedup_by` and `dedup_by_key`, which remove duplicates.
-ghost use Rattle.std.specs.Prelude.{◌≡◌, ◌+◌, ◌<◌, ◌≤◌, length, map, not};
+ghost use Rattle.std.specs.Prelude.{◌≡◌, ◌+◌, ◌<◌, ◌≤◌, [], length, map, not};
 ghost use Rattle.std.specs.Fn.{CalledAtPairMut, ComparesKeys};
 ghost use Rattle.std.specs.List.{dedup};
-ghost use Rattle.std.specs.List.Retain.{IsDeduped};
+ghost use Rattle.std.specs.List.Retain.{DiffersFromLast, IsDeduped, IsFiltered};
 ghost use Rattle.thin_block.specs.Cost.{add_moves};
 ghost use Rattle.thin_vec.specs.List.Capacity.{MovesAtMost, PreservesList};
 
@@ -17,7 +17,8 @@ impl<T: Drop, A: Allocator, G: Growth> ThinVec<T, A, G> {
 
     /// Removes and drops each item for which `same` returns true. Calls `same` once for each item
     /// except the first, in order: the first argument is the item, and the second is the last item
-    /// kept before it. (As for `retain`, the contract does not say that no call follows.)
+    /// kept before it. (The contract does not exclude a later call with an item that is no longer
+    /// in the list.)
     pub fn dedup_by<F: FnMut(&mut T, &mut T) -> bool>(&mut self, same: F)
         requires callable { F.IsAlwaysCallable same }
 
@@ -61,7 +62,8 @@ impl<T: Drop, A: Allocator, G: Growth> ThinVec<T, A, G> {
 
     /// Removes and drops each item whose key is equal to the key of the last item kept before it.
     /// Calls `key` twice for each item except the first: with this item, and then with the last
-    /// item kept. (As for `retain`, the contract does not say that no call follows.)
+    /// item kept. (The contract does not exclude a later call with an item that is no longer in the
+    /// list.)
     pub fn dedup_by_key<K: PartialEq + Drop, F: FnMut(&mut T) -> K>(&mut self, key: F)
         requires callable { F.IsAlwaysCallable key }
 
@@ -96,13 +98,16 @@ impl<T: PartialEq + Drop, A: Allocator, G: Growth> ThinVec<T, A, G> {
         ensures items { self.new.items ≡ dedup T.eq self.old.items }
         ensures cost { self.new.cost
             ≡ add_moves (moves_of_retain (map not (dedup_flags T.eq self.old.items))) self.old.cost }
-        ensures moves_at_most { MovesAtMost (length self.new.items) self.old.cost
-            self.new.cost }
-        ensures bound { length self.new.items ≤ length self.old.items }
 
         // What does not change.
         ensures capacity { self.new.capacity ≡ self.old.capacity }
         ensures preserved { PreservesList T.row self.old self.new }
+
+        // These follow from `items` and `cost`. `filtered` is the clause of the `dedup` of `Vec`.
+        ensures filtered { IsFiltered (DiffersFromLast T.eq) [] self.old.items self.new.items }
+        ensures bound { length self.new.items ≤ length self.old.items }
+        ensures moves_at_most { MovesAtMost (length self.new.items) self.old.cost
+            self.new.cost }
     {
         let mut test = SameItem {};
         self.dedup_with(&mut test);

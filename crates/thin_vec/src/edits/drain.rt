@@ -5,6 +5,7 @@ ghost use Rattle.std.specs.Iterator.{UpTo, item_count};
 ghost use Rattle.std.specs.Iterator.SizeHint.{IsWithinCount};
 ghost use Rattle.thin_block.specs.Cost.{add_moves, no_cost};
 ghost use Rattle.thin_block.specs.Block.{IsAllocatedBy};
+ghost use Rattle.thin_vec.specs.ThinVec.{IsBounded};
 
 use crate::edits::holder::{Holder, IntoInner};
 use crate::list::ThinVec;
@@ -63,8 +64,6 @@ impl<T: Drop, A: Allocator, G: Growth> ThinVec<T, A, G> {
 
         // What the `Drain` yields.
         ensures rest { drain_rest result ≡ slice_range self.old.items start end }
-        ensures runs { DrainYieldsInOrder result }
-        ensures runs_back { DrainYieldsInReverse result }
 
         // The list until the `Drain` is dropped.
         ensures meanwhile { drain_list result
@@ -76,9 +75,15 @@ impl<T: Drop, A: Allocator, G: Growth> ThinVec<T, A, G> {
           cost = if start == end then self.old.cost else add_moves
               (length self.old.items - end) self.old.cost;
         } }
+        ensures bounds_before { IsBounded T.row self.old }
 
-        // Which list is borrowed, and what calls to `next` leave unchanged.
+        // Which list is borrowed.
         ensures same_reference { drain_lender result ≡ self.entry.ghost_name }
+
+        // These follow from the contracts of `next` and `next_back`: which items calls to them
+        // yield, and what calls to `next` leave unchanged.
+        ensures runs { DrainYieldsInOrder result }
+        ensures runs_back { DrainYieldsInReverse result }
         ensures next_keeps { DrainKeepsAlong result }
     {
         let block = self.open(start, end);
@@ -105,6 +110,7 @@ impl<'a, T: Drop, A: Allocator, G: Growth> Iterator for Drain<'a, T, A, G> {
 
     type Item = T;
 
+    // What one call to `next` does: its contract.
     ghost next_gives = { DrainSteps };
 
     ghost remaining = { item_count drain_rest };
@@ -128,6 +134,7 @@ impl<'a, T: Drop, A: Allocator, G: Growth> Iterator for Drain<'a, T, A, G> {
 impl<'a, T: Drop, A: Allocator, G: Growth> DoubleEndedIterator for Drain<'a, T, A, G> {
     ghost use Rattle.thin_vec.specs.Edits.Drain.{DrainStepsBack};
 
+    // What one call to `next_back` does: its contract.
     ghost next_back_gives = { DrainStepsBack };
 
     #[tactic(auto, unfolding(crate::specs::Edits::Drain::list_after_drain))]

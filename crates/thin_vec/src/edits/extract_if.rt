@@ -5,6 +5,7 @@ ghost use Rattle.std.specs.Iterator.{UpTo, at_most};
 ghost use Rattle.std.specs.Iterator.SizeHint.{IsWithinCount};
 ghost use Rattle.thin_block.specs.Block.{IsAllocatedBy};
 ghost use Rattle.thin_block.specs.Cost.{no_cost};
+ghost use Rattle.thin_vec.specs.ThinVec.{IsBounded};
 
 use crate::edits::holder::{Holder, IntoInner};
 use crate::list::ThinVec;
@@ -97,7 +98,7 @@ impl<T, F: FnMut(&mut T) -> bool, A: Allocator> ExtractState<T, F, A> {
 }
 
 impl<T: Drop, A: Allocator, G: Growth> ThinVec<T, A, G> {
-    ghost use Rattle.thin_vec.specs.Edits.ExtractIf.{ExtractKeepsAlong, ExtractsToEnd, extract_block, extract_closure, extract_lender, extract_list, extract_rest, list_after_extract_if};
+    ghost use Rattle.thin_vec.specs.Edits.ExtractIf.{ExtractKeepsAlong, ExtractsRange, ExtractsToEnd, extract_block, extract_closure, extract_lender, extract_list, extract_rest, list_after_extract_if};
 
     /// Returns an iterator that removes the items in the range `start..end` for which `pick`
     /// returns true, and yields them in order.
@@ -131,13 +132,17 @@ impl<T: Drop, A: Allocator, G: Growth> ThinVec<T, A, G> {
 
         // What `ExtractIf::drop` leaves. If it is dropped now, the list is unchanged.
         ensures after_drop { list_after_extract_if result ≡ self.old }
+        ensures bounds_before { IsBounded T.row self.old }
 
         // Which list is borrowed.
         ensures same_reference { extract_lender result ≡ self.entry.ghost_name }
 
-        // What calls to `next` leave: as long as they yield items, and once one returns `None`.
+        // These follow from the contract of `next`: what calls to it leave as long as they yield
+        // items, and once one returns `None`. `walked` says of the list what `walk` says of the
+        // `ExtractIf`.
         ensures next_keeps { ExtractKeepsAlong (CalledAtMut F.FnMut) result }
         ensures walk { ExtractsToEnd (CalledAtMut F.FnMut) result }
+        ensures walked { ExtractsRange (CalledAtMut F.FnMut) pick self.old start end result }
     {
         let block = self.open(start, end);
         let picks = ExtractBy { pick };
@@ -174,6 +179,7 @@ impl<'a, T: Drop, F: FnMut(&mut T) -> bool, A: Allocator, G: Growth> Iterator
 
     ghost can_next = { λ extract. always_mut F.FnMut (extract_closure extract) };
 
+    // What one call to `next` does: its contract.
     ghost next_gives = { ExtractSteps (CalledAtMut F.FnMut) };
 
     ghost remaining = { λ extract. at_most (length (extract_rest extract)) };

@@ -2,7 +2,7 @@
 ghost use Rattle.std.specs.Prelude.{◌≡◌, ◌-◌, ◌≤◌, ◌++◌, IfErr, IsErr, IsOk, None, OnErr, OnOk, Some, drop, length, take};
 ghost use Rattle.thin_vec.specs.List.Clones.{ClonesEqual};
 ghost use Rattle.thin_vec.specs.Edits.ReplaceRange.{ReplacesByClones, moves_replacing};
-ghost use Rattle.thin_vec.specs.ThinVec.{HasRoomFor, IsCauseOf, capacity_after_reserve};
+ghost use Rattle.thin_vec.specs.ThinVec.{HasRoomFor, capacity_after_reserve};
 ghost use Rattle.thin_vec.specs.List.Capacity.{CostsMoves, PreservesList};
 
 use crate::list::ThinVec;
@@ -17,7 +17,8 @@ impl<T: Clone, A: Allocator, G: Growth> ThinVec<T, A, G> {
     ///
     /// # Errors
     ///
-    /// - `CapacityOverflow`: the new capacity would be too large.
+    /// - `CapacityOverflow`: the new capacity would be too large. (If the clones cannot be made,
+    ///   the cause is `OutOfMemory` even then.)
     /// - `OutOfMemory`: an allocator failed, or an item could not be cloned.
     pub fn replace_range(
         &mut self,
@@ -32,28 +33,34 @@ impl<T: Clone, A: Allocator, G: Growth> ThinVec<T, A, G> {
         // On success.
         ensures items { OnOk result (ReplacesByClones T.is_clone self.old.items start end items.now
             self.new.items) }
-        ensures items_if_clones_equal { OnOk result (ClonesEqual T.is_clone
-            → self.new.items ≡ (take start self.old.items ++ items.now)
-            ++ drop end self.old.items) }
         ensures capacity { OnOk result (capacity_after_reserve G.rule T.row self.old
             (length items.now - (end - start)) ≡ Some self.new.capacity) }
+        // The list in which the clones are made is in no counter. It takes one request for memory,
+        // and one more move for each clone.
         ensures cost { OnOk result (CostsMoves
             (moves_replacing self.old start end (length items.now)) self.old self.new) }
 
         // When it must succeed. In every other case it may fail.
         ensures succeeds_empty { length items.now ≡ 0 → IsOk result }
 
-        // On failure.
-        ensures overflow { capacity_after_reserve G.rule T.row self.old
-            (length items.now - (end - start)) ≡ None → IsErr result }
-        ensures cause { IfErr result (IsCauseOf (capacity_after_reserve G.rule T.row self.old
-            (length items.now - (end - start)))) }
+        // On failure: nothing changes. The call fails with `CapacityOverflow` only if the growth
+        // rule chooses no capacity. If it chooses none, the call fails, perhaps with `OutOfMemory`.
         ensures err { OnErr result (self.new ≡ self.old) }
+        ensures cause { IfErr result (λ cause. cause ≡ ThinVecError.CapacityOverflow
+            → capacity_after_reserve G.rule T.row self.old
+            (length items.now - (end - start)) ≡ None) }
+        ensures fails_if_too_large { capacity_after_reserve G.rule T.row self.old
+            (length items.now - (end - start)) ≡ None → IsErr result }
 
-        // In every case. `had_room` follows from `capacity` and `err`.
+        // In every case.
+        ensures preserved { PreservesList T.row self.old self.new }
+
+        // These follow from `items`, `capacity` and `err`.
+        ensures items_if_clones_equal { OnOk result (ClonesEqual T.is_clone
+            → self.new.items ≡ (take start self.old.items ++ items.now)
+            ++ drop end self.old.items) }
         ensures had_room { HasRoomFor self.old (length items.now - (end - start))
             → self.new.capacity ≡ self.old.capacity }
-        ensures preserved { PreservesList T.row self.old self.new }
     {
         // Only the proof needs this call: its contract says that the list `IsBounded`.
         let _len = self.len();

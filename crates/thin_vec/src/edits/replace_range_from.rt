@@ -1,5 +1,5 @@
 //! The methods `replace_range_from_copies` and `replace_range_from_list`.
-ghost use Rattle.std.specs.Prelude.{◌≡◌, ◌+◌, ◌-◌, ◌<◌, ◌≤◌, ◌++◌, [], IsOk, OnErr, OnOk, Some, drop, length, take};
+ghost use Rattle.std.specs.Prelude.{◌≡◌, ◌-◌, ◌≤◌, ◌++◌, [], IsOk, OnErr, OnOk, Some, drop, length, take};
 ghost use Rattle.thin_vec.specs.Edits.ReplaceRange.{moves_replacing};
 ghost use Rattle.thin_vec.specs.ThinVec.{HasRoomFor, IsBounded, capacity_after_reserve};
 ghost use Rattle.thin_vec.specs.List.Capacity.{CostsMoves, OverflowsIff, PreservesList};
@@ -35,17 +35,19 @@ impl<T: Copy, A: Allocator, G: Growth> ThinVec<T, A, G> {
 
         // When it must succeed. In every other case it may fail.
         ensures succeeds { HasRoomFor self.old (length items.now - (end - start)) → IsOk result }
-        ensures succeeds_shorter { length items.now ≤ end - start → IsOk result }
 
-        // On failure.
+        // On failure, which happens only without room: nothing changes.
         ensures err { OnErr result (self.new ≡ self.old) }
         ensures overflow { OverflowsIff (capacity_after_reserve G.rule T.row self.old
             (length items.now - (end - start))) result }
 
         // In every case.
+        ensures preserved { PreservesList T.row self.old self.new }
+
+        // These follow from `succeeds`, `capacity` and `err`.
+        ensures succeeds_shorter { length items.now ≤ end - start → IsOk result }
         ensures had_room { HasRoomFor self.old (length items.now - (end - start))
             → self.new.capacity ≡ self.old.capacity }
-        ensures preserved { PreservesList T.row self.old self.new }
     {
         let more = items.len().saturating_sub(end - start);
         // With `?`, the proof of `overflow` would not see the cause behind `From`.
@@ -89,19 +91,21 @@ impl<T: Drop, A: Allocator, G: Growth> ThinVec<T, A, G> {
         // When it must succeed. In every other case it may fail.
         ensures succeeds { HasRoomFor self.old (length other.old.items - (end - start))
             → IsOk result }
-        ensures succeeds_shorter { length other.old.items ≤ end - start → IsOk result }
 
-        // On failure.
+        // On failure, which happens only without room: neither list changes.
         ensures err { OnErr result (self.new ≡ self.old) }
         ensures other_err { OnErr result (other.new ≡ other.old) }
         ensures overflow { OverflowsIff (capacity_after_reserve G.rule T.row self.old
             (length other.old.items - (end - start))) result }
 
         // In every case.
-        ensures had_room { HasRoomFor self.old (length other.old.items - (end - start))
-            → self.new.capacity ≡ self.old.capacity }
         ensures preserved { PreservesList T.row self.old self.new }
         ensures other_bounds { IsBounded T.row other.old × IsBounded T.row other.new }
+
+        // These follow from `succeeds`, `capacity` and `err`.
+        ensures succeeds_shorter { length other.old.items ≤ end - start → IsOk result }
+        ensures had_room { HasRoomFor self.old (length other.old.items - (end - start))
+            → self.new.capacity ≡ self.old.capacity }
     {
         // `reserve` is called without `?`, for the same reason as in `replace_range_from_copies`.
         let more = other.len().saturating_sub(end - start);

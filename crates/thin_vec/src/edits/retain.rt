@@ -1,5 +1,5 @@
 //! The methods `retain` and `retain_mut`, which keep the items for which a closure returns true.
-ghost use Rattle.std.specs.Prelude.{◌≡◌, ◌<◌, ◌≤◌, length};
+ghost use Rattle.std.specs.Prelude.{◌≡◌, ◌≤◌, length};
 ghost use Rattle.std.specs.List.Retain.{IsFiltered, RetainsInTurn};
 ghost use Rattle.std.specs.Fn.{CalledAt, CalledAtMut};
 ghost use Rattle.thin_vec.specs.List.Capacity.{MovesAtMost, PreservesList};
@@ -38,7 +38,8 @@ impl<T: Drop, A: Allocator, G: Growth> ThinVec<T, A, G> {
         let KeepByRef { keep: _ } = test;
     }
 
-    /// Does the same as `retain`, with a closure that may change the items.
+    /// Does the same as `retain`, with a closure that may change the items. (The contract does not
+    /// exclude a later call with an item that is no longer in the list.)
     pub fn retain_mut<F: FnMut(&mut T) -> bool>(&mut self, keep: F)
         requires callable { F.IsAlwaysCallable keep }
 

@@ -1,12 +1,14 @@
 //! The method `splice`, which replaces the items of a range with the items of an iterator.
-ghost use Rattle.std.specs.Prelude.{◌≡◌, ◌+◌, ◌-◌, ◌*◌, ◌<◌, ◌≤◌, ◌++◌, List, [], IfErr, IsOk, OnOk, Some, drop, length, slice_range, take};
+ghost use Rattle.std.specs.Prelude.{◌≡◌, ◌+◌, ◌-◌, ◌*◌, ◌<◌, ◌≤◌, ◌==◌, ◌++◌, List, [], IfErr, IsOk, MatchOption, None, OnErr, OnOk, Some, drop, if◌then◌else◌, length, slice_range, take, ℕ};
 ghost use Rattle.std.specs.Iterator.{Drains, IsFinite, size};
+ghost use Rattle.std.specs.Iterator.SizeHint.{IsWithinCount};
 ghost use Rattle.std.specs.Iterator.Runs.{WholeRun};
 ghost use Rattle.std.specs.List.{remove_range};
 ghost use Rattle.thin_vec.specs.List.Capacity.{PreservesList};
+ghost use Rattle.thin_vec.specs.List.Extend.{IsAfterExtend};
 ghost use Rattle.thin_vec.specs.ThinVec.{HasRoomFor, IsBounded};
 ghost use Rattle.thin_block.specs.Block.{IsAllocatedBy};
-ghost use Rattle.thin_block.specs.Cost.{no_cost};
+ghost use Rattle.thin_block.specs.Cost.{add_moves, no_cost};
 
 use crate::edits::holder::{Holder, IntoInner};
 use crate::errors::SpliceRefused;
@@ -39,7 +41,8 @@ impl<T, A: Allocator, G: Growth> ThinVec<T, A, G> {
     ghost use Rattle.thin_vec.specs.Edits.Splice.{list_without_range, splice_front, splice_iter, splice_lender, splice_list, splice_range_len, splice_rest, splice_tail};
 
     /// Begins to replace the items `start..end` with the items of `iter`. The caller has to call
-    /// `finish` on the returned `Splice`.
+    /// `finish` on the returned `Splice`, which requires that `next` of `iter` may be called, and
+    /// that `iter` has a limit.
     #[tactic(auto, unfolding(crate::specs::Edits::Splice::list_without_range))]
     pub fn splice<I: Iterator<Item = T>>(
         &mut self,
@@ -123,7 +126,7 @@ impl<
     G: Growth,
     H: IntoInner<Inner = OpenBlock<T, A>>,
 > Splice<'a, I, T, A, G, H> {
-    ghost use Rattle.thin_vec.specs.Edits.Splice.{FinishesAtEnd, FinishesBeforeTail, IsSpliceCause, SpliceErrorAccountsFor, list_without_range, splice_front, splice_iter, splice_range_len, splice_tail};
+    ghost use Rattle.thin_vec.specs.Edits.Splice.{IsAfterSplice, IsSpliceCause, SpliceErrorAccountsFor, list_without_range, splice_front, splice_iter, splice_range_len, splice_tail};
 
     /// Drops the items of the range that were not yielded, and puts the items of the iterator in
     /// their place, up to its first `None`.
@@ -147,7 +150,10 @@ impl<
         requires can_next { I.can_next (splice_iter self) }
         requires finite { IsFinite (I.remaining (splice_iter self)) }
 
-        // On success. The list is `self.exit.0.now`.
+        // `self.entry` is the `Splice`, and `self.exit.0.now` is the list after the call. Clauses
+        // that compare lists call this list `new`, and the list without the range `old`.
+
+        // On success, the list has all items of the iterator in the place of the range.
         ensures items { OnOk result ((xs : List T) × Drains I.next_gives (splice_iter self.entry) xs
             × (self.exit.0.now.items
             ≡ (splice_front self.entry ++ xs) ++ splice_tail self.entry)) }
@@ -155,40 +161,72 @@ impl<
             (λ p. self.exit.0.now.items
             ≡ (splice_front self.entry ++ p.items) ++ splice_tail self.entry)) }
 
-        // When it must succeed, and when the list makes no request for memory. (`at_end` names
-        // another case in which it must succeed.) In every other case it may fail.
+        // It must succeed if the range has a slot for each item that the iterator could yield, or
+        // if no item follows the range and the list has room. In every other case it may fail.
         ensures succeeds { size (I.remaining (splice_iter self.entry))
             ≤ splice_range_len self.entry → IsOk result }
-        ensures had_room { HasRoomFor (list_without_range self.entry)
-            (size (I.remaining (splice_iter self.entry)))
-            → (self.exit.0.now.capacity ≡ (list_without_range self.entry).capacity)
-            × (self.exit.0.now.cost.blocks ≡ (list_without_range self.entry).cost.blocks) }
+        ensures succeeds_at_end { splice_tail self.entry ≡ []
+            → HasRoomFor (list_without_range self.entry)
+            (size (I.remaining (splice_iter self.entry))) → IsOk result }
 
-        // On failure.
+        // On failure, the list may have some of the new items. The error has all others.
         ensures placed { IfErr result (λ error. (xs : List T)
             × (self.exit.0.now.items ≡ (splice_front self.entry ++ xs) ++ splice_tail self.entry)
             × SpliceErrorAccountsFor I.next_gives I.can_next I.remaining
             (splice_iter self.entry) xs error) }
         ensures cause { IfErr result (λ error. IsSpliceCause G.rule T.row self.exit.0.now
             (splice_tail self.entry) (I.remaining error.rest) error) }
+        // If no item follows the range, no item is in `held`. With none in hand, the call took none
+        // from the iterator. Otherwise, the list is full.
+        ensures held_at_end { splice_tail self.entry ≡ []
+            → IfErr result (λ error. error.held.items ≡ []) }
+        ensures in_hand_at_end { let old = list_without_range self.entry in
+            let new = self.exit.0.now in
+            splice_tail self.entry ≡ [] → IfErr result (λ error. MatchOption error.in_hand
+            ((new ≡ old) × (error.rest ≡ splice_iter self.entry))
+            (λ _. length new.items ≡ new.capacity)) }
+        // If items follow the range and the error has no item, the new items just fill the range.
+        ensures in_hand_before_tail { let old = list_without_range self.entry in
+            let new = self.exit.0.now in
+            0 < length (splice_tail self.entry) → IfErr result (λ error. error.held.items ≡ []
+            → error.in_hand ≡ None
+            → length new.items ≡ length old.items + splice_range_len self.entry) }
 
-        // In every case. `moves_at_most` follows from `at_end` and `before_tail`.
-        ensures at_end { splice_tail self.entry ≡ [] → FinishesAtEnd G.rule T.row
-            (list_without_range self.entry) self.exit.0.now (splice_iter self.entry)
-            (I.remaining (splice_iter self.entry)) result }
-        ensures before_tail { 0 < length (splice_tail self.entry) → FinishesBeforeTail G.rule T.row
-            (splice_range_len self.entry) (length (splice_tail self.entry))
-            (list_without_range self.entry) self.exit.0.now
-            (I.remaining (splice_iter self.entry)) result }
-        ensures preserved { PreservesList T.row (list_without_range self.entry) self.exit.0.now }
-        ensures moves_at_most { self.exit.0.now.cost.moves
-            + length (list_without_range self.entry).items
-            ≤ (list_without_range self.entry).cost.moves + 2 * length (splice_tail self.entry)
-            + length self.exit.0.now.items }
-
-        // The slots of the range are a part of the capacity.
+        // Capacity and cost, in every case. If the list had room, it requests no memory.
+        ensures had_room { let old = list_without_range self.entry in let new = self.exit.0.now in
+            HasRoomFor old (size (I.remaining (splice_iter self.entry)))
+            → (new.capacity ≡ old.capacity) × (new.cost.blocks ≡ old.cost.blocks) }
+        // The slots of the range are a part of this room.
         ensures range_room { HasRoomFor (list_without_range self.entry)
             (splice_range_len self.entry) }
+        // If no item follows the range, both are as after `extend`, which reserves `h` slots.
+        ensures at_end { let old = list_without_range self.entry in let new = self.exit.0.now in
+            splice_tail self.entry ≡ []
+            → (h : ℕ) × IsWithinCount h (I.remaining (splice_iter self.entry))
+            × IsAfterExtend G.rule T.row old h new }
+        // If items follow the range, the call reserves `h` slots more than the range has, and fails
+        // only once all of these slots are full.
+        ensures before_tail { let old = list_without_range self.entry in
+            let new = self.exit.0.now in
+            0 < length (splice_tail self.entry) → (h : ℕ)
+            × IsAfterSplice G.rule T.row (splice_range_len self.entry)
+            (length (splice_tail self.entry)) old h new (I.remaining (splice_iter self.entry))
+            × OnErr result (length new.items
+            ≡ length old.items + splice_range_len self.entry + h) }
+        ensures preserved { PreservesList T.row (list_without_range self.entry) self.exit.0.now }
+
+        // These follow from the clauses above. If the range has a slot for each item that the
+        // iterator could yield, each new item is moved once, and so is each item after the range,
+        // unless the new items fill the range exactly.
+        ensures moves_within_range { let old = list_without_range self.entry in
+            let new = self.exit.0.now in let inserted = length new.items - length old.items in
+            size (I.remaining (splice_iter self.entry)) ≤ splice_range_len self.entry
+            → new.cost ≡ add_moves (inserted + (if inserted == splice_range_len self.entry then 0
+            else length (splice_tail self.entry))) old.cost }
+        ensures moves_at_most { let old = list_without_range self.entry in
+            let new = self.exit.0.now in
+            new.cost.moves + length old.items
+            ≤ old.cost.moves + 2 * length (splice_tail self.entry) + length new.items }
     {
         let Splice { list, holder, iter } = self;
         let mut block = holder.into_inner();

@@ -29,17 +29,19 @@ impl<T, A: Allocator, G: Growth> ThinVec<T, A, G> {
         // When it must succeed. In every other case it may fail.
         ensures succeeds { HasRoomFor self.old (length other.old.items) → IsOk result }
 
-        // On failure.
+        // On failure, which happens only without room: neither list changes.
         ensures err { OnErr result (self.new ≡ self.old) }
         ensures other_err { OnErr result (other.new ≡ other.old) }
         ensures overflow { OverflowsIff
             (capacity_after_reserve G.rule T.row self.old (length other.old.items)) result }
 
         // In every case.
-        ensures had_room { HasRoomFor self.old (length other.old.items)
-            → self.new.capacity ≡ self.old.capacity }
         ensures preserved { PreservesList T.row self.old self.new }
         ensures other_bounds { IsBounded T.row other.old × IsBounded T.row other.new }
+
+        // This follows from `capacity` and `err`.
+        ensures had_room { HasRoomFor self.old (length other.old.items)
+            → self.new.capacity ≡ self.old.capacity }
     {
         match self.reserve(other.len()) {
             Ok(()) => (),
@@ -70,14 +72,16 @@ impl<T, A: Allocator, G: Growth> ThinVec<T, A, G> {
         // When it must succeed. In every other case it may fail.
         ensures succeeds_empty { at ≡ length self.old.items → IsOk result }
 
-        // On failure.
+        // On failure: nothing changes.
         ensures err { OnErr result (self.new ≡ self.old) }
         ensures cause { IfErr result (λ cause. cause ≡ ThinVecError.OutOfMemory) }
 
-        // In every case. `capacity` follows from `changes`.
+        // In every case.
         ensures changes { self.new ≡ record self.old { items = self.new.items } }
-        ensures capacity { self.new.capacity ≡ self.old.capacity }
         ensures bounds { IsBounded T.row self.old × IsBounded T.row self.new }
+
+        // This follows from `changes`.
+        ensures capacity { self.new.capacity ≡ self.old.capacity }
     {
         let mut tail = ThinVec::with_fitting_capacity(alloc, self.len() - at)?;
         tail.append_from(self, at);
@@ -89,8 +93,8 @@ impl<T, A: Allocator, G: Growth> ThinVec<T, A, G> {
     pub fn append_reserved(&mut self, other: &mut ThinVec<T, A, G>)
         requires room { HasRoomFor self.old (length other.old.items) }
         ensures items { self.new.items ≡ self.old.items ++ other.old.items }
-        ensures cost { self.new.cost ≡ add_moves (length other.old.items) self.old.cost }
         ensures capacity { self.new.capacity ≡ self.old.capacity }
+        ensures cost { self.new.cost ≡ add_moves (length other.old.items) self.old.cost }
         ensures other_changes { other.new ≡ record other.old { items = [] } }
         ensures preserved { PreservesList T.row self.old self.new }
         ensures other_bounds { IsBounded T.row other.old × IsBounded T.row other.new }

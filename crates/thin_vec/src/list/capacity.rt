@@ -1,6 +1,6 @@
 //! The methods that reserve room in a list. Only the function `grow_to` grows a list, and only the
 //! function `grow_for` calls the growth rule.
-ghost use Rattle.std.specs.Prelude.{◌≡◌, ◌+◌, ◌<◌, ◌≤◌, [], IfErr, IfOk, IsOk, OnErr, OnOk, Some, length, max};
+ghost use Rattle.std.specs.Prelude.{◌≡◌, ◌⊎◌, ◌+◌, ◌*◌, ◌<◌, ◌≤◌, [], IfErr, IfOk, IsOk, OnErr, OnOk, Some, length, max};
 ghost use Rattle.thin_block.specs.Capacity.{Fits};
 ghost use Rattle.thin_block.specs.Cost.{add_realloc};
 ghost use Rattle.thin_block.specs.Growth.{GrowsValidly};
@@ -27,25 +27,30 @@ impl<T, A: Allocator, G: Growth> ThinVec<T, A, G> {
     ///   than `isize::MAX` bytes.
     /// - `OutOfMemory`: the allocator failed.
     pub fn reserve(&mut self, additional: usize) -> Result<(), ThinVecError>
-        // On success.
+        // On success. The capacity stays if there was room. Otherwise, the growth rule chooses it.
         ensures room { OnOk result (HasRoomFor self.new additional) }
         ensures capacity { OnOk result
             (capacity_after_reserve G.rule T.row self.old additional ≡ Some self.new.capacity) }
+        ensures doubles { OnOk result (HasRoomFor self.old additional
+            ⊎ (2 * self.old.capacity ≤ self.new.capacity)) }
         ensures cost { OnOk result (self.new.cost ≡ cost_after_resize self.old self.new.capacity) }
 
         // When it must succeed. In every other case it may fail.
         ensures succeeds { HasRoomFor self.old additional → IsOk result }
 
-        // On failure.
+        // On failure, which happens only without room: nothing changes.
         ensures err { OnErr result (self.new ≡ self.old) }
         ensures overflow { OverflowsIff
             (capacity_after_reserve G.rule T.row self.old additional) result }
 
-        // In every case.
+        // In every case. If there was room, nothing changes.
         ensures items { self.new.items ≡ self.old.items }
-        ensures len { length self.new.items ≡ length self.old.items }
-        ensures had_room { HasRoomFor self.old additional → self.new.capacity ≡ self.old.capacity }
+        ensures had_room { HasRoomFor self.old additional → self.new ≡ self.old }
         ensures preserved { PreservesList T.row self.old self.new }
+
+        // These follow from `items` and `room`. `ok` is `room` under the label that `Vec` has.
+        ensures len { length self.new.items ≡ length self.old.items }
+        ensures ok { OnOk result (HasRoomFor self.new additional) }
     {
         if additional <= self.capacity() - self.len() {
             return Ok(());
@@ -66,7 +71,7 @@ impl<T, A: Allocator, G: Growth> ThinVec<T, A, G> {
     /// - `OutOfMemory`: the allocator failed.
     #[tactic(auto, using(thin_block::proofs::CapacityLemmas::exact))]
     pub fn reserve_exact(&mut self, additional: usize) -> Result<(), ThinVecError>
-        // On success.
+        // On success. The capacity stays if there was room.
         ensures room { OnOk result (HasRoomFor self.new additional) }
         ensures capacity { OnOk result
             (capacity_after_reserve_exact T.row self.old additional ≡ Some self.new.capacity) }
@@ -75,20 +80,21 @@ impl<T, A: Allocator, G: Growth> ThinVec<T, A, G> {
         // When it must succeed. In every other case it may fail.
         ensures succeeds { HasRoomFor self.old additional → IsOk result }
 
-        // On failure.
+        // On failure, which happens only without room: nothing changes.
         ensures err { OnErr result (self.new ≡ self.old) }
         ensures overflow { OverflowsIff
             (capacity_after_reserve_exact T.row self.old additional) result }
 
-        // In every case.
+        // In every case. If there was room, nothing changes.
         ensures items { self.new.items ≡ self.old.items }
-        ensures len { length self.new.items ≡ length self.old.items }
-        ensures had_room { HasRoomFor self.old additional → self.new.capacity ≡ self.old.capacity }
+        ensures had_room { HasRoomFor self.old additional → self.new ≡ self.old }
         ensures alloc { self.new.alloc ≡ self.old.alloc }
         ensures never_less { self.old.capacity ≤ self.new.capacity }
         ensures bounds { IsBounded T.row self.old × IsBounded T.row self.new }
 
-        // This follows from `capacity`.
+        // These follow from `items`, `room` and `capacity`.
+        ensures len { length self.new.items ≡ length self.old.items }
+        ensures ok { OnOk result (HasRoomFor self.new additional) }
         ensures capacity_exact { OnOk result (self.new.capacity
             ≡ max self.old.capacity (length self.old.items + additional)) }
     {
@@ -99,37 +105,6 @@ impl<T, A: Allocator, G: Growth> ThinVec<T, A, G> {
             Some(want) if fits::<T>(want) => self.grow_to(want),
             _ => Err(ThinVecError::CapacityOverflow),
         }
-    }
-
-    // Does the same as `reserve`. If `additional` is a constant, this test for room compiles to one
-    // instruction less, because the sum is the new length. Otherwise, it compiles to more.
-    #[tactic(auto, using(thin_block::proofs::CapacityLemmas::ruled))]
-    pub(crate) fn reserve_run(&mut self, additional: usize) -> Result<(), ThinVecError>
-        // On success.
-        ensures room { OnOk result (HasRoomFor self.new additional) }
-        ensures capacity { OnOk result
-            (capacity_after_reserve G.rule T.row self.old additional ≡ Some self.new.capacity) }
-        ensures cost { OnOk result (self.new.cost ≡ cost_after_resize self.old self.new.capacity) }
-
-        // When it must succeed. In every other case it may fail.
-        ensures succeeds { HasRoomFor self.old additional → IsOk result }
-
-        // On failure.
-        ensures err { OnErr result (self.new ≡ self.old) }
-        ensures overflow { OverflowsIff
-            (capacity_after_reserve G.rule T.row self.old additional) result }
-
-        // In every case.
-        ensures items { self.new.items ≡ self.old.items }
-        ensures had_room { HasRoomFor self.old additional → self.new.capacity ≡ self.old.capacity }
-        ensures preserved { PreservesList T.row self.old self.new }
-    {
-        let len = self.len();
-        let cap = self.capacity();
-        if additional > isize::MAX as usize || len + additional > cap {
-            return self.grow_for(additional);
-        }
-        Ok(())
     }
 
     // Grows the list to make room for `additional` more items.
@@ -242,8 +217,6 @@ impl<T, A: Allocator> ThinVec<T, A> {
     pub fn with_capacity(alloc: A, capacity: usize) -> Result<ThinVec<T, A>, ThinVecError>
         // On success.
         ensures items { IfOk result (λ list. list.items ≡ []) }
-        ensures len { IfOk result (λ list. length list.items ≡ 0) }
-        ensures capacity { IfOk result (λ list. capacity ≤ list.capacity) }
         ensures exact { IfOk result (λ list. list.capacity ≡ capacity) }
         ensures cost { IfOk result (λ list. list.cost ≡ cost_of_new capacity) }
         ensures fresh { IfOk result (IsFreshList T.row alloc) }
@@ -253,6 +226,10 @@ impl<T, A: Allocator> ThinVec<T, A> {
 
         // On failure.
         ensures overflow { OverflowsIffTooLarge T.row capacity result }
+
+        // These follow from `items` and `exact`.
+        ensures len { IfOk result (λ list. length list.items ≡ 0) }
+        ensures capacity { IfOk result (λ list. capacity ≤ list.capacity) }
     {
         if !fits::<T>(capacity) {
             return Err(ThinVecError::CapacityOverflow);

@@ -34,7 +34,13 @@ impl<T: Clone, A: Allocator, G: Growth> ThinVec<T, A, G> {
         ensures succeeds { HasRoomFor self.old (length items.now) → All T.is_infallible items.now
             → IsOk result }
 
-        // On failure. Either the list had no room, or the clone of an item failed.
+        // On failure. The first three clauses follow from `err` and `overflow`, and are what most
+        // callers need. Either the list had no room, or the clone of an item failed (`err`).
+        ensures err_items { OnErr result (self.new.items ≡ self.old.items) }
+        ensures err_overflow { IsErrOf result ThinVecError.CapacityOverflow
+            → self.new ≡ self.old }
+        ensures err_if_infallible { All T.is_infallible items.now
+            → OnErr result (self.new ≡ self.old) }
         ensures err { OnErr result ((¬ (HasRoomFor self.old (length items.now))
             × (self.new ≡ self.old))
             ⊎ LeftByFailedClone (capacity_after_reserve G.rule T.row self.old (length items.now))
@@ -43,26 +49,22 @@ impl<T: Clone, A: Allocator, G: Growth> ThinVec<T, A, G> {
             (capacity_after_reserve G.rule T.row self.old (length items.now)) result }
 
         // In every case.
-        ensures had_room { HasRoomFor self.old (length items.now)
-            → self.new.capacity ≡ self.old.capacity }
         ensures preserved { PreservesList T.row self.old self.new }
 
-        // These follow from `items`, `err` and `overflow`.
+        // These follow from `items`, `capacity` and `err`.
         ensures items_if_clones_equal { OnOk result (ClonesEqual T.is_clone
             → self.new.items ≡ self.old.items ++ items.now) }
-        ensures err_items { OnErr result (self.new.items ≡ self.old.items) }
-        ensures err_overflow { IsErrOf result ThinVecError.CapacityOverflow
-            → self.new ≡ self.old }
-        ensures err_if_infallible { All T.is_infallible items.now
-            → OnErr result (self.new ≡ self.old) }
+        ensures had_room { HasRoomFor self.old (length items.now)
+            → self.new.capacity ≡ self.old.capacity }
     {
         self.reserve(items.len())?;
         self.extend_from_slice_reserved(items)
     }
 
     /// Makes a list of clones of all items, in order, or fails if there is no memory for it or an
-    /// item cannot be cloned. The new list owns `alloc`. For `Copy` items, `clone_copies` is
-    /// faster.
+    /// item cannot be cloned. Requests the block, and then clones each item once, from the first to
+    /// the last. (The contract does not say how often or in which order `T::clone` is called.) The
+    /// new list owns `alloc`. For `Copy` items, `clone_copies` is faster.
     ///
     /// # Errors
     ///
@@ -71,8 +73,6 @@ impl<T: Clone, A: Allocator, G: Growth> ThinVec<T, A, G> {
     pub fn clone(&self, alloc: A) -> Result<ThinVec<T, A, G>, ThinVecError>
         // On success.
         ensures items { IfOk result (λ list. AllZip T.is_clone self.now.items list.items) }
-        ensures items_if_clones_equal { IfOk result (λ list. ClonesEqual T.is_clone
-            → list.items ≡ self.now.items) }
         ensures capacity { IfOk result (λ list. list.capacity ≡ length self.now.items) }
         ensures cost { IfOk result (λ list. list.cost ≡ add_moves (length self.now.items)
             (cost_of_new (length self.now.items))) }
@@ -83,6 +83,10 @@ impl<T: Clone, A: Allocator, G: Growth> ThinVec<T, A, G> {
 
         // On failure.
         ensures cause { IfErr result (λ cause. cause ≡ ThinVecError.OutOfMemory) }
+
+        // This follows from `items`.
+        ensures items_if_clones_equal { IfOk result (λ list. ClonesEqual T.is_clone
+            → list.items ≡ self.now.items) }
     {
         ThinVec::from_fitting_slice(alloc, self.as_slice())
     }
@@ -127,22 +131,24 @@ impl<T: Clone, A: Allocator, G: Growth> ThinVec<T, A, G> {
         // On success.
         ensures items { OnOk result
             (AppendsClones T.is_clone self.old.items self.new.items items.now) }
-        ensures items_if_clones_equal { OnOk result (ClonesEqual T.is_clone
-            → self.new.items ≡ self.old.items ++ items.now) }
         ensures cost { OnOk result (self.new.cost ≡ add_moves (length items.now) self.old.cost) }
 
         // When it must succeed. In every other case it may fail.
         ensures succeeds { All T.is_infallible items.now → IsOk result }
 
-        // On failure.
-        ensures cause { IfErr result (λ cause. cause ≡ ThinVecError.OutOfMemory) }
+        // On failure. The old items stay, and the clones that were made count as moves.
         ensures err_items { OnErr result (self.new.items ≡ self.old.items) }
         ensures err { OnErr result (FailsAtClone T.is_infallible items.now self.old.cost
             self.new.cost) }
+        ensures cause { IfErr result (λ cause. cause ≡ ThinVecError.OutOfMemory) }
 
         // In every case.
         ensures capacity { self.new.capacity ≡ self.old.capacity }
         ensures preserved { PreservesList T.row self.old self.new }
+
+        // This follows from `items`.
+        ensures items_if_clones_equal { OnOk result (ClonesEqual T.is_clone
+            → self.new.items ≡ self.old.items ++ items.now) }
     {
         let len = self.len();
         if self.push_clones_reserved(items) < items.len() {
@@ -194,7 +200,13 @@ impl<T: Clone, A: Allocator, G: Growth> ThinVec<T, A, G> {
         ensures succeeds { HasRoomFor self.old (end - start)
             → All T.is_infallible (slice_range self.old.items start end) → IsOk result }
 
-        // On failure. Either the list had no room, or the clone of an item failed.
+        // On failure. The first three clauses follow from `err` and `overflow`, and are what most
+        // callers need. Either the list had no room, or the clone of an item failed (`err`).
+        ensures err_items { OnErr result (self.new.items ≡ self.old.items) }
+        ensures err_overflow { IsErrOf result ThinVecError.CapacityOverflow
+            → self.new ≡ self.old }
+        ensures err_if_infallible { All T.is_infallible (slice_range self.old.items start end)
+            → OnErr result (self.new ≡ self.old) }
         ensures err { OnErr result ((¬ (HasRoomFor self.old (end - start)) × (self.new ≡ self.old))
             ⊎ LeftByFailedClone (capacity_after_reserve G.rule T.row self.old (end - start))
             T.is_infallible (slice_range self.old.items start end) self.old self.new) }
@@ -202,18 +214,13 @@ impl<T: Clone, A: Allocator, G: Growth> ThinVec<T, A, G> {
             (capacity_after_reserve G.rule T.row self.old (end - start)) result }
 
         // In every case.
-        ensures had_room { HasRoomFor self.old (end - start)
-            → self.new.capacity ≡ self.old.capacity }
         ensures preserved { PreservesList T.row self.old self.new }
 
-        // These follow from `items`, `err` and `overflow`.
+        // These follow from `items`, `capacity` and `err`.
         ensures items_if_clones_equal { OnOk result (ClonesEqual T.is_clone
             → self.new.items ≡ self.old.items ++ slice_range self.old.items start end) }
-        ensures err_items { OnErr result (self.new.items ≡ self.old.items) }
-        ensures err_overflow { IsErrOf result ThinVecError.CapacityOverflow
-            → self.new ≡ self.old }
-        ensures err_if_infallible { All T.is_infallible (slice_range self.old.items start end)
-            → OnErr result (self.new ≡ self.old) }
+        ensures had_room { HasRoomFor self.old (end - start)
+            → self.new.capacity ≡ self.old.capacity }
     {
         self.reserve(end - start)?;
         let len = self.len();

@@ -1,6 +1,6 @@
 //! The methods that copy items of a `Copy` type. They copy the items byte for byte, without calling
 //! `clone`.
-ghost use Rattle.std.specs.Prelude.{◌≡◌, ◌+◌, ◌<◌, ◌++◌, IfErr, IfOk, IsOk, OnErr, OnOk, Some, length};
+ghost use Rattle.std.specs.Prelude.{◌≡◌, ◌+◌, ◌++◌, IfErr, IfOk, IsOk, OnErr, OnOk, Some, length};
 ghost use Rattle.thin_block.specs.Cost.{add_moves};
 ghost use Rattle.thin_vec.specs.List.Capacity.{CostsMoves, IsFreshList, OverflowsIff, PreservesList};
 
@@ -20,8 +20,6 @@ impl<T: Copy, A: Allocator, G: Growth> ThinVec<T, A, G> {
     pub fn extend_from_copies(&mut self, items: &[T]) -> Result<(), ThinVecError>
         // On success.
         ensures items { OnOk result (self.new.items ≡ self.old.items ++ items.now) }
-        ensures len { OnOk result
-            (length self.new.items ≡ length self.old.items + length items.now) }
         ensures capacity { OnOk result (capacity_after_reserve G.rule T.row self.old
             (length items.now) ≡ Some self.new.capacity) }
         ensures cost { OnOk result (CostsMoves (length items.now) self.old self.new) }
@@ -29,18 +27,22 @@ impl<T: Copy, A: Allocator, G: Growth> ThinVec<T, A, G> {
         // When it must succeed. In every other case it may fail.
         ensures succeeds { HasRoomFor self.old (length items.now) → IsOk result }
 
-        // On failure.
+        // On failure, which happens only without room: nothing changes.
         ensures err { OnErr result (self.new ≡ self.old) }
         ensures overflow { OverflowsIff
             (capacity_after_reserve G.rule T.row self.old (length items.now)) result }
 
         // In every case.
+        ensures preserved { PreservesList T.row self.old self.new }
+
+        // These follow from `items`, `capacity` and `err`.
+        ensures len { OnOk result
+            (length self.new.items ≡ length self.old.items + length items.now) }
         ensures had_room { HasRoomFor self.old (length items.now)
             → self.new.capacity ≡ self.old.capacity }
-        ensures preserved { PreservesList T.row self.old self.new }
     {
         // The proof of `overflow` names the cause, which `?` would hide behind `From`.
-        match self.reserve_run(items.len()) {
+        match self.reserve(items.len()) {
             Ok(()) => (),
             Err(cause) => return Err(cause),
         }

@@ -1,15 +1,13 @@
 //! The methods `extend` and `from_iter`, which move the items of an iterator into a list.
-ghost use Rattle.std.specs.Prelude.{◌≡◌, ◌↔◌, ℕ, ◌+◌, ◌-◌, ◌<◌, ◌≤◌, List, ◌++◌, IfErr, IfOk, IsOk, IsSome, MatchOption, None, OnErr, OnOk, Some, length};
-ghost use Rattle.std.specs.Align.{type_align};
+ghost use Rattle.std.specs.Prelude.{◌≡◌, ℕ, ◌+◌, ◌-◌, List, ◌++◌, IfErr, IfOk, IsOk, IsSome, MatchOption, OnErr, OnOk, length};
 ghost use Rattle.std.specs.Iterator.Runs.{SomeRun, WholeRun};
 ghost use Rattle.std.specs.Iterator.SizeHint.{IsWithinCount};
 ghost use Rattle.std.specs.Iterator.{Drains, IsFinite, size};
-ghost use Rattle.std.specs.Mem.{type_size};
 ghost use Rattle.std.specs.Option.{option_to_list};
 ghost use Rattle.thin_block.specs.Cost.{add_moves};
-ghost use Rattle.thin_block.specs.Growth.{doubling, exact_capacity};
+ghost use Rattle.thin_block.specs.Growth.{doubling};
 ghost use Rattle.thin_vec.specs.Cheap.{IsCheap};
-ghost use Rattle.thin_vec.specs.List.Capacity.{FailsForRoom, PreservesList};
+ghost use Rattle.thin_vec.specs.List.Capacity.{FailsForRoom, FailsToAllocate, PreservesList};
 ghost use Rattle.thin_vec.specs.List.Extend.{ExtendsList, IsAfterExtend, IsAfterPushes, IsCollectedFrom, IsCollectedList, YieldsAndCanContinue};
 ghost use Rattle.thin_vec.specs.Put.{IsFilledBy};
 ghost use Rattle.thin_vec.specs.ThinVec.{HasRoomFor, IsNew, IsBounded};
@@ -20,7 +18,7 @@ use crate::put::{Filled, put_iter};
 use std::alloc::{AllocError, Allocator};
 use std::iter::{Extend, FromIterator, IntoIterator, Iterator};
 use std::mem;
-use thin_block::{Block, Growth, ThinVecError};
+use thin_block::{Block, Growth};
 
 impl<T, A: Allocator, G: Growth> ThinVec<T, A, G> {
     /// Appends the items that `iter` yields before its first `None`. The call begins by reserving
@@ -203,14 +201,13 @@ impl<T, A: Allocator> ThinVec<T, A> {
         ensures in_hand { IfErr result (λ error. MatchOption error.in_hand
             (IsNew error.list alloc × (error.rest ≡ iter))
             (λ _. length error.list.items ≡ error.list.capacity)) }
-        ensures err { IfErr result
+        ensures error_list { IfErr result
             (λ error. IsCollectedList doubling T.row alloc error.list (I.remaining iter)) }
         // The list had no room for the item in hand, or the call could not allocate a block of
         // capacity `h`, some number within the limit.
         ensures cause { IfErr result (λ error. MatchOption error.in_hand
-            ((h : ℕ) × IsWithinCount h (I.remaining error.rest) × (0 < h)
-            × ((error.cause ≡ ThinVecError.CapacityOverflow)
-            ↔ (exact_capacity (type_size T.row) (type_align T.row) 0 h ≡ None)))
+            ((h : ℕ) × IsWithinCount h (I.remaining error.rest)
+            × FailsToAllocate T.row h error.cause)
             (λ _. FailsForRoom doubling T.row error.list 1 error.cause)) }
     {
         let mut list = ThinVec::new(alloc);

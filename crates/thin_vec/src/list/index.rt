@@ -69,9 +69,11 @@ impl<T, A: Allocator, G: Growth> IndexMut<usize> for ThinVec<T, A, G> {
         requires { index < length self.old.items }
         ensures* writes_back { sem 𝓛
             (LendsItem T.row A.row G.row A.Allocator G.Growth self.entry index result) }
-        ensures value { result.now ≡ slice_index_or self.old.items index result.now }
         ensures found { slice_get self.old.items index ≡ Some result.now }
         ensures bounds_before { IsBounded T.row self.old }
+
+        // This follows from `found`.
+        ensures value { result.now ≡ slice_index_or self.old.items index result.now }
     {
         // Only the proof needs this call: its contract says that the list `IsBounded`.
         let _len = self.len();

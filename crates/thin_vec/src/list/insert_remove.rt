@@ -1,5 +1,5 @@
 //! The methods that insert or remove single items, and `truncate` and `clear`.
-ghost use Rattle.std.specs.Prelude.{◌≡◌, ◌+◌, ◌-◌, ◌<◌, ◌≤◌, ◌==◌, [], IfErr, IfOk, IsErr, IsOk, None, is_ok, OnErr, OnOk, Some, if◌then◌else◌, insert, length, remove, slice_get, slice_index_or, take};
+ghost use Rattle.std.specs.Prelude.{◌≡◌, ◌⊎◌, ◌+◌, ◌-◌, ◌*◌, ◌<◌, ◌≤◌, ◌==◌, [], IfErr, IfOk, IsErr, IsOk, None, is_ok, OnErr, OnOk, Some, if◌then◌else◌, insert, length, remove, slice_get, slice_index_or, take};
 ghost use Rattle.std.specs.List.{swap_remove};
 ghost use Rattle.std.specs.List.Retain.{PopsIf};
 ghost use types.Logic.{sem};
@@ -10,7 +10,7 @@ ghost use Rattle.thin_vec.specs.List.Capacity.{CostsMoves, FailsForRoom, Preserv
 use crate::errors::Rejected;
 use crate::list::ThinVec;
 use std::alloc::Allocator;
-use thin_block::{Growth, ThinVecError};
+use thin_block::Growth;
 
 impl<T, A: Allocator, G: Growth> ThinVec<T, A, G> {
     ghost use Rattle.thin_vec.specs.ThinVec.{HasRoomFor, IsBounded, capacity_after_reserve};
@@ -27,26 +27,30 @@ impl<T, A: Allocator, G: Growth> ThinVec<T, A, G> {
         // The items, whether the call succeeds or fails.
         ensures items { self.new.items
             ≡ (if is_ok result then insert self.old.items index value else self.old.items) }
-        ensures len { length self.new.items
-            ≡ (if is_ok result then length self.old.items + 1 else length self.old.items) }
 
-        // On success.
+        // On success. The capacity stays if there was room. Otherwise, the growth rule chooses it.
         ensures capacity { OnOk result
             (capacity_after_reserve G.rule T.row self.old 1 ≡ Some self.new.capacity) }
+        ensures doubles { OnOk result
+            (HasRoomFor self.old 1 ⊎ (2 * self.old.capacity ≤ self.new.capacity)) }
         ensures cost { OnOk result
             (CostsMoves (length self.old.items - index + 1) self.old self.new) }
 
         // When it must succeed. In every other case it may fail.
         ensures succeeds { HasRoomFor self.old 1 → IsOk result }
 
-        // On failure.
+        // On failure, which happens only without room: nothing changes, and `value` comes back.
         ensures err { OnErr result (self.new ≡ self.old) }
         ensures value_returned { IfErr result (λ error. error.value ≡ value) }
         ensures cause { IfErr result (λ error. FailsForRoom G.rule T.row self.old 1 error.cause) }
 
         // In every case.
-        ensures had_room { HasRoomFor self.old 1 → self.new.capacity ≡ self.old.capacity }
         ensures preserved { PreservesList T.row self.old self.new }
+
+        // These follow from `items`, `capacity` and `err`.
+        ensures len { length self.new.items
+            ≡ (if is_ok result then length self.old.items + 1 else length self.old.items) }
+        ensures had_room { HasRoomFor self.old 1 → self.new.capacity ≡ self.old.capacity }
     {
         if let Err(cause) = self.reserve(1) {
             return Err(Rejected { value, cause });
@@ -61,8 +65,8 @@ impl<T, A: Allocator, G: Growth> ThinVec<T, A, G> {
         requires in_bounds { index ≤ length self.old.items }
         requires room { HasRoomFor self.old 1 }
         ensures items { self.new.items ≡ insert self.old.items index value }
-        ensures cost { self.new.cost ≡ add_moves (length self.old.items - index + 1) self.old.cost }
         ensures capacity { self.new.capacity ≡ self.old.capacity }
+        ensures cost { self.new.cost ≡ add_moves (length self.old.items - index + 1) self.old.cost }
         ensures preserved { PreservesList T.row self.old self.new }
     {
         let len = self.block.len();
@@ -104,13 +108,15 @@ impl<T, A: Allocator, G: Growth> ThinVec<T, A, G> {
     /// lower index.
     pub fn remove(&mut self, index: usize) -> T
         requires in_bounds { index < length self.old.items }
-        ensures value { result ≡ slice_index_or self.old.items index result }
         ensures found { slice_get self.old.items index ≡ Some result }
         ensures items { self.new.items ≡ remove self.old.items index }
+        ensures capacity { self.new.capacity ≡ self.old.capacity }
         ensures cost { self.new.cost ≡ add_moves
             (length self.old.items - (index + 1)) self.old.cost }
-        ensures capacity { self.new.capacity ≡ self.old.capacity }
         ensures preserved { PreservesList T.row self.old self.new }
+
+        // This follows from `found`.
+        ensures value { result ≡ slice_index_or self.old.items index result }
     {
         let len = self.block.len();
         let value = self.block.take(index);
@@ -123,14 +129,16 @@ impl<T, A: Allocator, G: Growth> ThinVec<T, A, G> {
     /// constant time, but changes the order of the items.
     pub fn swap_remove(&mut self, index: usize) -> T
         requires in_bounds { index < length self.old.items }
-        ensures value { result ≡ slice_index_or self.old.items index result }
         ensures found { slice_get self.old.items index ≡ Some result }
         ensures items { self.new.items ≡ swap_remove self.old.items index result }
+        ensures capacity { self.new.capacity ≡ self.old.capacity }
         ensures cost { self.new.cost ≡ add_moves
             (if index + 1 == length self.old.items then 0 else 1)
             self.old.cost }
-        ensures capacity { self.new.capacity ≡ self.old.capacity }
         ensures preserved { PreservesList T.row self.old self.new }
+
+        // This follows from `found`.
+        ensures value { result ≡ slice_index_or self.old.items index result }
     {
         let last = self.block.len() - 1;
         let value = self.block.swap_take(index, last);
@@ -180,9 +188,11 @@ impl<T: Drop, A: Allocator, G: Growth> ThinVec<T, A, G> {
     /// Drops all items.
     pub fn clear(&mut self)
         ensures items { self.new.items ≡ [] }
-        ensures len { length self.new.items ≡ 0 }
         ensures changes { self.new ≡ record self.old { items = self.new.items } }
         ensures bounds { IsBounded T.row self.old × IsBounded T.row self.new }
+
+        // This follows from `items`.
+        ensures len { length self.new.items ≡ 0 }
     {
         self.truncate(0);
     }

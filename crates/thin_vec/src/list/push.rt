@@ -1,5 +1,5 @@
 //! The methods that append one item.
-ghost use Rattle.std.specs.Prelude.{◌≡◌, ◌+◌, ◌<◌, ◌≤◌, [], ◌∷◌, ◌++◌, IfErr, IfOk, IsErr, IsOk, None, Some, if◌then◌else◌, is_ok, OnErr, OnOk, length};
+ghost use Rattle.std.specs.Prelude.{◌≡◌, ◌⊎◌, ◌+◌, ◌*◌, ◌≤◌, [], ◌∷◌, ◌++◌, IfErr, IfOk, IsErr, IsOk, None, Some, if◌then◌else◌, is_ok, OnErr, OnOk, length};
 ghost use Rattle.thin_block.specs.Cost.{add_moves};
 ghost use Rattle.thin_vec.specs.List.Capacity.{CostsMoves, FailsForRoom, PreservesList};
 ghost use Rattle.thin_vec.specs.List.InsertRemove.{LendsAdded};
@@ -8,7 +8,7 @@ ghost use types.Logic.{sem};
 use crate::errors::Rejected;
 use crate::list::ThinVec;
 use std::alloc::Allocator;
-use thin_block::{Growth, ThinVecError};
+use thin_block::Growth;
 
 impl<T, A: Allocator, G: Growth> ThinVec<T, A, G> {
     ghost use Rattle.thin_vec.specs.ThinVec.{HasRoomFor, IsBounded, capacity_after_reserve};
@@ -28,25 +28,31 @@ impl<T, A: Allocator, G: Growth> ThinVec<T, A, G> {
         // The items, whether the call succeeds or fails.
         ensures items { self.new.items
             ≡ (if is_ok result then self.old.items ++ value ∷ [] else self.old.items) }
-        ensures len { length self.new.items
-            ≡ (if is_ok result then length self.old.items + 1 else length self.old.items) }
 
-        // On success.
+        // On success. The capacity stays if there was room. Otherwise, the growth rule chooses it.
         ensures capacity { OnOk result
             (capacity_after_reserve G.rule T.row self.old 1 ≡ Some self.new.capacity) }
+        ensures doubles { OnOk result
+            (HasRoomFor self.old 1 ⊎ (2 * self.old.capacity ≤ self.new.capacity)) }
         ensures cost { OnOk result (CostsMoves 1 self.old self.new) }
 
         // When it must succeed. In every other case it may fail.
         ensures succeeds { HasRoomFor self.old 1 → IsOk result }
 
-        // On failure.
+        // On failure, which happens only without room: nothing changes, and `value` comes back.
         ensures err { OnErr result (self.new ≡ self.old) }
         ensures value_returned { IfErr result (λ error. error.value ≡ value) }
         ensures cause { IfErr result (λ error. FailsForRoom G.rule T.row self.old 1 error.cause) }
 
         // In every case.
-        ensures had_room { HasRoomFor self.old 1 → self.new.capacity ≡ self.old.capacity }
         ensures preserved { PreservesList T.row self.old self.new }
+
+        // These follow from `items`, `capacity` and `err`.
+        ensures len { length self.new.items
+            ≡ (if is_ok result then length self.old.items + 1 else length self.old.items) }
+        ensures lower_bound { length self.old.items ≤ length self.new.items }
+        ensures upper_bound { length self.new.items ≤ length self.old.items + 1 }
+        ensures had_room { HasRoomFor self.old 1 → self.new.capacity ≡ self.old.capacity }
     {
         let len = self.len();
         if let Err(cause) = self.reserve(1) {
@@ -60,10 +66,12 @@ impl<T, A: Allocator, G: Growth> ThinVec<T, A, G> {
     pub fn push_reserved(&mut self, value: T)
         requires room { HasRoomFor self.old 1 }
         ensures items { self.new.items ≡ self.old.items ++ value ∷ [] }
-        ensures len { length self.new.items ≡ length self.old.items + 1 }
-        ensures cost { self.new.cost ≡ add_moves 1 self.old.cost }
         ensures capacity { self.new.capacity ≡ self.old.capacity }
+        ensures cost { self.new.cost ≡ add_moves 1 self.old.cost }
         ensures preserved { PreservesList T.row self.old self.new }
+
+        // This follows from `items`.
+        ensures len { length self.new.items ≡ length self.old.items + 1 }
     {
         self.push_at(self.len(), value);
     }

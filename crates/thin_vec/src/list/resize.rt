@@ -35,7 +35,12 @@ impl<T: Clone, A: Allocator, G: Growth> ThinVec<T, A, G> {
         ensures succeeds_by_one { len ≡ length self.old.items + 1 → HasRoomFor self.old 1
             → IsOk result }
 
-        // On failure. Either the list had no room, or a clone of `value` failed.
+        // On failure. The first three clauses follow from `err` and `overflow`, and are what most
+        // callers need. Either the list had no room, or a clone of `value` failed (`err`).
+        ensures err_items { OnErr result (self.new.items ≡ self.old.items) }
+        ensures err_overflow { IsErrOf result ThinVecError.CapacityOverflow
+            → self.new ≡ self.old }
+        ensures err_if_infallible { T.is_infallible value → OnErr result (self.new ≡ self.old) }
         ensures err { OnErr result ((¬ (HasRoomFor self.old (len - length self.old.items))
             × (self.new ≡ self.old)) ⊎ LeftByFailedClone
             (capacity_after_reserve G.rule T.row self.old (len - length self.old.items))
@@ -45,20 +50,16 @@ impl<T: Clone, A: Allocator, G: Growth> ThinVec<T, A, G> {
             (capacity_after_reserve G.rule T.row self.old (len - length self.old.items)) result }
 
         // In every case.
-        ensures had_room { HasRoomFor self.old (len - length self.old.items)
-            → self.new.capacity ≡ self.old.capacity }
         ensures preserved { PreservesList T.row self.old self.new }
 
-        // These follow from `items`, `err` and `overflow`.
+        // These follow from `items`, `capacity` and `err`.
         ensures len { OnOk result (length self.new.items ≡ len) }
         ensures items_if_clones_equal { OnOk result
             (((clone : T) → T.is_clone value clone → clone ≡ value)
             → self.new.items ≡ take len self.old.items ++ replicate
             (len - length self.old.items) value) }
-        ensures err_items { OnErr result (self.new.items ≡ self.old.items) }
-        ensures err_overflow { IsErrOf result ThinVecError.CapacityOverflow
-            → self.new ≡ self.old }
-        ensures err_if_infallible { T.is_infallible value → OnErr result (self.new ≡ self.old) }
+        ensures had_room { HasRoomFor self.old (len - length self.old.items)
+            → self.new.capacity ≡ self.old.capacity }
     {
         let old = self.len();
         if len <= old {
@@ -111,7 +112,6 @@ impl<T: Drop, A: Allocator, G: Growth> ThinVec<T, A, G> {
         // On success.
         ensures items { OnOk result
             (AppendsResults F.step (take len self.old.items) self.new.items make) }
-        ensures len { OnOk result (length self.new.items ≡ len) }
         ensures capacity { OnOk result (capacity_after_reserve G.rule T.row self.old
             (len - length self.old.items) ≡ Some self.new.capacity) }
         ensures cost { OnOk result (CostsMoves (len - length self.old.items) self.old self.new) }
@@ -119,15 +119,18 @@ impl<T: Drop, A: Allocator, G: Growth> ThinVec<T, A, G> {
         // When it must succeed. In every other case it may fail.
         ensures succeeds { len ≤ self.old.capacity → IsOk result }
 
-        // On failure.
+        // On failure, which happens only without room: nothing changes.
         ensures err { OnErr result (self.new ≡ self.old) }
         ensures overflow { OverflowsIff
             (capacity_after_reserve G.rule T.row self.old (len - length self.old.items)) result }
 
         // In every case.
+        ensures preserved { PreservesList T.row self.old self.new }
+
+        // These follow from `items`, `capacity` and `err`.
+        ensures len { OnOk result (length self.new.items ≡ len) }
         ensures had_room { HasRoomFor self.old (len - length self.old.items)
             → self.new.capacity ≡ self.old.capacity }
-        ensures preserved { PreservesList T.row self.old self.new }
     {
         let old = self.len();
         if len <= old {

@@ -1,7 +1,7 @@
 //! Methods of slices that write to the items, with contracts that speak of the list. The stable
 //! sorts take the memory that they need from the allocator of the list.
-ghost use Rattle.std.specs.Prelude.{◌≡◌, ℕ, ◌-◌, ◌<◌, ◌≤◌, ◌↔◌, ◌++◌, reverse as reversed, IfSome, IsOk, IsPermutation, IsSome, IsSorted, OnErr, OnOk, drop, length, replicate, slice_index_or, take};
-ghost use Rattle.std.specs.List.{AllWithin, HoldsAt, ItemMut, IsItemAtMut, ReversedBelow, RotatedLeft, RotatedRight, SwappedAt, swap};
+ghost use Rattle.std.specs.Prelude.{◌≡◌, ◌-◌, ◌<◌, ◌≤◌, ◌↔◌, ◌++◌, reverse as reversed, IfSome, IsOk, IsPermutation, IsSome, IsSorted, OnErr, OnOk, drop, length, replicate, slice_index_or, take};
+ghost use Rattle.std.specs.List.{AllWithin, HoldsAt, ReversedBelow, RotatedLeft, RotatedRight, SwappedAt, swap};
 ghost use Rattle.std.specs.List.Sorted.{IsSortedByClosure, IsSortedByKeyClosure, IsStable, IsStableByClosure, IsStableByKeyClosure};
 ghost use Rattle.thin_vec.specs.Lends.{LendsGet, LendsItems};
 ghost use Rattle.thin_vec.specs.ThinVec.{IsBounded};
@@ -15,7 +15,8 @@ use thin_block::Growth;
 impl<T, A: Allocator, G: Growth> ThinVec<T, A, G> {
     /// Sorts the items, or fails if the memory for it is refused. Equal items keep their order.
     /// More than 20 items may need memory for the time of the call, which the allocator of the list
-    /// gives.
+    /// gives. (No contract of a sort says how often items are compared, how often a closure is
+    /// called, or how much memory is taken.)
     ///
     /// # Errors
     ///
@@ -29,22 +30,25 @@ impl<T, A: Allocator, G: Growth> ThinVec<T, A, G> {
         // When it must succeed. In every other case it may fail.
         ensures succeeds { length self.old.items ≤ 20 → IsOk result }
 
-        // On failure.
+        // On failure: nothing changes.
         ensures err { OnErr result (self.new ≡ self.old) }
 
-        // In every case.
+        // In every case. Equal items keep their order (`stable`).
         ensures permutation { IsPermutation self.old.items self.new.items }
         ensures stable { IsStable T.cmp self.old.items self.new.items }
-        ensures len { length self.new.items ≡ length self.old.items }
-        ensures capacity { self.new.capacity ≡ self.old.capacity }
         ensures changes { self.new ≡ record self.old { items = self.new.items } }
         ensures bounds_before { IsBounded T.row self.old }
+
+        // These follow from `permutation` and `changes`.
+        ensures len { length self.new.items ≡ length self.old.items }
+        ensures capacity { self.new.capacity ≡ self.old.capacity }
     {
         let (items, alloc) = self.parts_mut();
         items.sort(alloc)
     }
 
-    /// Does the same as `sort`, in the order of `compare`.
+    /// Does the same as `sort`, in the order of `compare`. If the answers of `compare` do not form
+    /// a strict weak order, the items end up in some order.
     ///
     /// # Errors
     ///
@@ -52,28 +56,31 @@ impl<T, A: Allocator, G: Growth> ThinVec<T, A, G> {
     pub fn sort_by<F: FnMut(&T, &T) -> Ordering>(&mut self, compare: F) -> Result<(), AllocError>
         requires callable { F.IsAlwaysCallable compare }
 
-        // On success.
+        // On success. If `compare` answers by a strict weak order, the items are sorted by it.
         ensures sorted { OnOk result (IsSortedByClosure F.FnMut compare self.new.items) }
 
         // When it must succeed. In every other case it may fail.
         ensures succeeds { length self.old.items ≤ 20 → IsOk result }
 
-        // On failure.
+        // On failure: nothing changes.
         ensures err { OnErr result (self.new ≡ self.old) }
 
-        // In every case.
+        // In every case. Under the same condition, ties keep their order (`stable`).
         ensures permutation { IsPermutation self.old.items self.new.items }
         ensures stable { IsStableByClosure F.FnMut compare self.old.items self.new.items }
-        ensures len { length self.new.items ≡ length self.old.items }
-        ensures capacity { self.new.capacity ≡ self.old.capacity }
         ensures changes { self.new ≡ record self.old { items = self.new.items } }
         ensures bounds_before { IsBounded T.row self.old }
+
+        // These follow from `permutation` and `changes`.
+        ensures len { length self.new.items ≡ length self.old.items }
+        ensures capacity { self.new.capacity ≡ self.old.capacity }
     {
         let (items, alloc) = self.parts_mut();
         items.sort_by(alloc, compare)
     }
 
-    /// Does the same as `sort`, in the order of the keys that `f` returns.
+    /// Does the same as `sort`, in the order of the keys that `f` returns. If the keys depend on
+    /// more than the item, the items end up in some order.
     ///
     /// # Errors
     ///
@@ -83,29 +90,32 @@ impl<T, A: Allocator, G: Growth> ThinVec<T, A, G> {
         K: Drop,
         requires callable { F.IsAlwaysCallable f }
 
-        // On success.
+        // On success. If the keys that `f` returns depend on the item alone, the items are sorted
+        // by them.
         ensures sorted { OnOk result (IsSortedByKeyClosure F.FnMut K.cmp f self.new.items) }
 
         // When it must succeed. In every other case it may fail.
         ensures succeeds { length self.old.items ≤ 20 → IsOk result }
 
-        // On failure.
+        // On failure: nothing changes.
         ensures err { OnErr result (self.new ≡ self.old) }
 
-        // In every case.
+        // In every case. Under the same condition, ties keep their order (`stable`).
         ensures permutation { IsPermutation self.old.items self.new.items }
         ensures stable { IsStableByKeyClosure F.FnMut K.cmp f self.old.items self.new.items }
-        ensures len { length self.new.items ≡ length self.old.items }
-        ensures capacity { self.new.capacity ≡ self.old.capacity }
         ensures changes { self.new ≡ record self.old { items = self.new.items } }
         ensures bounds_before { IsBounded T.row self.old }
+
+        // These follow from `permutation` and `changes`.
+        ensures len { length self.new.items ≡ length self.old.items }
+        ensures capacity { self.new.capacity ≡ self.old.capacity }
     {
         let (items, alloc) = self.parts_mut();
         items.sort_by_key(alloc, f)
     }
 
-    /// Does the same as `sort_by_key`, but calls `f` only once for each item. This takes memory for
-    /// two items or more.
+    /// Does the same as `sort_by_key`, but stores the keys, in place of calling `f` for each
+    /// comparison. This takes memory for two items or more.
     ///
     /// # Errors
     ///
@@ -115,22 +125,25 @@ impl<T, A: Allocator, G: Growth> ThinVec<T, A, G> {
         K: Drop,
         requires callable { F.IsAlwaysCallable f }
 
-        // On success.
+        // On success. If the keys that `f` returns depend on the item alone, the items are sorted
+        // by them.
         ensures sorted { OnOk result (IsSortedByKeyClosure F.FnMut K.cmp f self.new.items) }
 
         // When it must succeed. In every other case it may fail.
         ensures succeeds { length self.old.items ≤ 1 → IsOk result }
 
-        // On failure.
+        // On failure: nothing changes.
         ensures err { OnErr result (self.new ≡ self.old) }
 
-        // In every case.
+        // In every case. Under the same condition, ties keep their order (`stable`).
         ensures permutation { IsPermutation self.old.items self.new.items }
         ensures stable { IsStableByKeyClosure F.FnMut K.cmp f self.old.items self.new.items }
-        ensures len { length self.new.items ≡ length self.old.items }
-        ensures capacity { self.new.capacity ≡ self.old.capacity }
         ensures changes { self.new ≡ record self.old { items = self.new.items } }
         ensures bounds_before { IsBounded T.row self.old }
+
+        // These follow from `permutation` and `changes`.
+        ensures len { length self.new.items ≡ length self.old.items }
+        ensures capacity { self.new.capacity ≡ self.old.capacity }
     {
         let (items, alloc) = self.parts_mut();
         items.sort_by_cached_key(alloc, f)
@@ -142,38 +155,47 @@ impl<T, A: Allocator, G: Growth> ThinVec<T, A, G> {
         T: Ord,
         ensures sorted { IsSorted T.cmp self.new.items }
         ensures permutation { IsPermutation self.old.items self.new.items }
-        ensures len { length self.new.items ≡ length self.old.items }
-        ensures capacity { self.new.capacity ≡ self.old.capacity }
         ensures changes { self.new ≡ record self.old { items = self.new.items } }
         ensures bounds_before { IsBounded T.row self.old }
+
+        // These follow from `permutation` and `changes`.
+        ensures len { length self.new.items ≡ length self.old.items }
+        ensures capacity { self.new.capacity ≡ self.old.capacity }
     {
         self.as_mut_slice().sort_unstable();
     }
 
-    /// Does the same as `sort_unstable`, in the order of `compare`.
+    /// Does the same as `sort_unstable`, in the order of `compare`, as `sort_by` does.
     pub fn sort_unstable_by<F: FnMut(&T, &T) -> Ordering>(&mut self, compare: F)
         requires callable { F.IsAlwaysCallable compare }
+        // If `compare` answers by a strict weak order, the items are sorted by it.
         ensures sorted { IsSortedByClosure F.FnMut compare self.new.items }
         ensures permutation { IsPermutation self.old.items self.new.items }
-        ensures len { length self.new.items ≡ length self.old.items }
-        ensures capacity { self.new.capacity ≡ self.old.capacity }
         ensures changes { self.new ≡ record self.old { items = self.new.items } }
         ensures bounds_before { IsBounded T.row self.old }
+
+        // These follow from `permutation` and `changes`.
+        ensures len { length self.new.items ≡ length self.old.items }
+        ensures capacity { self.new.capacity ≡ self.old.capacity }
     {
         self.as_mut_slice().sort_unstable_by(compare);
     }
 
-    /// Does the same as `sort_unstable`, in the order of the keys that `f` returns.
+    /// Does the same as `sort_unstable`, in the order of the keys that `f` returns, as
+    /// `sort_by_key` does.
     pub fn sort_unstable_by_key<K: Ord, F: FnMut(&T) -> K>(&mut self, f: F)
     where
         K: Drop,
         requires callable { F.IsAlwaysCallable f }
+        // If the keys that `f` returns depend on the item alone, the items are sorted by them.
         ensures sorted { IsSortedByKeyClosure F.FnMut K.cmp f self.new.items }
         ensures permutation { IsPermutation self.old.items self.new.items }
-        ensures len { length self.new.items ≡ length self.old.items }
-        ensures capacity { self.new.capacity ≡ self.old.capacity }
         ensures changes { self.new ≡ record self.old { items = self.new.items } }
         ensures bounds_before { IsBounded T.row self.old }
+
+        // These follow from `permutation` and `changes`.
+        ensures len { length self.new.items ≡ length self.old.items }
+        ensures capacity { self.new.capacity ≡ self.old.capacity }
     {
         self.as_mut_slice().sort_unstable_by_key(f);
     }

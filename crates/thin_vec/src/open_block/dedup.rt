@@ -1,6 +1,5 @@
 //! Functions that test each item of a range against the last item kept before it.
-ghost use Rattle.std.specs.Prelude.{◌≡◌, ◌+◌, ◌-◌, ◌<◌, ◌∷◌, ◌++◌, [], Bool, length, not};
-ghost use Rattle.thin_block.specs.Cost.{add_moves};
+ghost use Rattle.std.specs.Prelude.{◌≡◌, ◌+◌, ◌-◌, ◌<◌, ◌≤◌, [], Bool, length, not};
 
 use crate::open_block::OpenBlock;
 use std::alloc::Allocator;
@@ -35,6 +34,7 @@ impl<T, A: Allocator> OpenBlock<T, A> {
         requires callable { J.ready test.old }
         ensures tested { TestsPairAt J.tests k test.old self.old.middle (not result) test.new
             self.new.middle }
+        ensures count { length self.new.middle ≡ length self.old.middle }
         ensures callable { J.ready test.new }
         ensures changes { self.new ≡ record self.old { middle = self.new.middle } }
     {
@@ -63,6 +63,7 @@ impl<T, A: Allocator> OpenBlock<T, A> {
         requires callable { J.ready test.old }
         ensures tested { TestsNext J.tests test.old kept.old self.old.middle (not result) test.new
             kept.new self.new.middle }
+        ensures count { length self.new.middle ≡ length self.old.middle }
         ensures callable { J.ready test.new }
         ensures changes { self.new ≡ record self.old { middle = self.new.middle } }
     {
@@ -81,17 +82,20 @@ impl<T, A: Allocator> OpenBlock<T, A> {
         requires callable { J.ready test.old }
         ensures tested { TestsPairsUpTo J.tests result test.old self.old.middle test.new
             self.new.middle }
+        ensures count { length self.new.middle ≡ length self.old.middle }
+        ensures in_bounds { result ≤ length self.new.middle }
         ensures callable { J.ready test.new }
         ensures changes { self.new ≡ record self.old { middle = self.new.middle } }
     {
-        let mut at = self.middle_start + 1;
+        let start = self.middle_start;
+        let mut at = start + 1;
         while at < self.middle_end {
-            if !self.test_pair(at - self.middle_start, test) {
-                break;
+            if !self.test_pair(at - start, test) {
+                return at - start;
             }
             at += 1;
         }
-        at - self.middle_start
+        at - start
     }
 }
 
@@ -152,8 +156,6 @@ impl<T: Drop, A: Allocator> OpenBlock<T, A> {
         }
         let kept = self.test_pairs(test);
         self.move_down(kept);
-        if self.middle_len() > 0 {
-            drop(self.take_first());
-        }
+        self.drop_first();
     }
 }

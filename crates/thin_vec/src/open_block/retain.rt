@@ -1,6 +1,5 @@
 //! Functions that test the items of a range, and move the kept items to the front.
-ghost use Rattle.std.specs.Prelude.{◌≡◌, ◌↔◌, ◌+◌, ◌<◌, ◌≤◌, ◌==◌, ◌++◌, Bool, IsTrue, drop, length, take};
-ghost use Rattle.thin_block.specs.Cost.{add_moves};
+ghost use Rattle.std.specs.Prelude.{◌≡◌, ◌↔◌, ◌+◌, ◌<◌, ◌≤◌, ◌==◌, [], Bool, IsTrue, List, drop, length, take, true};
 
 use crate::open_block::OpenBlock;
 use std::alloc::Allocator;
@@ -22,7 +21,7 @@ pub(crate) trait Test<T> {
 }
 
 impl<T, A: Allocator> OpenBlock<T, A> {
-    ghost use Rattle.thin_vec.specs.OpenBlock.Retain.{TestsAt, TestsFrom};
+    ghost use Rattle.thin_vec.specs.OpenBlock.Retain.{TestsAt, TestsUntil};
 
     // Tests the middle item at index `k`.
     #[inline(always)]
@@ -30,52 +29,48 @@ impl<T, A: Allocator> OpenBlock<T, A> {
         requires in_bounds { k < length self.old.middle }
         requires callable { J.ready test.old }
         ensures tested { TestsAt J.tests k test.old self.old.middle result test.new self.new.middle }
+        ensures count { length self.new.middle ≡ length self.old.middle }
         ensures callable { J.ready test.new }
         ensures changes { self.new ≡ record self.old { middle = self.new.middle } }
     {
         test.test(self.block.slot_mut(self.middle_start + k))
     }
 
-    // Tests the middle items from index `from` onward, up to the first one that is not to be kept.
-    // Returns the index of that one, or the number of middle items if there is none.
+    // Tests the middle items after the first one, up to one that is not to be kept. Returns the
+    // index of that one, or the number of middle items if there is none. The test of the second
+    // item stands apart, so that LLVM knows the length of a run of one item.
     #[inline(always)]
-    pub(crate) fn test_run<J: Test<T>>(&mut self, from: usize, test: &mut J) -> usize
-        requires in_bounds { from ≤ length self.old.middle }
+    fn test_rest<J: Test<T>>(&mut self, test: &mut J) -> usize
+        requires nonempty { 0 < length self.old.middle }
         requires callable { J.ready test.old }
-        ensures tested { TestsFrom J.tests from result test.old self.old.middle test.new
-            self.new.middle }
+
+        // If a test kept the first item of `xs` before, then that test and these are a search.
+        ensures tested { (s : J) (xs : List T)
+            → TestsAt J.tests 0 s xs true test.old self.old.middle
+            → TestsUntil J.tests s xs (take result self.new.middle) test.new
+            (drop result self.new.middle) }
+        ensures count { length self.new.middle ≡ length self.old.middle }
+        ensures in_bounds { result ≤ length self.new.middle }
         ensures callable { J.ready test.new }
         ensures changes { self.new ≡ record self.old { middle = self.new.middle } }
     {
-        let mut at = self.middle_start + from;
+        let start = self.middle_start;
+        if start + 1 >= self.middle_end {
+            return 1;
+        }
+        if !self.test(1, test) {
+            return 1;
+        }
+        let mut at = start + 2;
         while at < self.middle_end {
-            if !self.test(at - self.middle_start, test) {
-                break;
+            if !self.test(at - start, test) {
+                return at - start;
             }
             at += 1;
         }
-        at - self.middle_start
+        at - start
     }
 
-    // Does the same as `test_run` from index 1 onward. The test of the second item stands apart, so
-    // that LLVM knows the length of a run of one item.
-    #[inline(always)]
-    pub(crate) fn test_rest<J: Test<T>>(&mut self, test: &mut J) -> usize
-        requires nonempty { 0 < length self.old.middle }
-        requires callable { J.ready test.old }
-        ensures tested { TestsFrom J.tests 1 result test.old self.old.middle test.new
-            self.new.middle }
-        ensures callable { J.ready test.new }
-        ensures changes { self.new ≡ record self.old { middle = self.new.middle } }
-    {
-        if self.has_second() && self.test(1, test) {
-            return self.test_run(2, test);
-        }
-        1
-    }
-}
-
-impl<T, A: Allocator> OpenBlock<T, A> {
     ghost use Rattle.thin_vec.specs.OpenBlock.Retain.{SeeksRemoved};
 
     // Tests the middle items up to the first one that is not to be kept, and appends those before
@@ -90,11 +85,26 @@ impl<T, A: Allocator> OpenBlock<T, A> {
         if self.middle_len() == 0 {
             return false;
         }
+        let in_place = self.front_end == self.middle_start;
+        self.seek(in_place, test)
+    }
+
+    // Does the same as `seek_removed`. The caller says whether kept items stay at their places.
+    #[inline(always)]
+    fn seek<J: Test<T>>(&mut self, in_place: bool, test: &mut J) -> bool
+        requires in_place { in_place ≡ (self.old.gap_before == 0) }
+        requires nonempty { 0 < length self.old.middle }
+        requires callable { J.ready test.old }
+        ensures tested { SeeksRemoved J.tests test.old self.old test.new self.new }
+        ensures value { IsTrue result ↔ (0 < length self.new.middle) }
+        ensures bound { length self.new.middle ≤ length self.old.middle }
+        ensures callable { J.ready test.new }
+    {
         if !self.test(0, test) {
             return true;
         }
         // One call of `test_rest` before the branches took a quarter more instructions.
-        if self.front_end == self.middle_start {
+        if in_place {
             let count = self.test_rest(test);
             self.keep_in_place(count);
             return self.middle_len() > 0;
@@ -106,7 +116,7 @@ impl<T, A: Allocator> OpenBlock<T, A> {
 }
 
 impl<T: Drop, A: Allocator> OpenBlock<T, A> {
-    ghost use Rattle.thin_vec.specs.OpenBlock.Retain.{RetainsMiddle};
+    ghost use Rattle.thin_vec.specs.OpenBlock.Retain.{Retains};
 
     // Tests the middle items, and drops those that are not to be kept. Kept items that lie side by
     // side are moved together, once the next item is not to be kept or there is none. Up to the
@@ -120,16 +130,13 @@ impl<T: Drop, A: Allocator> OpenBlock<T, A> {
         requires gap_before { self.old.gap_before ≡ 0 }
         requires gap_after { self.old.gap_after ≡ 0 }
         requires callable { J.ready test.old }
-        ensures retained { RetainsMiddle J.tests test.old self.old test.new self.new }
+        ensures retained { Retains J.tests test.old self.old test.new self.new }
+        ensures no_middle { self.new.middle ≡ [] }
     {
-        let first = self.test_run(0, test);
-        self.keep_in_place(first);
+        self.seek_removed(test);
         let mut more = self.drop_before_next();
         while more {
-            if self.test(0, test) {
-                let count = self.test_rest(test);
-                self.move_down(count);
-            }
+            self.seek(false, test);
             more = self.drop_before_next();
         }
         self.drop_middle();

@@ -1,7 +1,7 @@
 -- This file proves the contract of `allocate_sized`, which allocates the memory of a block with
 -- empty slots, and writes its header and, if the block is padded, the address of the memory.
 use Rattle.std.proofs.Common.{◌≡◌, ℕ, ◌+◌, ◌*◌, ◌<◌, ◌^◌, List, [], ◌∷◌, ◌++◌, length, replicate, Bool, true, refl, sym, ap, ◌∙◌, arith, lit<, w64, Some, None, Option}
-use Rattle.thin_block.proofs.WalkPrelude.{Ty, Body, ty_int, Val, WT, vint, vptr, vstruct, vcons, vnil, inst_fn, length-replicate, SProp, Fml, froom, flft, size, align, capped, capped_is, Env, ⊑_trans, tables, After, Item, Sq, prop, ‵, raw, ◌⊛◌, later, at_ret, ◌$◌, !, move, keep, drop, use0, use1, use2, use3, split, split3, join, rewrite, fsplit, fjoin, await, suffices, done, whole, agg, stop, fld, lit, bin, init, of_opd, no_more, and_then, assigns, assigns_last, first, exec, branches, skips, returns, alloc_all, pass_all, free_all, look_at, get, get_in, through, sets, sets_last, lands_as, env, holding, forget_but, ltb→lt, nltb→le, Wp, RattleType, Ptr, block_ptr, calls_at, walk_of, ends_at, token, fm, proved_at, type_size, R, slot_at, then_runs, after, head, arm_body, says_all, refused_made, live, vrt, in_variant, switches_on, get_tag, type_at, Takes, at_takes, Answered, Takes-goes, Takes-gives, answers, Ok, Err, ok_of, err_of, add_request}
+use Rattle.thin_block.proofs.WalkPrelude.{Ty, Body, ty_int, Val, WT, vint, vptr, vstruct, vcons, vnil, inst_fn, length-replicate, SProp, Fml, froom, flft, size, align, capped, capped_is, Env, ⊑_trans, tables, After, Item, Sq, prop, ‵, raw, ◌⊛◌, later, at_ret, ◌$◌, !, move, keep, drop, use0, use1, use2, use3, split, split3, join, rewrite, fsplit, fjoin, await, suffices, done, whole, agg, stop, fld, lit, bin, init, of_opd, no_more, and_then, assigns, assigns_last, first, exec, branches, skips, returns, alloc_all, pass_all, free_all, look_at, get, get_in, through, sets, sets_last, lands_as, env, holding, forget_but, ltb→lt, nltb→le, Wp, RattleType, Ptr, block_ptr, calls_at, walk_of, ends_at, token, fm, proved_at, type_size, R, slot_at, then_runs, after, head, arm_body, says_all, refused_made, live, vrt, in_variant, switches_on, get_tag, type_at, Takes, at_takes, Answered, Takes-goes, Takes-gives, answers, Ok, Err, ok_of, err_of, add_realloc, no_cost}
 use types.Kit.{post}
 use contract.Lifetimes.{toks}
 use Rattle.thin_block.specs.Ownership.{fits_block, slots_own, header_owns, dealloc_right, dealloc_right_if, words_of, erased_type, pads, memory_type}
@@ -21,27 +21,25 @@ allocate_sized_spec 𝓤 𝓛 𝓜 𝓡 wired T A LT LA g d dd met md =
     let c = clauses T A g d dd 𝓛 𝓜.mem 𝓡.returns in let ps = En₀.signature.params in
     let hs = dropped ps En₀.kept in let fn = inst_fn (args E Y) compiled.function in
     let 𝓣 = tables 𝓤 𝓛.H 𝓜 𝓡 𝓡.env in let C = 𝓣.C in let Λ = 𝓣.Λ in
-    let q = still 𝓛 4 in
+    let q = still 𝓛 3 in
     proved_at 𝓛 En₀ hs c 𝓜 𝓡
-    (all_go 𝓛 ps En₀.kept ((λ κs x f. refl), (q, (q, (q, (q, ((λ κs x f. refl), tt)))))))
+    (all_go 𝓛 ps En₀.kept ((λ κs x f. refl), (q, (q, (q, (q, tt))))))
     (#self (args E Y)) fn (compiled.unfolded 𝓤 𝓛.H 𝓜 𝓡 wired (T, (A, tt)) d dd) (λ z are.
     let Post : Val → SProp 𝓤 = (walk_of 𝓛 En₀ hs c).post z in
-    let (κ, (_, (_, (κA, _)))) = z.0.0 in
+    let (κ, (_, (κA, _))) = z.0.0 in
     let (q, _) = z.0.1 in
-    let (alloc, (cap, (bytes, (al, (front, (replaced, _)))))) = z.0.3 in
-    let ((is₀, _), ((is₁, fc), ((is₂, fb), ((is₃, fa), ((is₄, ff), ((is₅, _), _)))))) = are in
+    let (alloc, (cap, (bytes, (al, (front, _))))) = z.0.3 in
+    let ((is₀, _), ((is₁, fc), ((is₂, fb), ((is₃, fa), ((is₄, ff), _))))) = are in
     let B : RattleType = Br E Y in
     let Rt : RattleType = R E in
     let h = alloc.now in
     let at = alloc.ref_ptr in
-    let old = replaced.now in
-    let old_at = replaced.ref_ptr in
     let s : ℕ = type_size Rt in
     let τ : Ty = memory_type Rt cap in
     let tok : Ty → Ptr → Fml = token Y h in
     let Out : RattleType = type_at En₀.signature.result z.0.0 in
     let y = at_takes Y 𝓛 𝓜.mem 𝓡.returns κ q at h bytes al τ in
-    let Tokens : Item 𝓤 = ‵ (flft κ q) ⊛ raw (toks 𝓛 3 z.0.0.1 z.0.1.1) in
+    let Tokens : Item 𝓤 = ‵ (flft κ q) ⊛ raw (toks 𝓛 2 z.0.0.1 z.0.1.1) in
     arrives (slot_at 0 ps) (others ps) 𝓛 z.0 ((c z.0.0 z.0.3).requires z.1) (
     move ! (4 ∷ []) $ heard_each ! (_ ∷ _ ∷ _ ∷ _ ∷ _ ∷ _ ∷ _ ∷ [])
     (λ leT le some small bytes_are align_is front_is.
@@ -57,11 +55,10 @@ allocate_sized_spec 𝓤 𝓛 𝓜 𝓡 wired T A LT LA g d dd met md =
     ∙ capped_is al (let most = (rounded Rt 0).most in omega arith) in
     let near : cap * s < 2 ^ 64 = (let low = reach Rt cap cap fits (omega arith) in omega arith) in
     enters ! fn
-    (vptr at.0 at.1 ∷ vint w64 cap ∷ vint w64 bytes ∷ vint w64 al ∷ vint w64 front
-    ∷ vptr old_at.0 old_at.1 ∷ [])
-    (λ i. is₀ i ++ (is₁ i ++ (is₂ i ++ (is₃ i ++ (is₄ i ++ (is₅ i ++ [])))))) $
+    (vptr at.0 at.1 ∷ vint w64 cap ∷ vint w64 bytes ∷ vint w64 al ∷ vint w64 front ∷ [])
+    (λ i. is₀ i ++ (is₁ i ++ (is₂ i ++ (is₃ i ++ (is₄ i ++ []))))) $
     alloc_all ! (λ l. pass_all ! refl
-    ((tt, tt), (word fc, (word fb, (word fa, (word ff, ((tt, tt), tt)))))) $
+    ((tt, tt), (word fc, (word fb, (word fa, (word ff, tt))))) $
     let En : Env 𝓤 𝓛.H = env fn.locals l in
     use2 𝓛 (raw ((Takes Y 𝓛 𝓜.mem 𝓡.returns).pre y))
     (Takes-goes Y 𝓛 𝓜.mem 𝓡.returns κ q at h (⊑_trans κ κA A.lives z.0.2.0 le)
@@ -78,7 +75,7 @@ allocate_sized_spec 𝓤 𝓛 𝓜 𝓡 wired T A LT LA g d dd met md =
     -- Writes the header of the block at the offset `o`, and returns the block.
     let written : (b o : ℕ) → Sq 𝓛 (‵ (froom (ty_int w64) b o) ∷ ‵ (froom (ty_int w64) b (8 + o))
     ∷ ‵ (slots_own Rt (replicate cap None) b (o + 16)) ∷ ‵ (dealloc_right tok Rt cap b o)
-    ∷ Tokens ∷ holding 𝓛 En ((8, vptr b o) ∷ (2, vint w64 cap) ∷ []))
+    ∷ Tokens ∷ holding 𝓛 En ((7, vptr b o) ∷ (2, vint w64 cap) ∷ []))
     (prop (Wp 𝓤 𝓛.H C Λ En (after 5 made) (post 𝓤 𝓛.H Then))) = λ b o.
     let p : Ptr = block_ptr b o in
     let words : WT (block_val p) = (tt, (tt, (tt, tt))) in
@@ -92,7 +89,7 @@ allocate_sized_spec 𝓤 𝓛 𝓜 𝓡 wired T A LT LA g d dd met md =
       slots = none;
       len = 0;
       alloc = Some h;
-      cost = add_request old.cost;
+      cost = add_realloc 0 no_cost;
       sound = (
         omega arith,
         any_some none (omega arith),
@@ -119,9 +116,9 @@ allocate_sized_spec 𝓤 𝓛 𝓜 𝓡 wired T A LT LA g d dd met md =
     block_made E Y ! x b o refl $
     use1 𝓛 (‵ (Out.own_val (Ok x) (live 0 (vcons (block_val p) vnil) ∷ [])))
     (ok_of 𝓛 B AE.the_row x (block_val p)) $
-    blank ! 6 $ move ! (0 ∷ 1 ∷ []) $ join ! $ move ! (1 ∷ 0 ∷ []) $ join ! $
+    blank ! 5 $ move ! (0 ∷ 1 ∷ []) $ join ! $ move ! (1 ∷ 0 ∷ []) $ join ! $
     suffices ! _ (ends_at 𝓛 En₀ hs c z (live 0 (vcons (block_val p) vnil)) (Ok x)
-    (tt, (tt, (tt, (tt, (tt, (tt, tt)))))) (tt, (tt, (tt, (tt, (tt, (tt, tt))))))) $
+    (tt, (tt, (tt, (tt, (tt, tt))))) (tt, (tt, (tt, (tt, (tt, tt)))))) $
     says_all ! (_ ∷ []) refl $ done ! in
     answers Y ! 𝓜.mem 𝓡.returns h τ v
     (λ b start e.
@@ -155,14 +152,14 @@ allocate_sized_spec 𝓤 𝓛 𝓜 𝓡 wired T A LT LA g d dd met md =
     assigns_last ! (of_opd ! (get ! refl)) (through ! refl (stop !)) (init ! 0 refl (tt, tt)) $
     fjoin ! $ use1 𝓛 (‵ (dealloc_right tok Rt cap b o))
     (padded_right_in 𝓛 E b cap pad tok 0 o start place) $ move ! (1 ∷ 2 ∷ 3 ∷ 0 ∷ []) $
-    forget_but ! En (8 ∷ 2 ∷ []) refl $ written b o)
+    forget_but ! En (7 ∷ 2 ∷ []) refl $ written b o)
     (λ other.
     let no_front : front ≡ 0 = (let none = nltb→le 0 front other in omega arith) in
     let bare = about.ordinary no_front in
     skips ! $
     rewrite ! 3 (λ (p : Bool). ‵ (Unaddressed 𝓛 E b cap tok start o p)) bare refl $
     rewrite ! 3 (λ (p : Bool). ‵ (Right p)) (sym bare) refl $
-    forget_but ! En (8 ∷ 2 ∷ []) refl $ written b o))
+    forget_but ! En (7 ∷ 2 ∷ []) refl $ written b o))
     (λ e.
     let none : WT (live 1 (vcons (vstruct vnil) vnil)) = (record { fits = lit< tt }, (tt, tt)) in
     lands_as ! e refl (tt, (record { fits = lit< tt }, (tt, tt))) $
@@ -178,7 +175,7 @@ allocate_sized_spec 𝓤 𝓛 𝓜 𝓡 wired T A LT LA g d dd met md =
     use0 𝓛 (‵ (AE.the_row.own_val (record {}) (vstruct vnil ∷ []))) (refused_made 𝓛) $
     use1 𝓛 (‵ (Out.own_val (Err (record {})) (live 1 (vcons (vstruct vnil) vnil) ∷ [])))
     (err_of 𝓛 B AE.the_row (record {}) (vstruct vnil)) $
-    blank ! 6 $ move ! (0 ∷ 1 ∷ []) $ join ! $ move ! (1 ∷ 0 ∷ []) $ join ! $
+    blank ! 5 $ move ! (0 ∷ 1 ∷ []) $ join ! $ move ! (1 ∷ 0 ∷ []) $ join ! $
     suffices ! _ (ends_at 𝓛 En₀ hs c z (live 1 (vcons (vstruct vnil) vnil)) (Err (record {}))
-    (tt, (tt, (tt, (tt, (tt, (tt, tt)))))) (tt, (tt, (tt, (tt, (tt, (tt, tt))))))) $
+    (tt, (tt, (tt, (tt, (tt, tt))))) (tt, (tt, (tt, (tt, (tt, tt)))))) $
     says_all ! (_ ∷ []) tt $ done !))))))

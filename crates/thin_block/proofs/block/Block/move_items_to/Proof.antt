@@ -1,9 +1,9 @@
 -- This file proves the contract of `move_items_to`, which moves adjacent items from one block
 -- to another block.
-use Rattle.std.proofs.Common.{◌≡◌, ℕ, Some, None, ◌+◌, ◌*◌, ◌^◌, ◌<◌, ◌≤◌, List, ◌∷◌, [], ◌++◌, length, refl, sym, ap, subst, ◌∙◌, arith, w64, Option}
-use Rattle.thin_block.proofs.WalkPrelude.{Holds, length-map, length-replicate, Fn, ty_array, ty_unit, Val, WT, vbool, has_ty, vint, vptr, vunit, inst_fn, full_share, SProp, ftrue, froom, flft, Env, WpFn, tables, ‵, raw, ◌⊛◌, given, later, prop, at_ret, ◌$◌, ◌∵◌, !, qed, move, keep, use1, use2, use3, split, split3, join, fsplit, fsplit3, fjoin, fjoin3, feq_i, rewrite, regoal, learn, await, suffices, done, whole, sub, look_in, stop, fld, load, unit_lit, of_opd, no_more, and_then, first, blocks, exec, returns, enter, alloc_all, pass_all, free_all, look_at, through, sets, lands_last, env, get, Array, part_at, RattleType, owns, layout, plain, types_at, nothing, calls_at_last, Stays, stay_ref, stay_dropped, walk_of, Goes-dropped, Goes-ref, ends_at, proved_at, framed, R, slot_at, after, says_all, IsSome, if◌then◌else◌, with_slots, slots_own, filled_slots, empty_slots, slot, write_slots, clear_slots, block_view}
+use Rattle.std.proofs.Common.{◌≡◌, ℕ, Some, None, ◌+◌, ◌*◌, ◌^◌, ◌<◌, ◌≤◌, List, ◌∷◌, [], ◌++◌, length, refl, sym, ap, subst, ◌∙◌, arith, w64, Option, Bool}
+use Rattle.thin_block.proofs.WalkPrelude.{Holds, length-map, length-replicate, Fn, ty_array, ty_unit, Val, WT, has_ty, vint, vptr, vunit, inst_fn, full_share, SProp, ftrue, froom, flft, Env, WpFn, tables, ‵, raw, ◌⊛◌, given, later, prop, at_ret, ◌$◌, ◌∵◌, !, qed, move, keep, use1, use2, use3, split, split3, join, fsplit, fsplit3, fjoin, fjoin3, feq_i, rewrite, regoal, learn, await, suffices, done, whole, sub, look_in, stop, fld, load, unit_lit, of_opd, no_more, and_then, first, blocks, exec, returns, enter, alloc_all, pass_all, free_all, look_at, through, sets, lands_last, env, get, Array, part_at, RattleType, owns, layout, plain, types_at, nothing, calls_at_last, Stays, stay_ref, stay_dropped, walk_of, Goes-dropped, Goes-ref, ends_at, proved_at, framed, R, slot_at, after, says_all, IsSome, if◌then◌else◌, with_slots, slots_own, filled_slots, empty_slots, slot, write_slots, clear_slots, block_view}
 use Rattle.core.proofs.alloc.Moves.{Copies, at_copies, Copies-goes, Copies-gives}
-use Rattle.thin_block.specs.Cost.{Cost, add_moves, add_copies}
+use Rattle.thin_block.specs.Cost.{Cost, add_moves, add_realloc}
 use Rattle.thin_block.proofs.SlotsLemmas.{full-run, empty-run, length-run, length-written}
 use Rattle.thin_block.proofs.HeaderMemory.{args, Br, header, t, block_opens, block_closes}
 use Rattle.thin_block.proofs.SlotMemory.{sz, reach, around, run_out, run_in, to_items, of_items, to_room, of_room}
@@ -38,7 +38,7 @@ move_items_to_spec 𝓤 𝓛 𝓜 𝓡 wired T A LT LA g d dd met md =
         (
           Goes-ref 𝓛 4 1 tt (plain (λ _. B)),
           all_go 𝓛 ss En₀.kept.1.1.1
-              ((λ κs x f. refl), ((λ κs x f. refl), ((λ κs x f. refl), tt))),
+              ((λ κs x f. refl), ((λ κs x f. refl), tt)),
         ),
       ),
     )
@@ -48,13 +48,14 @@ move_items_to_spec 𝓤 𝓛 𝓜 𝓡 wired T A LT LA g d dd met md =
     let vss = z.0.4 in
     let (κ₀, (κ₁, (κ₂, (κ₃, _)))) = z.0.0 in
     let (q₀, (q₁, (q₂, (q₃, _)))) = z.0.1 in
-    let (from_block, (from, (to_block, (to, (k, (relocates, _)))))) = a in
-    let ((is₀, _), ((is₁, f₁), ((is₂, _), ((is₃, f₃), ((is₄, fk), (is₅, _)))))) = are in
+    let (from_block, (from, (to_block, (to, (k, _))))) = a in
+    let relocates : Bool = z.1 in
+    let ((is₀, _), ((is₁, f₁), ((is₂, _), ((is₃, f₃), ((is₄, fk), _))))) = are in
     let x = from_block.now in
     let (rb, ro) = from_block.ref_ptr in
     let y = to_block.now in
     let (sb, so) = to_block.ref_ptr in
-    let cost : Cost = if relocates then add_copies k y.cost else add_moves k y.cost in
+    let cost : Cost = if relocates then add_realloc k x.cost else add_moves k y.cost in
     let s : ℕ = sz E in
     let Source : Type 0 = from + k ≤ length x.slots in
     let Target : Type 0 = to + k ≤ length y.slots in
@@ -63,7 +64,8 @@ move_items_to_spec 𝓤 𝓛 𝓜 𝓡 wired T A LT LA g d dd met md =
     qed 𝓛 (((‵ (flft κ₀ q₀) ⊛ ‵ (flft κ₁ q₁) ⊛ ‵ (flft κ₂ q₂) ⊛ ‵ (flft κ₃ q₃) ⊛ ‵ ftrue) ⊛ ‵
     (owns (types_at ps z.0.0) a vss))
     ∷ raw ((c z.0.0 z.0.3).requires z.1) ∷ []) ∵
-    move ! (1 ∷ []) $ heard_each ! (_ ∷ _ ∷ Source ∷ Target ∷ Filled ∷ Empty ∷ []) (λ lives _ source target filled bare.
+    move ! (1 ∷ []) $ heard_each ! (_ ∷ _ ∷ Source ∷ Target ∷ Filled ∷ Empty ∷ _ ∷ _ ∷ [])
+    (λ lives _ source target filled bare _ _.
     let items = full-run x.slots from k source filled in
     let xs : List T.Denot = items.0 in
     let long : length xs ≡ k = sym (length-map xs Some) ∙ ap length (sym items.1)
@@ -71,15 +73,15 @@ move_items_to_spec 𝓤 𝓛 𝓜 𝓡 wired T A LT LA g d dd met md =
     split ! $ split3 ! $ move ! (3 ∷ []) $ fsplit3 ! $ move ! (2 ∷ []) $ fsplit ! $ fsplit3 ! $
     move ! (4 ∷ []) $ fsplit3 ! $ keep ! (1 ∷ 2 ∷ 8 ∷ 4 ∷ 5 ∷ 9 ∷ 10 ∷ []) $
     regoal ! (λ (us : List Val). prop (WpFn 𝓤 H 𝓣.C 𝓣.Λ fn us Post))
-    (λ n. is₀ n ++ (is₁ n ++ (is₂ n ++ (is₃ n ++ (is₄ n ++ (is₅ n ++ [])))))) refl $
+    (λ n. is₀ n ++ (is₁ n ++ (is₂ n ++ (is₃ n ++ (is₄ n ++ []))))) refl $
     enter ! 𝓣.C 𝓣.Λ fn
-    (vptr rb ro ∷ vint w64 from ∷ vptr sb so ∷ vint w64 to ∷ vint w64 k ∷ vbool relocates ∷ [])
+    (vptr rb ro ∷ vint w64 from ∷ vptr sb so ∷ vint w64 to ∷ vint w64 k ∷ [])
     Post $
     alloc_all ! (λ l. pass_all ! refl (
       (tt, tt),
       (
         (tt, record { fits = f₁ }),
-        ((tt, tt), ((tt, record { fits = f₃ }), ((tt, record { fits = fk }), ((tt, tt), tt)))),
+        ((tt, tt), ((tt, record { fits = f₃ }), ((tt, record { fits = fk }), tt))),
       ),
     ) $
     let En : Env 𝓤 H = env fn.locals l in
@@ -159,14 +161,14 @@ move_items_to_spec 𝓤 𝓛 𝓜 𝓡 wired T A LT LA g d dd met md =
     returns ! (look_at ! 0 refl) $ free_all ! refl $
     feq_i ! (List Val) vss.0 (vptr rb ro ∷ []) is₀ $ fjoin3 ! $ move ! (2 ∷ 3 ∷ []) $
     feq_i ! (List Val) vss.1.1.0 (vptr sb so ∷ []) is₂ $ fjoin3 ! $
-    nothing ! $ nothing ! $ fjoin ! $ nothing ! $ fjoin ! $ nothing ! $ fjoin ! $
+    nothing ! $ nothing ! $ fjoin ! $ nothing ! $ fjoin ! $
     move ! (1 ∷ 0 ∷ []) $ fjoin ! $
     nothing ! $ fjoin ! $ move ! (1 ∷ 0 ∷ []) $ fjoin ! $
     feq_i ! (List Val) (vunit ∷ []) (vunit ∷ []) refl $ move ! (1 ∷ 0 ∷ []) $ join ! $
     move ! (3 ∷ 4 ∷ []) $ join ! $ move ! (3 ∷ 0 ∷ []) $ join ! $
     move ! (2 ∷ 0 ∷ []) $ join ! $ join ! $
-    suffices ! _ (ends_at 𝓛 En₀ hs c z vunit tt (x', (tt, (y', (tt, (tt, (tt, tt))))))
-    (tt, (tt, (tt, (tt, (tt, (tt, tt))))))) $
+    suffices ! _ (ends_at 𝓛 En₀ hs c z vunit tt (x', (tt, (y', (tt, (tt, tt)))))
+    (tt, (tt, (tt, (tt, (tt, tt)))))) $
     says_all ! (_ ∷ _ ∷ []) (
       refl,
       ap (λ (ys : List (Option T.Denot)).

@@ -57,16 +57,17 @@ returns-in-Ok-finish g c =
     let e = c.in-Ok-finish.ensures in
     let all = drains-items (splice_iter c.take_ends.new.ends) e.items.0 e.items.1
     ∙ items g at in
+    let grows = finishes-splices e.had_room e.at_end
+    (λ some. ((e.before_tail some).0, (e.before_tail some).1)) in
     record {
       allowed = (
         (c.requires.start_le_end, c.requires.in_bounds),
         (
           search rules,
           replaces-of written
-              (replaces (e.items.2 ∙ (λ i. (front g at i ++ all i) ++ tail g at i))
-              (finishes-splices e.had_room e.at_end e.before_tail)
-              (finish-costs c.take_ends.new.ends g.met.G.Growth.law e.items.0 e.items.2 e.at_end
-              e.before_tail e.range_room)
+              (replaces (e.items.2 ∙ (λ i. (front g at i ++ all i) ++ tail g at i)) grows
+              (finish-costs c.take_ends.new.ends g.met.G.Growth.law e.items.0 e.items.2
+              grows.at_end grows.before_tail e.range_room)
               e.preserved (left g at) (count g at) (moved g at) (tail g at) (range g at)),
         ),
       );
@@ -92,6 +93,8 @@ returns-in-Err-finish g c =
     let e = c.in-Err-finish.ensures in
     let refused = c.in-Err-finish.refused in
     let placed = e.placed.0 in
+    let grows = finishes-splices e.had_room e.at_end
+    (λ some. ((e.before_tail some).0, (e.before_tail some).1)) in
     record {
       allowed = (
         (c.requires.start_le_end, c.requires.in_bounds),
@@ -101,16 +104,15 @@ returns-in-Err-finish g c =
             placed = placed;
             all = sym (items g at) ∙ stopped-items drawn placed refused e.placed.2;
             claim = stopped-claim drawn placed refused e.placed.2 ∙ claim g at;
-            filled = replaces (e.placed.1 ∙ (λ i. (front g at i ++ placed) ++ tail g at i))
-                (finishes-splices e.had_room e.at_end e.before_tail)
-                (finish-costs c.take_ends.new.ends g.met.G.Growth.law placed e.placed.1 e.at_end
-                e.before_tail e.range_room)
+            filled = replaces (e.placed.1 ∙ (λ i. (front g at i ++ placed) ++ tail g at i)) grows
+                (finish-costs c.take_ends.new.ends g.met.G.Growth.law placed e.placed.1
+                grows.at_end grows.before_tail e.range_room)
                 e.preserved (left g at) (count g at) (moved g at) (tail g at) (range g at);
             no_room = λ places. false≢true (⊎_elim
                 (λ (few : may ≤ end - start). e.succeeds (omega (arith, few, most, width)))
                 (λ (room : (end ≡ length xs)
                 × HasRoomFor (without_range c.args.list.now start end) may).
-                (e.at_end (no-tail xs after end (tail g at) room.0)).succeeds (omega (
+                e.succeeds_at_end (no-tail xs after end (tail g at) room.0) (omega (
                   arith,
                   room.1,
                   most,
@@ -127,7 +129,7 @@ returns-in-Err-finish g c =
             range = λ more. omega (
               arith,
               width,
-              (e.before_tail (some-tail xs after end (tail g at) more)).filled,
+              (e.before_tail (some-tail xs after end (tail g at) more)).2,
               ap length e.placed.1,
               length-append (before ++ placed) after,
               length-append before placed,
@@ -137,11 +139,11 @@ returns-in-Err-finish g c =
               length-append (take start xs) (drop end xs),
             );
             at_end = λ full.
-                let last = e.at_end (no-tail xs after end (tail g at) full) in
-                (last.held, at-some-in-hand _ _ refused.in_hand last.in_hand);
+                let last = no-tail xs after end (tail g at) full in
+                (e.held_at_end last, at-some-in-hand _ _ refused.in_hand (e.in_hand_at_end last));
             unchanged = λ full none.
                 (at-no-in-hand _ _ refused.in_hand
-                (e.at_end (no-tail xs after end (tail g at) full)).in_hand none).0
+                (e.in_hand_at_end (no-tail xs after end (tail g at) full)) none).0
                 ∙ left g at;
           }),
         ),

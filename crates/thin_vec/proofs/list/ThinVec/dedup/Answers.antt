@@ -3,7 +3,7 @@ use Rattle.std.proofs.Common.{ap, ◌∙◌}
 use Rattle.std.specs.Prelude.{map, not}
 use Rattle.thin_block.specs.Cost.{add_moves}
 use Rattle.thin_vec.specs.Edits.Retain.{moves_of_retain}
-use Rattle.thin_vec.proofs.edits.DedupLemmas.{deduped-moves, few-deduped, pairs-compare}
+use Rattle.thin_vec.proofs.edits.DedupLemmas.{deduped-moves, few-deduped, filtered-dedup, pairs-compare}
 use Rattle.thin_vec.proofs.list.ThinVec.dedup.Goals as goal
 
 pub returns-clause-items : goal.returns-clause-items
@@ -11,6 +11,10 @@ returns-clause-items g c =
     let h = c.dedup_with.ensures.deduped in
     (pairs-compare g.T.PartialEq.eq c.args.self.now.items _ _ h.removed
     c.dedup_with.new.self.items h.calls).1
+
+pub returns-clause-filtered : goal.returns-clause-filtered
+returns-clause-filtered g c =
+    rw (returns-clause-items g c) (filtered-dedup g.T.PartialEq.eq c.args.self.now.items)
 
 pub returns-clause-cost : goal.returns-clause-cost
 returns-clause-cost g c =

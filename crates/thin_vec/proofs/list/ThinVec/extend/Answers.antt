@@ -33,10 +33,10 @@ pushed g c =
 
 pub returns-in-Ok-clause-had_room : goal.returns-in-Ok-clause-had_room
 returns-in-Ok-clause-had_room g c = λ room.
-    let same = c.in-Ok.ensures.had_room (omega (
+    let same = ap (λ v. v.capacity) (c.in-Ok.ensures.had_room (omega (
       arith,
       c.size_hint.ensures.lower c.requires.finite,
-    )) in
+    ))) in
     c.extend_unhinted.ensures.had_room
     (omega (arith, room, same, ap length c.reserve.ensures.items)) ∙ same
 

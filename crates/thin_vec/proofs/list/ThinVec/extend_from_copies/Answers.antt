@@ -1,4 +1,4 @@
--- `reserve_run` does not require items that are `Copy`, but its contract uses only the size and the
+-- `reserve` does not require items that are `Copy`, but its contract uses only the size and the
 -- alignment of the item type.
 use Rattle.std.proofs.Common.{Some, ap, sym, ◌∙◌}
 use Rattle.thin_vec.proofs.list.ReservesLemmas.{tells-ok}

@@ -89,16 +89,9 @@ returns-in-Err g c =
         ap (λ z. length z.items) is,
       );
       taken = taken g at;
-      at_end = λ _. record {
-        succeeds = λ fit. c.in-Err.ensures.succeeds
-            (subst (λ z. HasRoomFor z (size (g.I.Iterator.remaining c.args.iter))) (sym is) fit);
-        after = after g at;
-        held = none;
-        in_hand = subst (λ z. MatchOption refused.in_hand
-            ((c.extend.new.self ≡ z) × (refused.rest ≡ c.args.iter))
-            (λ _. length c.extend.new.self.items ≡ c.extend.new.self.capacity)) is
-            c.in-Err.ensures.in_hand;
-      };
+      succeeds_at_end = λ _ fit. c.in-Err.ensures.succeeds
+          (subst (λ z. HasRoomFor z (size (g.I.Iterator.remaining c.args.iter))) (sym is) fit);
+      at_end = λ _. after g at;
       before_tail = λ some. absurd (omega (arith, some, ap length c.requires.no_tail));
       placed = (
         gave.0,
@@ -110,4 +103,10 @@ returns-in-Err g c =
       cause = stop-at-end g.G.Growth.rule (param 0 g.row.T) c.extend.new.self v.tail
           (g.I.Iterator.remaining refused.rest) error c.requires.no_tail none
           c.in-Err.ensures.cause;
+      held_at_end = λ _. none;
+      in_hand_at_end = λ _. subst (λ z. MatchOption refused.in_hand
+          ((c.extend.new.self ≡ z) × (refused.rest ≡ c.args.iter))
+          (λ _. length c.extend.new.self.items ≡ c.extend.new.self.capacity)) is
+          c.in-Err.ensures.in_hand;
+      in_hand_before_tail = λ some. absurd (omega (arith, some, ap length c.requires.no_tail));
     }

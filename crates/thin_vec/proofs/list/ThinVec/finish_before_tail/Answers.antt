@@ -40,10 +40,10 @@ room g c =
     )
 
 -- The items that fit into the slots of the range do not change the capacity.
-kept : (g : _) (c : After-close g) → (p : IsAfterSplice g.G.Growth.rule (param 0 g.row.T)
+kept : (g : _) (c : After-close g) → IsAfterSplice g.G.Growth.rule (param 0 g.row.T)
     c.args.block.gap_before (length c.args.block.tail)
-    (without_middle c.args.block c.args.self.now.alloc) c.close.new.self
-    (g.I.Iterator.remaining c.args.iter)) × (p.hint ≡ 0)
+    (without_middle c.args.block c.args.self.now.alloc) 0 c.close.new.self
+    (g.I.Iterator.remaining c.args.iter)
 kept g c =
     let v = c.args.block in let w = c.close.new.self in let p = filled g c in
     let n = length p.0.items in let m = p.1.cost.0 in
@@ -65,7 +65,7 @@ returns-then-ended g c =
     finished-ok v c.args.self.now.alloc c.args.iter c.close.new.self tt
     (p.0.items, filled-drains p c.if-ended.true, p.1.items)
     (filled-taken p (param 0 g.row.T) (g.I.Iterator.remaining c.args.iter))
-    (λ none. absurd (omega (arith, c.requires.nonempty, ap length none))) (λ _. (kept g here).0)
+    (λ none. absurd (omega (arith, c.requires.nonempty, ap length none))) (λ _. (0, kept g here))
 
 -- If the iterator has not ended, all slots of the range are full.
 slots : (g : _) (c : After-close g) → c.fill-rest.result.ended ≡ false
@@ -98,8 +98,8 @@ returns-in-Err g c =
     } in
     let taken = subst (λ z. AddsFromIter (without_middle v a) z (left c.args.iter)) (sym same)
     (filled-taken p T (left c.args.iter)) in
-    let grew = subst (λ z. (q : IsAfterSplice rule T v.gap_before (length v.tail)
-    (without_middle v a) z (left c.args.iter)) × (q.hint ≡ 0)) (sym same) (kept g at) in
+    let grew = subst (λ z. IsAfterSplice rule T v.gap_before (length v.tail)
+    (without_middle v a) 0 z (left c.args.iter)) (sym same) (kept g at) in
     finished-from v a c.args.iter w
     (Err error) here c.requires.nonempty
     c.in-Err.ensures.succeeds tt
@@ -113,9 +113,9 @@ returns-in-Err g c =
     (left rejected.value) error c.requires.nonempty c.new.ensures.items refl
     (subst (λ r. (h : ℕ) × IsWithinCount h (left r) × FailsForRoom rule T w h rejected.cause)
     (sym rest) c.in-Err.ensures.cause))
-    refl taken grew.0 (
-      omega (arith, slots g at c.if-ended.false, ap (λ z. length z.items) same, grew.1),
-      λ _ _. grew.1,
+    refl taken 0 grew (
+      omega (arith, slots g at c.if-ended.false, ap (λ z. length z.items) same),
+      λ _ _. refl,
     )
 
 pub returns-then-ended-2 : goal.returns-then-ended-2
@@ -143,8 +143,8 @@ returns-then-ended-2 g c =
     tt tt tt
     (reached-taken first a w (filled-taken p T (g.I.Iterator.remaining c.args.iter))
     c.insert_hinted.ensures.added)
+    q.0
     (record {
-      hint = q.0;
       within = inr reserved.0;
       short = λ few. absurd (omega (arith, few, long, slots g here c.if-ended.false));
       reserved = w.capacity;
@@ -192,8 +192,8 @@ returns-else-ended-2 g c =
     (reached-taken first a y (filled-taken p T (g.I.Iterator.remaining c.args.iter))
     c.insert_hinted.ensures.added)
     c.insert_held.ensures.added)
+    q.0
     (record {
-      hint = q.0;
       within = inr reserved.0;
       short = λ few. absurd (omega (arith, few, full, c.insert_held.ensures.longer));
       reserved = y.capacity;

@@ -36,3 +36,6 @@ returns-clause-cost g c =
 pub returns-clause-preserved : goal.returns-clause-preserved
 returns-clause-preserved g c =
     keeps-join c.reserve.ensures.preserved c.insert_reserved.ensures.preserved
+
+pub returns-clause-doubles : goal.returns-clause-doubles
+returns-clause-doubles g c = rw c.insert_reserved.ensures.capacity c.in_default.ensures.doubles

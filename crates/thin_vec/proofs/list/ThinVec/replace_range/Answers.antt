@@ -52,8 +52,8 @@ returns-clause-cost g c =
     (CostsMoves (moves_replacing v c.args.start c.args.end n) v w)) (count g c)
     c.replace_range_from_list.ensures.cost
 
-pub returns-clause-overflow : goal.returns-clause-overflow
-returns-clause-overflow g c none =
+pub returns-clause-fails_if_too_large : goal.returns-clause-fails_if_too_large
+returns-clause-fails_if_too_large g c none =
     let v = c.args.self.now in
     let over = c.replace_range_from_list.ensures.overflow.overflow.1
     (ap (λ n. capacity_after_reserve g.G.Growth.rule (param 0 g.row.T) v

@@ -24,7 +24,7 @@ returns-clause-capacity g c =
 
 pub returns-clause-had_room : goal.returns-clause-had_room
 returns-clause-had_room g c room =
-    kept g c ∙ c.in-Ok.ensures.had_room (omega (arith, room, more g c))
+    kept g c ∙ ap (λ z. z.capacity) (c.in-Ok.ensures.had_room (omega (arith, room, more g c)))
 
 pub returns-clause-overflow : goal.returns-clause-overflow
 returns-clause-overflow g c = tells-ok _ _ _ (returns-clause-capacity g c)

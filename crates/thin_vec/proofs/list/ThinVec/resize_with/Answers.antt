@@ -67,7 +67,9 @@ returns-clause-capacity g c =
 
 pub returns-clause-had_room : goal.returns-clause-had_room
 returns-clause-had_room g c room =
-    kept g c ∙ c.reserve.ensures.had_room (omega (arith, room, c.len-old.ensures.value))
+    kept g c
+    ∙ ap (λ z. z.capacity)
+    (c.reserve.ensures.had_room (omega (arith, room, c.len-old.ensures.value)))
 
 pub returns-clause-overflow : goal.returns-clause-overflow
 returns-clause-overflow g c = tells-ok _ _ _ (returns-clause-capacity g c)

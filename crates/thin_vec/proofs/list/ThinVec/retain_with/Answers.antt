@@ -1,9 +1,9 @@
 -- `retain_middle` tests each item, and drops the items that are not to be kept.
-use Rattle.std.proofs.Common.{◌≡◌, arith, rules}
+use Rattle.std.proofs.Common.{◌≡◌, ◌++◌, ◌∙◌, ap, arith, rules, sym}
 use Rattle.std.proofs.lemmas.Grind.{common_steps}
+use Rattle.std.proofs.lemmas.List.{append-nil}
 use Rattle.thin_vec.proofs.RetainLemmas.{retained-results}
 use Rattle.thin_vec.proofs.ThinVecLemmas.{within-like}
-use Rattle.thin_vec.specs.OpenBlock.Retain.{TestsInTurn}
 use Rattle.thin_vec.proofs.list.ThinVec.retain_with.Goals as goal
 
 pub returns-clause-bounds : goal.returns-clause-bounds
@@ -17,7 +17,10 @@ returns-clause-bounds g c =
 pub returns-clause-retained : goal.returns-clause-retained
 returns-clause-retained g c =
     let r = c.retain_middle.ensures.retained in
-    let asked : TestsInTurn g.J.Test.tests c.args.test.now c.args.self.now.items r.results
-    c.retain_middle.new.test = grind (arith, common_steps) in
+    let all : r.done ≡ c.args.self.now.items =
+    sym (append-nil r.done)
+    ∙ (ap (λ l. r.done ++ l) (sym c.retain_middle.ensures.no_middle)
+    ∙ (sym r.middle ∙ grind (arith, common_steps))) in
     retained-results g.J.Test.tests c.args.test.now c.retain_middle.new.test c.args.self.now
-    c.close.new.self r.results asked (grind (arith, common_steps)) (grind (arith, common_steps))
+    c.close.new.self r.results (rw all at r.asked) (grind (arith, common_steps))
+    (grind (arith, common_steps))

@@ -17,7 +17,7 @@ loop-self-init g c =
       ap (λ v. length v.front) c.take_first.ensures.changes,
       ap (λ v. length v.front) c.keep_in_place.ensures,
       length-append run.new.self.front (take run.result run.new.self.middle),
-      ap length (run-left g.J.PairTest.tests run.result _ _ _ _ asked),
+      ap length (run-left g.J.PairTest.tests asked),
     ) in
     record {
       dedups = dedups-start g.J.PairTest.tests run.new.test c.take_first.new.self some

@@ -1,5 +1,5 @@
 -- The test may change the item in slot `middle_start + k`, and changes no other item in the block.
-use Rattle.std.proofs.Common.{◌<◌, ◌+◌, refl, ap, sym, ◌∙◌, arith, length}
+use Rattle.std.proofs.Common.{◌<◌, ◌+◌, ◌∷◌, refl, ap, sym, ◌∙◌, arith, length}
 use Rattle.thin_block.specs.Lends.{set_slot}
 use Rattle.thin_vec.specs.OpenBlock.{open_view}
 use Rattle.thin_vec.proofs.OpenBlockLemmas.{middle-filled}
@@ -33,15 +33,19 @@ returns-clause-tested g c =
     let f = facts g c in
     record {
       before = f.pre;
-      item = c.slot_mut.result.now;
-      left = c.test.new.item;
-      after = f.post;
+      after = c.slot_mut.result.now ∷ f.post;
+      end = c.test.new.item ∷ f.post;
       place = f.place;
       was = sym (ap (λ v. v.middle) c.self.view_is) ∙ f.was;
-      asked = c.test.ensures.tested;
+      asked = (c.test.new.item, c.test.ensures.tested, refl);
       now = ap (λ v. v.middle) f.shown.view;
     }
 
 pub returns-clause-changes : goal.returns-clause-changes
 returns-clause-changes g c = let seen = (facts g c).shown.view in
     seen ∙ (λ i. record (c.self.view_is i) { middle = (sym seen i).middle })
+
+pub returns-clause-count : goal.returns-clause-count
+returns-clause-count g c =
+    let f = facts g c in
+    ap (λ v. length v.middle) f.shown.view ∙ (f.count ∙ ap (λ v. length v.middle) c.self.view_is)

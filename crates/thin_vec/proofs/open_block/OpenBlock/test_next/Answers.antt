@@ -40,15 +40,17 @@ pub returns-clause-tested : goal.returns-clause-tested
 returns-clause-tested g c =
     let f = facts g c in
     let none = nil_from_length f.pre f.place in
-    record {
-      later = c.slot_mut.result.now;
-      later_left = c.test.new.later;
-      after = f.post;
-      was = sym (ap (λ v. v.middle) c.self.view_is)
-          ∙ (f.was ∙ ap (λ l. l ++ c.slot_mut.result.now ∷ f.post) none);
-      asked = c.test.ensures.tested;
-      now = ap (λ v. v.middle) f.shown.view ∙ ap (λ l. l ++ c.test.new.later ∷ f.post) none;
-    }
+    rw (sym (ap (λ v. v.middle) c.self.view_is)
+    ∙ (f.was ∙ ap (λ l. l ++ c.slot_mut.result.now ∷ f.post) none)) (
+      c.test.new.later,
+      c.test.ensures.tested,
+      ap (λ v. v.middle) f.shown.view ∙ ap (λ l. l ++ c.test.new.later ∷ f.post) none,
+    )
+
+pub returns-clause-count : goal.returns-clause-count
+returns-clause-count g c =
+    let f = facts g c in
+    ap (λ v. length v.middle) f.shown.view ∙ (f.count ∙ ap (λ v. length v.middle) c.self.view_is)
 
 pub returns-clause-changes : goal.returns-clause-changes
 returns-clause-changes g c = let seen = (facts g c).shown.view in

@@ -1,5 +1,5 @@
 -- The slice of the middle items at `k - 1` and `k` is split into two slices of one item each.
-use Rattle.std.proofs.Common.{◌+◌, ◌-◌, ◌++◌, ◌<◌, ◌≤◌, ap, sym, ◌∙◌, arith, length, refl, rules, suc}
+use Rattle.std.proofs.Common.{◌+◌, ◌-◌, ◌++◌, ◌∷◌, ◌<◌, ◌≤◌, ap, sym, ◌∙◌, arith, length, refl, rules, suc}
 use Rattle.std.proofs.lemmas.Grind.{common_steps}
 use lib.ListN.{set}
 use Rattle.thin_block.specs.Lends.{set_slots}
@@ -50,16 +50,20 @@ returns-clause-tested g c =
     record {
       before = f.pre;
       kept = c.index-kept-0.result;
-      later = c.index-later-0.result;
-      kept_left = c.test.new.kept;
-      later_left = c.test.new.later;
-      after = f.post;
+      left = c.test.new.kept;
+      after = c.index-later-0.result ∷ f.post;
+      end = c.test.new.later ∷ f.post;
       place = omega (arith, f.place, c.requires.nonzero);
       was = sym (ap (λ v. v.middle) c.self.view_is) ∙ f.was;
-      asked = search rules;
+      asked = (c.test.new.later, search rules, refl);
       now = ap (λ v. v.middle) f.shown.view;
     }
 
 pub returns-clause-changes : goal.returns-clause-changes
 returns-clause-changes g c = let seen = (facts g c).shown.view in
     seen ∙ (λ i. record (c.self.view_is i) { middle = (sym seen i).middle })
+
+pub returns-clause-count : goal.returns-clause-count
+returns-clause-count g c =
+    let f = facts g c in
+    ap (λ v. length v.middle) f.shown.view ∙ (f.count ∙ ap (λ v. length v.middle) c.self.view_is)

@@ -1,15 +1,19 @@
--- The middle items up to slot `at` have been kept. Each iteration reduces the number of untested
--- items.
-use Rattle.std.proofs.Common.{◌≡◌, ◌+◌, ◌-◌, ◌<◌, length}
+-- The first `k` middle items, up to slot `at`, have been kept. Each iteration reduces the number of
+-- untested items.
+use Rattle.std.proofs.Common.{◌≡◌, ℕ, ◌+◌, ◌-◌, ◌<◌, ◌≤◌, length}
 use Rattle.thin_vec.proofs.OpenBlockLemmas.{middle_at}
 use Rattle.thin_vec.proofs.open_block.PairTestLemmas.{PairStays}
 use Rattle.thin_vec.proofs.open_block.OpenBlock.test_pairs.Given as goal
 
 abbrev pub invariant-loop-at : goal.invariant-loop-at
 invariant-loop-at g l = record {
-  stays : PairStays g.J.PairTest.tests (l.at - middle_at l.fn.self) l.fn.test l.fn.self.middle
-      l.test l.self.middle;
-  low : middle_at l.fn.self < l.at;
+  k : ℕ;
+  here : l.at ≡ l.start + k;
+  begins : l.start ≡ middle_at l.fn.self;
+  stays : PairStays g.J.PairTest.tests k l.fn.test l.fn.self.middle l.test l.self.middle;
+  low : 0 < k;
+  high : k ≤ length l.self.middle;
+  count : length l.self.middle ≡ length l.fn.self.middle;
   ready : g.J.PairTest.ready l.test;
   same : l.self ≡ record l.fn.self { middle = l.self.middle };
 }

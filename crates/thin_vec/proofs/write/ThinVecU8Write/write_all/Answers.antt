@@ -1,4 +1,4 @@
--- `write_all` calls `reserve_run`. The contracts of both functions name the same capacity, because
+-- `write_all` calls `reserve`. The contracts of both functions name the same capacity, because
 -- the item type has the size and the alignment of `u8`.
 use Rattle.std.proofs.Common.{◌∙◌, Some, ap, sym}
 use Rattle.thin_block.proofs.ResultLemmas.{none-some}

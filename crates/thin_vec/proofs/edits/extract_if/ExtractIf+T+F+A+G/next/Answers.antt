@@ -17,6 +17,6 @@ returns-clause-steps g c =
         capacity = s.capacity i;
         alloc = c.args.self.now.list.now.alloc;
         cost = if new.block.gap_before == 0 then new.block.cost else add_moves
-            (length new.block.middle + length (s.tail i)) new.block.cost;
+            (length new.block.middle + length new.block.tail) new.block.cost;
       };
     }

@@ -6,6 +6,7 @@ use Rattle.thin_vec.specs.OpenView.{tail_end}
 use Rattle.thin_vec.specs.Edits.Splice.{list_without_range, splice_front, splice_iter, splice_list, splice_tail}
 use Rattle.thin_block.proofs.CapacityLemmas.{fits-less}
 use Rattle.thin_vec.proofs.PushesLemmas.{finished-costs}
+use Rattle.thin_vec.proofs.edits.FinishLemmas.{finished-moves}
 use Rattle.thin_vec.proofs.list.ExtendLemmas.{run_of_ok}
 use Rattle.thin_vec.proofs.edits.splice.Splice.finish.Goals.{else-has_tail, then-has_tail}
 use Rattle.thin_vec.proofs.edits.splice.Splice.finish.Goals as goal
@@ -52,16 +53,25 @@ returns g c =
       runs = run_of_ok steps s
           (λ xs. w.items ≡ (splice_front c.args.self ++ xs) ++ splice_tail c.args.self) r f.items;
       succeeds = f.succeeds;
+      succeeds_at_end = f.succeeds_at_end;
       had_room = λ fit.
           let same = f.taken.had_room fit in
           (same, f.taken.kept same);
       range_room = room;
       placed = f.placed;
       cause = f.cause;
+      held_at_end = f.held_at_end;
+      in_hand_at_end = f.in_hand_at_end;
+      in_hand_before_tail = f.in_hand_before_tail;
       at_end = f.at_end;
       before_tail = f.before_tail;
-      moves_at_most = (finished-costs rule T (splice_tail c.args.self) _ left w s
-          (g.I.Iterator.remaining s) r g.met.G.Growth.law f.at_end f.before_tail room f.longer).moves;
+      moves_within_range = λ few. finished-moves rule T (splice_tail c.args.self) _ left w
+          (g.I.Iterator.remaining s) g.met.G.Growth.law f.at_end
+          (λ some. ((f.before_tail some).0, (f.before_tail some).1)) f.longer within.room
+          (f.taken.had_room (omega (arith, room, few))) c.requires.finite few;
+      moves_at_most = (finished-costs rule T (splice_tail c.args.self) _ left w
+          (g.I.Iterator.remaining s) g.met.G.Growth.law f.at_end
+          (λ some. ((f.before_tail some).0, (f.before_tail some).1)) room f.longer).moves;
       preserved = record {
         alloc = f.taken.alloc;
         never_less = le;

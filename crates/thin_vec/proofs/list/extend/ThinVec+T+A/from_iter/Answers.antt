@@ -45,11 +45,11 @@ collected g c =
     record {
       none = λ none.
           e.had_room (omega (arith, none, items))
-          ∙ (c.reserve_exact.ensures.had_room (omega (
+          ∙ (ap (λ v. v.capacity) (c.reserve_exact.ensures.had_room (omega (
             arith,
             c.size_hint.ensures.lower c.requires.finite,
             ap length c.new-list.ensures.new.items,
-          ))
+          )))
           ∙ c.new-list.ensures.new.capacity);
       pushed = (c.size_hint.result.0, c.size_hint.ensures.lower, pushed g c);
       made = record {
@@ -63,12 +63,14 @@ pub returns-in-Ok-extend_unhinted-clause-new : goal.returns-in-Ok-extend_unhinte
 returns-in-Ok-extend_unhinted-clause-new g c =
     collected g ((goal.at.returns-in-Ok-extend_unhinted-clause-new g c).After-extend_unhinted)
 
-pub returns-in-Err-extend_unhinted-clause-err : goal.returns-in-Err-extend_unhinted-clause-err
-returns-in-Err-extend_unhinted-clause-err g c =
-    collected g ((goal.at.returns-in-Err-extend_unhinted-clause-err g c).After-extend_unhinted)
+pub returns-in-Err-extend_unhinted-clause-error_list :
+    goal.returns-in-Err-extend_unhinted-clause-error_list
+returns-in-Err-extend_unhinted-clause-error_list g c =
+    collected g
+    ((goal.at.returns-in-Err-extend_unhinted-clause-error_list g c).After-extend_unhinted)
 
-pub returns-in-Err-clause-err : goal.returns-in-Err-clause-err
-returns-in-Err-clause-err g c =
+pub returns-in-Err-clause-error_list : goal.returns-in-Err-clause-error_list
+returns-in-Err-clause-error_list g c =
     let none = ap (λ v. v.capacity) c.in-Err.ensures.err ∙ c.new-list.ensures.new.capacity in
     let w = c.reserve_exact.new.self in let new = c.new-list.ensures.new in
     record {
@@ -97,15 +99,17 @@ returns-in-Err-clause-cause g c =
     let named = exact-new (param 0 g.row.T) _ _ hint new in (
       hint,
       c.size_hint.ensures.lower,
-      elim (cases_lt 0 hint) [
-        | inl some ↦ some
-        | inr none ↦
-            absurd (false≢true
-            (c.in-Err.ensures.succeeds (omega (arith, none, ap length new.items))))
-      ],
       (
-        λ over. sym named ∙ c.in-Err.ensures.overflow.overflow.0 (ap Err over),
-        λ none. err-same (c.in-Err.ensures.overflow.overflow.1 (named ∙ none)),
+        elim (cases_lt 0 hint) [
+          | inl some ↦ some
+          | inr none ↦
+              absurd (false≢true
+              (c.in-Err.ensures.succeeds (omega (arith, none, ap length new.items))))
+        ],
+        (
+          λ over. sym named ∙ c.in-Err.ensures.overflow.overflow.0 (ap Err over),
+          λ none. err-same (c.in-Err.ensures.overflow.overflow.1 (named ∙ none)),
+        ),
       ),
     )
 
