@@ -4,28 +4,10 @@ Python: the model with which tools/compare_with_rust compares lists. It is not a
 WORD = 2**64
 
 
-class ItemType:
-    """A type of items: its size in bytes, its name, how an item is made of a number and a number of
-    an item, and how many numbers have an item of their own."""
-
-    def __init__(self, size, name, from_number, to_number, modulus=WORD):
-        self.name, self.from_number, self.to_number = name, from_number, to_number
-        self.modulus = modulus
-        # How many items fill a word of 8 bytes, if an item does not fill it.
-        self.in_word = max(8 // size, 1)
-        # The greatest capacity: the block has a header of 16 bytes, and its size is rounded up.
-        self.limit = (2**63 - 8 - 16) // size
-        # Numbers of items for which no list has room.
-        self.huge = [2**63 // size, min(2**64 // size + 1, WORD - 1), 2**63, WORD - 1]
-
-
-# The texts are Rattle, where a cast of a number that does not fit is a fault.
-ITEM_TYPES = {
-    "u8": ItemType(1, "u8", f"(number % {2**8}) as Item", "item as u64", 2**8),
-    "u32": ItemType(4, "u32", f"(number % {2**32}) as Item", "item as u64", 2**32),
-    "u64": ItemType(8, "u64", "number", "item"),
-    "pair": ItemType(16, "(u64, u64)", "(number, number / 2)", "item.0"),
-}
+# The greatest capacity: the block has a header of 16 bytes, and its size is rounded up.
+LIMIT = (2**63 - 8 - 16) // 8
+# Numbers of items for which no list has room.
+HUGE = [2**63 // 8, 2**64 // 8 + 1, 2**63, WORD - 1]
 
 
 class Overflow(Exception):
@@ -35,8 +17,7 @@ class Overflow(Exception):
 class Judge:
     """The closure of a command, as `help` of crates/thin_replay describes it."""
 
-    def __init__(self, item_type, numbers):
-        self.modulus = item_type.modulus
+    def __init__(self, numbers):
         self.divisor, self.stride, self.added = numbers
         self.offset = 0
 
@@ -55,14 +36,13 @@ class Judge:
         return self.number(later) // self.divisor == self.number(kept) // self.divisor
 
     def written(self, item):
-        return (item + self.added) % self.modulus
+        return (item + self.added) % WORD
 
 
 class Model:
-    """The items and the capacity of a list, after each command. A number stands for its item."""
+    """The items and the capacity of a list, after each command."""
 
-    def __init__(self, item_type):
-        self.item_type = item_type
+    def __init__(self):
         self.items = []
         self.capacity = 0
 
@@ -76,7 +56,7 @@ class Model:
         self.grow_to(max(len(self.items) + count, self.capacity))
 
     def grow_to(self, capacity):
-        if capacity > self.item_type.limit:
+        if capacity > LIMIT:
             raise Overflow
         self.capacity = capacity
 

@@ -2,7 +2,7 @@
 not a program."""
 import random
 
-from lib.list_model import WORD, Judge, Model, Overflow
+from lib.list_model import HUGE, WORD, Judge, Model, Overflow
 
 
 class Chance:
@@ -26,13 +26,12 @@ class Maker:
     """Makes the lines of one list. `capacities` are those that the answer to each line has: that of
     a list in the reply, if there is one, and that of the list itself."""
 
-    def __init__(self, item_type, chance, over_crate, is_tidy):
-        self.item_type = item_type
+    def __init__(self, chance, over_crate, is_tidy):
         self.chance = chance
         self.over_crate = over_crate
         # Whether a splice that changes the capacity is followed by `shrink_to_fit`.
         self.is_tidy = is_tidy
-        self.model = Model(item_type)
+        self.model = Model()
         self.lines = ["new"]
         self.capacities = [[0]]
         # The most items that one command adds.
@@ -59,7 +58,7 @@ class Maker:
             self.ask_items()
 
     def medium(self):
-        """Makes a list that is long enough to grow in place, but for items of few bytes."""
+        """Makes a list that is long enough to grow in place."""
         self.most = 60
         self.add(20 + self.chance.below(50))
         for _ in range(10 + self.chance.below(30)):
@@ -69,9 +68,7 @@ class Maker:
         """Makes a list of some thousand items."""
         self.most = 300
         for _ in range(2 + self.chance.below(4)):
-            count = 300 + self.chance.below(500)
-            # A list grows in place only if its items fill words of 8 bytes.
-            self.add(count - count % self.item_type.in_word)
+            self.add(300 + self.chance.below(500))
         for _ in range(8 + self.chance.below(8)):
             self.command(LONG)
 
@@ -109,7 +106,7 @@ class Maker:
 
     def item(self):
         most = self.chance.of([4, 4, 40, 40, 40, 40, 1000, 1000, 1000, WORD])
-        return self.chance.below(most) % self.item_type.modulus
+        return self.chance.below(most)
 
     def some_items(self):
         most = self.chance.of([0, 1, 3, 8, self.most])
@@ -141,14 +138,14 @@ class Maker:
             return self.chance.up_to(count)
         if kind < 0.95 or not may_overflow:
             return count + self.chance.of([1, 2, 5, 40])
-        return self.chance.of(self.item_type.huge)
+        return self.chance.of(HUGE)
 
     def room(self):
         is_huge = self.chance.random() < 0.1
-        return self.chance.of(self.item_type.huge) if is_huge else self.chance.below(40)
+        return self.chance.of(HUGE) if is_huge else self.chance.below(40)
 
     def add(self, count):
-        items = [self.chance.below(1000) % self.item_type.modulus for _ in range(count)]
+        items = [self.chance.below(1000) for _ in range(count)]
         self.say("extend_from_slice", *items, change=lambda model: model.append(items))
 
     def push(self):
@@ -220,7 +217,7 @@ class Maker:
     def resize(self):
         length, item = self.chance.up_to(self.len() + 10), self.item()
         if self.chance.random() < 0.05:
-            length = self.chance.of(self.item_type.huge)
+            length = self.chance.of(HUGE)
 
         def change(model):
             more = max(length - len(model.items), 0)
@@ -242,7 +239,7 @@ class Maker:
         items = self.some_items()
 
         def change(model):
-            other = Model(self.item_type)
+            other = Model()
             other.extend(0, items)
             model.append(items)
             return other.capacity
@@ -264,27 +261,27 @@ class Maker:
 
     def retain(self):
         numbers = self.judge()
-        change = lambda model: model.keep(Judge(self.item_type, numbers), False)
+        change = lambda model: model.keep(Judge(numbers), False)
         self.say("retain", *numbers, change=change)
 
     def retain_mut(self):
         numbers = self.judge()
-        change = lambda model: model.keep(Judge(self.item_type, numbers), True)
+        change = lambda model: model.keep(Judge(numbers), True)
         self.say("retain_mut", *numbers, change=change)
 
     def dedup(self):
-        judge = Judge(self.item_type, (1, 0, 0))
+        judge = Judge((1, 0, 0))
         change = lambda model: model.dedup(judge, lambda later, kept: later == kept)
         self.say("dedup", change=change)
 
     def dedup_by(self):
         numbers = self.judge()
-        judge = Judge(self.item_type, numbers)
+        judge = Judge(numbers)
         self.say("dedup_by", *numbers, change=lambda model: model.dedup(judge, judge.is_same))
 
     def dedup_by_key(self):
         numbers = self.judge()
-        judge = Judge(self.item_type, numbers)
+        judge = Judge(numbers)
         change = lambda model: model.dedup(judge, judge.is_same_key)
         self.say("dedup_by_key", *numbers, change=change)
 
@@ -300,7 +297,7 @@ class Maker:
     def extract_if(self):
         start, end, is_within = self.span()
         calls, judge = self.chance.up_to(min(max(end - start, 0), 60) + 2), self.judge()
-        change = lambda model: model.extract(start, end, calls, Judge(self.item_type, judge))
+        change = lambda model: model.extract(start, end, calls, Judge(judge))
         words = ["extract_if", start, end, calls, *judge]
         self.say(*words, change=change if is_within else None)
 
@@ -327,29 +324,6 @@ LONG = """push pop insert remove swap_remove set reserve reserve_exact shrink_to
 append splice splice splice""".split()
 
 
-def spoiled(chance, lines):
-    """The lines, one of them changed so that it is not a command."""
-    at = 1 + chance.below(len(lines) - 1)
-    words = lines[at].split(" ")
-    kind = chance.below(7)
-    if kind == 0:
-        words[0] = chance.of(["pus", "Push", "pushh", "-", "push,", "\u00e9", "retain_all"])
-    elif kind == 1:
-        words = words[:-1] or ["nothing"]
-    elif kind == 2:
-        wrong = ["-1", "x", "2.0", "18446744073709551616", "0x1", "fxb", "--"]
-        words.insert(1, chance.of(wrong))
-    elif kind == 3:
-        words = [chance.of(["retain", "retain_mut", "dedup_by", "dedup_by_key"]), "0", "1", "1"]
-    elif kind == 4:
-        words = ["drain", "0", "0", chance.of(["f-", "F", "fbx", "\u00f6"])]
-    elif kind == 5:
-        words = [chance.of(["push", "remove", "insert 0", "splice 0 0 -", "extend 1"]), "y"]
-    else:
-        words[-1] += "\udcff"  # the byte ff, which is not UTF-8
-    return lines[:at] + [" ".join(words)] + lines[at + 1 :]
-
-
-def made_lists(item_type, seed, count, over_crate, is_tidy=False):
+def made_lists(seed, count, over_crate, is_tidy=False):
     chance = Chance(seed)
-    return chance, [Maker(item_type, chance, over_crate, is_tidy).make() for _ in range(count)]
+    return [Maker(chance, over_crate, is_tidy).make() for _ in range(count)]

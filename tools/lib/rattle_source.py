@@ -1,5 +1,5 @@
 """Reads Rattle sources: the items of a crate with their documentation and contracts, the lines of
-code, the tests, and the definitions and lemmas of its spec files. It is not a program."""
+code, and the definitions of its spec files. It is not a program."""
 import functools
 import re
 
@@ -328,16 +328,6 @@ def imports_of(path):
     return [re.sub(r"\s+", " ", it) for it in found]
 
 
-def tests_of(crate):
-    """The functions under #[test] of a crate, each with its file."""
-    return [
-        (path, item)
-        for path in sources(crate)
-        for item in items_of(path)
-        if item.kind == "fn" and "#[test]" in item.attributes
-    ]
-
-
 def exported(crate):
     """The names that the root of a crate exports, without those that its documentation hides."""
     names, hidden = set(), False
@@ -357,23 +347,9 @@ def crates():
 
 
 def sources(crate):
-    """The source files of a crate of the repository."""
-    return sources_in(TOP / "crates" / crate)
-
-
-def sources_in(folder):
-    """The source files of the crate in a folder: a module before its submodules."""
-    root = folder / "src"
+    """The source files of a crate of the repository: a module before its submodules."""
+    root = TOP / "crates" / crate / "src"
     return sorted(root.rglob("*.rt"), key=lambda path: path.relative_to(root).with_suffix("").parts)
-
-
-def definitions(crate):
-    """The definitions of a crate's spec files, without those of its formers."""
-    found = {}
-    for path in sorted((TOP / "crates" / crate / "specs").rglob("*.antt")):
-        if "formers" not in path.parts:
-            found = {**definitions_in(path), **found}
-    return found
 
 
 @functools.cache
@@ -454,13 +430,6 @@ def definition(path, word):
     module, name = imported(path).get(word, ("", word))
     place = spec_file(module)
     return (place, name) if place and name in definitions_in(place) else None
-
-
-def lemmas(crate):
-    """The names in the proofs of a crate that are given a type."""
-    word = re.compile(r"^\s*(?:(?:pub|abbrev|unfoldable|opaque) )*(\S+) :", re.M)
-    paths = (TOP / "crates" / crate / "proofs").rglob("*.antt")
-    return {name for path in paths for name in word.findall(path.read_text(encoding="utf-8"))}
 
 
 def paragraphs(comment):

@@ -1,16 +1,15 @@
 """Reads the wrong bodies of tools/mutants.d, finds what they replace, and chooses some of them.
 
 It is not a program."""
+import collections
 import hashlib
-import itertools
 import re
 import tomllib
 
 from lib.command import TOP, Stopped
 
 BODIES = TOP / "tools" / "mutants.d"
-MARKS = ("allowed", "named")
-KEYS = {"what", "mark", "alone", "old", "new", "also", "seen", "each"}
+KEYS = {"what", "alone", "old", "new", "also", "seen", "file"}
 
 
 class Failed(Stopped):
@@ -20,37 +19,20 @@ class Failed(Stopped):
 class Body:
     """A wrong body, as its table describes it."""
 
-    def __init__(self, place, name, table, file):
-        """A table of tools/mutants.d is about the file. Another table names its file itself."""
+    def __init__(self, place, name, table):
         self.place, self.name = place, name
-        if file:
-            table = {"file": file, **table}
-        else:
-            table = {"mark": "allowed", "seen": " ", **table}
-        for key in sorted(set(table) - KEYS - {"file"}):
+        for key in sorted(set(table) - KEYS):
             raise Failed(f"{place}: {name} has an unknown key {key}")
-        for key in ("what", "mark", "seen", "file"):
+        for key in ("what", "old", "new", "seen", "file"):
             if not isinstance(table.get(key), str):
                 raise Failed(f"{place}: {name} has no text `{key}`")
-        self.file = table["file"]
-        self.what = " ".join(table["what"].split())
-        self.mark = table["mark"]
+        self.what, self.file = " ".join(table["what"].split()), table["file"]
         self.alone = "alone" in table
-        # The crate or the tool that sees the body, and which test or search; empty if unknown.
+        # The crate that sees the body, and which test; empty if unknown.
         self.seen = tuple(table["seen"].split(" ", 1))
-        self.pairs = [
-            (it["old"], it["new"])
-            for it in [table, *table.get("also", [])]
-            if "old" in it and "new" in it
-        ]
-        if self.mark not in MARKS:
-            raise Failed(f"{place}: the mark of {name} is none of {', '.join(MARKS)}")
-        if len(self.seen) != 2:
+        self.pairs = [(it["old"], it["new"]) for it in [table, *table.get("also", [])]]
+        if len(self.seen) != 2 or self.alone and not self.seen[0]:
             raise Failed(f"{place}: `seen` of {name} is not CRATE and TEST")
-        if self.alone and not self.seen[0]:
-            raise Failed(f"{place}: {name} has a key `alone`, so it needs `seen`")
-        if not self.pairs and self.seen[0] != "edit":
-            raise Failed(f"{place}: {name} has no old and new text")
 
     def spans(self, text):
         """For each pair: where the replaced part begins and ends, and what replaces it."""
@@ -75,26 +57,12 @@ def space(left, right):
     return r"\s*" if left.strip() and right.strip() else ""
 
 
-def filled(value, words):
-    """The value, with each «WORD» in its texts replaced by the text of this word."""
-    if isinstance(value, str):
-        return re.sub(r"«(\w+)»", lambda found: words[found.group(1)], value)
-    if isinstance(value, list):
-        return [filled(it, words) for it in value]
-    return {key: filled(it, words) for key, it in value.items()}
-
-
-def rows_of(lines):
-    """The rows of a list of lines, of which the first has the words."""
-    return [dict(zip(lines[0], line, strict=True)) for line in lines[1:]]
-
-
 def bodies_of(path):
     """The wrong bodies of a file of tools/mutants.d, or of one whose bodies name their files."""
-    place, file = path, None
+    place, more = path, {"seen": " "}
     if BODIES in path.parents:
         crate, *rest = path.relative_to(BODIES).with_suffix(".rt").parts
-        place, file = path.relative_to(TOP), "/".join(["crates", crate, "src", *rest])
+        place, more = path.relative_to(TOP), {"file": "/".join(["crates", crate, "src", *rest])}
     try:
         tables = tomllib.loads(path.read_text(encoding="utf-8"))
     except tomllib.TOMLDecodeError as wrong:
@@ -102,19 +70,12 @@ def bodies_of(path):
     for name, table in tables.items():
         if not isinstance(table, dict):
             raise Failed(f"{place}: {name} is no table")
-        for rows in itertools.product(*map(rows_of, table.get("each", {}).values())):
-            words = {word: text for row in rows for word, text in row.items()}
-            try:
-                yield Body(place, filled(name, words), filled({**table, "each": {}}, words), file)
-            except KeyError as wrong:
-                raise Failed(f"{place}: {name} has no row for {wrong}") from None
+        yield Body(place, name, {**more, **table})
 
 
 def wrong_bodies(path=None):
     """The wrong bodies of a file, or all of tools/mutants.d, in the order of their files."""
     found = {}
-    if not path and not BODIES.is_dir():
-        raise Failed("there is no folder tools/mutants.d")
     for path in [path] if path else sorted(BODIES.rglob("*.toml")):
         for body in bodies_of(path):
             if body.name in found:
@@ -133,18 +94,11 @@ def checksum(bodies):
     return digest(*sorted((it.name, it.file, it.alone, it.seen, it.pairs) for it in bodies))
 
 
-def sample(bodies, commit, most):
-    """At most so many of the bodies, which the commit chooses, and which one build can try.
+def sample(bodies, commit, least, most):
+    """From `least` to `most` of the bodies, which the commit chooses, and which one build serves.
 
-    Those are bodies that one test or one program sees, or a single one that has to be built alone.
-    Each body comes first for some commits."""
-    built = [it for it in bodies if it.seen[0] not in ("edit", "audit")]
-    order = sorted(built, key=lambda it: digest(commit, it.name))
-    if not order or order[0].alone:
-        return order[:1]
-    return [it for it in order if not it.alone and it.seen == order[0].seen][:most]
-
-
-def where(body):
-    """The crate of the test that sees the body, and `output` if its program does."""
-    return body.seen[0], "output" if body.seen[1] == "output" else ""
+    A body comes first for some commits if the same crate sees enough others."""
+    order = sorted((it for it in bodies if not it.alone), key=lambda it: digest(commit, it.name))
+    count = collections.Counter(it.seen[0] for it in order)
+    first = next(it for it in order if count[it.seen[0]] >= least)
+    return [it for it in order if it.seen[0] == first.seen[0]][:most]

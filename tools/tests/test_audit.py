@@ -16,7 +16,7 @@ class Audit(ToolTest):
         )
         expected = top / "tools" / "data" / "audit.expected"
         change(expected, "# unsafe\n", "# unsafe\nnone.rt:gone: unsafe\n")
-        said = self.finds("audit", "--only", "unsafe", top=top)
+        said = self.finds("audit", top=top)
         self.assertIn(
             "1 new, 1 gone\n  + thin_runner/src/lib.rt:planted: unsafe fn planted() {}\n"
             "  - none.rt:gone: unsafe\n",
@@ -33,23 +33,13 @@ class Audit(ToolTest):
         text = lemmas.read_text(encoding="utf-8")
         imported = "use Rattle.thin_block.specs.Ownership.{Owns}"
         lemmas.write_text(f"{imported}\n{text}", encoding="utf-8")
-        said = self.finds("audit", "--only", "layers", top=top)
+        said = self.finds("audit", top=top)
         found = "thin_runner/proofs/RunLemmas.antt: Rattle.thin_block.specs.Ownership"
         self.assertIn(f"1 new, 0 gone\n  + {found}\n", said)
 
-    def test_an_unknown_search(self):
-        ran = self.run_tool("audit", "--only", "typo")
-        self.assertEqual((ran.returncode, ran.stdout), (2, ""))
-        self.assertRegex(ran.stderr, r"\Aaudit: no search is called 'typo': .*\n\Z")
-
-    def test_a_search_that_is_compared_with_nothing(self):
-        audit = load("audit")
-        for name in audit.LISTED:
-            with self.subTest(name):
-                says = f"the search {name!r} is compared with nothing: --list prints its lines"
-                self.refuses(f"{says} (--help lists the options)", "audit", "--only", name)
+    def test_the_lines_of_each_search_are_listed(self):
         said = self.passes("audit", "--list")
-        for name in audit.FINDS:
+        for name in load("audit").FINDS:
             self.assertEqual(f"\n{said}".count(f"\n# {name}\n"), 1, name)
 
     def test_wrong_uses(self):
@@ -62,7 +52,7 @@ class Audit(ToolTest):
         says = "tools/data/audit.expected: the line 'none.rt: a line' is in no section"
         self.refuses(says, "audit", top=top)
         path.write_text(f"{text}\n# draws\n", encoding="utf-8")
-        said = self.finds("audit", "--only", "unsafe", top=top)
+        said = self.finds("audit", top=top)
         self.assertIn("has a section 'draws'; no search is compared with it\n", said)
 
     def test_it_reads_each_crate_of_the_product(self):
@@ -72,7 +62,7 @@ class Audit(ToolTest):
         for crate in crates:
             path = top / "crates" / crate / "src" / "lib.rt"
             path.write_text(path.read_text(encoding="utf-8") + more, encoding="utf-8")
-        said = self.finds("audit", "--only", "replaced", top=top)
+        said = self.finds("audit", top=top)
         for crate in crates:
             self.assertIn(f"  + {crate}/src/lib.rt: use std::{{ mem, io, }};\n", said)
             self.assertIn(f"  + {crate}/src/lib.rt:planted: mem::swap(1);\n", said)
@@ -88,20 +78,10 @@ class Audit(ToolTest):
         text = f"{path.read_text(encoding='utf-8')}\nfn planted() {{\n{lines}}}\n"
         path.write_text(text, encoding="utf-8")
         for name, some in planted.items():
-            said = self.finds("audit", "--only", name, top=top)
+            said = self.finds("audit", top=top)
             self.assertIn(f"{len(some)} new, 0 gone", said)
             for line in some:
                 self.assertIn(f"  + thin_vec/src/lib.rt:planted: {line}\n", said)
-
-    def test_no_file_of_expected_lines(self):
-        top = self.copy("mutants.d", "proofs", "specs")
-        path = top / "tools" / "data" / "audit.expected"
-        path.unlink()
-        ran = self.run_tool("audit", top=top)
-        self.assertEqual(
-            (ran.returncode, ran.stderr),
-            (2, f"audit: {path.resolve()}: No such file or directory\n"),
-        )
 
 
 if __name__ == "__main__":

@@ -1,10 +1,9 @@
 """tools/compare_with_rust: the lists that it makes, and what it compares.
 
-Functions stand in the place of both programs.
+Texts and scripts stand in the place of both programs.
 """
 import contextlib
 import io
-import re
 import types
 import unittest
 from pathlib import Path
@@ -22,170 +21,87 @@ def lines_of(name):
     return (SCRIPT / name).read_text(encoding="utf-8").splitlines()
 
 
-def given(folder, **changed):
-    """The arguments that made the script of the gate."""
-    return types.SimpleNamespace(
-        **{
-            "items": "u64",
-            "seed": "1",
-            "lists": 500,
-            "crate": Path("lib.rs"),
-            "write": folder,
-            **changed,
-        }
-    )
-
-
 class Differ(ToolTest):
     def setUp(self):
-        self.made = made_lists(compare.ITEM_TYPES["u64"], "1", 500, True, True)[1]
-        answers = lines_of("stdout")
-        self.help, self.answers = (
-            answers[: -len(lines_of("stdin")) + 1],
-            answers[-len(lines_of("stdin")) + 1 :],
-        )
+        count = len(lines_of("stdin")) - 1
+        self.help, self.answers = lines_of("stdout")[:-count], lines_of("stdout")[-count:]
 
-    def answer(self, lines, status=0):
-        return types.SimpleNamespace(lines=lines, status=status, message="told")
-
-    def rust(self, answers=None, status=0):
-        """The Rust program, which has these answers to the lists, or those of the gate's script."""
-
-        def answer(_over_crate, lines):
-            return self.answer(self.help if lines == ["help"] else answers or self.answers, status)
-
-        return mock.patch.object(compare, "answer_of_rust", answer)
-
-    def written(self, answers=None, **changed):
-        """What --write returns, prints, and writes into a folder."""
+    def ran(self, answers=None, **changed):
+        """What the tool returns, prints and writes if the Rust program has these answers, or those
+        of the gate's script."""
         folder = self.folder()
-        with self.rust(answers), contextlib.redirect_stdout(io.StringIO()) as said:
-            status = compare.write_all(given(folder, **changed))
-        return (
-            status,
-            said.getvalue(),
-            {path.name: path.read_text(encoding="utf-8") for path in folder.iterdir()},
-        )
+        given = types.SimpleNamespace(seed="11", lists=50, crate=Path("lib.rs"), write=folder)
+        given.__dict__.update(changed)
 
-    def test_the_script_of_the_gate_has_the_seed_1(self):
-        status, said, files = self.written()
-        self.assertEqual(status, 0)
-        self.assertRegex(
-            said,
-            r"\Awritten: 500 lists, 5460 lines\nthe capacities are those of the rules of this program;"
-            r" those of \d+ of \d+ lines are the crate's, too\n\Z",
-        )
+        def answers_of_rust(lines):
+            return self.help if lines == ["help"] else answers or self.answers
+
+        call = compare.write_all if given.write else compare.compare
+        with mock.patch.object(compare, "answers_of_rust", answers_of_rust):
+            with contextlib.redirect_stdout(io.StringIO()) as said:
+                difference = call(given)
+        files = {path.name: path.read_text(encoding="utf-8") for path in folder.iterdir()}
+        return difference, said.getvalue(), files
+
+    def test_the_script_of_the_gate(self):
+        difference, said, files = self.ran()
+        self.assertIsNone(difference)
+        self.assertRegex(said, r"\Awritten: 50 lists, \d+ lines\nthe capacities are those of the ")
+        self.assertRegex(said, r"; those of \d+ of \d+ lines are the crate's, too\n\Z")
         for name in ("stdin", "stdout", "stdin.from"):
             self.assertEqual(files[name].splitlines(), lines_of(name), name)
 
-    def test_it_says_that_no_crate_confirms_the_capacities(self):
-        made = made_lists(compare.ITEM_TYPES["u64"], "2", 3, False, True)[1]
-        answers = ["done"] * sum(len(it.lines) for it in made)
-        status, said, _ = self.written(answers, crate=None, seed="2", lists=3)
-        self.assertEqual(status, 0)
-        self.assertTrue(
-            said.endswith("\nthe capacities are those of the rules of this program alone\n")
-        )
-
-    def test_the_command_is_written_beside_the_script(self):
-        self.assertEqual(
-            compare.command_of(given(None, items="pair", seed="a b", lists=3, crate=None)),
-            "tools/compare_with_rust --lists 3 --seed 'a b' --items pair --write FOLDER",
-        )
+    def test_no_crate_confirms_the_capacities(self):
+        answers = ["done"] * sum(len(it.lines) for it in made_lists("2", 3, False, True))
+        _, said, files = self.ran(answers, crate=None, seed="2", lists=3)
+        self.assertTrue(said.endswith("are those of the rules of this program alone\n"), said)
+        command = "tools/compare_with_rust --lists 3 --seed 2 --write FOLDER\n"
+        self.assertEqual(files["stdin.from"], command)
 
     def test_a_capacity_that_the_crate_contradicts_is_not_written(self):
         at = next(at for at, line in enumerate(self.answers) if "; capacity 4" in line)
-        wrong = [
-            line.replace("; capacity 4", "; capacity 5") if here == at else line
-            for here, line in enumerate(self.answers)
-        ]
-        status, said, files = self.written(wrong)
-        self.assertEqual((status, files), (1, {}))
-        self.assertRegex(
-            said, r"\Aa difference:\n.*: the crate has the capacities \[5\], not \[4\]\n"
-        )
+        wrong = list(self.answers)
+        wrong[at] = wrong[at].replace("; capacity 4", "; capacity 5")
+        difference, _, files = self.ran(wrong)
+        self.assertEqual(files, {})
+        self.assertRegex(difference[0], r": the crate has the capacities \[5\], not \[4\]")
 
     def test_answers_are_compared(self):
-        for wrong in (None, 0, 100, len(self.answers) - 1):
-            answers = [line + "0" if at == wrong else line for at, line in enumerate(self.answers)]
-            with self.subTest(wrong), mock.patch.object(
-                compare, "answer_of_thin", lambda _: self.answer(answers)
-            ):
-                found = compare.difference_of(self.made, self.answers)
-                if wrong is None:
-                    self.assertIsNone(found)
-                else:
-                    self.assertEqual(
-                        found[1:3],
-                        [f"thin_replay: {answers[wrong]}", f"wanted:      {self.answers[wrong]}"],
-                    )
+        made = compare.lines_of(made_lists("11", 50, False))
+        answers = ["done"] * len(made)
+        for status, told, what in ((0, "", None), (4, "a fault", ["a fault"])):
 
-    def test_a_program_that_ends_early(self):
-        with mock.patch.object(
-            compare, "answer_of_thin", lambda _: self.answer(self.answers[:50], 7)
-        ):
-            self.assertEqual(
-                compare.difference_of(self.made, self.answers)[0],
-                "thin_replay ended with status 7: told",
-            )
-        with self.rust(status=7), self.assertRaises(Stopped) as why:
-            compare.wanted_answers(True, self.made)
-        said = "replay in Rust ended with status 7: told"
-        self.assertEqual((str(why.exception), why.exception.status), (said, 2))
+            def run(words, **_):
+                cases = sorted(Path(words[-1]).iterdir())
+                self.assertEqual(sum(it.suffix == ".stdout" for it in cases), 3)
+                lines = [it.read_text(encoding="utf-8").splitlines() for it in cases]
+                self.assertEqual(sum(map(len, lines)), 2 * len(made))
+                return mock.Mock(returncode=status, stdout=told, stderr="")
 
-    def test_wrong_lines_are_compared(self):
-        answers = self.answer(self.answers[:3], 1)
-        with mock.patch.object(compare, "answer_of_thin", lambda _: answers), self.rust(
-            self.answers[:3], 1
-        ):
-            self.assertIsNone(compare.difference_of_spoiled(True, ["typo"]))
-        with mock.patch.object(compare, "answer_of_thin", lambda _: answers), self.rust(
-            self.answers[:3], 0
-        ):
-            self.assertEqual(
-                compare.difference_of_spoiled(True, ["typo"])[:1], ["thin_replay: status 1: told"]
-            )
+            with self.subTest(status), mock.patch.object(compare.subprocess, "run", run):
+                self.assertEqual(self.ran(answers, crate=None, write=None)[0], what)
+        for status in (1, 2, 3):
+            ran = mock.Mock(returncode=status, stdout="said", stderr="")
+            with mock.patch.object(compare.subprocess, "run", return_value=ran):
+                with self.assertRaisesRegex(Stopped, "^crates/thin_replay was not built; .*\nsaid"):
+                    self.ran(answers, crate=None, write=None)
 
-    def test_a_copy_for_other_items_has_one_other_file(self):
-        top = self.folder()
-        self.assertEqual(
-            compare.write_copy(compare.ITEM_TYPES["pair"], top), top / "crates" / "thin_replay"
-        )
-        item = Path("replay", "src", "item.rt")
-        for path in (TOP / "crates" / "replay" / "src").rglob("*.rt"):
-            place = path.relative_to(TOP / "crates")
-            text = (top / "crates" / place).read_text(encoding="utf-8")
-            if place != item:
-                self.assertEqual(text, path.read_text(encoding="utf-8"), place)
-        text = (top / "crates" / item).read_text(encoding="utf-8")
-        self.assertIn("\npub type Item = (u64, u64);\n", text)
-        # What the file of the repository has, the other one has, too.
-        for line in (TOP / "crates" / item).read_text(encoding="utf-8").splitlines():
-            if line.startswith("pub ") and "type" not in line:
-                self.assertIn(line, text)
+    def test_a_rust_program_that_fails(self):
+        ran = mock.Mock(returncode=7, stderr="told")
+        with mock.patch.object(compare.subprocess, "run", return_value=ran):
+            with self.assertRaisesRegex(Stopped, "replay in Rust ended with status 7: told"):
+                compare.answers_of_rust([])
+            with self.assertRaisesRegex(Stopped, "tools/rust/replay was not built"):
+                compare.build(None)
 
     def test_what_it_needs(self):
         programs = self.folder()
-        self.refuses(
-            "there is no folder /no/folder",
-            "compare_with_rust",
-            "--write",
-            "/no/folder",
-            PATH=str(programs),
-        )
-        self.refuses(
-            "there is no file /no/lib.rs",
-            "compare_with_rust",
-            "--crate",
-            "/no/lib.rs",
-            PATH=str(programs),
-        )
-        self.refuses("there is no program rustc", "compare_with_rust", PATH=str(programs))
-        (programs / "rustc").write_text("#!/bin/sh\nexit 1\n", encoding="utf-8")
-        (programs / "rustc").chmod(0o755)
-        self.refuses(
-            "there is no program /no/rt", "compare_with_rust", PATH=str(programs), RT="/no/rt"
-        )
+        for says, *words in (
+            ("there is no folder /no/folder", "--write", "/no/folder"),
+            ("there is no file /no/lib.rs", "--crate", "/no/lib.rs"),
+            ("there is no program rustc",),
+        ):
+            self.refuses(says, "compare_with_rust", *words, PATH=str(programs))
 
 
 if __name__ == "__main__":

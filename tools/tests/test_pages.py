@@ -13,45 +13,7 @@ README = (
     "```rust\nlet a = 1;\n```\n"
 )
 MAP = "# One\n\n## The map\n\n- `crates/thin_examples/`\n\n## Two\n"
-EXAMPLES = "# One\n\n| Example | Prints |\n|---|---|\n| [`one`](src/main.rt) | `1` |\n"
-
-
-# A type with three parameters, of which one has a default.
-FUNCTIONS = """//! One.
-pub struct Pair<A: Copy, B, C = u8> {
-    one: A,
-}
-
-fn add() {}
-
-impl<A: Copy, B, C> Pair<A, B, C> {
-    fn get() {}
-}
-
-impl<A: Copy, B> Pair<A, B> {
-    fn first() {}
-}
-
-impl<B> Pair<u8, B> {
-    fn second() {}
-}
-
-impl<A: Copy, B, C> Drop for Pair<A, B, C> {
-    fn drop() {}
-}
-
-impl<A: Copy, B, C> ops::Index<usize> for Pair<A, B, C> {
-    fn index() {}
-}
-
-impl<B, C> Clone for Pair<u8, B, C> {
-    fn clone() {}
-}
-
-impl<B, C> Eq for Pair<Vec<B>, B, C> {
-    fn eq() {}
-}
-"""
+EXAMPLES = "# One\n\n- [`one`](src/main.rt)\n"
 
 
 class Pages(ToolTest):
@@ -64,13 +26,11 @@ class Pages(ToolTest):
         shutil.copy(TOP / "tools" / "pages", top / "tools")
         unread = shutil.ignore_patterns("__pycache__")
         shutil.copytree(TOP / "tools" / "lib", top / "tools" / "lib", ignore=unread)
-        for name in ("reference", "evidence"):
-            (top / "tools" / name).write_text(
-                STUB.format(status=status, says=says), encoding="utf-8"
-            )
+        (top / "tools" / "reference").write_text(
+            STUB.format(status=status, says=says), encoding="utf-8"
+        )
         texts = {
             "README.md": EXAMPLES,
-            "stdout": "one: 1\n",
             "src/main.rt": "//! One.\n    let a = 1;\n",
         }
         for name, text in texts.items():
@@ -112,11 +72,6 @@ class Pages(ToolTest):
                 "\nRun `tools/pages --no`.\n",
                 "README.md:11: tools/pages has no option --no",
             ),
-            (
-                "crates/thin_examples/stdout",
-                "two: 2\n",
-                'crates/thin_examples: the page or the file stdout lacks "two: 2"',
-            ),
         ]
         for name, more, says in wrong:
             with self.subTest(says):
@@ -145,54 +100,15 @@ class Pages(ToolTest):
             MAP.replace("\n\n## Two", "\n- `crates/thin_vec/`\n\n## Two"), encoding="utf-8"
         )
         (top / "CHANGELOG.md").write_text(
-            "# One\n\n## Version 2: 3 May 2026\n\n## Version 1: 2 May 2026\n", encoding="utf-8"
+            "# One\n\n## Version 3, to come\n\n## Version 2: 3 May 2026\n\n"
+            "- **Version 1** (2 May 2026)\n",
+            encoding="utf-8",
         )
         (root / "lib.rt").write_text("//! One.\n//! Version 1 of 2 May 2026.\n", encoding="utf-8")
         says = "crates/thin_vec/src/lib.rt does not name the newest version of CHANGELOG.md, 2 of "
         self.assertIn(says + "3 May 2026\npages: 1 wrong\n", self.finds("pages", top=top))
         (root / "lib.rt").write_text("//! One.\n//! Version 2 of 3 May 2026.\n", encoding="utf-8")
         self.assertEqual(self.passes("pages", top=top), "pages: ok\n")
-
-    def test_a_proof_in_another_folder(self):
-        top = self.repository()
-        crate = top / "crates" / "thin_examples"
-        (crate / "src" / "one.rt").write_text(FUNCTIONS, encoding="utf-8")
-        right = (
-            "one/add",
-            "one/+add",
-            "one/Pair/get",
-            "one/Pair/drop",
-            "one/Pair+A+B/first",
-            "one/Pair+u8+B/second",
-            "one/PairIndexUsize/index",
-            "one/PairU8Clone/clone",
-            "one/PairVecEq/eq",
-            "one/Pair/TheLaw",
-        )
-        for name in right:
-            (crate / "proofs" / name).mkdir(parents=True)
-            (crate / "proofs" / name / "Answers.antt").write_text("", encoding="utf-8")
-        self.assertEqual(self.passes("pages", top=top), "pages: ok\n")
-        wrong = [
-            ("add", "proofs/one/add"),
-            ("two/add", "proofs/one/add"),
-            ("one/Pair/add", "proofs/one/add"),
-            ("one/get", "proofs/one/Pair/get"),
-            ("one/PairDrop/drop", "proofs/one/Pair/drop"),
-            ("one/Pair/first", "proofs/one/Pair+A+B/first"),
-            ("one/Pair/clone", "proofs/one/PairU8Clone/clone"),
-            ("one/PairIndex/index", "proofs/one/PairIndexUsize/index"),
-            ("one/PairVecBEq/eq", "proofs/one/PairVecEq/eq"),
-            ("one/Pair/lost", "a folder of its name"),
-        ]
-        for name, place in wrong:
-            planted = crate / "proofs" / name
-            planted.mkdir(parents=True)
-            (planted / "Proof.antt").write_text("", encoding="utf-8")
-            with self.subTest(name):
-                says = f"proofs/{name}: a proof of a function stands in {place}\npages: 1 wrong\n"
-                self.assertEqual(self.finds("pages", top=top), f"crates/thin_examples/{says}")
-            shutil.rmtree(planted)
 
     def test_members_and_labels(self):
         top = self.repository()
@@ -201,7 +117,7 @@ class Pages(ToolTest):
         source = top / "crates" / "thin_examples" / "src" / "main.rt"
         source.write_text(
             "//! One.\n    let a = 1;\nstruct One;\n    fn make() -> One\n"
-            "        ensures made { result }\n",
+            "        ensures made { result }\n    {\n    }\n",
             encoding="utf-8",
         )
         (top / "tools" / "reference").write_text('print("ensures made: make")\n', encoding="utf-8")
@@ -219,10 +135,49 @@ class Pages(ToolTest):
                 page.write_text(text, encoding="utf-8")
                 self.assertEqual(self.finds("pages", top=top), says + "\npages: 1 wrong\n")
 
-    def test_what_another_tool_finds_is_wrong(self):
-        self.assertEqual(
-            self.finds("pages", top=self.repository(1)), "told\n" * 2 + "pages: 2 wrong\n"
+    def test_names_of_what_shows_a_claim(self):
+        top = self.repository()
+        crate = top / "crates" / "thin_examples"
+        code = {
+            "src/main.rt": "//! One.\n    let a = 1;\nfn make()\n    ensures made { true }\n{\n}\n"
+            "impl Deep {\n    fn drop()\n        ensures after { true }\n    {\n    }\n}\n"
+            "#[test]\nfn makes_one() {\n}\nfn row_7() {\n}\n",
+            "specs/One.antt": "pub record IsOne : Type 0 where\n",
+            "proofs/One.antt": "pub is-one : IsOne\n",
+            "must-fail/one_is_two.edit": "",
+        }
+        for name, text in code.items():
+            (crate / name).parent.mkdir(exist_ok=True)
+            (crate / name).write_text(text, encoding="utf-8")
+        (top / "tools" / "data").mkdir()
+        (top / "tools" / "data" / "audit.expected").write_text("# walks\n", encoding="utf-8")
+        (top / "docs").mkdir()
+        page = top / "docs" / "PROOFS.md"
+        right = (
+            "# One\n\nSee `none`.\n\n- That `none` is one. — `made` of\n  `make`; `after` of"
+            " `Deep::drop`;\n  `makes_one`, `IsOne`, `is-one`, `one_is_two`, `walks`, row 7.\n"
         )
+        wrong = [
+            ("`made` of", "`after` of", "make has no clause after"),
+            ("`make`;", "`make` and `drop`;", "drop has no clause made"),
+            ("`makes_one`", "`makes_two`", "there is no makes_two"),
+            ("`IsOne`", "`IsTwo`", "there is no IsTwo"),
+            ("`is-one`", "`is-two`", "there is no is-two"),
+            ("`one_is_two`", "`one_is_one`", "there is no one_is_one"),
+            ("`walks`", "`walks on`", "there is no walks on"),
+            ("row 7", "rows 7 and 8", "there is no row_8"),
+        ]
+        page.write_text(right, encoding="utf-8")
+        self.assertEqual(self.passes("pages", top=top), "pages: ok\n")
+        for old, new, says in wrong:
+            with self.subTest(says):
+                page.write_text(right.replace(old, new), encoding="utf-8")
+                self.assertEqual(
+                    self.finds("pages", top=top), f"docs/PROOFS.md:5: {says}\npages: 1 wrong\n"
+                )
+
+    def test_what_another_tool_finds_is_wrong(self):
+        self.assertEqual(self.finds("pages", top=self.repository(1)), "told\npages: 1 wrong\n")
 
     def test_another_tool_that_cannot_run(self):
         self.refuses(

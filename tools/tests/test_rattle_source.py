@@ -3,8 +3,7 @@ import unittest
 from unittest import mock
 
 from tool import ToolTest
-from lib import command, rattle_source
-from lib.markdown import slug
+from lib import rattle_source
 
 SOURCE = """//! Doubles numbers. And more.
 use std::io;
@@ -126,13 +125,6 @@ class Reading(ToolTest):
             ["pub struct Pair {", "    pub first: u8,", "    // private fields", "}"],
         )
 
-    def test_a_macro_is_public_if_it_is_exported(self):
-        macro = "macro_rules! one {\n    () => {\n        1\n    };\n}\n"
-        items = rattle_source.items_in(f"{macro}\n#[macro_export]\n{macro}")
-        self.assertEqual(
-            [(item.kind, item.public) for item in items], [("macro", False), ("macro", True)]
-        )
-
     def test_the_lines_of_an_item(self):
         lines, found = SOURCE.splitlines(), {}
         for item in rattle_source.items_of(self.path):
@@ -155,19 +147,6 @@ class Reading(ToolTest):
         self.assertEqual(
             rattle_source.imports_of(self.path), ["use std::io;", "use std::{ mem, ptr, };"]
         )
-
-    def test_the_tests_and_the_lemmas_of_a_crate(self):
-        top = self.folder()
-        for name in ("src", "proofs"):
-            (top / "crates" / "one" / name).mkdir(parents=True)
-        (top / "crates" / "one" / "src" / "lib.rt").write_text(SOURCE, encoding="utf-8")
-        (top / "crates" / "one" / "proofs" / "A.antt").write_text(
-            "pub abbrev halves : 1\nhalves = holds\n  inner : 2\n", encoding="utf-8"
-        )
-        with mock.patch.object(rattle_source, "TOP", top):
-            tests = [(path.name, item.name) for path, item in rattle_source.tests_of("one")]
-            self.assertEqual(tests, [("lib.rt", "fails")])
-            self.assertEqual(rattle_source.lemmas("one"), {"halves", "inner"})
 
     def specs(self):
         """A folder with the files of `SPECS`."""
@@ -211,35 +190,6 @@ class Reading(ToolTest):
             for path, word, meaning in meanings:
                 with self.subTest(path=path.name, word=word):
                     self.assertEqual(rattle_source.definition(path, word), meaning)
-
-    def test_a_brace_that_is_not_closed(self):
-        self.path = self.folder() / "open.rt"
-        self.path.write_text("fn open()\nrequires { 1\n{\n", encoding="utf-8")
-        with self.assertRaises(command.Stopped) as why:
-            rattle_source.items_of(self.path)
-        self.assertEqual(str(why.exception), "a brace is not closed: { 1")
-
-    def test_the_first_sentence_of_a_file(self):
-        self.assertEqual(rattle_source.head_of(self.path), "Doubles numbers.")
-
-    def test_the_anchor_of_a_heading(self):
-        titles = [
-            ("`ThinVec::new`", "thinvecnew"),
-            ("Lists answered by Rust", "lists-answered-by-rust"),
-            ("a-b, c_d ", "a-b-c_d"),
-        ]
-        for title, anchor in titles:
-            self.assertEqual(slug(title), anchor)
-
-    def test_a_crate_that_is_not_there(self):
-        with self.assertRaises(command.Stopped) as why:
-            command.need_crates("thin_vec", "typo")
-        self.assertEqual(str(why.exception), "there is no folder crates/typo/src")
-
-    def test_a_program_that_is_not_there(self):
-        with self.assertRaises(command.Stopped) as why:
-            command.need("python3", "no_such_program")
-        self.assertEqual(str(why.exception), "there is no program no_such_program")
 
 
 if __name__ == "__main__":

@@ -5,9 +5,6 @@ from tool import ToolTest, change, load
 
 
 class MadePages(ToolTest):
-    def test_the_repository(self):
-        self.assertEqual(self.passes("reference", "--check"), "")
-
     def test_a_page_follows_the_code(self):
         top = self.copy("mutants.d")
         source = top / "crates" / "thin_rows" / "src" / "table.rt"
@@ -37,11 +34,6 @@ class MadePages(ToolTest):
         says = "tools/data/std_glossary.toml: IsOk has no meaning; IsPlanted is used by no contract"
         self.refuses(says, "reference", "--check", top=top)
 
-    def test_a_field_hides_a_word_in_the_fields_after_it(self):
-        text = "record Pair (a : A) where\n  pub fits : Fits a\n  pub fits_too : fits → more"
-        found = load("reference").words_of(text)
-        self.assertEqual(found & {"fits", "Fits", "more", "fits_too"}, {"Fits", "more"})
-
     def test_an_unknown_crate_is_told_before_a_page_is_written(self):
         top = self.copy("mutants.d", "proofs", "specs")
         page = top / "crates" / "thin_vec" / "REFERENCE.md"
@@ -50,11 +42,6 @@ class MadePages(ToolTest):
         says += " (--help lists the options)"
         self.refuses(says, "reference", "thin_vec", "typo", "--write", top=top)
         self.assertEqual(page.read_text(encoding="utf-8"), "")
-
-    def test_a_missing_crate(self):
-        top = self.copy("mutants.d", "proofs", "specs", "thin_rows")
-        says = "there is no folder crates/thin_rows/src"
-        self.refuses(says, "reference", "--check", top=top)
 
 
 if __name__ == "__main__":

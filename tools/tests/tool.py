@@ -19,8 +19,6 @@ sys.path.insert(0, str(TOP / "tools"))
 NAMES = (
     "audit",
     "compare_with_rust",
-    "evidence",
-    "from_vec",
     "mutants",
     "pages",
     "reference",

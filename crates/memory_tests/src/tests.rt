@@ -1,8 +1,8 @@
 mod allocators;
 mod checks;
 mod drops;
+mod fills;
 mod in_place;
 mod no_memory;
 mod over_global;
-mod padded;
 mod refusing;

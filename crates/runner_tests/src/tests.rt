@@ -4,5 +4,7 @@ mod given_up;
 pub mod judges;
 pub mod made;
 mod requests;
+mod runs;
 mod shown;
+mod twins;
 mod worked;

@@ -1,6 +1,6 @@
--- This file defines growth rules that multiply the capacity. It also proves that these rules
--- satisfy `IsLawful`, the law that every growth rule must satisfy. The proofs are in the folder
--- `specs` and not in `proofs`, because the implementations of `Growth` refer to them.
+-- This file defines a growth rule that multiplies the capacity. It also proves that the rule
+-- satisfies `IsLawful`, the law that every growth rule must satisfy. The proof is in the folder
+-- `specs` and not in `proofs`, because the implementation of `Growth` refers to it.
 use Rattle.std.specs.Prelude.{◌≡◌, ℕ, ◌*◌, ◌≤◌, Bool, true, false, IsTrue, if◌then◌else◌, max, refl}
 use Rattle.std.specs.declared.option.Option.TheVariants.{Some, None}
 use Rattle.std.proofs.Common.{mul-le-mul_right, subst, arith}
@@ -11,11 +11,6 @@ use Rattle.thin_vec.specs.Growth.{GrowthRule, IsLawful, checked_capacity}
 -- is greater. It returns `None` if a block of the chosen capacity is too large to be allocated.
 unfoldable pub multiple : ℕ → GrowthRule
 multiple k s a c w = checked_capacity s a (max w (k * c))
-
--- The growth rule `fourfold` chooses four times the old capacity, or the required capacity if that
--- is greater.
-abbrev pub fourfold : GrowthRule
-fourfold = multiple 4
 
 -- The growth rule `threefold` chooses three times the old capacity, or the required capacity if
 -- that is greater.
@@ -47,10 +42,6 @@ multiple_law k least s a c w n more word e =
       fits =
           subst (λ (m : ℕ). IsTrue (fits s a m)) told.1 told.0;
     }
-
--- The growth rule `fourfold` satisfies `IsLawful`, the law that every growth rule must satisfy.
-pub fourfold_law : IsLawful fourfold
-fourfold_law = multiple_law 4 (omega arith)
 
 -- The growth rule `threefold` satisfies `IsLawful`, the law that every growth rule must satisfy.
 pub threefold_law : IsLawful threefold

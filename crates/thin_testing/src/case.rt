@@ -26,141 +26,33 @@ pub struct At {
     pub refused: u64,
 }
 
-/// What the argument of a random case chooses. Each choice is drawn for itself.
-#[derive(Clone, Copy)]
-pub enum Choice {
-    Length,
-    Spare,
-    /// An index, or the start of a range.
-    Start,
-    End,
-    /// A number of new items.
-    Count,
-    /// The number of items of an iterator.
-    Items,
-    /// How the lower bound of a size hint is drawn.
-    HintKind,
-    Hint,
-    IsBounded,
-    /// Whether the items of an iterator just fill the list.
-    JustFills,
-    OtherSpare,
-    IsExact,
-}
-
 impl At {
-    /// Returns a random case of lists of `T`: the length, the spare capacity, and what `Case`
-    /// chooses.
-    pub fn random<T: Numbered>(round: usize, call: usize) -> At {
-        let seed = round.wrapping_mul(4096).wrapping_add(T::size());
-        let seed = seed.wrapping_mul(64).wrapping_add(call);
-        let at = At {
-            call: "",
-            length: 0,
-            spare: 0,
-            argument: RANDOM.saturating_add((mixed(seed as u64) >> 33) as usize),
-            refused: 0,
-        };
+    /// Returns a case in which no request is refused.
+    pub fn new(length: usize, spare: usize, argument: usize) -> At {
         At {
-            length: at.drawn_size(Choice::Length),
-            spare: at.drawn_size(Choice::Spare),
-            ..at
+            call: "",
+            length,
+            spare,
+            argument,
+            refused: 0,
         }
     }
 
-    /// Returns the number of random cases of a call on lists of `T`.
-    pub fn rounds<T: Numbered>() -> usize {
-        if T::size() > 100 { 12 } else { 60 }
-    }
-
-    /// Whether all choices of the case are random.
-    pub fn is_random(self) -> bool {
-        self.argument >= RANDOM
-    }
-
-    // Returns a number below `limit`, or 0 if `limit` is 0. The argument and `stream` determine it.
-    fn number(self, stream: u64, limit: usize) -> usize {
-        if limit == 0 {
-            return 0;
-        }
-        let seed = (self.argument as u64)
-            .wrapping_mul(128)
-            .wrapping_add(stream);
-        (mixed(seed) >> 33) as usize % limit
-    }
-
-    /// Returns a number below `limit`, or 0 if `limit` is 0.
-    pub fn drawn(self, what: Choice, limit: usize) -> usize {
-        self.number(what as u64, limit)
-    }
-
-    // Returns a second number for the same choice.
-    fn drawn_again(self, what: Choice, limit: usize) -> usize {
-        self.number(AGAIN.wrapping_add(what as u64), limit)
-    }
-
-    /// Returns a number below 2048, which is small in most cases.
-    pub fn drawn_size(self, what: Choice) -> usize {
-        let limits: [usize; 12] = [1, 2, 4, 8, 16, 32, 64, 128, 256, 512, 1024, 2048];
-        let limit = limits[self.drawn(what, 12) % 12];
-        self.drawn_again(what, limit)
-    }
-
-    /// Returns whether a request is drawn, of which `earlier` is the number of requests before it.
-    /// One of 32 is.
-    pub fn is_drawn(self, earlier: u64) -> bool {
-        self.number(earlier.wrapping_add(REQUESTS), 64) < 2
-    }
-
-    // Returns an index of at most `length`, which is near one of the ends in many cases.
-    fn drawn_index(self, what: Choice) -> usize {
-        let near = self.drawn(what, 8).min(self.length);
-        match self.drawn_again(what, 4) {
-            0 => near,
-            1 => self.length.saturating_sub(near),
-            _ => self.drawn(what, self.length.saturating_add(1)),
-        }
-    }
-
-    /// Returns the pattern that the argument chooses.
-    pub fn pattern(self) -> Pattern {
-        Pattern {
-            number: self.argument as u64,
-            is_short: self.length <= SHORT,
-        }
-    }
-}
-
-// Returns a number that looks random, and that `seed` determines (SplitMix64).
-fn mixed(seed: u64) -> u64 {
-    let mixed = seed.wrapping_mul(0x9E37_79B9_7F4A_7C15);
-    let mixed = (mixed ^ mixed >> 30).wrapping_mul(0xBF58_476D_1CE4_E5B9);
-    let mixed = (mixed ^ mixed >> 27).wrapping_mul(0x94D0_49BB_1331_11EB);
-    mixed ^ mixed >> 31
-}
-
-/// A pattern says which items a closure keeps.
-#[derive(Clone, Copy)]
-pub struct Pattern {
-    number: u64,
-    is_short: bool,
-}
-
-impl Pattern {
-    /// Returns whether the closure keeps the item at `index`. On a list of at most 4 items, each
-    /// pattern is one of those with the numbers below 16.
+    /// Returns whether the closure of a call keeps the item at `index`. On a list of at most 4
+    /// items, the arguments below 16 choose each pattern of kept items.
     pub fn keeps(self, index: u64) -> bool {
-        if self.is_short {
-            return self.number >> (index % 4) & 1 == 1;
+        let number = self.argument as u64;
+        if self.length <= SHORT {
+            return number >> (index % 4) & 1 == 1;
         }
-        match self.number % 8 {
+        match number % 8 {
             0 => index % 50 < 35,
             1 => false,
             2 => index % 2 == 0,
             3 => index % 2 == 1,
             4 => index % 16 / 2 != 3,
             5 => true,
-            _ => (index ^ self.number).wrapping_mul(0x9E37_79B9_7F4A_7C15) >> 40 & 1 == 0,
+            _ => (index ^ number).wrapping_mul(0x9E37_79B9_7F4A_7C15) >> 40 & 1 == 0,
         }
     }
 }
@@ -287,10 +179,7 @@ impl<T: Numbered, G: Growth> Case<T, G> {
 
     /// Returns the spare capacity of a second list.
     pub fn other_spare(&self) -> usize {
-        if self.at.is_random() {
-            return self.at.drawn_size(Choice::OtherSpare);
-        }
-        self.at.argument / 8 % 2
+        [0, 9][self.at.argument / 8 % 2]
     }
 
     /// Returns a list of `length` items, which are not in the list under test.
@@ -312,9 +201,6 @@ impl<T: Numbered, G: Growth> Case<T, G> {
     /// length are chosen by the arguments below 5.
     pub fn index(&self) -> usize {
         let length = self.at.length;
-        if self.at.is_random() {
-            return self.at.drawn_index(Choice::Start);
-        }
         if length <= SHORT {
             return length.min(self.at.argument % 5);
         }
@@ -331,11 +217,6 @@ impl<T: Numbered, G: Growth> Case<T, G> {
     /// chosen by some of the arguments below 25.
     pub fn range(&self) -> (usize, usize) {
         let length = self.at.length;
-        if self.at.is_random() {
-            let one = self.at.drawn_index(Choice::Start);
-            let two = self.at.drawn_index(Choice::End);
-            return (one.min(two), one.max(two));
-        }
         let (one, two) = (self.at.argument % 5, self.at.argument / 5 % 5);
         if length <= SHORT {
             let (one, two) = (one.min(length), two.min(length));
@@ -372,13 +253,10 @@ impl<T: Numbered, G: Growth> Case<T, G> {
 
     /// Returns a number of new items that the argument chooses, with few on a long list.
     pub fn count(&self) -> usize {
-        if self.at.is_random() {
-            return self.at.drawn_size(Choice::Count);
-        }
         let counts: [usize; 8] = if self.at.length <= SHORT {
-            [0, 1, 2, 3, 5, 9, 17, 45]
+            [0, 1, 2, 3, 5, 9, 17, 66]
         } else if self.at.length <= 100 {
-            [50, 1, 9, 0, 50, 1, 9, 0]
+            [50, 1, 9, 0, 200, 1, 9, 0]
         } else if self.at.length <= 10_000 {
             [300, 1, 300, 1, 300, 1, 300, 1]
         } else {
@@ -392,7 +270,6 @@ impl<T: Numbered, G: Growth> Case<T, G> {
         let (start, end) = self.range();
         let width = end.saturating_sub(start);
         match self.at.argument / 5 % 8 {
-            0 if self.at.is_random() => self.at.drawn_size(Choice::Count),
             0 => width.saturating_add(45),
             1 => width.saturating_add(2),
             2 => width.saturating_add(1),
@@ -407,9 +284,6 @@ impl<T: Numbered, G: Growth> Case<T, G> {
     /// Returns a number of items that fit into the spare capacity of the list.
     pub fn spare(&self) -> usize {
         let spare = self.list.capacity().saturating_sub(self.list.len());
-        if self.at.is_random() {
-            return self.at.drawn(Choice::Count, spare.saturating_add(1));
-        }
         spare.saturating_sub(self.at.argument % 5)
     }
 
@@ -518,15 +392,6 @@ impl<T: Numbered, G: Growth> Case<T, G> {
 
 // The greatest length of a list on which every index, range and pattern is tried.
 const SHORT: usize = 4;
-
-// The least argument of a random case.
-const RANDOM: usize = 1 << 32;
-
-// The first streams of the second numbers of choices, and of the requests of a case. A choice has
-// the stream of its number.
-const AGAIN: u64 = 50;
-
-const REQUESTS: u64 = 60;
 
 // The number of the first new item. It differs from the numbers of the items of all short lists.
 const FRESH: u64 = 200;

@@ -44,11 +44,6 @@ impl<'a, T> Claims<'a, T> {
         }
     }
 
-    /// Returns the number of items that have not been yielded yet.
-    pub fn left(&self) -> usize {
-        self.items.len()
-    }
-
     /// Returns the items that have not been yielded yet. This counts no call to `next`.
     pub fn into_left(self) -> IntoIter<T, Global> {
         let Claims {

@@ -31,9 +31,6 @@ pub struct Ledger {
     pub hints: Cell<u64>,
     /// The number of calls to closures that call `Ledger::called`.
     pub calls: Cell<u64>,
-    /// A sum over the numbers of the counted items that were dropped. It depends on their order:
-    /// `Ledger::add_drop` says how.
-    pub dropped: Cell<u64>,
 }
 
 impl Ledger {
@@ -48,7 +45,6 @@ impl Ledger {
             nexts: Cell::new(0),
             hints: Cell::new(0),
             calls: Cell::new(0),
-            dropped: Cell::new(0),
         }
     }
 
@@ -67,19 +63,9 @@ impl Ledger {
             &self.nexts,
             &self.hints,
             &self.calls,
-            &self.dropped,
         ] {
             cell.set(0);
         }
-    }
-
-    /// Returns the sum `dropped` after one more drop, of the item with the given number. A drop in
-    /// another order, however early, changes the sum.
-    pub fn add_drop(dropped: u64, number: u64) -> u64 {
-        dropped
-            .wrapping_mul(1_000_003)
-            .wrapping_add(number)
-            .wrapping_add(1)
     }
 
     /// Counts a call to a closure, and returns the number of earlier calls.
@@ -101,7 +87,6 @@ impl Drop for Ledger {
             nexts: _,
             hints: _,
             calls: _,
-            dropped: _,
         } = self;
     }
 }
@@ -151,13 +136,10 @@ impl<P: Drop> Drop for Counted<'_, P> {
     fn drop(self) {
         let Counted {
             ledger,
-            number,
+            number: _,
             payload: _,
         } = self;
         ledger.live.set(ledger.live.get().saturating_sub(1));
-        ledger
-            .dropped
-            .set(Ledger::add_drop(ledger.dropped.get(), number));
     }
 }
 

@@ -1,9 +1,9 @@
 //! Provides tools for the tests of several crates. The allocator `Refusing` refuses one request,
 //! which the test chooses. A `Ledger` has such an allocator, and counts items, clones and calls.
 //! Items of the types `Numbered` are made from numbers, and those of the type `Counted` are
-//! counted. `Claims` is an iterator whose size hint may be wrong. `Fourfold` and `Threefold` are
-//! growth rules that only tests use. The trait `Ruled` computes the capacities that tests expect. A
-//! `Case` is a call of a sweep on a list. Checks such as `same` and `holds` return what is wrong.
+//! counted. `Claims` is an iterator whose size hint may be wrong. `Threefold` is a growth rule that
+//! only tests use. The trait `Ruled` computes the capacities that tests expect. A `Case` is a call
+//! of a sweep on a list. Checks such as `same` and `holds` return what is wrong.
 #![tactic(auto)]
 
 mod case;
@@ -17,14 +17,12 @@ mod refusing;
 mod ruled;
 mod texts;
 
-pub use case::{
-    Answer, At, Case, Choice, Due, Lender, List, Pattern, Wrong, filled_list, numbered_items,
-};
+pub use case::{Answer, At, Case, Due, Lender, List, Wrong, filled_list, numbered_items};
 pub use checks::{Different, counts, has_len, holds, same, same_items};
 pub use claims::Claims;
 pub use ledger::{Counted, CountedWord, Ledger};
 pub use lists::{counted_list, list_of, splice};
-pub use multiples::{Fourfold, Threefold};
+pub use multiples::Threefold;
 pub use numbered::{Numbered, block_bytes, greatest_capacity};
 pub use refusing::Refusing;
 pub use ruled::{Ruled, least_power};

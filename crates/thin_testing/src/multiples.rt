@@ -1,4 +1,4 @@
-//! Defines two growth rules for tests. The tests check that lists satisfy their contracts even if a
+//! Defines a growth rule for tests. The tests check that lists satisfy their contracts even if a
 //! program defines its own growth rule.
 ghost use Rattle.std.specs.Prelude.{◌≡◌};
 ghost use Rattle.std.specs.Mem.{type_size};
@@ -6,22 +6,6 @@ ghost use Rattle.std.specs.Align.{type_align};
 ghost use Rattle.thin_testing.specs.Multiples.{multiple};
 
 use thin_vec::{Growth, fits};
-
-/// A growth rule that chooses four times the old capacity, or the required capacity if that is
-/// greater.
-pub struct Fourfold {}
-
-impl Growth for Fourfold {
-    ghost use Rattle.thin_testing.specs.Multiples.{fourfold, fourfold_law};
-
-    ghost rule = { fourfold };
-
-    fn next_capacity<T>(cap: usize, want: usize) -> Option<usize> {
-        next_multiple::<T>(4, cap, want)
-    }
-
-    ghost law = { fourfold_law };
-}
 
 /// A growth rule that chooses three times the old capacity, or the required capacity if that is
 /// greater.

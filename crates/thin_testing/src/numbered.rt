@@ -1,6 +1,7 @@
 //! Defines the types of items that tests make from numbers.
 use crate::ledger::{Counted, CountedWord, Ledger};
 use crate::ruled::least_power;
+use thin_block::item_size;
 
 /// A type of items that a test makes from numbers. Numbers below 251 make different items, except
 /// that all items of 0 bytes are equal, and all of the type `CountedWord`.
@@ -8,11 +9,13 @@ pub trait Numbered: Clone + Eq + Drop {
     /// Whether the ledger counts the items and their clones.
     const IS_COUNTED: bool;
 
-    /// Returns the size of an item in bytes.
-    fn size() -> usize;
+    /// Whether items of more than 16 bytes are aligned to 8 or 16.
+    const IS_ALIGNED: bool = true;
 
-    /// Returns the alignment of an item in bytes.
-    fn align() -> usize;
+    /// Returns the size of an item in bytes.
+    fn size() -> usize {
+        item_size::<Self>()
+    }
 
     /// Makes an item.
     fn numbered(ledger: &'static Ledger, number: u64) -> Self;
@@ -27,9 +30,9 @@ pub fn block_bytes<T: Numbered>(capacity: usize) -> u64 {
     if capacity == 0 {
         return 0;
     }
-    let (size, align) = (T::size(), T::align());
+    let size = T::size();
     let bytes = capacity.saturating_mul(size).saturating_add(16);
-    let is_large = size > 16 && align >= 8 && capacity >= 32;
+    let is_large = size > 16 && T::IS_ALIGNED && capacity >= 32;
     if is_large && bytes.saturating_add(size) <= least_power(bytes) {
         return capacity.saturating_add(2).saturating_mul(size) as u64;
     }
@@ -49,27 +52,11 @@ pub fn greatest_capacity<T: Numbered>() -> usize {
 impl Numbered for () {
     const IS_COUNTED: bool = false;
 
-    fn size() -> usize {
-        0
-    }
-
-    fn align() -> usize {
-        1
-    }
-
     fn numbered(_ledger: &'static Ledger, _number: u64) -> () {}
 }
 
 impl Numbered for u8 {
     const IS_COUNTED: bool = false;
-
-    fn size() -> usize {
-        1
-    }
-
-    fn align() -> usize {
-        1
-    }
 
     fn numbered(_ledger: &'static Ledger, number: u64) -> u8 {
         (number % 251) as u8
@@ -79,14 +66,6 @@ impl Numbered for u8 {
 impl Numbered for u16 {
     const IS_COUNTED: bool = false;
 
-    fn size() -> usize {
-        2
-    }
-
-    fn align() -> usize {
-        2
-    }
-
     fn numbered(_ledger: &'static Ledger, number: u64) -> u16 {
         (number % 65521) as u16
     }
@@ -94,14 +73,6 @@ impl Numbered for u16 {
 
 impl Numbered for i32 {
     const IS_COUNTED: bool = false;
-
-    fn size() -> usize {
-        4
-    }
-
-    fn align() -> usize {
-        4
-    }
 
     fn numbered(_ledger: &'static Ledger, number: u64) -> i32 {
         (number % 2_147_483_647) as i32
@@ -111,14 +82,6 @@ impl Numbered for i32 {
 impl Numbered for u64 {
     const IS_COUNTED: bool = false;
 
-    fn size() -> usize {
-        8
-    }
-
-    fn align() -> usize {
-        8
-    }
-
     fn numbered(_ledger: &'static Ledger, number: u64) -> u64 {
         number
     }
@@ -126,14 +89,6 @@ impl Numbered for u64 {
 
 impl Numbered for u128 {
     const IS_COUNTED: bool = false;
-
-    fn size() -> usize {
-        16
-    }
-
-    fn align() -> usize {
-        16
-    }
 
     fn numbered(_ledger: &'static Ledger, number: u64) -> u128 {
         u128::from(number) << 64
@@ -143,12 +98,10 @@ impl Numbered for u128 {
 impl<const N: usize> Numbered for [u8; N] {
     const IS_COUNTED: bool = false;
 
+    const IS_ALIGNED: bool = false;
+
     fn size() -> usize {
         N
-    }
-
-    fn align() -> usize {
-        1
     }
 
     fn numbered(_ledger: &'static Ledger, number: u64) -> [u8; N] {
@@ -159,12 +112,10 @@ impl<const N: usize> Numbered for [u8; N] {
 impl<const N: usize> Numbered for [u32; N] {
     const IS_COUNTED: bool = false;
 
+    const IS_ALIGNED: bool = false;
+
     fn size() -> usize {
         N.saturating_mul(4)
-    }
-
-    fn align() -> usize {
-        4
     }
 
     fn numbered(_ledger: &'static Ledger, number: u64) -> [u32; N] {
@@ -175,12 +126,10 @@ impl<const N: usize> Numbered for [u32; N] {
 impl<const N: usize> Numbered for [u64; N] {
     const IS_COUNTED: bool = false;
 
+    const IS_ALIGNED: bool = true;
+
     fn size() -> usize {
         N.saturating_mul(8)
-    }
-
-    fn align() -> usize {
-        8
     }
 
     fn numbered(_ledger: &'static Ledger, number: u64) -> [u64; N] {
@@ -191,12 +140,10 @@ impl<const N: usize> Numbered for [u64; N] {
 impl<const N: usize> Numbered for [u128; N] {
     const IS_COUNTED: bool = false;
 
+    const IS_ALIGNED: bool = true;
+
     fn size() -> usize {
         N.saturating_mul(16)
-    }
-
-    fn align() -> usize {
-        16
     }
 
     fn numbered(_ledger: &'static Ledger, number: u64) -> [u128; N] {
@@ -207,14 +154,6 @@ impl<const N: usize> Numbered for [u128; N] {
 impl Numbered for CountedWord<'static> {
     const IS_COUNTED: bool = true;
 
-    fn size() -> usize {
-        8
-    }
-
-    fn align() -> usize {
-        8
-    }
-
     fn numbered(ledger: &'static Ledger, _number: u64) -> Self {
         CountedWord::new(ledger)
     }
@@ -222,15 +161,6 @@ impl Numbered for CountedWord<'static> {
 
 impl<P: Numbered + Copy> Numbered for Counted<'static, P> {
     const IS_COUNTED: bool = true;
-
-    fn size() -> usize {
-        let payload = P::size().div_ceil(8).saturating_mul(8);
-        payload.saturating_add(16)
-    }
-
-    fn align() -> usize {
-        P::align().max(8)
-    }
 
     fn numbered(ledger: &'static Ledger, number: u64) -> Self {
         Counted::new(ledger, number, P::numbered(ledger, number))

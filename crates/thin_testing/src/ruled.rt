@@ -1,7 +1,7 @@
 //! For each growth rule, defines a function that computes the capacities that tests expect. The
 //! function differs from the rule in one case. If a capacity is too large to be allocated, the rule
 //! returns `None`, but the function still returns this capacity.
-use crate::multiples::{Fourfold, Threefold};
+use crate::multiples::Threefold;
 use thin_vec::{Doubling, Growth, PowerBytes};
 
 /// Returns the smallest power of two that is at least `bytes` and at least 32, or `usize::MAX` if
@@ -50,11 +50,5 @@ impl Ruled for PowerBytes {
 impl Ruled for Threefold {
     fn expected_capacity(_size: usize, capacity: usize, want: usize) -> usize {
         want.max(capacity.saturating_mul(3))
-    }
-}
-
-impl Ruled for Fourfold {
-    fn expected_capacity(_size: usize, capacity: usize, want: usize) -> usize {
-        want.max(capacity.saturating_mul(4))
     }
 }

@@ -1,6 +1,6 @@
 //! Assertions about a case, whose messages name it, and about numbers, which the prover knows
 //! afterwards.
-ghost use Rattle.std.specs.Prelude.{◌<◌, ◌≤◌};
+ghost use Rattle.std.specs.Prelude.{◌≤◌};
 
 use std::fmt::Debug;
 use std::process::Abort;
@@ -45,11 +45,4 @@ pub fn assert_at_most<R: Abort>(rt: &R, number: usize, most: usize)
     ensures at_most { number ≤ most }
 {
     assert!(rt; number <= most);
-}
-
-/// Asserts that the number is below `end`.
-pub fn assert_below<R: Abort>(rt: &R, number: usize, end: usize)
-    ensures below { number < end }
-{
-    assert!(rt; number < end);
 }

@@ -1,24 +1,30 @@
 //! Tests of what the contracts of `thin_vec` do not say: that a call succeeds if it gets the memory
 //! that it needs, makes no other request and no other call, and drops and frees everything.
 //!
-//! A sweep makes each call of a group (`Calls`) on many lists, with several arguments. It makes the
-//! call with enough memory, and then again with one of its requests refused, each in turn (of many
-//! requests, some of those in the middle are left out). Clones of counted items are requests, too.
-//! After the call, the list itself says what is right:
+//! A sweep makes each call of a group (`Calls`) on lists of many lengths, spare capacities and item
+//! types, with several arguments, under several growth rules. It makes the call with enough memory,
+//! and then again with one of its requests refused, each in turn (of many requests, some of those
+//! in the middle are left out). Clones of counted items are requests, too. After the call:
 //!
-//! - Each request was for a new capacity of the list, or is one of those that the call announces
-//!   (`Due`). Closures, clones and comparisons were called as often as the call announces.
-//! - The call succeeded if no request was refused, or its capacity overflowed before any request.
-//!   It failed with `OutOfMemory` if a request was refused, and made no further request.
-//! - As many items exist as the list has, and one block if the list has a capacity.
-//! - Nothing is left once the list is dropped.
+//! - If no request was refused, the call succeeded, or its capacity overflowed before any request.
+//!   If a request was refused, it failed with `OutOfMemory`, and made no further request.
+//! - A call that succeeded made one request if the list has a new capacity above 0, those that the
+//!   call announces (`Due`), and no other, and for no more bytes than these blocks take. It called
+//!   closures, clones and comparisons as often as it announces.
+//! - As many items exist as the list has, and one block, of the right size, if it has a capacity.
+//! - Nothing is left once the list is dropped, and the drop made no request.
 //!
-//! Items, capacities and returned values are proved, so a sweep does not compare them, but for the
-//! calls that take an iterator (`filling`). The crate `runner_tests` sweeps lists of commands.
+//! Items, capacities and returned values are proved, so a sweep does not compare them. But for the
+//! calls that take an iterator, contracts leave the capacity open, so `filling` computes it, with
+//! the requests, the calls of the iterator, the cause of a failure, and the items in the list, in
+//! the error and in the rest of the iterator. Left out are `hash`, the calls that print, `write!`,
+//! `clone_from`, and the methods that a list has from slices: `list_tests` has those that can fail.
+//! The crate `runner_tests` tries commands.
 //!
-//! To add a call, add an arm to the `match` of a file in `calls/`, and count it in `CALLS`. An arm
-//! makes the arguments, calls `begin` with the name of the call, makes the call, and returns a
-//! `Due`. To add an item type, implement `Numbered` (`thin_testing`), and add a test to `tests.rt`.
+//! To add a call, add an arm to the `match` of a file in `calls/`, before the calls that take fewer
+//! arguments. An arm makes the arguments, calls `begin` with the name of the call, makes the call,
+//! and returns a `Due`. To add an item type, implement `Numbered` (`thin_testing`), and add a test
+//! to `tests.rt`.
 #![tactic(auto)]
 
 #[cfg(test)]

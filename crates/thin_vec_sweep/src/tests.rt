@@ -11,10 +11,10 @@ use crate::calls::making::Making;
 use crate::calls::reading::{Comparing, Reading};
 use crate::calls::removing::Removing;
 use crate::calls::replacing::Replacing;
-use crate::sweep::{sweep, sweep_at_random};
+use crate::sweep::{Calls, sweep};
 use std::alloc::Global;
 use std::process::Abort;
-use thin_testing::{Counted, CountedWord, Fourfold, Ledger, Numbered, Ruled, Threefold};
+use thin_testing::{Counted, CountedWord, Ledger, Numbered, Ruled, Threefold};
 use thin_vec::{Doubling, PowerBytes};
 
 /// The lengths of lists on which each call is tried with several spare capacities and arguments.
@@ -28,16 +28,12 @@ const LONGER: [usize; 2] = [50, 300];
 // More arguments than any call has.
 const ALL: usize = usize::MAX;
 
-/// A counted item of 16 bytes. The next types have 24, 32, 64, 128 and 512 bytes.
+/// A counted item of 16 bytes. The next types have 24, 32 and 512 bytes.
 pub type Small = Counted<'static>;
 
 pub type ThreeWords = Counted<'static, u64>;
 
 pub type Aligned = Counted<'static, u128>;
-
-pub type EightWords = Counted<'static, [u64; 6]>;
-
-pub type SixteenWords = Counted<'static, [u64; 14]>;
 
 pub type Large = Counted<'static, [u64; 62]>;
 
@@ -49,68 +45,21 @@ fn sweeps<T: Numbered, G: Ruled, R: Abort>(
     spares: &[usize],
     most: usize,
 ) {
-    let (_cases, added) = sweep::<Adding, T, G, R>(rt, ledger, lengths, spares, most);
+    sweep::<Adding, T, G, R>(rt, ledger, lengths, spares, most);
     sweep::<Removing, T, G, R>(rt, ledger, lengths, spares, most);
     sweep::<Filtering, T, G, R>(rt, ledger, lengths, spares, most);
     sweep::<Reading, T, G, R>(rt, ledger, lengths, spares, most);
-    let (_cases, replaced) = sweep::<Replacing, T, G, R>(rt, ledger, lengths, spares, most);
+    sweep::<Replacing, T, G, R>(rt, ledger, lengths, spares, most);
     sweep::<Making, T, Doubling, R>(rt, ledger, lengths, spares, most);
-    assert!(rt; added > 0 && replaced > 0);
 }
 
-// Sweeps all calls of short lists of `T`, and of lists of the given lengths.
+// Sweeps all calls of short lists of `T`, of lists of the given lengths, and of lists with much
+// spare capacity.
 fn sweep_all<T: Numbered, G: Ruled, R: Abort>(rt: &R, alloc: Global, long: &[usize]) {
     let ledger = Ledger::leaked(alloc).expect(rt, "memory");
     sweeps::<T, G, R>(rt, ledger, &SHORT, &[0, 1, 4], ALL);
-    sweeps::<T, G, R>(rt, ledger, long, &[0, 4, 30], 10);
-    sweep::<Adding, T, G, R>(rt, ledger, &[1, 33], &[300], ALL);
-}
-
-// Makes all calls of `T` on random lists.
-fn sweep_random<T: Numbered, G: Ruled, R: Abort>(rt: &R, alloc: Global) {
-    let ledger = Ledger::leaked(alloc).expect(rt, "memory");
-    sweep_at_random::<Adding, T, G, R>(rt, ledger);
-    sweep_at_random::<Removing, T, G, R>(rt, ledger);
-    sweep_at_random::<Filtering, T, G, R>(rt, ledger);
-    sweep_at_random::<Reading, T, G, R>(rt, ledger);
-    sweep_at_random::<Replacing, T, G, R>(rt, ledger);
-    sweep_at_random::<Making, T, Doubling, R>(rt, ledger);
-}
-
-#[test]
-fn random_calls_of_items_that_grow_in_place(rt: HostRuntime) {
-    sweep_random::<u8, Doubling, _>(&rt, rt.alloc());
-    sweep_random::<u16, PowerBytes, _>(&rt, rt.alloc());
-    sweep_random::<i32, Doubling, _>(&rt, rt.alloc());
-    sweep_random::<u64, Threefold, _>(&rt, rt.alloc());
-    sweep_random::<u128, Doubling, _>(&rt, rt.alloc());
-}
-
-#[test]
-fn random_calls_of_items_of_odd_sizes(rt: HostRuntime) {
-    sweep_random::<(), Doubling, _>(&rt, rt.alloc());
-    sweep_random::<[u8; 3], Doubling, _>(&rt, rt.alloc());
-    sweep_random::<[u8; 5], Fourfold, _>(&rt, rt.alloc());
-    sweep_random::<[u8; 7], Doubling, _>(&rt, rt.alloc());
-    sweep_random::<[u32; 3], Doubling, _>(&rt, rt.alloc());
-    sweep_random::<[u32; 5], PowerBytes, _>(&rt, rt.alloc());
-    sweep_random::<[u32; 7], Doubling, _>(&rt, rt.alloc());
-}
-
-#[test]
-fn random_calls_of_counted_items(rt: HostRuntime) {
-    sweep_random::<CountedWord<'static>, Doubling, _>(&rt, rt.alloc());
-    sweep_random::<Small, PowerBytes, _>(&rt, rt.alloc());
-    sweep_random::<ThreeWords, Doubling, _>(&rt, rt.alloc());
-    sweep_random::<Aligned, Threefold, _>(&rt, rt.alloc());
-}
-
-#[test]
-fn random_calls_of_large_counted_items(rt: HostRuntime) {
-    sweep_random::<EightWords, Doubling, _>(&rt, rt.alloc());
-    sweep_random::<SixteenWords, Fourfold, _>(&rt, rt.alloc());
-    sweep_random::<Large, Doubling, _>(&rt, rt.alloc());
-    sweep_random::<Counted<'static, [u64; 254]>, Doubling, _>(&rt, rt.alloc());
+    sweeps::<T, G, R>(rt, ledger, long, &[0, 30], 30);
+    sweeps::<T, G, R>(rt, ledger, &[1, 33, 100], &[300], 30);
 }
 
 #[test]
@@ -144,8 +93,18 @@ fn sweeps_u128(rt: HostRuntime) {
 }
 
 #[test]
+fn sweeps_items_of_320_bytes(rt: HostRuntime) {
+    sweep_all::<[u64; 40], Doubling, _>(&rt, rt.alloc(), &[50]);
+}
+
+#[test]
 fn sweeps_counted_items(rt: HostRuntime) {
     sweep_all::<Small, Doubling, _>(&rt, rt.alloc(), &LONGER);
+}
+
+#[test]
+fn sweeps_counted_items_of_8_bytes(rt: HostRuntime) {
+    sweep_all::<CountedWord<'static>, Doubling, _>(&rt, rt.alloc(), &LONGER);
 }
 
 #[test]
@@ -154,31 +113,15 @@ fn sweeps_counted_items_of_24_bytes(rt: HostRuntime) {
 }
 
 #[test]
-fn sweeps_items_of_32_to_128_bytes(rt: HostRuntime) {
-    sweep_all::<Aligned, Doubling, _>(&rt, rt.alloc(), &[50]);
-    sweep_all::<EightWords, Doubling, _>(&rt, rt.alloc(), &[50]);
-    sweep_all::<SixteenWords, Doubling, _>(&rt, rt.alloc(), &[50]);
-}
-
-#[test]
-fn sweeps_items_of_24_and_48_bytes_that_are_not_counted(rt: HostRuntime) {
-    sweep_all::<[u64; 3], PowerBytes, _>(&rt, rt.alloc(), &[50]);
-    sweep_all::<[u128; 3], Doubling, _>(&rt, rt.alloc(), &[50]);
-}
-
-#[test]
 fn sweeps_items_of_512_bytes(rt: HostRuntime) {
-    sweep_all::<Large, Doubling, _>(&rt, rt.alloc(), &LONGER);
+    let ledger = Ledger::leaked(rt.alloc()).expect(&rt, "memory");
+    sweeps::<Large, Doubling, _>(&rt, ledger, &[0, 1, 3, 33], &[0, 4], 40);
 }
 
 #[test]
 fn sweeps_items_of_odd_sizes(rt: HostRuntime) {
     sweep_all::<[u8; 3], Doubling, _>(&rt, rt.alloc(), &LONGER);
-    sweep_all::<[u8; 5], Doubling, _>(&rt, rt.alloc(), &LONGER);
-    sweep_all::<[u8; 7], Doubling, _>(&rt, rt.alloc(), &LONGER);
     sweep_all::<[u32; 3], Doubling, _>(&rt, rt.alloc(), &LONGER);
-    sweep_all::<[u32; 5], Doubling, _>(&rt, rt.alloc(), &LONGER);
-    sweep_all::<[u32; 7], Doubling, _>(&rt, rt.alloc(), &LONGER);
 }
 
 #[test]
@@ -188,23 +131,21 @@ fn sweeps_items_that_are_aligned_otherwise_than_most(rt: HostRuntime) {
     sweep_all::<[u8; 32], Doubling, _>(&rt, rt.alloc(), &[50]);
     sweep_all::<[u32; 6], Doubling, _>(&rt, rt.alloc(), &[50]);
     sweep_all::<[u64; 5], Doubling, _>(&rt, rt.alloc(), &[50]);
-}
-
-// Sweeps the calls on short lists with the growth rule `G`.
-fn growths<G: Ruled, R: Abort>(rt: &R, ledger: &'static Ledger) {
-    sweep::<Adding, Small, G, R>(rt, ledger, &SHORT, &[0, 1], ALL);
-    sweep::<Replacing, Small, G, R>(rt, ledger, &[1, 4, 33], &[0, 1], ALL);
-    sweep::<Removing, Small, G, R>(rt, ledger, &[1, 4, 33], &[0, 1], ALL);
-    sweep::<Filtering, Small, G, R>(rt, ledger, &[1, 4, 33], &[0, 1], ALL);
-    sweep::<Reading, Small, G, R>(rt, ledger, &[1, 4, 33], &[0, 1], ALL);
+    sweep_all::<Aligned, Doubling, _>(&rt, rt.alloc(), &[50]);
 }
 
 #[test]
 fn sweeps_counted_items_under_other_rules(rt: HostRuntime) {
     let ledger = Ledger::leaked(rt.alloc()).expect(&rt, "memory");
-    growths::<PowerBytes, _>(&rt, ledger);
-    growths::<Threefold, _>(&rt, ledger);
-    growths::<Fourfold, _>(&rt, ledger);
+    sweeps::<Small, PowerBytes, _>(&rt, ledger, &SHORT, &[0, 1], ALL);
+    sweeps::<Small, Threefold, _>(&rt, ledger, &SHORT, &[0, 1], ALL);
+}
+
+#[test]
+fn sweeps_counted_items_of_long_lists(rt: HostRuntime) {
+    let ledger = Ledger::leaked(rt.alloc()).expect(&rt, "memory");
+    sweeps::<Small, Doubling, _>(&rt, ledger, &[4000], &[0, 1], 2);
+    sweeps::<Small, Doubling, _>(&rt, ledger, &[41_000], &[1], 1);
 }
 
 #[test]
@@ -213,66 +154,24 @@ fn orders_lists_with_one_comparison_of_each_item(rt: HostRuntime) {
     sweep::<Comparing, Small, Doubling, _>(&rt, ledger, &SHORT, &[0, 1, 9], ALL);
     sweep::<Comparing, Small, Doubling, _>(&rt, ledger, &[50, 150, 3000], &[0, 1], ALL);
     sweep::<Comparing, ThreeWords, Doubling, _>(&rt, ledger, &[1, 40], &[0], ALL);
-    sweep::<Comparing, Large, Doubling, _>(&rt, ledger, &[1, 40], &[0], ALL);
-}
-
-#[test]
-fn sweeps_counted_items_of_long_lists(rt: HostRuntime) {
-    let ledger = Ledger::leaked(rt.alloc()).expect(&rt, "memory");
-    sweeps::<Small, Doubling, _>(&rt, ledger, &[4000], &[0, 1], 5);
-    sweeps::<Small, Doubling, _>(&rt, ledger, &[41_000], &[0, 1], 2);
-}
-
-#[test]
-fn sweeps_long_lists_of_counted_items_of_8_to_512_bytes(rt: HostRuntime) {
-    let ledger = Ledger::leaked(rt.alloc()).expect(&rt, "memory");
-    sweeps::<CountedWord<'static>, Doubling, _>(&rt, ledger, &[4000], &[0], 2);
-    sweeps::<ThreeWords, PowerBytes, _>(&rt, ledger, &[4000], &[0], 2);
-    sweeps::<Aligned, Doubling, _>(&rt, ledger, &[2000], &[0], 2);
-    sweeps::<Large, Fourfold, _>(&rt, ledger, &[1200], &[0], 2);
-}
-
-#[test]
-fn sweeps_long_lists_of_items_that_are_not_counted(rt: HostRuntime) {
-    let ledger = Ledger::leaked(rt.alloc()).expect(&rt, "memory");
-    sweeps::<(), Doubling, _>(&rt, ledger, &[20_000], &[0], 2);
-    sweeps::<u8, PowerBytes, _>(&rt, ledger, &[4000, 41_000], &[0], 2);
-    sweeps::<u16, Threefold, _>(&rt, ledger, &[6000], &[0], 2);
-    sweeps::<i32, PowerBytes, _>(&rt, ledger, &[6000], &[0], 2);
-    sweeps::<u64, PowerBytes, _>(&rt, ledger, &[6000], &[0], 2);
-    sweeps::<u128, PowerBytes, _>(&rt, ledger, &[6000], &[0], 2);
-    sweeps::<[u8; 3], Fourfold, _>(&rt, ledger, &[6000], &[0], 2);
-    sweeps::<[u32; 5], Doubling, _>(&rt, ledger, &[6000], &[0], 2);
-    sweeps::<[u64; 3], Threefold, _>(&rt, ledger, &[6000], &[0], 2);
-    sweeps::<[u128; 3], Doubling, _>(&rt, ledger, &[3000], &[0], 2);
-    sweeps::<[u64; 40], PowerBytes, _>(&rt, ledger, &[40, 1500], &[0], 2);
 }
 
 // Sweeps the calls that copy items.
 fn copies<T: Numbered + Copy, R: Abort>(rt: &R, alloc: Global) {
     let ledger = Ledger::leaked(alloc).expect(rt, "memory");
     sweep::<Copying, T, Doubling, R>(rt, ledger, &SHORT, &[0, 1, 4], ALL);
-    sweep::<Copying, T, PowerBytes, R>(rt, ledger, &LONG, &[0, 1], ALL);
-    sweep_at_random::<Copying, T, Doubling, R>(rt, ledger);
+    sweep::<Copying, T, PowerBytes, R>(rt, ledger, &[100, 257, 1000], &[0, 1], 40);
 }
 
 #[test]
 fn copies_items_of_all_sizes(rt: HostRuntime) {
     copies::<(), _>(&rt, rt.alloc());
     copies::<u8, _>(&rt, rt.alloc());
-    copies::<u16, _>(&rt, rt.alloc());
     copies::<i32, _>(&rt, rt.alloc());
     copies::<[u8; 3], _>(&rt, rt.alloc());
-    copies::<[u8; 5], _>(&rt, rt.alloc());
-    copies::<[u8; 7], _>(&rt, rt.alloc());
-    copies::<[u32; 3], _>(&rt, rt.alloc());
     copies::<[u32; 5], _>(&rt, rt.alloc());
-    copies::<[u32; 7], _>(&rt, rt.alloc());
-    copies::<u64, _>(&rt, rt.alloc());
     copies::<[u64; 3], _>(&rt, rt.alloc());
-    copies::<[u64; 6], _>(&rt, rt.alloc());
     copies::<[u64; 40], _>(&rt, rt.alloc());
-    copies::<[u128; 3], _>(&rt, rt.alloc());
     copies::<u128, _>(&rt, rt.alloc());
 }
 
@@ -282,7 +181,6 @@ fn writes_and_copies_bytes(rt: HostRuntime) {
     sweep::<Bytes, u8, Doubling, _>(&rt, ledger, &SHORT, &[0, 1, 60], ALL);
     sweep::<Bytes, u8, PowerBytes, _>(&rt, ledger, &LONG, &[0, 1, 60], ALL);
     sweep::<Bytes, u8, Doubling, _>(&rt, ledger, &[41_000], &[0], ALL);
-    sweep_at_random::<Bytes, u8, Doubling, _>(&rt, ledger);
     sweep::<Copying, u8, Doubling, _>(&rt, ledger, &[41_000], &[0], 2);
 }
 
@@ -292,9 +190,31 @@ fn converts_arrays(rt: HostRuntime) {
     arrays::<(), _>(&rt, ledger);
     arrays::<u8, _>(&rt, ledger);
     arrays::<[u8; 3], _>(&rt, ledger);
-    arrays::<u64, _>(&rt, ledger);
     arrays::<CountedWord<'static>, _>(&rt, ledger);
-    arrays::<Small, _>(&rt, ledger);
     arrays::<ThreeWords, _>(&rt, ledger);
     arrays::<Large, _>(&rt, ledger);
+}
+
+// Returns in how many cases a group makes a call with ample memory, on lists of one item with room
+// for another.
+fn cases<C: Calls<T, Doubling>, T: Numbered, R: Abort>(rt: &R, ledger: &'static Ledger) -> u64 {
+    let (cases, refusals) = sweep::<C, T, Doubling, R>(rt, ledger, &[1], &[1], ALL);
+    cases.saturating_sub(refusals)
+}
+
+#[test]
+fn each_group_makes_each_of_its_calls_with_each_argument(rt: HostRuntime) {
+    let ledger = Ledger::leaked(rt.alloc()).expect(&rt, "memory");
+    assert_eq!(rt; cases::<Adding, Small, _>(&rt, ledger), 40 * 8 + 5 * 6);
+    assert_eq!(rt; cases::<Bytes, u8, _>(&rt, ledger), 8 * 3);
+    assert_eq!(rt; cases::<Comparing, Small, _>(&rt, ledger), 5 * 3);
+    assert_eq!(rt; cases::<Copying, u8, _>(&rt, ledger), 200 + 8 * 4);
+    assert_eq!(rt; cases::<Filtering, Small, _>(&rt, ledger), 150 + 16 * 6);
+    assert_eq!(rt; cases::<Making, Small, _>(&rt, ledger), 16 * 7);
+    assert_eq!(rt; cases::<Reading, Small, _>(&rt, ledger), 5 * 4);
+    assert_eq!(rt;
+        cases::<Removing, Small, _>(&rt, ledger),
+        150 * 3 + 25 + 10 * 10
+    );
+    assert_eq!(rt; cases::<Replacing, Small, _>(&rt, ledger), 200 * 2 + 5 * 2);
 }

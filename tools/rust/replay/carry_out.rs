@@ -1,7 +1,6 @@
 //! Carries out commands.
 
 use crate::hinted::Hinted;
-use crate::item::Item;
 use crate::judge::Judge;
 use crate::line::{Command, Step};
 use crate::list::{List, reserve_for_hint};
@@ -12,14 +11,14 @@ use std::panic::{self, AssertUnwindSafe};
 /// What a call returned, or that it panicked because the capacity would overflow.
 pub enum Reply {
     Done,
-    Item(Option<Item>),
-    Answers(Vec<Option<Item>>),
+    Item(Option<u64>),
+    Answers(Vec<Option<u64>>),
     Made(List),
     Other(List),
     Overflow,
     /// The iterator still yields the items of `rest`.
     Stopped {
-        answers: Vec<Option<Item>>,
+        answers: Vec<Option<u64>>,
         rest: Hinted,
     },
     OutOfRange,
@@ -104,7 +103,7 @@ fn extend(list: &mut List, mut items: Hinted, hint: usize) -> Reply {
     }
 }
 
-fn append(list: &mut List, items: Vec<Item>) -> Reply {
+fn append(list: &mut List, items: Vec<u64>) -> Reply {
     let mut other = List::new();
     for item in items {
         other.push(item);
@@ -135,7 +134,7 @@ fn splice(list: &mut List, start: usize, end: usize, steps: &[Step], mut items: 
 }
 
 /// Returns what the steps of a walk yield.
-fn walk(items: &mut impl DoubleEndedIterator<Item = Item>, steps: &[Step]) -> Vec<Option<Item>> {
+fn walk(items: &mut impl DoubleEndedIterator<Item = u64>, steps: &[Step]) -> Vec<Option<u64>> {
     let answer = |step: &Step| match step {
         Step::Front => items.next(),
         Step::Back => items.next_back(),

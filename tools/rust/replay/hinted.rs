@@ -1,15 +1,13 @@
 //! An iterator whose size hint is not its number of items.
 
-use crate::item::Item;
-
 /// Yields its items in order. The lower bound of its size hint is always `lower`.
 pub struct Hinted {
-    items: std::vec::IntoIter<Item>,
+    items: std::vec::IntoIter<u64>,
     lower: usize,
 }
 
 impl Hinted {
-    pub fn new(items: Vec<Item>, lower: usize) -> Hinted {
+    pub fn new(items: Vec<u64>, lower: usize) -> Hinted {
         Hinted {
             items: items.into_iter(),
             lower,
@@ -18,9 +16,9 @@ impl Hinted {
 }
 
 impl Iterator for Hinted {
-    type Item = Item;
+    type Item = u64;
 
-    fn next(&mut self) -> Option<Item> {
+    fn next(&mut self) -> Option<u64> {
         self.items.next()
     }
 

@@ -1,8 +1,7 @@
 //! The lines of the input.
 
-use crate::item::{Item, item_from};
 use crate::judge::Judge;
-use std::fmt;
+use std::fmt::Debug;
 use std::str::FromStr;
 
 pub enum Step {
@@ -12,21 +11,21 @@ pub enum Step {
 
 /// A command, with its words as values. A judge stands last.
 pub enum Command {
-    Push(Item),
+    Push(u64),
     Pop,
-    Insert(usize, Item),
+    Insert(usize, u64),
     Remove(usize),
     SwapRemove(usize),
-    Set(usize, Item),
+    Set(usize, u64),
     Truncate(usize),
     Clear,
     Reserve(usize),
     ReserveExact(usize),
     ShrinkToFit,
-    Resize(usize, Item),
-    ExtendFromSlice(Vec<Item>),
-    Extend(usize, Vec<Item>),
-    Append(Vec<Item>),
+    Resize(usize, u64),
+    ExtendFromSlice(Vec<u64>),
+    Extend(usize, Vec<u64>),
+    Append(Vec<u64>),
     SplitOff(usize),
     Clone,
     Retain(Judge),
@@ -36,7 +35,7 @@ pub enum Command {
     DedupByKey(Judge),
     Drain(usize, usize, Vec<Step>),
     ExtractIf(usize, usize, usize, Judge),
-    Splice(usize, usize, Vec<Step>, usize, Vec<Item>),
+    Splice(usize, usize, Vec<Step>, usize, Vec<u64>),
 }
 
 pub enum Line {
@@ -44,16 +43,6 @@ pub enum Line {
     New,
     Items,
     Call(Command),
-}
-
-/// What is wrong with a line.
-pub enum LineError {
-    UnknownCommand,
-    WrongForm(&'static str),
-    NotANumber(&'static str),
-    ZeroDivisor,
-    BadSteps,
-    NotUtf8,
 }
 
 /// The forms of the lines, each with the name of the command as its first word.
@@ -103,142 +92,87 @@ pub const NOTES: [&str; 11] = [
     "`rt try` gives no answer after 60 seconds, or past 1 MiB of output; `rt run` has no limits.",
 ];
 
-impl fmt::Display for LineError {
-    fn fmt(&self, f: &mut fmt::Formatter<'_>) -> fmt::Result {
-        match self {
-            LineError::UnknownCommand => {
-                write!(f, "no command has this name (`help` lists the commands)")
-            }
-            LineError::WrongForm(form) => write!(f, "the form is `{form}`"),
-            LineError::NotANumber(name) => {
-                write!(f, "{name} is not a number from 0 to {}", u64::MAX)
-            }
-            LineError::ZeroDivisor => write!(f, "DIVISOR is 0"),
-            LineError::NotUtf8 => write!(f, "the line is not UTF-8"),
-            LineError::BadSteps => {
-                write!(
-                    f,
-                    "STEPS is neither `-` nor a word of the letters `f` and `b`"
-                )
-            }
-        }
-    }
-}
-
 impl Line {
-    /// Parses a line that is not blank.
-    pub fn parse(text: &str) -> Result<Line, LineError> {
+    /// Parses a line. Panics if it is none of the forms.
+    pub fn parse(text: &str) -> Line {
         let words: Vec<&str> = text.split_whitespace().collect();
         match words[..] {
-            ["help"] => Ok(Line::Help),
-            ["new"] => Ok(Line::New),
-            ["items"] => Ok(Line::Items),
-            _ => match command(&words)? {
-                Some(command) => Ok(Line::Call(command)),
-                None => Err(wrong_form(words[0])),
-            },
+            ["help"] => Line::Help,
+            ["new"] => Line::New,
+            ["items"] => Line::Items,
+            _ => Line::Call(command(&words)),
         }
     }
 }
 
-/// Returns what is wrong with a line that begins with this name and has none of the forms.
-fn wrong_form(name: &str) -> LineError {
-    let is_of_name = |form: &&str| form.split(' ').next() == Some(name);
-    match FORMS.into_iter().find(is_of_name) {
-        Some(form) => LineError::WrongForm(form),
-        None => LineError::UnknownCommand,
-    }
-}
-
-/// Parses the words. Returns `None` if they have the form of no command.
-fn command(words: &[&str]) -> Result<Option<Command>, LineError> {
-    Ok(Some(match *words {
-        ["push", item] => Command::Push(item_of(item)?),
+fn command(words: &[&str]) -> Command {
+    match *words {
+        ["push", item] => Command::Push(number(item)),
         ["pop"] => Command::Pop,
-        ["insert", index, item] => Command::Insert(number(index, "INDEX")?, item_of(item)?),
-        ["remove", index] => Command::Remove(number(index, "INDEX")?),
-        ["swap_remove", index] => Command::SwapRemove(number(index, "INDEX")?),
-        ["set", index, item] => Command::Set(number(index, "INDEX")?, item_of(item)?),
-        ["truncate", length] => Command::Truncate(number(length, "LENGTH")?),
+        ["insert", index, item] => Command::Insert(number(index), number(item)),
+        ["remove", index] => Command::Remove(number(index)),
+        ["swap_remove", index] => Command::SwapRemove(number(index)),
+        ["set", index, item] => Command::Set(number(index), number(item)),
+        ["truncate", length] => Command::Truncate(number(length)),
         ["clear"] => Command::Clear,
-        ["reserve", count] => Command::Reserve(number(count, "COUNT")?),
-        ["reserve_exact", count] => Command::ReserveExact(number(count, "COUNT")?),
+        ["reserve", count] => Command::Reserve(number(count)),
+        ["reserve_exact", count] => Command::ReserveExact(number(count)),
         ["shrink_to_fit"] => Command::ShrinkToFit,
-        ["resize", length, item] => Command::Resize(number(length, "LENGTH")?, item_of(item)?),
-        ["extend_from_slice", ref items @ ..] => Command::ExtendFromSlice(items_of(items)?),
-        ["extend", hint, ref items @ ..] => {
-            Command::Extend(number(hint, "HINT")?, items_of(items)?)
-        }
-        ["append", ref items @ ..] => Command::Append(items_of(items)?),
-        ["split_off", index] => Command::SplitOff(number(index, "INDEX")?),
+        ["resize", length, item] => Command::Resize(number(length), number(item)),
+        ["extend_from_slice", ref items @ ..] => Command::ExtendFromSlice(items_of(items)),
+        ["extend", hint, ref items @ ..] => Command::Extend(number(hint), items_of(items)),
+        ["append", ref items @ ..] => Command::Append(items_of(items)),
+        ["split_off", index] => Command::SplitOff(number(index)),
         ["clone"] => Command::Clone,
-        ["retain", divisor, stride, added] => Command::Retain(judge(divisor, stride, added)?),
-        ["retain_mut", divisor, stride, added] => {
-            Command::RetainMut(judge(divisor, stride, added)?)
-        }
+        ["retain", ref judge @ ..] => Command::Retain(judge_of(judge)),
+        ["retain_mut", ref judge @ ..] => Command::RetainMut(judge_of(judge)),
         ["dedup"] => Command::Dedup,
-        ["dedup_by", divisor, stride, added] => Command::DedupBy(judge(divisor, stride, added)?),
-        ["dedup_by_key", divisor, stride, added] => {
-            Command::DedupByKey(judge(divisor, stride, added)?)
+        ["dedup_by", ref judge @ ..] => Command::DedupBy(judge_of(judge)),
+        ["dedup_by_key", ref judge @ ..] => Command::DedupByKey(judge_of(judge)),
+        ["drain", start, end, steps] => Command::Drain(number(start), number(end), steps_of(steps)),
+        ["extract_if", start, end, calls, ref judge @ ..] => {
+            Command::ExtractIf(number(start), number(end), number(calls), judge_of(judge))
         }
-        ["drain", start, end, steps] => {
-            let (start, end) = range(start, end)?;
-            Command::Drain(start, end, steps_of(steps)?)
-        }
-        ["extract_if", start, end, calls, divisor, stride, added] => {
-            let (start, end) = range(start, end)?;
-            let calls = number(calls, "CALLS")?;
-            Command::ExtractIf(start, end, calls, judge(divisor, stride, added)?)
-        }
-        ["splice", start, end, steps, hint, ref items @ ..] => {
-            let (start, end) = range(start, end)?;
-            let steps = steps_of(steps)?;
-            Command::Splice(start, end, steps, number(hint, "HINT")?, items_of(items)?)
-        }
-        _ => return Ok(None),
-    }))
+        ["splice", start, end, steps, hint, ref items @ ..] => Command::Splice(
+            number(start),
+            number(end),
+            steps_of(steps),
+            number(hint),
+            items_of(items),
+        ),
+        _ => panic!("no form: {words:?}"),
+    }
 }
 
-fn number<N: FromStr>(word: &str, name: &'static str) -> Result<N, LineError> {
-    word.parse().map_err(|_| LineError::NotANumber(name))
+fn number<N: FromStr<Err: Debug>>(word: &str) -> N {
+    word.parse().unwrap()
 }
 
-fn item_of(word: &str) -> Result<Item, LineError> {
-    number(word, "ITEM").map(item_from)
+fn items_of(words: &[&str]) -> Vec<u64> {
+    words.iter().map(|word| number(word)).collect()
 }
 
-fn items_of(words: &[&str]) -> Result<Vec<Item>, LineError> {
-    words.iter().map(|word| item_of(word)).collect()
-}
-
-fn range(start: &str, end: &str) -> Result<(usize, usize), LineError> {
-    Ok((number(start, "START")?, number(end, "END")?))
-}
-
-fn judge(divisor: &str, stride: &str, added: &str) -> Result<Judge, LineError> {
-    let judge = Judge {
-        divisor: number(divisor, "DIVISOR")?,
-        stride: number(stride, "STRIDE")?,
-        added: number(added, "ADDED")?,
-        offset: 0,
+fn judge_of(words: &[&str]) -> Judge {
+    let [divisor, stride, added] = words else {
+        panic!("no judge: {words:?}");
     };
-    if judge.divisor == 0 {
-        return Err(LineError::ZeroDivisor);
-    }
-    Ok(judge)
-}
-
-fn steps_of(word: &str) -> Result<Vec<Step>, LineError> {
-    match word {
-        "-" => Ok(Vec::new()),
-        letters => letters.chars().map(step_of).collect(),
+    Judge {
+        divisor: number(divisor),
+        stride: number(stride),
+        added: number(added),
+        offset: 0,
     }
 }
 
-fn step_of(letter: char) -> Result<Step, LineError> {
+fn steps_of(word: &str) -> Vec<Step> {
+    let letters = if word == "-" { "" } else { word };
+    letters.chars().map(step_of).collect()
+}
+
+fn step_of(letter: char) -> Step {
     match letter {
-        'f' => Ok(Step::Front),
-        'b' => Ok(Step::Back),
-        _ => Err(LineError::BadSteps),
+        'f' => Step::Front,
+        'b' => Step::Back,
+        _ => panic!("no step: {letter}"),
     }
 }

@@ -1,12 +1,10 @@
 //! The list that the commands are carried out on, and what only one of the two lists has.
 
-use crate::item::Item;
-
 #[cfg(not(over_crate))]
-pub type List = Vec<Item>;
+pub type List = Vec<u64>;
 
 #[cfg(over_crate)]
-pub type List = thin_vec::ThinVec<Item>;
+pub type List = thin_vec::ThinVec<u64>;
 
 /// Returns the capacity as text. A `Vec` has other capacities, so a `?` stands for them.
 pub fn capacity_of(list: &List) -> String {

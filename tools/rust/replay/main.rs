@@ -3,74 +3,28 @@
 //! command. The line `items` prints the items.
 //!
 //! With `--cfg over_crate` it does so over the `ThinVec` of the Rust crate thin-vec, and prints the
-//! capacities too. `build` compiles both forms.
+//! capacities too. `tools/compare_with_rust` compiles it.
 
 mod answer;
 mod carry_out;
 mod hinted;
-mod item;
 mod judge;
 mod line;
 mod list;
 
 use crate::carry_out::carry_out;
-use crate::line::{Line, LineError};
+use crate::line::Line;
 use crate::list::List;
-use std::io::{self, BufRead, BufWriter, ErrorKind, Write};
-use std::process::ExitCode;
+use std::io::{self, BufRead, BufWriter, Write};
 
-/// Why the program ends with the status 1.
-enum ReplayError {
-    BadLine(usize, LineError),
-    Io(io::Error),
-}
-
-impl From<io::Error> for ReplayError {
-    fn from(error: io::Error) -> ReplayError {
-        ReplayError::Io(error)
-    }
-}
-
-fn main() -> ExitCode {
+fn main() -> io::Result<()> {
     carry_out::silence_overflows();
-    match replay() {
-        Ok(()) => return ExitCode::SUCCESS,
-        Err(ReplayError::BadLine(number, cause)) => eprintln!("line {number}: {cause}"),
-        Err(ReplayError::Io(error)) => eprintln!("{error}"),
-    }
-    ExitCode::FAILURE
-}
-
-/// Reads all lines, and then carries out the commands in order.
-fn replay() -> Result<(), ReplayError> {
-    let lines = read_lines()?;
     let mut out = BufWriter::new(io::stdout().lock());
     let mut list = List::new();
-    for line in lines {
-        answer_line(&mut out, &mut list, line)?;
+    for line in io::stdin().lock().lines() {
+        answer_line(&mut out, &mut list, Line::parse(&line?))?;
     }
-    out.flush()?;
-    Ok(())
-}
-
-/// Parses all lines of standard input. Blank lines are skipped.
-fn read_lines() -> Result<Vec<Line>, ReplayError> {
-    let mut lines = Vec::new();
-    for (index, text) in io::stdin().lock().lines().enumerate() {
-        let number = index + 1;
-        match text {
-            Ok(text) if text.trim().is_empty() => (),
-            Ok(text) => match Line::parse(&text) {
-                Ok(line) => lines.push(line),
-                Err(cause) => return Err(ReplayError::BadLine(number, cause)),
-            },
-            Err(error) if error.kind() == ErrorKind::InvalidData => {
-                return Err(ReplayError::BadLine(number, LineError::NotUtf8));
-            }
-            Err(error) => return Err(error.into()),
-        }
-    }
-    Ok(lines)
+    out.flush()
 }
 
 /// Does what the line asks for, and prints what came of it.

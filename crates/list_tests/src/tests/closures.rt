@@ -18,12 +18,6 @@ fn dedup_by_key_asks_the_later_item_and_then_the_kept_one(rt: HostRuntime) {
     list.dedup_by_key(|item| key(&asked, *item));
     check!(rt; same(asked.get(), 11_10_20_10));
     check!(rt; holds(&list, &[10, 20], 3));
-    let (mut list, asked) = (
-        check!(rt; list_of(rt.alloc(), &[[10; 40], [11; 40], [20; 40]])),
-        Cell::new(0),
-    );
-    list.dedup_by_key(|item| key(&asked, item[0]));
-    check!(rt; same((asked.get(), list.len()), (11_10_20_10, 2)));
 }
 
 // Counts a call, and returns 1.
@@ -38,19 +32,6 @@ fn resize_with_calls_no_closure_if_refused(rt: HostRuntime) {
     let mut list: ThinVec<i32, &Refusing<Global>> = ThinVec::new(&refusing);
     let refused = list.resize_with(3, || one(&calls)).is_err();
     check!(rt; same((refused, calls.get()), (true, 0)));
-}
-
-#[test]
-fn retain_mut_numbers_the_items(rt: HostRuntime) {
-    let mut list = check!(rt; list_of(rt.alloc(), &[9, 9, 9, 9]));
-    let mut number: i32 = 0;
-    list.retain_mut(|item| {
-        number = number.saturating_add(1);
-        *item = number;
-        number != 4
-    });
-    check!(rt; same_items(&list, &[1, 2, 3]));
-    check!(rt; same(number, 4));
 }
 
 #[test]

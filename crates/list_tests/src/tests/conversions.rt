@@ -1,7 +1,7 @@
 //! Tests of conversions from and to arrays, vectors and boxed slices, granted and refused.
 use std::alloc::Global;
 use std::process::Abort;
-use thin_testing::{Lender, Refusing, check, counts, holds, list_of, same, same_items};
+use thin_testing::{Refusing, check, counts, holds, list_of, same, same_items};
 use thin_vec::{ThinVec, ThinVecError};
 
 const OUT_OF_MEMORY: ThinVecError = ThinVecError::OutOfMemory;
@@ -43,22 +43,6 @@ fn converted_lists_have_no_spare_capacity(rt: HostRuntime) {
     assert_exact(&rt, alloc, list, items);
 }
 
-fn assert_vec_returned(rt: &impl Abort, alloc: Global, refusing: Lender, items: [i32; 3]) {
-    refusing.refuse(1);
-    let vec = check!(rt; items.to_vec(alloc));
-    let refused = check!(rt; ThinVec::from_vec(refusing, vec).err());
-    check!(rt; same((refused.value.as_slice(), refused.cause), (&items, OUT_OF_MEMORY)));
-    check!(rt; counts(refusing, 1, 0));
-}
-
-fn assert_boxed_slice_returned(rt: &impl Abort, alloc: Global, refusing: Lender, items: [i32; 3]) {
-    refusing.refuse(1);
-    let boxed = check!(rt; items.to_vec(alloc)).into_boxed_slice();
-    let refused = check!(rt; ThinVec::from_boxed_slice(refusing, boxed).err());
-    check!(rt; same((refused.value.as_slice(), refused.cause), (&items, OUT_OF_MEMORY)));
-    check!(rt; counts(refusing, 1, 0));
-}
-
 #[test]
 fn refused_conversions_into_a_list_return_their_source(rt: HostRuntime) {
     let refusing = check!(rt; Refusing::leaked(rt.alloc(), 1));
@@ -67,36 +51,16 @@ fn refused_conversions_into_a_list_return_their_source(rt: HostRuntime) {
     let value = refused.value;
     check!(rt; same((value, refused.cause), (items, OUT_OF_MEMORY)));
     check!(rt; counts(refusing, 1, 0));
-    assert_vec_returned(&rt, rt.alloc(), refusing, items);
-    assert_boxed_slice_returned(&rt, rt.alloc(), refusing, items);
-}
-
-// Asserts that a refused conversion into a vector returns the list as it was. Returns that list.
-fn refused_by_into_vec(
-    rt: &impl Abort,
-    list: ThinVec<i32, Lender>,
-    other: Lender,
-) -> ThinVec<i32, Lender> {
-    let refused = check!(rt; list.into_vec(other).err());
-    check!(rt; same(refused.cause, OUT_OF_MEMORY));
-    check!(rt; holds(&refused.value, &[1, 2, 3, 4, 5], 5));
-    check!(rt; counts(other, 1, 0));
-    refused.value
-}
-
-// Asserts that a refused conversion into a boxed slice returns the list as it was. Returns that
-// list.
-fn refused_by_into_boxed_slice(
-    rt: &impl Abort,
-    list: ThinVec<i32, Lender>,
-    other: Lender,
-) -> ThinVec<i32, Lender> {
-    other.refuse(1);
-    let refused = check!(rt; list.into_boxed_slice(other).err());
-    check!(rt; same(refused.cause, OUT_OF_MEMORY));
-    check!(rt; holds(&refused.value, &[1, 2, 3, 4, 5], 5));
-    check!(rt; counts(other, 1, 0));
-    refused.value
+    refusing.refuse(1);
+    let vec = check!(rt; items.to_vec(rt.alloc()));
+    let refused = check!(rt; ThinVec::from_vec(refusing, vec).err());
+    check!(rt; same((refused.value.as_slice(), refused.cause), (&items, OUT_OF_MEMORY)));
+    check!(rt; counts(refusing, 1, 0));
+    refusing.refuse(1);
+    let boxed = check!(rt; items.to_vec(rt.alloc())).into_boxed_slice();
+    let refused = check!(rt; ThinVec::from_boxed_slice(refusing, boxed).err());
+    check!(rt; same((refused.value.as_slice(), refused.cause), (&items, OUT_OF_MEMORY)));
+    check!(rt; counts(refusing, 1, 0));
 }
 
 #[test]
@@ -104,9 +68,16 @@ fn refused_conversions_of_a_list_return_the_list(rt: HostRuntime) {
     let own = check!(rt; Refusing::leaked(rt.alloc(), 0));
     let other = check!(rt; Refusing::leaked(rt.alloc(), 1));
     let list = check!(rt; list_of(own, &[1, 2, 3, 4, 5]));
-    let list = refused_by_into_vec(&rt, list, other);
-    let list = refused_by_into_boxed_slice(&rt, list, other);
+    let refused = check!(rt; list.into_vec(other).err());
+    check!(rt; same(refused.cause, OUT_OF_MEMORY));
+    check!(rt; holds(&refused.value, &[1, 2, 3, 4, 5], 5));
+    check!(rt; counts(other, 1, 0));
+    other.refuse(1);
+    let refused = check!(rt; refused.value.into_boxed_slice(other).err());
+    check!(rt; same(refused.cause, OUT_OF_MEMORY));
+    check!(rt; holds(&refused.value, &[1, 2, 3, 4, 5], 5));
+    check!(rt; counts(other, 1, 0));
     check!(rt; counts(own, 1, 1));
-    let list = check!(rt; list.into_array::<2>().err());
+    let list = check!(rt; refused.value.into_array::<2>().err());
     check!(rt; holds(&list, &[1, 2, 3, 4, 5], 5));
 }

@@ -42,22 +42,17 @@ fn collect_removes_the_extracted_items(rt: HostRuntime) {
 }
 
 #[test]
-fn extend_removes_the_drained_items(rt: HostRuntime) {
+fn extend_and_from_iter_remove_the_drained_items(rt: HostRuntime) {
     let mut list = check!(rt; list_of(rt.alloc(), &[1, 2, 3, 4]));
     let mut other = check!(rt; list_of(rt.alloc(), &[9]));
     check!(rt; has_len(&list, 4));
     check!(rt; other.extend(list.drain(1, 3)));
     check!(rt; same_items(&list, &[1, 4]));
     check!(rt; same_items(&other, &[9, 2, 3]));
-}
-
-#[test]
-fn from_iter_removes_the_drained_items(rt: HostRuntime) {
-    let mut list = check!(rt; list_of(rt.alloc(), &[1, 2, 3, 4]));
-    check!(rt; has_len(&list, 4));
-    let made = check!(rt; ThinVec::from_iter(rt.alloc(), list.drain(1, 3)));
-    check!(rt; same_items(&list, &[1, 4]));
-    check!(rt; same_items(&made, &[2, 3]));
+    check!(rt; has_len(&list, 2));
+    let made = check!(rt; ThinVec::from_iter(rt.alloc(), list.drain(0, 1)));
+    check!(rt; same_items(&list, &[4]));
+    check!(rt; same_items(&made, &[1]));
 }
 
 fn assert_extend_removes(rt: &impl Abort, alloc: Global, list: &mut ThinVec<i32>) {
@@ -126,13 +121,15 @@ fn list_is_empty_and_usable_if_its_drain_is_forgotten(rt: HostRuntime) {
 
 #[test]
 fn list_is_empty_and_usable_if_its_extract_if_is_forgotten(rt: HostRuntime) {
-    for start in 0..=3 {
-        for end in start..=3 {
-            let mut list = check!(rt; list_of(rt.alloc(), &[1, 2, 3]));
-            check!(rt; has_len(&list, 3));
-            mem::forget(list.extract_if(start, end, |x: &mut i32| *x == 1));
-            assert_usable(&rt, &mut list);
+    for calls in 0..=3 {
+        let mut list = check!(rt; list_of(rt.alloc(), &[1, 2, 3]));
+        check!(rt; has_len(&list, 3));
+        let mut extracted = list.extract_if(0, 3, |x: &mut i32| *x % 2 == 1);
+        for _ in 0..calls {
+            let _item = extracted.next();
         }
+        mem::forget(extracted);
+        assert_usable(&rt, &mut list);
     }
 }
 
@@ -143,21 +140,10 @@ fn forget_begun_drain(rt: &impl Abort, list: &mut ThinVec<i32>) {
     mem::forget(drain);
 }
 
-fn forget_begun_extract_if(rt: &impl Abort, list: &mut ThinVec<i32>) {
-    check!(rt; has_len(list, 4));
-    let mut extracted = list.extract_if(0, 4, |x: &mut i32| *x % 2 == 0);
-    check!(rt; same(extracted.next(), Some(2)));
-    mem::forget(extracted);
-}
-
-// Forgets the iterators after they have yielded an item.
 #[test]
-fn list_is_empty_and_usable_if_a_begun_edit_is_forgotten(rt: HostRuntime) {
+fn list_is_empty_and_usable_if_a_begun_drain_is_forgotten(rt: HostRuntime) {
     let mut list = check!(rt; list_of(rt.alloc(), &[1, 2, 3, 4]));
     forget_begun_drain(&rt, &mut list);
-    assert_usable(&rt, &mut list);
-    let mut list = check!(rt; list_of(rt.alloc(), &[1, 2, 3, 4]));
-    forget_begun_extract_if(&rt, &mut list);
     assert_usable(&rt, &mut list);
 }
 

@@ -2,10 +2,9 @@
 ghost use Rattle.std.specs.Iterator.{at_most};
 ghost use Rattle.std.specs.Prelude.{◌+◌, length};
 
-use std::alloc::Global;
 use std::cell::Cell;
 use thin_testing::{check, holds, list_of, same};
-use thin_vec::{ThinVec, ThinVecError};
+use thin_vec::ThinVec;
 
 #[test]
 fn extend_from_slice_grows_to_the_first_capacity(rt: HostRuntime) {
@@ -19,31 +18,6 @@ fn resize_grows_past_twice_the_capacity(rt: HostRuntime) {
     let mut list = check!(rt; list_of(rt.alloc(), &[1, 2]));
     check!(rt; list.resize(5, 0));
     check!(rt; holds(&list, &[1, 2, 0, 0, 0], 5));
-}
-
-fn capacity_after_resize(alloc: Global) -> Result<usize, ThinVecError> {
-    let mut list = list_of(alloc, &[7; 3000])?;
-    list.resize(3001, 7)?;
-    Ok(list.capacity())
-}
-
-fn capacity_after_append(alloc: Global) -> Result<usize, ThinVecError> {
-    let mut list = list_of(alloc, &[7; 300])?;
-    list.append(&mut list_of(alloc, &[7; 200])?)?;
-    Ok(list.capacity())
-}
-
-fn capacity_after_push(alloc: Global) -> Result<usize, ThinVecError> {
-    let mut bytes = list_of(alloc, &[7_u8; 10_001])?;
-    bytes.push(7)?;
-    Ok(bytes.capacity())
-}
-
-#[test]
-fn long_lists_double_their_capacity(rt: HostRuntime) {
-    check!(rt; same(capacity_after_resize(rt.alloc()), Ok(6000)));
-    check!(rt; same(capacity_after_append(rt.alloc()), Ok(600)));
-    check!(rt; same(capacity_after_push(rt.alloc()), Ok(20_002)));
 }
 
 // An iterator that returns the answers in order, and counts the calls. The lower bound of its size

@@ -34,24 +34,19 @@ fn evaluates_each_argument_once_and_in_order(rt: HostRuntime) {
     assert_made(&rt, &order, list, (&[7, 7], 4), 123);
     let list = check!(rt; thin_vec![note(&order, 1, alloc) =>]);
     assert_made(&rt, &order, list, (&[], 0), 1);
+    let list = check!(rt; thin_vec![in note(&order, 1, alloc); note(&order, 2, 7),]);
+    assert_made(&rt, &order, list, (&[7], 1), 12);
 }
 
 #[test]
-fn lists_of_1_12_and_40_items_need_one_request(rt: HostRuntime) {
+fn lists_of_1_and_12_items_need_one_request(rt: HostRuntime) {
     let (one, seven) = (1, 7);
     let refusing = check!(rt; Refusing::leaked(rt.alloc(), 2));
     let list = check!(rt; thin_vec![refusing => seven]);
     check!(rt; holds(&list, &[7], 1));
-    let items = [1, 2, 3, 4, 5, 6, 7, 8, 9, 10, 11, 12];
     refusing.refuse(2);
-    let list = check!(rt; thin_vec![refusing => one, 2, 3, 4, 5, 6, 7, 8, 9, 10, 11, 12]);
-    check!(rt; holds(&list, &items, 12));
-    refusing.refuse(2);
-    let list = check!(rt; thin_vec![in refusing;
-        7, 7, 7, 7, 7, 7, 7, 7, 7, 7, 7, 7, 7, 7, 7, 7, 7, 7, 7, 7, 7, 7, 7, 7, 7, 7, 7, 7, 7, 7,
-        7, 7, 7, 7, 7, 7, 7, 7, 7, seven,
-    ]);
-    check!(rt; holds(&list, &[7; 40], 40));
+    let list = check!(rt; thin_vec![in refusing; one, 2, 3, 4, 5, 6, 7, 8, 9, 10, 11, 12]);
+    check!(rt; holds(&list, &[1, 2, 3, 4, 5, 6, 7, 8, 9, 10, 11, 12], 12));
 }
 
 #[test]
@@ -79,19 +74,6 @@ fn lists_of_1_and_200_literals_need_one_request(rt: HostRuntime) {
     let refused = thin_vec![in refusing; 1, 2, 3,].err();
     check!(rt; same(refused, Some(ThinVecError::OutOfMemory)));
     check!(rt; counts(refusing, 1, 1));
-}
-
-#[test]
-fn evaluates_each_argument_of_the_form_with_in(rt: HostRuntime) {
-    let (alloc, order) = (rt.alloc(), Cell::new(0));
-    let list =
-        check!(rt; thin_vec![in note(&order, 1, alloc); note(&order, 2, 7), note(&order, 3, 8),]);
-    assert_made(&rt, &order, list, (&[7, 8], 2), 123);
-    let list =
-        check!(rt; thin_vec![in note(&order, 1, alloc); note(&order, 2, 7); note(&order, 3, 2)]);
-    assert_made(&rt, &order, list, (&[7, 7], 4), 123);
-    let list = check!(rt; thin_vec![in note(&order, 1, alloc)]);
-    assert_made(&rt, &order, list, (&[], 0), 1);
 }
 
 #[test]

@@ -4,7 +4,7 @@ use std::alloc::Global;
 use std::process::Abort;
 use thin_runner::hinted::Hinted;
 use thin_testing::{Counted, Ledger, Refusing, check, counted_list, counts, holds, same, splice};
-use thin_vec::{ExtendRefused, IntoIter, SpliceRefused, ThinVec, ThinVecError, thin_vec};
+use thin_vec::{ExtendRefused, SpliceRefused, ThinVec, ThinVecError, thin_vec};
 
 const OUT_OF_MEMORY: ThinVecError = ThinVecError::OutOfMemory;
 
@@ -73,43 +73,22 @@ fn resize_grows_before_its_second_clone_is_refused(rt: HostRuntime) {
     check!(rt; same((ledger.clones.get(), ledger.live.get()), (1, 1)));
 }
 
-// Clones the items of the list by `clone` if `way` is 0, and by `from_slice` otherwise.
-fn clone_by_way(
-    way: u32,
-    list: &ThinVec<Counted<'static>>,
-    alloc: Global,
-) -> Result<(), ThinVecError> {
-    match way {
-        0 => drop(list.clone(alloc)?),
-        _ => drop(ThinVec::from_slice(alloc, list.as_slice())?),
-    }
-    Ok(())
-}
-
 // Clones a list of three items in three ways, with clone number `refused` refused each time.
 // Asserts which items and clones there are.
 fn assert_clones_refused(rt: &impl Abort, ledger: &'static Ledger, alloc: Global, refused: u64) {
     let list = check!(rt; counted_list(ledger, alloc, 3));
-    for way in 0..2 {
-        ledger.begin(refused);
-        check!(rt; same(clone_by_way(way, &list, alloc), Err(OUT_OF_MEMORY)));
-        let made = refused.saturating_sub(1);
-        check!(rt; same((ledger.clones.get(), ledger.live.get()), (made, 3)));
-        assert_numbers(rt, &list, &[0, 1, 2]);
-    }
+    let made = refused.saturating_sub(1);
     ledger.begin(refused);
-    assert_iter_clone_refused(rt, ledger, alloc, list.into_iter());
-}
-
-// Asserts that a clone of an `IntoIter` of three items is refused, and leaves them.
-fn assert_iter_clone_refused(
-    rt: &impl Abort,
-    ledger: &'static Ledger,
-    alloc: Global,
-    items: IntoIter<Counted<'static>>,
-) {
+    check!(rt; same(list.clone(alloc).err(), Some(OUT_OF_MEMORY)));
+    check!(rt; same((ledger.clones.get(), ledger.live.get()), (made, 3)));
+    ledger.begin(refused);
+    check!(rt; same(ThinVec::from_slice(alloc, &list).err(), Some(OUT_OF_MEMORY)));
+    check!(rt; same((ledger.clones.get(), ledger.live.get()), (made, 3)));
+    assert_numbers(rt, &list, &[0, 1, 2]);
+    let items = list.into_iter();
+    ledger.begin(refused);
     check!(rt; same(items.clone(alloc).err(), Some(OUT_OF_MEMORY)));
-    check!(rt; same(ledger.live.get(), 3));
+    check!(rt; same((ledger.clones.get(), ledger.live.get()), (made, 3)));
     assert_numbers(rt, items.as_slice(), &[0, 1, 2]);
 }
 

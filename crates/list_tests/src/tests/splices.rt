@@ -6,7 +6,7 @@ use thin_runner::hinted::Hinted;
 use thin_testing::{
     Lender, Refusing, check, counts, has_len, holds, list_of, same, same_items, splice,
 };
-use thin_vec::{SpliceRefused, ThinVec, ThinVecError};
+use thin_vec::{SpliceRefused, ThinVecError};
 
 const NEW: [i32; 5] = [10, 11, 12, 13, 14];
 
@@ -48,28 +48,6 @@ struct Left {
     rest: &'static [i32],
 }
 
-// Asserts what a refused `finish` left and returned.
-fn assert_left(
-    rt: &impl Abort,
-    list: &ThinVec<i32, Lender>,
-    refused: SpliceRefused<i32, Hinted<i32>, Lender>,
-    left: Left,
-) {
-    let SpliceRefused {
-        cause,
-        held,
-        in_hand,
-        mut rest,
-    } = refused;
-    check!(rt; holds(list, left.items, left.capacity));
-    check!(rt; same((cause, in_hand), (left.cause, left.in_hand)));
-    check!(rt; same_items(held.as_slice(), left.held));
-    for item in left.rest {
-        check!(rt; same(rest.next(), Some(*item)));
-    }
-    check!(rt; same(rest.next(), None));
-}
-
 // Replaces the items `range.0..range.1` of a list of `old` by those of `iter`, and asserts what the
 // refused `finish` leaves and returns.
 fn assert_refused(
@@ -84,8 +62,19 @@ fn assert_refused(
     requires in_bounds { range.1 ≤ length old.now }
 {
     let mut list = check!(rt; list_of(lender, old));
-    let refused = check!(rt; splice(&mut list, range, iter, lender).err());
-    assert_left(rt, &list, refused, left);
+    let SpliceRefused {
+        cause,
+        held,
+        in_hand,
+        mut rest,
+    } = check!(rt; splice(&mut list, range, iter, lender).err());
+    check!(rt; holds(&list, left.items, left.capacity));
+    check!(rt; same((cause, in_hand), (left.cause, left.in_hand)));
+    check!(rt; same_items(held.as_slice(), left.held));
+    for item in left.rest {
+        check!(rt; same(rest.next(), Some(*item)));
+    }
+    check!(rt; same(rest.next(), None));
 }
 
 const OUT_OF_MEMORY: ThinVecError = ThinVecError::OutOfMemory;

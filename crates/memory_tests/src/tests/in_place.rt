@@ -1,36 +1,35 @@
-//! Tests of lists whose blocks grow and shrink. A block whose items take 256 bytes or more can do
-//! so in place if an item takes 1, 2, 4, 8 or 16 bytes, and a block of 32 slots or more if its
-//! items are larger and aligned to 8. The tests compare items and capacities, which are the same
-//! whether or not a block moves.
+//! Tests of lists whose blocks grow and shrink. Over the allocator of the program, a block whose
+//! items take 256 bytes or more can do so in place if an item takes 1, 2, 4, 8 or 16 bytes, and a
+//! block of 32 slots or more, which is padded, if its items are larger and aligned to 8. The tests
+//! compare items and capacities, which are the same whether or not a block moves, and the number of
+//! allocated bytes, so they see which blocks are padded.
 use std::alloc::{Allocator, Global};
 use std::process::Abort;
-use thin_testing::{Ledger, Numbered, Refusing, check, same};
-use thin_vec::{ThinVec, ThinVecError};
+use thin_testing::{Counted, Ledger, Lender, Numbered, block_bytes, check, least_power, same};
+use thin_vec::{PowerBytes, ThinVec, ThinVecError};
 
-/// Pushes items that are made from their indices, plus `first`, until the list has `len` items.
-pub fn fill<T: Numbered, A: Allocator>(
+// Pushes items that are made from their indices until the list has `len` items.
+fn fill<T: Numbered, A: Allocator>(
     ledger: &'static Ledger,
     list: &mut ThinVec<T, A>,
-    first: usize,
     len: usize,
 ) -> Result<(), ThinVecError> {
     for index in list.len()..len {
-        list.push(T::numbered(ledger, index.saturating_add(first) as u64))?;
+        list.push(T::numbered(ledger, index as u64))?;
     }
     Ok(())
 }
 
-/// Asserts the length and the capacity of the list, and that its items are as `fill` makes them.
-pub fn assert_filled<T: Numbered, A: Allocator>(
+// Asserts the length and the capacity of the list, and that its items are as `fill` makes them.
+fn assert_filled<T: Numbered, A: Allocator>(
     rt: &impl Abort,
     ledger: &'static Ledger,
     list: &ThinVec<T, A>,
-    first: usize,
     wanted: (usize, usize),
 ) {
     let mut right = 0_usize;
     for item in list.as_slice() {
-        if *item == T::numbered(ledger, right.saturating_add(first) as u64) {
+        if *item == T::numbered(ledger, right as u64) {
             right = right.saturating_add(1);
         }
     }
@@ -38,8 +37,8 @@ pub fn assert_filled<T: Numbered, A: Allocator>(
     check!(rt; same(found, (wanted.0, wanted.0, wanted.1)));
 }
 
-/// Changes the capacity of the list with one request.
-pub fn make_capacity<T: Drop, A: Allocator>(
+// Changes the capacity of the list with one request.
+fn make_capacity<T: Drop, A: Allocator>(
     list: &mut ThinVec<T, A>,
     capacity: usize,
 ) -> Result<(), ThinVecError> {
@@ -50,45 +49,54 @@ pub fn make_capacity<T: Drop, A: Allocator>(
     }
 }
 
-// Makes a full list of `len` items. Changes its capacity to `len + more`, `len + 2 * more`,
-// `len + more` and `len`. If `is_refused` is true, refuses each request once before it is granted.
-fn assert_capacities<T: Numbered, A: Allocator>(
+// Makes a full list of `len` items over the allocator of the program. Changes its capacity to
+// `len + more`, `len + 2 * more`, `len + more` and `len`.
+fn assert_resized_in_place<T: Numbered>(
     rt: &impl Abort,
     ledger: &'static Ledger,
-    alloc: A,
     len: usize,
     more: usize,
-    is_refused: bool,
 ) {
-    let mut list = ThinVec::<T, A>::new(alloc);
-    check!(rt; list.reserve_exact(len));
-    check!(rt; fill(ledger, &mut list, 0, len));
+    let mut list: ThinVec<T> = check!(rt; ThinVec::with_capacity(ledger.global, len));
+    check!(rt; fill(ledger, &mut list, len));
     let larger = len.saturating_add(more);
     for capacity in [larger, larger.saturating_add(more), larger, len] {
-        if is_refused {
-            let before = list.capacity();
-            ledger.begin(1);
-            let refused = make_capacity(&mut list, capacity);
-            check!(rt; same(refused, Err(ThinVecError::OutOfMemory)));
-            assert_filled(rt, ledger, &list, 0, (len, before));
-        }
         check!(rt; make_capacity(&mut list, capacity));
-        assert_filled(rt, ledger, &list, 0, (len, capacity));
+        assert_filled(rt, ledger, &list, (len, capacity));
     }
 }
 
-// Tries lists whose items take about 256 bytes, once with refused requests and once over the
-// allocator of the program, which can enlarge a block where it is.
+// Does the same over an allocator that refuses each request once before it grants it, and asserts
+// how many bytes of memory are allocated.
+fn assert_resized<T: Numbered>(rt: &impl Abort, ledger: &'static Ledger, len: usize, more: usize) {
+    ledger.begin(0);
+    let mut list: ThinVec<T, Lender> = check!(rt; ThinVec::with_capacity(&ledger.alloc, len));
+    check!(rt; fill(ledger, &mut list, len));
+    let larger = len.saturating_add(more);
+    for capacity in [larger, larger.saturating_add(more), larger, len] {
+        let before = list.capacity();
+        ledger.begin(1);
+        let refused = make_capacity(&mut list, capacity);
+        check!(rt; same(refused, Err(ThinVecError::OutOfMemory)));
+        assert_filled(rt, ledger, &list, (len, before));
+        check!(rt; make_capacity(&mut list, capacity));
+        assert_filled(rt, ledger, &list, (len, capacity));
+        check!(rt; same(ledger.alloc.bytes(), block_bytes::<T>(capacity)));
+    }
+    drop(list);
+    check!(rt; same((ledger.alloc.bytes(), ledger.live.get()), (0, 0)));
+}
+
+// Tries lists whose items take about 256 bytes, and lists of about 32 items. A block of 42 items of
+// 24 or 48 bytes just fits into a power of two of bytes, and is not padded.
 fn assert_type<T: Numbered>(rt: &impl Abort, ledger: &'static Ledger) {
-    let long = 256_usize.checked_div(T::size()).unwrap_or(0);
-    for len in long.saturating_sub(1)..long.saturating_add(9) {
-        for more in [1, 2, 3, 4, 5, 6, 7, 8, 9, 6000, 70_000] {
-            ledger.begin(0);
-            assert_capacities::<T, _>(rt, ledger, &ledger.alloc, len, more, true);
-            assert_capacities::<T, _>(rt, ledger, ledger.global, len, more, false);
+    let long = 256_usize.checked_div(T::size()).unwrap_or(0).max(1);
+    for len in [1, 30, 31, 32, 33, long, long.saturating_add(1)] {
+        for more in [1, 4, 7, 10, 11, 31, 6000] {
+            assert_resized::<T>(rt, ledger, len, more);
+            assert_resized_in_place::<T>(rt, ledger, len, more);
         }
     }
-    check!(rt; same(ledger.alloc.blocks(), 0));
 }
 
 #[test]
@@ -99,41 +107,20 @@ fn a_list_of_each_width_grows_and_shrinks_in_place(rt: HostRuntime) {
     assert_type::<i32>(&rt, ledger);
     assert_type::<u64>(&rt, ledger);
     assert_type::<u128>(&rt, ledger);
-}
-
-#[test]
-fn a_list_of_arrays_of_each_width_grows_and_shrinks_in_place(rt: HostRuntime) {
-    let ledger = check!(rt; Ledger::leaked(rt.alloc()));
-    assert_type::<[u8; 4]>(&rt, ledger);
     assert_type::<[u8; 8]>(&rt, ledger);
     assert_type::<[u8; 16]>(&rt, ledger);
     assert_type::<[u32; 2]>(&rt, ledger);
-    assert_type::<[u64; 2]>(&rt, ledger);
 }
 
+// Items of 20 bytes are large, too, but aligned to 4, so their blocks are not padded.
 #[test]
-fn a_list_of_items_of_odd_sizes_grows_and_shrinks(rt: HostRuntime) {
+fn a_block_of_large_items_is_padded_from_32_slots_on(rt: HostRuntime) {
     let ledger = check!(rt; Ledger::leaked(rt.alloc()));
-    assert_type::<[u8; 3]>(&rt, ledger);
-    assert_type::<[u8; 5]>(&rt, ledger);
-    assert_type::<[u8; 7]>(&rt, ledger);
-    assert_type::<[u32; 3]>(&rt, ledger);
     assert_type::<[u32; 5]>(&rt, ledger);
-    assert_type::<[u32; 7]>(&rt, ledger);
     assert_type::<[u64; 3]>(&rt, ledger);
-}
-
-#[test]
-fn a_list_of_triples_grows_and_shrinks_around_32_slots(rt: HostRuntime) {
-    let ledger = check!(rt; Ledger::leaked(rt.alloc()));
-    for len in 1..40 {
-        for more in [1, 2, 3, 16, 33, 6000, 70_000] {
-            ledger.begin(0);
-            assert_capacities::<[u64; 3], _>(&rt, ledger, &ledger.alloc, len, more, true);
-            assert_capacities::<[u64; 3], _>(&rt, ledger, ledger.global, len, more, false);
-        }
-    }
-    check!(rt; same(ledger.alloc.blocks(), 0));
+    assert_type::<[u128; 3]>(&rt, ledger);
+    assert_type::<[u64; 40]>(&rt, ledger);
+    assert_type::<Counted<'static, u64>>(&rt, ledger);
 }
 
 // Pushes 3000 items onto a list. Each time that the list is full, another list is allocated, in
@@ -148,47 +135,34 @@ fn assert_moves<T: Numbered>(rt: &impl Abort, ledger: &'static Ledger, alloc: Gl
         }
         check!(rt; list.push(T::numbered(ledger, index)));
     }
-    assert_filled(rt, ledger, &list, 0, (3000, 4096));
+    assert_filled(rt, ledger, &list, (3000, 4096));
 }
 
 #[test]
 fn a_list_moves_if_it_cannot_grow_in_place(rt: HostRuntime) {
     let (ledger, alloc) = (check!(rt; Ledger::leaked(rt.alloc())), rt.alloc());
     assert_moves::<u8>(&rt, ledger, alloc);
-    assert_moves::<u16>(&rt, ledger, alloc);
-    assert_moves::<i32>(&rt, ledger, alloc);
-    assert_moves::<u64>(&rt, ledger, alloc);
     assert_moves::<u128>(&rt, ledger, alloc);
     assert_moves::<[u64; 3]>(&rt, ledger, alloc);
-    assert_moves::<[u128; 3]>(&rt, ledger, alloc);
-    assert_moves::<[u64; 40]>(&rt, ledger, alloc);
 }
 
-// Pushes 3000 items onto a list that owns its allocator, which takes more bytes than a reference.
-// Then the list shrinks and grows again.
-fn assert_owner_grows<T: Numbered>(rt: &impl Abort, ledger: &'static Ledger) {
-    let mut list: ThinVec<T, Refusing<Global>> = ThinVec::new(Refusing::new(ledger.global, 0));
-    for index in 0..3000 {
-        check!(rt; list.push(T::numbered(ledger, index)));
+// Pushes items onto a list under the growth rule `PowerBytes`. Asserts that its block, which is a
+// header of 16 bytes and the slots, leaves no room for another slot in a power of two of bytes.
+fn assert_fits_powers<T: Numbered>(rt: &impl Abort, ledger: &'static Ledger) {
+    let mut list = ThinVec::<T, Lender, PowerBytes>::ruled(&ledger.alloc);
+    for number in 0..1000 {
+        check!(rt; list.push(T::numbered(ledger, number)));
+        let slots = list.capacity().saturating_mul(T::size());
+        let bytes = slots.saturating_add(16);
+        let room = least_power(bytes).saturating_sub(bytes);
+        let found = (ledger.alloc.bytes(), room < T::size());
+        check!(rt; same(found, (bytes as u64, true)));
     }
-    check!(rt; list.shrink_to_fit());
-    check!(rt; list.reserve_exact(500));
-    assert_filled(rt, ledger, &list, 0, (3000, 3500));
-    list.truncate(40);
-    check!(rt; list.shrink_to(41));
-    assert_filled(rt, ledger, &list, 0, (40, 41));
 }
 
 #[test]
-fn a_list_grows_and_shrinks_over_an_allocator_that_it_owns(rt: HostRuntime) {
+fn blocks_of_power_bytes_just_fit_into_powers_of_two(rt: HostRuntime) {
     let ledger = check!(rt; Ledger::leaked(rt.alloc()));
-    assert_owner_grows::<()>(&rt, ledger);
-    assert_owner_grows::<u8>(&rt, ledger);
-    assert_owner_grows::<u16>(&rt, ledger);
-    assert_owner_grows::<i32>(&rt, ledger);
-    assert_owner_grows::<u64>(&rt, ledger);
-    assert_owner_grows::<u128>(&rt, ledger);
-    assert_owner_grows::<[u32; 3]>(&rt, ledger);
-    assert_owner_grows::<[u64; 3]>(&rt, ledger);
-    assert_owner_grows::<[u64; 40]>(&rt, ledger);
+    assert_fits_powers::<[u64; 3]>(&rt, ledger);
+    assert_fits_powers::<[u128; 3]>(&rt, ledger);
 }

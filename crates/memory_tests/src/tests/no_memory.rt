@@ -163,8 +163,7 @@ fn drain_three<A: Allocator>(rt: &impl Abort, list: &mut ThinVec<i32, A>) {
     check!(rt; has_len(list, 3));
     let mut drain = list.drain(0, 3);
     check!(rt; same((drain.next(), drain.next_back()), (Some(1), Some(3))));
-    check!(rt; same((drain.len(), drain.as_slice().len()), (1, 1)));
-    check!(rt; same(drain.size_hint(), (1, Some(1))));
+    check!(rt; same((drain.as_slice().len(), drain.size_hint()), (1, (1, Some(1)))));
 }
 
 // Takes the first odd item of the list 1, 2, 3.
@@ -178,8 +177,8 @@ fn extract_one<A: Allocator>(rt: &impl Abort, list: &mut ThinVec<i32, A>) {
 fn splice_two<A: Allocator>(rt: &impl Abort, list: &mut ThinVec<i32, A>, alloc: A) {
     check!(rt; has_len(list, 3));
     let mut splice = list.splice(0, 2, empty());
-    check!(rt; same((splice.len(), splice.size_hint()), (2, (2, Some(2)))));
-    check!(rt; same((splice.next(), splice.next_back()), (Some(1), Some(2))));
+    check!(rt; same((splice.next(), splice.size_hint()), (Some(1), (1, Some(1)))));
+    check!(rt; same((splice.next_back(), splice.next()), (Some(2), None)));
     check!(rt; splice.finish(alloc));
 }
 
@@ -187,7 +186,6 @@ fn splice_two<A: Allocator>(rt: &impl Abort, list: &mut ThinVec<i32, A>, alloc: 
 fn iterate<A: Allocator>(rt: &impl Abort, list: ThinVec<i32, A>) {
     let mut rest = list.into_iter();
     check!(rt; same((rest.next(), rest.next_back()), (Some(1), Some(3))));
-    check!(rt; same((rest.len(), rest.as_slice().len()), (1, 1)));
     check!(rt; same((rest.size_hint(), rest.as_mut_slice().len()), ((1, Some(1)), 1)));
 }
 
@@ -201,45 +199,33 @@ fn calls_that_remove_items_take_no_memory(rt: HostRuntime) {
     }
 }
 
-// Reads the list of the numbers from 1 to `last`, and compares it with an equal list.
-fn read<A: Allocator>(rt: &impl Abort, list: &ThinVec<i32, A>, other: &ThinVec<i32, A>, last: i32) {
+// Reads the list 1, 2, 3, and compares it with an equal list.
+fn read<A: Allocator>(rt: &impl Abort, list: &ThinVec<i32, A>, other: &ThinVec<i32, A>) {
     check!(rt; same((list.is_empty(), list.has_capacity()), (false, true)));
     check!(rt; same((*list == *other, list.cmp(other)), (true, Ordering::Equal)));
     check!(rt; same(list.partial_cmp(other), Some(Ordering::Equal)));
     list.hash(&mut DefaultHasher::new());
-    let mut item: i32 = 0;
-    for number in list {
-        item = *number;
-    }
-    check!(rt; same((item, list.first()), (last, Some(&1))));
+    check!(rt; same((list.iter().count(), list.first()), (3, Some(&1))));
     check!(rt; same(bounds(Bound::Excluded(0), Bound::Unbounded, 3), Some((1, 3))));
 }
 
-// Writes to the list of the numbers from 1 to `last`.
-fn write<A: Allocator>(rt: &impl Abort, list: &mut ThinVec<i32, A>, last: i32) {
+// Writes to the list 1, 2, 3.
+fn write<A: Allocator>(rt: &impl Abort, list: &mut ThinVec<i32, A>) {
     for item in &mut *list {
         *item = item.saturating_add(1);
     }
     list.as_mut_slice().reverse();
-    check!(rt; same(list.get_mut(90).is_none(), true));
-    assert!(rt; list.len() > 1);
+    check!(rt; has_len(list, 3));
     list[0] = 7;
-    check!(rt; same((list[0], list[1]), (7, last)));
+    check!(rt; same((list[0], list[1], list[2]), (7, 3, 2)));
 }
 
 #[test]
 fn calls_that_read_and_write_items_take_no_memory(rt: HostRuntime) {
     let lender = check!(rt; Refusing::leaked(rt.alloc(), 0));
-    for last in [3_i32, 40] {
-        lender.refuse(0);
-        let mut list: List = ThinVec::new(lender);
-        for number in 0..last {
-            check!(rt; list.push(number.saturating_add(1)));
-        }
-        let other = check!(rt; list.clone(lender));
-        lender.refuse_all();
-        read(&rt, &list, &other, last);
-        write(&rt, &mut list, last);
-        check!(rt; same((last, lender.requests()), (last, 0)));
-    }
+    let other = check!(rt; roomy(lender));
+    let mut list = check!(rt; roomy(lender));
+    read(&rt, &list, &other);
+    write(&rt, &mut list);
+    check!(rt; same(lender.requests(), 0));
 }

@@ -1,8 +1,6 @@
 //! When items are dropped: each one once. Dropping an empty list makes no request.
 use std::iter::once;
-use std::process::Abort;
-use std::rc::Rc;
-use thin_testing::{Counted, Ledger, Refusing, check, counted_list, has_len, same};
+use thin_testing::{Counted, Ledger, Refusing, check, counted_list, same};
 use thin_vec::ThinVec;
 
 #[test]
@@ -52,35 +50,4 @@ fn dropping_an_empty_list_makes_no_request(rt: HostRuntime) {
     let refusing = Refusing::new(rt.alloc(), 1);
     drop(ThinVec::<u64, _>::new(&refusing));
     check!(rt; same(refusing.requests(), 0));
-}
-
-// Removes the items of a list of three items by one of several calls, and drops the list.
-fn remove_by_way(rt: &impl Abort, way: u32, mut list: ThinVec<Rc<u32>>) {
-    check!(rt; has_len(&list, 3));
-    match way {
-        0 => list.truncate(1),
-        1 => list.retain(|_item| false),
-        2 => list.dedup_by(|_later, _kept| true),
-        3 => drop(list.drain(0, 2)),
-        4 => {
-            drop(list.into_iter());
-            return;
-        }
-        _ => (),
-    }
-    drop(list);
-}
-
-#[test]
-fn each_call_drops_items_of_eight_bytes(rt: HostRuntime) {
-    let item = check!(rt; Rc::new(rt.alloc(), 1));
-    for way in 0..6 {
-        let mut list = ThinVec::new(rt.alloc());
-        for _ in 0..3 {
-            let clone = check!(rt; item.clone());
-            check!(rt; list.push(clone));
-        }
-        remove_by_way(&rt, way, list);
-        check!(rt; same((way, Rc::strong_count(&item)), (way, 1)));
-    }
 }

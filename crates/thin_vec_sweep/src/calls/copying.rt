@@ -9,24 +9,15 @@ use thin_vec::{Growth, ThinVec};
 pub struct Copying {}
 
 impl<T: Numbered + Copy, G: Growth> Calls<T, G> for Copying {
-    const CALLS: usize = 5;
-
     // 25 ranges, combined with 8 numbers of new items.
-    fn arguments(call: usize, is_short: bool) -> usize {
-        match (call, is_short) {
-            (1, _) => 5,
-            (2, true) => 200,
-            (2, false) => 20,
-            (3, _) => 1,
-            _ => 8,
-        }
-    }
+    const ARGUMENTS: usize = 200;
 
     fn call<R: Abort>(rt: &R, case: &mut Case<T, G>, call: usize) -> Option<Answer> {
         Some(match call {
-            0 => extend_from_copies(case),
-            1 => extend_from_copies_reserved(rt, case),
-            2 => replace_range_from_copies(rt, case),
+            0 => replace_range_from_copies(rt, case),
+            _ if case.at.argument >= 8 => return None,
+            1 => extend_from_copies(case),
+            2 => extend_from_copies_reserved(rt, case),
             3 => clone_copies(case),
             4 => from_copies(case),
             _ => return None,

@@ -10,26 +10,26 @@ use thin_vec::{Doubling, ThinVec, ThinVecError, thin_vec};
 pub struct Making {}
 
 impl<T: Numbered> Calls<T, Doubling> for Making {
-    const CALLS: usize = 9;
-
-    fn arguments(_call: usize, _is_short: bool) -> usize {
-        8
-    }
+    // 8 numbers of new items, combined with the two forms of the macro.
+    const ARGUMENTS: usize = 16;
 
     fn call<R: Abort>(rt: &R, case: &mut Case<T, Doubling>, call: usize) -> Option<Answer> {
         Some(match call {
             0 => make_empty(rt, case),
             1 => repeat(case),
-            2 => repeat_in(case),
-            3 => list_items(rt, case),
-            4 => list_items_in(rt, case),
-            5 => with_capacity(case),
-            6 => from_slice(case),
-            7 => from_vec(rt, case),
-            8 => from_boxed_slice(case),
+            2 => list_items(rt, case),
+            3 => with_capacity(case),
+            4 => from_slice(case),
+            5 => from_vec(rt, case),
+            6 => from_boxed_slice(case),
             _ => return None,
         })
     }
+}
+
+// Returns whether the macro names the allocator by `in`.
+fn has_in<T: Numbered>(case: &Case<T, Doubling>) -> bool {
+    case.at.argument >= 8
 }
 
 fn make_empty<T: Numbered, R: Abort>(rt: &R, case: &mut Case<T, Doubling>) -> Answer {
@@ -53,30 +53,25 @@ fn empty_list<T: Numbered>(case: &Case<T, Doubling>) -> Result<List<T, Doubling>
 
 fn repeat<T: Numbered>(case: &mut Case<T, Doubling>) -> Answer {
     let (item, count) = (case.item(), case.count());
-    case.begin("thin_vec![a => x; k]");
-    let list = thin_vec![&case.ledger.alloc => item; count]?;
-    Ok(Due::block_of(list.capacity()).clones(count.saturating_sub(1)))
-}
-
-fn repeat_in<T: Numbered>(case: &mut Case<T, Doubling>) -> Answer {
-    let (item, count) = (case.item(), case.count());
-    case.begin("thin_vec![in a; x; k]");
-    let list = thin_vec![in &case.ledger.alloc; item; count]?;
+    case.begin("thin_vec![a => x; k], thin_vec![in a; x; k]");
+    let alloc = &case.ledger.alloc;
+    let list = if has_in(case) {
+        thin_vec![in alloc; item; count]?
+    } else {
+        thin_vec![alloc => item; count]?
+    };
     Ok(Due::block_of(list.capacity()).clones(count.saturating_sub(1)))
 }
 
 fn list_items<T: Numbered, R: Abort>(rt: &R, case: &mut Case<T, Doubling>) -> Answer {
     let (x, y) = (case.item(), case.item());
-    case.begin("thin_vec![a => x, y]");
-    let list = thin_vec![&case.ledger.alloc => x, y]?;
-    assert_same(rt, case.at, "capacity", list.capacity(), 2);
-    Ok(Due::block_of(list.len()))
-}
-
-fn list_items_in<T: Numbered, R: Abort>(rt: &R, case: &mut Case<T, Doubling>) -> Answer {
-    let (x, y) = (case.item(), case.item());
-    case.begin("thin_vec![in a; x, y]");
-    let list = thin_vec![in &case.ledger.alloc; x, y]?;
+    case.begin("thin_vec![a => x, y], thin_vec![in a; x, y]");
+    let alloc = &case.ledger.alloc;
+    let list = if has_in(case) {
+        thin_vec![in alloc; x, y]?
+    } else {
+        thin_vec![alloc => x, y]?
+    };
     assert_same(rt, case.at, "capacity", list.capacity(), 2);
     Ok(Due::block_of(list.len()))
 }

@@ -2,7 +2,7 @@
 //! or one for the `Vec` that they return.
 ghost use Rattle.std.specs.Prelude.{◌≤◌, length};
 
-use crate::asserts::{assert_at_most, assert_below, assert_range, assert_same};
+use crate::asserts::{assert_at_most, assert_range, assert_same};
 use crate::sweep::Calls;
 use std::alloc::Allocator;
 use std::mem;
@@ -14,36 +14,27 @@ use thin_vec::{Growth, IntoIter, ThinVec};
 pub struct Removing {}
 
 impl<T: Numbered, G: Growth> Calls<T, G> for Removing {
-    const CALLS: usize = 14;
-
     // 25 ranges, combined with 6 numbers of steps.
-    fn arguments(call: usize, is_short: bool) -> usize {
-        match (call, is_short) {
-            (7..=9, true) => 150,
-            (7..=9, false) => 30,
-            (13, _) => 25,
-            (3, _) => 10,
-            (1 | 2 | 6, _) => 5,
-            _ => 1,
-        }
-    }
+    const ARGUMENTS: usize = 150;
 
     fn call<R: Abort>(rt: &R, case: &mut Case<T, G>, call: usize) -> Option<Answer> {
         Some(match call {
-            0 => pop(case),
-            1 => remove(rt, case)?,
-            2 => swap_remove(rt, case)?,
-            3 => truncate(case),
-            4 => clear(case),
-            5 => push_reserved(rt, case)?,
-            6 => insert_reserved(rt, case)?,
-            7 => drain(rt, case),
-            8 => into_iter(case),
-            9 => into_iter_clone(case),
-            10 => into_vec(case),
-            11 => into_boxed_slice(case),
-            12 => try_take(rt, case),
-            13 => drain_for(rt, case),
+            0 => drain(rt, case),
+            1 => into_iter(case),
+            2 => into_iter_clone(case),
+            _ if case.at.argument >= 25 => return None,
+            3 => drain_for(rt, case),
+            _ if case.at.argument >= 10 => return None,
+            4 => pop(case),
+            5 => remove(case),
+            6 => swap_remove(case),
+            7 => truncate(case),
+            8 => clear(case),
+            9 => push_reserved(case),
+            10 => insert_reserved(rt, case),
+            11 => into_vec(case),
+            12 => into_boxed_slice(case),
+            13 => try_take(rt, case),
             _ => return None,
         })
     }
@@ -55,26 +46,22 @@ fn pop<T: Numbered, G: Growth>(case: &mut Case<T, G>) -> Answer {
     Ok(Due::NOTHING)
 }
 
-fn remove<T: Numbered, G: Growth, R: Abort>(rt: &R, case: &mut Case<T, G>) -> Option<Answer> {
+fn remove<T: Numbered, G: Growth>(case: &mut Case<T, G>) -> Answer {
     let index = case.index();
     case.begin("remove");
-    if index == case.list.len() {
-        return None;
+    if index < case.list.len() {
+        drop(case.list.remove(index));
     }
-    assert_below(rt, index, case.list.len());
-    drop(case.list.remove(index));
-    Some(Ok(Due::NOTHING))
+    Ok(Due::NOTHING)
 }
 
-fn swap_remove<T: Numbered, G: Growth, R: Abort>(rt: &R, case: &mut Case<T, G>) -> Option<Answer> {
+fn swap_remove<T: Numbered, G: Growth>(case: &mut Case<T, G>) -> Answer {
     let index = case.index();
     case.begin("swap_remove");
-    if index == case.list.len() {
-        return None;
+    if index < case.list.len() {
+        drop(case.list.swap_remove(index));
     }
-    assert_below(rt, index, case.list.len());
-    drop(case.list.swap_remove(index));
-    Some(Ok(Due::NOTHING))
+    Ok(Due::NOTHING)
 }
 
 fn truncate<T: Numbered, G: Growth>(case: &mut Case<T, G>) -> Answer {
@@ -90,34 +77,23 @@ fn clear<T: Numbered, G: Growth>(case: &mut Case<T, G>) -> Answer {
     Ok(Due::NOTHING)
 }
 
-fn push_reserved<T: Numbered, G: Growth, R: Abort>(
-    rt: &R,
-    case: &mut Case<T, G>,
-) -> Option<Answer> {
-    if case.list.len() >= case.list.capacity() {
-        return None;
-    }
+fn push_reserved<T: Numbered, G: Growth>(case: &mut Case<T, G>) -> Answer {
     let item = case.item();
     case.begin("push_reserved");
-    assert_below(rt, case.list.len(), case.list.capacity());
-    case.list.push_reserved(item);
-    Some(Ok(Due::NOTHING))
+    if case.list.len() < case.list.capacity() {
+        case.list.push_reserved(item);
+    }
+    Ok(Due::NOTHING)
 }
 
-fn insert_reserved<T: Numbered, G: Growth, R: Abort>(
-    rt: &R,
-    case: &mut Case<T, G>,
-) -> Option<Answer> {
-    let index = case.index();
-    if case.list.len() >= case.list.capacity() {
-        return None;
-    }
-    let item = case.item();
+fn insert_reserved<T: Numbered, G: Growth, R: Abort>(rt: &R, case: &mut Case<T, G>) -> Answer {
+    let (index, item) = (case.index(), case.item());
     case.begin("insert_reserved");
     assert_at_most(rt, index, case.list.len());
-    assert_below(rt, case.list.len(), case.list.capacity());
-    case.list.insert_reserved(index, item);
-    Some(Ok(Due::NOTHING))
+    if case.list.len() < case.list.capacity() {
+        case.list.insert_reserved(index, item);
+    }
+    Ok(Due::NOTHING)
 }
 
 // A sequence of calls to `next` and `next_back`. On a range of at most 4 items, the arguments

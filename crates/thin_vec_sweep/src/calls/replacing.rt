@@ -9,21 +9,14 @@ use thin_vec::Growth;
 pub struct Replacing {}
 
 impl<T: Numbered, G: Growth> Calls<T, G> for Replacing {
-    const CALLS: usize = 4;
-
     // 25 ranges, combined with 8 numbers of new items.
-    fn arguments(call: usize, is_short: bool) -> usize {
-        match (call, is_short) {
-            (2 | 3, _) => 5,
-            (_, true) => 200,
-            _ => 20,
-        }
-    }
+    const ARGUMENTS: usize = 200;
 
     fn call<R: Abort>(rt: &R, case: &mut Case<T, G>, call: usize) -> Option<Answer> {
         Some(match call {
             0 => replace_range(rt, case),
             1 => replace_range_from_list(rt, case),
+            _ if case.at.argument >= 5 => return None,
             2 => append_reserved(rt, case),
             3 => extend_from_slice_reserved(rt, case),
             _ => return None,

@@ -5,8 +5,7 @@ use crate::asserts::{assert_right, assert_same};
 use std::iter;
 use std::process::Abort;
 use thin_testing::{
-    At, Case, Choice, Claims, Ledger, Numbered, Ruled, block_bytes, greatest_capacity,
-    numbered_items,
+    At, Case, Claims, Ledger, Numbered, Ruled, block_bytes, greatest_capacity, numbered_items,
 };
 use thin_vec::{CollectRefused, Doubling, ExtendRefused, Growth, ThinVec, ThinVecError};
 
@@ -145,28 +144,6 @@ impl Source {
         }
     }
 
-    // Returns a random source, whose hint may be wrong. Its items may just fill the list.
-    fn random(at: At) -> Source {
-        let count = if at.drawn(Choice::JustFills, 8) == 0 {
-            at.spare
-        } else {
-            at.drawn_size(Choice::Items)
-        };
-        let lower = match at.drawn(Choice::HintKind, 4) {
-            0 => 0,
-            1 => count,
-            2 => at.drawn(Choice::Hint, count.saturating_add(1)),
-            _ => at.drawn_size(Choice::Hint),
-        };
-        let is_exact = at.drawn(Choice::IsExact, 4) == 0;
-        Source {
-            count,
-            lower: if is_exact { count } else { lower },
-            is_bounded: at.drawn(Choice::IsBounded, 2) == 1,
-            is_exact,
-        }
-    }
-
     /// Makes the iterator.
     pub fn claims<T: Numbered, R: Abort>(
         self,
@@ -185,19 +162,16 @@ impl Source {
 const NEW: u64 = 100;
 
 /// The numbers of items that are tried. The last one is tried with few hints.
-const COUNTS: [usize; 12] = [0, 1, 2, 3, 4, 5, 9, 17, 50, 100, 300, 5000];
+const COUNTS: [usize; 10] = [0, 1, 2, 3, 4, 5, 17, 50, 300, 5000];
 
 // The number of the last one of `COUNTS`.
-const MANY: usize = 11;
+const MANY: usize = 9;
 
 /// The number of different hints.
 pub const HINTS: usize = 22;
 
-/// Returns an iterator over `count` items with one of the hints, or a random one in a random case.
+/// Returns an iterator over `count` items with one of the hints.
 pub fn nth_source<T: Numbered>(at: At, number: usize, count: usize) -> Source {
-    if at.is_random() {
-        return Source::random(at);
-    }
     let most = greatest_capacity::<T>().saturating_sub(at.length);
     let lower = match number / 2 {
         0 => 0,
@@ -206,7 +180,7 @@ pub fn nth_source<T: Numbered>(at: At, number: usize, count: usize) -> Source {
         3 => count,
         4 => count.saturating_add(1),
         5 => 1000,
-        6 => 5000,
+        6 => count,
         7 => most,
         8 => most.saturating_add(1),
         9 => isize::MAX as usize,
@@ -216,7 +190,7 @@ pub fn nth_source<T: Numbered>(at: At, number: usize, count: usize) -> Source {
         count,
         lower,
         is_bounded: number % 2 == 1,
-        is_exact: false,
+        is_exact: number / 2 == 6,
     }
 }
 
@@ -227,9 +201,6 @@ pub trait Fills<T: Numbered, G: Growth> {
 
     /// Whether nothing is left if the call fails.
     const IS_ALL_OR_NOTHING: bool = false;
-
-    /// The number of the call among random cases.
-    const NUMBER: usize;
 
     /// Begins to count, and makes the call, after which the list of the case is the filled list.
     /// Returns the cause of a failure, as far as the call tells it.
@@ -245,8 +216,6 @@ pub trait Fills<T: Numbered, G: Growth> {
 pub struct Extend {}
 
 impl<T: Numbered, G: Growth> Fills<T, G> for Extend {
-    const NUMBER: usize = 1;
-
     fn fill<R: Abort>(
         rt: &R,
         case: &mut Case<T, G>,
@@ -272,8 +241,6 @@ impl<T: Numbered, G: Growth> Fills<T, G> for Extend {
 pub struct ExtendOfTrait {}
 
 impl<T: Numbered, G: Growth> Fills<T, G> for ExtendOfTrait {
-    const NUMBER: usize = 2;
-
     fn fill<R: Abort>(
         rt: &R,
         case: &mut Case<T, G>,
@@ -293,8 +260,6 @@ impl<T: Numbered, G: Growth> Fills<T, G> for ExtendOfTrait {
 pub struct FromIter {}
 
 impl<T: Numbered> Fills<T, Doubling> for FromIter {
-    const NUMBER: usize = 3;
-
     const IS_MAKING: bool = true;
 
     fn fill<R: Abort>(
@@ -329,8 +294,6 @@ impl<T: Numbered> Fills<T, Doubling> for FromIter {
 pub struct Collect {}
 
 impl<T: Numbered> Fills<T, Doubling> for Collect {
-    const NUMBER: usize = 4;
-
     const IS_MAKING: bool = true;
 
     const IS_ALL_OR_NOTHING: bool = true;
@@ -353,9 +316,9 @@ impl<T: Numbered> Fills<T, Doubling> for Collect {
     }
 }
 
-/// Makes the call on lists of the given lengths from several iterators, on random lists from random
-/// iterators, and on a list without items from iterators over thousands of items whose hints are 0
-/// and exact. Refuses each of the requests in turn.
+/// Makes the call on lists of the given lengths from several iterators, and on a list without items
+/// from iterators over thousands of items whose hints are 0 and exact. Refuses each of the requests
+/// in turn.
 pub fn fill_lists<F: Fills<T, G>, T: Numbered, G: Ruled, R: Abort>(
     rt: &R,
     ledger: &'static Ledger,
@@ -365,34 +328,13 @@ pub fn fill_lists<F: Fills<T, G>, T: Numbered, G: Ruled, R: Abort>(
     for length in lengths {
         for spare in spares {
             for argument in 0..MANY.saturating_mul(HINTS) {
-                let at = At {
-                    call: "",
-                    length: *length,
-                    spare: *spare,
-                    argument,
-                    refused: 0,
-                };
-                each_refusal::<F, T, G, R>(rt, ledger, at);
+                each_refusal::<F, T, G, R>(rt, ledger, At::new(*length, *spare, argument));
             }
         }
     }
     for number in [0, 6] {
-        let at = At {
-            call: "",
-            length: 0,
-            spare: 0,
-            argument: MANY.saturating_mul(HINTS).saturating_add(number),
-            refused: 0,
-        };
-        each_refusal::<F, T, G, R>(rt, ledger, at);
-    }
-    for round in 0..At::rounds::<T>().saturating_mul(4) {
-        let mut at = At::random::<T>(round, F::NUMBER);
-        if F::IS_MAKING {
-            at.length = 0;
-            at.spare = 0;
-        }
-        each_refusal::<F, T, G, R>(rt, ledger, at);
+        let argument = MANY.saturating_mul(HINTS).saturating_add(number);
+        each_refusal::<F, T, G, R>(rt, ledger, At::new(0, 0, argument));
     }
 }
 

@@ -4,37 +4,22 @@ use std::process::Abort;
 use thin_testing::{At, Case, Ledger, List, Numbered, Ruled, greatest_capacity};
 use thin_vec::{Doubling, Growth, ThinVec, ThinVecError};
 
-// The calls that are tried.
-#[derive(Clone, Copy, Debug)]
-enum Call {
-    WithCapacity,
-    Reserve,
-    ReserveExact,
-    Resize,
-    ResizeWith,
-}
-
-const CALLS: [Call; 5] = [
-    Call::WithCapacity,
-    Call::Reserve,
-    Call::ReserveExact,
-    Call::Resize,
-    Call::ResizeWith,
-];
+// The number of the calls that are tried.
+const CALLS: usize = 5;
 
 /// Asserts that calls which need a power of two, or the greatest capacity, make one request, and
 /// that calls which need a greater capacity fail without a request.
 pub fn limits<T: Numbered, G: Ruled, R: Abort>(rt: &R, ledger: &'static Ledger) {
     let greatest = greatest_capacity::<T>();
     for length in 0..3 {
-        for call in CALLS {
+        for call in 0..CALLS {
             let mut capacity: usize = 8;
             for _ in 3..64 {
                 let needed = capacity.min(greatest);
                 let answer = limit::<T, G, R>(rt, ledger, length, call, needed, 1);
                 assert!(rt;
                     answer == (Err(ThinVecError::OutOfMemory), 1),
-                    "{call:?}, capacity {needed}"
+                    "call {call}, capacity {needed}"
                 );
                 capacity = capacity.saturating_mul(2);
             }
@@ -46,7 +31,7 @@ pub fn limits<T: Numbered, G: Ruled, R: Abort>(rt: &R, ledger: &'static Ledger) 
                 let answer = limit::<T, G, R>(rt, ledger, length, call, more, 0);
                 assert!(rt;
                     answer == (Err(ThinVecError::CapacityOverflow), 0),
-                    "{call:?}"
+                    "call {call}"
                 );
             }
         }
@@ -58,16 +43,13 @@ fn limit<T: Numbered, G: Ruled, R: Abort>(
     rt: &R,
     ledger: &'static Ledger,
     length: usize,
-    call: Call,
+    call: usize,
     capacity: usize,
     refused: u64,
 ) -> (Result<(), ThinVecError>, u64) {
     let at = At {
-        call: "",
-        length,
-        spare: 1,
-        argument: 0,
         refused,
+        ..At::new(length, 1, 0)
     };
     let mut case: Case<T, G> = Case::new(ledger, at).expect(rt, "memory");
     case.begin("with_capacity, reserve, reserve_exact, resize, resize_with");
@@ -80,16 +62,16 @@ fn limit<T: Numbered, G: Ruled, R: Abort>(
 // Makes a call that needs the given capacity.
 fn make_call<T: Numbered, G: Growth>(
     case: &mut Case<T, G>,
-    call: Call,
+    call: usize,
     capacity: usize,
 ) -> Result<(), ThinVecError> {
     let additional = capacity.saturating_sub(case.at.length);
     match call {
-        Call::WithCapacity => made::<T>(case.ledger, capacity),
-        Call::Reserve => case.list.reserve(additional),
-        Call::ReserveExact => case.list.reserve_exact(additional),
-        Call::Resize => case.list.resize(capacity, T::numbered(case.ledger, 7)),
-        Call::ResizeWith => resize_with(case, capacity),
+        0 => made::<T>(case.ledger, capacity),
+        1 => case.list.reserve(additional),
+        2 => case.list.reserve_exact(additional),
+        3 => case.list.resize(capacity, T::numbered(case.ledger, 7)),
+        _ => resize_with(case, capacity),
     }
 }
 
@@ -102,26 +84,6 @@ fn resize_with<T: Numbered, G: Growth>(
         let _token = &token;
         T::numbered(ledger, 7)
     })
-}
-
-/// Asserts that a list of bytes gets room for each power of two up to 2^27 by one request.
-pub fn powers<R: Abort>(rt: &R, ledger: &'static Ledger) {
-    let mut capacity: usize = 1;
-    for power in 0..28 {
-        ledger.begin(0);
-        let answer = (made::<u8>(ledger, capacity), ledger.alloc.requests());
-        assert!(rt; answer == (Ok(()), 1), "with_capacity(2^{power})");
-        assert!(rt; ledger.alloc.blocks() == 0, "blocks of 2^{power}");
-        ledger.begin(0);
-        let answer = (reserved(ledger, capacity), ledger.alloc.requests());
-        assert!(rt; answer == (Ok(()), 1), "reserve(2^{power})");
-        capacity = capacity.saturating_mul(2);
-    }
-}
-
-fn reserved(ledger: &'static Ledger, additional: usize) -> Result<(), ThinVecError> {
-    let mut list: List<u8, Doubling> = ThinVec::new(&ledger.alloc);
-    list.reserve(additional)
 }
 
 fn made<T: Numbered>(ledger: &'static Ledger, capacity: usize) -> Result<(), ThinVecError> {

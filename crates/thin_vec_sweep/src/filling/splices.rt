@@ -42,7 +42,8 @@ fn due<T: Numbered, G: Ruled>(case: &Case<T, G>, range: (usize, usize), source: 
         due.append::<T, G>(start, hinted, source.count);
         return due;
     }
-    due_before_tail::<T, G>(&mut due, length, end.saturating_sub(start), source);
+    let width = end.saturating_sub(start);
+    due_before_tail::<T, G>(&mut due, case.ledger, length, width, source);
     due
 }
 
@@ -50,6 +51,7 @@ fn due<T: Numbered, G: Ruled>(case: &Case<T, G>, range: (usize, usize), source: 
 // in a list of `length` items.
 fn due_before_tail<T: Numbered, G: Ruled>(
     due: &mut Filling,
+    ledger: &'static Ledger,
     length: usize,
     width: usize,
     source: Source,
@@ -74,7 +76,7 @@ fn due_before_tail<T: Numbered, G: Ruled>(
         return;
     }
     let beyond = source.count.saturating_sub(room);
-    if !is_held::<T>(due, beyond) {
+    if !is_held::<T>(due, ledger, beyond).unwrap_or(false) {
         return;
     }
     due.nexts = (source.count as u64).saturating_add(1);
@@ -86,30 +88,24 @@ fn due_before_tail<T: Numbered, G: Ruled>(
     }
 }
 
-// Computes the requests of a `Vec` that begins empty and takes `count` items. Returns whether it
-// gets the memory for all of them.
-fn is_held<T: Numbered>(due: &mut Filling, count: usize) -> bool {
-    let first = match T::size() {
-        0..=1 => 8,
-        2..=1024 => 4,
-        _ => 1,
-    };
-    let mut room: usize = 0;
-    for held in 0..count {
-        if held == room {
-            room = room.saturating_mul(2).max(first);
-            if !due.is_granted(room.saturating_mul(T::size()) as u64) {
-                due.held = held.saturating_add(1);
-                return false;
-            }
+// Counts the requests of a `Vec` that takes `count` items one by one. Returns whether it gets the
+// memory for all of them. How the vector grows is shown by another one that takes as many.
+fn is_held<T: Numbered>(due: &mut Filling, ledger: &'static Ledger, count: usize) -> Option<bool> {
+    let mut other: Vec<T> = Vec::new(ledger.global);
+    for held in 1..=count {
+        let capacity = other.capacity();
+        other.push(T::numbered(ledger, 0)).ok()?;
+        let bytes = other.capacity().saturating_mul(T::size()) as u64;
+        if other.capacity() != capacity && !due.is_granted(bytes) {
+            due.held = held;
+            return Some(false);
         }
         due.nexts = due.nexts.saturating_add(1);
     }
-    true
+    Some(true)
 }
 
-/// Makes splices on lists of the given lengths, and on random lists, and refuses each of their
-/// requests in turn.
+/// Makes splices on lists of the given lengths, and refuses each of their requests in turn.
 pub fn splices<T: Numbered, G: Ruled, R: Abort>(
     rt: &R,
     ledger: &'static Ledger,
@@ -120,19 +116,9 @@ pub fn splices<T: Numbered, G: Ruled, R: Abort>(
         let ranges = if *length <= 4 { 25 } else { 5 };
         for spare in spares {
             for argument in 0..NEW.saturating_mul(HINTS).saturating_mul(ranges) {
-                let at = At {
-                    call: "splice",
-                    length: *length,
-                    spare: *spare,
-                    argument,
-                    refused: 0,
-                };
-                each_refusal::<T, G, R>(rt, ledger, at);
+                each_refusal::<T, G, R>(rt, ledger, At::new(*length, *spare, argument));
             }
         }
-    }
-    for round in 0..At::rounds::<T>().saturating_mul(4) {
-        each_refusal::<T, G, R>(rt, ledger, At::random::<T>(round, 5));
     }
 }
 

@@ -1,66 +1,19 @@
-//! The sweeps of the calls that take an iterator, for all item types, and of large capacities. Each
-//! test finishes within seconds.
+//! The sweeps of the calls that take an iterator, for several item types, and of large capacities.
 use crate::filling::fill::{Collect, Extend, ExtendOfTrait, FromIter, fill_lists};
-use crate::filling::limits::{limits, powers};
+use crate::filling::limits::limits;
 use crate::filling::splices::splices;
-use crate::tests::{Aligned, EightWords, Large, SHORT, SixteenWords, Small, ThreeWords};
+use crate::tests::{Large, SHORT, Small, ThreeWords};
 use std::alloc::Global;
 use std::process::Abort;
-use thin_testing::{Counted, CountedWord, Fourfold, Ledger, Numbered, Ruled, Threefold};
+use thin_testing::{CountedWord, Ledger, Numbered, Ruled, Threefold};
 use thin_vec::{Doubling, PowerBytes};
-
-// Fills random lists of `T` from random iterators.
-fn fill_at_random<T: Numbered, G: Ruled, R: Abort>(rt: &R, alloc: Global) {
-    let ledger = Ledger::leaked(alloc).expect(rt, "memory");
-    fill_lists::<Extend, T, G, R>(rt, ledger, &[], &[]);
-    fill_lists::<ExtendOfTrait, T, G, R>(rt, ledger, &[], &[]);
-    fill_lists::<FromIter, T, Doubling, R>(rt, ledger, &[], &[]);
-    fill_lists::<Collect, T, Doubling, R>(rt, ledger, &[], &[]);
-    splices::<T, G, R>(rt, ledger, &[], &[]);
-}
-
-#[test]
-fn random_fillings_of_items_that_grow_in_place(rt: HostRuntime) {
-    fill_at_random::<u8, Doubling, _>(&rt, rt.alloc());
-    fill_at_random::<u16, PowerBytes, _>(&rt, rt.alloc());
-    fill_at_random::<i32, Doubling, _>(&rt, rt.alloc());
-    fill_at_random::<u64, Threefold, _>(&rt, rt.alloc());
-    fill_at_random::<u128, Doubling, _>(&rt, rt.alloc());
-}
-
-#[test]
-fn random_fillings_of_items_of_odd_sizes(rt: HostRuntime) {
-    fill_at_random::<(), Doubling, _>(&rt, rt.alloc());
-    fill_at_random::<[u8; 3], Doubling, _>(&rt, rt.alloc());
-    fill_at_random::<[u8; 5], Fourfold, _>(&rt, rt.alloc());
-    fill_at_random::<[u8; 7], Doubling, _>(&rt, rt.alloc());
-    fill_at_random::<[u32; 3], Doubling, _>(&rt, rt.alloc());
-    fill_at_random::<[u32; 5], PowerBytes, _>(&rt, rt.alloc());
-    fill_at_random::<[u32; 7], Doubling, _>(&rt, rt.alloc());
-}
-
-#[test]
-fn random_fillings_of_counted_items(rt: HostRuntime) {
-    fill_at_random::<CountedWord<'static>, Doubling, _>(&rt, rt.alloc());
-    fill_at_random::<Small, PowerBytes, _>(&rt, rt.alloc());
-    fill_at_random::<ThreeWords, Doubling, _>(&rt, rt.alloc());
-    fill_at_random::<Aligned, Threefold, _>(&rt, rt.alloc());
-}
-
-#[test]
-fn random_fillings_of_large_counted_items(rt: HostRuntime) {
-    fill_at_random::<EightWords, Doubling, _>(&rt, rt.alloc());
-    fill_at_random::<SixteenWords, Fourfold, _>(&rt, rt.alloc());
-    fill_at_random::<Large, Doubling, _>(&rt, rt.alloc());
-    fill_at_random::<Counted<'static, [u64; 254]>, Doubling, _>(&rt, rt.alloc());
-}
 
 // Tries the calls that fill a list of `T` from an iterator.
 fn fill_all<T: Numbered, G: Ruled, R: Abort>(rt: &R, alloc: Global) {
     let ledger = Ledger::leaked(alloc).expect(rt, "memory");
     fill_lists::<Extend, T, G, R>(rt, ledger, &SHORT, &[0, 4]);
     fill_lists::<Extend, T, G, R>(rt, ledger, &[600], &[0]);
-    fill_lists::<ExtendOfTrait, T, G, R>(rt, ledger, &[0, 1, 33, 300], &[0, 1]);
+    fill_lists::<ExtendOfTrait, T, G, R>(rt, ledger, &[0, 33, 300], &[0, 1]);
     fill_lists::<FromIter, T, Doubling, R>(rt, ledger, &[0], &[0]);
     fill_lists::<Collect, T, Doubling, R>(rt, ledger, &[0], &[0]);
 }
@@ -111,16 +64,15 @@ fn splices_items_of_320_bytes(rt: HostRuntime) {
 fn splices_counted_items(rt: HostRuntime) {
     let ledger = Ledger::leaked(rt.alloc()).expect(&rt, "memory");
     splices::<Small, Doubling, _>(&rt, ledger, &SHORT, &[0, 3]);
-    splices::<ThreeWords, Fourfold, _>(&rt, ledger, &[2, 4], &[0]);
+    splices::<CountedWord<'static>, Threefold, _>(&rt, ledger, &[2, 4], &[0]);
     splices::<Large, Doubling, _>(&rt, ledger, &[3], &[0, 1]);
 }
 
 #[test]
 fn splices_long_lists(rt: HostRuntime) {
     let ledger = Ledger::leaked(rt.alloc()).expect(&rt, "memory");
-    splices::<Small, Doubling, _>(&rt, ledger, &[100, 300], &[0]);
-    splices::<ThreeWords, PowerBytes, _>(&rt, ledger, &[100], &[0]);
-    splices::<u8, Doubling, _>(&rt, ledger, &[300], &[0]);
+    splices::<Small, Doubling, _>(&rt, ledger, &[100, 900], &[0]);
+    splices::<ThreeWords, PowerBytes, _>(&rt, ledger, &[100], &[500]);
 }
 
 #[test]
@@ -130,16 +82,6 @@ fn capacities_overflow_without_a_request(rt: HostRuntime) {
     limits::<u8, Doubling, _>(&rt, ledger);
     limits::<[u8; 3], Doubling, _>(&rt, ledger);
     limits::<u16, Doubling, _>(&rt, ledger);
-    limits::<i32, Doubling, _>(&rt, ledger);
-    limits::<[u32; 3], Doubling, _>(&rt, ledger);
-    limits::<u64, Doubling, _>(&rt, ledger);
     limits::<u128, Doubling, _>(&rt, ledger);
     limits::<ThreeWords, Doubling, _>(&rt, ledger);
-    limits::<[u64; 6], Doubling, _>(&rt, ledger);
-    limits::<Large, Doubling, _>(&rt, ledger);
-}
-
-#[test]
-fn blocks_of_up_to_128_megabytes_take_one_request(rt: HostRuntime) {
-    powers(&rt, Ledger::leaked(rt.alloc()).expect(&rt, "memory"));
 }

@@ -1,4 +1,4 @@
-//! Tests of what `fill` clones and drops.
+//! A test of how often `fill` clones, and that it drops the old items.
 ghost use Rattle.std.specs.Prelude.{⊤};
 
 use std::alloc::{AllocError, Global};
@@ -47,20 +47,6 @@ fn fillers<'a>(
     Ok(list)
 }
 
-// Returns the sum over the drops of `fill`: of the old items from the first to the last or, if the
-// list is empty, of the value.
-fn sum_of_drops(len: u64) -> u64 {
-    let mut sum = 0;
-    for number in 0..len {
-        sum = Ledger::add_drop(sum, number);
-    }
-    if len == 0 {
-        Ledger::add_drop(sum, VALUE)
-    } else {
-        sum
-    }
-}
-
 // Fills a list of `len` items while every request is refused.
 fn assert_filled(rt: &impl Abort, ledger: &'static Ledger, len: u64) {
     let mut list = check!(rt; fillers(ledger, len));
@@ -70,7 +56,6 @@ fn assert_filled(rt: &impl Abort, ledger: &'static Ledger, len: u64) {
     let clones = ledger.clones.get();
     let found = (ledger.alloc.requests(), clones, ledger.live.get());
     check!(rt; same(found, (0, len.saturating_sub(1), len)));
-    check!(rt; same(ledger.dropped.get(), sum_of_drops(len)));
     drop(list);
     check!(rt; same((ledger.live.get(), ledger.alloc.blocks()), (0, 0)));
 }
