@@ -27,8 +27,8 @@ pub struct Rejected<S> {
 pub struct ExtendRefused<T, I> {
     /// Why the call failed.
     pub cause: ThinVecError,
-    /// The item that the list had no room for. It is `None` if the call could not reserve room for
-    /// the lower bound of the size hint.
+    /// The item that the list had no room for. If it is `None`, the call took nothing from the
+    /// iterator: it could not reserve room (tests show: for the lower bound of the size hint).
     pub in_hand: Option<T>,
     /// The iterator, which yields the items that were not taken.
     pub rest: I,
@@ -60,8 +60,8 @@ pub struct SpliceRefused<T, I, A: Allocator = Global> {
     /// names the allocator.
     pub held: Vec<T, A>,
     /// The item that the iterator yielded after the items in `held`, if there was no room for this
-    /// item. It is `None` if the call could not reserve room for the lower bound of the size hint,
-    /// or for all items in `held`.
+    /// item. If it is `None`, the list had no room for the items in `held` or, if there are none,
+    /// for some more (tests show: for the lower bound of the size hint).
     pub in_hand: Option<T>,
     /// The iterator, which yields the items that were not taken. If `held` contains items and
     /// `in_hand` is `None`, the iterator has ended, and `next` must not be called on it.

@@ -69,7 +69,8 @@ impl<T: Drop, A: Allocator, G: Growth> ThinVec<T, A, G> {
         ensures meanwhile { drain_list result
             ≡ record self.old { items = []; capacity = 0; cost = no_cost } }
 
-        // `Drain::drop` leaves exactly this list, whatever was yielded.
+        // `Drain::drop` leaves exactly this list, whatever was yielded. Unless the range is empty,
+        // each item after it is moved once.
         ensures after_drop { list_after_drain result ≡ record self.old {
           items = remove_range self.old.items start end;
           cost = if start == end then self.old.cost else add_moves

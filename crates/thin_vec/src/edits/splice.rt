@@ -140,7 +140,8 @@ impl<
     ///
     /// Fails if the list or the vector cannot grow. The possible causes are those of `reserve`.
     /// `finish` cannot fail if the range has a slot for each item that the iterator may yield, or
-    /// if no item follows the range and the list has room for all of them.
+    /// if no item follows the range and the list has room for all of them. If items follow the
+    /// range, spare capacity is not enough: the vector needs memory for the items beyond the hint.
     ///
     /// On failure, the items of the range are dropped all the same. No item of the iterator is
     /// lost: those that are not in the list are in the error.
@@ -169,7 +170,8 @@ impl<
             → HasRoomFor (list_without_range self.entry)
             (size (I.remaining (splice_iter self.entry))) → IsOk result }
 
-        // On failure, the list may have some of the new items. The error has all others.
+        // On failure, the list may have some of the new items. The error has all others, in the
+        // order `held`, `in_hand`, `rest`. One field of `cause` applies to each error.
         ensures placed { IfErr result (λ error. (xs : List T)
             × (self.exit.0.now.items ≡ (splice_front self.entry ++ xs) ++ splice_tail self.entry)
             × SpliceErrorAccountsFor I.next_gives I.can_next I.remaining

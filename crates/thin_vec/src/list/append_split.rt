@@ -61,7 +61,8 @@ impl<T, A: Allocator, G: Growth> ThinVec<T, A, G> {
     pub fn split_off(&mut self, alloc: A, at: usize) -> Result<ThinVec<T, A, G>, ThinVecError>
         requires in_bounds { at ≤ length self.old.items }
 
-        // On success.
+        // On success. The tail has the allocator `alloc` and no spare capacity. It cost one
+        // request, unless it is empty, and one move for each item.
         ensures items { OnOk result (self.new.items ≡ take at self.old.items) }
         ensures tail_items { IfOk result (λ tail. tail.items ≡ drop at self.old.items) }
         ensures tail_capacity { IfOk result (λ tail. tail.capacity ≡ length self.old.items - at) }

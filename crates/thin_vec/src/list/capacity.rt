@@ -27,7 +27,8 @@ impl<T, A: Allocator, G: Growth> ThinVec<T, A, G> {
     ///   than `isize::MAX` bytes.
     /// - `OutOfMemory`: the allocator failed.
     pub fn reserve(&mut self, additional: usize) -> Result<(), ThinVecError>
-        // On success. The capacity stays if there was room. Otherwise, the growth rule chooses it.
+        // On success. The capacity stays if there was room. Otherwise, the growth rule chooses it,
+        // and this costs one request and a copy of each item.
         ensures room { OnOk result (HasRoomFor self.new additional) }
         ensures capacity { OnOk result
             (capacity_after_reserve G.rule T.row self.old additional ≡ Some self.new.capacity) }

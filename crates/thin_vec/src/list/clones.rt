@@ -35,7 +35,8 @@ impl<T: Clone, A: Allocator, G: Growth> ThinVec<T, A, G> {
             → IsOk result }
 
         // On failure. The first three clauses follow from `err` and `overflow`, and are what most
-        // callers need. Either the list had no room, or the clone of an item failed (`err`).
+        // callers need. `err`: either the list had no room, and nothing changed, or the clone of
+        // the item `at` failed. Then the capacity is that of a success, and `at` clones are moves.
         ensures err_items { OnErr result (self.new.items ≡ self.old.items) }
         ensures err_overflow { IsErrOf result ThinVecError.CapacityOverflow
             → self.new ≡ self.old }
@@ -71,7 +72,8 @@ impl<T: Clone, A: Allocator, G: Growth> ThinVec<T, A, G> {
     /// Fails with `OutOfMemory` if `alloc` refuses the memory, or if an item cannot be cloned. On
     /// failure, `alloc` and all clones are dropped.
     pub fn clone(&self, alloc: A) -> Result<ThinVec<T, A, G>, ThinVecError>
-        // On success.
+        // On success: a clone of each item, in order (`items`), in a list that has the allocator
+        // `alloc` and no spare capacity. One request, unless it is empty, and one move for each.
         ensures items { IfOk result (λ list. AllZip T.is_clone self.now.items list.items) }
         ensures capacity { IfOk result (λ list. list.capacity ≡ length self.now.items) }
         ensures cost { IfOk result (λ list. list.cost ≡ add_moves (length self.now.items)
@@ -201,7 +203,8 @@ impl<T: Clone, A: Allocator, G: Growth> ThinVec<T, A, G> {
             → All T.is_infallible (slice_range self.old.items start end) → IsOk result }
 
         // On failure. The first three clauses follow from `err` and `overflow`, and are what most
-        // callers need. Either the list had no room, or the clone of an item failed (`err`).
+        // callers need. `err`: either the list had no room, and nothing changed, or the clone of
+        // the item `at` failed. Then the capacity is that of a success, and `at` clones are moves.
         ensures err_items { OnErr result (self.new.items ≡ self.old.items) }
         ensures err_overflow { IsErrOf result ThinVecError.CapacityOverflow
             → self.new ≡ self.old }

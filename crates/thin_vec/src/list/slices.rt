@@ -48,7 +48,7 @@ impl<T, A: Allocator, G: Growth> ThinVec<T, A, G> {
     }
 
     /// Does the same as `sort`, in the order of `compare`. If the answers of `compare` do not form
-    /// a strict weak order, the items end up in some order.
+    /// a strict weak order on all values of the type, the items end up in some order.
     ///
     /// # Errors
     ///
