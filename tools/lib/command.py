@@ -8,6 +8,7 @@ import sys
 
 TOP = pathlib.Path(__file__).resolve().parents[2]
 DATA = TOP / "tools" / "data"
+PRODUCT = ("thin_block", "thin_vec", "thin_rows", "thin_runner")
 # The versions of Rattle's kit that the tools know.
 KITS = "rattle-kit-13f"
 
@@ -51,10 +52,18 @@ def need_crates(*crates):
             raise Stopped(f"there is no folder crates/{crate}/src")
 
 
+def said_by(*words):
+    """What a program prints at the top, or an empty text if it fails or is not there."""
+    try:
+        ran = subprocess.run(words, cwd=TOP, capture_output=True, text=True)
+    except FileNotFoundError:
+        return ""
+    return ran.stdout.strip() if ran.returncode == 0 else ""
+
+
 def kit_of(rt):
     """Which kit the program `rt` is of, for a message about what it did not do."""
-    ran = shutil.which(rt) and subprocess.run([rt, "version"], capture_output=True, text=True)
-    found = ran.stdout.split()[0] if ran and ran.stdout.split() else "unknown"
+    found = said_by(rt, "version").partition(" ")[0] or "unknown"
     return f"the kit is {found}; this tool was written for {KITS}"
 
 

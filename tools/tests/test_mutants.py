@@ -8,6 +8,7 @@ import unittest
 from unittest import mock
 
 from tool import ToolTest, load
+from lib import record
 from lib.command import KITS
 
 RIGHT = """
@@ -27,12 +28,11 @@ class Mutants(ToolTest):
         shutil.rmtree(top / "crates" / "thin_rows" / "src")
         edit = top / "crates" / "thin_vec" / "must-fail" / "planted.edit"
         edit.write_text("file: src/none.rt\nold: a\nnew: b\n", encoding="utf-8")
-        (top / "docs" / "wrong_bodies.toml").write_text("", encoding="utf-8")
         said = self.finds("mutants", "--check", top=top)
         says = "must-fail/planted.edit: there is no file crates/thin_vec/src/none.rt\n"
         self.assertIn(says, said)
         self.assertRegex(said, r"(?m)^\w+: there is no file crates/thin_rows/src/")
-        self.assertIn("docs/wrong_bodies.toml is of other bodies: `tools/mutants` tries all", said)
+        self.assertIn("docs/gate.toml has no trial of these bodies: `tools/mutants` tries", said)
 
     def test_a_body_that_is_described_wrongly(self):
         place = "tools/mutants.d/thin_runner/lib.toml"
@@ -117,11 +117,17 @@ class Mutants(ToolTest):
     def test_a_trial_of_all_bodies_is_recorded(self):
         mutants = load("mutants")
         path, bodies = self.folder() / "record.toml", mutants.wrong_bodies()
-        with mock.patch.multiple(mutants, RECORD=path, said_by=lambda *words: words[0]):
-            mutants.record(bodies, 3)
-        said = path.read_text(encoding="utf-8")
-        self.assertIn(f"bodies = {len(bodies)}\nseen = {len(bodies) - 3}\n", said)
-        self.assertIn(f'checksum = "{mutants.checksum(bodies)}"\n', said)
+        for commit in ("abc", ""):
+            with contextlib.ExitStack() as stack:
+                stack.enter_context(mock.patch.object(record, "RECORD", path))
+                stack.enter_context(mock.patch.object(mutants, "commit_here", lambda: commit))
+                told = stack.enter_context(contextlib.redirect_stdout(io.StringIO()))
+                mutants.record_trial(bodies, 3)
+                found = record.recorded()["wrong_bodies"]
+            self.assertEqual(told.getvalue() == "", bool(commit))
+            self.assertEqual(found["commit"], "abc")
+            self.assertEqual((found["bodies"], found["seen"]), (len(bodies), len(bodies) - 3))
+            self.assertEqual(found["checksum"], mutants.checksum(bodies))
         self.assertNotEqual(mutants.checksum(bodies), mutants.checksum(bodies[1:]))
 
     def test_what_it_cannot_try(self):

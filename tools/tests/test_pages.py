@@ -5,7 +5,7 @@ The repository is a small one.
 import shutil
 import unittest
 
-from tool import TOP, ToolTest
+from tool import TOP, ToolTest, change, commit, git
 
 STUB = "#!/usr/bin/env python3\nimport sys\nprint({says!r}, file=sys.stderr)\nsys.exit({status})\n"
 README = (
@@ -13,6 +13,8 @@ README = (
     "```rust\nlet a = 1;\n```\n"
 )
 MAP = "# One\n\n## The map\n\n- `crates/thin_examples/`\n\n## Two\n"
+# The pages are right, and there is no record of a gate.
+OK = "docs/gate.toml has no gate: `tools/gate --record` writes it\npages: ok\n"
 EXAMPLES = "# One\n\n- [`one`](src/main.rt)\n"
 
 
@@ -40,7 +42,7 @@ class Pages(ToolTest):
         return top
 
     def test_right_pages(self):
-        self.assertEqual(self.passes("pages", "--check", top=self.repository()), "pages: ok\n")
+        self.assertEqual(self.passes("pages", "--check", top=self.repository()), OK)
 
     def test_each_kind_of_fault(self):
         top = self.repository()
@@ -90,7 +92,7 @@ class Pages(ToolTest):
         page.write_text(MAP + "\n- `crates/lost/`\n", encoding="utf-8")
         self.assertEqual(self.finds("pages", top=top), says)
         page.write_text(MAP.replace("\n\n## Two", "\n- `crates/lost/`\n"), encoding="utf-8")
-        self.assertEqual(self.passes("pages", top=top), "pages: ok\n")
+        self.assertEqual(self.passes("pages", top=top), OK)
 
     def test_a_library_of_an_older_version(self):
         top = self.repository()
@@ -108,7 +110,7 @@ class Pages(ToolTest):
         says = "crates/thin_vec/src/lib.rt does not name the newest version of CHANGELOG.md, 2 of "
         self.assertIn(says + "3 May 2026\npages: 1 wrong\n", self.finds("pages", top=top))
         (root / "lib.rt").write_text("//! One.\n//! Version 2 of 3 May 2026.\n", encoding="utf-8")
-        self.assertEqual(self.passes("pages", top=top), "pages: ok\n")
+        self.assertEqual(self.passes("pages", top=top), OK)
 
     def test_members_and_labels(self):
         top = self.repository()
@@ -124,7 +126,7 @@ class Pages(ToolTest):
         head = "# Words\n\n## Labels\n\n| Label | Says |\n|---|---|\n"
         right = head + "| `made` | what `One::make` made |\n"
         page.write_text(right, encoding="utf-8")
-        self.assertEqual(self.passes("pages", top=top), "pages: ok\n")
+        self.assertEqual(self.passes("pages", top=top), OK)
         wrong = [
             (right + "\nSee `One::lost`.\n", "docs/CONTRACTS.md:9: there is no One::lost"),
             (right + "| `lost` | - |\n", "docs/CONTRACTS.md:8: no clause has the label lost"),
@@ -168,13 +170,65 @@ class Pages(ToolTest):
             ("row 7", "rows 7 and 8", "there is no row_8"),
         ]
         page.write_text(right, encoding="utf-8")
-        self.assertEqual(self.passes("pages", top=top), "pages: ok\n")
+        self.assertEqual(self.passes("pages", top=top), OK)
         for old, new, says in wrong:
             with self.subTest(says):
                 page.write_text(right.replace(old, new), encoding="utf-8")
                 self.assertEqual(
                     self.finds("pages", top=top), f"docs/PROOFS.md:5: {says}\npages: 1 wrong\n"
                 )
+
+    def test_a_record_of_an_older_product(self):
+        top, folder = self.repository(), "crates/thin_vec/must-fail"
+        edit, record = top / folder / "one.edit", top / "docs" / "gate.toml"
+        change(top / "CONTRIBUTING.md", "\n\n## Two", "\n- `crates/thin_vec/`\n\n## Two")
+        change(top / "README.md", "# One\n", "# One\n\nSee [the record](docs/gate.toml).\n")
+        edit.parent.mkdir(parents=True)
+        edit.touch()
+        first = commit(top)
+        self.assertEqual(self.passes("pages", top=top), OK)
+        record.parent.mkdir()
+        record.write_text(f'[gate]\ncommit = "{first}"\nfailed = 0\n', encoding="utf-8")
+        (top / "crates" / "thin_vec" / "README.md").write_text("# One\n", encoding="utf-8")
+        commit(top)
+        self.assertEqual(self.passes("pages", top=top), "pages: ok\n")
+        edit.write_text("# One\n", encoding="utf-8")
+        says = f"docs/gate.toml is of an older product: since {first[:8]}, 1 of its files have"
+        says += f" changed, such as {folder}/one.edit\npages: ok\n"
+        self.assertEqual(self.passes("pages", top=top), says)
+        commit(top)
+        self.assertEqual(self.passes("pages", top=top), says)
+        # A copy without the commit of the record cannot be compared with it.
+        shallow = self.folder() / "copy"
+        git(top, "clone", "--quiet", "--depth=1", f"file://{top}", str(shallow))
+        shutil.rmtree(top / ".git")
+        says = f"docs/gate.toml: commit {first[:8]} is not here, so its product cannot be compared"
+        for copy in (shallow, top):
+            self.assertEqual(self.passes("pages", top=copy), f"{says}\npages: ok\n")
+
+    def test_a_wrong_record(self):
+        top = self.repository()
+        change(top / "README.md", "# One\n", "# One\n\nThe kit is `kit-1\nlogic 2`.\n")
+        (top / "docs").mkdir()
+        record, first = top / "docs" / "gate.toml", commit(top)
+        gate = f'[gate]\ncommit = "{first}"\nkit = "kit-1 logic 2"\nfailed = 0\n'
+        right = gate + f'[wrong_bodies]\ncommit = "{first}"\nbodies = 2\nseen = 2\n'
+        record.write_text(right, encoding="utf-8")
+        self.assertEqual(self.passes("pages", top=top), "pages: ok\n")
+        for old, new, says in (
+            (first, "0" * 40, "the commit of `gate` is none that led to this one"),
+            (first, f"{first}-dirty", "the commit of `gate` is none that led to this one"),
+            ("failed = 0", "failed = 1", "not all passed, or not all wrong bodies were seen"),
+            ("seen = 2", "seen = 1", "not all passed, or not all wrong bodies were seen"),
+            ("kit-1", "kit-2", "README does not name its kit, kit-2 logic 2"),
+        ):
+            with self.subTest(new):
+                record.write_text(right.replace(old, new, 1), encoding="utf-8")
+                said = self.finds("pages", top=top)
+                self.assertEqual(said, f"docs/gate.toml: {says}\npages: 1 wrong\n")
+        record.write_text("[gate", encoding="utf-8")
+        says = "docs/gate.toml: Expected ']' at the end of a table declaration (at end of document)"
+        self.refuses(says, "pages", top=top)
 
     def test_what_another_tool_finds_is_wrong(self):
         self.assertEqual(self.finds("pages", top=self.repository(1)), "told\npages: 1 wrong\n")

@@ -19,6 +19,7 @@ sys.path.insert(0, str(TOP / "tools"))
 NAMES = (
     "audit",
     "compare_with_rust",
+    "gate",
     "mutants",
     "pages",
     "reference",
@@ -108,6 +109,21 @@ class ToolTest(unittest.TestCase):
         """Runs a tool that has to end with the status 2 and this one line."""
         ran = self.run_tool(name, *arguments, top=top, **environment)
         self.assertEqual((ran.returncode, ran.stdout, ran.stderr), (2, "", f"{name}: {says}\n"))
+
+
+def git(top, *words):
+    """Carries out a command of git in a folder. Returns what it printed."""
+    author = ["-c", "user.name=one", "-c", "user.email=one@example.com"]
+    done = subprocess.run(["git", *author, *words], cwd=top, check=True, capture_output=True)
+    return done.stdout.decode().strip()
+
+
+def commit(top):
+    """Makes a commit of all files of a folder. Returns its name."""
+    git(top, "init", "--quiet")
+    git(top, "add", "--all")
+    git(top, "commit", "--quiet", "--allow-empty", "--message", "One")
+    return git(top, "rev-parse", "HEAD")
 
 
 def change(path, old, new):
