@@ -132,12 +132,7 @@ TYPE = re.compile(r"(?:pub(?:\([a-z]+\))? )?(struct|enum|trait) (\w+)")
 @functools.cache
 def items_of(path):
     """The functions, types, macros and implementations of a source file, in its order."""
-    return items_in(path.read_text(encoding="utf-8"))
-
-
-def items_in(text):
-    """The items of the text of a source file."""
-    lines = text.splitlines()
+    lines = path.read_text(encoding="utf-8").splitlines()
     items, before, owner, at = [], Before(), "", 0
     while at < len(lines):
         line, start = lines[at], at
