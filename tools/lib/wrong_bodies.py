@@ -9,7 +9,7 @@ import tomllib
 from lib.command import TOP, Stopped
 
 BODIES = TOP / "tools" / "mutants.d"
-KEYS = {"what", "alone", "old", "new", "also", "seen", "file"}
+KEYS = {"what", "alone", "old", "new", "also", "seen"}
 
 
 class Failed(Stopped):
@@ -19,19 +19,18 @@ class Failed(Stopped):
 class Body:
     """A wrong body, as its table describes it."""
 
-    def __init__(self, place, name, table):
-        self.place, self.name = place, name
+    def __init__(self, place, file, name, table):
+        self.place, self.file, self.name = place, file, name
         for key in sorted(set(table) - KEYS):
             raise Failed(f"{place}: {name} has an unknown key {key}")
-        for key in ("what", "old", "new", "seen", "file"):
+        for key in ("what", "old", "new", "seen"):
             if not isinstance(table.get(key), str):
                 raise Failed(f"{place}: {name} has no text `{key}`")
-        self.what, self.file = " ".join(table["what"].split()), table["file"]
         self.alone = "alone" in table
-        # The crate that sees the body, and which test; empty if unknown.
+        # The crate that sees the body, and which test.
         self.seen = tuple(table["seen"].split(" ", 1))
         self.pairs = [(it["old"], it["new"]) for it in [table, *table.get("also", [])]]
-        if len(self.seen) != 2 or self.alone and not self.seen[0]:
+        if len(self.seen) != 2:
             raise Failed(f"{place}: `seen` of {name} is not CRATE and TEST")
 
     def spans(self, text):
@@ -58,11 +57,9 @@ def space(left, right):
 
 
 def bodies_of(path):
-    """The wrong bodies of a file of tools/mutants.d, or of one whose bodies name their files."""
-    place, more = path, {"seen": " "}
-    if BODIES in path.parents:
-        crate, *rest = path.relative_to(BODIES).with_suffix(".rt").parts
-        place, more = path.relative_to(TOP), {"file": "/".join(["crates", crate, "src", *rest])}
+    """The wrong bodies of a file of tools/mutants.d."""
+    crate, *rest = path.relative_to(BODIES).with_suffix(".rt").parts
+    place, file = path.relative_to(TOP), "/".join(["crates", crate, "src", *rest])
     try:
         tables = tomllib.loads(path.read_text(encoding="utf-8"))
     except tomllib.TOMLDecodeError as wrong:
@@ -70,13 +67,13 @@ def bodies_of(path):
     for name, table in tables.items():
         if not isinstance(table, dict):
             raise Failed(f"{place}: {name} is no table")
-        yield Body(place, name, {**more, **table})
+        yield Body(place, file, name, table)
 
 
-def wrong_bodies(path=None):
-    """The wrong bodies of a file, or all of tools/mutants.d, in the order of their files."""
+def wrong_bodies():
+    """The wrong bodies of tools/mutants.d, in the order of their files."""
     found = {}
-    for path in [path] if path else sorted(BODIES.rglob("*.toml")):
+    for path in sorted(BODIES.rglob("*.toml")):
         for body in bodies_of(path):
             if body.name in found:
                 raise Failed(f"{body.place}: {body.name} is also in {found[body.name].place}")

@@ -1,7 +1,6 @@
 """tools/mutants: wrong bodies fit the sources, and what does not is told. Nothing is built."""
 import contextlib
 import io
-import re
 import shutil
 import types
 import unittest
@@ -22,8 +21,7 @@ seen = "rows_tests drops_each_value_once"
 class Mutants(ToolTest):
     def test_an_edit_and_bodies_that_fit_no_source(self):
         said = self.passes("mutants", "--check")
-        count = re.match(r"(\d+) bodies and \d+ must-fail edits, 0 of them do not fit\n", said)
-        self.assertEqual(len(self.passes("mutants", "--list").splitlines()), int(count.group(1)))
+        self.assertRegex(said, r"\A\d+ bodies and \d+ must-fail edits, 0 of them do not fit\n")
         top = self.copy("proofs", "specs")
         shutil.rmtree(top / "crates" / "thin_rows" / "src")
         edit = top / "crates" / "thin_vec" / "must-fail" / "planted.edit"
@@ -53,21 +51,6 @@ class Mutants(ToolTest):
                 self.assertEqual(ran.returncode, status)
                 self.assertIn(says, ran.stderr)
 
-    def test_bodies_of_another_file(self):
-        path = self.folder() / "more.toml"
-        text = RIGHT.replace("rows_tests drops_each_value_once", "rows_tests typo")
-        path.write_text(f"[planted]{text}", encoding="utf-8")
-        says = f"{path}: planted has no text `file`"
-        self.refuses(says, "mutants", "--check", "--from", path)
-        file = "file = 'crates/thin_runner/src/lib.rt'\n"
-        path.write_text(f"[planted]{text}{file}", encoding="utf-8")
-        said = self.finds("mutants", "--check", "--from", path)
-        self.assertIn("planted: there is no rows_tests typo", said)
-        text = re.sub("seen.*", file, RIGHT)
-        path.write_text(f"[planted]{text}", encoding="utf-8")
-        said = self.passes("mutants", "--check", "--from", path)
-        self.assertTrue(said.startswith("1 bodies and "), said)
-
     def test_a_sample_is_of_one_crate_and_another_one_for_each_commit(self):
         mutants = load("mutants")
         bodies = mutants.wrong_bodies()
@@ -91,10 +74,9 @@ class Mutants(ToolTest):
             ("always", True, False, "NOT SEEN {}: no test fails\n", 1),
             ("sees", False, False, "seen {}: ported_tests sees\n", 0),
             ("blind", False, True, "NOT SEEN {}: ported_tests sees\n", 1),
-            ("", False, False, "seen {}: ported_tests sees\n", 0),
         ):
             body = mutants.wrong_bodies()[0]
-            body.seen, body.alone = ("ported_tests" if named else "", named), alone
+            body.seen, body.alone = ("ported_tests", named), alone
             options = types.SimpleNamespace(jobs=1, all=all_tests)
 
             def tests(copy, crate):

@@ -61,11 +61,6 @@ class Pages(ToolTest):
                 f"    // {94 * 'a'}\n",
                 "crates/thin_examples/src/main.rt:3: this line has 101 columns",
             ),
-            (
-                "README.md",
-                "\n| a | |---| | b |\n",
-                "README.md:11: rows of a table stand in one line",
-            ),
             ("README.md", "\nSee `src/no.rt`.\n", "README.md:11: there is no file src/no.rt"),
             ("README.md", "\nSee `src/no/`.\n", "README.md:11: there is no folder src/no/"),
             ("README.md", "\nRun `tools/no`.\n", "README.md:11: there is no tool no"),

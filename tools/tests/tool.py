@@ -41,18 +41,13 @@ def take_modules():
     return {name: sys.modules.pop(name) for name in own}
 
 
-def put_back(kept):
-    """Puts back the modules of this repository, in place of those of a copy."""
-    take_modules()
-    sys.modules.update(kept)
-
-
 def run(top, name, arguments, environment):
     """Runs a tool of the repository `top` in this process, which is quicker than in another one."""
     path, out, errors = str(top / "tools" / name), io.StringIO(), io.StringIO()
     kept = take_modules()
     with contextlib.ExitStack() as stack:
-        stack.callback(put_back, kept)
+        stack.callback(sys.modules.update, kept)
+        stack.callback(take_modules)
         stack.enter_context(mock.patch.object(sys, "path", [str(top / "tools"), *sys.path]))
         stack.enter_context(contextlib.redirect_stdout(out))
         stack.enter_context(contextlib.redirect_stderr(errors))
