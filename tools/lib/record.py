@@ -9,8 +9,9 @@ from lib.command import PRODUCT, TOP, Stopped, said_by
 
 RECORD = TOP / "docs" / "gate.toml"
 HEAD = """\
-# The last gate from nothing, which `tools/gate --record` writes, and the last trial of all wrong
-# bodies, which `tools/mutants` writes: how many were seen by what their files name.
+# `gate`: what `rt ci --anew` printed at its end, and how long it took; `tools/gate --record`
+# writes it. `wrong_bodies`: how many there were in a trial of all, and how many were seen by what
+# their files name; `tools/mutants` writes it.
 """
 
 

@@ -1,13 +1,10 @@
-"""tools/audit: it passes on the repository, and sees a new and a missing line."""
+"""tools/audit: it sees a new and a missing line."""
 import unittest
 
 from tool import ToolTest, change, load
 
 
 class Audit(ToolTest):
-    def test_the_repository_has_what_is_expected(self):
-        self.assertTrue(self.passes("audit").endswith("\naudit: ok\n"))
-
     def test_a_new_line_and_one_that_is_gone(self):
         top = self.copy("mutants.d", "docs")
         source = top / "crates" / "thin_runner" / "src" / "lib.rt"

@@ -90,6 +90,14 @@ class Gate(ToolTest):
         self.refuses(says, "gate", "--record", top=top, RT=self.rt)
         self.assertFalse(self.called.exists())
 
+    def test_how_many_processes_run_at_once(self):
+        gate = load("gate")
+        cases = (0, {}, "0"), (10**9, {}, None), (0, {"RT_JOBS": "7"}, "7")
+        for processors, given, wanted in cases:
+            with mock.patch.object(gate, "PROCESSORS", processors):
+                with mock.patch.dict("os.environ", given, clear=True):
+                    self.assertEqual(gate.environment().get("RT_JOBS"), wanted)
+
     def test_the_time_of_each_process(self):
         burns = "import time\nwhile time.process_time() < 0.6:\n    pass"
         top = self.repository(more=f"{sys.executable} -c '{burns}' & wait; sh -c 'sleep 0.2; :'")

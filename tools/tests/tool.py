@@ -16,15 +16,7 @@ from unittest import mock
 sys.dont_write_bytecode = True
 TOP = pathlib.Path(__file__).resolve().parents[2]
 sys.path.insert(0, str(TOP / "tools"))
-NAMES = (
-    "audit",
-    "compare_with_rust",
-    "gate",
-    "mutants",
-    "pages",
-    "reference",
-    "speed",
-)
+NAMES = ("audit", "compare_with_rust", "gate", "mutants", "pages", "reference", "speed")
 
 
 def load(name):
