@@ -61,7 +61,7 @@ def record_faults(readme):
     gate, bodies = (tables.get(name, {}) for name in ("gate", "wrong_bodies"))
     for name, table in tables.items():
         if has_history() and not leads_here(table.get("commit", "none")):
-            yield f"docs/gate.toml: the commit of `{name}` is none that led to this one"
+            yield f"docs/gate.toml: the commit of `{name}` did not lead to this one"
     if gate.get("failed") or bodies.get("seen") != bodies.get("bodies"):
         yield "docs/gate.toml: not all passed, or not all wrong bodies were seen"
     if gate.get("kit", "") not in " ".join(readme.split()):

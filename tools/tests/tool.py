@@ -14,6 +14,10 @@ import unittest
 from unittest import mock
 
 sys.dont_write_bytecode = True
+# A hook of git names its repository in variables, which would lead git there from a copy, too.
+for variable in [it for it in os.environ if it.startswith("GIT_")]:
+    del os.environ[variable]
+os.environ["GIT_CONFIG_GLOBAL"] = os.devnull
 TOP = pathlib.Path(__file__).resolve().parents[2]
 sys.path.insert(0, str(TOP / "tools"))
 NAMES = ("audit", "compare_with_rust", "gate", "mutants", "pages", "reference", "speed")
