@@ -25,10 +25,15 @@ def recorded():
         raise Stopped(f"{RECORD.relative_to(TOP)}: {wrong}") from None
 
 
+def git(*words):
+    """What git says of this clone, or an empty text if it fails, or if this is no clone."""
+    return said_by("git", *words) if (TOP / ".git").exists() else ""
+
+
 def commit_here():
     """The commit whose files stand here. There is none if a file but the record has changed."""
-    changed = said_by("git", "status", "--porcelain", "--", ".", f":!{RECORD.relative_to(TOP)}")
-    return "" if changed else said_by("git", "rev-parse", "HEAD")
+    changed = git("status", "--porcelain", "--", ".", f":!{RECORD.relative_to(TOP)}")
+    return "" if changed else git("rev-parse", "HEAD")
 
 
 def record(name, rt, commit, figures):
@@ -46,21 +51,16 @@ def record(name, rt, commit, figures):
 
 def leads_here(commit):
     """Whether the commit is here, and this one or one before it."""
-    return said_by("git", "merge-base", commit, "HEAD") == commit
-
-
-def has_history():
-    """Whether each commit before this one is here."""
-    is_shallow = said_by("git", "rev-parse", "--is-shallow-repository")
-    return (TOP / ".git").exists() and is_shallow == "false"
+    return git("merge-base", commit, "HEAD") == commit
 
 
 def record_faults(readme):
     """What is wrong with the record, beside the text of README."""
     tables = recorded()
     gate, bodies = (tables.get(name, {}) for name in ("gate", "wrong_bodies"))
+    has_history = git("rev-parse", "--is-shallow-repository") == "false"
     for name, table in tables.items():
-        if has_history() and not leads_here(table.get("commit", "none")):
+        if has_history and not leads_here(table.get("commit") or "none"):
             yield f"docs/gate.toml: the commit of `{name}` did not lead to this one"
     if gate.get("failed") or bodies.get("seen") != bodies.get("bodies"):
         yield "docs/gate.toml: not all passed, or not all wrong bodies were seen"
@@ -77,7 +77,7 @@ def record_age():
         return f"docs/gate.toml: commit {commit[:8]} is not here, so its product cannot be compared"
     parts = ("src", "specs", "proofs", "must-fail")
     folders = [f"crates/{crate}/{part}" for crate in PRODUCT for part in parts]
-    changed = said_by("git", "diff", "--name-only", commit, "--", *folders).split()
+    changed = git("diff", "--name-only", commit, "--", *folders).split()
     if not changed:
         return None
     since = f"since {commit[:8]}, {len(changed)} of its files have changed, such as {changed[0]}"

@@ -194,11 +194,11 @@ class Pages(ToolTest):
         commit(top)
         self.assertEqual(self.passes("pages", top=top), says)
         # A copy without the commit of the record cannot be compared with it.
-        shallow = self.folder() / "copy"
+        shallow, exported = self.folder() / "copy", top / "copy"
         git(top, "clone", "--quiet", "--depth=1", f"file://{top}", str(shallow))
-        shutil.rmtree(top / ".git")
+        shutil.copytree(shallow, exported, ignore=shutil.ignore_patterns(".git"))
         says = f"docs/gate.toml: commit {first[:8]} is not here, so its product cannot be compared"
-        for copy in (shallow, top):
+        for copy in (shallow, exported):
             self.assertEqual(self.passes("pages", top=copy), f"{says}\npages: ok\n")
 
     def test_a_wrong_record(self):
