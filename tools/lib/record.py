@@ -9,7 +9,7 @@ from lib.command import PRODUCT, TOP, Stopped, said_by
 
 RECORD = TOP / "docs" / "gate.toml"
 HEAD = """\
-# `gate`: what `rt ci --anew` printed at its end, and how long it took; `tools/gate --record`
+# `gate`: what `rt ci --anew` printed at its end, and how long it took; `tools/gate`
 # writes it. `wrong_bodies`: how many there were in a trial of all, and how many were seen by what
 # their files name; `tools/mutants` writes it.
 """
@@ -58,10 +58,6 @@ def record_faults(readme):
     """What is wrong with the record, beside the text of README."""
     tables = recorded()
     gate, bodies = (tables.get(name, {}) for name in ("gate", "wrong_bodies"))
-    has_history = git("rev-parse", "--is-shallow-repository") == "false"
-    for name, table in tables.items():
-        if has_history and not leads_here(table.get("commit") or "none"):
-            yield f"docs/gate.toml: the commit of `{name}` did not lead to this one"
     if gate.get("failed") or bodies.get("seen") != bodies.get("bodies"):
         yield "docs/gate.toml: not all passed, or not all wrong bodies were seen"
     if gate.get("kit", "") not in " ".join(readme.split()):
@@ -72,7 +68,7 @@ def record_age():
     """That there is no record of this product, or that this cannot be seen, or nothing."""
     commit = recorded().get("gate", {}).get("commit")
     if not commit:
-        return "docs/gate.toml has no gate: `tools/gate --record` writes it"
+        return "docs/gate.toml has no gate: `tools/gate` writes it"
     if not leads_here(commit):
         return f"docs/gate.toml: commit {commit[:8]} is not here, so its product cannot be compared"
     parts = ("src", "specs", "proofs", "must-fail")

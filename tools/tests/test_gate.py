@@ -1,4 +1,4 @@
-"""tools/gate: what it passes on, and what it records. `rt` is a short program of the test."""
+"""tools/gate: what it records. `rt` is a short program of the test."""
 import shutil
 import sys
 import tomllib
@@ -31,29 +31,19 @@ class Gate(ToolTest):
         self.called, self.rt, self.commit = folder / "called", str(rt), commit(top)
         return top
 
-    def test_it_passes_on_what_is_said(self):
-        for says, status in ((PASSED, 0), ("2 passed, 1 failed\n", 1), ("", 2)):
-            with self.subTest(says):
-                top = self.repository(says, status)
-                ran = self.run_tool("gate", top=top, RT=self.rt)
-                self.assertEqual((ran.returncode, ran.stdout, ran.stderr), (status, says, ""))
-                self.assertEqual(self.called.read_text(encoding="utf-8"), "ci\n")
-                self.assertFalse((top / "docs" / "gate.toml").exists())
-
     def test_an_edit_that_shows_little(self):
         for edit in ("rt: one: BAD EDIT: no", f"{EDIT} (only by a limit)", f"{EDIT} (only because"):
-            for arguments in ([], ["--record"]):
-                with self.subTest(edit, arguments=arguments):
-                    top = self.repository(f"{edit}\n{PASSED}")
-                    ran = self.run_tool("gate", *arguments, top=top, RT=self.rt)
-                    self.assertEqual((ran.returncode, ran.stderr), (1, f"{edit}\n"))
-                    self.assertFalse((top / "docs" / "gate.toml").exists())
+            with self.subTest(edit):
+                top = self.repository(f"{edit}\n{PASSED}")
+                ran = self.run_tool("gate", top=top, RT=self.rt)
+                self.assertEqual((ran.returncode, ran.stderr), (1, f"{edit}\n"))
+                self.assertFalse((top / "docs" / "gate.toml").exists())
 
     def test_a_record(self):
         top = self.repository()
         path = top / "docs" / "gate.toml"
         path.write_text("[wrong_bodies]\nbodies = 2\n\n[gate]\npassed = 9\n", encoding="utf-8")
-        said = self.passes("gate", "--record", top=top, RT=self.rt)
+        said = self.passes("gate", top=top, RT=self.rt)
         self.assertEqual(said, f"{PASSED}docs/gate.toml is written\n")
         self.assertEqual(self.called.read_text(encoding="utf-8"), "ci --anew\n")
         text = path.read_text(encoding="utf-8")
@@ -77,7 +67,7 @@ class Gate(ToolTest):
         ):
             with self.subTest(lines, more=more):
                 top = self.repository(lines, status, more)
-                ran = self.run_tool("gate", "--record", top=top, RT=self.rt)
+                ran = self.run_tool("gate", top=top, RT=self.rt)
                 self.assertEqual((ran.returncode, ran.stderr), ends)
                 self.assertFalse((top / "docs" / "gate.toml").exists())
 
@@ -85,25 +75,17 @@ class Gate(ToolTest):
         top = self.repository()
         (top / "new").touch()
         says = "the files are those of no commit, so there is nothing to record"
-        self.refuses(says, "gate", "--record", top=top, RT=self.rt)
+        self.refuses(says, "gate", top=top, RT=self.rt)
         shutil.rmtree(top / ".git")
-        self.refuses(says, "gate", "--record", top=top, RT=self.rt)
+        self.refuses(says, "gate", top=top, RT=self.rt)
         self.assertFalse(self.called.exists())
-
-    def test_how_many_processes_run_at_once(self):
-        gate = load("gate")
-        cases = (0, {}, "0"), (10**9, {}, None), (0, {"RT_JOBS": "7"}, "7")
-        for processors, given, wanted in cases:
-            with mock.patch.object(gate, "PROCESSORS", processors):
-                with mock.patch.dict("os.environ", given, clear=True):
-                    self.assertEqual(gate.environment().get("RT_JOBS"), wanted)
 
     def test_the_time_of_each_process(self):
         burns = "import time\nwhile time.process_time() < 0.6:\n    pass"
         top = self.repository(more=f"{sys.executable} -c '{burns}' & wait; sh -c 'sleep 0.2; :'")
         gate = load("gate")
         with mock.patch.object(gate, "RT", str(self.rt)), mock.patch("builtins.print"):
-            status, lines, (clock, processor) = gate.run_ci(["ci"])
+            status, lines, (clock, processor) = gate.run_ci()
         self.assertEqual((status, lines), (0, PASSED.splitlines()))
         self.assertGreater(60 * processor, 0.6)
         self.assertGreater(60 * clock, 0.8)
