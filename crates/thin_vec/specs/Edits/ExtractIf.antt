@@ -44,6 +44,7 @@ module _ {T F A : Type 0} (R : F → T → Bool → F → T → Type 0) where
     pub tail : new.block.tail ≡ old.block.tail
     pub capacity : new.block.capacity ≡ old.block.capacity
     pub alloc : new.block.alloc ≡ old.block.alloc
+    -- A kept item is moved if an item was yielded before it.
     pub cost : new.block.cost ≡ (if old.block.gap_before == 0 then old.block.cost else add_moves
         (length kept) old.block.cost)
 
@@ -147,7 +148,9 @@ module _ {T F A G H : Type 0} {g : Ghosts G} {h : IntoInnerGhosts H (ExtractStat
       items = (take start v.items ++ kept) ++ drop end v.items;
       cost = (list_after_extract_if last).cost;
     }
-    -- The items `kept` and those after the range are moved at most once each.
+    -- The items `kept` and those after the range are moved at most once each: those that follow a
+    -- yielded item. (`cost` of each call of `next` says so. If none was yielded, none is moved: the
+    -- field `unmoved` of `walk`.)
     pub moves_at_most : MovesAtMost (length kept + (length v.items - end)) v.cost
         (list_after_extract_if last).cost
 

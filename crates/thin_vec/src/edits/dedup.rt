@@ -26,8 +26,9 @@ impl<T: Drop, A: Allocator, G: Growth> ThinVec<T, A, G> {
         ensures filtered { IsDeduped (CalledAtPairMut F.FnMut) same self.old.items self.new.items }
         ensures bound { length self.new.items ≤ length self.old.items }
 
-        // The same, and how many items are moved. The clauses above and `moves_at_most` follow from
-        // it.
+        // The same, and how many items are moved: each kept item that follows a removed one, once
+        // (`moves_of_retain`). Nothing is requested or copied. The clauses above and
+        // `moves_at_most` follow from it.
         ensures deduped { IsDedupedBy (CalledAtPairMut F.FnMut) same self.old self.new }
         ensures moves_at_most { MovesAtMost (length self.new.items) self.old.cost
             self.new.cost }
@@ -71,8 +72,9 @@ impl<T: Drop, A: Allocator, G: Growth> ThinVec<T, A, G> {
         ensures filtered { IsDeduped (ComparesKeys F.FnMut K.eq) key self.old.items self.new.items }
         ensures bound { length self.new.items ≤ length self.old.items }
 
-        // The same, and how many items are moved. The clauses above and `moves_at_most` follow from
-        // it.
+        // The same, and how many items are moved: each kept item that follows a removed one, once
+        // (`moves_of_retain`). Nothing is requested or copied. The clauses above and
+        // `moves_at_most` follow from it.
         ensures deduped { IsDedupedBy (ComparesKeys F.FnMut K.eq) key self.old self.new }
         ensures moves_at_most { MovesAtMost (length self.new.items) self.old.cost
             self.new.cost }

@@ -16,7 +16,8 @@ use std::iter::FusedIterator;
 use thin_block::{Doubling, Growth};
 
 /// An iterator that removes the items of a range from a list. It is made by `ThinVec::drain`, and
-/// owns the allocation of the list until it is dropped.
+/// owns the allocation of the list until it is dropped. The reference has the contracts of `next`,
+/// `next_back` and `drop` under "Traits of `Drain`".
 pub struct Drain<
     'a,
     T,
@@ -111,7 +112,9 @@ impl<'a, T: Drop, A: Allocator, G: Growth> Iterator for Drain<'a, T, A, G> {
 
     type Item = T;
 
-    // What one call to `next` does: its contract.
+    // What one call to `next` does, its contract: it takes the first of the remaining items and
+    // returns it, or returns `None` if there is none (`gave`). It changes neither the list that is
+    // borrowed nor the one that the drop will leave, nor its cost (`keeps`).
     ghost next_gives = { DrainSteps };
 
     ghost remaining = { item_count drain_rest };
@@ -135,7 +138,7 @@ impl<'a, T: Drop, A: Allocator, G: Growth> Iterator for Drain<'a, T, A, G> {
 impl<'a, T: Drop, A: Allocator, G: Growth> DoubleEndedIterator for Drain<'a, T, A, G> {
     ghost use Rattle.thin_vec.specs.Edits.Drain.{DrainStepsBack};
 
-    // What one call to `next_back` does: its contract.
+    // What one call to `next_back` does, its contract: the same with the last of them.
     ghost next_back_gives = { DrainStepsBack };
 
     #[tactic(auto, unfolding(crate::specs::Edits::Drain::list_after_drain))]

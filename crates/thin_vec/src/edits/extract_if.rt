@@ -177,6 +177,7 @@ impl<'a, T: Drop, F: FnMut(&mut T) -> bool, A: Allocator, G: Growth> Iterator
 
     type Item = T;
 
+    // This is the precondition `callable` of the inherent `next`.
     ghost can_next = { λ extract. always_mut F.FnMut (extract_closure extract) };
 
     // What one call to `next` does: its contract.

@@ -23,8 +23,9 @@ impl<T: Drop, A: Allocator, G: Growth> ThinVec<T, A, G> {
         ensures filtered { IsFiltered (CalledAt F.FnMut) keep self.old.items self.new.items }
         ensures bound { length self.new.items ≤ length self.old.items }
 
-        // The same, and how many items are moved. The clauses above and `moves_at_most` follow from
-        // it.
+        // The same, and how many items are moved: each kept item that follows a removed one, once
+        // (`moves_of_retain`). Nothing is requested or copied. The clauses above and
+        // `moves_at_most` follow from it.
         ensures retained { IsRetained (CalledAt F.FnMut) keep self.old self.new }
         ensures moves_at_most { MovesAtMost (length self.new.items) self.old.cost
             self.new.cost }
@@ -47,8 +48,9 @@ impl<T: Drop, A: Allocator, G: Growth> ThinVec<T, A, G> {
         ensures filtered { RetainsInTurn (CalledAtMut F.FnMut) keep self.old.items self.new.items }
         ensures bound { length self.new.items ≤ length self.old.items }
 
-        // The same, and how many items are moved. The clauses above and `moves_at_most` follow from
-        // it.
+        // The same, and how many items are moved: each kept item that follows a removed one, once
+        // (`moves_of_retain`). Nothing is requested or copied. The clauses above and
+        // `moves_at_most` follow from it.
         ensures retained { IsRetainedMut (CalledAtMut F.FnMut) keep self.old self.new }
         ensures moves_at_most { MovesAtMost (length self.new.items) self.old.cost
             self.new.cost }

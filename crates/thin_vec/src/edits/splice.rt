@@ -134,7 +134,9 @@ impl<
     /// If no item follows the range, `finish` appends the items of the iterator as `extend` does.
     /// Otherwise, it fills the slots of the range, and then as many new slots as the lower bound of
     /// the size hint. It collects any further items in a vector that uses `alloc`, and then moves
-    /// them into the list. On success, `alloc` is dropped. On failure, `held` owns it.
+    /// them into the list. (Tests show how many slots are new, and which allocator the vector uses.
+    /// The contract says that the range and the new slots, if there are any, are no more than the
+    /// limit of the iterator.) On success, `alloc` is dropped. On failure, `held` owns it.
     ///
     /// # Errors
     ///
@@ -171,7 +173,10 @@ impl<
             (size (I.remaining (splice_iter self.entry))) → IsOk result }
 
         // On failure, the list may have some of the new items. The error has all others, in the
-        // order `held`, `in_hand`, `rest`. One field of `cause` applies to each error.
+        // order `held`, `in_hand`, `rest`. `cause` says what failed. If the error has no item, the
+        // list had no room for what was to be reserved (`by_hint`); if it has items only in `held`,
+        // for these (`by_held`). If it has an item in hand, the vector got no memory for this item
+        // (`by_in_hand`) or, if no item follows the range, the list had no room for it (`by_push`).
         ensures placed { IfErr result (λ error. (xs : List T)
             × (self.exit.0.now.items ≡ (splice_front self.entry ++ xs) ++ splice_tail self.entry)
             × SpliceErrorAccountsFor I.next_gives I.can_next I.remaining
@@ -206,8 +211,9 @@ impl<
             splice_tail self.entry ≡ []
             → (h : ℕ) × IsWithinCount h (I.remaining (splice_iter self.entry))
             × IsAfterExtend G.rule T.row old h new }
-        // If items follow the range, the call reserves `h` slots more than the range has, and fails
-        // only once all of these slots are full.
+        // If items follow the range, the list grows at most twice: the call reserves `h` slots more
+        // than the range has, and once all of these are full, room for all items that are left. It
+        // fails only once they are full.
         ensures before_tail { let old = list_without_range self.entry in
             let new = self.exit.0.now in
             0 < length (splice_tail self.entry) → (h : ℕ)

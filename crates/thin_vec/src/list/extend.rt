@@ -185,6 +185,9 @@ impl<T, A: Allocator> ThinVec<T, A> {
         ensures items { IfOk result (λ list. Drains I.next_gives iter list.items) }
         ensures runs { IfOk result
             (λ list. WholeRun I.next_gives iter (λ p. list.items ≡ p.items)) }
+        // Capacity and cost are those of a list that was made with the capacity `h`, some number
+        // within the limit, and then got each item by `push`. Tests show that `h` is the lower
+        // bound in the size hint.
         ensures new { IfOk result
             (λ list. IsCollectedList doubling T.row alloc list (I.remaining iter)) }
 
@@ -258,7 +261,9 @@ impl<T: Drop, A: Allocator> FromIterator<T> for ThinVec<T, A> {
 
     ghost from_iter_gives = { IsCollectedFrom T.row };
 
-    // Does the same as the inherent method, but drops the error.
+    // Does the same as the inherent method, but drops the error. The contract, which is that of the
+    // trait, names neither the allocator nor a failure, and no bound on `h`: call the inherent
+    // method if you need them.
     fn from_iter<U: IntoIterator<Item = T>>(
         alloc: A,
         iter: U,

@@ -165,7 +165,9 @@ impl<T, A: Allocator, G: Growth> ThinVec<T, A, G> {
         self.as_mut_slice().sort_unstable();
     }
 
-    /// Does the same as `sort_unstable`, in the order of `compare`, as `sort_by` does.
+    /// Sorts the items in the order of `compare` without requesting memory. Ties may change places.
+    /// If the answers of `compare` do not form a strict weak order on all values of the type, the
+    /// items end up in some order.
     pub fn sort_unstable_by<F: FnMut(&T, &T) -> Ordering>(&mut self, compare: F)
         requires callable { F.IsAlwaysCallable compare }
         // If `compare` answers by a strict weak order, the items are sorted by it.
