@@ -65,3 +65,38 @@ fn closures_count_their_calls_in_a_variable(rt: HostRuntime) {
     check!(rt; same((resized, calls), (Ok(()), 14)));
     check!(rt; same_items(&list, &[1, 2, 9, 9]));
 }
+
+#[test]
+fn the_closure_of_a_sort_counts_its_calls_in_a_variable(rt: HostRuntime) {
+    let mut list = check!(rt; list_of(rt.alloc(), &[4, 2, 1]));
+    let mut calls: u32 = 0;
+    check!(rt; list.sort_by_cached_key(|item| {
+        calls = calls.wrapping_add(1);
+        *item
+    }));
+    check!(rt; same(calls, 3));
+    check!(rt; same_items(&list, &[1, 2, 4]));
+}
+
+// Extracts the first item that `pick` chooses.
+fn extract_first<F: FnMut(&mut i32) -> bool + Drop>(
+    list: &mut ThinVec<i32>,
+    pick: F,
+) -> Option<i32>
+    requires pre { (f : _) (x : _) → F.pre f x }
+{
+    let mut picked = list.extract_if(0, list.len(), pick);
+    picked.next()
+}
+
+#[test]
+fn the_closure_of_extract_if_counts_its_calls_in_a_variable(rt: HostRuntime) {
+    let mut list = check!(rt; list_of(rt.alloc(), &[4, 3, 2, 1]));
+    let mut calls: u32 = 0;
+    let first = extract_first(&mut list, |item| {
+        calls = calls.wrapping_add(1);
+        *item % 2 == 1
+    });
+    check!(rt; same((first, calls), (Some(3), 2)));
+    check!(rt; same_items(&list, &[4, 2, 1]));
+}
