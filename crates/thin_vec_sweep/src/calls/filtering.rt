@@ -1,5 +1,7 @@
 //! Calls that remove the items that a closure, or a comparison, chooses.
-ghost use Rattle.std.specs.Prelude.{◌≤◌, length};
+ghost use Rattle.std.proofs.Common.{rules};
+ghost use Rattle.std.specs.Cmp.Rules.{comparing};
+ghost use Rattle.std.specs.Prelude.{◌==◌, ◌≤◌, length};
 
 use crate::asserts::{assert_range, assert_same};
 use crate::sweep::Calls;
@@ -27,7 +29,7 @@ impl<T: Numbered, G: Growth> Calls<T, G> for Filtering {
             3 => pop_if(case),
             4 => dedup(case),
             5 => dedup_by(case),
-            6 => dedup_by_key(case),
+            6 => dedup_by_key(rt, case),
             _ => return None,
         })
     }
@@ -96,18 +98,50 @@ fn dedup_by<T: Numbered, G: Growth>(case: &mut Case<T, G>) -> Answer {
     Ok(Due::calls(case.at.length.saturating_sub(1)))
 }
 
+// The key of an item. Two keys are equal if their numbers are. The key owns the counter of the
+// calls of the closure, which counts comparisons, too, and shows whether the key is dropped.
+#[derive(Drop)]
+struct Key {
+    number: u64,
+    counter: Option<Rc<Cell<u64>>>,
+}
+
+impl PartialEq for Key {
+    ghost eq = { λ key other. key.number == other.number };
+
+    ghost laws = { Prim.search (comparing, rules) };
+
+    fn eq(&self, other: &Key) -> bool {
+        if let Some(counter) = &self.counter {
+            let _earlier = next_call(counter);
+        }
+        self.number == other.number
+    }
+}
+
 // Two calls make the keys of two neighbours, first that of the later item, and then the keys are
-// compared once. The key of a kept item is 0, and the later item is removed if its key is 0. Keys
-// are counted, so items are, too.
-fn dedup_by_key<T: Numbered, G: Growth>(case: &mut Case<T, G>) -> Answer {
-    let (at, ledger, token) = (case.at, case.ledger, case.token());
+// compared once. The key of a kept item is 0, and the later item is removed if its key is 0.
+fn dedup_by_key<T: Numbered, G: Growth, R: Abort>(rt: &R, case: &mut Case<T, G>) -> Answer {
+    let at = case.at;
+    let calls = no_calls(rt, case.ledger.global);
+    let counter = calls.clone().expect(rt, "memory");
     case.begin("dedup_by_key");
-    case.list.dedup_by_key(move |_item| {
-        let _token = &token;
-        let call = ledger.called();
-        u64::from(call % 2 == 0 && at.keeps(call / 2))
+    dedup_counted(&mut case.list, (at.length, at.argument), counter);
+    assert_calls(rt, at, &calls, (at.length as u64).saturating_sub(1).saturating_mul(3));
+    Ok(Due::NOTHING)
+}
+
+// Passes to `dedup_by_key` a closure that owns the counter.
+fn dedup_counted<T: Numbered, A: Allocator, G: Growth>(
+    list: &mut ThinVec<T, A, G>,
+    chosen: (usize, usize),
+    counter: Rc<Cell<u64>>,
+) {
+    list.dedup_by_key(move |_item| {
+        let call = next_call(&counter);
+        let keeps = At::new(chosen.0, 0, chosen.1).keeps(call / 3);
+        Key { number: u64::from(call % 3 == 0 && keeps), counter: counter.clone().ok() }
     });
-    Ok(Due::calls(case.at.length.saturating_sub(1).saturating_mul(2)))
 }
 
 // Makes a counter of calls.
