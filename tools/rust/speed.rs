@@ -29,6 +29,10 @@ fn named(workload: &str) -> Option<fn(usize, usize) -> u64> {
         "push_u16" => |size, times| push(size, times, Vec::new, |number| number as u16),
         "push_u32" => |size, times| push(size, times, Vec::new, |number| number as u32),
         "push_u128" => |size, times| push(size, times, Vec::new, sixteen),
+        "push_3" => |size, times| push(size, times, Vec::new, |number| [number as u8; 3]),
+        "push_5" => |size, times| push(size, times, Vec::new, |number| [number as u8; 5]),
+        "push_12" => |size, times| push(size, times, Vec::new, |number| [number as u32; 3]),
+        "push_20" => |size, times| push(size, times, Vec::new, |number| [number as u32; 5]),
         "push_triples" => |size, times| push(size, times, Vec::new, wide::<2>),
         "push_wide" => |size, times| push(size, times, Vec::new, wide::<39>),
         "push_strings" => |size, times| push(size, times, Vec::new, word),
@@ -131,6 +135,18 @@ impl Item for u32 {
 impl Item for u128 {
     fn number(&self) -> u64 {
         *self as u64
+    }
+}
+
+impl<const N: usize> Item for [u8; N] {
+    fn number(&self) -> u64 {
+        self.first().map_or(0, |byte| *byte as u64)
+    }
+}
+
+impl<const N: usize> Item for [u32; N] {
+    fn number(&self) -> u64 {
+        self.first().map_or(0, |word| *word as u64)
     }
 }
 

@@ -27,6 +27,14 @@ pub trait Family {
 
     type Sixteens: Filtered<u128>;
 
+    type Threes: List<[u8; 3]>;
+
+    type Fives: List<[u8; 5]>;
+
+    type Twelves: List<[u32; 3]>;
+
+    type Twenties: List<[u32; 5]>;
+
     type Triples: List<Wide<2>>;
 
     type Wides: List<Wide<39>>;

@@ -75,6 +75,28 @@ impl Item for u64 {
     }
 }
 
+impl<const N: usize> Item for [u8; N] {
+    // Returns the first byte of the item, or 0.
+    #[inline(always)]
+    fn number(&self) -> u64 {
+        match self.first() {
+            Some(byte) => *byte as u64,
+            None => 0,
+        }
+    }
+}
+
+impl<const N: usize> Item for [u32; N] {
+    // Returns the first word of the item, or 0.
+    #[inline(always)]
+    fn number(&self) -> u64 {
+        match self.first() {
+            Some(word) => *word as u64,
+            None => 0,
+        }
+    }
+}
+
 impl<const REST: usize> Item for Wide<REST> {
     #[inline(always)]
     fn number(&self) -> u64 {
@@ -100,7 +122,8 @@ pub trait Source<T: Drop> {
 }
 
 /// A `Source` that makes the items 0, 1, 2 and so on. A number is truncated to the width of the
-/// item type. Each word of a `Wide` has the same number, and all strings have the same text.
+/// item type. Each word of a `Wide` or of an array has the same number. All strings have the same
+/// text.
 pub struct InTurn;
 
 impl Source<u8> for InTurn {
@@ -135,6 +158,20 @@ impl Source<u64> for InTurn {
     #[inline(always)]
     fn item(_alloc: Global, number: usize) -> Result<u64, AllocError> {
         Ok(number as u64)
+    }
+}
+
+impl<const N: usize> Source<[u8; N]> for InTurn {
+    #[inline(always)]
+    fn item(_alloc: Global, number: usize) -> Result<[u8; N], AllocError> {
+        Ok([(number & 0xff) as u8; N])
+    }
+}
+
+impl<const N: usize> Source<[u32; N]> for InTurn {
+    #[inline(always)]
+    fn item(_alloc: Global, number: usize) -> Result<[u32; N], AllocError> {
+        Ok([(number & 0xffff_ffff) as u32; N])
     }
 }
 

@@ -18,6 +18,14 @@ impl Family for Kit {
 
     type Sixteens = Vec<u128>;
 
+    type Threes = Vec<[u8; 3]>;
+
+    type Fives = Vec<[u8; 5]>;
+
+    type Twelves = Vec<[u32; 3]>;
+
+    type Twenties = Vec<[u32; 5]>;
+
     type Triples = Vec<Wide<2>>;
 
     type Wides = Vec<Wide<39>>;

@@ -19,6 +19,14 @@ impl Family for Thin {
 
     type Sixteens = ThinVec<u128>;
 
+    type Threes = ThinVec<[u8; 3]>;
+
+    type Fives = ThinVec<[u8; 5]>;
+
+    type Twelves = ThinVec<[u32; 3]>;
+
+    type Twenties = ThinVec<[u32; 5]>;
+
     type Triples = ThinVec<Wide<2>>;
 
     type Wides = ThinVec<Wide<39>>;
