@@ -1,5 +1,8 @@
 //! Tests of the calls that take an allocator. What they make uses this allocator, and not that of
 //! the list, even if the list is empty. A list drops an allocator that it owns.
+ghost use Rattle.std.specs.Mem.{type_size};
+ghost use Rattle.std.specs.Prelude.{◌*◌, ◌<◌, ◌^◌};
+
 use std::alloc::{Allocator, Global};
 use std::default::Emptied;
 use std::io;
@@ -7,8 +10,8 @@ use std::process::Abort;
 use std::rc::Rc;
 use thin_runner::hinted::Hinted;
 use thin_testing::{
-    Counted, Ledger, Lender, Refusing, check, counts, has_len, list_of, numbered_items, same,
-    splice,
+    Counted, Ledger, Lender, Numbered, Refusing, check, counts, has_len, list_of, numbered_items,
+    same, splice,
 };
 use thin_vec::{ThinVec, ThinVecError, thin_vec};
 
@@ -78,7 +81,13 @@ type Item = Counted<'static>;
 const CALLS: [u32; 2] = [11, 8];
 
 // Ends the list by a call that makes at most something of its items.
-fn end(call: u32, mut list: ThinVec<Item, Owned>, alloc: Owned) -> io::Result<()> {
+fn end<T: Numbered, A: Allocator>(
+    call: u32,
+    mut list: ThinVec<T, A>,
+    alloc: A,
+) -> io::Result<()>
+    requires small { 3 * type_size T.row < 2 ^ 63 }
+{
     let len = list.len();
     match call {
         0 => drop(list),
