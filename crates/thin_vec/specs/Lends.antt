@@ -8,7 +8,7 @@ use Rattle.thin_block.specs.declared.growth.Growth.{Ghosts as GrowthGhosts}
 use Rattle.thin_vec.specs.ThinVec.{ListView}
 use Rattle.thin_vec.specs.contracts.convert.into_iter.IntoIter.{the_row as iterator_row}
 use Rattle.thin_vec.specs.contracts.list.ThinVec.{the_row}
-pub use Rattle.thin_vec.specs.VecWords.{with_item, with_items}
+pub use Rattle.thin_vec.specs.VecWords.{with_item, with_items, with_items_from}
 
 module _ (T A G : RattleType) (a : AllocatorGhosts A.Denot) (g : GrowthGhosts G.Denot)
     (v : MutBor (ListView T.Denot A.Denot)) where
@@ -17,6 +17,12 @@ module _ (T A G : RattleType) (a : AllocatorGhosts A.Denot) (g : GrowthGhosts G.
   -- through `r`.
   abbrev pub LendsItems : MutBor (List T.Denot) → Fml
   LendsItems r = Lends (the_row T A G a g) (Array T 0) v r (with_items v.now)
+
+  -- `LendsItemsFrom i r` states that the reference `r` borrows items of the list to which the
+  -- reference `v` points, from index `i` onward. When the borrow ends, the items that were written
+  -- through `r` are in their place.
+  abbrev pub LendsItemsFrom : ℕ → MutBor (List T.Denot) → Fml
+  LendsItemsFrom i r = Lends (the_row T A G a g) (Array T 0) v r (with_items_from v.now i)
 
   -- `LendsItem i r` states that the reference `r` borrows the item at index `i` of the list to
   -- which the reference `v` points. When the borrow ends, the item at this index is the value that

@@ -3,3 +3,4 @@ pub mod Capacity
 pub mod Clones
 pub mod Extend
 pub mod InsertRemove
+pub mod Resize

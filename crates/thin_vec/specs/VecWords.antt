@@ -1,6 +1,6 @@
 -- These words name the parts of a list as std's words name those of a `Vec`. A proof about a `Vec`
 -- that uses them becomes one about a `ThinVec` if it imports them from this file.
-use Rattle.std.specs.Prelude.{ℕ, List, Option, length, slice_set}
+use Rattle.std.specs.Prelude.{ℕ, List, ◌++◌, Option, drop, length, slice_set, take}
 use Rattle.std.specs.Iterator.{YieldsFirst, YieldsLast}
 use Rattle.std.specs.List.{refill}
 use Rattle.thin_vec.specs.ThinVec.{ListView}
@@ -34,6 +34,13 @@ module _ {T A : Type 0} where
   -- length does not change, so items of `ws` beyond the length of `v` are ignored.
   abbrev pub with_items : ListView T A → List T → ListView T A
   with_items v ws = record v { items = refill (length v.items) v.items ws }
+
+  -- `with_items_from v i ws` is the list `v` after its first items from index `i` onward were
+  -- replaced with the items `ws`. The length does not change, as in `with_items`.
+  abbrev pub with_items_from : ListView T A → ℕ → List T → ListView T A
+  with_items_from v i ws = record v {
+    items = take i v.items ++ refill (length (drop i v.items)) (drop i v.items) ws;
+  }
 
   -- `with_item v i w` is the list `v` after the item at index `i` was replaced with `w`.
   abbrev pub with_item : ListView T A → ℕ → T → ListView T A

@@ -205,7 +205,7 @@ fn cases<C: Calls<T, Doubling>, T: Numbered, R: Abort>(rt: &R, ledger: &'static 
 #[test]
 fn each_group_makes_each_of_its_calls_with_each_argument(rt: HostRuntime) {
     let ledger = Ledger::leaked(rt.alloc()).expect(&rt, "memory");
-    assert_eq!(rt; cases::<Adding, Small, _>(&rt, ledger), 40 * 8 + 5 * 6);
+    assert_eq!(rt; cases::<Adding, Small, _>(&rt, ledger), 40 * 9 + 5 * 6);
     assert_eq!(rt; cases::<Bytes, u8, _>(&rt, ledger), 8 * 3);
     assert_eq!(rt; cases::<Comparing, Small, _>(&rt, ledger), 5 * 3);
     assert_eq!(rt; cases::<Copying, u8, _>(&rt, ledger), 200 + 8 * 4);
@@ -214,7 +214,7 @@ fn each_group_makes_each_of_its_calls_with_each_argument(rt: HostRuntime) {
     assert_eq!(rt; cases::<Reading, Small, _>(&rt, ledger), 5 * 4);
     assert_eq!(rt;
         cases::<Removing, Small, _>(&rt, ledger),
-        150 * 3 + 25 + 10 * 10
+        150 * 3 + 25 + 10 * 12
     );
     assert_eq!(rt; cases::<Replacing, Small, _>(&rt, ledger), 200 * 2 + 5 * 2);
 }

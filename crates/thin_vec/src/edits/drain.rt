@@ -88,6 +88,8 @@ impl<T: Drop, A: Allocator, G: Growth> ThinVec<T, A, G> {
         ensures runs_back { DrainYieldsInReverse result }
         ensures next_keeps { DrainKeepsAlong result }
     {
+        prove!(start <= end);
+        prove!(end <= self.len());
         let block = self.open(start, end);
         Drain {
             list: self,

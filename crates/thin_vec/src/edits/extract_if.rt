@@ -144,6 +144,8 @@ impl<T: Drop, A: Allocator, G: Growth> ThinVec<T, A, G> {
         ensures walk { ExtractsToEnd (CalledAtMut F.FnMut) result }
         ensures walked { ExtractsRange (CalledAtMut F.FnMut) pick self.old start end result }
     {
+        prove!(start <= end);
+        prove!(end <= self.len());
         let block = self.open(start, end);
         let picks = ExtractBy { pick };
         ExtractIf {

@@ -63,8 +63,9 @@ impl<T: Clone, A: Allocator, G: Growth> ThinVec<T, A, G> {
         ensures had_room { HasRoomFor self.old (length items.now - (end - start))
             → self.new.capacity ≡ self.old.capacity }
     {
-        // Only the proof needs this call: its contract says that the list `IsBounded`.
-        let _len = self.len();
+        let len = self.len();
+        prove!(start <= end);
+        prove!(end <= len);
         if !fits::<T>(items.len()) {
             return Err(ThinVecError::CapacityOverflow);
         }

@@ -49,6 +49,8 @@ impl<T: Copy, A: Allocator, G: Growth> ThinVec<T, A, G> {
         ensures had_room { HasRoomFor self.old (length items.now - (end - start))
             → self.new.capacity ≡ self.old.capacity }
     {
+        prove!(start <= end);
+        prove!(end <= self.len());
         let more = items.len().saturating_sub(end - start);
         // With `?`, the proof of `overflow` would not see the cause behind `From`.
         match self.reserve(more) {
@@ -107,6 +109,8 @@ impl<T: Drop, A: Allocator, G: Growth> ThinVec<T, A, G> {
         ensures had_room { HasRoomFor self.old (length other.old.items - (end - start))
             → self.new.capacity ≡ self.old.capacity }
     {
+        prove!(start <= end);
+        prove!(end <= self.len());
         // `reserve` is called without `?`, for the same reason as in `replace_range_from_copies`.
         let more = other.len().saturating_sub(end - start);
         match self.reserve(more) {

@@ -73,6 +73,8 @@ impl<T, A: Allocator, G: Growth> ThinVec<T, A, G> {
         // Which list is borrowed.
         ensures same_reference { splice_lender result ≡ self.entry.ghost_name }
     {
+        prove!(start <= end);
+        prove!(end <= self.len());
         let block = self.open(start, end);
         Splice {
             list: self,

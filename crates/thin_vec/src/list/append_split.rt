@@ -84,7 +84,9 @@ impl<T, A: Allocator, G: Growth> ThinVec<T, A, G> {
         // This follows from `changes`.
         ensures capacity { self.new.capacity ≡ self.old.capacity }
     {
-        let mut tail = ThinVec::with_fitting_capacity(alloc, self.len() - at)?;
+        let len = self.len();
+        prove!(at <= len);
+        let mut tail = ThinVec::with_fitting_capacity(alloc, len - at)?;
         tail.append_from(self, at);
         Ok(tail)
     }

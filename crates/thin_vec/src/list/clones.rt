@@ -225,6 +225,8 @@ impl<T: Clone, A: Allocator, G: Growth> ThinVec<T, A, G> {
         ensures had_room { HasRoomFor self.old (end - start)
             → self.new.capacity ≡ self.old.capacity }
     {
+        prove!(start <= end);
+        prove!(end <= self.len());
         self.reserve(end - start)?;
         let len = self.len();
         if self.push_clones_within(start, end) < end - start {

@@ -75,8 +75,8 @@ impl<T, A: Allocator, G: Growth> IndexMut<usize> for ThinVec<T, A, G> {
         // This follows from `found`.
         ensures value { result.now ≡ slice_index_or self.old.items index result.now }
     {
-        // Only the proof needs this call: its contract says that the list `IsBounded`.
-        let _len = self.len();
+        let len = self.len();
+        prove!(index < len);
         self.block.slot_mut(index)
     }
 }

@@ -1,5 +1,5 @@
 //! The methods that insert or remove single items, and `truncate` and `clear`.
-ghost use Rattle.std.specs.Prelude.{◌≡◌, ◌⊎◌, ◌+◌, ◌-◌, ◌*◌, ◌<◌, ◌≤◌, ◌==◌, [], IfErr, IfOk, IsErr, IsOk, None, is_ok, OnErr, OnOk, Some, if◌then◌else◌, insert, length, remove, slice_get, slice_index_or, take};
+ghost use Rattle.std.specs.Prelude.{◌≡◌, ◌⊎◌, ◌+◌, ◌-◌, ◌*◌, ◌<◌, ◌≤◌, ◌==◌, ◌↔◌, [], IfErr, IfNone, IfOk, IfSome, IsErr, IsOk, IsSome, None, is_ok, OnErr, OnOk, OnSome, Some, if◌then◌else◌, insert, length, remove, slice_get, slice_index_or, take};
 ghost use Rattle.std.specs.List.{swap_remove};
 ghost use Rattle.std.specs.List.Retain.{PopsIf};
 ghost use types.Logic.{sem};
@@ -52,6 +52,7 @@ impl<T, A: Allocator, G: Growth> ThinVec<T, A, G> {
             ≡ (if is_ok result then length self.old.items + 1 else length self.old.items) }
         ensures had_room { HasRoomFor self.old 1 → self.new.capacity ≡ self.old.capacity }
     {
+        prove!(index <= self.len());
         if let Err(cause) = self.reserve(1) {
             return Err(Rejected { value, cause });
         }
@@ -69,6 +70,7 @@ impl<T, A: Allocator, G: Growth> ThinVec<T, A, G> {
         ensures cost { self.new.cost ≡ add_moves (length self.old.items - index + 1) self.old.cost }
         ensures preserved { PreservesList T.row self.old self.new }
     {
+        prove!(index <= self.len());
         let len = self.block.len();
         self.block.move_run(index, index + 1, len - index);
         self.block.put_and_set_len(index, value, len + 1);
@@ -118,6 +120,7 @@ impl<T, A: Allocator, G: Growth> ThinVec<T, A, G> {
         // This follows from `found`.
         ensures value { result ≡ slice_index_or self.old.items index result }
     {
+        prove!(index < self.len());
         let len = self.block.len();
         let value = self.block.take(index);
         self.block.move_down(index, 1, len - (index + 1));
@@ -140,10 +143,68 @@ impl<T, A: Allocator, G: Growth> ThinVec<T, A, G> {
         // This follows from `found`.
         ensures value { result ≡ slice_index_or self.old.items index result }
     {
+        prove!(index < self.len());
         let last = self.block.len() - 1;
         let value = self.block.swap_take(index, last);
         self.block.store_len(last);
         value
+    }
+
+    /// Removes the item at `index` and returns it, like `remove`, or returns `None` if there is no
+    /// such item.
+    pub fn try_remove(&mut self, index: usize) -> Option<T>
+        // The item at `index`, if there is one.
+        ensures found { slice_get self.old.items index ≡ result }
+
+        // If an item is removed.
+        ensures items { OnSome result (self.new.items ≡ remove self.old.items index) }
+        ensures cost { OnSome result (self.new.cost ≡ add_moves
+            (length self.old.items - (index + 1)) self.old.cost) }
+
+        // If there is none: nothing changes.
+        ensures unchanged { IfNone result (self.new ≡ self.old) }
+
+        // In every case.
+        ensures capacity { self.new.capacity ≡ self.old.capacity }
+        ensures preserved { PreservesList T.row self.old self.new }
+
+        // This follows from `found`.
+        ensures variant { IsSome result ↔ (index < length self.old.items) }
+    {
+        if index < self.len() {
+            Some(self.remove(index))
+        } else {
+            None
+        }
+    }
+
+    /// Removes the item at `index` and returns it, like `swap_remove`, or returns `None` if there
+    /// is no such item.
+    pub fn try_swap_remove(&mut self, index: usize) -> Option<T>
+        // The item at `index`, if there is one.
+        ensures found { slice_get self.old.items index ≡ result }
+
+        // If an item is removed.
+        ensures items { IfSome result
+            (λ item. self.new.items ≡ swap_remove self.old.items index item) }
+        ensures cost { OnSome result (self.new.cost ≡ add_moves
+            (if index + 1 == length self.old.items then 0 else 1) self.old.cost) }
+
+        // If there is none: nothing changes.
+        ensures unchanged { IfNone result (self.new ≡ self.old) }
+
+        // In every case.
+        ensures capacity { self.new.capacity ≡ self.old.capacity }
+        ensures preserved { PreservesList T.row self.old self.new }
+
+        // This follows from `found`.
+        ensures variant { IsSome result ↔ (index < length self.old.items) }
+    {
+        if index < self.len() {
+            Some(self.swap_remove(index))
+        } else {
+            None
+        }
     }
 
     /// Removes the last item and returns it if `predicate` returns true for it. Otherwise, the item

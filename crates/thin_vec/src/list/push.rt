@@ -75,7 +75,9 @@ impl<T, A: Allocator, G: Growth> ThinVec<T, A, G> {
         // This follows from `items`.
         ensures len { length self.new.items ≡ length self.old.items + 1 }
     {
-        self.push_at(self.len(), value);
+        let len = self.len();
+        prove!(len < self.capacity());
+        self.push_at(len, value);
     }
 
     // Appends `value` to a list of `len` items that has room for it. The argument `len` spares

@@ -1,9 +1,10 @@
-//! The methods `resize` and `resize_with`, which change the length of a list.
-ghost use Rattle.std.specs.Prelude.{◌≡◌, ◌⊎◌, ◌+◌, ◌-◌, ◌<◌, ◌≤◌, ◌++◌, IsErrOf, IsOk, OnErr, OnOk, Some, length, replicate, take};
+//! The methods `resize`, `resize_with` and `try_resize_with`, which change the length of a list.
+ghost use Rattle.std.specs.Prelude.{◌≡◌, ◌⊎◌, ◌+◌, ◌-◌, ◌<◌, ◌≤◌, ◌++◌, IfErr, IsErrOf, IsOk, Ok, OnErr, OnOk, Some, length, replicate, take};
 ghost use Rattle.std.specs.List.{AppendsResults};
 ghost use Rattle.thin_block.specs.Cost.{add_moves};
 ghost use Rattle.thin_vec.specs.List.Clones.{AppendsRepeats, LeftByFailedClone, IsResized};
-ghost use Rattle.thin_vec.specs.List.Capacity.{CostsMoves, OverflowsIff, PreservesList};
+ghost use Rattle.thin_vec.specs.List.Capacity.{CostsMoves, FailsForRoom, OverflowsIff, PreservesList};
+ghost use Rattle.thin_vec.specs.List.Resize.{LeftByFailedMake};
 
 use crate::list::ThinVec;
 use crate::put::{put_repeated, put_results};
@@ -140,6 +141,62 @@ impl<T: Drop, A: Allocator, G: Growth> ThinVec<T, A, G> {
         self.reserve(len - old)?;
         put_results(&mut self.block, old, len - old, make);
         self.block.set_len(len);
+        Ok(())
+    }
+
+    /// Does the same as `resize_with`, but `make` may fail, as each function that allocates may.
+    ///
+    /// # Errors
+    ///
+    /// Fails if there is no room for the new items, with the cause of `reserve`. The list is then
+    /// unchanged, and `make` is dropped without being called. Also fails with the first error that
+    /// `make` returns. The list then keeps the items that were appended before, and the capacity
+    /// for the others.
+    pub fn try_resize_with<E: From<ThinVecError>, F: FnMut() -> Result<T, E>>(
+        &mut self,
+        len: usize,
+        mut make: F,
+    ) -> Result<(), E>
+        requires callable { F.IsAlwaysCallable make }
+
+        // The items, whether the call succeeds or fails.
+        ensures items { AppendsResults (λ f item g. F.step f (Ok item) g)
+            (take len self.old.items) self.new.items make }
+
+        // On success.
+        ensures len { OnOk result (length self.new.items ≡ len) }
+        ensures capacity { OnOk result (capacity_after_reserve G.rule T.row self.old
+            (len - length self.old.items) ≡ Some self.new.capacity) }
+        ensures cost { OnOk result (CostsMoves (len - length self.old.items) self.old self.new) }
+
+        // When it must succeed. In every other case it may fail.
+        ensures succeeds_shorter { len ≤ length self.old.items → IsOk result }
+
+        // On failure. Either there was no room, and nothing changes, or `make` returned the error.
+        ensures err { IfErr result (λ error. ((cause : ThinVecError)
+            × FailsForRoom G.rule T.row self.old (len - length self.old.items) cause
+            × E.from_gives cause error × (self.new ≡ self.old))
+            ⊎ LeftByFailedMake (capacity_after_reserve G.rule T.row self.old
+            (len - length self.old.items)) F.step make error self.old self.new) }
+        ensures err_len { OnErr result (length self.new.items < len) }
+
+        // In every case.
+        ensures preserved { PreservesList T.row self.old self.new }
+
+        // This follows from `capacity` and `err`.
+        ensures had_room { HasRoomFor self.old (len - length self.old.items)
+            → self.new.capacity ≡ self.old.capacity }
+    {
+        let old = self.len();
+        if len <= old {
+            self.truncate(len);
+            return Ok(());
+        }
+        self.reserve(len - old)?;
+        while self.len() < len {
+            let item = make()?;
+            self.push_reserved(item);
+        }
         Ok(())
     }
 }

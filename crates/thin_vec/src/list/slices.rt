@@ -1,15 +1,17 @@
 //! Methods of slices that write to the items, with contracts that speak of the list. The stable
 //! sorts take the memory that they need from the allocator of the list.
-ghost use Rattle.std.specs.Prelude.{◌≡◌, ◌-◌, ◌<◌, ◌≤◌, ◌↔◌, ◌++◌, reverse as reversed, IfSome, IsOk, IsPermutation, IsSome, IsSorted, OnErr, OnOk, drop, length, replicate, slice_index_or, take};
-ghost use Rattle.std.specs.List.{AllWithin, HoldsAt, ReversedBelow, RotatedLeft, RotatedRight, SwappedAt, swap};
+ghost use Rattle.std.specs.Prelude.{◌≡◌, ◌-◌, ◌<◌, ◌≤◌, ◌↔◌, ◌++◌, ◌+◌, reverse as reversed, IfSome, IsOk, IsPermutation, IsSome, IsSorted, OnErr, OnOk, drop, length, replicate, slice_index_or, slice_range, take};
+ghost use Rattle.std.specs.List.{AllWithin, FoldsTo, HoldsAt, ReversedBelow, RotatedLeft, RotatedRight, SwappedAt, copy_within, swap};
 ghost use Rattle.std.specs.List.Sorted.{IsSortedByClosure, IsSortedByKeyClosure, IsStable, IsStableByClosure, IsStableByKeyClosure};
-ghost use Rattle.thin_vec.specs.Lends.{LendsGet, LendsItems};
+ghost use Rattle.std.specs.Range.Bound.{end_index, start_index};
+ghost use Rattle.thin_vec.specs.Lends.{LendsGet, LendsItems, LendsItemsFrom};
 ghost use Rattle.thin_vec.specs.ThinVec.{IsBounded};
 ghost use types.Logic.{sem};
 
 use crate::list::ThinVec;
 use std::alloc::{AllocError, Allocator};
 use std::cmp::Ordering;
+use std::ops::RangeBounds;
 use thin_block::Growth;
 
 impl<T, A: Allocator, G: Growth> ThinVec<T, A, G> {
@@ -273,6 +275,73 @@ impl<T, A: Allocator, G: Growth> ThinVec<T, A, G> {
         ensures bounds_before { IsBounded T.row self.old }
     {
         self.as_mut_slice().fill(value);
+    }
+
+    /// Replaces each item by a result of `make`, which is called once for each, in order.
+    pub fn fill_with<F: FnMut() -> T>(&mut self, make: F)
+    where
+        T: Drop,
+        requires callable { F.IsAlwaysCallable make }
+        ensures ran { (last : F) × FoldsTo F.step make self.new.items last }
+        ensures len { length self.new.items ≡ length self.old.items }
+        ensures capacity { self.new.capacity ≡ self.old.capacity }
+        ensures changes { self.new ≡ record self.old { items = self.new.items } }
+        ensures bounds_before { IsBounded T.row self.old }
+    {
+        self.as_mut_slice().fill_with(make);
+    }
+
+    /// Replaces the items by those of `src`, which are as many.
+    pub fn copy_from_slice(&mut self, src: &[T])
+    where
+        T: Copy,
+        requires same_len { length self.old.items ≡ length src.now }
+        ensures items { self.new.items ≡ src.now }
+        ensures len { length self.new.items ≡ length self.old.items }
+        ensures capacity { self.new.capacity ≡ self.old.capacity }
+        ensures changes { self.new ≡ record self.old { items = self.new.items } }
+        ensures bounds_before { IsBounded T.row self.old }
+    {
+        self.as_mut_slice().copy_from_slice(src);
+    }
+
+    /// Copies the items in the range `src` to the places from index `dest` onward. The two ranges
+    /// may overlap. A range is any of std's, as for the method of slices.
+    pub fn copy_within<R: RangeBounds<usize>>(&mut self, src: R, dest: usize)
+    where
+        T: Copy,
+        requires start_le_end { start_index (R.start_bound src)
+            ≤ end_index (R.end_bound src) (length self.old.items) }
+        requires in_bounds { end_index (R.end_bound src) (length self.old.items)
+            ≤ length self.old.items }
+        requires dest_in_bounds { dest + (end_index (R.end_bound src) (length self.old.items)
+            - start_index (R.start_bound src)) ≤ length self.old.items }
+        requires has_bounds { R.has_bounds src }
+        ensures items { self.new.items ≡ copy_within self.old.items
+            (start_index (R.start_bound src))
+            (end_index (R.end_bound src) (length self.old.items)) dest }
+        ensures len { length self.new.items ≡ length self.old.items }
+        ensures capacity { self.new.capacity ≡ self.old.capacity }
+        ensures changes { self.new ≡ record self.old { items = self.new.items } }
+        ensures bounds_before { IsBounded T.row self.old }
+    {
+        self.as_mut_slice().copy_within(src, dest);
+    }
+
+    /// Returns the items in the range `start..end` as a mutable slice.
+    pub fn slice_mut(&mut self, start: usize, end: usize) -> &mut [T]
+        requires start_le_end { start ≤ end }
+        requires in_bounds { end ≤ length self.old.items }
+        ensures* writes_back { sem 𝓛
+            (LendsItemsFrom T.row A.row G.row A.Allocator G.Growth self.entry start result) }
+        ensures value { result.now ≡ slice_range self.old.items start end }
+        ensures len { length result.now ≡ end - start }
+        ensures bounds_before { IsBounded T.row self.old }
+    {
+        let len = self.len();
+        prove!(start <= end);
+        prove!(end <= len);
+        self.block.slice_mut(start, end)
     }
 
     /// Returns a mutable reference to the first item, or `None` if the list is empty.

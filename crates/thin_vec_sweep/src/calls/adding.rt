@@ -23,13 +23,14 @@ impl<T: Numbered, G: Growth> Calls<T, G> for Adding {
             5 => extend_from_within(rt, case),
             6 => append(rt, case),
             7 => shrink_to(case),
+            8 => try_resize_with(case),
             _ if case.at.argument >= 5 => return None,
-            8 => push(case),
-            9 => push_mut(case),
-            10 => insert(rt, case),
-            11 => insert_mut(rt, case),
-            12 => shrink_to_fit(case),
-            13 => split_off(rt, case),
+            9 => push(case),
+            10 => push_mut(case),
+            11 => insert(rt, case),
+            12 => insert_mut(rt, case),
+            13 => shrink_to_fit(case),
+            14 => split_off(rt, case),
             _ => return None,
         })
     }
@@ -100,6 +101,18 @@ fn resize_with<T: Numbered, G: Growth, R: Abort>(rt: &R, case: &mut Case<T, G>) 
         made.pop().expect(rt, "an item")
     })?;
     Ok(Due::calls(more))
+}
+
+// Each call of the closure clones an item, which may fail.
+fn try_resize_with<T: Numbered, G: Growth>(case: &mut Case<T, G>) -> Answer {
+    let (len, more) = case.new_length(true);
+    let (ledger, value) = (case.ledger, case.item());
+    case.begin("try_resize_with");
+    case.list.try_resize_with(len, move || {
+        let _earlier = ledger.called();
+        value.clone()
+    })?;
+    Ok(Due::calls(more).clones(more))
 }
 
 fn extend_from_slice<T: Numbered, G: Growth>(case: &mut Case<T, G>) -> Answer {

@@ -35,6 +35,8 @@ impl<T: Numbered, G: Growth> Calls<T, G> for Removing {
             11 => into_vec(case),
             12 => into_boxed_slice(case),
             13 => try_take(rt, case),
+            14 => try_remove(case),
+            15 => try_swap_remove(case),
             _ => return None,
         })
     }
@@ -61,6 +63,21 @@ fn swap_remove<T: Numbered, G: Growth>(case: &mut Case<T, G>) -> Answer {
     if index < case.list.len() {
         drop(case.list.swap_remove(index));
     }
+    Ok(Due::NOTHING)
+}
+
+// The index is sometimes the length, and then no item is removed.
+fn try_remove<T: Numbered, G: Growth>(case: &mut Case<T, G>) -> Answer {
+    let index = case.index();
+    case.begin("try_remove");
+    drop(case.list.try_remove(index));
+    Ok(Due::NOTHING)
+}
+
+fn try_swap_remove<T: Numbered, G: Growth>(case: &mut Case<T, G>) -> Answer {
+    let index = case.index();
+    case.begin("try_swap_remove");
+    drop(case.list.try_swap_remove(index));
     Ok(Due::NOTHING)
 }
 

@@ -7,8 +7,8 @@ use Rattle.thin_vec.proofs.list.ThinVec.split_off.Goals as goal
 pub with_fitting_capacity-requires : goal.with_fitting_capacity-requires
 with_fitting_capacity-requires g c =
     record {
-      fits = fits-less (param 0 g.row.T) (c.len.result - c.args.at)
-          c.len.result c.len.ensures.fits (omega arith);
+      fits = fits-less (param 0 g.row.T) (c.len-len.result - c.args.at)
+          c.len-len.result c.len-len.ensures.fits (omega arith);
     }
 
 pub returns-in_err-tail-clause-tail_capacity : goal.returns-in_err-tail-clause-tail_capacity
