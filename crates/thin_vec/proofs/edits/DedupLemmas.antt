@@ -1,5 +1,5 @@
 -- These lemmas state what an open block and a list contain after the duplicates among their items
--- were removed. `R` describes the calls to the closure that compares two items.
+-- were removed. `R` describes the calls to the test that compares two items.
 --
 -- The argument has four parts.
 --
@@ -11,22 +11,23 @@
 --    `dedup_next` is one: it removes an item (`dedups-goes`), keeps one (`dedups-one`), or keeps
 --    several (`dedups-run`), and then removes the next one. So the moves are the kept items that
 --    follow the first removed one (`deduped-goes`), as `moves_of_retain` counts.
--- 3. The test of the block is a wrapper around the closure of the caller. What the contract says of
---    the wrapper, it also says of the closure (`deduped-through`).
+-- 3. The test of the block is a wrapper around the closure of the caller, and returns the opposite.
+--    What the contract says of the wrapper, it also says of the closure (`deduped-through`).
 -- 4. Of the tests follow the items and the flags of `dedup` (`pairs-compare`), and for each method
 --    that no item is added and none is moved twice (`few-deduped`, `deduped-moves`). What `dedup`
 --    leaves is also what std's `Vec` says that it leaves (`filtered-dedup`).
 use Rattle.std.proofs.Common.{◌≡◌, ℕ, suc, ◌+◌, ◌<◌, ◌≤◌, Bool, true, false, List, [], ◌∷◌, ◌++◌, length, take, drop, refl, sym, ap, subst, ◌∙◌, arith, append_assoc}
 use Rattle.std.proofs.lemmas.List.{append-nil, same_from_push}
+use Rattle.std.proofs.Math.Bool.{not-not}
 use Rattle.std.specs.List.{dedup, dedup_from, items_where_true}
 use Rattle.std.specs.List.Retain.{DiffersFromLast, IsFiltered, ReturnsInTurn}
 use Rattle.std.specs.Prelude.{MatchBool, map, not}
 use Rattle.thin_block.specs.Cost.{Cost, add_moves}
 use Rattle.thin_vec.specs.Edits.Retain.{moves_of_retain}
-use Rattle.thin_vec.specs.Edits.Dedup.{TestsEachAgainstLast, TestsAllAgainstLast, Compares, IsDedupedBy, dedup_flags, dedup_flags_from}
+use Rattle.thin_vec.specs.Edits.Dedup.{TestsEachAgainstLast, TestsAllAgainstLast, IsDedupedBy, dedup_flags, dedup_flags_from}
 use Rattle.thin_vec.specs.List.Capacity.{MovesAtMost}
 use Rattle.thin_vec.specs.OpenView.{OpenView}
-use Rattle.thin_vec.specs.OpenBlock.Dedup.{TestsLast, TestsNext, DedupsMiddle, TestsPairsUpTo, DedupsSome, found}
+use Rattle.thin_vec.specs.OpenBlock.Dedup.{Differs, Removes, TestsLast, TestsNext, DedupsMiddle, TestsPairsUpTo, DedupsSome, found}
 use Rattle.thin_vec.specs.ThinVec.{ListView}
 use Rattle.thin_vec.proofs.RetainLemmas.{cons-head, cons-tail, moves_of_retain-few, moving-more, moving-none}
 use Rattle.thin_vec.proofs.OpenBlockLemmas.{last-of}
@@ -52,7 +53,7 @@ module _ {S T : Type 0} (R : OnPairs S T) where
       -- This makes a `DedupsSome` of its parts.
       dedups-of : (before : List T) (first : T) (done : List T) (removed : List Bool) (kept : List T)
           → v.front ≡ before ++ first ∷ [] → v.middle ≡ done ++ w.middle
-          → TestsEachAgainstLast R s first done removed kept t → 0 < w.gap_before
+          → TestsEachAgainstLast (Removes R) s first done removed kept t → 0 < w.gap_before
           → Moved (before ++ kept) (add_moves (count_kept removed) v.cost) → DedupsSome R s v t w
       dedups-of before first done removed kept was middle asked gap_before now =
           record {
@@ -71,7 +72,7 @@ module _ {S T : Type 0} (R : OnPairs S T) where
     -- The lemmas `dedups-goes`, `-one` and `-run` are the cases of `dedup_next`. The first middle
     -- item of `v` is `x`. In the first case, it is removed.
     pub dedups-goes : {s t : S} (x y : T) (front : List T)
-        → TestsLast R s x v.front true t y front → v.middle ≡ x ∷ w.middle → 0 < w.gap_before
+        → TestsLast R s x v.front false t y front → v.middle ≡ x ∷ w.middle → 0 < w.gap_before
         → Moved front v.cost → DedupsSome R s v t w
     dedups-goes {s} {t} x y front a middle gap_before now =
         dedups-of s t a.before a.kept (x ∷ []) (true ∷ []) (a.kept_left ∷ []) a.was middle
@@ -79,12 +80,12 @@ module _ {S T : Type 0} (R : OnPairs S T) where
         (now ∙ moved (λ i. a.now i) (sym (moving-none v.cost)))
 
     -- In this module, `x` is kept as `y`. The tests of the items after it leave it as `z`.
-    module _ {s t : S} (x y z : T) (front : List T) (a : TestsLast R s x v.front false t y front)
+    module _ {s t : S} (x y z : T) (front : List T) (a : TestsLast R s x v.front true t y front)
       where
         -- Of the items `xs`, the tests keep `more`.
         dedups-kept : (q : S) (xs : List T) (f : List Bool) (more : List T)
-            → TestsEachAgainstLast R t y xs f (z ∷ more) q → v.middle ≡ x ∷ (xs ++ w.middle)
-            → 0 < w.gap_before
+            → TestsEachAgainstLast (Removes R) t y xs f (z ∷ more) q
+            → v.middle ≡ x ∷ (xs ++ w.middle) → 0 < w.gap_before
             → Moved (front ++ z ∷ more) (add_moves (suc (count_kept f)) v.cost)
             → DedupsSome R s v q w
         dedups-kept q xs f more asked middle gap_before now =
@@ -97,8 +98,8 @@ module _ {S T : Type 0} (R : OnPairs S T) where
             ∙ append_assoc a.before (a.kept_left ∷ []) (z ∷ more)) refl)
 
         -- The next item, if there is one, is removed.
-        pub dedups-one : {u : S} (ys zs : List T) → TestsNext R t y ys true u z zs → v.middle ≡ x ∷ ys
-            → w.middle ≡ drop 1 zs → 0 < w.gap_before
+        pub dedups-one : {u : S} (ys zs : List T) → TestsNext R t y ys false u z zs
+            → v.middle ≡ x ∷ ys → w.middle ≡ drop 1 zs → 0 < w.gap_before
             → Moved (front ++ z ∷ []) (add_moves 1 v.cost) → DedupsSome R s v u w
         dedups-one {u} ys zs n whole middle gap_before now =
             let e = next-ends R t y ys u z zs n in
@@ -112,7 +113,7 @@ module _ {S T : Type 0} (R : OnPairs S T) where
         -- The next item is kept, too. It is the first of `m` kept neighbors, which are moved
         -- together.
         pub dedups-run : {m : ℕ} {u q : S} {ws : List T} (ys zs : List T)
-            → TestsNext R t y ys false u z zs → v.middle ≡ x ∷ ys
+            → TestsNext R t y ys true u z zs → v.middle ≡ x ∷ ys
             → (r : TestsPairsUpTo R m u zs q ws) → w.middle ≡ drop 1 (drop m ws)
             → 0 < w.gap_before
             → Moved ((front ++ z ∷ []) ++ take m ws) (add_moves m (add_moves 1 v.cost))
@@ -131,7 +132,7 @@ module _ {S T : Type 0} (R : OnPairs S T) where
             ) in
             dedups-kept q (k.0 ∷ r.done) (false ∷ flags) r.kept
             (last-append R u q k.1 flags r.kept r.done
-            (subst (λ (l : T). TestsEachAgainstLast R u l r.done flags r.kept q)
+            (subst (λ (l : T). TestsEachAgainstLast (Removes R) u l r.done flags r.kept q)
             (sym (cons-head heads)) r.asked)
             (k.0 ∷ []) t y (false ∷ []) (z ∷ []) (last-stays R t u y k.0 k.1 z k.3))
             (whole ∙ ap (λ (l : List T). x ∷ l) (k.4 ∙ ap (λ (l : List T). k.0 ∷ l)
@@ -180,11 +181,11 @@ module _ {S T : Type 0} (R : OnPairs S T) where
         middle = h.middle ∙ (ap (λ (l : List T). h.done ++ l) k.middle
             ∙ sym (append_assoc h.done k.done z.middle));
         asked = last-append R t u p.1 k.removed k.kept k.done
-            (subst (λ (l : T). TestsEachAgainstLast R t l k.done k.removed k.kept u)
+            (subst (λ (l : T). TestsEachAgainstLast (Removes R) t l k.done k.removed k.kept u)
             (sym ends.1) k.asked)
             h.done s h.first h.removed p.0
-            (subst (λ (l : List T). TestsEachAgainstLast R s h.first h.done h.removed l t) p.2
-            h.asked);
+            (subst (λ (l : List T). TestsEachAgainstLast (Removes R) s h.first h.done h.removed l t)
+            p.2 h.asked);
         gap_before = k.gap_before;
         now = cc (
           k.now,
@@ -219,18 +220,18 @@ module _ {S T : Type 0} (R : OnPairs S T) where
         ap (λ f. moves_of_retain (map not f)) flags ∙ moved-all r.more (true ∷ h.removed) in
         let all : drop 1 r.end ≡ h.done = ap (drop 1) end
         ∙ (h.middle ∙ (ap (λ (l : List T). h.done ++ l) none ∙ append-nil h.done)) in
-        let asked : TestsEachAgainstLast R s r.first (r.done ++ h.done) (removed ++ h.removed)
-        (h.before ++ h.kept) u =
+        let asked : TestsEachAgainstLast (Removes R) s r.first (r.done ++ h.done)
+        (removed ++ h.removed) (h.before ++ h.kept) u =
         last-append R t u h.first h.removed h.kept h.done h.asked r.done s r.first removed h.before
-        (subst (λ (l : List T). TestsEachAgainstLast R s r.first r.done removed l t)
+        (subst (λ (l : List T). TestsEachAgainstLast (Removes R) s r.first r.done removed l t)
         (sym here ∙ h.was) r.asked) in
         record {
           removed = removed ++ h.removed;
-          asked = subst (λ (l : List T). TestsAllAgainstLast R s l (removed ++ h.removed) z.front u)
+          asked = subst (λ (l : List T). TestsAllAgainstLast (Removes R) s l (removed ++ h.removed)
+              z.front u)
               (ap (λ (l : List T). r.first ∷ (r.done ++ l)) (sym all) ∙ sym r.was)
-              (subst (λ (l : List T). TestsEachAgainstLast R s r.first (r.done ++ h.done)
-              (removed ++ h.removed)
-              l u) (sym (ap (λ x. x.front) h.now)) asked);
+              (subst (λ (l : List T). TestsEachAgainstLast (Removes R) s r.first (r.done ++ h.done)
+              (removed ++ h.removed) l u) (sym (ap (λ x. x.front) h.now)) asked);
           now = h.now ∙ (λ i. let x = p i in record x {
             front = sym (ap (λ y. y.front) h.now) i;
             gap_before = z.gap_before;
@@ -249,10 +250,10 @@ module _ {S T : Type 0} (R : OnPairs S T) where
         ∙ moved-all r.more [] in
         record {
           removed = removed;
-          asked = subst (λ (l : List T). TestsAllAgainstLast R s l removed w.front t)
+          asked = subst (λ (l : List T). TestsAllAgainstLast (Removes R) s l removed w.front t)
               (sym (append-nil (r.first ∷ r.done))
               ∙ (ap (λ (l : List T). r.first ∷ (r.done ++ l)) (ap (drop 1) (sym end)) ∙ sym r.was))
-              (subst (λ (l : List T). TestsEachAgainstLast R s r.first r.done removed l t)
+              (subst (λ (l : List T). TestsEachAgainstLast (Removes R) s r.first r.done removed l t)
               (sym (ap (λ x. x.front) p ∙ run-left R r)) r.asked);
           now = p ∙ (λ i. record v {
             front = sym (ap (λ x. x.front) p) i;
@@ -262,15 +263,16 @@ module _ {S T : Type 0} (R : OnPairs S T) where
           });
         }
 
--- In this module, `J` is the type of a wrapper around a closure that returns what the closure
--- returns. `inside` maps each state of the wrapper to the state of the closure inside it.
+-- In this module, `R` describes the calls to a closure, and `J` is the type of a wrapper around it
+-- that returns the opposite. `inside` maps each state of the wrapper to the state of the closure
+-- inside it.
 module _ {J S T : Type 0} (R : OnPairs S T) (inside : J → S) where
   -- `through` describes the calls to the wrapper.
   abbrev through : OnPairs J T
-  through s x k b t y l = R (inside s) x k b (inside t) y l
+  through s x k b t y l = R (inside s) x k (not b) (inside t) y l
 
   last-through : (xs : List T) (s t : J) (k : T) (f : List Bool) (ys : List T)
-      → TestsEachAgainstLast through s k xs f ys t
+      → TestsEachAgainstLast (Removes through) s k xs f ys t
       → TestsEachAgainstLast R (inside s) k xs f ys (inside t)
   last-through [] s t k f ys h = (h.0, h.1, ap inside h.2)
   last-through (x ∷ xs) s t k f ys h = (
@@ -279,20 +281,20 @@ module _ {J S T : Type 0} (R : OnPairs S T) (inside : J → S) where
     h.2,
     inside h.3,
     h.4,
-    h.5,
+    subst (λ (b : Bool). R (inside s) x k b (inside h.3) h.1 h.2) (not-not h.0) h.5,
     h.6,
     map-answer h.0 (λ p. last-through xs h.3 t h.2 h.4 ys p)
         (λ q. (q.0, last-through xs h.3 t h.1 h.4 q.0 q.1, q.2)) h.7,
   )
 
   pairs-through : (xs : List T) (s t : J) (f : List Bool) (ys : List T)
-      → TestsAllAgainstLast through s xs f ys t
+      → TestsAllAgainstLast (Removes through) s xs f ys t
       → TestsAllAgainstLast R (inside s) xs f ys (inside t)
   pairs-through [] s t f ys h = (h.0, h.1, ap inside h.2)
   pairs-through (x ∷ xs) s t f ys h = last-through xs s t x f ys h
 
-  pub deduped-through : {A : Type 0} (s : J) (v w : ListView T A) → IsDedupedBy through s v w
-      → IsDedupedBy R (inside s) v w
+  pub deduped-through : {A : Type 0} (s : J) (v w : ListView T A)
+      → IsDedupedBy (Removes through) s v w → IsDedupedBy R (inside s) v w
   deduped-through s v w h = record {
     removed = h.removed;
     last = inside h.last;
@@ -303,23 +305,25 @@ module _ {J S T : Type 0} (R : OnPairs S T) (inside : J → S) where
 -- In this module, the function `E` says whether an item is a duplicate of the last kept item.
 module _ {S T : Type 0} (E : T → T → Bool) where
   last-compares : (xs : List T) (s t : S) (k : T) (f : List Bool) (ys : List T)
-      → TestsEachAgainstLast (Compares E) s k xs f ys t
+      → TestsEachAgainstLast (Removes (Differs E)) s k xs f ys t
       → (f ≡ dedup_flags_from E k xs) × (ys ≡ dedup_from E k xs)
   last-compares [] s t k f ys h = (h.0, h.1)
   last-compares (x ∷ xs) s t k f ys h =
       elim h.0 as (λ b. b ≡ E x k → f ≡ b ∷ h.4
-      → MatchBool b (TestsEachAgainstLast (Compares E) h.3 h.2 xs h.4 ys t)
-      ((zs : List T) × TestsEachAgainstLast (Compares E) h.3 h.1 xs h.4 zs t × (ys ≡ h.2 ∷ zs))
+      → MatchBool b (TestsEachAgainstLast (Removes (Differs E)) h.3 h.2 xs h.4 ys t)
+      ((zs : List T) × TestsEachAgainstLast (Removes (Differs E)) h.3 h.1 xs h.4 zs t
+      × (ys ≡ h.2 ∷ zs))
       → (f ≡ dedup_flags_from E k (x ∷ xs)) × (ys ≡ dedup_from E k (x ∷ xs))) [
         | true ↦ λ e st m. let r = last-compares xs h.3 t h.2 h.4 ys m in
             rw (← e, ← h.5.2) (st ∙ ap (λ l. true ∷ l) r.0, r.1)
         | false ↦ λ e st m. let r = last-compares xs h.3 t h.1 h.4 m.0 m.1 in
             rw (← e, ← h.5.1, ← h.5.2) (st ∙ ap (λ l. false ∷ l) r.0, m.2 ∙ ap (λ l. h.2 ∷ l) r.1)
       ]
-      h.5.0 h.6 h.7
+      (sym (not-not h.0) ∙ (ap not h.5.0 ∙ not-not (E x k))) h.6 h.7
 
   pub pairs-compare : (xs : List T) (s t : S) (f : List Bool) (ys : List T)
-      → TestsAllAgainstLast (Compares E) s xs f ys t → (f ≡ dedup_flags E xs) × (ys ≡ dedup E xs)
+      → TestsAllAgainstLast (Removes (Differs E)) s xs f ys t
+      → (f ≡ dedup_flags E xs) × (ys ≡ dedup E xs)
   pairs-compare [] s t f ys h = (h.0, h.1)
   pairs-compare (x ∷ xs) s t f ys h = last-compares xs s t x f ys h
 

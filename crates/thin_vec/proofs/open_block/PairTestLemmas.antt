@@ -1,12 +1,12 @@
--- These lemmas state which items of a list are kept when a closure compares each item with the last
--- item kept before it. `R` describes the calls to the closure.
+-- These lemmas state which items of a list are kept when a test compares each item with the last
+-- item kept before it. `R` describes the calls to the test.
 use Rattle.std.proofs.Common.{◌≡◌, ℕ, zero, suc, ◌+◌, ◌<◌, ◌≤◌, Bool, true, false, List, [], ◌∷◌, ◌++◌, length, take, drop, refl, sym, ap, subst, ◌∙◌, arith, append_assoc}
 use Rattle.std.proofs.lemmas.Bool.{false≢true}
 use Rattle.std.proofs.lemmas.List.{drop_at, length_push, replicate-append-replicate, same_from_push, take_at}
 use Rattle.std.specs.Prelude.{MatchBool, map, not, replicate}
 use Rattle.thin_vec.specs.Edits.Retain.{moves_of_retain, count_true}
 use Rattle.thin_vec.specs.Edits.Dedup.{TestsEachAgainstLast}
-use Rattle.thin_vec.specs.OpenBlock.Dedup.{TestsNext, TestsPairAt, TestsPairsUpTo, found}
+use Rattle.thin_vec.specs.OpenBlock.Dedup.{Removes, TestsNext, TestsPairAt, TestsPairsUpTo, found}
 use Rattle.thin_vec.proofs.OpenBlockLemmas.{last-of}
 use Rattle.thin_vec.proofs.RetainLemmas.{cons-head, cons-tail, same-parts}
 
@@ -15,7 +15,8 @@ use Rattle.thin_vec.proofs.RetainLemmas.{cons-head, cons-tail, same-parts}
 abbrev pub OnPairs : Type 0 → Type 0 → Type 1
 OnPairs S T = S → T → T → Bool → S → T → T → Type 0
 
--- In this file, a flag is true if its item is removed.
+-- In this file, a flag is true if its item is removed, so it is the opposite of what the test
+-- returned.
 
 -- `all-stay n` is the list of the flags of `n` kept items.
 abbrev pub all-stay : ℕ → List Bool
@@ -59,27 +60,27 @@ after-first (a ∷ p) zs k l e some = (p, sym (cons-tail e), ap (λ z. z ∷ p) 
 
 module _ {S T : Type 0} (R : OnPairs S T) where
   pub last-some : (xs : List T) (s t : S) (k : T) (removed : List Bool) (ys : List T)
-      → TestsEachAgainstLast R s k xs removed ys t → 0 < length ys
+      → TestsEachAgainstLast (Removes R) s k xs removed ys t → 0 < length ys
   last-some [] s t k removed ys h = omega (arith, ap length h.1)
   last-some (x ∷ xs) s t k removed ys h =
       by-answer h.0 _ _ (0 < length ys) (λ m. last-some xs h.3 t h.2 h.4 ys m)
       (λ m. omega (arith, ap length m.2)) h.7
 
-  pub last-goes : (s t : S) (k x x' k' : T) → R s x k true t x' k'
-      → TestsEachAgainstLast R s k (x ∷ []) (true ∷ []) (k' ∷ []) t
+  pub last-goes : (s t : S) (k x x' k' : T) → R s x k false t x' k'
+      → TestsEachAgainstLast (Removes R) s k (x ∷ []) (true ∷ []) (k' ∷ []) t
   last-goes s t k x x' k' h = (true, x', k', t, [], h, refl, (refl, refl, refl))
 
-  pub last-stays : (s t : S) (k x x' k' : T) → R s x k false t x' k'
-      → TestsEachAgainstLast R s k (x ∷ []) (false ∷ []) (k' ∷ x' ∷ []) t
+  pub last-stays : (s t : S) (k x x' k' : T) → R s x k true t x' k'
+      → TestsEachAgainstLast (Removes R) s k (x ∷ []) (false ∷ []) (k' ∷ x' ∷ []) t
   last-stays s t k x x' k' h = (false, x', k', t, [], h, refl, (x' ∷ [], (refl, refl, refl), refl))
 
   -- In this module, the items `zs` were tested after the kept item `l`. The flags `g` say which of
   -- the items `zs` were kept, and `ws` is the list of the kept items, including `l`.
   module _ (t u : S) (l : T) (g : List Bool) (ws zs : List T)
-      (m : TestsEachAgainstLast R t l zs g ws u) where
+      (m : TestsEachAgainstLast (Removes R) t l zs g ws u) where
     pub last-append : (xs : List T) (s : S) (k : T) (f : List Bool) (pre : List T)
-        → TestsEachAgainstLast R s k xs f (pre ++ l ∷ []) t
-        → TestsEachAgainstLast R s k (xs ++ zs) (f ++ g) (pre ++ ws) u
+        → TestsEachAgainstLast (Removes R) s k xs f (pre ++ l ∷ []) t
+        → TestsEachAgainstLast (Removes R) s k (xs ++ zs) (f ++ g) (pre ++ ws) u
     last-append [] s k f pre h =
         let e = same_from_push pre [] l k h.1 in
         rw (h.0, e.0, ← e.1, ← h.2) m
@@ -97,7 +98,7 @@ module _ {S T : Type 0} (R : OnPairs S T) where
           let c = after-first pre q.0 h.2 l q.2 (last-some xs h.3 t h.1 h.4 q.0 q.1) in (
             c.0 ++ ws,
             last-append xs h.3 h.1 h.4 c.0
-                (subst (λ (a : List T). TestsEachAgainstLast R h.3 h.1 xs h.4 a t) c.1 q.1),
+                (subst (λ a. TestsEachAgainstLast (Removes R) h.3 h.1 xs h.4 a t) c.1 q.1),
             ap (λ (a : List T). a ++ ws) c.2,
           ))
           h.7,
@@ -106,7 +107,7 @@ module _ {S T : Type 0} (R : OnPairs S T) where
   -- The following definitions and lemmas are about adjacent items that are all kept.
 
   -- `PairStays` holds if the first `m` items of the list `xs` were kept. The tests turned `xs` into
-  -- `ys`, and the state `s` of the closure into `t`.
+  -- `ys`, and the state `s` of the test into `t`.
   pub record PairStays (m : ℕ) (s : S) (xs : List T) (t : S) (ys : List T) : Type 0 where
     pub first : T
     pub done : List T
@@ -114,7 +115,8 @@ module _ {S T : Type 0} (R : OnPairs S T) where
     pub pre : List T
     pub last : T
     pub was : xs ≡ first ∷ (done ++ after)
-    pub asked : TestsEachAgainstLast R s first done (all-stay (length pre)) (pre ++ last ∷ []) t
+    pub asked : TestsEachAgainstLast (Removes R) s first done (all-stay (length pre))
+        (pre ++ last ∷ []) t
     pub kept : suc (length pre) ≡ m
     pub now : ys ≡ pre ++ last ∷ after
 
@@ -135,7 +137,7 @@ module _ {S T : Type 0} (R : OnPairs S T) where
 
   -- No item is left to be tested.
   pub pair-none : {k : ℕ} (s : S) (xs : List T) → 0 < k → length xs ≡ k
-      → TestsPairAt R k s xs true s xs
+      → TestsPairAt R k s xs false s xs
   pair-none s xs some e =
       let p = last-of xs (omega arith) in
       record {
@@ -151,16 +153,17 @@ module _ {S T : Type 0} (R : OnPairs S T) where
       }
 
   pub next-ends : (s : S) (k : T) (xs : List T) (t : S) (l : T) (ys : List T)
-      → TestsNext R s k xs true t l ys
+      → TestsNext R s k xs false t l ys
       → (done : List T) × (xs ≡ done ++ drop 1 ys)
-      × TestsEachAgainstLast R s k done (found ys) (l ∷ []) t
+      × TestsEachAgainstLast (Removes R) s k done (found ys) (l ∷ []) t
   next-ends s k [] t l ys h = rw h.3 ([], refl, (refl, ap (λ (x : T). x ∷ []) h.2, h.1))
   next-ends s k (x ∷ xs) t l ys h = rw h.2 (x ∷ [], refl, last-goes s t k x h.0 l h.1)
 
   pub next-kept : (s : S) (k : T) (xs : List T) (t : S) (l : T) (ys : List T)
-      → TestsNext R s k xs false t l ys
-      → (x : T) × (y : T) × (later : List T) × R s x k false t y l × (xs ≡ x ∷ later) × (ys ≡ y ∷ later)
-  next-kept s k [] t l ys h = absurd (false≢true h.0)
+      → TestsNext R s k xs true t l ys
+      → (x : T) × (y : T) × (later : List T) × R s x k true t y l × (xs ≡ x ∷ later)
+      × (ys ≡ y ∷ later)
+  next-kept s k [] t l ys h = absurd (false≢true (sym h.0))
   next-kept s k (x ∷ xs) t l ys h = (x, h.0, xs, h.1, refl, h.2)
 
   module _ {m : ℕ} {s t u : S} {xs ys zs : List T} (h : PairStays m s xs t ys) where
@@ -174,7 +177,7 @@ module _ {S T : Type 0} (R : OnPairs S T) where
           a.now ∙ ap (λ (l : List T). l ++ a.left ∷ a.end) (sym p.0),
         )
 
-    pub pair-more : TestsPairAt R m t ys false u zs → PairStays (m + 1) s xs u zs
+    pub pair-more : TestsPairAt R m t ys true u zs → PairStays (m + 1) s xs u zs
     pair-more a =
         let p = next-pair a in
         let n = next-kept t h.last h.after u a.left a.end p.0 in
@@ -199,7 +202,7 @@ module _ {S T : Type 0} (R : OnPairs S T) where
               ∙ sym (append_assoc h.pre (a.left ∷ []) (n.1 ∷ n.2)));
         }
 
-    pub pair-stops : TestsPairAt R m t ys true u zs → TestsPairsUpTo R m s xs u zs
+    pub pair-stops : TestsPairAt R m t ys false u zs → TestsPairsUpTo R m s xs u zs
     pair-stops a =
         let p = next-pair a in
         let e = next-ends t h.last h.after u a.left a.end p.0 in

@@ -40,11 +40,6 @@ module _ {S T : Type 0} (R : S → T → T → Bool → S → T → T → Type 0
     pub calls : TestsAllAgainstLast s v.items removed w.items last
     pub cost : w.cost ≡ add_moves (moves_of_retain (map not removed)) v.cost
 
--- `Compares E` describes a test that removes the item `x` if and only if `E x k` is true, where `k`
--- is the last kept item. The test changes neither item.
-abbrev pub Compares : {S T : Type 0} → (T → T → Bool) → S → T → T → Bool → S → T → T → Type 0
-Compares E s x k b t y l = (b ≡ E x k) × (y ≡ x) × (l ≡ k)
-
 module _ {T : Type 0} (E : T → T → Bool) where
   -- `dedup_flags_from k xs` contains one flag for each item of `xs`: true if the item is equal,
   -- under the comparison `E`, to the last item kept before it, and so is removed. The item kept

@@ -12,19 +12,29 @@ abbrev pub found : {T : Type 0} → List T → List Bool
 found [] = []
 found (x ∷ xs) = true ∷ []
 
+-- `Differs E` describes a test that keeps the item `x` if and only if `E x k` is false, where `k`
+-- is the last kept item. The test changes neither item.
+abbrev pub Differs : {S T : Type 0} → (T → T → Bool) → S → T → T → Bool → S → T → T → Type 0
+Differs E s x k b t y l = (b ≡ not (E x k)) × (y ≡ x) × (l ≡ k)
+
 -- `R s x k b t y l` describes one call of a test that compares the item `x` with the last kept item
--- `k`. `b` is true if `x` is to be removed. The call changes the state of the test from `s` to `t`,
+-- `k`. The call returns `b` (`true`: keep `x`), and changes the state of the test from `s` to `t`,
 -- the item from `x` to `y`, and the kept item from `k` to `l`. In the definitions below, the tests
 -- also change the list from `xs` to `ys`.
 module _ {S T : Type 0} (R : S → T → T → Bool → S → T → T → Type 0) where
+  -- `Removes s x k b t y l` describes the same call by the opposite answer, which is that of the
+  -- closure of `dedup_by`: `b` is true if `x` is to be removed.
+  abbrev pub Removes : S → T → T → Bool → S → T → T → Type 0
+  Removes s x k b t y l = R s x k (not b) t y l
+
   -- `TestsNext s k xs b t l ys` states that the first item of the list `xs` was tested against the
-  -- kept item `k`. If `xs` is empty, nothing happened, and `b` is true.
+  -- kept item `k`. If `xs` is empty, nothing happened, and `b` is false.
   abbrev pub TestsNext : S → T → List T → Bool → S → T → List T → Type 0
-  TestsNext s k [] b t l ys = (b ≡ true) × (t ≡ s) × (l ≡ k) × (ys ≡ [])
+  TestsNext s k [] b t l ys = (b ≡ false) × (t ≡ s) × (l ≡ k) × (ys ≡ [])
   TestsNext s k (x ∷ xs) b t l ys = (y : T) × R s x k b t y l × (ys ≡ y ∷ xs)
 
   -- `TestsPairAt k s xs b t ys` states that the item at index `k` of `xs` was tested against the
-  -- item directly before it. If `k` is the length of `xs`, nothing happened, and `b` is true.
+  -- item directly before it. If `k` is the length of `xs`, nothing happened, and `b` is false.
   pub record TestsPairAt (k : ℕ) (s : S) (xs : List T) (b : Bool) (t : S)
       (ys : List T) : Type 0 where
     pub before : List T
@@ -60,7 +70,7 @@ module _ {S T : Type 0} (R : S → T → T → Bool → S → T → T → Type 0
     pub end : List T
     pub more : ℕ
     pub was : xs ≡ first ∷ (done ++ drop 1 end)
-    pub asked : TestsEachAgainstLast R s first done (replicate more false ++ found end) kept t
+    pub asked : TestsEachAgainstLast Removes s first done (replicate more false ++ found end) kept t
     pub count : suc more ≡ m
     pub reached : length kept ≡ m
     pub now : ys ≡ kept ++ end
@@ -77,7 +87,7 @@ module _ {S T : Type 0} (R : S → T → T → Bool → S → T → T → Type 0
     pub kept : List T
     pub was : v.front ≡ before ++ first ∷ []
     pub middle : v.middle ≡ done ++ w.middle
-    pub asked : TestsEachAgainstLast R s first done removed kept t
+    pub asked : TestsEachAgainstLast Removes s first done removed kept t
     pub gap_before : 0 < w.gap_before
     pub now : w ≡ record v {
       front = before ++ kept;
@@ -91,7 +101,7 @@ module _ {S T : Type 0} (R : S → T → T → Bool → S → T → T → Type 0
   pub record DedupsMiddle {A : Type 0} (s : S) (v : OpenView T A) (t : S)
       (w : OpenView T A) : Type 0 where
     pub removed : List Bool
-    pub asked : TestsAllAgainstLast R s v.middle removed w.front t
+    pub asked : TestsAllAgainstLast Removes s v.middle removed w.front t
     pub now : w ≡ record v {
       front = w.front;
       gap_before = w.gap_before;

@@ -13,6 +13,7 @@ use thin_block::Growth;
 
 impl<T: Drop, A: Allocator, G: Growth> ThinVec<T, A, G> {
     ghost use Rattle.thin_vec.specs.Edits.Dedup.{IsDedupedBy};
+    ghost use Rattle.thin_vec.specs.OpenBlock.Dedup.{Removes};
     ghost use Rattle.thin_vec.specs.ThinVec.{IsBounded};
 
     /// Removes and drops each item for which `same` returns true. Calls `same` once for each item
@@ -45,7 +46,7 @@ impl<T: Drop, A: Allocator, G: Growth> ThinVec<T, A, G> {
     // Removes and drops the items that fail the test.
     fn dedup_with<J: PairTest<T>>(&mut self, test: &mut J)
         requires callable { J.ready test.old }
-        ensures deduped { IsDedupedBy J.tests test.old self.old self.new }
+        ensures deduped { IsDedupedBy (Removes J.tests) test.old self.old self.new }
         ensures changes { self.new ≡ record self.old {
           items = self.new.items;
           cost = self.new.cost;
@@ -130,7 +131,7 @@ struct SameItem {}
 impl<T, F: FnMut(&mut T, &mut T) -> bool> PairTest<T> for SameBy<F> {
     ghost use Rattle.std.specs.Fn.{CalledAtPairMut};
 
-    ghost tests = { λ s x k b t y l. CalledAtPairMut F.FnMut s.same x k b t.same y l };
+    ghost tests = { λ s x k b t y l. CalledAtPairMut F.FnMut s.same x k (not b) t.same y l };
 
     ghost ready = { λ s. F.IsAlwaysCallable s.same };
 
@@ -142,7 +143,7 @@ impl<T, F: FnMut(&mut T, &mut T) -> bool> PairTest<T> for SameBy<F> {
 impl<T, K: PartialEq + Drop, F: FnMut(&mut T) -> K> PairTest<T> for SameKey<F> {
     ghost use Rattle.std.specs.Fn.{ComparesKeys};
 
-    ghost tests = { λ s x k b t y l. ComparesKeys F.FnMut K.eq s.key x k b t.key y l };
+    ghost tests = { λ s x k b t y l. ComparesKeys F.FnMut K.eq s.key x k (not b) t.key y l };
 
     ghost ready = { λ s. F.IsAlwaysCallable s.key };
 
@@ -154,9 +155,9 @@ impl<T, K: PartialEq + Drop, F: FnMut(&mut T) -> K> PairTest<T> for SameKey<F> {
 
 impl<T: PartialEq> PairTest<T> for SameItem {
     ghost use Rattle.std.specs.Prelude.{⊤};
-    ghost use Rattle.thin_vec.specs.Edits.Dedup.{Compares};
+    ghost use Rattle.thin_vec.specs.OpenBlock.Dedup.{Differs};
 
-    ghost tests = { Compares T.eq };
+    ghost tests = { Differs T.eq };
 
     ghost ready = { λ s. ⊤ };
 

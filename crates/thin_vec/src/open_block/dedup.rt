@@ -1,25 +1,23 @@
 //! Functions that test each item of a range against the last item kept before it.
-ghost use Rattle.std.specs.Prelude.{◌≡◌, ◌+◌, ◌-◌, ◌<◌, ◌≤◌, [], Bool, length, not};
+ghost use Rattle.std.specs.Prelude.{◌≡◌, ◌+◌, ◌-◌, ◌<◌, ◌≤◌, [], Bool, length};
 
 use crate::open_block::OpenBlock;
 use std::alloc::Allocator;
 
 /// A test of an item against the last kept item before it.
 pub(crate) trait PairTest<T> {
-    /// `tests s x k b t y l` holds if one test of the item `x` against the kept item `k` may change
-    /// the state of the test from `s` to `t`, `x` to `y`, and `k` to `l`. If `b` is true, `x` is
-    /// not kept.
+    /// `tests s x k b t y l` holds if one test of the item `x` against the kept item `k` may return
+    /// `b`, and change the state of the test from `s` to `t`, `x` to `y`, and `k` to `l`.
     ghost tests: { Self → T → T → Bool → Self → T → T → Type 0 };
 
     /// `ready s` holds if the test can be called in the state `s` with any two items.
     ghost ready: { Self → Type 0 };
 
-    /// Returns whether the item `later` is to be kept. So the result is the opposite of `b`: the
-    /// closure of `dedup_by` returns true for an item to be removed.
+    /// Returns whether the item `later` is to be kept. (The closure of `dedup_by` returns the
+    /// opposite.)
     fn test(&mut self, later: &mut T, kept: &mut T) -> bool
         requires callable { ready self.old }
-        ensures tested { tests self.old later.old kept.old (not result) self.new later.new
-            kept.new }
+        ensures tested { tests self.old later.old kept.old result self.new later.new kept.new }
         ensures callable { ready self.new };
 }
 
@@ -32,7 +30,7 @@ impl<T, A: Allocator> OpenBlock<T, A> {
         requires nonzero { 0 < k }
         requires in_bounds { k < length self.old.middle }
         requires callable { J.ready test.old }
-        ensures tested { TestsPairAt J.tests k test.old self.old.middle (not result) test.new
+        ensures tested { TestsPairAt J.tests k test.old self.old.middle result test.new
             self.new.middle }
         ensures count { length self.new.middle ≡ length self.old.middle }
         ensures callable { J.ready test.new }
@@ -48,7 +46,7 @@ impl<T, A: Allocator> OpenBlock<T, A> {
     pub(crate) fn test_last<J: PairTest<T>>(&mut self, later: &mut T, test: &mut J) -> bool
         requires nonempty { 0 < length self.old.front }
         requires callable { J.ready test.old }
-        ensures tested { TestsLast J.tests test.old later.old self.old.front (not result) test.new
+        ensures tested { TestsLast J.tests test.old later.old self.old.front result test.new
             later.new self.new.front }
         ensures callable { J.ready test.new }
         ensures changes { self.new ≡ record self.old { front = self.new.front } }
@@ -61,7 +59,7 @@ impl<T, A: Allocator> OpenBlock<T, A> {
     pub(crate) fn test_next<J: PairTest<T>>(&mut self, kept: &mut T, test: &mut J) -> bool
         requires nonempty { 0 < length self.old.middle }
         requires callable { J.ready test.old }
-        ensures tested { TestsNext J.tests test.old kept.old self.old.middle (not result) test.new
+        ensures tested { TestsNext J.tests test.old kept.old self.old.middle result test.new
             kept.new self.new.middle }
         ensures count { length self.new.middle ≡ length self.old.middle }
         ensures callable { J.ready test.new }

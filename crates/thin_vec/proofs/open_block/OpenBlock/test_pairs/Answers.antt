@@ -1,6 +1,5 @@
 -- The first middle item is kept without a test. The others are tested until one is to be removed.
 use Rattle.std.proofs.Common.{◌≡◌, ◌+◌, ◌-◌, ◌∙◌, ap, arith, refl, rules}
-use Rattle.std.specs.Prelude.{not}
 use Rattle.thin_vec.proofs.OpenBlockLemmas.{middle_at, middle_end-is, middle_start-is}
 use Rattle.thin_vec.proofs.open_block.PairTestLemmas.{pair-more, pair-none, pair-start, pair-stops}
 use Rattle.thin_vec.proofs.open_block.OpenBlock.test_pairs.Goals as goal
@@ -29,7 +28,7 @@ loop-at-preserved g c =
       here = omega (arith, l.here);
       begins = l.begins;
       stays = pair-more g.J.PairTest.tests l.stays
-          (rw (place, ap not c.if-not-test_pair.false) at next.ensures.tested);
+          (rw (place, c.if-not-test_pair.false) at next.ensures.tested);
       low = omega arith;
       high = omega (
         arith,
@@ -49,7 +48,7 @@ returns-then-not-test_pair-clause-tested g c =
     let l = c.loop-at.invariant in
     let place : c.loop-at.at - c.self.inside.middle_start ≡ l.k = omega (arith, l.here) in
     rw place (pair-stops g.J.PairTest.tests l.stays
-    (rw (place, ap not c.if-not-test_pair.true) at c.test_pair.ensures.tested))
+    (rw (place, c.if-not-test_pair.true) at c.test_pair.ensures.tested))
 
 pub returns-clause-tested : goal.returns-clause-tested
 returns-clause-tested g c =
