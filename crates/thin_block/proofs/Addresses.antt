@@ -34,16 +34,16 @@ module _ {M : Type 1} {𝓤 : Ura M} (𝓛 : Logic 𝓤) (Ev : Env 𝓤 𝓛.H) 
   open 𝓛 use {H}
 
   -- `holds p v` states that the local variable `p` holds the value `v`.
-  abbrev holds : ℕ → Val → Item 𝓤
+  abbrev pub holds : ℕ → Val → Item 𝓤
   holds p v = ‵ (fat full_share (spot_of 𝓤 H Ev p).0 (spot_of 𝓤 H Ev p).1 zero v)
 
   -- `free p Γ` is the entry of `Γ` that allows the code to assign to the local variable `p`.
-  abbrev free : ℕ → List (Item 𝓤) → Item 𝓤
+  abbrev pub free : ℕ → List (Item 𝓤) → Item 𝓤
   free p Γ = nth 𝓛 0 (free_needs 𝓛 (((spot_of 𝓤 H Ev p).0, (spot_of 𝓤 H Ev p).1) ∷ [])
       (at 𝓛 p Γ ∷ ‵ ftrue ∷ []))
 
   -- `Takes p v` holds if the value `v` has the type of the local variable `p`.
-  abbrev Takes : ℕ → Val → Type 0
+  abbrev pub Takes : ℕ → Val → Type 0
   Takes p v = T (has_ty (spot_of 𝓤 H Ev p).0 v)
 
   module _ (Γ : List (Item 𝓤)) (E : El) (b o i p₃ p₄ : ℕ) where
