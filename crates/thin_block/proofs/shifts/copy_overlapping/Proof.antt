@@ -1,17 +1,65 @@
--- This file proves the contract of `copy_overlapping`, which moves items one by one. The proof is
--- like core's proof for `ptr::copy`.
-use Rattle.std.proofs.Common.{◌≡◌, refl, sym, ap, subst, Bool, true, false, not, List, [], ◌∷◌, ◌++◌, ℕ, zero, suc, ◌+◌, ◌-◌, ◌*◌, ◌≤◌, ◌<◌, ◌^◌, arith, lit<, length, w64}
-use Rattle.thin_block.proofs.WalkPrelude.{Ura, ltb→lt, nltb→le, full_share, Ty, Fn, Body, Args, a_type, ty_int, ty_array, inst_fn, Val, vunit, vbool, vint, vptr, SProp, ent, sep, never_e, Lft, Share, Fml, ftrue, ffalse, fsep, fat, flft, froom, ◌⊑◌, Holds, prop, Env, Wp, WpFn, Tables, after_seq, after_block, Logic, sem, fact, tables, Item, Sq, any_q, runs, ‵, raw, ◌⊛◌, some, given, at_ret, ◌$◌, ◌∵◌, !, qed, by, move, keep, drop, use1, use2, join, split, split3, pick, learn, rewrite, fsplit, fjoin, feq_i, suffices, done, stop, look, load, lit, bin, unit_lit, of_opd, init, assigns_last, first, blocks, skips, branches, exec, returns, enter, alloc_all, pass_all, free_all, look_at, get, through, sets, sets_last, is, env, RattleType, owns, yes, usize, Array, part_at, layouts, uint_vals, uint_Tells, Ptr, RawPtr, block_ptr, null_ptr, ptr_val, rawptr_vals, rawptr_Tells, plain, heard, nothing, Ended, Stays, stay_dropped, walk_of, ends_at, Goes-dropped, times_below, memory_before_copy, memory_after_copy, Out, at_return, holding, forget_but, take_at, give_at, bool, row, IsShifted, after, head, after_turn, proved, tables_of}
-use lib.WfN.{lt-wf_rel}
-use types.Run.{size_lit, jumps, forget, loops, again, Below}
-use denote.Plain.{bool_vals, bool_Tells}
-use Rattle.core.proofs.ptr.Rows.{El, R, el_x, elτ, el_own, sz, Good, el_out, el_in, apart, whole, one_more, one_below}
-use Rattle.core.proofs.ptr.Plans.{Plan, down_Plan, up_Plan}
-use Rattle.thin_block.specs.contracts.shifts.copy_overlapping.Key.{name as #self}
+-- This file proves the contract of `copy_overlapping`, which moves items one by one: the last one
+-- first if it moves them up, and the first one first if it moves them down. The proof is like
+-- core's proof for `ptr::copy`.
+--
+-- The proof has six stages. A stage ends with the next one, so the last one comes first. A *plan*,
+-- of the type `Plan` of core, says what is owned after each move, for one of the two directions.
+--
+-- 1. `copy_overlapping_spec` takes the arguments and the facts of the contract.
+-- 2. `by_way` chooses the plan by the direction, and excludes null pointers.
+-- 3. `runs_by` enters the function and begins the loop.
+-- 4. `turns` is one turn: it chooses an item, or ends the loop and returns if no items are left.
+-- 5. `moves` reads the chosen item and writes it to its new place.
+-- 6. `ends_turn` counts the move, and ends the turn.
+use Rattle.std.proofs.Common.{◌≡◌, refl, sym, ap, subst, Bool, true, false, not, List, [], ◌∷◌}
+use Rattle.std.proofs.Common.{◌++◌, ℕ, zero, suc, ◌+◌, ◌-◌, ◌*◌, ◌≤◌, ◌<◌, ◌^◌, arith, lit<, length}
+use Rattle.std.proofs.Common.{w64}
 use mathlib.Core.WellFounded.InvImage
+use lib.Dec.{ltb→lt, nltb→le, T as Holds}
+use lib.WfN.{lt-wf_rel}
+use seplogic.Ra.Ura.{Ura}
+use base.Fml.{Lft, Share, Fml, ftrue, ffalse, fsep, fat, flft, froom}
+use base.Fraction.{full_share}
+use base.Logic.{SProp, ent, sep, never_e}
+use mir.MapTy.{inst_fn}
+use mir.Syntax.{Ty, Fn, Body, Args, a_type, ty_int, ty_array}
+use mir.Val.{Val, vunit, vbool, vint, vptr}
+use prog.Wp.{Env, Wp, WpFn, Tables, after_seq, after_block, Out, at_return, after_turn}
+use contract.BorrowLft.{◌⊑◌}
+use contract.Monad.{fact}
+use contract.Running.{tables, tables_of}
+use types.ByLocal.{alloc_all, pass_all, free_all, look_at, get, through, sets, sets_last, is, env}
+use types.ByLocal.{holding, forget_but, take_at, give_at}
+use types.Kit.{prop, Item, Sq, any_q, runs, ‵, raw, ◌⊛◌, some, given, at_ret, ◌$◌, ◌∵◌, !, qed, by}
+use types.Kit.{move, keep, drop, use1, use2, join, split, split3, pick, learn, rewrite, fsplit}
+use types.Kit.{fjoin, feq_i, suffices, done}
+use types.Logic.{Logic, sem}
+use types.Run.{stop, look, load, lit, bin, unit_lit, of_opd, init, assigns_last, first, blocks}
+use types.Run.{skips, branches, exec, returns, enter, size_lit, jumps, forget, loops, again, Below}
+use denote.Array.{Array}
+use denote.Builtin.{usize, bool}
+use denote.Exit.{yes}
+use denote.Index.{row}
+use denote.Memory.{part_at}
+use denote.Param.{layouts}
+use denote.Plain.{uint_vals, uint_Tells, bool_vals, bool_Tells}
+use denote.RattleType.{RattleType, owns}
+use denote.RawPtr.{Ptr, RawPtr, block_ptr, null_ptr, ptr_val, rawptr_vals, rawptr_Tells}
+use denote.Signature.{plain}
+use denote.Steps.{heard, nothing}
+use denote.Triple.Clauses.{Ended}
+use denote.Triple.Walked.{Stays, stay_dropped, walk_of, ends_at, Goes-dropped}
+use Rattle.core.specs.Ptr.{memory_before_copy, memory_after_copy}
+use Rattle.core.proofs.alloc.Shapes.{after, head}
+use Rattle.core.proofs.ptr.Plans.{Plan, down_Plan, up_Plan}
+use Rattle.core.proofs.ptr.Rows.{times_below, El, R, el_x, elτ, el_own, sz, Good, el_out, el_in}
+use Rattle.core.proofs.ptr.Rows.{apart, whole, one_more, one_below}
+use Rattle.std.proofs.raw_atomic.Walks.{proved}
+use Rattle.thin_block.specs.Shifts.{IsShifted}
 use Rattle.thin_block.specs.contracts.shifts.copy_overlapping as F
-use Rattle.thin_block.proofs.shifts.copy_overlapping.Statement as stated
+use Rattle.thin_block.specs.contracts.shifts.copy_overlapping.Key.{name as #self}
 use Rattle.thin_block.proofs.shifts.copy_overlapping.Code as code
+use Rattle.thin_block.proofs.shifts.copy_overlapping.Statement as stated
 
 -- `index up n i` is the index of the item that is moved when `i` of `n` items have been moved.
 abbrev index : Bool → ℕ → ℕ → ℕ
@@ -34,7 +82,7 @@ module _ (E : El) where
   abbrev fn' : Fn
   fn' = inst_fn args code.function
 
-  -- `turn` is the body of the loop. The first two statements test whether an item is left, the next
+  -- `turn` is the body of the loop. Its first two statements test whether an item is left, the next
   -- two choose one, the next two move it, and the last one counts it.
   abbrev turn : Body
   turn = head (head (head (after 1 fn'.body)))
@@ -43,7 +91,8 @@ module _ (E : El) where
   ended = F.ended E.row
 
   abbrev stayed : Stays ended.signature.params ended.kept
-  stayed = (stay_dropped _ yes, (stay_dropped _ yes, (stay_dropped _ yes, (stay_dropped _ yes, tt))))
+  stayed =
+      (stay_dropped _ yes, (stay_dropped _ yes, (stay_dropped _ yes, (stay_dropped _ yes, tt))))
 
 module _ (E : El) {M : Type 1} {𝓤 : Ura M} (𝓛 : Logic 𝓤) (𝓣 : Tables 𝓤 𝓛.H) (κ : Lft) (q : Share)
     (Post : Val → SProp 𝓤) (n : ℕ) (fn : n < 2 ^ 64) (fb : n * sz E < 2 ^ 64) where
@@ -74,12 +123,15 @@ module _ (E : El) {M : Type 1} {𝓤 : Ura M} (𝓛 : Logic 𝓤) (𝓣 : Tables
   module _ (up : Bool) (bs os bd od : ℕ) (From To : Fml)
       (plan : Plan E 𝓛 bs os bd od n (index up n) From To) (exits : Exits To) where
     abbrev known : ℕ → List (ℕ × Val)
-    known i = (1, vptr bs os) ∷ (2, vptr bd od) ∷ (3, vint w64 n) ∷ (4, vbool up) ∷ (5, vint w64 i) ∷ []
+    known i = (1, vptr bs os) ∷ (2, vptr bd od) ∷ (3, vint w64 n) ∷ (4, vbool up)
+        ∷ (5, vint w64 i) ∷ []
 
     module _ (l : ℕ → ℕ) where
       abbrev En : Env 𝓤 H
       En = env (fn' E).locals l
 
+      -- `Now t` is what the function owns at the beginning of a turn: what the plan says after this
+      -- many moves.
       abbrev Now : Moved → List (Item 𝓤)
       Now t = raw (plan.St t.0) ∷ ‵ (flft κ q) ∷ holding 𝓛 En (known t.0)
 
@@ -88,19 +140,44 @@ module _ (E : El) {M : Type 1} {𝓤 : Ura M} (𝓛 : Logic 𝓤) (𝓣 : Tables
       Chosen t = raw (plan.St t.0) ∷ ‵ (flft κ q)
           ∷ holding 𝓛 En (known t.0 ++ (8, vint w64 (index up n t.0)) ∷ [])
 
+      -- `Turned t` must hold after a turn that begins in the state `t`, and `Turn t Γ k` states
+      -- that a turn succeeds from its statement `k` on, with the proof context `Γ`.
       abbrev Turned : Moved → Out → SProp 𝓤
       Turned t = after_turn 𝓤 H (Below 𝓛 Nearer Now t)
-          (after_block 𝓤 H (after_seq 𝓤 H (Wp 𝓤 H 𝓣.C 𝓣.Λ En (after 2 (fn' E).body) (at_return 𝓤 H En Post))
-          (at_return 𝓤 H En Post)))
+          (after_block 𝓤 H (after_seq 𝓤 H (Wp 𝓤 H 𝓣.C 𝓣.Λ En (after 2 (fn' E).body)
+          (at_return 𝓤 H En Post)) (at_return 𝓤 H En Post)))
 
-      moves : (t : Moved) → t.0 < n → Sq 𝓛 (Chosen t)
-          (runs 𝓣.C 𝓣.Λ En (after 4 (turn E)) (any_q (Turned t)))
+      abbrev Turn : Moved → List (Item 𝓤) → ℕ → Type 1
+      Turn t Γ k = Sq 𝓛 Γ (runs 𝓣.C 𝓣.Λ En (after k (turn E)) (any_q (Turned t)))
+
+      -- Stage 6. The function owns the bytes of the moved item at its new place, what the item
+      -- owns, and the rest `plan.Q` of what the plan says.
+      ends_turn : (t : Moved) (h : t.0 < n) (v : Val) → Turn t (‵
+          (fat full_share τ bd (index up n t.0 * s + od) v) ∷ ‵ (el_own E (plan.el t.0 h) (v ∷ []))
+          ∷ raw (plan.Q t.0) ∷ ‵ (flft κ q) ∷ holding 𝓛 En (known t.0)) 6
+      unfolding after_turn
+      ends_turn t h v =
+          let i : ℕ = t.0 in let j : ℕ = index up n i in
+          let f₁ : i + 1 < 2 ^ 64 = omega arith in
+          sets_last ! (bin ! (get ! refl) (lit ! tt) (record { fits = f₁ })) refl
+          (tt, record { fits = f₁ }) $
+          use2 𝓛 (‵ (part_at (R E) full_share (plan.el i h) bd (j * s + od)))
+          (el_in E 𝓛 full_share (plan.el i h) bd (j * s + od) v) $
+          use2 𝓛 (raw (plan.St (suc i))) (plan.put i h) $
+          forget_but ! En (1 ∷ 2 ∷ 3 ∷ 4 ∷ 5 ∷ []) refl $ take_at ! 5 $
+          rewrite ! 0 (λ (k : ℕ). ‵ (fat full_share (ty_int w64) (l 5) zero (vint w64 k)))
+          (one_more i) refl $ give_at ! 5 $
+          again ! Nearer Now t (suc i, omega arith) (omega arith)
+
+      -- Stage 5. The function owns what the plan says. The plan gives the chosen item, whose memory
+      -- becomes free once it is read, and with it memory for the item at its new place.
+      moves : (t : Moved) → t.0 < n → Turn t (Chosen t) 4
       unfolding after_turn
       moves t h =
           let i : ℕ = t.0 in let j : ℕ = index up n i in
           let low : j < n = index_low up n i h in
           let fs : s < 2 ^ 64 = one_below n s (2 ^ 64) (omega arith) fb in
-          let f₁ : i + 1 < 2 ^ 64 = omega arith in let fj : j < 2 ^ 64 = omega arith in
+          let fj : j < 2 ^ 64 = omega arith in
           let fm : j * s < 2 ^ 64 = times_below j n s (2 ^ 64) (omega arith) fb in
           sets ! (of_opd ! (get ! refl)) refl (tt, record { fits = fj }) $ first ! $ blocks ! $
           sets ! (bin ! (get ! refl) (size_lit ! (record { fits = fs })) (record { fits = fm }))
@@ -119,18 +196,12 @@ module _ (E : El) {M : Type 1} {𝓤 : Ura M} (𝓛 : Logic 𝓤) (𝓣 : Tables
           forget ! 0 refl $ move ! (0 ∷ 2 ∷ []) $
           use2 𝓛 (‵ (froom τ bd (j * s + od)) ⊛ raw (plan.Q i)) (plan.mid i h) $ split ! $
           assigns_last ! (of_opd ! (get ! refl)) (through ! refl (stop !)) (init ! 0 refl good) $
-          exec ! 𝓣.C 𝓣.Λ En (after 6 (turn E)) (any_q (Turned t)) $
-          sets_last ! (bin ! (get ! refl) (lit ! tt) (record { fits = f₁ })) refl
-          (tt, record { fits = f₁ }) $ move ! (0 ∷ 2 ∷ []) $
-          use2 𝓛 (‵ (part_at (R E) full_share (plan.el i h) bd (j * s + od)))
-          (el_in E 𝓛 full_share (plan.el i h) bd (j * s + od) v) $
-          use2 𝓛 (raw (plan.St (suc i))) (plan.put i h) $
-          forget_but ! En (1 ∷ 2 ∷ 3 ∷ 4 ∷ 5 ∷ []) refl $ take_at ! 5 $
-          rewrite ! 0 (λ (k : ℕ). ‵ (fat full_share (ty_int w64) (l 5) zero (vint w64 k)))
-          (one_more i) refl $ give_at ! 5 $
-          again ! Nearer Now t (suc i, omega arith) (omega arith)))
+          exec ! 𝓣.C 𝓣.Λ En (after 6 (turn E)) (any_q (Turned t)) $ move ! (0 ∷ 2 ∷ []) $
+          forget_but ! En (1 ∷ 2 ∷ 3 ∷ 4 ∷ 5 ∷ []) refl $ ends_turn t h v))
 
-      turns : (t : Moved) → Sq 𝓛 (Now t) (runs 𝓣.C 𝓣.Λ En (turn E) (any_q (Turned t)))
+      -- Stage 4. The function owns what the plan says. If no items are left, that is the memory
+      -- `To`, and the function returns.
+      turns : (t : Moved) → Turn t (Now t) 0
       unfolding after_turn
       turns t =
           let i : ℕ = t.0 in let le = t.1 in
@@ -157,6 +228,8 @@ module _ (E : El) {M : Type 1} {𝓤 : Ura M} (𝓛 : Logic 𝓤) (𝓣 : Tables
           sets ! (of_opd ! (unit_lit !)) refl (tt, tt) $ returns ! (look_at ! 0 refl) $
           free_all ! refl $ exits)
 
+    -- Stage 3. The function owns the memory `From`, which is what the plan says before the first
+    -- move.
     runs_by : Goes up (block_ptr bs os) (block_ptr bd od) From
     runs_by =
         qed 𝓛 (‵ From ∷ ‵ (flft κ q) ∷ []) ∵ use1 𝓛 (raw (plan.St 0)) plan.start $
@@ -168,6 +241,8 @@ module _ (E : El) {M : Type 1} {𝓤 : Ura M} (𝓛 : Logic 𝓤) (𝓣 : Tables
         first ! $ blocks ! $ loops ! 𝓣 Nearer (InvImage.wf (λ (t : Moved). n - t.0) lt-wf_rel.wf)
         (Now l) (turns l) (0, omega arith))
 
+  -- Stage 2. The function owns the items, and the empty slots next to them into which they move.
+  -- Nothing is owned at a null pointer.
   nowhere : (up : Bool) (src dst : Ptr) (P : Fml) → Goes up src dst (fsep ffalse P)
   nowhere up src dst P = qed 𝓛 (‵ (fsep ffalse P) ∷ ‵ (flft κ q) ∷ []) ∵ fsplit ! $
       keep ! (0 ∷ []) $ by ! (never_e 𝓤 _)
@@ -188,6 +263,7 @@ module _ (E : El) {M : Type 1} {𝓤 : Ura M} (𝓛 : Logic 𝓤) (𝓣 : Tables
     Runs up src dst = Exits (memory_after_copy (R E) up k n src dst xs)
         → Goes up src dst (memory_before_copy (R E) up k n src dst xs)
 
+    -- The distance `k` gives the one pointer from the other.
     by_way : (up : Bool) (src dst : Ptr) → IsShifted (R E) up k src dst → Runs up src dst
     by_way true null_ptr dst e = λ exits. nowhere true null_ptr dst ffalse
     by_way true (block_ptr b o) dst e = let to : ℕ = k * s + o in
@@ -201,6 +277,8 @@ module _ (E : El) {M : Type 1} {𝓤 : Ura M} (𝓛 : Logic 𝓤) (𝓣 : Tables
         counted false (block_ptr b from) (block_ptr b o) xs b from (froom (ty_array τ k) b o)
         (λ ln. runs_by false b from b o _ _ (down_Plan E 𝓛 n xs ln k b o) exits))
 
+-- Stage 1. The function owns the lifetime token of `T` and the memory that the contract says.
+-- `exits` shows that the contract holds at the return.
 pub copy_overlapping_spec : {M : Type 1} → stated.statement M
 unfolding tables_of
 copy_overlapping_spec 𝓤 𝓛 𝓜 𝓡 wired X L =
