@@ -1,15 +1,53 @@
--- This file proves the contract of `move_within`, which moves adjacent items up or down by `d`
--- slots.
-use Rattle.std.proofs.Common.{◌≡◌, ℕ, Some, ◌+◌, ◌*◌, ◌^◌, ◌<◌, List, ◌∷◌, [], ◌++◌, length, refl, sym, ap, subst, ◌∙◌, arith, w64, Option}
-use Rattle.thin_block.proofs.WalkPrelude.{length-map, Holds, ty_unit, Val, WT, has_ty, vint, vptr, vunit, inst_fn, emp, Fml, ftrue, fsep, flft, ◌⊑◌, fact, fact_i, ‵, raw, ◌⊛◌, exists, later, pick, await, ◌$◌, !, move, drop, use0, use1, use2, split, join, suffices, done, bin, size_word, unit_lit, of_opd, no_more, and_then, first, blocks, returns, alloc_all, pass_all, free_all, look_at, is, sets, lands_last, get, usize, owns, RawPtr, block_ptr, nothing, calls_at_last, walk_of, ends_at, proved_at, framed, R, uncapped, says_all, feq_l, id⊢, unit, only, triple_of, vbool, memory_before_copy, memory_after_copy, add_moves, with_slots, slots_own, move_slots, bool, pure_i, IsShifted}
-use Rattle.thin_block.proofs.shifts.ShiftMemory.{further, slides, distance, shifted}
-use Rattle.thin_block.proofs.MethodSignatures.{item, source, others, block_stays, goes, begins, enters, closes_over, token_out, leaves_unit, ptr_of, opens_self, continues, word, full-run, length-run, args, Br, sz, reach, length-moved, near, its_ptr, slot_found}
+-- This file proves the contract of `move_within`, which moves the `k` items from slot `low + a`
+-- onward to the slots from `low + d` onward, by a call of `copy_overlapping`.
+use Rattle.std.proofs.Common.{◌≡◌, ℕ, Some, ◌+◌, ◌*◌, ◌^◌, ◌<◌, List, ◌∷◌, [], ◌++◌, length, refl}
+use Rattle.std.proofs.Common.{sym, ap, subst, ◌∙◌, arith, w64, Option}
+use lib.Dec.{T as Holds}
+use lib.ListN.{length-map}
+use base.Fml.{Fml, ftrue, fsep, flft}
+use base.Logic.{emp, id⊢}
+use mir.MapTy.{inst_fn}
+use mir.Syntax.{ty_unit}
+use mir.Val.{Val, WT, has_ty, vint, vptr, vunit, vbool}
+use contract.BorrowLft.{◌⊑◌}
+use contract.Monad.{fact, fact_i}
+use types.ByLocal.{alloc_all, pass_all, free_all, look_at, is, sets, lands_last, get}
+use types.Kit.{‵, raw, ◌⊛◌, some as exists, later, pick, await, ◌$◌, !, move, drop, use0, use1}
+use types.Kit.{use2, split, join, suffices, done, feq_l}
+use types.Run.{bin, size_word, unit_lit, of_opd, no_more, and_then, first, blocks, returns}
+use denote.Builtin.{usize, unit, bool}
+use denote.RattleType.{owns}
+use denote.RawPtr.{RawPtr, block_ptr}
+use denote.Shadow.{pure_i}
+use denote.Steps.{nothing, only}
+use denote.Triple.Call.{calls_at_last}
+use denote.Triple.Spec.{triple_of}
+use denote.Triple.Walked.{walk_of, ends_at}
+use Rattle.core.specs.Ptr.{memory_before_copy, memory_after_copy}
+use Rattle.core.proofs.atomic.Steps.{fm as framed}
+use Rattle.core.proofs.mem.Param.{R}
+use Rattle.core.proofs.slots.Leases.{uncapped}
+use Rattle.std.proofs.raw_atomic.Walks.{proved_at}
+use Rattle.thin_block.specs.Cost.{add_moves}
+use Rattle.thin_block.specs.Lends.{with_slots}
+use Rattle.thin_block.specs.Ownership.{slots_own}
+use Rattle.thin_block.specs.Shifts.{IsShifted}
+use Rattle.thin_block.specs.Slots.{move_slots}
 use Rattle.thin_block.specs.contracts.block.Block.move_within.{ended, clauses}
 use Rattle.thin_block.specs.contracts.block.Block.move_within.Key.{name as #self}
-use Rattle.thin_block.proofs.block.Block.move_within.Statement.{statement}
-use Rattle.thin_block.proofs.shifts.copy_overlapping.Met as copy_overlapping_met
 use Rattle.thin_block.specs.contracts.shifts.copy_overlapping as slide
+use Rattle.thin_block.proofs.Addresses.{near, its_ptr, slot_found}
+use Rattle.thin_block.proofs.HeaderMemory.{args, Br}
+use Rattle.thin_block.proofs.MethodSignatures.{item, source, others, block_stays, goes, begins}
+use Rattle.thin_block.proofs.MethodSignatures.{enters, closes_over, token_out, leaves_unit, ptr_of}
+use Rattle.thin_block.proofs.MethodSignatures.{opens_self, continues, word}
+use Rattle.thin_block.proofs.SlotMemory.{sz, reach}
+use Rattle.thin_block.proofs.SlotsLemmas.{full-run, length-run, length-moved}
+use Rattle.thin_block.proofs.WalkPrelude.{says_all}
 use Rattle.thin_block.proofs.block.Block.move_within.Code as compiled
+use Rattle.thin_block.proofs.block.Block.move_within.Statement.{statement}
+use Rattle.thin_block.proofs.shifts.ShiftMemory.{further, slides, distance, shifted}
+use Rattle.thin_block.proofs.shifts.copy_overlapping.Met as copy_overlapping_met
 
 pub move_within_spec : {M : Type 1} → statement M
 move_within_spec 𝓤 𝓛 𝓜 𝓡 wired T A LT LA g d dd met md =
@@ -27,7 +65,8 @@ move_within_spec 𝓤 𝓛 𝓜 𝓡 wired T A LT LA g d dd met md =
     let x = r.now in let cap : ℕ = length x.slots in
     let from : ℕ = low + a in let to : ℕ = low + d in
     let (_, (κ₁, _)) = z.0.0 in let (_, (q₁, _)) = z.0.1 in
-    begins E Y 𝓛 ss z.0 (_ ∷ _ ∷ _ ∷ _ ∷ _ ∷ _ ∷ _ ∷ []) (λ lives _ source target filled above below.
+    begins E Y 𝓛 ss z.0 (_ ∷ _ ∷ _ ∷ _ ∷ _ ∷ _ ∷ _ ∷ [])
+    (λ lives _ source target filled above below.
     let items = full-run x.slots from k source filled in
     let xs : List T.Denot = items.0 in
     let long : length xs ≡ k = sym (length-map xs Some) ∙ ap length (sym items.1)
