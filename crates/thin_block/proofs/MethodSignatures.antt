@@ -158,14 +158,14 @@ module _ (E : El) (Y : Al) {M : Type 1} {𝓤 : Ura M} (κ : Lft) (q : Share)
     (r : MutBor (Br E Y).Denot) where
   -- `Borrowed y Γ` is a proof context that begins with the borrow of the block `y` behind `r`. This
   -- borrow has three entries, the last of which is its lifetime token.
-  abbrev Borrowed : (Br E Y).Denot → List (Item 𝓤) → List (Item 𝓤)
+  abbrev pub Borrowed : (Br E Y).Denot → List (Item 𝓤) → List (Item 𝓤)
   Borrowed y Γ = ‵ (fobs r.ghost_name ((Br E Y).coded.code y)) ∷ ‵
       (fbor κ (Body (mem (Br E Y)) r.ref_ptr.0 r.ref_ptr.1 r.ghost_name)) ∷ ‵ (flft κ q) ∷ Γ
 
   -- `Open b o u v Γ` is a proof context that begins with four entries that the comments in the
   -- proofs of the methods call the open borrow: the memory that holds the block's pointer; the
   -- right to close the borrow, with its lifetime token; two ghost resources that record the value.
-  abbrev Open : ℕ → ℕ → Gv → Gv → List (Item 𝓤) → List (Item 𝓤)
+  abbrev pub Open : ℕ → ℕ → Gv → Gv → List (Item 𝓤) → List (Item 𝓤)
   Open b o u v Γ = ‵
       (cell_at full_share (Br E Y).mir (block_val (block_ptr b o) ∷ []) r.ref_ptr.0 r.ref_ptr.1)
       ∷ ‵ (fobor κ q (Body (mem (Br E Y)) r.ref_ptr.0 r.ref_ptr.1 r.ghost_name)) ∷ ‵
