@@ -1,14 +1,27 @@
 -- These lemmas are steps of proofs about function bodies. They compute the addresses of slots, and
 -- separate one or two slots of a block from the other slots.
-use Rattle.std.proofs.Common.{◌≡◌, ℕ, zero, Some, None, ◌+◌, ◌*◌, ◌^◌, ◌<◌, ◌≤◌, List, [], ◌∷◌, length, true, refl, sym, ap, subst, arith, w64, T}
-use Rattle.thin_block.proofs.WalkPrelude.{get_or, Ura, full_share, Share, ftrue, fat, Body, seq, assign, place, copy, rv_opd, Val, vint, vptr, has_ty, Env, Calls, Loops, Logic, Item, Goal, Seq, Step, step, ‵, ◌⊛◌, some, given, pick, learn, runs, ◌$◌, use1, move, split, split3, rewrite, whole, sub, look_in, stop, fld, load, lit, bin, size_word, of_opd, assigns, through, is, get, lone, cell_at, block_ptr, Al, El, R, elτ, el_x, uncapped}
-use mir.Syntax.{int, op2, offset, mul, unsigned, size_of, deref, field}
-use prog.Wp.{spot_of}
-use types.Kit.{Post, nth, del}
-use types.Run.{Opd, from}
-use types.ByLocal.{at, set, set_at, free_needs}
-use Rattle.core.proofs.mem.Param.{Good}
+use Rattle.std.proofs.Common.{◌≡◌, ℕ, zero, Some, None, ◌+◌, ◌*◌, ◌^◌, ◌<◌, ◌≤◌, List, [], ◌∷◌}
+use Rattle.std.proofs.Common.{length, true, refl, sym, ap, subst, arith, w64, T}
+use lib.ListN.{get_or}
+use seplogic.Ra.Ura.{Ura}
+use base.Fml.{Share, ftrue, fat}
+use base.Fraction.{full_share}
+use mir.Syntax.{Body, seq, assign, place, copy, rv_opd, int, op2, offset, mul, unsigned, size_of}
+use mir.Syntax.{deref, field}
+use mir.Val.{Val, vint, vptr, has_ty}
+use prog.Wp.{Env, Calls, Loops, spot_of}
+use types.ByLocal.{through, is, get, at, set, set_at, free_needs}
+use types.Kit.{Item, Goal, Seq, Step, step, ‵, ◌⊛◌, some, given, pick, learn, runs, ◌$◌, use1, move}
+use types.Kit.{split, split3, rewrite, Post, nth, del}
+use types.Logic.{Logic}
+use types.Part.{whole, sub, look_in}
+use types.Run.{stop, fld, load, lit, bin, size_word, of_opd, assigns, Opd, from}
+use denote.Memory.{lone, cell_at}
+use denote.RawPtr.{block_ptr}
+use Rattle.core.proofs.alloc.Calls.{Al}
+use Rattle.core.proofs.mem.Param.{El, R, elτ, el_x, Good}
 use Rattle.core.proofs.slice.Rows.{el_out}
+use Rattle.core.proofs.slots.Leases.{uncapped}
 use Rattle.thin_block.specs.Ownership.{fits_block, slot_owns as slot_place, slots_own}
 use Rattle.thin_block.proofs.HeaderMemory.{Br, block_val}
 use Rattle.thin_block.proofs.SlotMemory.{Slot, sz, reach, besides, slot_out, Two}

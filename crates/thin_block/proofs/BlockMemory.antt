@@ -1,22 +1,44 @@
 -- These lemmas are about the memory that a block requests, whether or not the block is padded. They
 -- give its size and alignment, split it into the header, the slots and the right to free it, and
 -- join it again.
-use Rattle.std.proofs.Common.{◌≡◌, ℕ, ◌+◌, ◌-◌, ◌*◌, ◌^◌, ◌<◌, [], ◌∷◌, Bool, true, false, Option, Some, None, refl, sym, ap, ◌∙◌, arith, zero-mul}
-use Rattle.thin_block.proofs.WalkPrelude.{Ura, SProp, ent, sep, apply∗, Fml, ftrue, fsep, froom, fwand, Ty, ty_ptr, size, align, Logic, sem, ‵, ◌⊛◌, ◌$◌, ◌∵◌, !, qed, by, move, drop, use1, use2, split, split3, fsplit, fjoin, fjoin3, rewrite, done, RattleType, Ptr, block_ptr, El, R, div_ceil, type_size, type_align, block_align, block_bytes, array_of, gapped_items, if◌then◌else◌}
+use Rattle.std.proofs.Common.{◌≡◌, ℕ, ◌+◌, ◌-◌, ◌*◌, ◌^◌, ◌<◌, [], ◌∷◌, Bool, true, false, Option}
+use Rattle.std.proofs.Common.{Some, None, refl, sym, ap, ◌∙◌, arith, zero-mul}
+use seplogic.Ra.Ura.{Ura}
+use base.Fml.{Fml, ftrue, fsep, froom, fwand}
+use base.Logic.{SProp, ent, sep, apply∗}
 use borrow.Author.Tests.{clash}
-use Rattle.thin_block.specs.Capacity.{front_bytes, in_words, memory_bytes}
-use Rattle.thin_block.specs.Ownership.{block_type, dealloc_right, dealloc_right_if, dealloc_right_of, end_of, erased_type, fits_block, header_owns, header_room, memory_type, memory_type_if, padded_type, pads, rejoin_wand, requested_type_of, slots_own, slots_wand, unjoined_room, words_of}
+use mir.Syntax.{Ty, ty_ptr}
+use prog.Memory.{size, align}
+use types.Kit.{‵, ◌⊛◌, ◌$◌, ◌∵◌, !, qed, by, move, drop, use1, use2, split, split3, fsplit, fjoin}
+use types.Kit.{fjoin3, rewrite, done}
+use types.Logic.{Logic, sem}
+use denote.RattleType.{RattleType}
+use denote.RawPtr.{Ptr, block_ptr}
+use Rattle.core.specs.Allocator.{array_of}
+use Rattle.core.proofs.mem.Param.{El, R}
+use Rattle.std.specs.Align.{type_align}
+use Rattle.std.specs.Int.{div_ceil}
+use Rattle.std.specs.Mem.{type_size}
+use Rattle.std.specs.Prelude.{if◌then◌else◌}
+use Rattle.thin_block.specs.Capacity.{block_align, block_bytes, front_bytes, in_words, memory_bytes}
+use Rattle.thin_block.specs.InPlace.{gapped_items}
+use Rattle.thin_block.specs.Ownership.{block_type, dealloc_right, dealloc_right_if}
+use Rattle.thin_block.specs.Ownership.{dealloc_right_of, end_of, erased_type, fits_block}
+use Rattle.thin_block.specs.Ownership.{header_owns, header_room, memory_type, memory_type_if}
+use Rattle.thin_block.specs.Ownership.{padded_type, pads, rejoin_wand, requested_type_of, slots_own}
+use Rattle.thin_block.specs.Ownership.{slots_wand, unjoined_room, words_of}
 use Rattle.thin_block.specs.Slots.{empty_slots}
 use Rattle.thin_block.proofs.HeaderMemory.{carve, header_unwritten}
-use Rattle.thin_block.proofs.sizes.SizesLemmas.{fits_tells}
 use Rattle.thin_block.proofs.SlotMemory.{of_raw, to_raw}
-use Rattle.thin_block.proofs.words.WordRooms.{half}
-use Rattle.thin_block.proofs.words.WordsLemmas.{words_told}
-use Rattle.thin_block.proofs.words.WordsMemory.{word_el, words_in}
-use Rattle.thin_block.proofs.WordConversionLemmas.{same_words, asked_size, asked_align, header_apart, words_apart}
+use Rattle.thin_block.proofs.WordConversionLemmas.{same_words, asked_size, asked_align}
+use Rattle.thin_block.proofs.WordConversionLemmas.{header_apart, words_apart}
 use Rattle.thin_block.proofs.in_place.ArrayMemory.{memory_in, memory_out}
 use Rattle.thin_block.proofs.padded.PaddedLemmas.{padded_tells}
 use Rattle.thin_block.proofs.padded.PaddedMemory.{padded_size, padded_align, array_out}
+use Rattle.thin_block.proofs.sizes.SizesLemmas.{fits_tells}
+use Rattle.thin_block.proofs.words.WordRooms.{half}
+use Rattle.thin_block.proofs.words.WordsLemmas.{words_told}
+use Rattle.thin_block.proofs.words.WordsMemory.{word_el, words_in}
 
 -- `Front p s n` collects what holds if `n` bytes precede the header of a block for items of size
 -- `s`. `p` says whether the block is padded.

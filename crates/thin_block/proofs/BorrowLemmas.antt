@@ -1,13 +1,27 @@
 -- When a mutable borrow of items of a block has ended, these lemmas give the items back to the
 -- block. `item_back` is for one item, and `items_back` is for several adjacent items.
-use Rattle.std.proofs.Common.{◌≡◌, ℕ, ◌+◌, ◌*◌, ◌<◌, ◌≤◌, List, ◌∷◌, [], length, Some, refl, sym, ◌∙◌, arith}
-use Rattle.thin_block.proofs.WalkPrelude.{Ura, full_share, ent, sep, Fml, fsep, Val, Logic, sem, cells, ‵, ◌$◌, ◌∵◌, !, qed, by, move, use1, use2, rewrite, fsplit, fjoin, done, cell_at, mem, block_ptr, Al, El, R, el_x, fpack, slot_owns, slots_own, IsSome, filled_slots, write_slots, slot}
+use Rattle.std.proofs.Common.{◌≡◌, ℕ, ◌+◌, ◌*◌, ◌<◌, ◌≤◌, List, ◌∷◌, [], length, Some, refl, sym}
+use Rattle.std.proofs.Common.{◌∙◌, arith}
+use seplogic.Ra.Ura.{Ura}
+use base.Fml.{Fml, fsep}
+use base.Fraction.{full_share}
+use base.Logic.{ent, sep}
+use mir.Val.{Val}
+use types.Kit.{‵, ◌$◌, ◌∵◌, !, qed, by, move, use1, use2, rewrite, fsplit, fjoin, done, fpack}
+use types.Logic.{Logic, sem}
+use types.SemTy.{cells}
+use denote.Memory.{cell_at, mem, part_of}
+use denote.RawPtr.{block_ptr}
+use Rattle.core.proofs.alloc.Calls.{Al}
+use Rattle.core.proofs.mem.Param.{El, R, el_x}
 use Rattle.std.proofs.lemmas.List.{length-map, length-set}
-use denote.Memory.{part_of}
+use Rattle.std.specs.Prelude.{IsSome}
 use Rattle.thin_block.specs.Lends.{length-over, with_slots, set_slot, set_slots}
-use Rattle.thin_block.proofs.SlotsLemmas.{over-written}
+use Rattle.thin_block.specs.Ownership.{slot_owns, slots_own}
+use Rattle.thin_block.specs.Slots.{filled_slots, write_slots, slot}
 use Rattle.thin_block.proofs.HeaderMemory.{Br, Header, header, t, block_val, block_made}
 use Rattle.thin_block.proofs.SlotMemory.{Slot, sz, besides, slot_in, around, run_in, of_cells}
+use Rattle.thin_block.proofs.SlotsLemmas.{over-written}
 
 module _ (E : El) (Y : Al) {M : Type 1} {𝓤 : Ura M} (𝓛 : Logic 𝓤) (x : (Br E Y).Denot)
     (b o rb ro : ℕ) (at : x.at ≡ block_ptr b o) where

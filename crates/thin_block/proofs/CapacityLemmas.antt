@@ -1,16 +1,18 @@
 -- These lemmas are about the functions that choose the new capacity of a block: `grown_capacity`,
 -- which uses a growth rule, and `exact_capacity`.
-use Rattle.std.proofs.Common.{if◌then◌else◌, Bool, true, false, IsTrue, ◌≡◌, ℕ, zero, suc, ◌*◌, ◌^◌, ◌<◌, ◌≤◌, refl, sym, ◌∙◌, arith}
-use Rattle.std.specs.declared.option.Option.TheVariants.{Some, None}
-use borrow.Author.Tests.{lt-ltb, le-ltb, le-leb, lt-leb}
-use native.Mathlib.Nat.{mul-le-mul_left, mul-le-mul_right}
+use Rattle.std.proofs.Common.{if◌then◌else◌, Bool, true, false, IsTrue, ◌≡◌, ℕ, zero, suc, ◌*◌, ◌^◌}
+use Rattle.std.proofs.Common.{◌<◌, ◌≤◌, refl, sym, ◌∙◌, arith}
 use native.Mathlib.Decide.{dec_lt}
+use native.Mathlib.Nat.{mul-le-mul_left, mul-le-mul_right}
+use borrow.Author.Tests.{lt-ltb, le-ltb, le-leb, lt-leb}
 use denote.RattleType.{RattleType}
-use Rattle.std.specs.Mem.{type_size}
-use Rattle.std.specs.Align.{type_align}
 use Rattle.core.proofs.ptr.Rows.{times_below}
+use Rattle.std.specs.Align.{type_align}
+use Rattle.std.specs.Mem.{type_size}
+use Rattle.std.specs.declared.option.Option.TheVariants.{Some, None}
 use Rattle.thin_block.specs.Capacity.{fits, Fits}
-use Rattle.thin_block.specs.Growth.{GrowthRule, IsLawful, IsValidGrowth, exact_capacity, checked_capacity, grown_capacity}
+use Rattle.thin_block.specs.Growth.{GrowthRule, IsLawful, IsValidGrowth, exact_capacity}
+use Rattle.thin_block.specs.Growth.{checked_capacity, grown_capacity}
 use Rattle.thin_block.proofs.sizes.SizesLemmas.{fits_tells, fits_yes, rounded}
 pub use Rattle.thin_block.proofs.sizes.SizesLemmas.{fits-none}
 

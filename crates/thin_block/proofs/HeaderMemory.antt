@@ -1,21 +1,50 @@
 -- These lemmas split the memory of a block into its header and its slots, and put these parts back
 -- together.
-use Rattle.std.proofs.Common.{◌≡◌, Bool, true, ℕ, Some, None, ◌+◌, ◌*◌, ◌<◌, List, [], ◌∷◌, ◌++◌, length, refl, sym, ap, subst, ◌∙◌, arith, w64, Option}
-use Rattle.thin_block.proofs.WalkPrelude.{Ura, Ty, Width, Args, w8, w16, w32, w128, a_type, dcons, dnil, ty_int, ty_array, size, align, align_w, align-bytes, size-raw, lone, cell_at, mem, Val, vstruct, vcons, vnil, bytes, ent, emp, sep, wand, id⊢, never, apply∗, Lft, GName, Share, Fml, ftrue, fsep, fat, froom, flft, fbor, vint, uint_in, uint_out, lies_at, Logic, sem, ‵, ◌⊛◌, ◌$◌, ◌∵◌, !, qed, by, move, keep, drop, use0, use1, use2, split, split3, join, fsplit, fsplit3, fjoin, rewrite, keeps, assume, feq_i, feq_l, Item, Goal, Step, step, Seq, done, RattleType, param, bounded, Ptr, RawPtr, block_ptr, ptr_val, Struct, usize, shows, nothing, peeks, full_share, El, R, Al, type_size, type_align, Tys, tcons, tnil, up, align-raw, fwand, fobs, fauth, fobor, in_a_block, lent_at, block_align, block_bytes}
-use mir.Raw.{raw}
-use Rattle.std.specs.Prelude.{max}
-use mir.Val.{of_list}
+use Rattle.std.proofs.Common.{◌≡◌, Bool, true, ℕ, Some, None, ◌+◌, ◌*◌, ◌<◌, List, [], ◌∷◌, ◌++◌}
+use Rattle.std.proofs.Common.{length, refl, sym, ap, subst, ◌∙◌, arith, w64, Option}
+use seplogic.Ra.Ura.{Ura}
+use base.Fml.{Lft, GName, Share, Fml, ftrue, fsep, fat, froom, flft, fbor, fwand, fobs, fauth}
+use base.Fml.{fobor}
+use base.Fraction.{full_share}
+use base.Logic.{ent, emp, sep, wand, id⊢, never, apply∗}
 use base.Stored.{Gv}
-use prog.Model.{rooms_at}
-use types.Kit.{raw as given_raw, Soaks}
-use types.SemTy.{Body}
-use denote.Shadow.{shadow, makes_shadow}
-use denote.Steps.{opens, closes}
 use borrow.Author.Tests.{clash}
+use mir.Raw.{raw}
+use mir.Syntax.{Ty, Width, Args, w8, w16, w32, w128, a_type, dcons, dnil, ty_int, ty_array, Tys}
+use mir.Syntax.{tcons, tnil}
+use mir.Val.{Val, vstruct, vcons, vnil, bytes, vint, of_list}
+use prog.Align.{align_w, align-bytes}
+use prog.Memory.{size, align, up}
+use prog.Model.{rooms_at}
+use prog.RawLaws.{size-raw, align-raw}
+use types.Kit.{‵, ◌⊛◌, ◌$◌, ◌∵◌, !, qed, by, move, keep, drop, use0, use1, use2, split, split3}
+use types.Kit.{join, fsplit, fsplit3, fjoin, rewrite, frame as keeps, assume, feq_i, feq_l, Item}
+use types.Kit.{Goal, Step, step, Seq, done, raw as given_raw, Soaks}
+use types.Logic.{Logic, sem}
+use types.SemTy.{Body}
+use denote.Builtin.{usize}
+use denote.Laws.{shows}
+use denote.Memory.{lone, cell_at, mem}
+use denote.Param.{param, bounded}
+use denote.Plain.{uint_in, uint_out}
+use denote.RattleType.{RattleType}
+use denote.RawPtr.{lies_at, Ptr, RawPtr, block_ptr, ptr_val, in_a_block}
+use denote.Shadow.{shadow, makes_shadow}
+use denote.Steps.{nothing, peeks, opens, closes}
+use denote.Struct.Lending.{lent_at}
+use denote.Struct.Struct.{Struct}
+use Rattle.core.proofs.alloc.Calls.{Al}
+use Rattle.core.proofs.mem.Param.{El, R}
+use Rattle.std.specs.Align.{type_align}
+use Rattle.std.specs.Mem.{type_size}
 use Rattle.std.specs.Option.{is_some}
-use Rattle.thin_block.specs.Ownership.{is_nonempty, fits_block, slots_own, unjoined_room, block_type, header_owns, header_room, dealloc_right, block_owns}
-use Rattle.thin_block.proofs.sizes.SizesLemmas.{fits-none}
+use Rattle.std.specs.Prelude.{max}
+use Rattle.thin_block.specs.Capacity.{block_align, block_bytes}
+use Rattle.thin_block.specs.Ownership.{is_nonempty, fits_block, slots_own, unjoined_room}
+use Rattle.thin_block.specs.Ownership.{block_type, header_owns, header_room, dealloc_right}
+use Rattle.thin_block.specs.Ownership.{block_owns}
 use Rattle.thin_block.specs.contracts.block.Block as block
+use Rattle.thin_block.proofs.sizes.SizesLemmas.{fits-none}
 
 -- `plainly Rs` is the struct type with the field types `Rs` and an empty name. What a struct owns
 -- does not depend on its name.

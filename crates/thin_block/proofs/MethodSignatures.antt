@@ -1,27 +1,51 @@
 -- These lemmas begin and end the proofs of methods that take `&mut self` or `&self`. They also say
 -- which arguments a method gives back to its caller.
--- `pub use` lines export lemmas of other files that several of these proofs cite.
-use Rattle.std.proofs.Common.{◌≡◌, true, ℕ, zero, suc, ◌+◌, ◌^◌, ◌<◌, List, [], ◌∷◌, length, refl, sym, lit<, w64, T, Some, Option}
-use Rattle.thin_block.proofs.WalkPrelude.{Ura, Fn, ty_int, Args, a_type, a_number, dcons, dnil, named, Val, vint, vptr, vunit, WT, has_ty, full_share, SProp, ent, sep, id⊢, Fml, Lft, Share, ftrue, fsep, feq, flft, fbor, Calls, Loops, Wp, WpFn, fact, tables, Logic, sem, Item, Goal, Seq, Sq, Step, step, ‵, raw, ◌⊛◌, prop, runs, at_ret, keep, ◌$◌, ◌∵◌, !, qed, move, use1, use3, split, join, fat, header_owns, dealloc_right, fsplit, fsplit3, fjoin, fjoin3, feq_i, rewrite, regoal, drop, enter, exec, env, yes, cell_at, mem, bounded, number, Laws, RattleType, owns, usize, block_ptr, Slot, plain, types_at, nothing, heard, Stays, stay_ref, stay_dropped, Goes-ref, Goes-dropped, Al, El, R, Facts, after, Dict, fobs, fauth, fobor, hidden_shr, fits_block, slots_own, Err, Ok, err_of, live, ok_of, refused_made, unit, use0, vcons, vnil, vstruct}
+use Rattle.std.proofs.Common.{◌≡◌, true, ℕ, zero, suc, ◌+◌, ◌^◌, ◌<◌, List, [], ◌∷◌, length, refl}
+use Rattle.std.proofs.Common.{sym, lit<, w64, T, Some, Option}
+use seplogic.Ra.Ura.{Ura}
+use base.Fml.{Fml, Lft, Share, ftrue, fsep, feq, flft, fbor, fat, fobs, fauth, fobor}
+use base.Fraction.{full_share}
+use base.Logic.{SProp, ent, sep, id⊢}
 use base.Stored.{Gv}
+use mir.Syntax.{Fn, ty_int, Args, a_type, a_number, dcons, dnil, named, Dict}
+use mir.Val.{Val, vint, vptr, vunit, WT, has_ty, vcons, vnil, vstruct}
 use prog.Model.{Model}
+use prog.Wp.{Calls, Loops, Wp, WpFn}
 use contract.Lifetimes.{Lfts, Shares, toks}
-use contract.Running.{Running}
+use contract.Monad.{fact}
+use contract.Running.{tables, Running}
+use types.ByLocal.{env}
+use types.Kit.{Item, Goal, Seq, Sq, Step, step, ‵, raw, ◌⊛◌, prop, runs, at_ret, keep, ◌$◌, ◌∵◌, ! }
+use types.Kit.{qed, move, use1, use3, split, join, fsplit, fsplit3, fjoin, fjoin3, feq_i, rewrite}
+use types.Kit.{regoal, drop, use0, Soaks, allocs, params', post}
+use types.Logic.{Logic, sem}
+use types.Match.{live}
+use types.Run.{enter, exec}
 use types.SemTy.{Body}
-use types.Kit.{Soaks, allocs, params', post}
-use denote.RattleType.{Denots, Valss}
+use denote.Builtin.{usize, unit}
+use denote.Exit.{yes}
+use denote.Memory.{cell_at, mem, hidden_shr}
+use denote.Param.{bounded, number}
+use denote.Param.Laws.{Laws}
+use denote.RattleType.{RattleType, owns, Denots, Valss}
+use denote.RawPtr.{block_ptr}
 use denote.Ref.{MutBor, MutRef, mut_vals, at_last}
-use denote.Signature.{mut_ref_to, shr_ref_to}
+use denote.Signature.{Slot, plain, types_at, mut_ref_to, shr_ref_to}
+use denote.Steps.{nothing, heard}
 use denote.Triple.End.{Kepts}
-use denote.Triple.Walked.{AllGo, Silent}
-use Rattle.core.specs.declared.alloc.Allocator.{Ghosts}
+use denote.Triple.Walked.{Stays, stay_ref, stay_dropped, Goes-ref, Goes-dropped, AllGo, Silent}
 use Rattle.core.specs.contracts.alloc.AllocError as AE
 use Rattle.core.specs.contracts.result.Result as RS
-pub use Rattle.thin_block.proofs.HeaderMemory.{alloc_there, args, Br, header, t, block_val, block_had, items, any_some, block_made, header_written}
-use Rattle.thin_block.proofs.HeaderMemory.{Header, Slots, block_opens, block_closes}
-pub use Rattle.thin_block.proofs.SlotMemory.{sz, slot_in, reach, around, run_out, run_in, of_items, to_room}
-pub use Rattle.thin_block.proofs.Addresses.{moves_on, near, its_ptr, slot_found, takes_slot, takes_item}
-pub use Rattle.thin_block.proofs.SlotsLemmas.{the_item, filled-within, full-run, length-run, length-moved, empty-run, length-written, packed-carried, packed-le, packed-long, packed-parted}
+use Rattle.core.specs.declared.alloc.Allocator.{Ghosts}
+use Rattle.core.specs.declared.result.Result.TheVariants.{Err, Ok}
+use Rattle.core.proofs.alloc.Calls.{Al}
+use Rattle.core.proofs.alloc.Shapes.{after}
+use Rattle.core.proofs.mem.Param.{El, R}
+use Rattle.std_alloc.proofs.ResultValues.{err_of, ok_of}
+use Rattle.thin_block.specs.Ownership.{header_owns, dealloc_right, fits_block, slots_own}
+use Rattle.thin_block.proofs.HeaderMemory.{Br, header, t, block_val, header_written, Header, Slots}
+use Rattle.thin_block.proofs.HeaderMemory.{block_opens, block_closes}
+use Rattle.thin_block.proofs.WalkPrelude.{Facts, refused_made}
 
 abbrev pub others : {n : ℕ} → List (Slot n) → List (Slot n)
 others [] = []

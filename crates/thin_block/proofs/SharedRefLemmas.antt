@@ -1,20 +1,38 @@
 -- These lemmas are about shared references to a block. `block_seen` splits such a reference into
 -- its parts, and `run_seen` makes a slice from a shared reference to contiguous items.
-use Rattle.std.proofs.Common.{◌≡◌, ℕ, zero, suc, Some, None, ◌+◌, ◌*◌, ◌≤◌, List, [], ◌∷◌, ◌++◌, length, Bool, true, refl, sym, ap, subst, ◌∙◌, arith, Option}
-use Rattle.thin_block.proofs.WalkPrelude.{zero-mul, suc-mul, Ura, ent, sep, via, id⊢, never, Lft, Fml, feq, Logic, sem, Item, Goal, Seq, ‵, ◌⊛◌, ◌$◌, ◌∵◌, !, qed, by, move, keep, use1, split, split3, rewrite, fsplit, feq_i, feq_l, done, RattleType, usize, param, RawPtr, block_ptr, nothing, Struct, Al, El, R, el_x, fhide, hidden_shr, shared_of, in_a_block, elements_shared, is_nonempty, fits_block, block_shares, slot_shares, slots_share, filled_slots, slot_range}
+use Rattle.std.proofs.Common.{◌≡◌, ℕ, zero, suc, Some, None, ◌+◌, ◌*◌, ◌≤◌, List, [], ◌∷◌, ◌++◌}
+use Rattle.std.proofs.Common.{length, Bool, true, refl, sym, ap, subst, ◌∙◌, arith, Option}
+use native.Mathlib.Nat.{zero-mul, suc-mul}
 use lib.ListN.{drop, take-append-drop}
-use base.Logic.{snd∗}
-use types.Kit.{frame}
+use seplogic.Ra.Ura.{Ura}
+use base.Fml.{Lft, Fml, feq, fhide}
+use base.Logic.{ent, sep, via, id⊢, never, snd∗}
+use borrow.Author.Tests.{clash}
+use types.Kit.{Item, Goal, Seq, ‵, ◌⊛◌, ◌$◌, ◌∵◌, !, qed, by, move, keep, use1, split, split3}
+use types.Kit.{rewrite, fsplit, feq_i, feq_l, done, frame}
+use types.Logic.{Logic, sem}
+use denote.Builtin.{usize}
+use denote.Memory.{hidden_shr, shared_of}
 use denote.Opens.{unhide}
+use denote.Param.{param}
+use denote.RattleType.{RattleType}
+use denote.RawPtr.{RawPtr, block_ptr, in_a_block}
+use denote.Slice.{elements_shared}
+use denote.Steps.{nothing}
 use denote.Struct.Lending.{lent_out}
 use denote.Struct.Owning.{shape}
-use borrow.Author.Tests.{clash}
+use denote.Struct.Struct.{Struct}
+use Rattle.core.specs.contracts.marker.PhantomData as marker
+use Rattle.core.proofs.alloc.Calls.{Al}
+use Rattle.core.proofs.mem.Param.{El, R, el_x}
 use Rattle.std.specs.Option.{is_some}
-use Rattle.thin_block.proofs.sizes.SizesLemmas.{fits-none}
+use Rattle.thin_block.specs.Ownership.{is_nonempty, fits_block, block_shares, slot_shares}
+use Rattle.thin_block.specs.Ownership.{slots_share}
+use Rattle.thin_block.specs.Slots.{filled_slots, slot_range}
+use Rattle.thin_block.specs.contracts.block.Block as block
 use Rattle.thin_block.proofs.HeaderMemory.{Br}
 use Rattle.thin_block.proofs.SlotMemory.{Slot, sz}
-use Rattle.core.specs.contracts.marker.PhantomData as marker
-use Rattle.thin_block.specs.contracts.block.Block as block
+use Rattle.thin_block.proofs.sizes.SizesLemmas.{fits-none}
 
 module _ (R : RattleType) {D : Type 0} {M : Type 1} {𝓤 : Ura M} (𝓛 : Logic 𝓤) (κ : Lft) where
   words_lent : (n : ℕ) (xs : List (Option R.Denot)) (a : Option D) (b o : ℕ)

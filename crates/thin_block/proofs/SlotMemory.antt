@@ -1,14 +1,34 @@
 -- These lemmas separate the memory of some slots of a block from the memory of the other slots, and
 -- convert the memory of slots into arrays, slice elements or uninitialized memory.
-use Rattle.std.proofs.Common.{◌≡◌, true, ℕ, zero, suc, None, ◌+◌, ◌*◌, ◌^◌, ◌<◌, ◌≤◌, List, [], ◌∷◌, ◌++◌, length, refl, sym, ap, ◌∙◌, arith, take, Option}
-use Rattle.thin_block.proofs.WalkPrelude.{zero-mul, suc-mul, set, get_or, length-set, Ura, full_share, ty_array, bare, ent, sep, emp, via, id⊢, Fml, ftrue, fsep, froom, Logic, sem, ‵, ◌⊛◌, given, ◌$◌, ◌∵◌, !, qed, by, move, keep, use1, use2, use3, split, split3, learn, rewrite, keeps, fsplit, fjoin, done, Array, part_at, mem, cells, RattleType, nothing, type_size, El, R, el_x, elτ, times_below, ⊎_elim, row, fits_block, slot_owns, slots_own, filled_slots, empty_slots, slot_range, write_slots}
-use lib.ListN.{drop, take-append-drop, length-take, length-drop}
-use Rattle.core.proofs.str.Laws.{order}
+use Rattle.std.proofs.Common.{◌≡◌, true, ℕ, zero, suc, None, ◌+◌, ◌*◌, ◌^◌, ◌<◌, ◌≤◌, List, [], ◌∷◌}
+use Rattle.std.proofs.Common.{◌++◌, length, refl, sym, ap, ◌∙◌, arith, take, Option}
+use mathlib.Core.Logic.{⊎_elim}
+use native.Mathlib.Nat.{zero-mul, suc-mul}
+use lib.ListN.{set, get_or, length-set, drop, take-append-drop, length-take, length-drop}
 use lib.Seq.{drop-cons, drop-drop, set_split, set_comm, get_or-take, take-set-lt, drop-set-lt}
-use base.Logic.{guard, mono_r}
-use types.Kit.{drop as skip, check}
-use Rattle.thin_block.proofs.sizes.SizesLemmas.{fits_tells}
+use seplogic.Ra.Ura.{Ura}
+use base.Fml.{Fml, ftrue, fsep, froom}
+use base.Fraction.{full_share}
+use base.Logic.{ent, sep, emp, via, id⊢, guard, mono_r}
+use mir.Raw.{raw as bare}
+use mir.Syntax.{ty_array}
+use types.Kit.{‵, ◌⊛◌, given, ◌$◌, ◌∵◌, !, qed, by, move, keep, use1, use2, use3, split, split3}
+use types.Kit.{learn, rewrite, frame as keeps, fsplit, fjoin, done, drop as skip, check}
+use types.Logic.{Logic, sem}
+use types.SemTy.{cells}
+use denote.Array.{Array}
+use denote.Index.{row}
+use denote.Memory.{part_at, mem}
+use denote.RattleType.{RattleType}
+use denote.Steps.{nothing}
+use Rattle.core.proofs.mem.Param.{El, R, el_x, elτ}
+use Rattle.core.proofs.ptr.Rows.{times_below}
 use Rattle.core.proofs.ptr.Rows as arrays
+use Rattle.core.proofs.str.Laws.{order}
+use Rattle.std.specs.Mem.{type_size}
+use Rattle.thin_block.specs.Ownership.{fits_block, slot_owns, slots_own}
+use Rattle.thin_block.specs.Slots.{filled_slots, empty_slots, slot_range, write_slots}
+use Rattle.thin_block.proofs.sizes.SizesLemmas.{fits_tells}
 
 pub reach : (Rw : RattleType) (i c : ℕ) → fits_block Rw c ≡ true → i ≤ c → i * type_size Rw < 2 ^ 63
 reach Rw i c fits le =

@@ -1,15 +1,20 @@
 -- These lemmas are about lists of slots. `slot_range` selects adjacent slots, `write_slots`
 -- replaces slots, and `move_slots` moves items. `IsPacked s n` states that exactly the first `n`
 -- slots of `s` are filled.
-use Rattle.std.proofs.Common.{◌⊎◌, ◌≡◌, ℕ, zero, suc, ◌+◌, ◌-◌, ◌<◌, ◌≤◌, List, [], ◌∷◌, ◌++◌, length, Some, None, refl, sym, ap, subst, ◌∙◌, arith, append_assoc}
-use Rattle.std.proofs.lemmas.List.{take-append-drop, drop-drop, set_at, get_or-append_right, get_or-drop, length-replicate, length-map, length-append, length-take, length-drop, take_at, drop_at, drop-replicate, replicate-append-replicate}
+use Rattle.std.proofs.Common.{◌⊎◌, ◌≡◌, ℕ, zero, suc, ◌+◌, ◌-◌, ◌<◌, ◌≤◌, List, [], ◌∷◌, ◌++◌}
+use Rattle.std.proofs.Common.{length, Some, None, refl, sym, ap, subst, ◌∙◌, arith, append_assoc}
 use lib.ListN.{set, get_or}
 use lib.Seq.{set_split, drop-cons, take-add}
-use Rattle.std.proofs.lemmas.Bool.{cases_eq}
 use borrow.Author.Tests.{clash}
+use Rattle.std.proofs.lemmas.Bool.{cases_eq}
+use Rattle.std.proofs.lemmas.List.{take-append-drop, drop-drop, set_at, get_or-append_right}
+use Rattle.std.proofs.lemmas.List.{get_or-drop, length-replicate, length-map, length-append}
+use Rattle.std.proofs.lemmas.List.{length-take, length-drop, take_at, drop_at, drop-replicate}
+use Rattle.std.proofs.lemmas.List.{replicate-append-replicate}
 use Rattle.std.specs.Prelude.{Option, IsSome, take, drop}
 use Rattle.thin_block.specs.Lends.{overwrite_items}
-use Rattle.thin_block.specs.Slots.{filled_slots, empty_slots, slot, items_in, IsPacked, slot_range, write_slots, clear_slots, move_slots}
+use Rattle.thin_block.specs.Slots.{filled_slots, empty_slots, slot, items_in, IsPacked, slot_range}
+use Rattle.thin_block.specs.Slots.{write_slots, clear_slots, move_slots}
 
 pub same_or_not : (i j : ℕ) → (i ≡ j) ⊎ (i ≡ j → ⊥)
 same_or_not i j = cases_eq i j

@@ -1,14 +1,38 @@
 -- These lemmas convert a block into one array of words, which an allocator can grow or shrink, and
 -- back. A word is a struct of whole items that takes 8 or 16 bytes.
-use Rattle.std.proofs.Common.{◌≡◌, false, ℕ, Some, None, ◌+◌, ◌-◌, ◌*◌, ◌≤◌, List, [], ◌∷◌, ◌++◌, length, refl, sym, ap, ◌∙◌, arith, Bool, Option}
-use Rattle.thin_block.proofs.WalkPrelude.{Ura, Ty, size, align, size-raw, ent, sep, Fml, froom, Logic, sem, ‵, ◌⊛◌, ◌$◌, ◌∵◌, !, qed, move, use1, use3, split, split3, fsplit, fsplit3, fjoin, rewrite, done, lone, param, Laws, RattleType, Ptr, block_ptr, El, R, elτ, array_of, div_ceil, type_size, type_align, align-raw, gapped_items, filled_slots, empty_slots}
+use Rattle.std.proofs.Common.{◌≡◌, false, ℕ, Some, None, ◌+◌, ◌-◌, ◌*◌, ◌≤◌, List, [], ◌∷◌, ◌++◌}
+use Rattle.std.proofs.Common.{length, refl, sym, ap, ◌∙◌, arith, Bool, Option}
+use seplogic.Ra.Ura.{Ura}
+use base.Fml.{Fml, froom}
+use base.Logic.{ent, sep}
+use mir.Syntax.{Ty}
+use prog.Memory.{size, align}
+use prog.RawLaws.{size-raw, align-raw}
+use types.Kit.{‵, ◌⊛◌, ◌$◌, ◌∵◌, !, qed, move, use1, use3, split, split3, fsplit, fsplit3, fjoin}
+use types.Kit.{rewrite, done}
+use types.Logic.{Logic, sem}
+use denote.Memory.{lone}
+use denote.Param.{param}
+use denote.Param.Laws.{Laws}
+use denote.RattleType.{RattleType}
+use denote.RawPtr.{Ptr, block_ptr}
+use Rattle.core.specs.Allocator.{array_of}
+use Rattle.core.proofs.mem.Param.{El, R, elτ}
+use Rattle.std.specs.Align.{type_align}
+use Rattle.std.specs.Int.{div_ceil}
+use Rattle.std.specs.Mem.{type_size}
 use Rattle.thin_block.specs.Capacity.{in_words, block_align, block_bytes}
-use Rattle.thin_block.specs.Ownership.{slots_own, header_owns, erased_type, words_of, requested_type_of, header_room, header_wand, slots_wand, dealloc_right, dealloc_right_of, dealloc_right_if, pads}
+use Rattle.thin_block.specs.InPlace.{gapped_items}
+use Rattle.thin_block.specs.Ownership.{slots_own, header_owns, erased_type, words_of}
+use Rattle.thin_block.specs.Ownership.{requested_type_of, header_room, header_wand, slots_wand}
+use Rattle.thin_block.specs.Ownership.{dealloc_right, dealloc_right_of, dealloc_right_if, pads}
+use Rattle.thin_block.specs.Slots.{filled_slots, empty_slots}
 use Rattle.thin_block.proofs.HeaderMemory.{whole_size, whole_align, header_unwritten}
-use Rattle.thin_block.proofs.words.WordsLemmas.{InWords, word_align, word_size, words_told, nameless}
-use Rattle.thin_block.proofs.words.WordRooms.{half, header_out, header_in}
-use Rattle.thin_block.proofs.words.WordsMemory.{word_el, words_made, words_back}
 use Rattle.thin_block.proofs.padded.PaddedLemmas.{words_unpadded}
+use Rattle.thin_block.proofs.words.WordRooms.{half, header_out, header_in}
+use Rattle.thin_block.proofs.words.WordsLemmas.{InWords, word_align, word_size, words_told}
+use Rattle.thin_block.proofs.words.WordsLemmas.{nameless}
+use Rattle.thin_block.proofs.words.WordsMemory.{word_el, words_made, words_back}
 
 module _ (Rw : RattleType) (c : ℕ) where
   abbrev s₀ : ℕ

@@ -1,14 +1,25 @@
 -- These lemmas say when a block may be sent to another thread (`block_send`), and when a block may
 -- be shared between threads (`block_sync`).
 use Rattle.std.proofs.Common.{ℕ, zero, suc, ◌+◌, List, [], ◌∷◌, length, Option, Some, None}
-use Rattle.thin_block.proofs.WalkPrelude.{div_ceil, type_size, Ty, size, RattleType, Ptr, block_ptr, null_ptr, usize, Fml, erased_type, word_of, words_of, slot_owns, slots_own, word_wands, rejoin_wand, pads, dealloc_right_if, block_owns, slot_shares, slots_share, block_shares}
-use Rattle.std.specs.Prelude.{Bool, true, false}
+use base.Fml.{Fml}
 use base.Shift.{Keyless}
-use denote.Struct.Struct.{exits_of}
+use mir.Syntax.{Ty}
+use prog.Memory.{size}
+use denote.Builtin.{usize}
+use denote.Param.Send.{IsSend, IsSync, Common, AllSend, AllSync, Frees, owning_send, struct_send}
+use denote.Param.Send.{struct_sync, sendable}
+use denote.RattleType.{RattleType}
+use denote.RawPtr.{Ptr, block_ptr, null_ptr}
 use denote.Struct.Owning.{shape, fields, to}
-use denote.Param.Send.{IsSend, IsSync, Common, AllSend, AllSync, Frees, owning_send, struct_send, struct_sync, sendable}
+use denote.Struct.Struct.{exits_of}
 use Rattle.core.specs.declared.alloc.Allocator.{Ghosts}
+use Rattle.std.specs.Int.{div_ceil}
+use Rattle.std.specs.Mem.{type_size}
+use Rattle.std.specs.Prelude.{Bool, true, false}
 use Rattle.std_alloc.proofs.SendSync.{quiet, lies, seen}
+use Rattle.thin_block.specs.Ownership.{erased_type, word_of, words_of, slot_owns, slots_own}
+use Rattle.thin_block.specs.Ownership.{word_wands, rejoin_wand, pads, dealloc_right_if, block_owns}
+use Rattle.thin_block.specs.Ownership.{slot_shares, slots_share, block_shares}
 use Rattle.thin_block.specs.contracts.block.Block as C
 
 number_send : IsSend usize

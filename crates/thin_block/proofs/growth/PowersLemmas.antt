@@ -1,14 +1,15 @@
 -- These lemmas prove that the code of the growth rule `PowerBytes` computes the same capacity as
 -- the function `power_bytes` in specs/Growth.antt, and that a block of this capacity is not padded.
-use Rattle.std.proofs.Common.{◌≡◌, ℕ, ◌+◌, ◌-◌, ◌*◌, ◌/◌, ◌^◌, ◌<◌, ◌≤◌, Option, IfSome, false, inl, inr, max, min, sym, ap, ◌∙◌, arith, eq-zero-or-pos}
-use Rattle.std.specs.declared.option.Option.TheVariants.{Some, None}
-use Rattle.std.specs.Mem.{type_size}
-use Rattle.std.specs.Align.{type_align}
-use prog.Memory.{capped}
-use prog.Capped.{capped_is, capped_small}
-use denote.RattleType.{RattleType}
+use Rattle.std.proofs.Common.{◌≡◌, ℕ, ◌+◌, ◌-◌, ◌*◌, ◌/◌, ◌^◌, ◌<◌, ◌≤◌, Option, IfSome, false, inl}
+use Rattle.std.proofs.Common.{inr, max, min, sym, ap, ◌∙◌, arith, eq-zero-or-pos}
 use native.Mathlib.Nat.{mul-le-mul_left, mul-le-mul_right}
+use prog.Capped.{capped_is, capped_small}
+use prog.Memory.{capped}
+use denote.RattleType.{RattleType}
 use Rattle.std.proofs.lemmas.Nat.{le-div}
+use Rattle.std.specs.Align.{type_align}
+use Rattle.std.specs.Mem.{type_size}
+use Rattle.std.specs.declared.option.Option.TheVariants.{Some, None}
 use Rattle.thin_block.specs.Capacity.{Fits, has_padding, items_offset, least_power}
 use Rattle.thin_block.specs.Growth.{FillsPowerOfTwo, checked_capacity, power_bytes}
 use Rattle.thin_block.specs.PowerLaws.{least_power_is, powers_filled, powers_of_some}

@@ -1,9 +1,30 @@
 -- These lemmas move the gap of an allocation that is resized as an array. The gap is directly
 -- before the values, or directly after them.
-use Rattle.std.proofs.Common.{◌≡◌, ℕ, None, Some, ◌+◌, ◌-◌, ◌*◌, ◌≤◌, List, ◌∷◌, [], ◌++◌, length, refl, sym, ap, ◌∙◌, arith, append_assoc, Option, take, drop as rest}
-use Rattle.thin_block.proofs.WalkPrelude.{length-take, length-append, Ura, full_share, Ty, ty_array, ent, sep, Fml, fsep, froom, Logic, sem, ‵, ◌⊛◌, ◌$◌, ◌∵◌, !, qed, move, use1, use2, split, fsplit3, fjoin3, rewrite, done, Array, part_at, Ptr, block_ptr, El, R, el_x, elτ, add_times, array_of, block_with_items, type_size, add_comm, gapped_items, slots_own, filled_slots, empty_slots}
-use Rattle.std.proofs.lemmas.List.{take-append-drop, length-drop, length-map, length-replicate, map-append, replicate-append-replicate}
-use Rattle.thin_block.proofs.SlotMemory.{cut, glue, to_items, of_items, to_raw, of_raw, of_room, to_room}
+use Rattle.std.proofs.Common.{◌≡◌, ℕ, None, Some, ◌+◌, ◌-◌, ◌*◌, ◌≤◌, List, ◌∷◌, [], ◌++◌, length}
+use Rattle.std.proofs.Common.{refl, sym, ap, ◌∙◌, arith, append_assoc, Option, take, drop as rest}
+use native.Mathlib.Nat.{add_comm}
+use seplogic.Ra.Ura.{Ura}
+use base.Fml.{Fml, fsep, froom}
+use base.Fraction.{full_share}
+use base.Logic.{ent, sep}
+use mir.Syntax.{Ty, ty_array}
+use types.Kit.{‵, ◌⊛◌, ◌$◌, ◌∵◌, !, qed, move, use1, use2, split, fsplit3, fjoin3, rewrite, done}
+use types.Logic.{Logic, sem}
+use denote.Array.{Array}
+use denote.Memory.{part_at}
+use denote.RawPtr.{Ptr, block_ptr}
+use Rattle.core.specs.Allocator.{array_of, block_with_items}
+use Rattle.core.proofs.mem.Param.{El, R, el_x, elτ}
+use Rattle.core.proofs.ptr.Rows.{add_times}
+use Rattle.std.proofs.lemmas.List.{length-take, length-append, take-append-drop, length-drop}
+use Rattle.std.proofs.lemmas.List.{length-map, length-replicate, map-append}
+use Rattle.std.proofs.lemmas.List.{replicate-append-replicate}
+use Rattle.std.specs.Mem.{type_size}
+use Rattle.thin_block.specs.InPlace.{gapped_items}
+use Rattle.thin_block.specs.Ownership.{slots_own}
+use Rattle.thin_block.specs.Slots.{filled_slots, empty_slots}
+use Rattle.thin_block.proofs.SlotMemory.{cut, glue, to_items, of_items, to_raw, of_raw, of_room}
+use Rattle.thin_block.proofs.SlotMemory.{to_room}
 
 -- In this module, an allocation for `c` values begins at the offset `o` of the allocation `b`. It
 -- has a gap of `k` values, and `n` values `items`.

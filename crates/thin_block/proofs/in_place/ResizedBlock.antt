@@ -1,8 +1,14 @@
 -- These lemmas are about the block that `resize_words` and `resize_padded` leave if the allocator
 -- succeeds.
-use Rattle.std.proofs.Common.{◌≡◌, true, ℕ, ◌-◌, ◌^◌, ◌<◌, ◌≤◌, List, ◌++◌, length, sym, ap, arith, Some, Option}
-use Rattle.thin_block.proofs.WalkPrelude.{Al, El, Ptr, block_view, empty_slots, filled_slots, is_nonempty, items_in, slot_range, write_slots}
+use Rattle.std.proofs.Common.{◌≡◌, true, ℕ, ◌-◌, ◌^◌, ◌<◌, ◌≤◌, List, ◌++◌, length, sym, ap, arith}
+use Rattle.std.proofs.Common.{Some, Option}
+use denote.RawPtr.{Ptr}
+use Rattle.core.proofs.alloc.Calls.{Al}
+use Rattle.core.proofs.mem.Param.{El}
+use Rattle.thin_block.specs.Block.{block_view}
 use Rattle.thin_block.specs.Cost.{Cost}
+use Rattle.thin_block.specs.Ownership.{is_nonempty}
+use Rattle.thin_block.specs.Slots.{empty_slots, filled_slots, items_in, slot_range, write_slots}
 use Rattle.thin_block.specs.Slots.{IsPacked}
 use Rattle.thin_block.proofs.HeaderMemory.{Br, any_some}
 use Rattle.thin_block.proofs.SlotsLemmas.{packed-carried, packed-long}

@@ -1,14 +1,32 @@
 -- These lemmas verify a call of the function `resize_array`. They state what the caller owns before
 -- and after the call.
 use Rattle.std.proofs.Common.{ℕ, List, [], ◌∷◌, refl, w64, ◌^◌, ◌<◌}
-use Rattle.thin_block.proofs.WalkPrelude.{Ura, Val, vint, vptr, SProp, ent, sep, ex, emp, never, id⊢, Lft, Share, Fml, ftrue, fsep, flft, ◌⊑◌, Fun, fact, fact_i, Memory, Routine, Logic, sem, ‵, raw, ◌⊛◌, exists, later, pick, updating, await, ◌$◌, ◌∵◌, !, qed, move, keep, drop, use0, use1, use2, split, split3, join, fjoin, feq_i, flt_i, done, block_ptr, nothing, triple_of, number, Al, token, El, R, el_x, FitsGap, gapped_items, gapped_if_ok, After, Body, Calls, Env, Item, Loops, Seq, calls_at, group, runs, seq}
-use mir.Syntax.{Callee, Opd as Operand, Place, call}
+use seplogic.Ra.Ura.{Ura}
+use base.Fml.{Lft, Share, Fml, ftrue, fsep, flft}
+use base.Logic.{SProp, ent, sep, ex, emp, never, id⊢}
+use mir.Syntax.{Body, seq, Callee, Opd as Operand, Place, call}
+use mir.Val.{Val, vint, vptr}
+use prog.Memory.{Memory}
+use prog.Routine.{Routine}
+use prog.Wp.{Calls, Env, Loops}
 use sound.WpLaws.{FmC}
-use types.Kit.{lands, now as at_once}
+use contract.BorrowLft.{◌⊑◌}
+use contract.Monad.{Fun, fact, fact_i}
+use types.Kit.{‵, raw, ◌⊛◌, some as exists, later, pick, updating, await, ◌$◌, ◌∵◌, !, qed, move}
+use types.Kit.{keep, drop, use0, use1, use2, split, split3, join, fjoin, feq_i, flt_i, done}
+use types.Kit.{Post as After, Item, Seq, group, runs, lands, now as at_once}
+use types.Logic.{Logic, sem}
 use types.Run.{Opds}
+use denote.Param.{number}
+use denote.RawPtr.{block_ptr}
+use denote.Steps.{nothing}
+use denote.Triple.Call.{calls_at}
+use denote.Triple.Spec.{triple_of}
 use denote.Triple.Statement.{Contract, Triple}
-use Rattle.core.proofs.alloc.Calls.{seen, Answer}
+use Rattle.core.proofs.alloc.Calls.{Al, token, seen, Answer}
 use Rattle.core.proofs.alloc.Resizes.{Flagged, by_flag}
+use Rattle.core.proofs.mem.Param.{El, R, el_x}
+use Rattle.thin_block.specs.InPlace.{FitsGap, gapped_items, gapped_if_ok}
 use Rattle.thin_block.specs.contracts.in_place.resize_array as F
 
 module _ (E : El) (Y : Al) (k : ℕ) {M : Type 1} {𝓤 : Ura M} (𝓛 : Logic 𝓤)

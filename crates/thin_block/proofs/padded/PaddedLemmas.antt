@@ -1,25 +1,27 @@
 -- These arithmetic lemmas are about padded blocks. In a padded block, the header and the padding
 -- before it take as many bytes as an item.
-use Rattle.std.proofs.Common.{◌≡◌, true, false, ℕ, Some, ◌+◌, ◌-◌, ◌*◌, ◌/◌, ◌^◌, ◌<◌, ◌≤◌, inl, inr, max, sym, ap, subst, ◌∙◌, arith}
-use Rattle.std.specs.Prelude.{Bool, nat_le, nat_lt, ◌&&◌}
-use Rattle.std.specs.Mem.{type_size}
-use Rattle.std.specs.Align.{type_align}
-use Rattle.std.specs.Int.{IsNextPowerOfTwo}
-use borrow.Author.Tests.{ltb-true, leb-true, lt-ltb, le-ltb, lt-leb, le-leb}
-use Rattle.core.proofs.ptr.Rows.{add_times}
+use Rattle.std.proofs.Common.{◌≡◌, true, false, ℕ, Some, ◌+◌, ◌-◌, ◌*◌, ◌/◌, ◌^◌, ◌<◌, ◌≤◌, inl}
+use Rattle.std.proofs.Common.{inr, max, sym, ap, subst, ◌∙◌, arith}
 use native.Mathlib.Nat.{mul-le-mul_right}
+use borrow.Author.Tests.{ltb-true, leb-true, lt-ltb, le-ltb, lt-leb, le-leb}
 use mir.Syntax.{Width, w8, w16, w32, w64, w128}
 use mir.Val.{bytes}
-use prog.Memory.{capped}
-use prog.Capped.{capped_is, capped_small}
 use prog.Align.{Dv, align_w, align-bytes, align_size, dv→, dv_trans}
+use prog.Capped.{capped_is, capped_small}
+use prog.Memory.{capped}
 use denote.Param.{layout}
 use denote.RattleType.{RattleType}
-use Rattle.thin_block.specs.Capacity.{has_padding, has_room_for_padding, in_words, items_offset, least_power, may_have_padding}
-use Rattle.thin_block.specs.Ownership.{pads}
-use Rattle.thin_block.specs.Growth.{FillsPowerOfTwo}
-use Rattle.thin_block.specs.PowerLaws.{least_power_is, not_more, one_least_power}
+use Rattle.core.proofs.ptr.Rows.{add_times}
 use Rattle.std.proofs.lemmas.Bool.{and_parts, and_right, cases_lt}
+use Rattle.std.specs.Align.{type_align}
+use Rattle.std.specs.Int.{IsNextPowerOfTwo}
+use Rattle.std.specs.Mem.{type_size}
+use Rattle.std.specs.Prelude.{Bool, nat_le, nat_lt, ◌&&◌}
+use Rattle.thin_block.specs.Capacity.{has_padding, has_room_for_padding, in_words, items_offset}
+use Rattle.thin_block.specs.Capacity.{least_power, may_have_padding}
+use Rattle.thin_block.specs.Growth.{FillsPowerOfTwo}
+use Rattle.thin_block.specs.Ownership.{pads}
+use Rattle.thin_block.specs.PowerLaws.{least_power_is, not_more, one_least_power}
 use Rattle.thin_block.proofs.sizes.SizesLemmas.{capped_le, rounded}
 use Rattle.thin_block.proofs.words.WordsLemmas.{InWords, words_told}
 

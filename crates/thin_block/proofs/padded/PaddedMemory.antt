@@ -1,15 +1,37 @@
 -- These lemmas convert the memory of an item into memory for the padding and the header of a block,
 -- or for the address of an allocation, and back.
-use Rattle.std.proofs.Common.{◌≡◌, true, ℕ, suc, Some, None, ◌+◌, ◌-◌, ◌*◌, List, [], ◌∷◌, ◌++◌, length, refl, sym, ap, subst, ◌∙◌, arith, append_assoc, Bool, Option}
-use Rattle.thin_block.proofs.WalkPrelude.{length-append, Ura, ent, sep, apply∗, Fml, fsep, froom, feq, Ty, ty_array, size, align, size-raw, Logic, sem, ‵, ◌⊛◌, ◌$◌, ◌∵◌, !, qed, by, move, keep, use1, use2, split, split3, fsplit, fsplit3, fjoin, fjoin3, rewrite, keeps, assume, done, nothing, feq_i, feq_l, lone, Ptr, block_ptr, RattleType, El, R, el_x, elτ, array_of, type_size, type_align, ty_ptr, align-raw, fwand, guard, ex, gapped_items, filled_slots, empty_slots}
-use Rattle.std.proofs.lemmas.List.{length-map, length-replicate, replicate-append-replicate}
+use Rattle.std.proofs.Common.{◌≡◌, true, ℕ, suc, Some, None, ◌+◌, ◌-◌, ◌*◌, List, [], ◌∷◌, ◌++◌}
+use Rattle.std.proofs.Common.{length, refl, sym, ap, subst, ◌∙◌, arith, append_assoc, Bool, Option}
+use seplogic.Ra.Ura.{Ura}
+use base.Fml.{Fml, fsep, froom, feq, fwand}
+use base.Logic.{ent, sep, apply∗, guard, ex}
+use mir.Syntax.{Ty, ty_array, ty_ptr}
 use prog.Align.{Dv}
-use types.Kit.{fpick, fpack, check, show}
-use Rattle.thin_block.specs.Ownership.{erased_type, words_of, header_room, pads, padded_type, end_of, padded_right_at, dealloc_right, dealloc_right_if, header_owns, slots_own}
+use prog.Memory.{size, align}
+use prog.RawLaws.{size-raw, align-raw}
+use types.Kit.{‵, ◌⊛◌, ◌$◌, ◌∵◌, !, qed, by, move, keep, use1, use2, split, split3, fsplit, fsplit3}
+use types.Kit.{fjoin, fjoin3, rewrite, frame as keeps, assume, done, feq_i, feq_l, fpick, fpack}
+use types.Kit.{check, show}
+use types.Logic.{Logic, sem}
+use denote.Memory.{lone}
+use denote.RattleType.{RattleType}
+use denote.RawPtr.{Ptr, block_ptr}
+use denote.Steps.{nothing}
+use Rattle.core.specs.Allocator.{array_of}
+use Rattle.core.proofs.mem.Param.{El, R, el_x, elτ}
+use Rattle.std.proofs.lemmas.List.{length-append, length-map, length-replicate}
+use Rattle.std.proofs.lemmas.List.{replicate-append-replicate}
+use Rattle.std.specs.Align.{type_align}
+use Rattle.std.specs.Mem.{type_size}
+use Rattle.thin_block.specs.InPlace.{gapped_items}
+use Rattle.thin_block.specs.Ownership.{erased_type, words_of, header_room, pads, padded_type}
+use Rattle.thin_block.specs.Ownership.{end_of, padded_right_at, dealloc_right, dealloc_right_if}
+use Rattle.thin_block.specs.Ownership.{header_owns, slots_own}
+use Rattle.thin_block.specs.Slots.{filled_slots, empty_slots}
 use Rattle.thin_block.proofs.HeaderMemory.{header_unwritten}
 use Rattle.thin_block.proofs.SlotMemory.{Slot, cut, glue, to_raw, of_raw}
-use Rattle.thin_block.proofs.words.WordRooms.{half, front_out}
 use Rattle.thin_block.proofs.padded.PaddedLemmas.{InEights, in_eights, pieces}
+use Rattle.thin_block.proofs.words.WordRooms.{half, front_out}
 
 module _ {M : Type 1} {𝓤 : Ura M} (𝓛 : Logic 𝓤) (τ : Ty) (b n : ℕ)
     (hd : InEights (size τ) (align τ) n) where

@@ -1,13 +1,35 @@
 -- These lemmas are about moving adjacent items within a block. Before the move, they separate the
 -- memory of the slots that the move affects from the memory of the other slots. After the move,
 -- they join the memory of all slots again.
-use Rattle.std.proofs.Common.{◌≡◌, ◌⊎◌, Bool, true, false, ℕ, Some, None, ◌+◌, ◌-◌, ◌*◌, ◌<◌, ◌≤◌, List, [], ◌∷◌, ◌++◌, length, refl, sym, ap, ◌∙◌, arith, append_assoc, Option, take}
-use Rattle.thin_block.proofs.WalkPrelude.{length-append, length-take, Ura, full_share, ent, sep, Fml, ftrue, fsep, froom, ty_array, Logic, sem, ‵, ◌⊛◌, ◌$◌, ◌∵◌, !, qed, by, move, keep, nothing, use1, use2, split, split3, rewrite, fsplit, fjoin, done, Array, part_at, block_ptr, El, R, el_x, elτ, add_times, memory_before_copy, memory_after_copy, inl, inr, ⊎_elim, slots_own, IsShifted}
-use Rattle.std.proofs.lemmas.List.{length-map, length-replicate}
+use Rattle.std.proofs.Common.{◌≡◌, ◌⊎◌, Bool, true, false, ℕ, Some, None, ◌+◌, ◌-◌, ◌*◌, ◌<◌, ◌≤◌}
+use Rattle.std.proofs.Common.{List, [], ◌∷◌, ◌++◌, length, refl, sym, ap, ◌∙◌, arith, append_assoc}
+use Rattle.std.proofs.Common.{Option, take}
+use mathlib.Core.Logic.{inl, inr, ⊎_elim}
+use seplogic.Ra.Ura.{Ura}
+use base.Fml.{Fml, ftrue, fsep, froom}
+use base.Fraction.{full_share}
+use base.Logic.{ent, sep}
+use mir.Syntax.{ty_array}
+use types.Kit.{‵, ◌⊛◌, ◌$◌, ◌∵◌, !, qed, by, move, keep, use1, use2, split, split3, rewrite, fsplit}
+use types.Kit.{fjoin, done}
+use types.Logic.{Logic, sem}
+use denote.Array.{Array}
+use denote.Memory.{part_at}
+use denote.RawPtr.{block_ptr}
+use denote.Steps.{nothing}
+use Rattle.core.specs.Ptr.{memory_before_copy, memory_after_copy}
+use Rattle.core.proofs.mem.Param.{El, R, el_x, elτ}
+use Rattle.core.proofs.ptr.Rows.{add_times}
+use Rattle.std.proofs.lemmas.List.{length-append, length-take, length-map, length-replicate}
 use Rattle.std.specs.Prelude.{drop}
-use Rattle.thin_block.specs.Slots.{AreEmpty, filled_slots, empty_slots, slot, slot_range, write_slots, move_slots}
-use Rattle.thin_block.proofs.SlotsLemmas.{empty-run, parted-run, run-split, length-run, moved_left, moved_right, moved_over, moved_back}
-use Rattle.thin_block.proofs.SlotMemory.{Slot, sz, cut, glue, around, run_out, run_in, to_items, of_items, to_room, of_room}
+use Rattle.thin_block.specs.Ownership.{slots_own}
+use Rattle.thin_block.specs.Shifts.{IsShifted}
+use Rattle.thin_block.specs.Slots.{AreEmpty, filled_slots, empty_slots, slot, slot_range}
+use Rattle.thin_block.specs.Slots.{write_slots, move_slots}
+use Rattle.thin_block.proofs.SlotMemory.{Slot, sz, cut, glue, around, run_out, run_in, to_items}
+use Rattle.thin_block.proofs.SlotMemory.{of_items, to_room, of_room}
+use Rattle.thin_block.proofs.SlotsLemmas.{empty-run, parted-run, run-split, length-run, moved_left}
+use Rattle.thin_block.proofs.SlotsLemmas.{moved_right, moved_over, moved_back}
 
 pub further : (a d c s o : ℕ) → c ≡ d + a → c * s + o ≡ d * s + (a * s + o)
 further a d c s o e = let sum = add_times d a s in

@@ -1,25 +1,28 @@
 -- These arithmetic lemmas are about the size of a block in bytes, and about the capacities for
 -- which a block is small enough to be allocated.
-use Rattle.std.proofs.Common.{◌≡◌, ℕ, zero, suc, ◌+◌, ◌-◌, ◌*◌, ◌/◌, ◌^◌, ◌<◌, ◌≤◌, Bool, true, false, refl, sym, ap, subst, ◌∙◌, arith, ltb, zero-mul, suc-mul, inl, inr, eq-zero-or-pos as eq-or-pos}
-use borrow.Author.Tests.{lt-ltb, le-ltb, ltb-true}
+use Rattle.std.proofs.Common.{◌≡◌, ℕ, zero, suc, ◌+◌, ◌-◌, ◌*◌, ◌/◌, ◌^◌, ◌<◌, ◌≤◌, Bool, true}
+use Rattle.std.proofs.Common.{false, refl, sym, ap, subst, ◌∙◌, arith, ltb, zero-mul, suc-mul, inl}
+use Rattle.std.proofs.Common.{inr, eq-zero-or-pos as eq-or-pos}
 use mathlib.Core.Bool.{◌&&◌}
+use native.Mathlib.Nat.{mul-le-mul_right}
+use borrow.Author.Tests.{lt-ltb, le-ltb, ltb-true}
 use mir.Syntax.{Width, w8, w16, w32, w64, w128}
 use mir.Val.{bytes}
-use prog.Memory.{capped}
 use prog.Align.{align_w, align-bytes}
 use prog.Capped.{capped_fits, capped_is, capped_small}
-use denote.RattleType.{RattleType}
+use prog.Memory.{capped}
 use denote.Param.{layout}
-use native.Mathlib.Nat.{mul-le-mul_right}
-use Rattle.std.specs.Prelude.{max, min, ◌==◌, if◌then◌else◌}
+use denote.RattleType.{RattleType}
 use Rattle.std.proofs.lemmas.Bool.{and_from, and_parts, cases_lt}
-use Rattle.std.specs.declared.option.Option.TheVariants.{Some, None}
+use Rattle.std.proofs.lemmas.Bool.Decides.{nat_tests}
+use Rattle.std.proofs.lemmas.Nat.{div-add-mod', le-div}
+use Rattle.std.specs.Align.{type_align}
 use Rattle.std.specs.Int.{next_multiple_of}
 use Rattle.std.specs.Mem.{type_size}
-use Rattle.std.specs.Align.{type_align}
-use Rattle.std.proofs.lemmas.Nat.{div-add-mod', le-div}
-use Rattle.std.proofs.lemmas.Bool.Decides.{nat_tests}
-use Rattle.thin_block.specs.Capacity.{items_offset, block_align, block_bytes, fits, Fits, min_non_zero_cap}
+use Rattle.std.specs.Prelude.{max, min, ◌==◌, if◌then◌else◌}
+use Rattle.std.specs.declared.option.Option.TheVariants.{Some, None}
+use Rattle.thin_block.specs.Capacity.{items_offset, block_align, block_bytes, fits, Fits}
+use Rattle.thin_block.specs.Capacity.{min_non_zero_cap}
 use Rattle.thin_block.specs.Growth.{checked_capacity, doubling}
 
 -- The next lemmas are about rounding a size up to a multiple of an alignment.

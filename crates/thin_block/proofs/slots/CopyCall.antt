@@ -1,12 +1,27 @@
 -- These lemmas verify a call of the function `fill_from`, which copies the items of a slice into a
 -- value of type `Slots`.
 use Rattle.std.proofs.Common.{◌≡◌, refl, sym, ap, ◌∙◌, ℕ, List, [], ◌∷◌, length}
-use Rattle.thin_block.proofs.WalkPrelude.{Ura, named, Val, SProp, ent, sep, ex, emp, id⊢, Lft, Share, Fml, ftrue, fsep, flft, Memory, Routine, Logic, sem, ◌⊑◌, Fun, fact, fact_i, ‵, raw, ◌⊛◌, some, later, ◌$◌, ◌∵◌, !, qed, move, keep, drop, use0, use1, split, split3, join, pick, fjoin, rewrite, await, updating, done, block_ptr, only, heard, nothing, triple_of, Dict, guard, show, check, now, copied}
+use seplogic.Ra.Ura.{Ura}
+use base.Fml.{Lft, Share, Fml, ftrue, fsep, flft}
+use base.Logic.{SProp, ent, sep, ex, emp, id⊢, guard}
+use mir.Syntax.{named, Dict}
+use mir.Val.{Val}
+use prog.Memory.{Memory}
+use prog.Routine.{Routine}
+use contract.BorrowLft.{◌⊑◌}
+use contract.Monad.{Fun, fact, fact_i}
+use types.Kit.{‵, raw, ◌⊛◌, some, later, ◌$◌, ◌∵◌, !, qed, move, keep, drop, use0, use1, split}
+use types.Kit.{split3, join, pick, fjoin, rewrite, await, updating, done, show, check, now}
+use types.Logic.{Logic, sem}
+use denote.Param.{copied}
+use denote.RawPtr.{block_ptr}
 use denote.Ref.{Bor}
 use denote.Slice.{ShrSlice, shr_slice_vals}
+use denote.Steps.{only, heard, nothing}
+use denote.Triple.Spec.{triple_of}
 use denote.Triple.Statement.{Contract}
-use Rattle.core.specs.declared.clone.Clone.{Ghosts}
 use Rattle.core.specs.Mem.Slots.{slots_items, slots_ptr, slots_len, SamePlaces, IsFull}
+use Rattle.core.specs.declared.clone.Clone.{Ghosts}
 use Rattle.core.proofs.slots.Opens.{row_val, words_val}
 use Rattle.std_alloc.proofs.VecSteps.El.{El, el_x}
 use Rattle.std_alloc.proofs.vec.Spares.{Row, Row-seen}

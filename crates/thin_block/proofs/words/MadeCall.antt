@@ -1,14 +1,39 @@
 -- These lemmas verify a call of the function `make_words`. They state what the caller owns before
 -- and after the call.
 use Rattle.std.proofs.Common.{◌≡◌, ℕ, ◌*◌, ◌^◌, ◌<◌, List, [], ◌∷◌, length, map, refl, ap, w64}
-use Rattle.thin_block.proofs.WalkPrelude.{Ura, Val, vint, vptr, SProp, ent, sep, emp, id⊢, Lft, Share, Fml, ftrue, fsep, flft, ◌⊑◌, Fun, fact, fact_i, Memory, Routine, Logic, sem, ‵, raw, ◌⊛◌, exists, later, pick, updating, await, ◌$◌, ◌∵◌, !, qed, move, keep, drop, use0, use1, split, split3, join, done, pure_i, usize, unit, RattleType, owns, param, number, Laws, RawPtr, block_ptr, nothing, triple_of, type_size, R, filled_slots, slots_own, runs_at, word, After, Body, Calls, Env, Item, Loops, Step, calls_at, feq_l, group, only, regoal, runs, seq, step, vunit}
-use mir.Syntax.{Callee, Opd as Operand, Place, call}
+use seplogic.Ra.Ura.{Ura}
+use base.Fml.{Lft, Share, Fml, ftrue, fsep, flft}
+use base.Logic.{SProp, ent, sep, emp, id⊢}
+use mir.Syntax.{Body, seq, Callee, Opd as Operand, Place, call}
+use mir.Val.{Val, vint, vptr, vunit}
+use prog.Memory.{Memory}
+use prog.Routine.{Routine}
+use prog.Wp.{Calls, Env, Loops}
 use sound.WpLaws.{FmC}
-use types.Kit.{lands, now as at_once}
+use contract.BorrowLft.{◌⊑◌}
+use contract.Monad.{Fun, fact, fact_i}
+use types.Kit.{‵, raw, ◌⊛◌, some as exists, later, pick, updating, await, ◌$◌, ◌∵◌, !, qed, move}
+use types.Kit.{keep, drop, use0, use1, split, split3, join, done, Post as After, Item, Step, feq_l}
+use types.Kit.{group, regoal, runs, step, lands, now as at_once}
+use types.Logic.{Logic, sem}
 use types.Run.{Opds}
+use denote.Builtin.{usize, unit}
+use denote.Param.{param, number}
+use denote.Param.Laws.{Laws}
+use denote.RattleType.{RattleType, owns}
+use denote.RawPtr.{RawPtr, block_ptr}
+use denote.Shadow.{pure_i}
+use denote.Steps.{nothing, only}
+use denote.Triple.Call.{calls_at}
+use denote.Triple.Spec.{triple_of}
 use denote.Triple.Statement.{Contract, Triple}
-use Rattle.thin_block.proofs.words.WordsMemory.{word_el, number_of_items}
+use Rattle.core.proofs.mem.Param.{R}
+use Rattle.std.specs.Mem.{type_size}
+use Rattle.thin_block.specs.Ownership.{slots_own}
+use Rattle.thin_block.specs.Slots.{filled_slots}
+use Rattle.thin_block.specs.Words.{runs_at, word}
 use Rattle.thin_block.specs.contracts.words.make_words as F
+use Rattle.thin_block.proofs.words.WordsMemory.{word_el, number_of_items}
 
 module _ (T : RattleType) (L : Laws T) (m : ℕ) {M : Type 1} {𝓤 : Ura M} (𝓛 : Logic 𝓤)
     (at_mem : Memory → SProp 𝓤) (run : Routine → Fun 𝓤) where

@@ -1,13 +1,24 @@
 -- These lemmas make one word of its items. The machine value of a word is a struct of the array of
 -- its items and of an empty array.
 use Rattle.std.proofs.Common.{List, [], ◌∷◌, ℕ, refl, w64}
-use Rattle.thin_block.proofs.WalkPrelude.{Ura, Ty, ty_array, Val, vstruct, vcons, vnil, WT, has_ty, Holds, ent, Logic, sem, ‵, ◌$◌, ◌∵◌, !, qed, by, move, fjoin, Array, Is, layout, ArrayAt, RattleType, owns, nothing, El, R, el_x, u64}
+use lib.Dec.{T as Holds}
+use seplogic.Ra.Ura.{Ura}
+use base.Logic.{ent}
+use mir.Syntax.{Ty, ty_array}
+use mir.Val.{Val, vstruct, vcons, vnil, WT, has_ty}
 use prog.Align.{both}
-use denote.Array.{Array-Makes}
+use types.Kit.{‵, ◌$◌, ◌∵◌, !, qed, by, move, fjoin}
+use types.Logic.{Logic, sem}
+use denote.Array.{Array, Array-Makes}
+use denote.Builtin.{u64}
+use denote.Laws.{Is}
+use denote.Param.{layout, ArrayAt}
 use denote.Plain.{uint_Makes}
+use denote.RattleType.{RattleType, owns}
 use denote.Signature.Struct.{makes}
-use denote.Steps.{owned}
+use denote.Steps.{nothing, owned}
 use denote.Struct.Declared.{shape}
+use Rattle.core.proofs.mem.Param.{El, R, el_x}
 use Rattle.thin_block.specs.Words.{word}
 use Rattle.thin_block.specs.contracts.words.Word.{the_type}
 use Rattle.thin_block.proofs.words.WordsMemory.{word_row, number_of_items}

@@ -1,11 +1,22 @@
 -- These lemmas convert uninitialized memory of headers, slots and blocks into memory of words, and
 -- back. Here, a word is a struct of `m` items, which takes 8 or 16 bytes.
-use Rattle.std.proofs.Common.{◌≡◌, ℕ, zero, suc, ◌+◌, ◌*◌, [], ◌∷◌, refl, sym, ap, ◌∙◌, arith, zero-mul, suc-mul, w64}
-use Rattle.thin_block.proofs.WalkPrelude.{Ura, ent, sep, apply∗, Fml, ftrue, froom, Ty, ty_int, ty_array, size, align, Logic, sem, ‵, ◌⊛◌, ◌$◌, ◌∵◌, !, qed, by, move, keep, drop, use0, use1, use2, split, fsplit, fjoin, rewrite, keeps, assume, done, nothing, add_comm, fwand, word_of, word_wand, word_wands, header_room, header_wand}
+use Rattle.std.proofs.Common.{◌≡◌, ℕ, zero, suc, ◌+◌, ◌*◌, [], ◌∷◌, refl, sym, ap, ◌∙◌, arith}
+use Rattle.std.proofs.Common.{zero-mul, suc-mul, w64}
+use native.Mathlib.Nat.{add_comm}
+use seplogic.Ra.Ura.{Ura}
+use base.Fml.{Fml, ftrue, froom, fwand}
+use base.Logic.{ent, sep, apply∗}
+use mir.Syntax.{Ty, ty_int, ty_array}
+use prog.Memory.{size, align}
+use types.Kit.{‵, ◌⊛◌, ◌$◌, ◌∵◌, !, qed, by, move, keep, drop, use0, use1, use2, split, fsplit}
+use types.Kit.{fjoin, rewrite, frame as keeps, assume, done}
+use types.Logic.{Logic, sem}
 use denote.Index.{place, place_is}
 use denote.RawPtr.Room.{past, room_cut, room_glue}
-use Rattle.thin_block.proofs.words.WordsLemmas.{InWords}
+use denote.Steps.{nothing}
+use Rattle.thin_block.specs.Ownership.{word_of, word_wand, word_wands, header_room, header_wand}
 use Rattle.thin_block.proofs.padded.PaddedLemmas.{InEights}
+use Rattle.thin_block.proofs.words.WordsLemmas.{InWords}
 
 past-place : (τ : Ty) (n o : ℕ) → past τ n o ≡ place (size τ) o n
 past-place τ zero o = refl

@@ -1,22 +1,23 @@
 -- These arithmetic lemmas are about words. A word is a struct of whole items that takes 8 or 16
 -- bytes.
-use Rattle.std.proofs.Common.{◌≡◌, true, false, ℕ, Some, None, ◌+◌, ◌*◌, ◌^◌, ◌<◌, ◌≤◌, refl, sym, ap, subst, ◌∙◌, arith}
-use Rattle.std.proofs.lemmas.Bool.{eqb-true}
-use Rattle.std.specs.Prelude.{◌==◌, if◌then◌else◌, Bool, Option, max}
-use Rattle.std.specs.Int.{div_ceil}
-use Rattle.std.specs.Mem.{type_size}
-use Rattle.std.specs.Align.{type_align}
+use Rattle.std.proofs.Common.{◌≡◌, true, false, ℕ, Some, None, ◌+◌, ◌*◌, ◌^◌, ◌<◌, ◌≤◌, refl, sym}
+use Rattle.std.proofs.Common.{ap, subst, ◌∙◌, arith}
 use borrow.Author.Tests.{clash}
 use mir.Raw.{raw}
 use mir.Syntax.{Ty, Width, w8, w16, w32, w64, w128}
 use mir.Val.{bytes}
+use prog.Align.{Dv, align_w, align-bytes, align_size}
 use prog.Memory.{size, align, up}
 use prog.RawLaws.{size-raw, align-raw}
-use prog.Align.{Dv, align_w, align-bytes, align_size}
 use denote.Param.{layout}
 use denote.RattleType.{RattleType}
-use Rattle.thin_block.specs.Capacity.{in_words, block_align, block_bytes}
+use Rattle.std.proofs.lemmas.Bool.{eqb-true}
+use Rattle.std.specs.Align.{type_align}
+use Rattle.std.specs.Int.{div_ceil}
+use Rattle.std.specs.Mem.{type_size}
 use Rattle.std.specs.Option.{is_some}
+use Rattle.std.specs.Prelude.{◌==◌, if◌then◌else◌, Bool, Option, max}
+use Rattle.thin_block.specs.Capacity.{in_words, block_align, block_bytes}
 
 -- `word_align a` is the alignment of a word that consists of items with the alignment `a`.
 abbrev pub word_align : ℕ → ℕ

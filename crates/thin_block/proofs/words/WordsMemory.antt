@@ -1,25 +1,51 @@
 -- These lemmas convert the memory of items into memory of words, and back. Here, a word is a struct
 -- of `m` items, which takes 8 or 16 bytes.
-use Rattle.std.proofs.Common.{◌≡◌, ℕ, zero, suc, Some, ◌+◌, ◌-◌, ◌*◌, ◌≤◌, List, [], ◌∷◌, ◌++◌, length, map, take, drop as rest, refl, sym, ap, ◌∙◌, arith, zero-mul, suc-mul, Option, w64}
-use Rattle.thin_block.proofs.WalkPrelude.{length-take, Ura, full_share, SProp, ent, sep, apply∗, Fml, ftrue, froom, Ty, ty_int, ty_array, bare, size, align, size-raw, Logic, sem, ‵, raw, ◌⊛◌, ◌$◌, ◌∵◌, !, qed, by, move, keep, use0, use1, use2, use3, split, split3, join, fsplit, fjoin, rewrite, assume, done, Array, part_at, layout, param, number, ArrayAt, Laws, param_laws, array_at_laws, RattleType, nothing, Struct, El, R, el_x, add_times, type_size, mul_assoc, up, u64, slots_own, word_of, word_wand, word_wands, slots_wand, filled_slots, empty_slots, word, runs_at, yes}
-use Rattle.std.proofs.lemmas.List.{take-append-drop, length-drop, length-map, map-append}
+use Rattle.std.proofs.Common.{◌≡◌, ℕ, zero, suc, Some, ◌+◌, ◌-◌, ◌*◌, ◌≤◌, List, [], ◌∷◌, ◌++◌}
+use Rattle.std.proofs.Common.{length, map, take, drop as rest, refl, sym, ap, ◌∙◌, arith, zero-mul}
+use Rattle.std.proofs.Common.{suc-mul, Option, w64}
+use native.Mathlib.Nat.{mul_assoc}
+use seplogic.Ra.Ura.{Ura}
+use base.Fml.{Fml, ftrue, froom}
+use base.Fraction.{full_share}
+use base.Logic.{SProp, ent, sep, apply∗}
+use mir.Raw.{raw as bare}
+use mir.Syntax.{Ty, ty_int, ty_array}
+use prog.Memory.{size, align, up}
+use prog.RawLaws.{size-raw}
 use contract.Monad.{conj, conj_r}
-use denote.Param.{arg}
-use denote.Param.Laws.{arg_laws}
-use denote.Array.{Array-Lawful}
+use types.Kit.{‵, raw, ◌⊛◌, ◌$◌, ◌∵◌, !, qed, by, move, keep, use0, use1, use2, use3, split, split3}
+use types.Kit.{join, fsplit, fjoin, rewrite, assume, done}
+use types.Logic.{Logic, sem}
+use denote.Array.{Array, Array-Lawful}
+use denote.Builtin.{u64}
+use denote.Exit.{yes}
+use denote.Memory.{part_at}
+use denote.Param.{layout, param, number, ArrayAt, arg}
+use denote.Param.Laws.{Laws, param_laws, array_at_laws, arg_laws}
+use denote.RattleType.{RattleType}
 use denote.RawPtr.Room.{past, room_cut, room_glue}
+use denote.Steps.{nothing}
 use denote.Struct.Declared.{shape}
 use denote.Struct.Laws.{u64-laws}
 use denote.Struct.Members.{Member, parts_at, rooms_for}
 use denote.Struct.Parts.{shape_of, PartsBack, RoomBack, Struct-parts_free}
 use denote.Struct.Recorded.{Recorded-part}
+use denote.Struct.Struct.{Struct}
 use Rattle.core.specs.Simd.{first_chunks}
+use Rattle.core.proofs.mem.Param.{El, R, el_x}
+use Rattle.core.proofs.ptr.Rows.{add_times}
+use Rattle.std.proofs.lemmas.List.{length-take, take-append-drop, length-drop, length-map}
+use Rattle.std.proofs.lemmas.List.{map-append}
+use Rattle.std.specs.Mem.{type_size}
+use Rattle.thin_block.specs.Ownership.{slots_own, word_of, word_wand, word_wands, slots_wand}
+use Rattle.thin_block.specs.Slots.{filled_slots, empty_slots}
+use Rattle.thin_block.specs.Words.{word, runs_at}
 use Rattle.thin_block.specs.contracts.words.Word.{the_row, the_type}
-use Rattle.thin_block.proofs.words.WordRooms.{past_is, ways_in, ways_out}
 use Rattle.thin_block.proofs.HeaderMemory.{alignment}
 use Rattle.thin_block.proofs.SlotMemory.{cut, glue, to_items, of_items, to_raw, of_raw}
-use Rattle.thin_block.proofs.words.WordsLemmas.{InWords, nameless}
 use Rattle.thin_block.proofs.words.Word.TheLaws.{the_row_laws}
+use Rattle.thin_block.proofs.words.WordRooms.{past_is, ways_in, ways_out}
+use Rattle.thin_block.proofs.words.WordsLemmas.{InWords, nameless}
 
 -- `number_of_items m` is the const argument of the type `Word`: the number of items in a word.
 abbrev pub number_of_items : ℕ → RattleType

@@ -1,15 +1,16 @@
 -- This file proves that `fits` returns true if and only if `Fits` holds, that is, if a block of the
 -- given capacity is small enough to be allocated.
 use Rattle.std.proofs.Common.{◌≡◌, ℕ, ◌-◌, ◌*◌, ◌/◌, ◌^◌, ◌<◌, true, refl, sym, ap, ◌∙◌, arith, leb}
-use Rattle.std.specs.Mem.{type_size}
-use Rattle.std.specs.Align.{type_align}
-use Rattle.thin_block.specs.Capacity.{block_align, Fits}
-use Rattle.thin_block.proofs.sizes.SizesLemmas.{fits_yes, fits_tells, divided, dividing, rounded, whole_product, positive}
+use native.Mathlib.Nat.{mul-zero}
 use borrow.Author.Tests.{leb-true, le-leb}
 use prog.Memory.{capped}
 use denote.Param.{param}
 use denote.RattleType.{RattleType}
-use native.Mathlib.Nat.{mul-zero}
+use Rattle.std.specs.Align.{type_align}
+use Rattle.std.specs.Mem.{type_size}
+use Rattle.thin_block.specs.Capacity.{block_align, Fits}
+use Rattle.thin_block.proofs.sizes.SizesLemmas.{fits_yes, fits_tells, divided, dividing, rounded}
+use Rattle.thin_block.proofs.sizes.SizesLemmas.{whole_product, positive}
 use Rattle.thin_block.proofs.sizes.fits.Goals as goal
 
 nothing : (R : RattleType) (c size : ℕ) → size ≡ capped (type_size R)

@@ -1,27 +1,41 @@
 -- This file proves that a shared reference to a block lends what separate references to the
 -- capacity, to the length and to each item would lend.
-use Rattle.std.proofs.Common.{List, [], ◌∷◌, ◌++◌, ℕ, ◌+◌, Bool, true, length, w64, Option, Some, None}
-use Rattle.thin_block.proofs.WalkPrelude.{Ura, full_share, sep, wand, apply∗, Lft, Fml, ftrue, ffalse, fsep, feq, fbor, Logic, sem, ‵, raw, ◌⊛◌, later, ◌$◌, !, qed, move, drop, use1, use2, split, updating, await, done, Ty, RattleType, usize, Ptr, block_ptr, null_ptr, lies_at, Laws, nothing, type_size, fpack, now}
+use Rattle.std.proofs.Common.{List, [], ◌∷◌, ◌++◌, ℕ, ◌+◌, Bool, true, length, w64, Option, Some}
+use Rattle.std.proofs.Common.{None}
 use mathlib.Core.List.{not-mem-nil}
+use seplogic.Ra.Ura.{Ura}
 use base.Before.{chain}
-use base.Fml.{Incl, Incl-trans}
-use types.Logic.{lfts}
+use base.Fml.{Lft, Fml, ftrue, ffalse, fsep, feq, fbor, Incl, Incl-trans}
+use base.Fraction.{full_share}
+use base.Logic.{sep, wand, apply∗}
+use mir.Syntax.{Ty}
 use contract.BorrowLft.{meet_⊑_left}
-use denote.RattleType.{RowLaws}
+use types.Kit.{‵, raw, ◌⊛◌, later, ◌$◌, !, qed, move, drop, use1, use2, split, updating, await}
+use types.Kit.{done, fpack, now}
+use types.Logic.{Logic, sem, lfts}
+use denote.Builtin.{usize}
 use denote.Copied.{uint_Copied}
+use denote.Param.Laws.{Laws}
+use denote.Param.Shared.{copy_shared}
 use denote.Plain.{uint_row_laws}
+use denote.RattleType.{RattleType, RowLaws}
+use denote.RawPtr.{Ptr, block_ptr, null_ptr, lies_at}
+use denote.Shares.{Shares, Shares-less}
 use denote.Sharing.{ShrLaws, said, beside}
 use denote.SharingLaws.{nothing_shr_laws, said_shr_laws, beside_shr_laws}
-use denote.Shares.{Shares, Shares-less}
-use denote.Param.Shared.{copy_shared}
+use denote.Steps.{nothing}
 use denote.Struct.Field.{RawPtr-field}
 use denote.Struct.Laws.{RawPtr-copy, field_copy}
-use denote.Struct.Lending.{lent_at, lent_at_shr_laws, Lends, Lends-false, Lends-lies, Lends-said, Lends-nothing, Lends-first, Lends-both, of_Lends}
-use Rattle.core.specs.declared.alloc.Allocator.{Ghosts}
-use Rattle.thin_block.specs.Ownership.{fits_block, slot_owns, slots_own, slot_shares, slots_share, header_owns, header_shares, dealloc_right, block_owns, block_shares}
-use Rattle.thin_block.proofs.block.Block.TheLaw.Statement.{statement}
+use denote.Struct.Lending.{lent_at, lent_at_shr_laws, Lends, Lends-false, Lends-lies, Lends-said}
+use denote.Struct.Lending.{Lends-nothing, Lends-first, Lends-both, of_Lends}
 use Rattle.core.specs.contracts.marker.PhantomData as marker
+use Rattle.core.specs.declared.alloc.Allocator.{Ghosts}
+use Rattle.std.specs.Mem.{type_size}
+use Rattle.thin_block.specs.Ownership.{fits_block, slot_owns, slots_own, slot_shares, slots_share}
+use Rattle.thin_block.specs.Ownership.{header_owns, header_shares, dealloc_right, block_owns}
+use Rattle.thin_block.specs.Ownership.{block_shares}
 use Rattle.thin_block.specs.contracts.block.Block as C
+use Rattle.thin_block.proofs.block.Block.TheLaw.Statement.{statement}
 
 word_laws : (p : Ptr) (n : ℕ) → ShrLaws (lent_at usize p n)
 word_laws p n = lent_at_shr_laws usize (uint_row_laws w64) p n

@@ -1,19 +1,62 @@
 -- This file proves the contract of `allocate_sized`, which allocates the memory of a block with
 -- empty slots, and writes its header and, if the block is padded, the address of the memory.
-use Rattle.std.proofs.Common.{◌≡◌, ℕ, ◌+◌, ◌*◌, ◌<◌, ◌^◌, List, [], ◌∷◌, ◌++◌, length, replicate, Bool, true, refl, sym, ap, ◌∙◌, arith, lit<, w64, Some, None, Option}
-use Rattle.thin_block.proofs.WalkPrelude.{Ty, Body, ty_int, Val, WT, vint, vptr, vstruct, vcons, vnil, inst_fn, length-replicate, SProp, Fml, froom, flft, size, align, capped, capped_is, Env, ⊑_trans, tables, After, Item, Sq, prop, ‵, raw, ◌⊛◌, later, at_ret, ◌$◌, !, move, keep, drop, use0, use1, use2, use3, split, split3, join, rewrite, fsplit, fjoin, await, suffices, done, whole, agg, stop, fld, lit, bin, init, of_opd, no_more, and_then, assigns, assigns_last, first, exec, branches, skips, returns, alloc_all, pass_all, free_all, look_at, get, get_in, through, sets, sets_last, lands_as, env, holding, forget_but, ltb→lt, nltb→le, Wp, RattleType, Ptr, block_ptr, calls_at, walk_of, ends_at, token, fm, proved_at, type_size, R, slot_at, then_runs, after, head, arm_body, says_all, refused_made, live, vrt, in_variant, switches_on, get_tag, type_at, Takes, at_takes, Answered, Takes-goes, Takes-gives, answers, Ok, Err, ok_of, err_of, add_realloc, no_cost}
-use types.Kit.{post}
+use Rattle.std.proofs.Common.{◌≡◌, ℕ, ◌+◌, ◌*◌, ◌<◌, ◌^◌, List, [], ◌∷◌, ◌++◌, length, replicate}
+use Rattle.std.proofs.Common.{Bool, true, refl, sym, ap, ◌∙◌, arith, lit<, w64, Some, None, Option}
+use lib.Dec.{ltb→lt, nltb→le}
+use lib.ListN.{length-replicate}
+use base.Fml.{Fml, froom, flft}
+use base.Logic.{SProp}
+use mir.MapTy.{inst_fn}
+use mir.Syntax.{Ty, Body, ty_int}
+use mir.Val.{Val, WT, vint, vptr, vstruct, vcons, vnil}
+use prog.Capped.{capped_is}
+use prog.Memory.{size, align, capped}
+use prog.Wp.{Env, Wp}
+use contract.BorrowLft.{⊑_trans}
 use contract.Lifetimes.{toks}
-use Rattle.thin_block.specs.Ownership.{fits_block, slots_own, header_owns, dealloc_right, dealloc_right_if, words_of, erased_type, pads, memory_type}
-use Rattle.thin_block.proofs.sizes.SizesLemmas.{fits_tells, rounded}
-use Rattle.thin_block.proofs.BlockMemory.{Unaddressed, front_tells, memory_size, memory_align, memory_short, memory_apart}
-use Rattle.thin_block.proofs.padded.PaddedMemory.{padded_right_in}
-use Rattle.thin_block.proofs.MethodSignatures.{item, source, others, dropped, all_go, arrives, heard_each, enters, blank, still, word, args, Br, any_some, block_val, block_made, header_written, reach, slot_found}
+use contract.Running.{tables}
+use types.ByLocal.{alloc_all, pass_all, free_all, look_at, get, get_in, through, sets, sets_last}
+use types.ByLocal.{lands_as, env, holding, forget_but, get_tag}
+use types.Kit.{Post as After, Item, Sq, prop, ‵, raw, ◌⊛◌, later, at_ret, ◌$◌, !, move, keep, drop}
+use types.Kit.{use0, use1, use2, use3, split, split3, join, rewrite, fsplit, fjoin, await, suffices}
+use types.Kit.{done, post}
+use types.Match.{live, vrt, in_variant}
+use types.Part.{whole, agg}
+use types.Run.{stop, fld, lit, bin, init, of_opd, no_more, and_then, assigns, assigns_last, first}
+use types.Run.{exec, branches, skips, returns, switches_on}
+use denote.RattleType.{RattleType}
+use denote.RawPtr.{Ptr, block_ptr}
+use denote.Signature.{type_at}
+use denote.Triple.Call.{calls_at}
+use denote.Triple.Walked.{walk_of, ends_at}
+use Rattle.core.specs.contracts.alloc.AllocError as AE
+use Rattle.core.specs.declared.result.Result.TheVariants.{Ok, Err}
+use Rattle.core.proofs.alloc.Calls.{token, Takes, at_takes, Answered, Takes-goes, Takes-gives}
+use Rattle.core.proofs.alloc.Calls.{answers}
+use Rattle.core.proofs.alloc.Shapes.{after, head, arm_body}
+use Rattle.core.proofs.atomic.Steps.{fm}
+use Rattle.core.proofs.mem.Param.{R}
+use Rattle.std.proofs.raw_atomic.Walks.{proved_at}
+use Rattle.std.specs.Mem.{type_size}
+use Rattle.std_alloc.proofs.ResultValues.{ok_of, err_of}
+use Rattle.thin_block.specs.Cost.{add_realloc, no_cost}
+use Rattle.thin_block.specs.Ownership.{fits_block, slots_own, header_owns, dealloc_right}
+use Rattle.thin_block.specs.Ownership.{dealloc_right_if, words_of, erased_type, pads, memory_type}
 use Rattle.thin_block.specs.contracts.block.Block.allocate_sized.{ended, clauses}
 use Rattle.thin_block.specs.contracts.block.Block.allocate_sized.Key.{name as #self}
-use Rattle.thin_block.proofs.block.Block.allocate_sized.Statement.{statement}
-use Rattle.core.specs.contracts.alloc.AllocError as AE
+use Rattle.thin_block.proofs.Addresses.{slot_found}
+use Rattle.thin_block.proofs.BlockMemory.{Unaddressed, front_tells, memory_size, memory_align}
+use Rattle.thin_block.proofs.BlockMemory.{memory_short, memory_apart}
+use Rattle.thin_block.proofs.HeaderMemory.{args, Br, any_some, block_val, block_made}
+use Rattle.thin_block.proofs.HeaderMemory.{header_written}
+use Rattle.thin_block.proofs.MethodSignatures.{item, source, others, dropped, all_go, arrives}
+use Rattle.thin_block.proofs.MethodSignatures.{heard_each, enters, blank, still, word}
+use Rattle.thin_block.proofs.SlotMemory.{reach}
+use Rattle.thin_block.proofs.WalkPrelude.{slot_at, then_runs, says_all, refused_made}
 use Rattle.thin_block.proofs.block.Block.allocate_sized.Code as compiled
+use Rattle.thin_block.proofs.block.Block.allocate_sized.Statement.{statement}
+use Rattle.thin_block.proofs.padded.PaddedMemory.{padded_right_in}
+use Rattle.thin_block.proofs.sizes.SizesLemmas.{fits_tells, rounded}
 
 pub allocate_sized_spec : {M : Type 1} → statement M
 allocate_sized_spec 𝓤 𝓛 𝓜 𝓡 wired T A LT LA g d dd met md =

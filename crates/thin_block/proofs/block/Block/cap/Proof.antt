@@ -1,13 +1,23 @@
 -- This file proves the contract of `cap`, which reads the capacity through a shared reference to
 -- the block.
 use Rattle.std.proofs.Common.{ℕ, ◌+◌, ◌^◌, List, ◌∷◌, [], ◌++◌, length, refl, w64}
-use Rattle.thin_block.proofs.WalkPrelude.{Val, vint, vptr, inst_fn, ◌$◌, !, move, keep, fjoin, feq_i, flt_i, suffices, done, stop, fld, look, load, of_opd, first, blocks, returns, alloc_all, pass_all, free_all, look_at, through, sets, sets_last, get, walk_of, ends_at, proved_at, R, pointer_in, pointer_out, says_all, word_in, word_out}
-use Rattle.thin_block.proofs.SharedRefLemmas.{block_seen}
-use Rattle.thin_block.proofs.MethodSignatures.{item, source, others, dropped, all_go, seen, enters, leaves, continues, args}
+use mir.MapTy.{inst_fn}
+use mir.Val.{Val, vint, vptr}
+use types.ByLocal.{alloc_all, pass_all, free_all, look_at, through, sets, sets_last, get}
+use types.Kit.{◌$◌, !, move, keep, fjoin, feq_i, flt_i, suffices, done}
+use types.Run.{stop, fld, look, load, of_opd, first, blocks, returns}
+use denote.Triple.Walked.{walk_of, ends_at}
+use Rattle.core.proofs.slots.Lent.{pointer_in, pointer_out, word_in, word_out}
+use Rattle.std.proofs.raw_atomic.Walks.{proved_at}
 use Rattle.thin_block.specs.contracts.block.Block.cap.{ended, clauses}
 use Rattle.thin_block.specs.contracts.block.Block.cap.Key.{name as #self}
-use Rattle.thin_block.proofs.block.Block.cap.Statement.{statement}
+use Rattle.thin_block.proofs.HeaderMemory.{args}
+use Rattle.thin_block.proofs.MethodSignatures.{item, source, others, dropped, all_go, seen, enters}
+use Rattle.thin_block.proofs.MethodSignatures.{leaves, continues}
+use Rattle.thin_block.proofs.SharedRefLemmas.{block_seen}
+use Rattle.thin_block.proofs.WalkPrelude.{says_all}
 use Rattle.thin_block.proofs.block.Block.cap.Code as compiled
+use Rattle.thin_block.proofs.block.Block.cap.Statement.{statement}
 
 pub cap_spec : {M : Type 1} → statement M
 cap_spec 𝓤 𝓛 𝓜 𝓡 wired T A LT LA g d dd met md =

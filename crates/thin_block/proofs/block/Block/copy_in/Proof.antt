@@ -1,24 +1,61 @@
 -- This file proves the contract of `copy_in`, which copies items into adjacent empty slots of a
 -- block.
-use Rattle.std.proofs.Common.{◌≡◌, ℕ, Some, false, ◌+◌, ◌*◌, ◌^◌, ◌<◌, List, ◌∷◌, [], ◌++◌, length, refl, sym, subst, ◌∙◌, arith, w64, replicate, Option}
-use Rattle.thin_block.proofs.WalkPrelude.{length-map, length-replicate, Fn, Args, ty_array, a_type, dcons, dnil, named, Val, WT, vint, vunit, inst_fn, full_share, froom, flft, ‵, raw, ◌⊛◌, exists, given, later, learn, pick, await, ◌$◌, !, move, keep, drop, use1, use2, use3, split, split3, join, fsplit, fsplit3, rewrite, suffices, done, whole, sub, stop, fld, unit_lit, of_opd, no_more, and_then, first, blocks, returns, alloc_all, pass_all, free_all, look_at, sets, lands_as, lands_last, get, get_in, Array, part_at, RattleType, block_ptr, layout, param, bounded, plain, slice_val, calls_at, calls_at_last, Stays, stay_ref, walk_of, Goes-ref, ends_at, proved_at, framed, R, slot_at, says_all, copied, ShrSlice, add_moves, with_slots, slots_own, filled_slots, empty_slots, write_slots}
-use Rattle.core.specs.Mem.Slots.{slots_items, slots_filled, slots_ptr, slots_len, slots_counts, slots_small}
+use Rattle.std.proofs.Common.{◌≡◌, ℕ, Some, false, ◌+◌, ◌*◌, ◌^◌, ◌<◌, List, ◌∷◌, [], ◌++◌, length}
+use Rattle.std.proofs.Common.{refl, sym, subst, ◌∙◌, arith, w64, replicate, Option}
+use lib.ListN.{length-map, length-replicate}
+use base.Fml.{froom, flft}
+use base.Fraction.{full_share}
+use mir.MapTy.{inst_fn}
+use mir.Syntax.{Fn, Args, ty_array, a_type, dcons, dnil, named}
+use mir.Val.{Val, WT, vint, vunit}
+use types.ByLocal.{alloc_all, pass_all, free_all, look_at, sets, lands_as, lands_last, get, get_in}
+use types.Kit.{‵, raw, ◌⊛◌, some as exists, given, later, learn, pick, await, ◌$◌, !, move, keep}
+use types.Kit.{drop, use1, use2, use3, split, split3, join, fsplit, fsplit3, rewrite, suffices}
+use types.Kit.{done}
+use types.Part.{whole, sub}
+use types.Run.{stop, fld, unit_lit, of_opd, no_more, and_then, first, blocks, returns}
+use denote.Array.{Array}
+use denote.Memory.{part_at}
+use denote.Param.{layout, param, bounded, copied}
+use denote.RattleType.{RattleType}
+use denote.RawPtr.{block_ptr}
+use denote.Signature.{plain}
+use denote.Slice.{slice_val, ShrSlice}
+use denote.Triple.Call.{calls_at, calls_at_last}
+use denote.Triple.Walked.{Stays, stay_ref, walk_of, Goes-ref, ends_at}
+use Rattle.core.specs.Mem.Slots.{slots_items, slots_filled, slots_ptr, slots_len, slots_counts}
+use Rattle.core.specs.Mem.Slots.{slots_small}
 use Rattle.core.specs.Mem.Slots.Ownership.{Filled}
+use Rattle.core.proofs.atomic.Steps.{fm as framed}
+use Rattle.core.proofs.mem.Param.{R}
 use Rattle.core.proofs.slots.Opens.{row_val}
 use Rattle.core.proofs.slots.Runs.{of_space, to_values}
-use Rattle.std_alloc.proofs.vec.Blocks.{all}
-use Rattle.std_alloc.proofs.vec.Spares.{Row, parts_typed, From, at_from, Made, from_goes, from_gives, Into, at_into, Into-goes, Into-gives}
-use Rattle.thin_block.proofs.slots.CopyCall.{Copied, at_copied, IsCopy, Copied-goes, Copied-gives}
-use Rattle.thin_block.proofs.MethodSignatures.{item, source, others, dropped, all_go, arrives, heard_each, token_out, enters, closes_over, leaves_unit, ptr_of, opens_self, continues, word, Br, sz, around, run_out, run_in, of_items, to_room, empty-run, length-written, near, its_ptr, slot_found}
-use Rattle.thin_block.specs.contracts.block.Block.copy_in.{ended, clauses}
-use Rattle.thin_block.specs.contracts.block.Block.copy_in.Key.{name as #self}
-use Rattle.thin_block.proofs.block.Block.copy_in.Statement.{statement}
 use Rattle.core.proofs.slots.Slots.from_raw_parts.Met as from_met
 use Rattle.core.proofs.slots.Slots.into_raw_parts.Met as into_met
+use Rattle.std.proofs.raw_atomic.Walks.{proved_at}
 use Rattle.std_alloc.proofs.VecSteps.El as vecs
-use Rattle.thin_block.proofs.slots.fill_from.Met as fill_from_met
+use Rattle.std_alloc.proofs.vec.Blocks.{all}
+use Rattle.std_alloc.proofs.vec.Spares.{Row, parts_typed, From, at_from, Made, from_goes}
+use Rattle.std_alloc.proofs.vec.Spares.{from_gives, Into, at_into, Into-goes, Into-gives}
+use Rattle.thin_block.specs.Cost.{add_moves}
+use Rattle.thin_block.specs.Lends.{with_slots}
+use Rattle.thin_block.specs.Ownership.{slots_own}
+use Rattle.thin_block.specs.Slots.{filled_slots, empty_slots, write_slots}
 use Rattle.thin_block.specs.contracts.block.Block as block
+use Rattle.thin_block.specs.contracts.block.Block.copy_in.{ended, clauses}
+use Rattle.thin_block.specs.contracts.block.Block.copy_in.Key.{name as #self}
+use Rattle.thin_block.proofs.Addresses.{near, its_ptr, slot_found}
+use Rattle.thin_block.proofs.HeaderMemory.{Br}
+use Rattle.thin_block.proofs.MethodSignatures.{item, source, others, dropped, all_go, arrives}
+use Rattle.thin_block.proofs.MethodSignatures.{heard_each, token_out, enters, closes_over}
+use Rattle.thin_block.proofs.MethodSignatures.{leaves_unit, ptr_of, opens_self, continues, word}
+use Rattle.thin_block.proofs.SlotMemory.{sz, around, run_out, run_in, of_items, to_room}
+use Rattle.thin_block.proofs.SlotsLemmas.{empty-run, length-written}
+use Rattle.thin_block.proofs.WalkPrelude.{slot_at, says_all}
 use Rattle.thin_block.proofs.block.Block.copy_in.Code as compiled
+use Rattle.thin_block.proofs.block.Block.copy_in.Statement.{statement}
+use Rattle.thin_block.proofs.slots.CopyCall.{Copied, at_copied, IsCopy, Copied-goes, Copied-gives}
+use Rattle.thin_block.proofs.slots.fill_from.Met as fill_from_met
 
 pub copy_in_spec : {M : Type 1} → statement M
 copy_in_spec 𝓤 𝓛 𝓜 𝓡 wired T A LT LA copies gc dc g d dd metc met md =

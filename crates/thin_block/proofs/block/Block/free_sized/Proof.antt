@@ -1,20 +1,58 @@
 -- This file proves the contract of `free_sized`. The proof joins the parts of the block into one
 -- piece of memory, which the function returns to the allocator.
-use Rattle.std.proofs.Common.{◌≡◌, ℕ, ◌+◌, List, [], ◌∷◌, ◌++◌, ◌*◌, ◌<◌, ◌^◌, Bool, length, true, false, refl, sym, ap, subst, ◌∙◌, arith, w64, Option}
-use Rattle.thin_block.proofs.WalkPrelude.{Ty, Body, place, Val, vint, vptr, vunit, inst_fn, SProp, Fml, froom, flft, size, align, capped, capped_is, Env, ⊑_trans, tables, After, Item, Sq, prop, ‵, raw, ◌⊛◌, given, exists, pick, group, later, at_ret, ◌$◌, !, by, move, keep, drop, use1, use2, use3, split, join, learn, rewrite, regoal, fsplit, feq_i, await, whole, sub, stop, fld, load, look, lit, bin, through, unit_lit, of_opd, no_more, and_then, first, blocks, branches, exec, returns, alloc_all, pass_all, free_all, look_at, get, get_in, sets, sets_last, lands_last, env, holding, forget_but, ltb→lt, nltb→le, Wp, RattleType, Ptr, block_ptr, nothing, calls_at_last, walk_of, token, fm, proved_at, leaves, type_size, R, slot_at, then_runs, out_of_block, after, head, inside, ty_ptr, settles, Goes-blank, Gives, at_gives, Gives-goes, Gives-Gives, empty_slots, gapped_items}
-use types.Kit.{post}
+use Rattle.std.proofs.Common.{◌≡◌, ℕ, ◌+◌, List, [], ◌∷◌, ◌++◌, ◌*◌, ◌<◌, ◌^◌, Bool, length, true}
+use Rattle.std.proofs.Common.{false, refl, sym, ap, subst, ◌∙◌, arith, w64, Option}
+use lib.Dec.{ltb→lt, nltb→le}
+use base.Fml.{Fml, froom, flft}
+use base.Logic.{SProp}
+use mir.MapTy.{inst_fn}
+use mir.Syntax.{Ty, Body, place, ty_ptr}
+use mir.Val.{Val, vint, vptr, vunit}
+use prog.Capped.{capped_is}
+use prog.Memory.{size, align, capped}
+use prog.Wp.{Env, Wp}
+use contract.BorrowLft.{⊑_trans}
 use contract.Lifetimes.{toks}
+use contract.Running.{tables}
+use types.ByLocal.{through, alloc_all, pass_all, free_all, look_at, get, get_in, sets, sets_last}
+use types.ByLocal.{lands_last, env, holding, forget_but}
+use types.Kit.{Post as After, Item, Sq, prop, ‵, raw, ◌⊛◌, given, some as exists, pick, group}
+use types.Kit.{later, at_ret, ◌$◌, !, by, move, keep, drop, use1, use2, use3, split, join, learn}
+use types.Kit.{rewrite, regoal, fsplit, feq_i, await, settles, post}
+use types.Part.{whole, sub}
+use types.Run.{stop, fld, load, look, lit, bin, unit_lit, of_opd, no_more, and_then, first, blocks}
+use types.Run.{branches, exec, returns}
+use denote.RattleType.{RattleType}
+use denote.RawPtr.{Ptr, block_ptr}
+use denote.Steps.{nothing}
+use denote.Triple.Call.{calls_at_last}
+use denote.Triple.Walked.{walk_of}
+use Rattle.core.proofs.alloc.Calls.{token, Goes-blank, Gives, at_gives, Gives-goes, Gives-Gives}
 use Rattle.core.proofs.alloc.Calls.{seen}
-use Rattle.thin_block.specs.Ownership.{fits_block, slots_own, header_owns, pads, words_of, erased_type, end_of, memory_type, memory_type_if}
-use Rattle.thin_block.proofs.sizes.SizesLemmas.{rounded}
-use Rattle.thin_block.proofs.BlockMemory.{ordinary_joined, front_tells, memory_size, memory_align, memory_short}
-use Rattle.thin_block.proofs.in_place.ArrayMemory.{memory_out}
-use Rattle.thin_block.proofs.padded.PaddedMemory.{Opened, padded_apart, array_in}
-use Rattle.thin_block.proofs.MethodSignatures.{item, source, others, dropped, all_go, arrives, heard_each, enters, blank, still, word, args, header, t, block_val, block_had, reach, slot_found}
+use Rattle.core.proofs.alloc.Shapes.{after, head, inside}
+use Rattle.core.proofs.atomic.Steps.{fm}
+use Rattle.core.proofs.mem.Param.{R}
+use Rattle.std.proofs.raw_atomic.Walks.{proved_at, leaves}
+use Rattle.std.specs.Mem.{type_size}
+use Rattle.thin_block.specs.InPlace.{gapped_items}
+use Rattle.thin_block.specs.Ownership.{fits_block, slots_own, header_owns, pads, words_of}
+use Rattle.thin_block.specs.Ownership.{erased_type, end_of, memory_type, memory_type_if}
+use Rattle.thin_block.specs.Slots.{empty_slots}
 use Rattle.thin_block.specs.contracts.block.Block.free_sized.{ended, clauses}
 use Rattle.thin_block.specs.contracts.block.Block.free_sized.Key.{name as #self}
-use Rattle.thin_block.proofs.block.Block.free_sized.Statement.{statement}
+use Rattle.thin_block.proofs.Addresses.{slot_found}
+use Rattle.thin_block.proofs.BlockMemory.{ordinary_joined, front_tells, memory_size, memory_align}
+use Rattle.thin_block.proofs.BlockMemory.{memory_short}
+use Rattle.thin_block.proofs.HeaderMemory.{args, header, t, block_val, block_had}
+use Rattle.thin_block.proofs.MethodSignatures.{item, source, others, dropped, all_go, arrives}
+use Rattle.thin_block.proofs.MethodSignatures.{heard_each, enters, blank, still, word}
+use Rattle.thin_block.proofs.SlotMemory.{reach}
+use Rattle.thin_block.proofs.WalkPrelude.{slot_at, then_runs, out_of_block}
 use Rattle.thin_block.proofs.block.Block.free_sized.Code as compiled
+use Rattle.thin_block.proofs.block.Block.free_sized.Statement.{statement}
+use Rattle.thin_block.proofs.in_place.ArrayMemory.{memory_out}
+use Rattle.thin_block.proofs.padded.PaddedMemory.{Opened, padded_apart, array_in}
+use Rattle.thin_block.proofs.sizes.SizesLemmas.{rounded}
 
 pub free_sized_spec : {M : Type 1} → statement M
 free_sized_spec 𝓤 𝓛 𝓜 𝓡 wired T A LT LA g d dd met md =

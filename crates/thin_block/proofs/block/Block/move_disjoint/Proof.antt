@@ -1,15 +1,45 @@
 -- This file proves the contract of `move_disjoint`, which moves items to slots that do not overlap
 -- with their old slots.
-use Rattle.std.proofs.Common.{◌≡◌, ℕ, Some, ◌+◌, ◌*◌, ◌^◌, ◌<◌, List, ◌∷◌, [], ◌++◌, length, refl, sym, ap, subst, ◌∙◌, arith, w64, Option}
-use Rattle.thin_block.proofs.WalkPrelude.{length-map, Holds, ty_array, ty_unit, Val, WT, has_ty, vint, vunit, inst_fn, full_share, Fml, froom, flft, ‵, raw, ◌⊛◌, given, later, learn, await, ◌$◌, !, move, use1, use2, use3, split, split3, join, fsplit, fjoin, suffices, done, unit_lit, of_opd, no_more, and_then, first, blocks, returns, alloc_all, pass_all, free_all, look_at, sets, lands_last, get, Array, part_at, layout, calls_at_last, walk_of, ends_at, proved_at, framed, R, says_all, add_moves, with_slots, slots_own, move_slots}
+use Rattle.std.proofs.Common.{◌≡◌, ℕ, Some, ◌+◌, ◌*◌, ◌^◌, ◌<◌, List, ◌∷◌, [], ◌++◌, length, refl}
+use Rattle.std.proofs.Common.{sym, ap, subst, ◌∙◌, arith, w64, Option}
+use lib.Dec.{T as Holds}
+use lib.ListN.{length-map}
+use base.Fml.{Fml, froom, flft}
+use base.Fraction.{full_share}
+use mir.MapTy.{inst_fn}
+use mir.Syntax.{ty_array, ty_unit}
+use mir.Val.{Val, WT, has_ty, vint, vunit}
+use types.ByLocal.{alloc_all, pass_all, free_all, look_at, sets, lands_last, get}
+use types.Kit.{‵, raw, ◌⊛◌, given, later, learn, await, ◌$◌, !, move, use1, use2, use3, split}
+use types.Kit.{split3, join, fsplit, fjoin, suffices, done}
+use types.Run.{unit_lit, of_opd, no_more, and_then, first, blocks, returns}
+use denote.Array.{Array}
+use denote.Memory.{part_at}
+use denote.Param.{layout}
+use denote.Triple.Call.{calls_at_last}
+use denote.Triple.Walked.{walk_of, ends_at}
 use Rattle.core.proofs.alloc.Moves.{Copies, at_copies, Copies-goes, Copies-gives}
-use Rattle.thin_block.proofs.shifts.ShiftMemory.{Was, apart}
-use Rattle.thin_block.proofs.MethodSignatures.{item, source, others, block_stays, goes, begins, enters, closes_over, token_out, leaves_unit, ptr_of, opens_self, continues, word, full-run, length-run, args, Br, sz, reach, length-moved, near, its_ptr, slot_found, moves_on}
+use Rattle.core.proofs.atomic.Steps.{fm as framed}
+use Rattle.core.proofs.mem.Param.{R}
+use Rattle.core.proofs.ptr.copy_nonoverlapping.Met as copy_met
+use Rattle.std.proofs.raw_atomic.Walks.{proved_at}
+use Rattle.thin_block.specs.Cost.{add_moves}
+use Rattle.thin_block.specs.Lends.{with_slots}
+use Rattle.thin_block.specs.Ownership.{slots_own}
+use Rattle.thin_block.specs.Slots.{move_slots}
 use Rattle.thin_block.specs.contracts.block.Block.move_disjoint.{ended, clauses}
 use Rattle.thin_block.specs.contracts.block.Block.move_disjoint.Key.{name as #self}
-use Rattle.thin_block.proofs.block.Block.move_disjoint.Statement.{statement}
-use Rattle.core.proofs.ptr.copy_nonoverlapping.Met as copy_met
+use Rattle.thin_block.proofs.Addresses.{near, its_ptr, slot_found, moves_on}
+use Rattle.thin_block.proofs.HeaderMemory.{args, Br}
+use Rattle.thin_block.proofs.MethodSignatures.{item, source, others, block_stays, goes, begins}
+use Rattle.thin_block.proofs.MethodSignatures.{enters, closes_over, token_out, leaves_unit, ptr_of}
+use Rattle.thin_block.proofs.MethodSignatures.{opens_self, continues, word}
+use Rattle.thin_block.proofs.SlotMemory.{sz, reach}
+use Rattle.thin_block.proofs.SlotsLemmas.{full-run, length-run, length-moved}
+use Rattle.thin_block.proofs.WalkPrelude.{says_all}
 use Rattle.thin_block.proofs.block.Block.move_disjoint.Code as compiled
+use Rattle.thin_block.proofs.block.Block.move_disjoint.Statement.{statement}
+use Rattle.thin_block.proofs.shifts.ShiftMemory.{Was, apart}
 
 pub move_disjoint_spec : {M : Type 1} → statement M
 move_disjoint_spec 𝓤 𝓛 𝓜 𝓡 wired T A LT LA g d dd met md =

@@ -1,19 +1,55 @@
 -- This file proves the contract of `move_items_to`, which moves adjacent items from one block
 -- to another block.
-use Rattle.std.proofs.Common.{◌≡◌, ℕ, Some, None, ◌+◌, ◌*◌, ◌^◌, ◌<◌, ◌≤◌, List, ◌∷◌, [], ◌++◌, length, refl, sym, ap, subst, ◌∙◌, arith, w64, Option, Bool}
-use Rattle.thin_block.proofs.WalkPrelude.{Holds, length-map, length-replicate, Fn, ty_array, ty_unit, Val, WT, has_ty, vint, vptr, vunit, inst_fn, full_share, SProp, ftrue, froom, flft, Env, WpFn, tables, ‵, raw, ◌⊛◌, given, later, prop, at_ret, ◌$◌, ◌∵◌, !, qed, move, keep, use1, use2, use3, split, split3, join, fsplit, fsplit3, fjoin, fjoin3, feq_i, rewrite, regoal, learn, await, suffices, done, whole, sub, look_in, stop, fld, load, unit_lit, of_opd, no_more, and_then, first, blocks, exec, returns, enter, alloc_all, pass_all, free_all, look_at, through, sets, lands_last, env, get, Array, part_at, RattleType, owns, layout, plain, types_at, nothing, calls_at_last, Stays, stay_ref, stay_dropped, walk_of, Goes-dropped, Goes-ref, ends_at, proved_at, framed, R, slot_at, after, says_all, IsSome, if◌then◌else◌, with_slots, slots_own, filled_slots, empty_slots, slot, write_slots, clear_slots, block_view}
+use Rattle.std.proofs.Common.{◌≡◌, ℕ, Some, None, ◌+◌, ◌*◌, ◌^◌, ◌<◌, ◌≤◌, List, ◌∷◌, [], ◌++◌}
+use Rattle.std.proofs.Common.{length, refl, sym, ap, subst, ◌∙◌, arith, w64, Option, Bool}
+use lib.Dec.{T as Holds}
+use lib.ListN.{length-map, length-replicate}
+use base.Fml.{ftrue, froom, flft}
+use base.Fraction.{full_share}
+use base.Logic.{SProp}
+use mir.MapTy.{inst_fn}
+use mir.Syntax.{Fn, ty_array, ty_unit}
+use mir.Val.{Val, WT, has_ty, vint, vptr, vunit}
+use prog.Wp.{Env, WpFn}
+use contract.Running.{tables}
+use types.ByLocal.{alloc_all, pass_all, free_all, look_at, through, sets, lands_last, env, get}
+use types.Kit.{‵, raw, ◌⊛◌, given, later, prop, at_ret, ◌$◌, ◌∵◌, !, qed, move, keep, use1, use2}
+use types.Kit.{use3, split, split3, join, fsplit, fsplit3, fjoin, fjoin3, feq_i, rewrite, regoal}
+use types.Kit.{learn, await, suffices, done}
+use types.Part.{whole, sub, look_in}
+use types.Run.{stop, fld, load, unit_lit, of_opd, no_more, and_then, first, blocks, exec, returns}
+use types.Run.{enter}
+use denote.Array.{Array}
+use denote.Memory.{part_at}
+use denote.Param.{layout}
+use denote.RattleType.{RattleType, owns}
+use denote.Signature.{plain, types_at}
+use denote.Steps.{nothing}
+use denote.Triple.Call.{calls_at_last}
+use denote.Triple.Walked.{Stays, stay_ref, stay_dropped, walk_of, Goes-dropped, Goes-ref, ends_at}
 use Rattle.core.proofs.alloc.Moves.{Copies, at_copies, Copies-goes, Copies-gives}
+use Rattle.core.proofs.alloc.Shapes.{after}
+use Rattle.core.proofs.atomic.Steps.{fm as framed}
+use Rattle.core.proofs.mem.Param.{R}
+use Rattle.core.proofs.ptr.copy_nonoverlapping.Met as copy_met
+use Rattle.std.proofs.raw_atomic.Walks.{proved_at}
+use Rattle.std.specs.Prelude.{IsSome, if◌then◌else◌}
+use Rattle.thin_block.specs.Block.{block_view}
 use Rattle.thin_block.specs.Cost.{Cost, add_moves, add_realloc}
-use Rattle.thin_block.proofs.SlotsLemmas.{full-run, empty-run, length-run, length-written}
-use Rattle.thin_block.proofs.HeaderMemory.{args, Br, header, t, block_opens, block_closes}
-use Rattle.thin_block.proofs.SlotMemory.{sz, reach, around, run_out, run_in, to_items, of_items, to_room, of_room}
-use Rattle.thin_block.proofs.Addresses.{near, slot_found}
+use Rattle.thin_block.specs.Lends.{with_slots}
+use Rattle.thin_block.specs.Ownership.{slots_own}
+use Rattle.thin_block.specs.Slots.{filled_slots, empty_slots, slot, write_slots, clear_slots}
 use Rattle.thin_block.specs.contracts.block.Block.move_items_to.{ended, clauses}
 use Rattle.thin_block.specs.contracts.block.Block.move_items_to.Key.{name as #self}
-use Rattle.thin_block.proofs.block.Block.move_items_to.Statement.{statement}
+use Rattle.thin_block.proofs.Addresses.{near, slot_found}
+use Rattle.thin_block.proofs.HeaderMemory.{args, Br, header, t, block_opens, block_closes}
 use Rattle.thin_block.proofs.MethodSignatures.{item, source, others, dropped, all_go, heard_each}
-use Rattle.core.proofs.ptr.copy_nonoverlapping.Met as copy_met
+use Rattle.thin_block.proofs.SlotMemory.{sz, reach, around, run_out, run_in, to_items, of_items}
+use Rattle.thin_block.proofs.SlotMemory.{to_room, of_room}
+use Rattle.thin_block.proofs.SlotsLemmas.{full-run, empty-run, length-run, length-written}
+use Rattle.thin_block.proofs.WalkPrelude.{slot_at, says_all}
 use Rattle.thin_block.proofs.block.Block.move_items_to.Code as compiled
+use Rattle.thin_block.proofs.block.Block.move_items_to.Statement.{statement}
 
 pub move_items_to_spec : {M : Type 1} → statement M
 move_items_to_spec 𝓤 𝓛 𝓜 𝓡 wired T A LT LA g d dd met md =

@@ -1,19 +1,39 @@
 -- This file proves the contract of `none`, which returns a block without slots. Such a block points
 -- to a static header with the capacity 0 and the length 0.
 use Rattle.std.proofs.Common.{[], ◌∷◌, refl, arith, lit<, w64, None}
-use Rattle.thin_block.proofs.WalkPrelude.{Ty, Fn, ty_int, ty_array, w128, Val, vint, vstruct, vcons, vnil, inst_fn, SProp, ftrue, fat, ◌⊑◌, fact, tables, ‵, raw, ◌⊛◌, later, ◌$◌, ◌∵◌, !, qed, move, keep, use1, split, split3, join, fjoin, await, suffices, done, agg, stop, no_more, and_then, returns, enter, alloc_all, pass_all, free_all, look_at, get, through, sets, lands_as, owns, usize, part_at, uint_in, block_ptr, types_at, nothing, Stays, walk_of, ends_at, proved_at, Al, El, says_all, shared_of}
-use mir.Syntax.{Tys, ty_struct, tcons, tnil}
-use mir.Val.{Vals}
-use base.Fml.{flent}
-use types.Run.{addr, statics}
+use base.Fml.{ftrue, fat, flent}
+use base.Logic.{SProp}
+use mir.MapTy.{inst_fn}
+use mir.Syntax.{Ty, Fn, ty_int, ty_array, w128, Tys, ty_struct, tcons, tnil}
+use mir.Val.{Val, vint, vstruct, vcons, vnil, Vals}
+use contract.BorrowLft.{◌⊑◌}
+use contract.Monad.{fact}
+use contract.Running.{tables}
+use types.ByLocal.{alloc_all, pass_all, free_all, look_at, get, through, sets, lands_as}
+use types.Kit.{‵, raw, ◌⊛◌, later, ◌$◌, ◌∵◌, !, qed, move, keep, use1, split, split3, join, fjoin}
+use types.Kit.{await, suffices, done}
+use types.Part.{agg}
+use types.Run.{stop, no_more, and_then, returns, enter, addr, statics}
+use denote.Builtin.{usize}
 use denote.Copied.{uint_Copied}
+use denote.Memory.{part_at, shared_of}
+use denote.Plain.{uint_in}
+use denote.RattleType.{owns}
+use denote.RawPtr.{block_ptr}
+use denote.Signature.{types_at}
+use denote.Steps.{nothing}
 use denote.Triple.Entry.{alive}
+use denote.Triple.Walked.{Stays, walk_of, ends_at}
+use Rattle.core.proofs.alloc.Calls.{Al}
+use Rattle.core.proofs.mem.Param.{El}
+use Rattle.std.proofs.raw_atomic.Walks.{proved_at}
 use Rattle.thin_block.specs.Cost.{no_cost}
-use Rattle.thin_block.proofs.HeaderMemory.{args, Br, block_val, block_made}
 use Rattle.thin_block.specs.contracts.block.Block.none.{ended, clauses}
 use Rattle.thin_block.specs.contracts.block.Block.none.Key.{name as #self}
-use Rattle.thin_block.proofs.block.Block.none.Statement.{statement}
+use Rattle.thin_block.proofs.HeaderMemory.{args, Br, block_val, block_made}
+use Rattle.thin_block.proofs.WalkPrelude.{says_all}
 use Rattle.thin_block.proofs.block.Block.none.Code as compiled
+use Rattle.thin_block.proofs.block.Block.none.Statement.{statement}
 
 pub none_spec : {M : Type 1} → statement M
 none_spec 𝓤 𝓛 𝓜 𝓡 wired T A LT LA g d dd met md =

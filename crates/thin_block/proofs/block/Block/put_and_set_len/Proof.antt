@@ -1,14 +1,39 @@
 -- This file proves the contract of `put_and_set_len`, which puts an item into an empty slot and
 -- then writes the length of the block.
-use Rattle.std.proofs.Common.{◌≡◌, ℕ, Some, ◌+◌, ◌*◌, ◌≤◌, List, ◌∷◌, [], ◌++◌, length, refl, sym, subst, arith, w64, Option}
-use Rattle.thin_block.proofs.WalkPrelude.{set, length-set, ty_int, Val, vint, vunit, inst_fn, full_share, fat, froom, ‵, ◌$◌, !, move, keep, drop, use1, use2, fsplit, fjoin, rewrite, suffices, done, stop, lit, bin, init, store, unit_lit, of_opd, assigns, assigns_last, first, blocks, returns, alloc_all, pass_all, free_all, look_at, through, sets, get, usize, uint_in, uint_out, block_ptr, lies_at, layout, walk_of, ends_at, proved_at, R, says_all, add_moves, with_slots, slot_owns, slots_own}
-use Rattle.core.proofs.mem.Param.{lawful, one}
+use Rattle.std.proofs.Common.{◌≡◌, ℕ, Some, ◌+◌, ◌*◌, ◌≤◌, List, ◌∷◌, [], ◌++◌, length, refl, sym}
+use Rattle.std.proofs.Common.{subst, arith, w64, Option}
+use lib.ListN.{set, length-set}
+use base.Fml.{fat, froom}
+use base.Fraction.{full_share}
+use mir.MapTy.{inst_fn}
+use mir.Syntax.{ty_int}
+use mir.Val.{Val, vint, vunit}
+use types.ByLocal.{alloc_all, pass_all, free_all, look_at, through, sets, get}
+use types.Kit.{‵, ◌$◌, !, move, keep, drop, use1, use2, fsplit, fjoin, rewrite, suffices, done}
+use types.Run.{stop, lit, bin, init, store, unit_lit, of_opd, assigns, assigns_last, first, blocks}
+use types.Run.{returns}
+use denote.Builtin.{usize}
+use denote.Param.{layout}
+use denote.Plain.{uint_in, uint_out}
+use denote.RawPtr.{block_ptr, lies_at}
+use denote.Triple.Walked.{walk_of, ends_at}
+use Rattle.core.proofs.mem.Param.{R, lawful, one}
 use Rattle.core.proofs.slice.Rows.{el_in}
-use Rattle.thin_block.proofs.MethodSignatures.{item, source, others, block_stays, goes, begins_with, enters, closes_over, leaves_unit, ptr_of, opens_self, continues, word, alloc_there, args, Br, header, t, sz, slot_in, near, its_ptr, slot_found, takes_slot}
+use Rattle.std.proofs.raw_atomic.Walks.{proved_at}
+use Rattle.thin_block.specs.Cost.{add_moves}
+use Rattle.thin_block.specs.Lends.{with_slots}
+use Rattle.thin_block.specs.Ownership.{slot_owns, slots_own}
 use Rattle.thin_block.specs.contracts.block.Block.put_and_set_len.{ended, clauses}
 use Rattle.thin_block.specs.contracts.block.Block.put_and_set_len.Key.{name as #self}
-use Rattle.thin_block.proofs.block.Block.put_and_set_len.Statement.{statement}
+use Rattle.thin_block.proofs.Addresses.{near, its_ptr, slot_found, takes_slot}
+use Rattle.thin_block.proofs.HeaderMemory.{alloc_there, args, Br, header, t}
+use Rattle.thin_block.proofs.MethodSignatures.{item, source, others, block_stays, goes, begins_with}
+use Rattle.thin_block.proofs.MethodSignatures.{enters, closes_over, leaves_unit, ptr_of, opens_self}
+use Rattle.thin_block.proofs.MethodSignatures.{continues, word}
+use Rattle.thin_block.proofs.SlotMemory.{sz, slot_in}
+use Rattle.thin_block.proofs.WalkPrelude.{says_all}
 use Rattle.thin_block.proofs.block.Block.put_and_set_len.Code as compiled
+use Rattle.thin_block.proofs.block.Block.put_and_set_len.Statement.{statement}
 
 pub put_and_set_len_spec : {M : Type 1} → statement M
 put_and_set_len_spec 𝓤 𝓛 𝓜 𝓡 wired T A LT LA g d dd met md =

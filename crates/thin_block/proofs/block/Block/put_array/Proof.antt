@@ -1,14 +1,45 @@
 -- This file proves the contract of `put_array`, which moves the items of an array into adjacent
 -- empty slots.
-use Rattle.std.proofs.Common.{◌≡◌, ℕ, Some, ◌+◌, ◌*◌, List, ◌∷◌, [], ◌++◌, length, refl, ◌∙◌, arith, w64, Option}
-use Rattle.thin_block.proofs.WalkPrelude.{length-map, ty_array, Val, vint, vunit, inst_fn, full_share, froom, ‵, ◌⊛◌, given, learn, ◌$◌, !, move, keep, drop, use1, use2, split, fsplit, rewrite, suffices, done, stop, init, unit_lit, of_opd, assigns_last, first, blocks, returns, alloc_all, pass_all, free_all, look_at, through, sets, get, Array, part_at, RattleType, layout, param, number, plain, walk_of, Goes-dropped, Goes-ref, ends_at, proved_at, R, slot_at, says_all, ArrayAt, param_laws, array_at_laws, via, part_in, alone, nothing_left, add_moves, with_slots, slots_own, filled_slots, empty_slots, write_slots}
+use Rattle.std.proofs.Common.{◌≡◌, ℕ, Some, ◌+◌, ◌*◌, List, ◌∷◌, [], ◌++◌, length, refl, ◌∙◌, arith}
+use Rattle.std.proofs.Common.{w64, Option}
+use lib.ListN.{length-map}
+use base.Fml.{froom}
+use base.Fraction.{full_share}
+use base.Logic.{via}
+use borrow.Table.OneValue.{part_in}
+use mir.MapTy.{inst_fn}
+use mir.Syntax.{ty_array}
+use mir.Val.{Val, vint, vunit}
+use types.ByLocal.{alloc_all, pass_all, free_all, look_at, through, sets, get}
+use types.Kit.{‵, ◌⊛◌, given, learn, ◌$◌, !, move, keep, drop, use1, use2, split, fsplit, rewrite}
+use types.Kit.{suffices, done}
+use types.Run.{stop, init, unit_lit, of_opd, assigns_last, first, blocks, returns}
+use denote.Array.{Array}
 use denote.Exit.{all_rest}
-use Rattle.thin_block.proofs.SlotMemory.{counted}
-use Rattle.thin_block.proofs.MethodSignatures.{item, source, others, block_stays, begins_with, enters, closes_over, args_at, leaves_unit, ptr_of, opens_self, continues, word, empty-run, length-written, Br, sz, around, run_out, run_in, of_items, to_room, near, its_ptr, slot_found}
+use denote.Memory.{part_at}
+use denote.Param.{layout, param, number, ArrayAt}
+use denote.Param.Laws.{param_laws, array_at_laws}
+use denote.RattleType.{RattleType}
+use denote.Signature.{plain}
+use denote.Triple.Walked.{walk_of, Goes-dropped, Goes-ref, ends_at}
+use Rattle.core.proofs.mem.Param.{R}
+use Rattle.std.proofs.raw_atomic.Walks.{proved_at}
+use Rattle.thin_block.specs.Cost.{add_moves}
+use Rattle.thin_block.specs.Lends.{with_slots}
+use Rattle.thin_block.specs.Ownership.{slots_own}
+use Rattle.thin_block.specs.Slots.{filled_slots, empty_slots, write_slots}
 use Rattle.thin_block.specs.contracts.block.Block.put_array.{ended, clauses}
 use Rattle.thin_block.specs.contracts.block.Block.put_array.Key.{name as #self}
-use Rattle.thin_block.proofs.block.Block.put_array.Statement.{statement}
+use Rattle.thin_block.proofs.Addresses.{near, its_ptr, slot_found}
+use Rattle.thin_block.proofs.HeaderMemory.{Br}
+use Rattle.thin_block.proofs.MethodSignatures.{item, source, others, block_stays, begins_with}
+use Rattle.thin_block.proofs.MethodSignatures.{enters, closes_over, args_at, leaves_unit, ptr_of}
+use Rattle.thin_block.proofs.MethodSignatures.{opens_self, continues, word}
+use Rattle.thin_block.proofs.SlotMemory.{counted, sz, around, run_out, run_in, of_items, to_room}
+use Rattle.thin_block.proofs.SlotsLemmas.{empty-run, length-written}
+use Rattle.thin_block.proofs.WalkPrelude.{slot_at, says_all, alone, nothing_left}
 use Rattle.thin_block.proofs.block.Block.put_array.Code as compiled
+use Rattle.thin_block.proofs.block.Block.put_array.Statement.{statement}
 
 pub put_array_spec : {M : Type 1} → statement M
 put_array_spec 𝓤 𝓛 𝓜 𝓡 wired T A N LT LA fits_N g d dd met md =

@@ -1,12 +1,30 @@
 -- This file proves the contract of `slice`, which returns the items in adjacent slots as a slice.
-use Rattle.std.proofs.Common.{◌≡◌, ℕ, ◌+◌, ◌*◌, ◌-◌, ◌^◌, ◌<◌, List, ◌∷◌, [], ◌++◌, length, Some, refl, sym, ap, subst, ◌∙◌, arith, w64}
-use Rattle.thin_block.proofs.WalkPrelude.{length-map, Val, vint, vptr, inst_fn, Lft, ‵, ◌$◌, !, move, keep, use1, fjoin, feq_i, flt_i, suffices, done, agg, stop, fld, look, load, bin, of_opd, no_more, and_then, first, blocks, returns, alloc_all, pass_all, free_all, look_at, through, sets, sets_last, get, slice_val, walk_of, ends_at, proved_at, R, pointer_in, pointer_out, fhide, elements_shared, says}
-use Rattle.thin_block.proofs.SharedRefLemmas.{block_seen, run_seen}
-use Rattle.thin_block.proofs.MethodSignatures.{item, source, others, dropped, all_go, heard_each, seen, enters, leaves, continues, word, args, sz, reach, full-run, length-run, near, slot_found}
+use Rattle.std.proofs.Common.{◌≡◌, ℕ, ◌+◌, ◌*◌, ◌-◌, ◌^◌, ◌<◌, List, ◌∷◌, [], ◌++◌, length, Some}
+use Rattle.std.proofs.Common.{refl, sym, ap, subst, ◌∙◌, arith, w64}
+use lib.ListN.{length-map}
+use base.Fml.{Lft, fhide}
+use mir.MapTy.{inst_fn}
+use mir.Val.{Val, vint, vptr}
+use types.ByLocal.{alloc_all, pass_all, free_all, look_at, through, sets, sets_last, get}
+use types.Kit.{‵, ◌$◌, !, move, keep, use1, fjoin, feq_i, flt_i, suffices, done}
+use types.Part.{agg}
+use types.Run.{stop, fld, look, load, bin, of_opd, no_more, and_then, first, blocks, returns}
+use denote.Slice.{slice_val, elements_shared}
+use denote.Triple.Walked.{walk_of, ends_at, says}
+use Rattle.core.proofs.mem.Param.{R}
+use Rattle.core.proofs.slots.Lent.{pointer_in, pointer_out}
+use Rattle.std.proofs.raw_atomic.Walks.{proved_at}
 use Rattle.thin_block.specs.contracts.block.Block.slice.{ended, clauses}
 use Rattle.thin_block.specs.contracts.block.Block.slice.Key.{name as #self}
-use Rattle.thin_block.proofs.block.Block.slice.Statement.{statement}
+use Rattle.thin_block.proofs.Addresses.{near, slot_found}
+use Rattle.thin_block.proofs.HeaderMemory.{args}
+use Rattle.thin_block.proofs.MethodSignatures.{item, source, others, dropped, all_go, heard_each}
+use Rattle.thin_block.proofs.MethodSignatures.{seen, enters, leaves, continues, word}
+use Rattle.thin_block.proofs.SharedRefLemmas.{block_seen, run_seen}
+use Rattle.thin_block.proofs.SlotMemory.{sz, reach}
+use Rattle.thin_block.proofs.SlotsLemmas.{full-run, length-run}
 use Rattle.thin_block.proofs.block.Block.slice.Code as compiled
+use Rattle.thin_block.proofs.block.Block.slice.Statement.{statement}
 
 pub slice_spec : {M : Type 1} → statement M
 slice_spec 𝓤 𝓛 𝓜 𝓡 wired T A LT LA g d dd met md =

@@ -1,18 +1,44 @@
 -- This file proves the contract of `slice_mut`, which returns the items in adjacent slots as a
 -- mutable slice.
-use Rattle.std.proofs.Common.{◌≡◌, ℕ, Some, ◌+◌, ◌-◌, ◌*◌, ◌^◌, ◌<◌, List, ◌∷◌, [], ◌++◌, length, refl, sym, ap, subst, ◌∙◌, arith, w64}
-use Rattle.thin_block.proofs.WalkPrelude.{length-map, named, vint, inst_fn, ent, sep, emp, Lft, Share, GName, Fml, fsep, flft, fact, fact_i, sem, ‵, raw, ◌⊛◌, exists, later, pick, await, ◌$◌, !, by, move, use0, use1, split, split3, join, group, fjoin, rewrite, agg, bin, of_opd, no_more, and_then, first, blocks, returns, alloc_all, pass_all, free_all, look_at, sets, sets_last, get, cells, Array, mem, slice_val, walk_of, proved_at, leaves, R, set_slots, slots_own, filled_slots}
+use Rattle.std.proofs.Common.{◌≡◌, ℕ, Some, ◌+◌, ◌-◌, ◌*◌, ◌^◌, ◌<◌, List, ◌∷◌, [], ◌++◌, length}
+use Rattle.std.proofs.Common.{refl, sym, ap, subst, ◌∙◌, arith, w64}
+use lib.ListN.{length-map}
+use base.Fml.{Lft, Share, GName, Fml, fsep, flft}
+use base.Logic.{ent, sep, emp}
+use mir.MapTy.{inst_fn}
+use mir.Syntax.{named}
+use mir.Val.{vint}
+use contract.Monad.{fact, fact_i}
+use types.ByLocal.{alloc_all, pass_all, free_all, look_at, sets, sets_last, get}
+use types.Kit.{‵, raw, ◌⊛◌, some as exists, later, pick, await, ◌$◌, !, by, move, use0, use1, split}
+use types.Kit.{split3, join, group, fjoin, rewrite}
+use types.Logic.{sem}
+use types.Part.{agg}
+use types.Run.{bin, of_opd, no_more, and_then, first, blocks, returns}
+use types.SemTy.{cells}
+use denote.Array.{Array}
 use denote.Follow.{follows}
 use denote.FollowSlice.{lends_Elements}
-use denote.Slice.{MutSlice}
+use denote.Memory.{mem}
+use denote.Slice.{slice_val, MutSlice}
+use denote.Triple.Walked.{walk_of}
+use Rattle.core.proofs.mem.Param.{R}
+use Rattle.std.proofs.raw_atomic.Walks.{proved_at, leaves}
 use Rattle.std.specs.Prelude.{slice_range}
-use Rattle.thin_block.proofs.SlotMemory.{sz, reach, around, run_out, to_cells}
-use Rattle.thin_block.proofs.BorrowLemmas.{Waiting, items_back}
-use Rattle.thin_block.proofs.MethodSignatures.{blank, item, source, others, dropped, all_go, begins, enters, ptr_of, opens_self, continues, word, full-run, length-run, args, Br, near, its_ptr, slot_found}
+use Rattle.thin_block.specs.Lends.{set_slots}
+use Rattle.thin_block.specs.Ownership.{slots_own}
+use Rattle.thin_block.specs.Slots.{filled_slots}
 use Rattle.thin_block.specs.contracts.block.Block.slice_mut.{ended, clauses}
 use Rattle.thin_block.specs.contracts.block.Block.slice_mut.Key.{name as #self}
-use Rattle.thin_block.proofs.block.Block.slice_mut.Statement.{statement}
+use Rattle.thin_block.proofs.Addresses.{near, its_ptr, slot_found}
+use Rattle.thin_block.proofs.BorrowLemmas.{Waiting, items_back}
+use Rattle.thin_block.proofs.HeaderMemory.{args, Br}
+use Rattle.thin_block.proofs.MethodSignatures.{blank, item, source, others, dropped, all_go, begins}
+use Rattle.thin_block.proofs.MethodSignatures.{enters, ptr_of, opens_self, continues, word}
+use Rattle.thin_block.proofs.SlotMemory.{sz, reach, around, run_out, to_cells}
+use Rattle.thin_block.proofs.SlotsLemmas.{full-run, length-run}
 use Rattle.thin_block.proofs.block.Block.slice_mut.Code as compiled
+use Rattle.thin_block.proofs.block.Block.slice_mut.Statement.{statement}
 
 pub slice_mut_spec : {M : Type 1} → statement M
 slice_mut_spec 𝓤 𝓛 𝓜 𝓡 wired T A LT LA g d dd met md =

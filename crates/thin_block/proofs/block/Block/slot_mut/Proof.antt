@@ -1,15 +1,36 @@
 -- This file proves the contract of `slot_mut`, which returns a mutable reference to the item in a
 -- filled slot.
-use Rattle.std.proofs.Common.{◌≡◌, ℕ, Some, None, ◌+◌, ◌*◌, ◌<◌, ◌∷◌, [], ◌++◌, length, refl, arith, w64}
-use Rattle.thin_block.proofs.WalkPrelude.{get_or, named, vint, vptr, inst_fn, emp, Lft, Share, GName, Fml, fsep, flft, fact, fact_i, sem, ‵, raw, ◌⊛◌, exists, later, pick, await, ◌$◌, !, by, move, use0, use1, split3, join, group, fjoin, stop, of_opd, first, blocks, returns, alloc_all, pass_all, free_all, look_at, through, sets, sets_last, get, walk_of, proved_at, leaves, R, addr, MutRef, set_slot}
+use Rattle.std.proofs.Common.{◌≡◌, ℕ, Some, None, ◌+◌, ◌*◌, ◌<◌, ◌∷◌, [], ◌++◌, length, refl, arith}
+use Rattle.std.proofs.Common.{w64}
+use lib.ListN.{get_or}
+use base.Fml.{Lft, Share, GName, Fml, fsep, flft}
+use base.Logic.{emp}
+use mir.MapTy.{inst_fn}
+use mir.Syntax.{named}
+use mir.Val.{vint, vptr}
+use contract.Monad.{fact, fact_i}
+use types.ByLocal.{alloc_all, pass_all, free_all, look_at, through, sets, sets_last, get}
+use types.Kit.{‵, raw, ◌⊛◌, some as exists, later, pick, await, ◌$◌, !, by, move, use0, use1}
+use types.Kit.{split3, join, group, fjoin}
+use types.Logic.{sem}
+use types.Run.{stop, of_opd, first, blocks, returns, addr}
 use denote.Follow.{follows, lends_Part}
-use Rattle.thin_block.proofs.SlotMemory.{sz, besides}
-use Rattle.thin_block.proofs.BorrowLemmas.{Waiting, item_back}
-use Rattle.thin_block.proofs.MethodSignatures.{blank, item, source, others, dropped, all_go, begins, enters, ptr_of, opens_self, continues, word, the_item, filled-within, args, Br, near, its_ptr, slot_found, takes_slot}
+use denote.Ref.{MutRef}
+use denote.Triple.Walked.{walk_of}
+use Rattle.core.proofs.mem.Param.{R}
+use Rattle.std.proofs.raw_atomic.Walks.{proved_at, leaves}
+use Rattle.thin_block.specs.Lends.{set_slot}
 use Rattle.thin_block.specs.contracts.block.Block.slot_mut.{ended, clauses}
 use Rattle.thin_block.specs.contracts.block.Block.slot_mut.Key.{name as #self}
-use Rattle.thin_block.proofs.block.Block.slot_mut.Statement.{statement}
+use Rattle.thin_block.proofs.Addresses.{near, its_ptr, slot_found, takes_slot}
+use Rattle.thin_block.proofs.BorrowLemmas.{Waiting, item_back}
+use Rattle.thin_block.proofs.HeaderMemory.{args, Br}
+use Rattle.thin_block.proofs.MethodSignatures.{blank, item, source, others, dropped, all_go, begins}
+use Rattle.thin_block.proofs.MethodSignatures.{enters, ptr_of, opens_self, continues, word}
+use Rattle.thin_block.proofs.SlotMemory.{sz, besides}
+use Rattle.thin_block.proofs.SlotsLemmas.{the_item, filled-within}
 use Rattle.thin_block.proofs.block.Block.slot_mut.Code as compiled
+use Rattle.thin_block.proofs.block.Block.slot_mut.Statement.{statement}
 
 pub slot_mut_spec : {M : Type 1} → statement M
 slot_mut_spec 𝓤 𝓛 𝓜 𝓡 wired T A LT LA g d dd met md =

@@ -1,12 +1,30 @@
 -- This file proves the contract of `store_len`, which writes the length to the header of the block.
 use Rattle.std.proofs.Common.{◌≡◌, ℕ, ◌+◌, ◌∷◌, [], ◌++◌, length, refl, sym, arith, w64, Option}
-use Rattle.thin_block.proofs.WalkPrelude.{ty_int, vint, vunit, inst_fn, full_share, fat, ‵, ◌$◌, !, move, use1, fsplit, fjoin, rewrite, suffices, done, whole, sub, look_in, stop, fld, load, lit, bin, store, unit_lit, of_opd, assigns_last, first, blocks, returns, alloc_all, pass_all, free_all, look_at, through, sets, get, usize, uint_in, uint_out, block_ptr, lies_at, walk_of, ends_at, proved_at, R, says_all}
-use Rattle.thin_block.proofs.HeaderMemory.{alloc_there, args, Br, header, t, block_closes}
-use Rattle.thin_block.proofs.MethodSignatures.{item, source, others, block_stays, goes, begins, enters, leaves_unit, ptr_of, opens_self, continues, word}
+use base.Fml.{fat}
+use base.Fraction.{full_share}
+use mir.MapTy.{inst_fn}
+use mir.Syntax.{ty_int}
+use mir.Val.{vint, vunit}
+use types.ByLocal.{alloc_all, pass_all, free_all, look_at, through, sets, get}
+use types.Kit.{‵, ◌$◌, !, move, use1, fsplit, fjoin, rewrite, suffices, done}
+use types.Part.{whole, sub, look_in}
+use types.Run.{stop, fld, load, lit, bin, store, unit_lit, of_opd, assigns_last, first, blocks}
+use types.Run.{returns}
+use denote.Builtin.{usize}
+use denote.Plain.{uint_in, uint_out}
+use denote.RawPtr.{block_ptr, lies_at}
+use denote.Triple.Walked.{walk_of, ends_at}
+use Rattle.core.proofs.mem.Param.{R}
+use Rattle.std.proofs.raw_atomic.Walks.{proved_at}
 use Rattle.thin_block.specs.contracts.block.Block.store_len.{ended, clauses}
 use Rattle.thin_block.specs.contracts.block.Block.store_len.Key.{name as #self}
-use Rattle.thin_block.proofs.block.Block.store_len.Statement.{statement}
+use Rattle.thin_block.proofs.HeaderMemory.{alloc_there, args, Br, header, t, block_closes}
+use Rattle.thin_block.proofs.MethodSignatures.{item, source, others, block_stays, goes, begins}
+use Rattle.thin_block.proofs.MethodSignatures.{enters, leaves_unit, ptr_of, opens_self, continues}
+use Rattle.thin_block.proofs.MethodSignatures.{word}
+use Rattle.thin_block.proofs.WalkPrelude.{says_all}
 use Rattle.thin_block.proofs.block.Block.store_len.Code as compiled
+use Rattle.thin_block.proofs.block.Block.store_len.Statement.{statement}
 
 pub store_len_spec : {M : Type 1} → statement M
 store_len_spec 𝓤 𝓛 𝓜 𝓡 wired T A LT LA g d dd met md =

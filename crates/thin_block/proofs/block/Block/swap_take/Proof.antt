@@ -1,18 +1,39 @@
 -- This file proves the contract of `swap_take`: one case for two different slots, and one case for
 -- a single slot.
-use Rattle.std.proofs.Common.{◌≡◌, ℕ, Some, None, ◌+◌, ◌*◌, ◌<◌, List, ◌∷◌, [], ◌++◌, length, refl, sym, ap, ◌∙◌, arith, w64, Option}
-use Rattle.thin_block.proofs.WalkPrelude.{set, length-set, vint, inst_fn, full_share, fat, froom, ‵, ◌$◌, !, move, use1, use2, use3, rewrite, suffices, done, stop, look, load, store, of_opd, assigns, first, blocks, returns, alloc_all, pass_all, free_all, look_at, through, sets, sets_last, get, layout, walk_of, ends_at, proved_at, R, says_all, add_moves, with_slots, slot_owns, slots_own, slot, inl, inr}
+use Rattle.std.proofs.Common.{◌≡◌, ℕ, Some, None, ◌+◌, ◌*◌, ◌<◌, List, ◌∷◌, [], ◌++◌, length, refl}
+use Rattle.std.proofs.Common.{sym, ap, ◌∙◌, arith, w64, Option}
+use mathlib.Core.Logic.{inl, inr}
+use lib.ListN.{set, length-set}
 use lib.Seq.{set-set}
-use Rattle.std.specs.Prelude.{◌==◌, if◌then◌else◌}
+use base.Fml.{fat, froom}
+use base.Fraction.{full_share}
+use mir.MapTy.{inst_fn}
+use mir.Val.{vint}
+use types.ByLocal.{alloc_all, pass_all, free_all, look_at, through, sets, sets_last, get}
+use types.Kit.{‵, ◌$◌, !, move, use1, use2, use3, rewrite, suffices, done}
+use types.Run.{stop, look, load, store, of_opd, assigns, first, blocks, returns}
+use denote.Param.{layout}
+use denote.Triple.Walked.{walk_of, ends_at}
+use Rattle.core.proofs.mem.Param.{R}
 use Rattle.core.proofs.slice.Rows.{el_in}
-use Rattle.thin_block.proofs.SlotsLemmas.{same_or_not}
-use Rattle.thin_block.proofs.SlotMemory.{two_slots}
-use Rattle.thin_block.proofs.MethodSignatures.{item, source, others, block_stays, goes, begins, enters, closes_over, leaves_with, ptr_of, opens_self, continues, word, the_item, filled-within, args, Br, sz, slot_in}
-use Rattle.thin_block.proofs.Addresses.{near, its_ptr, slot_found, takes_item, takes_two}
+use Rattle.std.proofs.raw_atomic.Walks.{proved_at}
+use Rattle.std.specs.Prelude.{◌==◌, if◌then◌else◌}
+use Rattle.thin_block.specs.Cost.{add_moves}
+use Rattle.thin_block.specs.Lends.{with_slots}
+use Rattle.thin_block.specs.Ownership.{slot_owns, slots_own}
+use Rattle.thin_block.specs.Slots.{slot}
 use Rattle.thin_block.specs.contracts.block.Block.swap_take.{ended, clauses}
 use Rattle.thin_block.specs.contracts.block.Block.swap_take.Key.{name as #self}
-use Rattle.thin_block.proofs.block.Block.swap_take.Statement.{statement}
+use Rattle.thin_block.proofs.Addresses.{near, its_ptr, slot_found, takes_item, takes_two}
+use Rattle.thin_block.proofs.HeaderMemory.{args, Br}
+use Rattle.thin_block.proofs.MethodSignatures.{item, source, others, block_stays, goes, begins}
+use Rattle.thin_block.proofs.MethodSignatures.{enters, closes_over, leaves_with, ptr_of, opens_self}
+use Rattle.thin_block.proofs.MethodSignatures.{continues, word}
+use Rattle.thin_block.proofs.SlotMemory.{two_slots, sz, slot_in}
+use Rattle.thin_block.proofs.SlotsLemmas.{same_or_not, the_item, filled-within}
+use Rattle.thin_block.proofs.WalkPrelude.{says_all}
 use Rattle.thin_block.proofs.block.Block.swap_take.Code as compiled
+use Rattle.thin_block.proofs.block.Block.swap_take.Statement.{statement}
 
 pub swap_take_spec : {M : Type 1} → statement M
 swap_take_spec 𝓤 𝓛 𝓜 𝓡 wired T A LT LA g d dd met md =

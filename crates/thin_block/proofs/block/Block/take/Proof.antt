@@ -1,11 +1,30 @@
 -- This file proves the contract of `take`, which moves the item out of a filled slot.
 use Rattle.std.proofs.Common.{ℕ, None, ◌+◌, ◌*◌, ◌<◌, ◌∷◌, [], ◌++◌, length, refl, arith, w64}
-use Rattle.thin_block.proofs.WalkPrelude.{set, length-set, get_or, vint, inst_fn, froom, ‵, ◌$◌, !, move, use1, use2, suffices, done, stop, load, look, of_opd, first, blocks, returns, alloc_all, pass_all, free_all, look_at, through, sets, sets_last, get, layout, walk_of, ends_at, proved_at, R, says_all, with_slots, slot_owns, slots_own}
-use Rattle.thin_block.proofs.MethodSignatures.{item, source, others, block_stays, goes, begins, enters, closes_over, leaves_with, ptr_of, opens_self, continues, word, the_item, filled-within, args, Br, near, its_ptr, slot_found, takes_item, sz, slot_in}
+use lib.ListN.{set, length-set, get_or}
+use base.Fml.{froom}
+use mir.MapTy.{inst_fn}
+use mir.Val.{vint}
+use types.ByLocal.{alloc_all, pass_all, free_all, look_at, through, sets, sets_last, get}
+use types.Kit.{‵, ◌$◌, !, move, use1, use2, suffices, done}
+use types.Run.{stop, load, look, of_opd, first, blocks, returns}
+use denote.Param.{layout}
+use denote.Triple.Walked.{walk_of, ends_at}
+use Rattle.core.proofs.mem.Param.{R}
+use Rattle.std.proofs.raw_atomic.Walks.{proved_at}
+use Rattle.thin_block.specs.Lends.{with_slots}
+use Rattle.thin_block.specs.Ownership.{slot_owns, slots_own}
 use Rattle.thin_block.specs.contracts.block.Block.take.{ended, clauses}
 use Rattle.thin_block.specs.contracts.block.Block.take.Key.{name as #self}
-use Rattle.thin_block.proofs.block.Block.take.Statement.{statement}
+use Rattle.thin_block.proofs.Addresses.{near, its_ptr, slot_found, takes_item}
+use Rattle.thin_block.proofs.HeaderMemory.{args, Br}
+use Rattle.thin_block.proofs.MethodSignatures.{item, source, others, block_stays, goes, begins}
+use Rattle.thin_block.proofs.MethodSignatures.{enters, closes_over, leaves_with, ptr_of, opens_self}
+use Rattle.thin_block.proofs.MethodSignatures.{continues, word}
+use Rattle.thin_block.proofs.SlotMemory.{sz, slot_in}
+use Rattle.thin_block.proofs.SlotsLemmas.{the_item, filled-within}
+use Rattle.thin_block.proofs.WalkPrelude.{says_all}
 use Rattle.thin_block.proofs.block.Block.take.Code as compiled
+use Rattle.thin_block.proofs.block.Block.take.Statement.{statement}
 
 pub take_spec : {M : Type 1} → statement M
 take_spec 𝓤 𝓛 𝓜 𝓡 wired T A LT LA g d dd met md =

@@ -1,13 +1,42 @@
 -- This file proves the contract of `take_array`, which moves the items out of adjacent slots and
 -- returns them as an array.
-use Rattle.std.proofs.Common.{◌≡◌, ℕ, Some, None, ◌+◌, ◌*◌, List, ◌∷◌, [], ◌++◌, length, refl, sym, ap, ◌∙◌, arith, w64, Option}
-use Rattle.thin_block.proofs.WalkPrelude.{length-map, length-replicate, ty_array, Val, vint, inst_fn, full_share, fat, froom, ‵, ◌⊛◌, exists, pick, ◌$◌, !, move, use1, use2, split, suffices, done, stop, look, load, of_opd, first, blocks, returns, alloc_all, pass_all, free_all, look_at, through, sets, sets_last, get, Array, part_at, RattleType, layout, param, number, walk_of, ends_at, proved_at, R, says_all, Is, shows, ArrayAt, param_laws, array_at_laws, peeks, part_out, with_slots, slots_own, filled_slots, empty_slots, clear_slots}
-use Rattle.thin_block.proofs.SlotMemory.{sz, around, run_out, run_in, to_items, of_room}
-use Rattle.thin_block.proofs.MethodSignatures.{item, source, others, block_stays, goes, begins, enters, closes_over, args_at, leaves_with, ptr_of, opens_self, continues, word, full-run, length-run, length-written, Br, near, its_ptr, slot_found}
+use Rattle.std.proofs.Common.{◌≡◌, ℕ, Some, None, ◌+◌, ◌*◌, List, ◌∷◌, [], ◌++◌, length, refl, sym}
+use Rattle.std.proofs.Common.{ap, ◌∙◌, arith, w64, Option}
+use lib.ListN.{length-map, length-replicate}
+use base.Fml.{fat, froom}
+use base.Fraction.{full_share}
+use borrow.Table.OneValue.{part_out}
+use mir.MapTy.{inst_fn}
+use mir.Syntax.{ty_array}
+use mir.Val.{Val, vint}
+use types.ByLocal.{alloc_all, pass_all, free_all, look_at, through, sets, sets_last, get}
+use types.Kit.{‵, ◌⊛◌, some as exists, pick, ◌$◌, !, move, use1, use2, split, suffices, done}
+use types.Run.{stop, look, load, of_opd, first, blocks, returns}
+use denote.Array.{Array}
+use denote.Laws.{Is, shows}
+use denote.Memory.{part_at}
+use denote.Param.{layout, param, number, ArrayAt}
+use denote.Param.Laws.{param_laws, array_at_laws}
+use denote.RattleType.{RattleType}
+use denote.Steps.{peeks}
+use denote.Triple.Walked.{walk_of, ends_at}
+use Rattle.core.proofs.mem.Param.{R}
+use Rattle.std.proofs.raw_atomic.Walks.{proved_at}
+use Rattle.thin_block.specs.Lends.{with_slots}
+use Rattle.thin_block.specs.Ownership.{slots_own}
+use Rattle.thin_block.specs.Slots.{filled_slots, empty_slots, clear_slots}
 use Rattle.thin_block.specs.contracts.block.Block.take_array.{ended, clauses}
 use Rattle.thin_block.specs.contracts.block.Block.take_array.Key.{name as #self}
-use Rattle.thin_block.proofs.block.Block.take_array.Statement.{statement}
+use Rattle.thin_block.proofs.Addresses.{near, its_ptr, slot_found}
+use Rattle.thin_block.proofs.HeaderMemory.{Br}
+use Rattle.thin_block.proofs.MethodSignatures.{item, source, others, block_stays, goes, begins}
+use Rattle.thin_block.proofs.MethodSignatures.{enters, closes_over, args_at, leaves_with, ptr_of}
+use Rattle.thin_block.proofs.MethodSignatures.{opens_self, continues, word}
+use Rattle.thin_block.proofs.SlotMemory.{sz, around, run_out, run_in, to_items, of_room}
+use Rattle.thin_block.proofs.SlotsLemmas.{full-run, length-run, length-written}
+use Rattle.thin_block.proofs.WalkPrelude.{says_all}
 use Rattle.thin_block.proofs.block.Block.take_array.Code as compiled
+use Rattle.thin_block.proofs.block.Block.take_array.Statement.{statement}
 
 pub take_array_spec : {M : Type 1} → statement M
 take_array_spec 𝓤 𝓛 𝓜 𝓡 wired T A N LT LA fits_N g d dd met md =

@@ -1,14 +1,15 @@
 -- This file proves that `next_capacity` returns the capacity that the rule `doubling` chooses,
 -- although the code caps the doubled capacity at `usize::MAX`.
 use Rattle.std.proofs.Common.{◌≡◌, ℕ, ◌*◌, ◌-◌, ◌^◌, ◌∙◌, ap, min}
-use Rattle.std.specs.Mem.{type_size}
+use denote.Param.{param}
 use Rattle.std.specs.Align.{type_align}
+use Rattle.std.specs.Mem.{type_size}
 use Rattle.thin_block.specs.Capacity.{min_non_zero_cap}
 use Rattle.thin_block.specs.Growth.{checked_capacity}
-use Rattle.thin_block.proofs.sizes.SizesLemmas.{doubling_is}
-use denote.Param.{param}
+use Rattle.thin_block.proofs.growth.doubling.DoublingGrowth.next_capacity.Goals.{then-cap-eq0}
+use Rattle.thin_block.proofs.growth.doubling.DoublingGrowth.next_capacity.Goals.{else-cap-eq0}
 use Rattle.thin_block.proofs.growth.doubling.DoublingGrowth.next_capacity.Goals as goal
-use Rattle.thin_block.proofs.growth.doubling.DoublingGrowth.next_capacity.Goals.{then-cap-eq0, else-cap-eq0}
+use Rattle.thin_block.proofs.sizes.SizesLemmas.{doubling_is}
 
 pub returns : goal.returns
 returns g c =

@@ -2,14 +2,15 @@
 -- although the code caps sizes and capacities at `usize::MAX`, and that blocks of this capacity are
 -- not padded.
 use Rattle.std.proofs.Common.{◌≡◌, ◌+◌, ◌*◌, ◌^◌, ◌<◌, ◌≤◌, ◌∙◌, ap, arith, max, subst, sym}
-use Rattle.std.specs.Mem.{type_size}
+use denote.Param.{param}
 use Rattle.std.specs.Align.{type_align}
+use Rattle.std.specs.Mem.{type_size}
 use Rattle.thin_block.specs.Capacity.{least_power}
 use Rattle.thin_block.specs.PowerLaws.{least_power_is, one_least_power, powers_of_none}
-use Rattle.thin_block.proofs.growth.PowersLemmas.{each_fills, each_unpadded, power_is, power_past, takes_none}
-use Rattle.thin_block.proofs.sizes.SizesLemmas.{positive}
-use denote.Param.{param}
+use Rattle.thin_block.proofs.growth.PowersLemmas.{each_fills, each_unpadded, power_is, power_past}
+use Rattle.thin_block.proofs.growth.PowersLemmas.{takes_none}
 use Rattle.thin_block.proofs.growth.power_bytes.PowerBytesGrowth.next_capacity.Goals as goal
+use Rattle.thin_block.proofs.sizes.SizesLemmas.{positive}
 
 pub returns-then-size-eq0 : goal.returns-then-size-eq0
 returns-then-size-eq0 g c =
