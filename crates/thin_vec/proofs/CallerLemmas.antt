@@ -1,11 +1,12 @@
 -- These lemmas are for the proofs of other crates. They say which capacities are small enough, and
--- which items a list contains after a write through a slice, an `insert` and a `remove`, or a
--- `collect`, how many items calls that grow a list copy, and where the items of an iterator are.
-use Rattle.std.proofs.Common.{if◌then◌else◌, eqb, Bool, true, false, ◌≡◌, ℕ, zero, suc, ◌+◌, ◌-◌, ◌*◌, ◌^◌, ◌<◌, ◌≤◌, ap, arith, length, IfErr, Option, Result, Ok, Err, Some, None, inl, inr, refl, subst, sym, ◌∙◌, List, ◌++◌, append_assoc, drop, take, [], ◌∷◌, IfOk}
+-- which items a list contains after a write through a slice, an `insert` and a `remove`, two calls
+-- of `swap_range`, or a `collect`, how many items calls that grow a list copy, and where the items
+-- of an iterator are.
+use Rattle.std.proofs.Common.{if◌then◌else◌, eqb, Bool, true, false, ◌≡◌, ℕ, zero, suc, ◌+◌, ◌-◌, ◌*◌, ◌^◌, ◌<◌, ◌≤◌, ap, arith, length, IfErr, Option, Result, Ok, Err, Some, None, inl, inr, refl, subst, sym, ◌∙◌, List, ◌++◌, append_assoc, length-append, drop, take, [], ◌∷◌, IfOk}
 use Rattle.std.specs.Borrow.{RattleType}
 use Rattle.std.specs.Align.{type_align}
 use Rattle.std.specs.Mem.{type_size}
-use Rattle.std.specs.Prelude.{◌==◌, IsPermutation, max, nat_lt, insert, remove, slice_get, ⊤}
+use Rattle.std.specs.Prelude.{◌==◌, IsPermutation, max, nat_lt, insert, remove, slice_get, slice_range, ⊤}
 use Rattle.std.proofs.lemmas.Bool.{cases_lt}
 use Rattle.std.proofs.lemmas.Bool.Decides.{nat_tests}
 use Rattle.thin_block.specs.declared.errors.ThinVecError.{ThinVecError}
@@ -19,12 +20,13 @@ use Rattle.thin_vec.specs.List.Capacity.{CostsMoves, OverflowsIff, OverflowsIffT
 use Rattle.thin_vec.specs.ThinVec.{IsCauseOf, ListView, capacity_after_reserve}
 use Rattle.thin_vec.proofs.ThinVecLemmas.{cost_after_resize-copied}
 use Rattle.std.proofs.Math.Seq.{take-append_seam}
-use Rattle.std.specs.List.{refill}
+use Rattle.std.specs.List.{refill, replace_range}
 use Rattle.thin_vec.specs.Lends.{with_items}
 use Rattle.std.proofs.lemmas.Iterator.{YieldsList}
 use Rattle.std.proofs.lemmas.Iterator.Adapters.{fact_from_collect}
 use Rattle.thin_vec.specs.List.Extend.{IsCollectedFrom}
-use Rattle.std.proofs.lemmas.List.{append-nil}
+use Rattle.std.proofs.lemmas.List.{append-nil, drop_at, length-take-le, take-append-drop, take_at}
+use Rattle.std.proofs.lemmas.List.Folds.{drop_split}
 use Rattle.std.proofs.lemmas.List.Sorted.{length_permutation}
 use Rattle.std.specs.Iterator.{Count, Drains, DrainsIf, Yields, YieldsFirst}
 use Rattle.std.specs.Option.{option_to_list}
@@ -175,6 +177,41 @@ module _ {T : Type 0} where
   slice_get-insert (y ∷ xs) (suc i) x h = slice_get-insert xs i x (omega arith)
 
 pub ruleset undone = (remove-insert, slice_get-insert)
+
+-- In this module, the items `new` replace the items `i..j` of the list `xs`, as in a call of
+-- `swap_range`. The law of undo is `replaced-undone`: if the old items then replace the new ones,
+-- the result is `xs`.
+module _ {T : Type 0} (xs new : List T) (i j : ℕ) (order : i ≤ j) (within : j ≤ length xs) where
+  kept-before : length (take i xs) ≡ i
+  kept-before = length-take-le i xs (omega (arith, order, within))
+
+  past-new : length (take i xs ++ new) ≡ i + length new
+  past-new = omega (arith, length-append (take i xs) new, kept-before)
+
+  parted : replace_range xs i j new ≡ take i xs ++ (new ++ drop j xs)
+  parted = append_assoc (take i xs) new (drop j xs)
+
+  pub replaced-within : i + length new ≤ length (replace_range xs i j new)
+  replaced-within = omega (arith, past-new, length-append (take i xs ++ new) (drop j xs))
+
+  pub replaced-range : slice_range (replace_range xs i j new) i (i + length new) ≡ new
+  replaced-range =
+      let count : length new ≡ i + length new - i = omega arith in
+      ap (λ (l : List T). take (i + length new - i) (drop i l)) parted
+      ∙ (ap (take (i + length new - i)) (drop_at (take i xs) (new ++ drop j xs) i kept-before)
+      ∙ take_at new (drop j xs) (i + length new - i) count)
+
+  pub replaced-undone : replace_range (replace_range xs i j new) i (i + length new)
+      (slice_range xs i j) ≡ xs
+  replaced-undone =
+      let before : take i (replace_range xs i j new) ≡ take i xs =
+      ap (take i) parted ∙ take_at (take i xs) (new ++ drop j xs) i kept-before in
+      let after : drop (i + length new) (replace_range xs i j new) ≡ drop j xs =
+      drop_at (take i xs ++ new) (drop j xs) (i + length new) past-new in
+      (λ k. (before k ++ slice_range xs i j) ++ after k)
+      ∙ (append_assoc (take i xs) (slice_range xs i j) (drop j xs)
+      ∙ (ap (λ (l : List T). take i xs ++ l) (sym (drop_split xs i j order))
+      ∙ take-append-drop i xs))
 
 module _ {T A E : Type 0} where
   if_ok : {P Q : ListView T A → Type 0} (r : Result (ListView T A) E)

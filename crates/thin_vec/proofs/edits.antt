@@ -6,3 +6,4 @@ pub mod ExtractIfLemmas
 pub mod FinishLemmas
 pub mod ReplaceRangeLemmas
 pub mod SpliceLemmas
+pub mod SwapRangeLemmas

@@ -2,6 +2,7 @@
 -- automatically, so `Lib.antt` does not mention it.
 pub mod PairTestLemmas
 pub mod MiddleLemmas
+pub mod MoveMiddleLemmas
 pub mod RetainMiddleLemmas
 pub mod StepLemmas
 pub mod TestLemmas

@@ -6,3 +6,4 @@ pub mod Finish
 pub mod ReplaceRange
 pub mod Retain
 pub mod Splice
+pub mod SwapRange

@@ -9,6 +9,7 @@ mod replace_range;
 mod replace_range_from;
 mod retain;
 mod splice;
+mod swap_range;
 
 pub use drain::Drain;
 pub use extract_if::ExtractIf;

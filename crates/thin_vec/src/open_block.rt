@@ -148,10 +148,7 @@ impl<T: Drop, A: Allocator, G: Growth> ThinVec<T, A, G> {
     {
         let mut block = self.open(start, end);
         block.drop_middle();
-        if count > 0 {
-            block.shift_tail_up(count);
-            block.merge_gaps();
-        }
+        block.widen_gap(count);
         block
     }
 }
@@ -303,6 +300,44 @@ impl<T, A: Allocator> OpenBlock<T, A> {
         self.block.replace_unallocated(block);
         self.tail_start += count;
         self.tail_end += count;
+    }
+
+    // Adds `count` slots to the gap before the tail.
+    pub(crate) fn widen_gap(&mut self, count: usize)
+        requires no_middle { self.old.middle ≡ [] }
+        requires gap_after { self.old.gap_after ≡ 0 }
+        requires room { tail_end self.old + count ≤ self.old.capacity }
+        ensures { self.new ≡ record self.old {
+          gap_before = self.old.gap_before + count;
+          cost = if count == 0 then self.old.cost else add_moves (length self.old.tail)
+              self.old.cost;
+        } }
+    {
+        if count > 0 {
+            self.shift_tail_up(count);
+            self.merge_gaps();
+        }
+    }
+
+    // Moves the middle items into the gap of `other`, and joins the gaps around them. (The blocks
+    // can have different types of allocators, so this is a loop, and no call of `move_run_to`.)
+    pub(crate) fn move_middle_to<B: Allocator>(&mut self, other: &mut OpenBlock<T, B>)
+        requires room { length self.old.middle ≤ other.old.gap_before }
+        ensures changes { self.new ≡ record self.old {
+          gap_before = self.old.gap_before + length self.old.middle + self.old.gap_after;
+          middle = [];
+          gap_after = 0;
+        } }
+        ensures other_changes { other.new ≡ record other.old {
+          front = other.old.front ++ self.old.middle;
+          gap_before = other.old.gap_before - length self.old.middle;
+          cost = add_moves (length self.old.middle) other.old.cost;
+        } }
+    {
+        while self.middle_len() > 0 {
+            other.append_to_front(self.take_first());
+        }
+        self.merge_gaps();
     }
 
     pub(crate) fn next(&mut self) -> Option<T>

@@ -13,7 +13,8 @@ impl<T: Clone, A: Allocator, G: Growth> ThinVec<T, A, G> {
     /// Replaces the items `start..end` with clones of `items`, in order, or fails and changes
     /// nothing if there is no memory for them or an item cannot be cloned. First makes the clones,
     /// in a block of their own, which `alloc` allocates. For items that are `Copy`,
-    /// `replace_range_from_copies` is faster.
+    /// `replace_range_from_copies` is faster. The replaced items are dropped; `swap_range` moves
+    /// them to another list.
     ///
     /// # Errors
     ///

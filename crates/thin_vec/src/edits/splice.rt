@@ -42,7 +42,8 @@ impl<T, A: Allocator, G: Growth> ThinVec<T, A, G> {
 
     /// Begins to replace the items `start..end` with the items of `iter`. The caller has to call
     /// `finish` on the returned `Splice`, which requires that `next` of `iter` may be called, and
-    /// that `iter` has a limit.
+    /// that `iter` has a limit. `finish` drops the items of the range that the `Splice` has not
+    /// yielded; `swap_range` moves them to another list.
     #[tactic(auto, unfolding(crate::specs::Edits::Splice::list_without_range))]
     pub fn splice<I: Iterator<Item = T>>(
         &mut self,
