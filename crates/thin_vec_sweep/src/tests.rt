@@ -216,5 +216,5 @@ fn each_group_makes_each_of_its_calls_with_each_argument(rt: HostRuntime) {
         cases::<Removing, Small, _>(&rt, ledger),
         150 * 3 + 25 + 10 * 12
     );
-    assert_eq!(rt; cases::<Replacing, Small, _>(&rt, ledger), 200 * 2 + 5 * 2);
+    assert_eq!(rt; cases::<Replacing, Small, _>(&rt, ledger), 200 * 3 + 5 * 2);
 }

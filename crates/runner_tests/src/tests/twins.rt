@@ -17,7 +17,7 @@ struct Twins {
 }
 
 // The number of calls.
-const CALLS: usize = 12;
+const CALLS: usize = 13;
 
 #[test]
 fn lists_of_u64_agree_with_vectors(rt: HostRuntime) {
@@ -56,7 +56,7 @@ fn agree(alloc: Global, length: u64, argument: usize, call: usize) -> bool {
     let same = match call {
         0..4 => twins.add(call),
         4..7 => twins.append(call).unwrap_or(false),
-        7..10 => twins.replace(call).unwrap_or(false),
+        7..11 => twins.replace(call).unwrap_or(false),
         _ => twins.make(call).unwrap_or(false),
     };
     same && twins.list.as_slice() == twins.vec.as_slice()
@@ -137,7 +137,7 @@ impl Twins {
         Ok(done && self.vec.append(&mut items).is_ok())
     }
 
-    // Makes a call that replaces a range.
+    // Makes a call that replaces a range. Only `swap_range` returns the removed items.
     fn replace(&mut self, call: usize) -> Result<bool, AllocError> {
         let (alloc, start, end) = (self.alloc, self.start, self.end);
         let items = self.items()?;
@@ -149,20 +149,22 @@ impl Twins {
         let replaced = match call {
             7 => self.list.replace_range(alloc, start, end, new).is_ok(),
             8 => self.list.replace_range_from_copies(start, end, new).is_ok(),
-            _ => self
+            9 => self
                 .list
                 .replace_range_from_list(start, end, &mut other)
                 .is_ok(),
+            _ => self.list.swap_range(start, end, &mut other).is_ok(),
         };
-        Ok(replaced && self.vec.splice(start..end, items).is_ok())
+        let removed = self.vec.splice(start..end, items)?;
+        Ok(replaced && (call < 10 || other.as_slice() == removed.as_slice()))
     }
 
     // Makes a call that makes another list, which takes the place of the list.
     fn make(&mut self, call: usize) -> Result<bool, AllocError> {
         let alloc = self.alloc;
         match call {
-            10 => self.list = self.list.clone_copies(alloc)?,
-            11 => {
+            11 => self.list = self.list.clone_copies(alloc)?,
+            12 => {
                 let list = mem::replace(&mut self.list, ThinVec::new(alloc));
                 self.list = ThinVec::from_vec(alloc, list.into_vec(alloc)?)?;
             }

@@ -16,9 +16,10 @@ impl<T: Numbered, G: Growth> Calls<T, G> for Replacing {
         Some(match call {
             0 => replace_range(rt, case),
             1 => replace_range_from_list(rt, case),
+            2 => swap_range(rt, case),
             _ if case.at.argument >= 5 => return None,
-            2 => append_reserved(rt, case),
-            3 => extend_from_slice_reserved(rt, case),
+            3 => append_reserved(rt, case),
+            4 => extend_from_slice_reserved(rt, case),
             _ => return None,
         })
     }
@@ -48,6 +49,21 @@ fn replace_range_from_list<T: Numbered, G: Growth, R: Abort>(
     assert_range(rt, start, end, case.list.len());
     case.list.replace_range_from_list(start, end, &mut other)?;
     Ok(Due::NOTHING)
+}
+
+// At most one of the two lists grows.
+fn swap_range<T: Numbered, G: Growth, R: Abort>(rt: &R, case: &mut Case<T, G>) -> Answer {
+    let (start, end) = case.range();
+    let mut other = case.other(case.replacements(), case.other_spare())?;
+    let capacity = other.capacity();
+    case.begin("swap_range");
+    assert_range(rt, start, end, case.list.len());
+    case.list.swap_range(start, end, &mut other)?;
+    if other.capacity() == capacity {
+        Ok(Due::NOTHING)
+    } else {
+        Ok(Due::block_of(other.capacity()))
+    }
 }
 
 fn append_reserved<T: Numbered, G: Growth, R: Abort>(rt: &R, case: &mut Case<T, G>) -> Answer {
