@@ -103,8 +103,10 @@ module _ {T A : Type 0} where
       × ((h : ℕ) × IsAfterExtend rule R v h w) × PreservesList R v w
 
   -- `IsCollectedFrom R xs v` states what `collect` promises of a list `v` that was made from the
-  -- items `xs`. `R` is the type of the items, and the growth rule is `doubling`. The number `h` is
-  -- any number, since std's trait has no room for the limit.
+  -- items `xs`, which are all that its iterator yields before the first `None`. `R` is the type of
+  -- the items, and the growth rule is `doubling`. The number `h` is any number, since std's trait
+  -- has no room for the limit. The trait names neither the allocator nor a case in which `collect`
+  -- must succeed: the inherent `from_iter` does.
   abbrev pub IsCollectedFrom : RattleType → List T → ListView T A → Type 0
   IsCollectedFrom R xs v =
       (v.items ≡ xs) × (length v.items ≡ length xs) × IsCheap v × IsBounded R v

@@ -65,7 +65,7 @@ impl<T: Drop, A: Allocator, G: Growth> ThinVec<T, A, G> {
     /// Removes and drops each item whose key is equal to the key of the last item kept before it.
     /// Calls `key` twice for each item except the first: with this item, and then with the last
     /// item kept. (The contract does not exclude a later call with an item that is no longer in the
-    /// list.)
+    /// list.) It has to be possible to call `key` with every value of the item type.
     pub fn dedup_by_key<K: PartialEq + Drop, F: FnMut(&mut T) -> K>(&mut self, key: F)
         requires callable { F.IsAlwaysCallable key }
 

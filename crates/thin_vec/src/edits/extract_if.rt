@@ -16,7 +16,8 @@ use thin_block::{Doubling, Growth};
 
 /// An iterator that tests the items of a range of a list with a closure, and removes and yields
 /// each item for which the closure returns true. It is made by `ThinVec::extract_if`, and owns the
-/// allocation of the list until it is dropped.
+/// allocation of the list until it is dropped. The reference has the contract of `drop` under
+/// "Traits of `ExtractIf`".
 pub struct ExtractIf<
     'a,
     T,
@@ -103,13 +104,15 @@ impl<T: Drop, A: Allocator, G: Growth> ThinVec<T, A, G> {
     /// Returns an iterator that removes the items in the range `start..end` for which `pick`
     /// returns true, and yields them in order.
     ///
-    /// Until the `ExtractIf` is dropped, the list is empty. Afterwards, it contains every item that
-    /// was not yielded, also those that were not tested. If the `ExtractIf` is leaked, the list
-    /// stays empty, and these items are leaked. `next` requires that `pick` can be called with
-    /// every value of the item type.
+    /// Until the `ExtractIf` is dropped, the list is empty and has capacity 0. Afterwards, it
+    /// contains every item that was not yielded, also those that were not tested. If the
+    /// `ExtractIf` is leaked, the list stays empty, and these items are leaked. `next` requires
+    /// that `pick` can be called with every value of the item type.
     ///
     /// No memory is requested. Each item that stays in the list and follows the first removed item
-    /// is moved at most once, even if it is not in the range.
+    /// is moved once, even if it is not in the range: by the call of `next` that tests it, or else
+    /// by the drop. (The fields `cost` of `ExtractsOne` and of `list_after_extract_if` say so.
+    /// `walked` and `next_keeps` have the bound alone.)
     pub fn extract_if<F: FnMut(&mut T) -> bool>(
         &mut self,
         start: usize,

@@ -15,7 +15,8 @@ impl<T: Drop, A: Allocator, G: Growth> ThinVec<T, A, G> {
 
     /// Keeps the items for which `keep` returns true, and drops the other items. Calls `keep` once
     /// for each item, in order. (The contract says that there is such a series of calls. It does
-    /// not say that no call follows them.)
+    /// not say that no call follows them.) It has to be possible to call `keep` with every value of
+    /// the item type, and not only with the items of the list.
     pub fn retain<F: FnMut(&T) -> bool>(&mut self, keep: F)
         requires callable { F.IsAlwaysCallable keep }
 

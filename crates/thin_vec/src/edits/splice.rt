@@ -202,7 +202,8 @@ impl<
             → error.in_hand ≡ None
             → length new.items ≡ length old.items + splice_range_len self.entry) }
 
-        // Capacity and cost, in every case. If the list had room, it requests no memory.
+        // Capacity and cost, in every case. If the list had room, nothing is requested for it. What
+        // the vector takes, and the moves into it, are in no counter.
         ensures had_room { let old = list_without_range self.entry in let new = self.exit.0.now in
             HasRoomFor old (size (I.remaining (splice_iter self.entry)))
             → (new.capacity ≡ old.capacity) × (new.cost.blocks ≡ old.cost.blocks) }

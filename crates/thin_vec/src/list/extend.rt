@@ -166,9 +166,10 @@ impl<T, A: Allocator, G: Growth> ThinVec<T, A, G> {
 }
 
 impl<T, A: Allocator> ThinVec<T, A> {
-    /// Makes a list of the items that `iter` yields, like `extend`. The list owns `alloc`. The call
-    /// begins with a capacity of exactly the lower bound of the size hint, which tests show, as for
-    /// `extend`.
+    /// Makes a list of the items that `iter` yields before its first `None`, like `extend`. The
+    /// list owns `alloc`. The contract of `iter` has to say that `next` may be called, and how many
+    /// items come at most: this number is its limit. The call begins with a capacity of exactly the
+    /// lower bound of the size hint, which tests show, as for `extend`.
     ///
     /// # Errors
     ///

@@ -13,11 +13,12 @@ use thin_block::Growth;
 impl<T, A: Allocator, G: Growth> ThinVec<T, A, G> {
     ghost use Rattle.thin_vec.specs.ThinVec.{HasRoomFor, IsBounded, capacity_after_reserve};
 
-    /// Appends `value`, or fails, changes nothing, and returns it in the error if the list is full
-    /// and cannot grow.
-    /// This takes amortized constant time, because a full list at least doubles its capacity: by
-    /// the clause `preserved`, a cheap list stays cheap (`IsCheap`): its growths so far have copied
-    /// fewer items than its capacity, or none.
+    /// Appends `value`. If the list is full and cannot grow, the call fails, changes nothing, and
+    /// returns `value` in the error.
+    ///
+    /// This takes amortized constant time, because a full list at least doubles its capacity. The
+    /// clause `preserved` says so: a list whose growths have copied fewer items than its capacity,
+    /// or none (`IsCheap`), stays such a list.
     ///
     /// # Errors
     ///

@@ -169,7 +169,8 @@ impl<T, A: Allocator, G: Growth> ThinVec<T, A, G> {
 
     /// Sorts the items in the order of `compare` without requesting memory. Ties may change places.
     /// If the answers of `compare` do not form a strict weak order on all values of the type, the
-    /// items end up in some order.
+    /// items end up in some order. It has to be possible to call `compare` with any two values of
+    /// the type.
     pub fn sort_unstable_by<F: FnMut(&T, &T) -> Ordering>(&mut self, compare: F)
         requires callable { F.IsAlwaysCallable compare }
         // If `compare` answers by a strict weak order, the items are sorted by it.
