@@ -66,7 +66,7 @@ module _ (E : El) (Y : Al) {M : Type 1} {𝓤 : Ura M} (𝓛 : Logic 𝓤) (x : 
       → ent 𝓤 (sep 𝓤 (sem 𝓛 (cells (mem (R E)) ws b (i * sz E + (o + 16))))
       (sem 𝓛 (fsep (around E 𝓛 b (o + 16) x.slots i k) Waiting)))
       (sem 𝓛 ((mem (Br E Y)).own_at (set_slots x i ws) rb ro))
-  items_back i k le held ws long =
+  items_back i k le filled ws long =
       let y : B = set_slots x i ws in
       qed 𝓛 (‵ (cells (mem (R E)) ws b (i * sz E + (o + 16))) ∷ ‵
       (fsep (around E 𝓛 b (o + 16) x.slots i k) Waiting) ∷ []) ∵
@@ -76,5 +76,5 @@ module _ (E : El) (Y : Al) {M : Type 1} {𝓤 : Ura M} (𝓛 : Logic 𝓤) (x : 
       use2 𝓛 (‵ (slots_own (R E) (write_slots i (filled_slots ws) x.slots) b (o + 16)))
       (run_in E 𝓛 b (o + 16) x.slots i k le (filled_slots ws) (length-map ws Some ∙ long)) $
       rewrite ! 0 (λ (s : List (Slot E)). ‵ (slots_own (R E) s b (o + 16)))
-      (sym (over-written x.slots i ws (omega arith) (λ n low high. held n low (omega arith))))
+      (sym (over-written x.slots i ws (omega arith) (λ n low high. filled n low (omega arith))))
       refl $ by ! (slots_back y.slots (length-over x.slots i ws))

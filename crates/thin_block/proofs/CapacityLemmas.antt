@@ -55,15 +55,15 @@ fits-less R c d e less =
 -- The next lemmas are about fewer than `2 ^ 31` items of fewer than `2 ^ 31` bytes each. A block
 -- for these items is far below every size limit.
 
-pub few_bytes : (c s : ℕ) → c < 2 ^ 31 → s < 2 ^ 31 → c * s < 2 ^ 62
-few_bytes c s few small =
+pub few-bytes : (c s : ℕ) → c < 2 ^ 31 → s < 2 ^ 31 → c * s < 2 ^ 62
+few-bytes c s few small =
     let wide : c * s ≤ c * (2 ^ 31) =
     mul-le-mul_left c (let less : s ≤ 2 ^ 31 = omega arith in less) in
     omega arith
 
-pub small_fits : (R : RattleType) (c : ℕ) → c < 2 ^ 31 → type_size R < 2 ^ 31 → Fits R c
-small_fits R c few small =
-    let bytes : c * type_size R < 2 ^ 62 = few_bytes c (type_size R) few small in
+pub small-fits : (R : RattleType) (c : ℕ) → c < 2 ^ 31 → type_size R < 2 ^ 31 → Fits R c
+small-fits R c few small =
+    let bytes : c * type_size R < 2 ^ 62 = few-bytes c (type_size R) few small in
     let about = rounded R 0 in
     fits_yes R c (omega arith) (omega (arith, about.most))
 
@@ -76,19 +76,19 @@ pub exact-fits : (R : RattleType) (c w : ℕ) → c < w → Fits R w
 unfolding exact_capacity checked_capacity
 exact-fits R c w more fit = rw (lt-leb w c more, fit) refl
 
-no_answer : (b : Bool) (n : ℕ) → (IsTrue b → ⊥) → (if b then Some n else None) ≡ None
-no_answer true n never = absurd (never refl)
-no_answer false n never = refl
+no-answer : (b : Bool) (n : ℕ) → (IsTrue b → ⊥) → (if b then Some n else None) ≡ None
+no-answer true n never = absurd (never refl)
+no-answer false n never = refl
 
-pub fitting_none : (R : RattleType) (n : ℕ) → (Fits R n → ⊥)
+pub fitting-none : (R : RattleType) (n : ℕ) → (Fits R n → ⊥)
     → checked_capacity (type_size R) (type_align R) n ≡ None
 unfolding checked_capacity
-fitting_none R n never = no_answer (fits (type_size R) (type_align R) n) n never
+fitting-none R n never = no-answer (fits (type_size R) (type_align R) n) n never
 
 pub exact-overflow : (R : RattleType) (c w : ℕ) → c < w → (Fits R w → ⊥)
     → exact_capacity (type_size R) (type_align R) c w ≡ None
 unfolding exact_capacity
-exact-overflow R c w more never = rw (lt-leb w c more) (fitting_none R w never)
+exact-overflow R c w more never = rw (lt-leb w c more) (fitting-none R w never)
 
 pub exact-none : (R : RattleType) (w : ℕ) → (Fits R w → ⊥)
     → exact_capacity (type_size R) (type_align R) 0 w ≡ None

@@ -16,8 +16,8 @@ use Rattle.thin_block.specs.Lends.{overwrite_items}
 use Rattle.thin_block.specs.Slots.{filled_slots, empty_slots, slot, items_in, IsPacked, slot_range}
 use Rattle.thin_block.specs.Slots.{write_slots, clear_slots, move_slots}
 
-pub same_or_not : (i j : ℕ) → (i ≡ j) ⊎ (i ≡ j → ⊥)
-same_or_not i j = cases_eq i j
+pub same-or-not : (i j : ℕ) → (i ≡ j) ⊎ (i ≡ j → ⊥)
+same-or-not i j = cases_eq i j
 
 pub bare-long : (T : Type 0) (k : ℕ) → length (empty_slots {T = T} k) ≡ k
 bare-long T k = length-replicate k (let o : Option T = None in o)
@@ -28,9 +28,9 @@ module _ {T : Type 0} where
   empty-slot (suc k) zero = refl
   empty-slot (suc k) (suc i) = empty-slot k i
 
-  pub the_item : (x : Option T) → IsSome x → (y : T) × (x ≡ Some y)
-  the_item (Some y) is = (y, refl)
-  the_item None is = absurd (clash is)
+  pub the-item : (x : Option T) → IsSome x → (y : T) × (x ≡ Some y)
+  the-item (Some y) is = (y, refl)
+  the-item None is = absurd (clash is)
 
   pub filled-within : (s : List (Option T)) (i : ℕ) → IsSome (slot s i) → i < length s
   filled-within [] i is = absurd (clash is)
@@ -46,7 +46,7 @@ module _ {T : Type 0} where
       (λ j p q. filled (suc j) (omega arith) (omega arith))
   full-run (x ∷ s) zero zero le filled = ([], refl)
   full-run (x ∷ s) zero (suc k) le filled =
-      let item = the_item x (filled zero (omega arith) (omega arith)) in
+      let item = the-item x (filled zero (omega arith) (omega arith)) in
       let rest = full-run s zero k (omega arith)
       (λ j p q. filled (suc j) (omega arith) (omega arith)) in
       (item.0 ∷ rest.0, λ n. item.1 n ∷ rest.1 n)
@@ -80,25 +80,25 @@ module _ {T : Type 0} where
   pub over-written : (s : List (Option T)) (i : ℕ) (ws : List T) → i + length ws ≤ length s
       → ((j : ℕ) → i ≤ j → j < i + length ws → IsSome (slot s j))
       → overwrite_items s i ws ≡ write_slots i (filled_slots ws) s
-  over-written [] zero [] le held = refl
-  over-written [] i ws le held = absurd (omega arith)
-  over-written (x ∷ s) (suc i) ws le held =
+  over-written [] zero [] le filled = refl
+  over-written [] i ws le filled = absurd (omega arith)
+  over-written (x ∷ s) (suc i) ws le filled =
       let more : suc (i + length (filled_slots ws)) ≡ suc i + length (filled_slots ws) =
       omega arith in
       ap (λ (l : List (Option T)). x ∷ l)
       (over-written s i ws (let le' : suc i + length ws ≤ suc (length s) = le in omega arith)
-      (λ j low high. held (suc j) (omega arith) (omega arith)))
+      (λ j low high. filled (suc j) (omega arith) (omega arith)))
       ∙ ap (λ (k : ℕ). x ∷ (take i s ++ (filled_slots ws ++ drop k (x ∷ s)))) more
-  over-written (None ∷ s) zero [] le held = refl
-  over-written (None ∷ s) zero (w ∷ ws) le held = let wrong : IsSome (let none : Option T = None in
-      none) = held zero (omega arith) (omega arith) in absurd (clash wrong)
-  over-written (Some x ∷ s) zero [] le held = refl
-  over-written (Some x ∷ s) zero (w ∷ ws) le held =
+  over-written (None ∷ s) zero [] le filled = refl
+  over-written (None ∷ s) zero (w ∷ ws) le filled = let wrong : IsSome (let none : Option T = None in
+      none) = filled zero (omega arith) (omega arith) in absurd (clash wrong)
+  over-written (Some x ∷ s) zero [] le filled = refl
+  over-written (Some x ∷ s) zero (w ∷ ws) le filled =
       let more : suc (0 + length (filled_slots ws)) ≡ 0 + suc (length (filled_slots ws)) =
       omega arith in
       ap (λ (l : List (Option T)). Some w ∷ l)
       (over-written s zero ws (let le' : 0 + suc (length ws) ≤ suc (length s) = le in omega arith)
-      (λ j low high. held (suc j) (omega arith) (omega arith)))
+      (λ j low high. filled (suc j) (omega arith) (omega arith)))
       ∙ ap (λ (k : ℕ). Some w ∷ (filled_slots ws ++ drop k (Some x ∷ s))) more
 
   pub written-none : (i : ℕ) (s : List (Option T)) → write_slots i [] s ≡ s
@@ -186,11 +186,11 @@ module _ {T : Type 0} where
       ∙ append_assoc (empty_slots k) (empty_slots a) post)
 
   module _ (from to k d : ℕ) where
-    pub moved_left : (pre ys post : List (Option T)) → to ≡ length pre → from ≡ to + d
+    pub moved-left : (pre ys post : List (Option T)) → to ≡ length pre → from ≡ to + d
         → k ≡ length ys
         → move_slots from to k (pre ++ (empty_slots d ++ (ys ++ post)))
         ≡ pre ++ (ys ++ (empty_slots d ++ post))
-    moved_left pre ys post t f n =
+    moved-left pre ys post t f n =
         let Row : Type 0 = List (Option T) in
         let s : Row = pre ++ (empty_slots d ++ (ys ++ post)) in
         let e : s ≡ (pre ++ empty_slots d) ++ (ys ++ post) =
@@ -207,11 +207,11 @@ module _ {T : Type 0} where
         (written-at to pre ys (empty_slots k) (empty_slots d ++ post) t (sym m))
 
   module _ (from to k d : ℕ) where
-    pub moved_right : (pre ys post : List (Option T)) → from ≡ length pre → to ≡ from + d
+    pub moved-right : (pre ys post : List (Option T)) → from ≡ length pre → to ≡ from + d
         → k ≡ length ys
         → move_slots from to k (pre ++ (ys ++ (empty_slots d ++ post)))
         ≡ pre ++ (empty_slots d ++ (ys ++ post))
-    moved_right pre ys post f t n =
+    moved-right pre ys post f t n =
         let Row : Type 0 = List (Option T) in
         let s : Row = pre ++ (ys ++ (empty_slots d ++ post)) in
         let l : to ≡ length (pre ++ empty_slots {T = T} d) =
@@ -226,11 +226,11 @@ module _ {T : Type 0} where
         ∙ append_assoc pre (empty_slots d) (ys ++ post))
 
   module _ (from to k : ℕ) where
-    pub moved_over : (pre ys mid post : List (Option T)) → from ≡ length pre
+    pub moved-over : (pre ys mid post : List (Option T)) → from ≡ length pre
         → to ≡ from + k + length mid → k ≡ length ys
         → move_slots from to k (pre ++ (ys ++ (mid ++ (empty_slots k ++ post))))
         ≡ pre ++ (empty_slots k ++ (mid ++ (ys ++ post)))
-    moved_over pre ys mid post f t n =
+    moved-over pre ys mid post f t n =
         let Row : Type 0 = List (Option T) in
         let front : Row = pre ++ (empty_slots k ++ mid) in
         let joined : (r : Row) → front ++ r ≡ pre ++ (empty_slots k ++ (mid ++ r)) =
@@ -250,11 +250,11 @@ module _ {T : Type 0} where
         (written-at to front ys (empty_slots k) post l (sym m) ∙ joined (ys ++ post))
 
   module _ (from to k : ℕ) where
-    pub moved_back : (pre ys mid post : List (Option T)) → to ≡ length pre
+    pub moved-back : (pre ys mid post : List (Option T)) → to ≡ length pre
         → from ≡ to + k + length mid → k ≡ length ys
         → move_slots from to k (pre ++ (empty_slots k ++ (mid ++ (ys ++ post))))
         ≡ pre ++ (ys ++ (mid ++ (empty_slots k ++ post)))
-    moved_back pre ys mid post t f n =
+    moved-back pre ys mid post t f n =
         let Row : Type 0 = List (Option T) in
         let front : Row = pre ++ (empty_slots k ++ mid) in
         let joined : (r : Row) → front ++ r ≡ pre ++ (empty_slots k ++ (mid ++ r)) =
@@ -300,7 +300,7 @@ module _ {T : Type 0} (s : List (Option T)) (n : ℕ) (packed : IsPacked s n) wh
   full-long = length-map xs Some ∙ sym packed.len
 
   pub packed-parted : s ≡ filled_slots xs ++ empty_slots (length s - n)
-  packed-parted = packed.row
+  packed-parted = packed.slots
       ∙ ap (λ (k : ℕ). filled_slots xs ++ empty_slots (length s - k)) (sym packed.len)
 
   pub packed-le : n ≤ length s
@@ -310,7 +310,7 @@ module _ {T : Type 0} (s : List (Option T)) (n : ℕ) (packed : IsPacked s n) wh
 
   pub packed-filled : (i : ℕ) → i < n → IsSome (slot s i)
   packed-filled i low =
-      subst (λ (l : Row). IsSome (slot l i)) (sym packed.row)
+      subst (λ (l : Row). IsSome (slot l i)) (sym packed.slots)
       (full-filled xs (empty_slots (length s - length xs)) i (omega arith))
 
   pub packed-run : slot_range 0 n s ≡ filled_slots xs

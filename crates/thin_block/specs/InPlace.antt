@@ -12,14 +12,14 @@ use Rattle.thin_block.specs.Ownership.{slots_own}
 use Rattle.thin_block.specs.Slots.{filled_slots, empty_slots}
 
 -- `FitsGap R k n held wanted xs` holds if the list `xs` has `n` values of the type `R`, at least as
--- many as the `k` values of the gap, and if allocations for `held` and for `wanted` values have
+-- many as the `k` values of the gap, and if allocations for `current` and for `wanted` values have
 -- room for the gap and the list, and are small enough.
-pub record FitsGap (R : RattleType) (k n held wanted : ℕ) (xs : List R.Denot) : Type 0 where
+pub record FitsGap (R : RattleType) (k n current wanted : ℕ) (xs : List R.Denot) : Type 0 where
   pub count : length xs ≡ n
   pub enough : k ≤ n
-  pub room : k + n ≤ held
+  pub room : k + n ≤ current
   pub new_room : k + n ≤ wanted
-  pub fits : FitsBlock R held
+  pub fits : FitsBlock R current
   pub new_fits : FitsBlock R wanted
 
 -- `gapped_items t R p k n c xs` is an allocation for `c` values of the type `R` at the address `p`,
@@ -32,9 +32,9 @@ gapped_items t R (block_ptr b o) k n c xs =
     (fsep (slots_own R (filled_slots xs ++ empty_slots (c - (k + n))) b (o + k * type_size R))
     (t (array_of R c) (block_ptr b o)))
 
--- `gapped_if_ok` states what a change from `held` to `wanted` values leaves: the allocation in its
--- new size if it succeeded, and the unchanged allocation if it failed.
+-- `gapped_if_ok` states what a change from `current` to `wanted` values leaves: the allocation in
+-- its new size if it succeeded, and the unchanged allocation if it failed.
 abbrev pub gapped_if_ok : {E : Type 0} → (Ty → Ptr → Fml) → (R : RattleType) → Ptr → ℕ → ℕ → ℕ → ℕ
     → List R.Denot → Result Ptr E → Fml
-gapped_if_ok t R p k n held wanted xs (Ok q) = gapped_items t R q k n wanted xs
-gapped_if_ok t R p k n held wanted xs (Err e) = gapped_items t R p k n held xs
+gapped_if_ok t R p k n current wanted xs (Ok q) = gapped_items t R q k n wanted xs
+gapped_if_ok t R p k n current wanted xs (Err e) = gapped_items t R p k n current xs

@@ -17,24 +17,24 @@ module _ (T M : RattleType) where
   abbrev pub word : List T.Denot → (the_row T M).Denot
   word xs = record { items = xs; aligned = [] }
 
-  -- `run_at xs b o` contains the items `xs` of one word at the offset `o` of the allocation `b`,
+  -- `chunk_at xs b o` contains the items `xs` of one word at the offset `o` of the allocation `b`,
   -- and the right to convert their memory into memory for the word.
-  abbrev pub run_at : List T.Denot → ℕ → ℕ → Fml
-  run_at xs b o = fsep (part_at (ArrayAt T M) full_share xs b o)
+  abbrev pub chunk_at : List T.Denot → ℕ → ℕ → Fml
+  chunk_at xs b o = fsep (part_at (ArrayAt T M) full_share xs b o)
       (word_wand (erased_type T) (value_of M) b o)
 
-  -- `runs_at xss b o` contains the items of adjacent words, and the rights to convert their memory
-  -- into memory for words. Each list in `xss` contains the items of one word. The first word is at
-  -- the offset `o` of the allocation `b`.
-  abbrev pub runs_at : List (List T.Denot) → ℕ → ℕ → Fml
-  runs_at [] b o = ftrue
-  runs_at (xs ∷ xss) b o = fsep (run_at xs b o)
-      (runs_at xss b (o + size (word_of (erased_type T) (value_of M))))
+  -- `chunks_at xss b o` contains the items of adjacent words, and the rights to convert their
+  -- memory into memory for words. Each list in `xss` contains the items of one word. The first word
+  -- is at the offset `o` of the allocation `b`.
+  abbrev pub chunks_at : List (List T.Denot) → ℕ → ℕ → Fml
+  chunks_at [] b o = ftrue
+  chunks_at (xs ∷ xss) b o = fsep (chunk_at xs b o)
+      (chunks_at xss b (o + size (word_of (erased_type T) (value_of M))))
 
-  -- `runs_from xss p` is `runs_at` from the pointer `p` onward.
-  abbrev pub runs_from : List (List T.Denot) → Ptr → Fml
-  runs_from xss null_ptr = ffalse
-  runs_from xss (block_ptr b o) = runs_at xss b o
+  -- `chunks_from xss p` is `chunks_at` from the pointer `p` onward.
+  abbrev pub chunks_from : List (List T.Denot) → Ptr → Fml
+  chunks_from xss null_ptr = ffalse
+  chunks_from xss (block_ptr b o) = chunks_at xss b o
 
   -- `words_from xss p` describes several adjacent words in memory, starting at the pointer `p`.
   -- Each word holds the items of one list in `xss`.

@@ -20,7 +20,7 @@ use std::alloc::{AllocError, Allocator};
 // cheaper to allocate a new block.
 pub(crate) const LONG: usize = 32;
 
-// Resizes an allocation from `held` to `wanted` values of the type `T`. A gap, which is unused
+// Resizes an allocation from `current` to `wanted` values of the type `T`. A gap, which is unused
 // memory for `K` values, precedes its `len` values. While the allocator runs, the last values are
 // stored in the gap, so that the allocation begins with an array. If the allocator fails, only the
 // gap has changed.
@@ -29,24 +29,24 @@ pub(crate) unsafe fn resize_array<T, A: Allocator, const K: usize>(
     alloc: &A,
     start: *mut T,
     len: usize,
-    held: usize,
+    current: usize,
     wanted: usize,
 ) -> Result<*mut T, AllocError>
     ghost items: { List T }
-    requires fits { FitsGap T.row K len held wanted items }
-    requires* memory { sem 𝓛 (gapped_items (A.dealloc_token alloc.now) T.row start K len held
+    requires fits { FitsGap T.row K len current wanted items }
+    requires* memory { sem 𝓛 (gapped_items (A.dealloc_token alloc.now) T.row start K len current
         items) }
-    ensures* memory { sem 𝓛 (gapped_if_ok (A.dealloc_token alloc.now) T.row start K len held wanted
-        items result) }
+    ensures* memory { sem 𝓛 (gapped_if_ok (A.dealloc_token alloc.now) T.row start K len current
+        wanted items result) }
 {
     unsafe {
         let first = start as *mut [T; K];
         let last = start.add(len) as *mut [T; K];
         first.write(last.read());
-        let resized = if held < wanted {
-            alloc.grow(start, len, held, wanted)
+        let resized = if current < wanted {
+            alloc.grow(start, len, current, wanted)
         } else {
-            alloc.shrink(start, len, held, wanted)
+            alloc.shrink(start, len, current, wanted)
         };
         match resized {
             Ok(start) => {
@@ -89,13 +89,13 @@ impl<T, A: Allocator> Block<T, A> {
         ensures changes { Reallocates self.old self.new alloc.now cap result }
     {
         let old = self.cap();
-        let held = K + old.div_ceil(M);
+        let current = K + old.div_ceil(M);
         let wanted = K + cap.div_ceil(M);
-        Ok(self.resize_words::<M, K>(alloc, len, old, cap, len / M, held, wanted)?)
+        Ok(self.resize_words::<M, K>(alloc, len, old, cap, len / M, current, wanted)?)
     }
 
     // Changes the number of slots of the block from `old` to `cap`. The function converts the items
-    // into `count` words, and resizes the memory of the block from `held` to `wanted` words. The
+    // into `count` words, and resizes the memory of the block from `current` to `wanted` words. The
     // header is the gap. If the allocator fails, the block is unchanged.
     //
     // The caller computes all numbers, so that the proof by hand follows a short body.
@@ -106,7 +106,7 @@ impl<T, A: Allocator> Block<T, A> {
         old: usize,
         cap: usize,
         count: usize,
-        held: usize,
+        current: usize,
         wanted: usize,
     ) -> Result<(), AllocError>
         requires same_allocator { self.old.alloc ≡ Some alloc.now }
@@ -117,7 +117,7 @@ impl<T, A: Allocator> Block<T, A> {
         requires len_le_cap { len ≤ cap }
         requires fits { Fits T.row cap }
         requires count { count * M ≡ len }
-        requires held { held ≡ K + div_ceil old M }
+        requires current { current ≡ K + div_ceil old M }
         requires wanted { wanted ≡ K + div_ceil cap M }
         requires room { K ≤ count }
 
@@ -135,7 +135,7 @@ impl<T, A: Allocator> Block<T, A> {
         unsafe {
             make_words(at.add(HEADER_WORDS) as *mut [T; M], count);
             let words = at as *mut Word<T, M>;
-            match resize_array::<Word<T, M>, A, K>(alloc, words, count, held, wanted) {
+            match resize_array::<Word<T, M>, A, K>(alloc, words, count, current, wanted) {
                 Ok(start) => {
                     let at = start as *mut usize;
                     *at = cap;

@@ -157,8 +157,8 @@ impl<T, A: Allocator> Block<T, A> {
                 self.move_items_to(0, &mut other, 0, len);
                 other.store_len(len);
                 let emptied = replace(self, other);
-                let held = emptied.cap();
-                emptied.free(alloc, held);
+                let emptied_cap = emptied.cap();
+                emptied.free(alloc, emptied_cap);
                 Ok(())
             }
         }

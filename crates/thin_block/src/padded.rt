@@ -20,7 +20,7 @@ impl<T, A: Allocator> Block<T, A> {
     ghost use Rattle.thin_block.specs.Block.{block_view};
 
     // Changes the number of slots of the padded block from `old` to `cap`, and may leave it at its
-    // address. The function resizes the memory of the block as an array from `held` to `wanted`
+    // address. The function resizes the memory of the block as an array from `current` to `wanted`
     // items. The padding, which takes `front` bytes, and the header are the gap. If the allocator
     // fails, the block is unchanged.
     //
@@ -32,7 +32,7 @@ impl<T, A: Allocator> Block<T, A> {
         len: usize,
         old: usize,
         cap: usize,
-        held: usize,
+        current: usize,
         wanted: usize,
         front: usize,
     ) -> Result<(), AllocError>
@@ -45,7 +45,7 @@ impl<T, A: Allocator> Block<T, A> {
         requires len_le_cap { len ≤ cap }
         requires fits { Fits T.row cap }
         requires nonempty { 0 < len }
-        requires held { held ≡ old + 2 }
+        requires current { current ≡ old + 2 }
         requires wanted { wanted ≡ cap + 2 }
         requires front { front + 16 ≡ type_size T.row }
 
@@ -63,7 +63,7 @@ impl<T, A: Allocator> Block<T, A> {
         unsafe {
             let end = (at.add(HEADER_WORDS) as *mut T).add(old) as *mut *mut T;
             let start = *end;
-            match resize_array::<T, A, 1>(alloc, start, len, held, wanted) {
+            match resize_array::<T, A, 1>(alloc, start, len, current, wanted) {
                 Ok(start) => {
                     let at = (start as *mut u8).add(front) as *mut usize;
                     *at = cap;

@@ -4,7 +4,7 @@
 ghost use Rattle.std.specs.Prelude.{◌≡◌, ◌*◌, ◌^◌, ◌<◌, List, length};
 ghost use Rattle.std.specs.Mem.{type_size};
 ghost use types.Logic.{sem};
-ghost use Rattle.thin_block.specs.Words.{runs_from, words_from};
+ghost use Rattle.thin_block.specs.Words.{chunks_from, words_from};
 ghost use Rattle.thin_block.specs.contracts.words.Word.{the_row};
 
 // `M` items, with the alignment of a block.
@@ -16,22 +16,22 @@ pub(crate) struct Word<T, const M: usize> {
 // Converts `count` arrays of `M` items into `count` words, in place. `items` points to the first
 // array. LLVM optimizes the loop away.
 pub(crate) unsafe fn make_words<T, const M: usize>(items: *mut [T; M], count: usize)
-    ghost runs: { List (List T) }
-    requires count { length runs ≡ count }
+    ghost chunks: { List (List T) }
+    requires count { length chunks ≡ count }
     requires no_padding { type_size (the_row T.row M.row) ≡ M * type_size T.row }
     requires fits_usize { count * (M * type_size T.row) < 2 ^ 64 }
-    requires* memory { sem 𝓛 (runs_from T.row M.row runs items) }
-    ensures* memory { sem 𝓛 (words_from T.row M.row runs items) }
+    requires* memory { sem 𝓛 (chunks_from T.row M.row chunks items) }
+    ensures* memory { sem 𝓛 (words_from T.row M.row chunks items) }
 {
     let mut i = 0;
     while i < count {
         unsafe {
-            let run = items.add(i);
+            let chunk = items.add(i);
             let word = Word {
-                items: run.read(),
+                items: chunk.read(),
                 aligned: [],
             };
-            (run as *mut Word<T, M>).write(word);
+            (chunk as *mut Word<T, M>).write(word);
         }
         i += 1;
     }

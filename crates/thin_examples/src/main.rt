@@ -255,8 +255,8 @@ fn show_consumed(rt: &impl Print, alloc: Global) -> io::Result<()> {
 
 fn show_read(rt: &impl Print, alloc: Global) -> io::Result<()> {
     let list = ThinVec::from_array(alloc, [1, 2, 3, 4])?;
-    let neighbours = read::neighbours(&list, 1);
-    println!(rt; "neighbours: {neighbours:?}")?;
+    let neighbors = read::neighbors(&list, 1);
+    println!(rt; "neighbors: {neighbors:?}")?;
     println!(rt; "run_end: {}", read::run_end(&list, 1, 2))?;
     println!(rt; "count_even: {}", read::count_even(&list))?;
     println!(rt; "count_below: {}", read::count_below(&list, 3))?;

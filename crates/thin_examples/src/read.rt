@@ -14,7 +14,7 @@ use thin_vec::{Growth, ThinVec};
 /// Returns the item at `index` and the item after it. The sum `index + 1` cannot overflow, because
 /// it is less than the length of the list. The contract of `as_slice` says that this length is
 /// bounded; that of `list[index]` does not.
-pub fn neighbours<A: Allocator, G: Growth>(list: &ThinVec<u32, A, G>, index: usize) -> (u32, u32)
+pub fn neighbors<A: Allocator, G: Growth>(list: &ThinVec<u32, A, G>, index: usize) -> (u32, u32)
     requires in_bounds { index + 1 < length list.now.items }
     ensures first { result.0 ≡ slice_index list.now.items index }
     ensures second { result.1 ≡ slice_index list.now.items (index + 1) }

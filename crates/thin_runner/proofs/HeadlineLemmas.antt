@@ -8,7 +8,7 @@ use Rattle.thin_runner.specs.Headline.{Headline}
 use Rattle.thin_runner.specs.Run.{Runs, successful_pushes}
 use Rattle.thin_runner.specs.declared.command.Command.{Command}
 use Rattle.thin_runner.specs.declared.command.Reply.{Reply}
-use Rattle.thin_runner.proofs.AmortisedLemmas.{copied-run, new-amortised, runs-amortised}
+use Rattle.thin_runner.proofs.AmortizedLemmas.{copied-run, new-amortized, runs-amortized}
 use Rattle.thin_runner.proofs.MoveLemmas.{runs-moves}
 use Rattle.thin_runner.proofs.PaidLemmas.{runs-paid}
 use Rattle.thin_runner.proofs.PlainLemmas.{run-plain}
@@ -37,9 +37,9 @@ module _ {T A G J : Type 0} (here : Env T A J) (law : IsLawful here.rule) where
           copied = λ only.
               (runs-paid here law old new commands replies only was.room run).copied;
           amortised = λ only is_new some.
-              let none = new-amortised old is_new in
+              let none = new-amortized old is_new in
               copied-run new (successful_pushes commands replies)
-              (runs-amortised here law old new commands replies only none run) some;
+              (runs-amortized here law old new commands replies only none run) some;
           slack = λ doubles only.
               runs-slack here law doubles old new commands replies only run;
           moves = runs-moves here old new commands replies run;

@@ -4,12 +4,12 @@ mod CommandLemmas
 pub mod RunLemmas
 mod SplicesLemmas
 mod CallbackLemmas
-mod WalkLemmas
+mod NextBackLemmas
 mod CallbackExtractLemmas
 mod MoveLemmas
 pub mod WeakerClonesLemmas
 mod PaidLemmas
-mod AmortisedLemmas
+mod AmortizedLemmas
 mod SlackLemmas
 mod PlainLemmas
 mod PlainExamples

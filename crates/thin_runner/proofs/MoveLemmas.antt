@@ -7,7 +7,7 @@ use Rattle.std.specs.Option.{option_to_list}
 use Rattle.thin_vec.specs.Cost.{add_realloc, no_cost}
 use Rattle.thin_vec.specs.Growth.{GrowthRule}
 use Rattle.thin_vec.specs.ThinVec.{ListView, cost_shrunk}
-use Rattle.thin_vec.proofs.ThinVecLemmas.{cost_after_resize-moves}
+use Rattle.thin_vec.proofs.GrowthLemmas.{cost_after_resize-moves}
 use Rattle.thin_runner.specs.Env.{Env}
 use Rattle.thin_runner.specs.Steps.{Steps}
 use Rattle.thin_runner.specs.commands.Items.{ReservesAndSets, set_capacity, set_items}

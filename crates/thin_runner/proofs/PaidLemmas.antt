@@ -16,7 +16,7 @@ use Rattle.thin_vec.specs.Cost.{Cost}
 use Rattle.thin_vec.specs.Cheap.{IsCheap, IsCheapAt}
 use Rattle.thin_vec.specs.Growth.{IsLawful}
 use Rattle.thin_vec.specs.ThinVec.{ListView, capacity_after_reserve, cost_after_resize}
-use Rattle.thin_vec.proofs.ThinVecLemmas.{cap-kept, cap-grown, cheap-regrown, cost_after_resize-copied}
+use Rattle.thin_vec.proofs.GrowthLemmas.{cap-kept, cap-grown, cheap-regrown, cost_after_resize-copied}
 use Rattle.thin_runner.specs.Env.{Env}
 use Rattle.thin_runner.specs.Steps.{Steps}
 use Rattle.thin_runner.specs.commands.Items.{ReservesAndSets}

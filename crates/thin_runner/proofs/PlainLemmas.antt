@@ -25,7 +25,7 @@ use Rattle.thin_runner.specs.declared.command.Reply.{Reply}
 use Rattle.thin_runner.specs.declared.command.Reply.TheVariants.{Answers, Done, Item, List as Made, Other, Returned, Refused, Stopped, OutOfRange}
 use Rattle.thin_runner.proofs.CallbackLemmas.{dedup-pairs}
 use Rattle.thin_runner.proofs.SplicesLemmas.{at-end}
-use Rattle.thin_runner.proofs.WalkLemmas.{last-of}
+use Rattle.thin_runner.proofs.NextBackLemmas.{last-of}
 use Rattle.thin_runner.proofs.WeakerClonesLemmas.{first-meets, needed, others-meet, zip-weaker}
 
 refused : {X B : Type 0} (x : X) → Some x ≡ None → B

@@ -7,7 +7,7 @@ use Rattle.std.proofs.lemmas.List.Elements.{All-head, All-tail}
 use Rattle.thin_vec.specs.Growth.{IsLawful, GrowthRule, doubling}
 use Rattle.thin_vec.specs.ThinVec.{ListView, capacity_after_reserve}
 use Rattle.thin_vec.proofs.CallerLemmas.{doubling-most}
-use Rattle.thin_vec.proofs.ThinVecLemmas.{cap-kept}
+use Rattle.thin_vec.proofs.GrowthLemmas.{cap-kept}
 use Rattle.thin_runner.specs.Env.{Env}
 use Rattle.thin_runner.specs.Steps.{Steps}
 use Rattle.thin_runner.specs.Run.{IsPushOrPop, Runs, peak}

@@ -3,7 +3,7 @@
 #![tactic(auto)]
 
 pub mod command;
+mod context;
 pub mod hinted;
 pub mod judge;
 pub mod runner;
-mod steps;

@@ -5,8 +5,8 @@ ghost use Rattle.thin_runner.specs.Env.{env};
 ghost use Rattle.thin_runner.specs.Steps.{Allows, IsInRange};
 
 use crate::command::{Command, Reply};
+use crate::context::Context;
 use crate::judge::Judge;
-use crate::steps::Context;
 use std::alloc::Allocator;
 use std::marker::PhantomData;
 use std::mem;

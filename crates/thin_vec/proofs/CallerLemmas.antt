@@ -14,11 +14,11 @@ use Rattle.thin_block.specs.declared.errors.ThinVecError.TheVariants.{CapacityOv
 use Rattle.thin_block.specs.Capacity.{min_non_zero_cap, fits}
 use Rattle.thin_block.specs.Cost.{Cost}
 use Rattle.thin_block.specs.Growth.{GrowthRule, IsLawful, doubling, exact_capacity, checked_capacity, grown_capacity}
-use Rattle.thin_block.proofs.CapacityLemmas.{exact-fits, exact-same, ruled-overflow, ruled-rule, ruled-same, small_fits}
+use Rattle.thin_block.proofs.CapacityLemmas.{exact-fits, exact-same, ruled-overflow, ruled-rule, ruled-same, small-fits}
 use Rattle.thin_block.proofs.ResultLemmas.{some-same}
 use Rattle.thin_vec.specs.List.Capacity.{CostsMoves, OverflowsIff, OverflowsIffTooLarge, PreservesList}
 use Rattle.thin_vec.specs.ThinVec.{IsCauseOf, ListView, capacity_after_reserve}
-use Rattle.thin_vec.proofs.ThinVecLemmas.{cost_after_resize-copied}
+use Rattle.thin_vec.proofs.GrowthLemmas.{cost_after_resize-copied}
 use Rattle.std.proofs.Math.Seq.{take-append_seam}
 use Rattle.std.specs.List.{refill, replace_range}
 use Rattle.thin_vec.specs.Lends.{with_items}
@@ -35,11 +35,13 @@ use Rattle.thin_vec.specs.Edits.Splice.{SpliceErrorAccountsFor}
 use Rattle.thin_vec.specs.declared.errors.SpliceRefused.{SpliceRefused}
 pub use Rattle.thin_block.specs.GrowthLaws.{doubling_law}
 
+-- For fewer than 2^31 items, each of less than 2^31 bytes, the exact capacity is the number of the
+-- items.
 pub exact-few : (R : RattleType) (n : ℕ) → n < 2 ^ 31 → type_size R < 2 ^ 31
     → exact_capacity (type_size R) (type_align R) 0 n ≡ Some n
 exact-few R zero few small = exact-same _ _ 0 0 (omega arith)
 exact-few R (suc n) few small =
-    exact-fits R 0 (suc n) (omega arith) (small_fits R (suc n) few small)
+    exact-fits R 0 (suc n) (omega arith) (small-fits R (suc n) few small)
 
 -- `named` is the capacity that a call needs, or `None` if this capacity is too large.
 cause-named : (named : Option ℕ) (n : ℕ) (cause : ThinVecError) → named ≡ Some n
@@ -47,6 +49,8 @@ cause-named : (named : Option ℕ) (n : ℕ) (cause : ThinVecError) → named �
 cause-named named n OutOfMemory here told = refl
 cause-named named n CapacityOverflow here told = let none = told refl in cc
 
+-- A call that allocates room for fewer than 2^31 items, each of less than 2^31 bytes, fails only
+-- with `OutOfMemory`.
 pub few_items : {X : Type 0} (R : RattleType) (n : ℕ) (result : Result X ThinVecError)
     → n < 2 ^ 31 → type_size R < 2 ^ 31 → OverflowsIffTooLarge R n result
     → IfErr result (λ cause. cause ≡ OutOfMemory)
@@ -55,14 +59,15 @@ few_items R n (Err cause) few small told =
     cause-named (exact_capacity (type_size R) (type_align R) 0 n) n cause (exact-few R n few small)
     (λ over. told.overflow.0 (ap Err over))
 
-either_few : (b : Bool) (m n : ℕ) → m < 2 ^ 31 → n < 2 ^ 31 → (if b then m else n) < 2 ^ 31
-either_few true m n few less = few
-either_few false m n few less = less
+either-few : (b : Bool) (m n : ℕ) → m < 2 ^ 31 → n < 2 ^ 31 → (if b then m else n) < 2 ^ 31
+either-few true m n few less = few
+either-few false m n few less = less
 
-first_few : (s : ℕ) → min_non_zero_cap s < 2 ^ 31
+first-few : (s : ℕ) → min_non_zero_cap s < 2 ^ 31
 unfolding min_non_zero_cap
-first_few s = either_few (nat_lt (2 ^ 61 - 1) s) 1 4 (omega arith) (omega arith)
+first-few s = either-few (nat_lt (2 ^ 61 - 1) s) 1 4 (omega arith) (omega arith)
 
+-- The rule `doubling` chooses a capacity for fewer than 2^30 items, each of less than 2^31 bytes.
 pub doubling-few : (R : RattleType) (c w : ℕ) → w < 2 ^ 30 → type_size R < 2 ^ 31
     → (n : ℕ) × (grown_capacity doubling (type_size R) (type_align R) c w ≡ Some n)
 unfolding doubling checked_capacity
@@ -70,14 +75,16 @@ doubling-few R c w few small = elim (cases_lt c w) [
   | inl more ↦ (let s : ℕ = type_size R in
       let twice : ℕ = if c == 0 then min_non_zero_cap s else 2 * c in
       let less : twice < 2 ^ 31 =
-      either_few (c == 0) (min_non_zero_cap s) (2 * c) (first_few s) (omega arith) in
+      either-few (c == 0) (min_non_zero_cap s) (2 * c) (first-few s) (omega arith) in
       let fit : fits s (type_align R) (max w (if c == 0 then min_non_zero_cap s else 2 * c))
       ≡ true =
-      small_fits R (max w twice) (omega (arith, less)) small in
+      small-fits R (max w twice) (omega (arith, less)) small in
       (max w twice, ruled-rule doubling _ _ c w more (omega arith) ∙ rw fit refl))
   | inr enough ↦ (c, ruled-same doubling _ _ c w enough)
 ]
 
+-- Under `doubling`, a call that needs room for `k` more items fails only with `OutOfMemory`, if
+-- these and the items of the list are fewer than 2^30, each of less than 2^31 bytes.
 pub few_more : {X T A : Type 0} (R : RattleType) (k : ℕ) (v : ListView T A)
     (result : Result X ThinVecError) → length v.items + k < 2 ^ 30 → type_size R < 2 ^ 31
     → OverflowsIff (capacity_after_reserve doubling R v k) result
@@ -106,19 +113,20 @@ named-by : (b : Bool) (m n : ℕ) → (if b then Some m else None) ≡ Some n �
 named-by true m n e = some-same e
 named-by false m n e = cc
 
-either_most : (b : Bool) → (if b then 1 else 4) ≤ 4
-either_most true = omega arith
-either_most false = omega arith
+either-most : (b : Bool) → (if b then 1 else 4) ≤ 4
+either-most true = omega arith
+either-most false = omega arith
 
-first_most : (s : ℕ) → min_non_zero_cap s ≤ 4
+first-most : (s : ℕ) → min_non_zero_cap s ≤ 4
 unfolding min_non_zero_cap
-first_most s = either_most (nat_lt (2 ^ 61 - 1) s)
+first-most s = either-most (nat_lt (2 ^ 61 - 1) s)
 
 twice-most : (b : Bool) (s c w : ℕ) → c < w
     → (if b then min_non_zero_cap s else 2 * c) ≤ max 4 (2 * w)
-twice-most true s c w more = omega (arith, first_most s)
+twice-most true s c w more = omega (arith, first-most s)
 twice-most false s c w more = omega (arith, more)
 
+-- If `doubling` chooses a capacity for `w` items, this is at most 4, or at most twice `w`.
 pub doubling-most : (s a c w n : ℕ) → c < w → grown_capacity doubling s a c w ≡ Some n
     → n ≤ max 4 (2 * w)
 unfolding doubling checked_capacity
@@ -147,6 +155,7 @@ doubling-twice s a c w n some more few e = elim (cases_lt w (2 ^ 64)) [
   | inr high ↦ cc (ruled-overflow doubling _ _ c w more high)
 ]
 
+-- If a slice is filled with as many items as it has, it has exactly these.
 pub refill_all : {T : Type 0} (xs ws : List T) → length ws ≡ length xs
     → refill (length xs) xs ws ≡ ws
 refill_all xs ws same =
@@ -158,17 +167,20 @@ pub refilled : {T : Type 0} (xs ws : List T) → IsPermutation xs ws
 refilled xs ws same =
     subst (IsPermutation xs) (sym (refill_all xs ws (length_permutation xs ws same))) same
 
+-- If as many items as a list has are written through a slice, the list has exactly these.
 pub with_items_is : {T A : Type 0} (v : ListView T A) (ws : List T) → length ws ≡ length v.items
     → (with_items v ws).items ≡ ws
 with_items_is v ws same = refill_all v.items ws same
 
 module _ {T : Type 0} where
+  -- A `remove` undoes an `insert` at the same index.
   pub remove-insert : (xs : List T) (i : ℕ) (x : T) → i ≤ length xs → remove (insert xs i x) i ≡ xs
   remove-insert [] zero x h = refl
   remove-insert (y ∷ xs) zero x h = refl
   remove-insert [] (suc i) x h = absurd (omega arith)
   remove-insert (y ∷ xs) (suc i) x h = ap (λ l. y ∷ l) (remove-insert xs i x (omega arith))
 
+  -- After an `insert` at an index, the item at this index is the inserted one.
   pub slice_get-insert : (xs : List T) (i : ℕ) (x : T) → i ≤ length xs
       → slice_get (insert xs i x) i ≡ Some x
   slice_get-insert [] zero x h = refl
@@ -176,6 +188,7 @@ module _ {T : Type 0} where
   slice_get-insert [] (suc i) x h = absurd (omega arith)
   slice_get-insert (y ∷ xs) (suc i) x h = slice_get-insert xs i x (omega arith)
 
+-- These rules show that an `insert` and a `remove` at one index leave the items as they were.
 pub ruleset undone = (remove-insert, slice_get-insert)
 
 -- In this module, the items `new` replace the items `i..j` of the list `xs`, as in a call of
@@ -214,11 +227,11 @@ module _ {T : Type 0} (xs new : List T) (i j : ℕ) (order : i ≤ j) (within : 
       ∙ take-append-drop i xs))
 
 module _ {T A E : Type 0} where
-  if_ok : {P Q : ListView T A → Type 0} (r : Result (ListView T A) E)
+  ok-implies : {P Q : ListView T A → Type 0} (r : Result (ListView T A) E)
       → ((v : ListView T A) → P v → Q v)
       → IfOk r P → IfOk r Q
-  if_ok (Ok v) implies p = implies v p
-  if_ok (Err e) implies p = p
+  ok-implies (Ok v) implies p = implies v p
+  ok-implies (Err e) implies p = p
 
   -- This lemma is the counterpart of std's `items_from_collect` for a `ThinVec`.
   pub items_from_collect : {S : Type 0} {steps : S → Option T → S → Type 0} {s : S} {all : List T}
@@ -226,12 +239,13 @@ module _ {T A E : Type 0} where
       → IfOk r (λ v. (xs : List T) × DrainsIf steps ⊤ s xs × IsCollectedFrom R xs v)
       → YieldsList steps (λ x. x) s all → IfOk r (λ v. v.items ≡ all)
   items_from_collect R r made yields =
-      if_ok r (λ v all_made. all_made.0) (fact_from_collect (IsCollectedFrom R) r made yields)
+      ok-implies r (λ v all_made. all_made.0) (fact_from_collect (IsCollectedFrom R) r made yields)
 
 -- In this module, `items_of s` are the items that the iterator `s` still yields. A call of `next`
 -- that returns an item takes the first of them, and one that returns `None` takes none.
 module _ {S T : Type 0} (steps : S → Option T → S → Type 0) (items_of : S → List T)
     (gives : (s t : S) (x : T) → steps s (Some x) t → items_of s ≡ x ∷ items_of t) where
+  -- If the iterator yielded `xs`, its items were `xs`, and then the items that it still yields.
   pub taken_front : (s t : S) (xs : List T) → Yields steps s xs t → items_of s ≡ xs ++ items_of t
   taken_front s t [] y = ap items_of y
   taken_front s t (x ∷ xs) y =

@@ -16,29 +16,32 @@ use Rattle.thin_vec.proofs.open_block.PairTestLemmas.{map-answer}
 -- arguments: the state of the closure before the call, the two items, the result of the call, the
 -- state after the call, and the two items as the call left them.
 module _ {S T : Type 0} (R : S → T → T → Bool → S → T → T → Type 0) where
-  dedups_from : (xs : List T) (s : S) (k : T) (removed : List Bool) (ys : List T) (t : S)
+  dedups-from : (xs : List T) (s : S) (k : T) (removed : List Bool) (ys : List T) (t : S)
       → TestsEachAgainstLast R s k xs removed ys t → DedupsFrom R s k xs ys
-  dedups_from [] s k removed ys t h = h.1
-  dedups_from (x ∷ xs) s k removed ys t h = (
+  dedups-from [] s k removed ys t h = h.1
+  dedups-from (x ∷ xs) s k removed ys t h = (
     h.0,
     h.3,
     h.1,
     h.2,
     h.5,
-    map-answer h.0 (λ m. dedups_from xs h.3 h.2 h.4 ys t m)
-        (λ m. (m.0, dedups_from xs h.3 h.1 h.4 m.0 t m.1, m.2)) h.7,
+    map-answer h.0 (λ m. dedups-from xs h.3 h.2 h.4 ys t m)
+        (λ m. (m.0, dedups-from xs h.3 h.1 h.4 m.0 t m.1, m.2)) h.7,
   )
 
-  dedups_all : (xs : List T) (s : S) (removed : List Bool) (ys : List T) (t : S)
+  dedups-all : (xs : List T) (s : S) (removed : List Bool) (ys : List T) (t : S)
       → TestsAllAgainstLast R s xs removed ys t → DedupsAll R s xs ys
-  dedups_all [] s removed ys t h = h.1
-  dedups_all (x ∷ xs) s removed ys t h = dedups_from xs s x removed ys t h
+  dedups-all [] s removed ys t h = h.1
+  dedups-all (x ∷ xs) s removed ys t h = dedups-from xs s x removed ys t h
 
+  -- `IsDedupedBy` implies std's `IsDeduped`.
   pub deduped_deduped : {A : Type 0} (s : S) (v w : ListView T A) → IsDedupedBy R s v w
       → IsDeduped R s v.items w.items
   deduped_deduped s v w h =
-      record { told = dedups_all v.items s h.removed w.items h.last h.calls }
+      record { told = dedups-all v.items s h.removed w.items h.last h.calls }
 
+  -- If each call of the closure returns `same` of the two items, and changes neither them nor its
+  -- state, the call leaves what std's `dedup` leaves.
   pub deduped_dedup : {A : Type 0} (same : T → T → Bool) {s : S} {v w : ListView T A}
       → ((x y : T) (b : Bool) (t : S) (x' y' : T) → R s x y b t x' y'
       → (b ≡ same x y) × (t ≡ s) × (x' ≡ x) × (y' ≡ y))
@@ -55,6 +58,7 @@ cond-not false x y = refl
 -- If the closure answers by `test` alone and changes no item, the items are divided by `filter`.
 module _ {S T : Type 0} (R : S → T → Bool → S → T → Type 0) (test : T → Bool)
     (says : (s : S) (x : T) (b : Bool) (t : S) (y : T) → R s x b t y → (b ≡ test x) × (y ≡ x)) where
+  -- `extract_if` yields what `filter test` keeps, and leaves the others.
   pub extracts_filter : (s : S) (xs yielded kept : List T) (t : S)
       → ExtractsInTurn R s xs yielded kept t
       → (yielded ≡ filter test xs) × (kept ≡ filter (λ x. not (test x)) xs)

@@ -14,7 +14,7 @@ use Rattle.std.proofs.lemmas.List.{take_at}
 use Rattle.thin_vec.specs.Lends.{with_item, with_items, with_items_from}
 use Rattle.thin_vec.specs.ThinVec.{IsListBlock, ListView, list_view}
 use Rattle.thin_vec.proofs.list.InsertRemoveLemmas.{full-set}
-use Rattle.thin_vec.proofs.ListLemmas.{IsWritten, RestoresInvariant, full-same, restores-front, thin-room}
+use Rattle.thin_vec.proofs.ListBlockLemmas.{IsWritten, RestoresInvariant, full-same, restores-front, thin-room}
 
 module _ {T : Type 0} where
   -- The empty slots stay empty, even if `ws` is longer than `xs`.
@@ -75,7 +75,7 @@ module _ {T A : Type 0} where
       let ys = take i xs ++ refill (length (drop i xs)) (drop i xs) ws in
       let same = sym (length-from xs i ws) in
       restores-front t b' ys (length b.slots) w
-      (ap (λ r. overwrite_items r i ws) t.packed.row
+      (ap (λ r. overwrite_items r i ws) t.packed.slots
       ∙ (over-from xs i (length b.slots - length xs) ws within
       ∙ ap (λ n. filled_slots ys ++ empty_slots (length b.slots - n)) same))
       (t.packed.len ∙ same) (omega (arith, same, thin-room b a t))
@@ -94,7 +94,7 @@ module _ {T A : Type 0} where
   thin-range b a xs i j t order within run =
       let ys = items_in b.slots in
       full-same xs (slice_range ys i j)
-      (run ∙ (ap (λ (r : List (Option T)). slice_range r i j) t.packed.row
+      (run ∙ (ap (λ (r : List (Option T)). slice_range r i j) t.packed.slots
       ∙ range-filled ys (empty_slots (length b.slots - length ys)) i j order within))
 
   pub restores-over : {b : Block T A} {a : A} → IsListBlock b a → (b' : Block T A) (ws : List T)
@@ -105,7 +105,7 @@ module _ {T A : Type 0} where
       let xs = items_in b.slots in
       let same = sym (length_refill (length xs) xs ws refl) in
       restores-front t b' (refill (length xs) xs ws) (length b.slots) w
-      (ap (λ r. overwrite_items r 0 ws) t.packed.row
+      (ap (λ r. overwrite_items r 0 ws) t.packed.slots
       ∙ (over-front xs (length b.slots - length xs) ws
       ∙ ap (λ n. filled_slots (refill (length xs) xs ws) ++ empty_slots (length b.slots - n))
       (sym same)))
@@ -124,7 +124,7 @@ module _ {T A : Type 0} where
       let xs = items_in b.slots in
       let same = length-set xs i v in
       restores-front t b' (set xs i v) (length b.slots) w
-      (ap (λ r. set r i (Some v)) t.packed.row
+      (ap (λ r. set r i (Some v)) t.packed.slots
       ∙ (full-set xs (empty_slots (length b.slots - length xs)) i v within
       ∙ ap (λ n. filled_slots (set xs i v) ++ empty_slots (length b.slots - n)) (sym same)))
       (t.packed.len ∙ sym same) (omega (arith, same, thin-room b a t))

@@ -12,7 +12,7 @@ use Rattle.thin_block.proofs.ResultLemmas.{some-same}
 use Rattle.thin_vec.specs.OpenBlock.{IsOpen, IsOpenViewOf, open_view}
 use Rattle.thin_vec.specs.OpenView.{OpenView, tail_end, slots_of}
 use Rattle.thin_vec.specs.declared.open_block.OpenBlock.TheInside.{Inside}
-use Rattle.thin_vec.proofs.ListLemmas.{get-some, items-front, items-full-alone, length-empty, length-full, slot-get}
+use Rattle.thin_vec.proofs.ListBlockLemmas.{get-some, items-front, items-full-alone, length-empty, length-full, slot-get}
 
 pub first-of : {X : Type 0} (xs : List X) → 0 < length xs → (x : X) × (ys : List X) × (xs ≡ x ∷ ys)
 first-of [] h = absurd (omega arith)
@@ -80,18 +80,18 @@ module _ {T A : Type 0} where
   middle_at v = length v.front + v.gap_before
 
   module _ (h : Inside T A) (v : OpenView T A) (s : IsOpenViewOf h v) where
-    pub by_middle : h.block.slots ≡ to_middle v ++ (filled_slots v.middle ++ past_middle v)
-    by_middle = s.row ∙ simp append_assoc
+    pub by-middle : h.block.slots ≡ to_middle v ++ (filled_slots v.middle ++ past_middle v)
+    by-middle = s.slots ∙ simp append_assoc
 
-    pub by_tail : h.block.slots ≡ to_tail v ++ past_after v
-    by_tail = s.row ∙ simp append_assoc
+    pub by-tail : h.block.slots ≡ to_tail v ++ past_after v
+    by-tail = s.slots ∙ simp append_assoc
 
-    pub at_middle : length (to_middle v) ≡ h.middle_start
-    at_middle =
+    pub at-middle : length (to_middle v) ≡ h.middle_start
+    at-middle =
         simp (length-append, length-full, length-empty T) (omega (arith, s.front, s.gap_before))
 
-    pub at_tail : length (to_tail v) ≡ h.tail_start
-    at_tail = simp (length-append, length-full, length-empty T)
+    pub at-tail : length (to_tail v) ≡ h.tail_start
+    at-tail = simp (length-append, length-full, length-empty T)
         (omega (arith, s.front, s.gap_before, s.middle, s.gap_after))
 
     pub reached : tail_end v ≡ h.tail_end
@@ -101,13 +101,13 @@ module _ {T A : Type 0} where
     shown-cap =
         omega (
           arith,
-          simp (length-append, length-full, length-empty T) at (ap length s.row),
+          simp (length-append, length-full, length-empty T) at (ap length s.slots),
           reached,
         )
 
     shown-front : items_in (take h.front_end h.block.slots) ≡ v.front
     shown-front =
-        ap items_in (ap (take h.front_end) s.row
+        ap items_in (ap (take h.front_end) s.slots
         ∙ take_at (filled_slots v.front)
         (empty_slots v.gap_before ++ (filled_slots v.middle ++ past_middle v)) h.front_end
         (length-full v.front ∙ s.front))
@@ -118,9 +118,9 @@ module _ {T A : Type 0} where
         let count : length (filled_slots v.middle) ≡ h.middle_end - h.middle_start =
         omega (arith, length-full v.middle, s.middle) in
         ap items_in (ap (λ (r : List (Option T)). take (h.middle_end - h.middle_start)
-        (drop h.middle_start r)) by_middle
+        (drop h.middle_start r)) by-middle
         ∙ (ap (take (h.middle_end - h.middle_start))
-        (drop_at (to_middle v) (filled_slots v.middle ++ past_middle v) h.middle_start at_middle)
+        (drop_at (to_middle v) (filled_slots v.middle ++ past_middle v) h.middle_start at-middle)
         ∙ take_at (filled_slots v.middle) (past_middle v) (h.middle_end - h.middle_start) count))
         ∙ items-full-alone v.middle
 
@@ -129,8 +129,8 @@ module _ {T A : Type 0} where
         let some : length v.tail + (v.capacity - tail_end v) - length v.tail
         ≡ v.capacity - tail_end v =
         omega arith in
-        ap items_in (ap (drop h.tail_start) by_tail
-        ∙ (drop_at (to_tail v) (past_after v) h.tail_start at_tail
+        ap items_in (ap (drop h.tail_start) by-tail
+        ∙ (drop_at (to_tail v) (past_after v) h.tail_start at-tail
         ∙ ap (λ (k : ℕ). filled_slots v.tail ++ empty_slots k) (sym some)))
         ∙ items-front v.tail (length v.tail + (v.capacity - tail_end v))
 
@@ -155,19 +155,19 @@ module _ {T A : Type 0} where
     pub middle-filled : (j : ℕ) → h.middle_start ≤ j → j < h.middle_end
         → IsSome (slot h.block.slots j)
     middle-filled j low high =
-        rw (ap (λ (r : List (Option T)). slot r j) by_middle)
-        (slot-in-full (to_middle v) v.middle (past_middle v) j (omega (arith, at_middle))
-        (omega (arith, at_middle, s.middle)))
+        rw (ap (λ (r : List (Option T)). slot r j) by-middle)
+        (slot-in-full (to_middle v) v.middle (past_middle v) j (omega (arith, at-middle))
+        (omega (arith, at-middle, s.middle)))
 
     pub tail-filled : (j : ℕ) → h.tail_start ≤ j → j < h.tail_end → IsSome (slot h.block.slots j)
     tail-filled j low high =
-        rw (ap (λ (r : List (Option T)). slot r j) by_tail)
-        (slot-in-full (to_tail v) v.tail (past_tail v) j (omega (arith, at_tail))
-        (omega (arith, at_tail, s.tail)))
+        rw (ap (λ (r : List (Option T)). slot r j) by-tail)
+        (slot-in-full (to_tail v) v.tail (past_tail v) j (omega (arith, at-tail))
+        (omega (arith, at-tail, s.tail)))
 
     pub before-empty : (j : ℕ) → h.front_end ≤ j → j < h.middle_start → slot h.block.slots j ≡ None
     before-empty j low high =
-        ap (λ (r : List (Option T)). slot r j) s.row
+        ap (λ (r : List (Option T)). slot r j) s.slots
         ∙ slot-in-empty (filled_slots v.front) v.gap_before
         (filled_slots v.middle ++ past_middle v) j
         (omega (arith, length-full v.front, s.front))
@@ -210,26 +210,26 @@ module _ {T A : Type 0} where
         let parts = first-of v.middle some in
         let y : T = parts.0 in
         let ys : List T = parts.1 in
-        let row : h.block.slots ≡ to_middle v ++ (Some y ∷ (filled_slots ys ++ past_middle v)) =
-        by_middle h v o
+        let slots : h.block.slots ≡ to_middle v ++ (Some y ∷ (filled_slots ys ++ past_middle v)) =
+        by-middle h v o
         ∙ ap (λ (r : List T). to_middle v ++ (filled_slots r ++ past_middle v)) parts.2 in
         let same : y ≡ x =
         some-same (sym (get_or_at (to_middle v) (Some y)
         (filled_slots ys ++ past_middle v) None h.middle_start
-        (at_middle h v o))
-        ∙ (ap (λ (r : List (Option T)). slot r h.middle_start) (sym row) ∙ is)) in
+        (at-middle h v o))
+        ∙ (ap (λ (r : List (Option T)). slot r h.middle_start) (sym slots) ∙ is)) in
         let reached' : v.capacity - tail_end v ≡ v.capacity - tail_end (first-view ys) =
         omega (arith, ap length parts.2) in
         let after : b.slots ≡ slots_of (first-view ys) =
         ap (λ (z : BlockView T A). z.slots) now
-        ∙ (ap (λ (r : List (Option T)). set r h.middle_start None) row
+        ∙ (ap (λ (r : List (Option T)). set r h.middle_start None) slots
         ∙ (set_at (to_middle v) (Some y) (filled_slots ys ++ past_middle v) None h.middle_start
-        (at_middle h v o)
+        (at-middle h v o)
         ∙ rw reached' (simp (append_assoc, empty-more)))) in (
           ys,
           parts.2 ∙ ap (λ (z : T). z ∷ ys) same,
           found first-left (first-view ys) (record {
-            row = after;
+            slots = after;
             front = o.front;
             gap_before = omega arith;
             middle = omega (arith, ap length parts.2);
@@ -261,28 +261,28 @@ module _ {T A : Type 0} where
         omega (
           arith,
           length-append (to_middle v) (filled_slots ys),
-          at_middle h v o,
+          at-middle h v o,
           length-full ys,
         ) in
-        let row : h.block.slots ≡ pre ++ (Some y ∷ past_middle v) =
-        by_middle h v o
+        let slots : h.block.slots ≡ pre ++ (Some y ∷ past_middle v) =
+        by-middle h v o
         ∙ (ap (λ (r : List T). to_middle v ++ (filled_slots r ++ past_middle v)) parts.2
         ∙ simp (append_assoc, map_push)) in
         let same : y ≡ x =
         some-same (sym (get_or_at pre (Some y) (past_middle v) None (h.middle_end - 1) before)
-        ∙ (ap (λ (r : List (Option T)). slot r (h.middle_end - 1)) (sym row) ∙ is)) in
+        ∙ (ap (λ (r : List (Option T)). slot r (h.middle_end - 1)) (sym slots) ∙ is)) in
         let reached' : v.capacity - tail_end v ≡ v.capacity - tail_end (last-view ys) =
         omega (arith, longer) in
         let more : v.gap_after + 1 ≡ suc v.gap_after = omega arith in
         let after : b.slots ≡ slots_of (last-view ys) =
         ap (λ (z : BlockView T A). z.slots) now
-        ∙ (ap (λ (r : List (Option T)). set r (h.middle_end - 1) None) row
+        ∙ (ap (λ (r : List (Option T)). set r (h.middle_end - 1) None) slots
         ∙ (set_at pre (Some y) (past_middle v) None (h.middle_end - 1) before
         ∙ rw (reached', more) (simp append_assoc))) in (
           ys,
           parts.2 ∙ ap (λ (z : T). ys ++ z ∷ []) same,
           found last-left (last-view ys) (record {
-            row = after;
+            slots = after;
             front = o.front;
             gap_before = o.gap_before;
             middle = omega arith;

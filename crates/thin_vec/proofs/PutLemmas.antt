@@ -51,14 +51,14 @@ module _ {T : Type 0} where
   pub record IsMoving (xs left : List T) (start : ℕ) (r s : List (Option T)) : Type 0 where
     pub rest : List T
     pub parts : xs ≡ left ++ rest
-    pub row : s ≡ write_slots (start + length left) (filled_slots rest) r
+    pub slots : s ≡ write_slots (start + length left) (filled_slots rest) r
 
   pub moving-first : (xs : List T) (start : ℕ) (s : List (Option T)) → IsMoving xs xs start s s
   moving-first xs start s =
       record {
         rest = [];
         parts = sym (append-nil xs);
-        row = sym (written-none (start + length xs) s);
+        slots = sym (written-none (start + length xs) s);
       }
 
   pub moving-next : {xs : List T} (left : List T) {start : ℕ} (i : ℕ) (v : T)
@@ -71,8 +71,8 @@ module _ {T : Type 0} where
       record {
         rest = v ∷ m.rest;
         parts = m.parts ∙ append_assoc left (v ∷ []) m.rest;
-        row =
-            ap (λ (l : List (Option T)). set l i (Some v)) m.row
+        slots =
+            ap (λ (l : List (Option T)). set l i (Some v)) m.slots
             ∙ (written-before i (start + length (left ++ v ∷ [])) (Some v) (filled_slots m.rest) r
             (omega (arith, next, one)) (omega (arith, next, one, all, room))
             ∙ ap (λ (n : ℕ). write_slots n (filled_slots (v ∷ m.rest)) r) next);

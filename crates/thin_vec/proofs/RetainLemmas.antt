@@ -14,10 +14,12 @@ use Rattle.thin_vec.specs.List.Capacity.{MovesAtMost}
 use Rattle.thin_vec.specs.OpenBlock.Retain.{TestsInTurn}
 use Rattle.thin_vec.specs.ThinVec.{ListView}
 
+-- Adding `b` moves, and then `a` moves, is adding `b + a` moves.
 pub moving-more : (a b : ℕ) (c : Cost) → add_moves a (add_moves b c) ≡ add_moves (b + a) c
 moving-more a b c = let e : c.moves + b + a ≡ c.moves + (b + a) = omega arith in
     λ i. record { blocks = c.blocks; grown = c.grown; moves = e i }
 
+-- Adding no moves leaves a cost unchanged.
 pub moving-none : (c : Cost) → add_moves 0 c ≡ c
 moving-none c = let e : c.moves + 0 ≡ c.moves = omega arith in
     λ i. record { blocks = c.blocks; grown = c.grown; moves = e i }
@@ -28,28 +30,35 @@ moving-if : (b : Bool) (a k : ℕ) (c : Cost)
 moving-if true a k c = let e : a ≡ a + 0 = omega arith in ap (λ n. add_moves n c) e
 moving-if false a k c = moving-more k a c
 
+-- Adding nothing in one case, and no moves in the other, leaves a cost unchanged.
 pub moving-zero : (b : Bool) (c : Cost) → (if b then c else add_moves 0 c) ≡ c
 moving-zero true c = refl
 moving-zero false c = moving-none c
 
+-- Equal lists have equal first items.
 pub cons-head : {X : Type 0} {x y : X} {xs ys : List X} → x ∷ xs ≡ y ∷ ys → x ≡ y
 cons-head e = cc
 
+-- Equal lists have equal items after the first.
 pub cons-tail : {X : Type 0} {x y : X} {xs ys : List X} → x ∷ xs ≡ y ∷ ys → xs ≡ ys
 cons-tail e = ap (drop 1) e
 
+-- A list with an item is not empty.
 pub cons-not-nil : {X : Type 0} {x : X} {xs : List X} → x ∷ xs ≡ [] → ⊥
 cons-not-nil e = let n = ap length e in omega (arith, n)
 
+-- A list of the length 1 consists of one item.
 pub single : {X : Type 0} (xs : List X) → length xs ≡ 1 → (x : X) × (xs ≡ x ∷ [])
 single [] e = absurd (omega (arith, e))
 single (x ∷ []) e = (x, refl)
 single (x ∷ y ∷ xs) e = absurd (omega (arith, e))
 
+-- A list whose length is not above 0 is empty.
 pub none-left : {X : Type 0} (xs : List X) → (0 < length xs → ⊥) → xs ≡ []
 none-left [] none = refl
 none-left (x ∷ xs) none = absurd (none (omega arith))
 
+-- If two joined lists are equal, and their first parts are equally long, both parts are equal.
 pub same-parts : {X : Type 0} (a b c d : List X) → length a ≡ length c → a ++ b ≡ c ++ d → (a ≡ c)
     × (b ≡ d)
 same-parts a b c d n e = (
@@ -64,36 +73,43 @@ moves_of_retain-few (true ∷ stays) = let few = moves_of_retain-few stays in om
 moves_of_retain-few (false ∷ stays) = omega arith
 
 module _ {T : Type 0} where
+  -- The kept items of `a ++ b` are the kept items of `a`, and then the kept items of `b`.
   pub items_where-append : (a b : TestResults T)
       → items_where true (a ++ b) ≡ items_where true a ++ items_where true b
   items_where-append [] b = refl
   items_where-append ((true, x) ∷ a) b = ap (λ (l : List T). x ∷ l) (items_where-append a b)
   items_where-append ((false, x) ∷ a) b = items_where-append a b
 
+  -- The removed items of `a ++ b` are the removed items of `a`, and then the removed items of `b`.
   pub gone-append : (a b : TestResults T)
       → items_where false (a ++ b) ≡ items_where false a ++ items_where false b
   gone-append [] b = refl
   gone-append ((true, x) ∷ a) b = gone-append a b
   gone-append ((false, x) ∷ a) b = ap (λ (l : List T). x ∷ l) (gone-append a b)
 
+  -- If each item is kept, none is removed.
   pub gone-stay : (xs : List T) → items_where false (all_kept xs) ≡ []
   gone-stay [] = refl
   gone-stay (x ∷ xs) = gone-stay xs
 
+  -- The number of the kept items of `a ++ b` is the sum of both numbers.
   pub count_true-append : (a b : TestResults T) → count_true (flags_of (a ++ b)) ≡ count_true
       (flags_of a) + count_true (flags_of b)
   count_true-append [] b = omega arith
   count_true-append ((true, x) ∷ a) b = let e = count_true-append a b in omega arith
   count_true-append ((false, x) ∷ a) b = count_true-append a b
 
+  -- If each item is kept, the kept items are all items.
   pub items_where-stay : (xs : List T) → items_where true (all_kept xs) ≡ xs
   items_where-stay [] = refl
   items_where-stay (x ∷ xs) = ap (λ (l : List T). x ∷ l) (items_where-stay xs)
 
+  -- If each item is kept, their number is the length of the list.
   pub count_true-stay : (xs : List T) → count_true (flags_of (all_kept xs)) ≡ length xs
   count_true-stay [] = refl
   count_true-stay (x ∷ xs) = ap suc (count_true-stay xs)
 
+  -- Items that are kept before the first removed one are not moved.
   pub moves_of_retain-stay : (xs : List T) (a : TestResults T)
       → moves_of_retain (flags_of (all_kept xs ++ a))
       ≡ moves_of_retain (flags_of a)
@@ -157,12 +173,15 @@ module _ {S T : Type 0} (R : S → T → Bool → S → T → Type 0) where
     kept-first h.0 h.1 h.3,
   )
 
+  -- If tests in turn had the results `a`, and the list `w` has the kept items and the cost that
+  -- follow from `a`, then `IsRetainedMut` holds.
   pub retained-results : {A : Type 0} (s t : S) (v w : ListView T A) (a : TestResults T)
       → TestsInTurn R s v.items a t → w.items ≡ items_where true a
       → w.cost ≡ add_moves (moves_of_retain (flags_of a)) v.cost → IsRetainedMut R s v w
   retained-results s t v w a asked items cost =
       record { flags = flags_of a; calls = rw items (keeps-results v.items s t a asked); cost = cost }
 
+  -- `IsRetainedMut` implies std's `RetainsInTurn`.
   pub retained-in-turn : {A : Type 0} (s : S) (v w : ListView T A) → IsRetainedMut R s v w
       → RetainsInTurn R s v.items w.items
   retained-in-turn s v w h = in-turn v.items s h.flags w.items h.calls
@@ -187,6 +206,7 @@ module _ {S T : Type 0} (R : S → T → Bool → S → T → Type 0) where
       one true flags ys more = (ap suc more.0, omega (arith, more.1))
       one false flags ys more = (more.0, omega (arith, more.1))
 
+  -- `retain_mut` leaves no more items than there were.
   pub few-retained : {A : Type 0} (s : S) (v w : ListView T A) → IsRetainedMut R s v w
       → length w.items ≤ length v.items
   few-retained s v w h = (kept-count v.items s h.flags w.items h.calls).1
@@ -215,6 +235,7 @@ module _ {J S T : Type 0} (R : S → T → Bool → S → T → Type 0) (inside 
   keeps-through (x ∷ xs) s flags ys h =
       (h.0, inside h.1, h.2, h.3, h.4, h.5, keeps-through xs h.1 h.4 h.5 h.6, h.7, h.8)
 
+  -- What holds of the calls to the wrapper holds of the calls to the closure inside it.
   pub retained-through : {A : Type 0} (s : J) (v w : ListView T A)
       → IsRetainedMut (λ s x b t y. R (inside s) x b (inside t) y) s v w
       → IsRetainedMut R (inside s) v w
@@ -248,6 +269,8 @@ module _ {J S T : Type 0} (R : S → T → Bool → S → Type 0) (inside : J �
       first true y e zs f = λ i. e i ∷ f i
       first false y e zs f = f
 
+  -- If the closure only reads the item, `IsRetainedMut` of the wrapper implies `IsRetained` of the
+  -- closure.
   pub retained-reads : {A : Type 0} (s : J) (v w : ListView T A) → IsRetainedMut reads s v w
       → IsRetained R (inside s) v w
   retained-reads s v w h =
@@ -262,10 +285,13 @@ module _ {J S T : Type 0} (R : S → T → Bool → S → Type 0) (inside : J �
       }
 
 module _ {S T : Type 0} (R : S → T → Bool → S → Type 0) where
+  -- `IsRetained` implies std's `IsFiltered`.
   pub retained_filtered : {A : Type 0} (s : S) (v w : ListView T A) → IsRetained R s v w
       → IsFiltered R s v.items w.items
   retained_filtered s v w h = (h.flags, h.last, h.count, h.calls, h.items)
 
+  -- If each call of the closure returns `test` of the item, and leaves the state of the closure
+  -- unchanged, `retain` keeps what `filter test` keeps.
   pub retained_filter : {A : Type 0} (test : T → Bool) {s : S} {v w : ListView T A}
       → ((x : T) (b : Bool) (t : S) → R s x b t → (b ≡ test x) × (t ≡ s))
       → IsRetained R s v w → w.items ≡ filter test v.items

@@ -24,7 +24,7 @@ module _ {T A : Type 0} where
   -- `IsOpenViewOf h v` holds if the value `v` describes the open block `h`. The slots of `h` hold
   -- the items of the front, the middle run and the tail of `v`, and all other slots are empty.
   pub record IsOpenViewOf (h : Inside T A) (v : OpenView T A) : Type 0 where
-    pub row : h.block.slots ≡ slots_of v
+    pub slots : h.block.slots ≡ slots_of v
     pub front : length v.front ≡ h.front_end
     pub gap_before : h.front_end + v.gap_before ≡ h.middle_start
     pub middle : h.middle_start + length v.middle ≡ h.middle_end

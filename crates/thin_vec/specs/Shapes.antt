@@ -6,7 +6,7 @@ use native.Mathlib.Omega.{arith}
 use Rattle.std.specs.Option.{is_some}
 use Rattle.thin_block.specs.Slots.{empty_slots, filled_slots, items_in}
 
--- `shape n m` describes a row of `n` filled slots, followed by `m` empty slots: `n` times `true`,
+-- `shape n m` describes a list of `n` filled slots, followed by `m` empty slots: `n` times `true`,
 -- and then `m` times `false`.
 abbrev pub shape : ℕ → ℕ → List Bool
 shape n m = replicate n true ++ replicate m false

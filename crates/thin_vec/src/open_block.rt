@@ -114,7 +114,7 @@ impl<T, A: Allocator, G: Growth> ThinVec<T, A, G> {
         } }
         ensures room { length self.new.items ≤ self.new.capacity }
     {
-        let none = mem::replace(&mut self.block, block.close_gap());
+        let none = mem::replace(&mut self.block, block.into_packed());
         none.release(&self.alloc);
     }
 }
@@ -260,7 +260,7 @@ impl<T, A: Allocator> OpenBlock<T, A> {
 
     // Moves the items after `gap_before` down to the end of the front, and stores the length.
     #[inline(always)]
-    fn close_gap(self) -> Block<T, A>
+    fn into_packed(self) -> Block<T, A>
         requires gap_after { self.gap_after ≡ 0 }
         ensures slots { result.slots ≡ packed_slots (items_of self) self.capacity }
         ensures len { result.len ≡ length (items_of self) }

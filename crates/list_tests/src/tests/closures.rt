@@ -94,10 +94,7 @@ fn the_closure_of_a_sort_counts_its_calls_in_a_variable(rt: HostRuntime) {
 }
 
 // Extracts the first item that `pick` chooses.
-fn extract_first<F: FnMut(&mut i32) -> bool + Drop>(
-    list: &mut ThinVec<i32>,
-    pick: F,
-) -> Option<i32>
+fn extract_first<F: FnMut(&mut i32) -> bool + Drop>(list: &mut ThinVec<i32>, pick: F) -> Option<i32>
     requires pre { (f : _) (x : _) → F.pre f x }
 {
     let mut picked = list.extract_if(0, list.len(), pick);

@@ -81,11 +81,7 @@ type Item = Counted<'static>;
 const CALLS: [u32; 2] = [11, 8];
 
 // Ends the list by a call that makes at most something of its items.
-fn end<T: Numbered, A: Allocator>(
-    call: u32,
-    mut list: ThinVec<T, A>,
-    alloc: A,
-) -> io::Result<()>
+fn end<T: Numbered, A: Allocator>(call: u32, mut list: ThinVec<T, A>, alloc: A) -> io::Result<()>
     requires small { 3 * type_size T.row < 2 ^ 63 }
 {
     let len = list.len();

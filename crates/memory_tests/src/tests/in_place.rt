@@ -126,12 +126,12 @@ fn a_block_of_large_items_is_padded_from_32_slots_on(rt: HostRuntime) {
 // Pushes 3000 items onto a list. Each time that the list is full, another list is allocated, in
 // most cases directly after it, so that it cannot grow in place.
 fn assert_moves<T: Numbered>(rt: &impl Abort, ledger: &'static Ledger, alloc: Global) {
-    let mut neighbours = ThinVec::<ThinVec<u8>>::new(alloc);
+    let mut neighbors = ThinVec::<ThinVec<u8>>::new(alloc);
     let mut list = ThinVec::<T>::new(alloc);
     for index in 0..3000 {
         if list.len() == list.capacity() {
-            let neighbour = check!(rt; ThinVec::with_capacity(alloc, 40));
-            check!(rt; neighbours.push(neighbour));
+            let neighbor = check!(rt; ThinVec::with_capacity(alloc, 40));
+            check!(rt; neighbors.push(neighbor));
         }
         check!(rt; list.push(T::numbered(ledger, index)));
     }

@@ -13,7 +13,7 @@ use Rattle.std.specs.declared.option.Option.TheVariants.{Some, None}
 use Rattle.thin_block.specs.Capacity.{Fits, has_padding, items_offset, least_power}
 use Rattle.thin_block.specs.Growth.{FillsPowerOfTwo, checked_capacity, power_bytes}
 use Rattle.thin_block.specs.PowerLaws.{least_power_is, powers_filled, powers_of_some}
-use Rattle.thin_block.proofs.CapacityLemmas.{fitting_none}
+use Rattle.thin_block.proofs.CapacityLemmas.{fitting-none}
 use Rattle.thin_block.proofs.padded.PaddedLemmas.{full_unpadded, small_unpadded}
 use Rattle.thin_block.proofs.sizes.SizesLemmas.{capped_le, fits_tells, rounded}
 
@@ -87,13 +87,13 @@ module _ (R : RattleType) (c w size : ℕ) (is : size ≡ capped (type_size R))
       let takes : 0 < s = takes_some s size is some in
       let n : ℕ = (least_power (items_offset a + wanted * s) - items_offset a) / s in
       let power = (least_power_is (items_offset a + wanted * s)).1 in
-      let held : wanted ≤ n =
+      let enough : wanted ≤ n =
       le-div wanted (least_power (items_offset a + wanted * s) - items_offset a) s takes
       (omega (arith, power)) in
       let less : items * size ≤ items * s =
       mul-le-mul_left items (let low : size ≤ s = omega (arith, is, capped_le s) in low) in
       let more : items * s ≤ n * s =
-      mul-le-mul_right s (let few : items ≤ n = omega (arith, held) in few) in
+      mul-le-mul_right s (let few : items ≤ n = omega (arith, enough) in few) in
       let never : Fits R n → ⊥ = λ fit. (let room = (fits_tells R n fit).room in
       omega (arith, room, large, less, more)) in
-      sym (powers_of_some s a c w takes ∙ fitting_none R n never)
+      sym (powers_of_some s a c w takes ∙ fitting-none R n never)

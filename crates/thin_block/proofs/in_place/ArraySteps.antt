@@ -128,18 +128,18 @@ module _ (E : El) (k : ℕ) {M : Type 1} {𝓤 : Ura M} {𝓛 : Logic 𝓤} {K :
 
 module _ (E : El) (Y : Al) (φ : Sizes) {M : Type 1} {𝓤 : Ura M} (𝓛 : Logic 𝓤)
     (at_mem : Memory → SProp 𝓤) (run : Routine → Fun 𝓤) (κ κT : Lft) (q qT : Share) (p : ℕ × ℕ)
-    (a : Y.row.Denot) (b o len held wanted : ℕ) (xs : List (el_x E)) where
+    (a : Y.row.Denot) (b o len current wanted : ℕ) (xs : List (el_x E)) where
   open 𝓛 use {H}
 
   abbrev pub Resizing : Contract 𝓤
   Resizing = Resizes Y E.row φ 𝓛 at_mem run
 
   abbrev pub at_resizing : Resizing.Ghost
-  at_resizing = at_resizes Y E.row φ 𝓛 at_mem run κ κT q qT p a b o len held wanted xs
+  at_resizing = at_resizes Y E.row φ 𝓛 at_mem run κ κT q qT p a b o len current wanted xs
 
   -- `left r` states what the caller owns after the method has returned `r`.
   abbrev left : Answer.Denot → Fml
-  left = resized_if_ok (token Y a) (R E) (block_ptr b o) len held wanted xs
+  left = resized_if_ok (token Y a) (R E) (block_ptr b o) len current wanted xs
 
   module _ {K : Type 0} {Γ : List (Item 𝓤)} {En : Env 𝓤 H} {C : Calls 𝓤 H} {Λ : Loops 𝓤 H}
       {f : Callee} {os : List Operand} {d : Place} {P : After 𝓤 H} where
@@ -147,17 +147,17 @@ module _ (E : El) (Y : Al) (φ : Sizes) {M : Type 1} {𝓤 : Ura M} (𝓛 : Logi
     -- which sizes the method takes. It needs the block, the shared reference to the allocator, and
     -- two lifetime tokens, which it gives back. The rest of the proof may use the returned value.
     pub asks : K → FmC 𝓤 H 𝓛.laws C → Triple 𝓤 (C f) Resizing → κ ⊑ Y.row.lives → κT ⊑ E.row.lives
-        → φ len held wanted → len < 2 ^ 64 → held < 2 ^ 64 → wanted < 2 ^ 64
+        → φ len current wanted → len < 2 ^ 64 → current < 2 ^ 64 → wanted < 2 ^ 64
         → Opds K 𝓛 (raw (Resizing.pre at_resizing) ∷ Γ) En os (Resizing.args at_resizing)
         → ((u : Val) → Seq K 𝓛 (raw (ex 𝓤 (Flagged 𝓛 left u)) ∷ ‵ (flft κ q) ∷ ‵ (flft κT qT) ∷ Γ)
         (settles En d u P))
-        → Seq K 𝓛 (‵ (block_with_items (token Y a) (R E) (block_ptr b o) len held xs)
+        → Seq K 𝓛 (‵ (block_with_items (token Y a) (R E) (block_ptr b o) len current xs)
         ∷ ‵ (seen Y κ p a) ∷ ‵ (flft κ q) ∷ ‵ (flft κT qT) ∷ Γ) (runs C Λ En (call f os d) P)
     asks t fm met leA leT sizes fl fh fw reads next =
         group t 4 $
         use1 𝓛 (raw (Resizing.pre at_resizing)) (Resizes-goes Y E.row φ 𝓛 at_mem run κ κT q qT p a b
-        o len held wanted xs leA leT sizes fl fh fw) $
+        o len current wanted xs leA leT sizes fl fh fw) $
         calls_at_last t fm Resizing met at_resizing reads (λ u.
         use1 𝓛 (later (raw (ex 𝓤 (Flagged 𝓛 left u)) ⊛ ‵ (flft κ q) ⊛ ‵ (flft κT qT)))
-        (Resizes-gives Y E.row φ 𝓛 at_mem run κ κT q qT p a b o len held wanted xs u) $
+        (Resizes-gives Y E.row φ 𝓛 at_mem run κ κT q qT p a b o len current wanted xs u) $
         await t tt $ split3 t $ next u)

@@ -38,7 +38,7 @@ module _ (E : El) (Y : Al) (k : ℕ) {M : Type 1} {𝓤 : Ura M} (𝓛 : Logic �
       (F.spec E.row Y.row (number k) Y.g Y.d Y.drops 𝓛 at_mem run)
 
   module _ (κ κT κA κK : Lft) (q qT qA qK : Share) (out : κ ⊑ κA) (p : ℕ × ℕ) (a : Y.row.Denot)
-      (b o len held wanted : ℕ) (xs : List (el_x E)) where
+      (b o len current wanted : ℕ) (xs : List (el_x E)) where
     -- `at_resizing` contains the ghost arguments of a call of `resize_array`.
     abbrev pub at_resizing : Resizing.Ghost
     at_resizing = (
@@ -46,12 +46,12 @@ module _ (E : El) (Y : Al) (k : ℕ) {M : Type 1} {𝓤 : Ura M} (𝓛 : Logic �
         (κ, (κT, (κA, (κK, tt)))),
         (q, (qT, (qA, (qK, tt)))),
         (out, tt),
-        (record { ref_ptr = p; now = a }, (block_ptr b o, (len, (held, (wanted, tt))))),
+        (record { ref_ptr = p; now = a }, (block_ptr b o, (len, (current, (wanted, tt))))),
         (
           vptr p.0 p.1 ∷ [],
           (
             vptr b o ∷ [],
-            (vint w64 len ∷ [], (vint w64 held ∷ [], (vint w64 wanted ∷ [], tt))),
+            (vint w64 len ∷ [], (vint w64 current ∷ [], (vint w64 wanted ∷ [], tt))),
           ),
         ),
       ),
@@ -59,22 +59,22 @@ module _ (E : El) (Y : Al) (k : ℕ) {M : Type 1} {𝓤 : Ura M} (𝓛 : Logic �
     )
 
     abbrev Block : Fml
-    Block = gapped_items (token Y a) (R E) (block_ptr b o) k len held xs
+    Block = gapped_items (token Y a) (R E) (block_ptr b o) k len current xs
 
     -- `leaves r` states what the caller owns after the call to `resize_array` has returned `r`.
     abbrev pub leaves : Answer.Denot → Fml
-    leaves = gapped_if_ok (token Y a) (R E) (block_ptr b o) k len held wanted xs
+    leaves = gapped_if_ok (token Y a) (R E) (block_ptr b o) k len current wanted xs
 
     pub Resizing-goes : κT ⊑ E.row.lives → κA ⊑ Y.row.lives → κK ⊑ []
-        → FitsGap (R E) k len held wanted xs → len < 2 ^ 64 → held < 2 ^ 64 → wanted < 2 ^ 64
+        → FitsGap (R E) k len current wanted xs → len < 2 ^ 64 → current < 2 ^ 64 → wanted < 2 ^ 64
         → ent 𝓤 (sep 𝓤 (sem 𝓛 Block) (sep 𝓤 (sem 𝓛 (seen Y κ p a))
         (sep 𝓤 (A.lft κ q) (sep 𝓤 (A.lft κT qT) (sep 𝓤 (A.lft κA qA) (A.lft κK qK))))))
         (Resizing.pre at_resizing)
     Resizing-goes leT leA leK fits fl fh fw =
         qed 𝓛 (‵ Block ∷ ‵ (seen Y κ p a) ∷ ‵ (flft κ q) ∷ ‵ (flft κT qT) ∷ ‵ (flft κA qA) ∷ ‵
         (flft κK qK) ∷ []) ∵
-        use0 𝓛 (raw (fact 𝓤 (FitsGap (R E) k len held wanted xs)))
-        (fact_i 𝓤 (FitsGap (R E) k len held wanted xs) (emp 𝓤) fits) $ join ! $
+        use0 𝓛 (raw (fact 𝓤 (FitsGap (R E) k len current wanted xs)))
+        (fact_i 𝓤 (FitsGap (R E) k len current wanted xs) (emp 𝓤) fits) $ join ! $
         use0 𝓛 (raw (fact 𝓤 (κK ⊑ []))) (fact_i 𝓤 (κK ⊑ []) (emp 𝓤) leK) $ join ! $
         use0 𝓛 (raw (fact 𝓤 (κA ⊑ Y.row.lives))) (fact_i 𝓤 (κA ⊑ Y.row.lives) (emp 𝓤) leA) $
         join ! $
@@ -82,8 +82,8 @@ module _ (E : El) (Y : Al) (k : ℕ) {M : Type 1} {𝓤 : Ura M} (𝓛 : Logic �
         join ! $ nothing ! $
         flt_i ! wanted (2 ^ 64) fw $
         feq_i ! (List Val) (vint w64 wanted ∷ []) (vint w64 wanted ∷ []) refl $ fjoin ! $ fjoin ! $
-        flt_i ! held (2 ^ 64) fh $
-        feq_i ! (List Val) (vint w64 held ∷ []) (vint w64 held ∷ []) refl $ fjoin ! $ fjoin ! $
+        flt_i ! current (2 ^ 64) fh $
+        feq_i ! (List Val) (vint w64 current ∷ []) (vint w64 current ∷ []) refl $ fjoin ! $ fjoin ! $
         flt_i ! len (2 ^ 64) fl $
         feq_i ! (List Val) (vint w64 len ∷ []) (vint w64 len ∷ []) refl $ fjoin ! $ fjoin ! $
         feq_i ! (List Val) (vptr b o ∷ []) (vptr b o ∷ []) refl $ fjoin ! $ move ! (2 ∷ []) $
@@ -113,8 +113,8 @@ module _ (E : El) (Y : Al) (k : ℕ) {M : Type 1} {𝓤 : Ura M} (𝓛 : Logic �
       -- Verifies a call of `resize_array`, which gives the lifetime tokens back. The rest of the
       -- proof may use the returned value.
       pub resizes : K → FmC 𝓤 H 𝓛.laws C → Triple 𝓤 (C f) Resizing → κT ⊑ E.row.lives
-          → κA ⊑ Y.row.lives → κK ⊑ [] → FitsGap (R E) k len held wanted xs → len < 2 ^ 64
-          → held < 2 ^ 64 → wanted < 2 ^ 64
+          → κA ⊑ Y.row.lives → κK ⊑ [] → FitsGap (R E) k len current wanted xs → len < 2 ^ 64
+          → current < 2 ^ 64 → wanted < 2 ^ 64
           → Opds K 𝓛 (raw (Resizing.pre at_resizing) ∷ Γ) En os (Resizing.args at_resizing)
           → ((v : Val) → Seq K 𝓛 (raw (ex 𝓤 (Flagged 𝓛 leaves v)) ∷ ‵ (flft κ q) ∷ ‵ (flft κT qT)
           ∷ ‵ (flft κA qA) ∷ ‵ (flft κK qK) ∷ Γ) (lands C Λ En d v rest P))

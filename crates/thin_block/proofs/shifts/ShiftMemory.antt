@@ -28,16 +28,16 @@ use Rattle.thin_block.specs.Slots.{AreEmpty, filled_slots, empty_slots, slot, sl
 use Rattle.thin_block.specs.Slots.{write_slots, move_slots}
 use Rattle.thin_block.proofs.SlotMemory.{Slot, sz, cut, glue, around, run_out, run_in, to_items}
 use Rattle.thin_block.proofs.SlotMemory.{of_items, to_room, of_room}
-use Rattle.thin_block.proofs.SlotsLemmas.{empty-run, parted-run, run-split, length-run, moved_left}
-use Rattle.thin_block.proofs.SlotsLemmas.{moved_right, moved_over, moved_back}
+use Rattle.thin_block.proofs.SlotsLemmas.{empty-run, parted-run, run-split, length-run, moved-left}
+use Rattle.thin_block.proofs.SlotsLemmas.{moved-right, moved-over, moved-back}
 
 pub further : (a d c s o : ℕ) → c ≡ d + a → c * s + o ≡ d * s + (a * s + o)
 further a d c s o e = let sum = add_times d a s in
     let same : c * s ≡ (d + a) * s = ap (λ (k : ℕ). k * s) e in omega arith
 
-written-over : {T : Type 0} (s new : List (Option T)) (i n : ℕ) → length new ≡ n
+written_over : {T : Type 0} (s new : List (Option T)) (i n : ℕ) → length new ≡ n
     → write_slots i new s ≡ take i s ++ (new ++ drop (i + n) s)
-written-over s new i n long = ap (λ (k : ℕ). take i s ++ (new ++ drop (i + k) s)) long
+written_over s new i n long = ap (λ (k : ℕ). take i s ++ (new ++ drop (i + k) s)) long
 
 module _ (E : El) {M : Type 1} {𝓤 : Ura M} (𝓛 : Logic 𝓤) (b o : ℕ) (slots : List (Slot E))
     (from to k : ℕ) (xs : List (el_x E)) (items : slot_range from k slots ≡ filled_slots xs)
@@ -71,11 +71,11 @@ module _ (E : El) {M : Type 1} {𝓤 : Ura M} (𝓛 : Logic 𝓤) (b o : ℕ) (s
     pub out : ent 𝓤 (sem 𝓛 (Row o slots)) (sep 𝓤 (sem 𝓛 Was) (sem 𝓛 Rest))
     pub back : ent 𝓤 (sep 𝓤 (sem 𝓛 Is) (sem 𝓛 Rest)) (sem 𝓛 (Row o (move_slots from to k slots)))
 
-  full-long : length (filled_slots xs) ≡ k
-  full-long = length-map xs Some ∙ long
+  full_long : length (filled_slots xs) ≡ k
+  full_long = length-map xs Some ∙ long
 
-  empty-long : (n : ℕ) → length (empty_slots {T = el_x E} n) ≡ n
-  empty-long n = length-replicate n None
+  empty_long : (n : ℕ) → length (empty_slots {T = el_x E} n) ≡ n
+  empty_long n = length-replicate n None
 
   -- Proves `Moves Was Is` from the slots `i..i + n` alone, which the move turns from `old` into
   -- `new`. `Kept` is the part of their memory that the move leaves alone.
@@ -90,7 +90,7 @@ module _ (E : El) {M : Type 1} {𝓤 : Ura M} (𝓛 : Logic 𝓤) (b o : ℕ) (s
       let whole : slots ≡ take i slots ++ (old ++ drop (i + n) slots) = parted-run slots i n
       ∙ ap (λ (l : S). take i slots ++ (l ++ drop (i + n) slots)) is in
       let result : write_slots i new slots ≡ move_slots from to k slots =
-      written-over slots new i n count
+      written_over slots new i n count
       ∙ (sym goes ∙ ap (λ (l : S). move_slots from to k l) (sym whole)) in
       record {
         Rest = fsep Kept Others;
@@ -118,13 +118,13 @@ module _ (E : El) {M : Type 1} {𝓤 : Ura M} (𝓛 : Logic 𝓤) (b o : ℕ) (s
       ∙ (λ m. gap m ++ (ap (λ (i : ℕ). slot_range i k slots) (sym apart) ∙ items) m) in
       let at : src ≡ length (empty_slots {T = el_x E} d) * s + dst =
       further to d from s o (omega arith)
-      ∙ ap (λ (m : ℕ). m * s + dst) (sym (empty-long d)) in
+      ∙ ap (λ (m : ℕ). m * s + dst) (sym (empty_long d)) in
       moves_by to n (empty_slots d ++ filled_slots xs)
       (filled_slots xs ++ empty_slots d) _ _ ftrue le is
-      (omega (arith, length-append (filled_slots xs) (empty_slots d), full-long, empty-long d))
+      (omega (arith, length-append (filled_slots xs) (empty_slots d), full_long, empty_long d))
       (ap (λ (l : S). move_slots from to k (pre ++ l))
       (append_assoc (empty_slots d) (filled_slots xs) post)
-      ∙ (moved_left from to k d pre (filled_slots xs) post front apart (sym full-long)
+      ∙ (moved-left from to k d pre (filled_slots xs) post front apart (sym full_long)
       ∙ sym (ap (λ (l : S). pre ++ l) (append_assoc (filled_slots xs) (empty_slots d) post))))
       (qed 𝓛 (‵ (Row dst (empty_slots d ++ filled_slots xs)) ∷ []) ∵
       use1 𝓛 (‵ (Row dst (empty_slots d)) ⊛ ‵ (Row src (filled_slots xs)))
@@ -138,7 +138,7 @@ module _ (E : El) {M : Type 1} {𝓤 : Ura M} (𝓛 : Logic 𝓤) (b o : ℕ) (s
       use1 𝓛 (‵ (Row (k * s + dst) (empty_slots d))) (of_room E 𝓛 b d (k * s + dst)) $
       move ! (1 ∷ 0 ∷ []) $
       by ! (glue E 𝓛 b (filled_slots xs) (empty_slots d) dst (k * s + dst)
-      (ap (λ (m : ℕ). m * s + dst) (sym full-long))))
+      (ap (λ (m : ℕ). m * s + dst) (sym full_long))))
 
   -- The items move up into the `d` empty slots directly after them.
   pub slides_up : (d : ℕ) → to ≡ from + d → to + k ≤ length slots
@@ -155,18 +155,18 @@ module _ (E : El) {M : Type 1} {𝓤 : Ura M} (𝓛 : Logic 𝓤) (b o : ℕ) (s
       ∙ (λ m. items m ++ gap m) in
       let at : dst ≡ length (empty_slots {T = el_x E} d) * s + src =
       further from d to s o (omega arith)
-      ∙ ap (λ (m : ℕ). m * s + src) (sym (empty-long d)) in
+      ∙ ap (λ (m : ℕ). m * s + src) (sym (empty_long d)) in
       moves_by from n (filled_slots xs ++ empty_slots d)
       (empty_slots d ++ filled_slots xs) _ _ ftrue le is
-      (omega (arith, length-append (empty_slots d) (filled_slots xs), full-long, empty-long d))
+      (omega (arith, length-append (empty_slots d) (filled_slots xs), full_long, empty_long d))
       (ap (λ (l : S). move_slots from to k (pre ++ l))
       (append_assoc (filled_slots xs) (empty_slots d) post)
-      ∙ (moved_right from to k d pre (filled_slots xs) post front apart (sym full-long)
+      ∙ (moved-right from to k d pre (filled_slots xs) post front apart (sym full_long)
       ∙ sym (ap (λ (l : S). pre ++ l) (append_assoc (empty_slots d) (filled_slots xs) post))))
       (qed 𝓛 (‵ (Row src (filled_slots xs ++ empty_slots d)) ∷ []) ∵
       use1 𝓛 (‵ (Row src (filled_slots xs)) ⊛ ‵ (Row (k * s + src) (empty_slots d)))
       (cut E 𝓛 b (filled_slots xs) (empty_slots d) src (k * s + src)
-      (ap (λ (m : ℕ). m * s + src) (sym full-long))) $ split ! $
+      (ap (λ (m : ℕ). m * s + src) (sym full_long))) $ split ! $
       use1 𝓛 (‵ (Items src)) (to_items E 𝓛 b k xs src long) $ move ! (1 ∷ []) $
       use1 𝓛 (‵ (Room d (k * s + src))) (to_room E 𝓛 b d (k * s + src)) $ move ! (1 ∷ 0 ∷ []) $
       fjoin ! $ nothing ! $ move ! (1 ∷ 0 ∷ []) $ done !)
@@ -240,24 +240,24 @@ module _ (E : El) {M : Type 1} {𝓤 : Ura M} (𝓛 : Logic 𝓤) (b o : ℕ) (s
         arith,
         length-append (empty_slots k) (mid ++ filled_slots xs),
         length-append mid (filled_slots xs),
-        full-long,
-        empty-long k,
+        full_long,
+        empty_long k,
         count,
       ))
       (ap (λ (l : S). move_slots from to k (pre ++ l))
       (flat (filled_slots xs) mid (empty_slots k) post)
-      ∙ (moved_over from to k pre (filled_slots xs) mid post front target (sym full-long)
+      ∙ (moved-over from to k pre (filled_slots xs) mid post front target (sym full_long)
       ∙ sym (ap (λ (l : S). pre ++ l) (flat (empty_slots k) mid (filled_slots xs) post))))
       (qed 𝓛 (‵ (Row src (filled_slots xs ++ (mid ++ empty_slots k))) ∷ []) ∵
       use1 𝓛 (‵ (Row src (filled_slots xs)) ⊛ ‵ (Row dst (empty_slots k)) ⊛
       ‵ (Row (k * s + src) mid))
-      (cut3 (filled_slots xs) mid (empty_slots k) src dst full-long at) $ split3 ! $
+      (cut3 (filled_slots xs) mid (empty_slots k) src dst full_long at) $ split3 ! $
       use1 𝓛 (‵ (Items src)) (to_items E 𝓛 b k xs src long) $ move ! (1 ∷ []) $
       use1 𝓛 (‵ (Room k dst)) (to_room E 𝓛 b k dst) $ move ! (1 ∷ 0 ∷ []) $ fjoin ! $ done !)
       (qed 𝓛 (‵ Is ∷ ‵ (Row (k * s + src) mid) ∷ []) ∵ fsplit ! $
       use1 𝓛 (‵ (Row dst (filled_slots xs))) (of_items E 𝓛 b k xs dst) $ move ! (1 ∷ []) $
       use1 𝓛 (‵ (Row src (empty_slots k))) (of_room E 𝓛 b k src) $
-      by ! (glue3 (empty_slots k) mid (filled_slots xs) src dst (empty-long k) at))
+      by ! (glue3 (empty_slots k) mid (filled_slots xs) src dst (empty_long k) at))
 
   -- The items move down, past `m` slots, into empty slots.
   goes_back : (m : ℕ) → from ≡ to + k + m → from + k ≤ length slots
@@ -283,24 +283,24 @@ module _ (E : El) {M : Type 1} {𝓤 : Ura M} (𝓛 : Logic 𝓤) (b o : ℕ) (s
         arith,
         length-append (filled_slots xs) (mid ++ empty_slots k),
         length-append mid (empty_slots k),
-        full-long,
-        empty-long k,
+        full_long,
+        empty_long k,
         count,
       ))
       (ap (λ (l : S). move_slots from to k (pre ++ l))
       (flat (empty_slots k) mid (filled_slots xs) post)
-      ∙ (moved_back from to k pre (filled_slots xs) mid post front source (sym full-long)
+      ∙ (moved-back from to k pre (filled_slots xs) mid post front source (sym full_long)
       ∙ sym (ap (λ (l : S). pre ++ l) (flat (filled_slots xs) mid (empty_slots k) post))))
       (qed 𝓛 (‵ (Row dst (empty_slots k ++ (mid ++ filled_slots xs))) ∷ []) ∵
       use1 𝓛 (‵ (Row dst (empty_slots k)) ⊛ ‵ (Row src (filled_slots xs)) ⊛
       ‵ (Row (k * s + dst) mid))
-      (cut3 (empty_slots k) mid (filled_slots xs) dst src (empty-long k) at) $ split3 ! $
+      (cut3 (empty_slots k) mid (filled_slots xs) dst src (empty_long k) at) $ split3 ! $
       use1 𝓛 (‵ (Room k dst)) (to_room E 𝓛 b k dst) $ move ! (1 ∷ []) $
       use1 𝓛 (‵ (Items src)) (to_items E 𝓛 b k xs src long) $ fjoin ! $ done !)
       (qed 𝓛 (‵ Is ∷ ‵ (Row (k * s + dst) mid) ∷ []) ∵ fsplit ! $ move ! (1 ∷ []) $
       use1 𝓛 (‵ (Row src (empty_slots k))) (of_room E 𝓛 b k src) $ move ! (1 ∷ []) $
       use1 𝓛 (‵ (Row dst (filled_slots xs))) (of_items E 𝓛 b k xs dst) $
-      by ! (glue3 (filled_slots xs) mid (empty_slots k) dst src full-long at))
+      by ! (glue3 (filled_slots xs) mid (empty_slots k) dst src full_long at))
 
   -- `Bare` states that each slot to which an item is moved is empty, or is one of the slots from
   -- which the items are moved.

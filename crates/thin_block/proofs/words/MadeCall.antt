@@ -31,7 +31,7 @@ use Rattle.core.proofs.mem.Param.{R}
 use Rattle.std.specs.Mem.{type_size}
 use Rattle.thin_block.specs.Ownership.{slots_own}
 use Rattle.thin_block.specs.Slots.{filled_slots}
-use Rattle.thin_block.specs.Words.{runs_at, word}
+use Rattle.thin_block.specs.Words.{chunks_at, word}
 use Rattle.thin_block.specs.contracts.words.make_words as F
 use Rattle.thin_block.proofs.words.WordsMemory.{word_el, number_of_items}
 
@@ -59,8 +59,8 @@ module _ (T : RattleType) (L : Laws T) (m : ℕ) {M : Type 1} {𝓤 : Ura M} (�
       xss,
     )
 
-    abbrev Runs : Fml
-    Runs = runs_at (param 0 T) (number_of_items m) xss b o
+    abbrev Chunks : Fml
+    Chunks = chunks_at (param 0 T) (number_of_items m) xss b o
 
     abbrev Words : Fml
     Words = slots_own Word (filled_slots (map (word (param 0 T) (number_of_items m)) xss)) b o
@@ -68,12 +68,12 @@ module _ (T : RattleType) (L : Laws T) (m : ℕ) {M : Type 1} {𝓤 : Ura M} (�
     pub Making-goes : κ ⊑ T.lives → κ' ⊑ [] → length xss ≡ count
         → type_size Word ≡ m * type_size (param 0 T)
         → count * (m * type_size (param 0 T)) < 2 ^ 64 → count < 2 ^ 64
-        → ent 𝓤 (sep 𝓤 (sem 𝓛 Runs) (sep 𝓤 (A.lft κ q) (A.lft κ' q'))) (Making.pre at_making)
+        → ent 𝓤 (sep 𝓤 (sem 𝓛 Chunks) (sep 𝓤 (A.lft κ q) (A.lft κ' q'))) (Making.pre at_making)
     Making-goes leT leM counted dense short fits =
         let Counted : Type 0 = length xss ≡ count in
         let Dense : Type 0 = type_size Word ≡ m * type_size (param 0 T) in
         let Short : Type 0 = count * (m * type_size (param 0 T)) < 2 ^ 64 in
-        qed 𝓛 (‵ Runs ∷ ‵ (flft κ q) ∷ ‵ (flft κ' q') ∷ []) ∵
+        qed 𝓛 (‵ Chunks ∷ ‵ (flft κ q) ∷ ‵ (flft κ' q') ∷ []) ∵
         use0 𝓛 (raw (fact 𝓤 Short)) (fact_i 𝓤 Short (emp 𝓤) short) $ join ! $
         use0 𝓛 (raw (fact 𝓤 Dense)) (fact_i 𝓤 Dense (emp 𝓤) dense) $ join ! $
         use0 𝓛 (raw (fact 𝓤 Counted)) (fact_i 𝓤 Counted (emp 𝓤) counted) $ join ! $
@@ -104,7 +104,7 @@ module _ (T : RattleType) (L : Laws T) (m : ℕ) {M : Type 1} {𝓤 : Ura M} (�
           → count * (m * type_size (param 0 T)) < 2 ^ 64 → count < 2 ^ 64
           → Opds K 𝓛 (raw (Making.pre at_making) ∷ Γ) En os (Making.args at_making)
           → Step K 𝓛 (‵ Words ∷ ‵ (flft κ q) ∷ ‵ (flft κ' q') ∷ Γ) (lands C Λ En d vunit rest P)
-          (‵ Runs ∷ ‵ (flft κ q) ∷ ‵ (flft κ' q') ∷ Γ) (runs C Λ En (seq (call f os d) rest) P)
+          (‵ Chunks ∷ ‵ (flft κ q) ∷ ‵ (flft κ' q') ∷ Γ) (runs C Λ En (seq (call f os d) rest) P)
       makes t fm met leT leM counted dense short fits reads = step (λ s.
           group t 3 $
           use1 𝓛 (raw (Making.pre at_making)) (Making-goes leT leM counted dense short fits) $

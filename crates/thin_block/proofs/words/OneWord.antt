@@ -31,20 +31,20 @@ abbrev Fits : Ty → Val → Type 0
 Fits τ v = Holds (has_ty τ v) × WT v
 
 module _ (E : El) (m : ℕ) where
-  -- `run_row` is the type of the array of the items of one word.
-  abbrev pub run_row : RattleType
-  run_row = ArrayAt (R E) (number_of_items m)
+  -- `chunk_type` is the type of the array of the items of one word.
+  abbrev pub chunk_type : RattleType
+  chunk_type = ArrayAt (R E) (number_of_items m)
 
   pub word_fits : (v : Val) → Fits (ty_array (layout E.row) m) v
       → Fits (layout (word_row E.row m)) (word_val v)
   word_fits v fits = (both (has_ty (ty_array (layout E.row) m) v) _ fits.0 tt, (fits.1, (tt, tt)))
 
   pub word_made : {M : Type 1} {𝓤 : Ura M} (𝓛 : Logic 𝓤) (xs : List (el_x E)) (v : Val)
-      → ent 𝓤 (sem 𝓛 (run_row.own_val xs (v ∷ [])))
+      → ent 𝓤 (sem 𝓛 (chunk_type.own_val xs (v ∷ [])))
       (sem 𝓛 ((word_row E.row m).own_val (word (R E) (number_of_items m) xs) (word_val v ∷ [])))
   word_made 𝓛 xs v =
       let fields = (shape (the_type (R E) (number_of_items m))).fields in
-      qed 𝓛 (‵ (run_row.own_val xs (v ∷ [])) ∷ []) ∵ nothing ! $
+      qed 𝓛 (‵ (chunk_type.own_val xs (v ∷ [])) ∷ []) ∵ nothing ! $
       owned ! (Array u64 0) (Is (Array u64 0)) (Array-Makes 𝓛 u64 (uint_Makes 𝓛 w64) 0) []
       (vstruct vnil ∷ []) ([], ((refl, refl), tt)) $ fjoin ! $ move ! (1 ∷ 0 ∷ []) $ fjoin ! $
       by ! (makes 𝓛 fields (owns fields (xs, ([], tt))) (v ∷ [], (vstruct vnil ∷ [], tt)))

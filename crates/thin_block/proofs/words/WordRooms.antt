@@ -18,12 +18,12 @@ use Rattle.thin_block.specs.Ownership.{word_of, word_wand, word_wands, header_ro
 use Rattle.thin_block.proofs.padded.PaddedLemmas.{InEights}
 use Rattle.thin_block.proofs.words.WordsLemmas.{InWords}
 
-past-place : (τ : Ty) (n o : ℕ) → past τ n o ≡ place (size τ) o n
-past-place τ zero o = refl
-past-place τ (suc n) o = past-place τ n (o + size τ)
+past_place : (τ : Ty) (n o : ℕ) → past τ n o ≡ place (size τ) o n
+past_place τ zero o = refl
+past_place τ (suc n) o = past_place τ n (o + size τ)
 
 pub past_is : (τ : Ty) (n o : ℕ) → past τ n o ≡ o + n * size τ
-past_is τ n o = past-place τ n o ∙ (place_is (size τ) o n ∙ add_comm (n * size τ) o)
+past_is τ n o = past_place τ n o ∙ (place_is (size τ) o n ∙ add_comm (n * size τ) o)
 
 -- `half` is the type of one half of the header. Both the capacity and the length have this type.
 abbrev pub half : Ty
@@ -90,8 +90,8 @@ module _ {M : Type 1} {𝓤 : Ura M} (𝓛 : Logic 𝓤) (τ : Ty) (m k b : ℕ)
   abbrev u : ℕ
   u = size ω
 
-  abbrev run : Ty
-  run = ty_array τ m
+  abbrev chunk : Ty
+  chunk = ty_array τ m
 
   abbrev units : Ty
   units = ty_array ω k
@@ -113,8 +113,8 @@ module _ {M : Type 1} {𝓤 : Ura M} (𝓛 : Logic 𝓤) (τ : Ty) (m k b : ℕ)
       qed 𝓛 (‵ (froom (ty_array ω (suc w)) b o) ∷ []) ∵
       use1 𝓛 (‵ (froom ω b o) ⊛ ‵ (froom (ty_array ω w) b (o + u)))
       (𝓛.laws.room_uncons ω w b o) $ split ! $
-      use1 𝓛 (‵ (froom run b o) ⊛ ‵ (word_wand τ m b o))
-      (𝓛.laws.room_as ω run b o (sym hd.size) hd.item) $
+      use1 𝓛 (‵ (froom chunk b o) ⊛ ‵ (word_wand τ m b o))
+      (𝓛.laws.room_as ω chunk b o (sym hd.size) hd.item) $
       split ! $ move ! (2 ∷ []) $
       use1 𝓛 (‵ (froom (ty_array τ (w * m)) b (o + u)) ⊛ ‵ (word_wands τ m w b (o + u)))
       (ways_out w (o + u)) $ split ! $
@@ -135,11 +135,11 @@ module _ {M : Type 1} {𝓤 : Ura M} (𝓛 : Logic 𝓤) (τ : Ty) (m k b : ℕ)
   ways_in (suc w) o =
       qed 𝓛 (‵ (froom (ty_array τ (suc w * m)) b o) ∷ ‵ (word_wands τ m (suc w) b o) ∷ []) ∵
       rewrite ! 0 (λ (n : ℕ). ‵ (froom (ty_array τ n) b o)) (sym (one_more w)) refl $
-      use1 𝓛 (‵ (froom run b o) ⊛ ‵ (froom (ty_array τ (w * m)) b (past τ m o)))
+      use1 𝓛 (‵ (froom chunk b o) ⊛ ‵ (froom (ty_array τ (w * m)) b (past τ m o)))
       (room_cut 𝓛 τ m (w * m) b o) $ split ! $ move ! (2 ∷ []) $ fsplit ! $
       -- The context is now: the right to convert the first word back; the rights for the other
       -- words; memory for the items of the first word; memory for the items of the other words.
-      move ! (2 ∷ 0 ∷ []) $ use2 𝓛 (‵ (froom ω b o)) (apply∗ 𝓤 (H.room run b o) (H.room ω b o)) $
+      move ! (2 ∷ 0 ∷ []) $ use2 𝓛 (‵ (froom ω b o)) (apply∗ 𝓤 (H.room chunk b o) (H.room ω b o)) $
       move ! (2 ∷ 1 ∷ []) $
       rewrite ! 0 (λ (n : ℕ). ‵ (froom (ty_array τ (w * m)) b n)) (after_run o) refl $
       use2 𝓛 (‵ (froom (ty_array ω w) b (o + u))) (ways_in w (o + u)) $ move ! (1 ∷ 0 ∷ []) $

@@ -39,7 +39,7 @@ use Rattle.std.proofs.lemmas.List.{map-append}
 use Rattle.std.specs.Mem.{type_size}
 use Rattle.thin_block.specs.Ownership.{slots_own, word_of, word_wand, word_wands, slots_wand}
 use Rattle.thin_block.specs.Slots.{filled_slots, empty_slots}
-use Rattle.thin_block.specs.Words.{word, runs_at}
+use Rattle.thin_block.specs.Words.{word, chunks_at}
 use Rattle.thin_block.specs.contracts.words.Word.{the_row, the_type}
 use Rattle.thin_block.proofs.HeaderMemory.{alignment}
 use Rattle.thin_block.proofs.SlotMemory.{cut, glue, to_items, of_items, to_raw, of_raw}
@@ -209,7 +209,7 @@ module _ {M : Type 1} {𝓤 : Ura M} (𝓛 : Logic 𝓤) (T : RattleType) (L : L
   to_runs : (n w j : ℕ) (xs : List X) (o at : ℕ) → length xs ≡ n * m → w ≡ j + n → at ≡ n * u' + o
       → ent 𝓤 (sep 𝓤 (sem 𝓛 (slots_own (R E) (filled_slots xs) b o))
       (sem 𝓛 (word_wands τ' m w b o)))
-      (sep 𝓤 (sem 𝓛 (runs_at (R E) N (chunks n xs) b o)) (sem 𝓛 (word_wands τ' m j b at)))
+      (sep 𝓤 (sem 𝓛 (chunks_at (R E) N (chunks n xs) b o)) (sem 𝓛 (word_wands τ' m j b at)))
   to_runs zero w j [] o at long ew ea =
       qed 𝓛 (‵ ftrue ∷ ‵ (word_wands τ' m w b o) ∷ []) ∵
       rewrite ! 1 (λ (n : ℕ). ‵ (word_wands τ' m n b o)) {x = j} (omega (arith, ew)) refl $
@@ -233,7 +233,7 @@ module _ {M : Type 1} {𝓤 : Ura M} (𝓛 : Logic 𝓤) (T : RattleType) (L : L
       -- The context is now: the right to convert the first word; the rights for all later words;
       -- the items of the first word; the slots with the items of the other words.
       move ! (2 ∷ 0 ∷ []) $ fjoin ! $ move ! (2 ∷ 1 ∷ []) $
-      use2 𝓛 (‵ (runs_at (R E) N (chunks n (rest m xs)) b far) ⊛ ‵ (word_wands τ' m j b at))
+      use2 𝓛 (‵ (chunks_at (R E) N (chunks n (rest m xs)) b far) ⊛ ‵ (word_wands τ' m j b at))
       (to_runs n (j + n) j (rest m xs) far at (rest_long n xs o long) refl
       (omega (arith, ea, suc-mul n u'))) $ split ! $ move ! (2 ∷ 0 ∷ []) $ fjoin ! $ done !
 
@@ -353,7 +353,7 @@ module _ {M : Type 1} {𝓤 : Ura M} (𝓛 : Logic 𝓤) (T : RattleType) (L : L
     -- Groups the filled slots by word, and converts the empty slots into empty words.
     pub words_in : ent 𝓤 (sep 𝓤 (sem 𝓛 (slots_own (R E) (filled_slots xs ++ empty_slots j) b o))
         (sem 𝓛 (slots_wand τ' m w c b o)))
-        (sep 𝓤 (sem 𝓛 (runs_at (R E) N (chunks n xs) b o))
+        (sep 𝓤 (sem 𝓛 (chunks_at (R E) N (chunks n xs) b o))
         (sem 𝓛 (slots_own (R W) (empty_slots v) b after)))
     words_in =
         qed 𝓛 (‵ (slots_own (R E) (filled_slots xs ++ empty_slots j) b o)
@@ -366,7 +366,7 @@ module _ {M : Type 1} {𝓤 : Ura M} (𝓛 : Logic 𝓤) (T : RattleType) (L : L
         -- for the word (`word_wands`); the unused memory after the last slot; the filled slots; the
         -- empty slots.
         move ! (2 ∷ 0 ∷ []) $
-        use2 𝓛 (‵ (runs_at (R E) N (chunks n xs) b o) ⊛ ‵ (word_wands τ' m v b after))
+        use2 𝓛 (‵ (chunks_at (R E) N (chunks n xs) b o) ⊛ ‵ (word_wands τ' m v b after))
         (to_runs n w v xs o after long total at_after) $ split ! $ move ! (3 ∷ 1 ∷ 2 ∷ []) $
         use3 𝓛 (‵ (slots_own (R W) (empty_slots v) b after))
         (spare_words j v pad' after (o + c * size τ') whole end) $ move ! (1 ∷ 0 ∷ []) $ done !

@@ -19,7 +19,7 @@ use Rattle.thin_vec.specs.Lends.{with_items}
 use Rattle.thin_vec.specs.ThinVec.{list_view}
 use Rattle.thin_vec.proofs.LendsLemmas.{over-front}
 use Rattle.thin_vec.proofs.OpenBlockLemmas.{empty-more}
-use Rattle.thin_vec.proofs.ListLemmas.{from-same, full-same, get-some, items-empty, items-full, length-empty, length-full, slot-get}
+use Rattle.thin_vec.proofs.ListBlockLemmas.{from-same, full-same, get-some, items-empty, items-full, length-empty, length-full, slot-get}
 
 module _ {T : Type 0} where
   items-after : (k : ℕ) (s : List (Option T)) → items_in (empty_slots k ++ s) ≡ items_in s
@@ -34,10 +34,10 @@ module _ {T : Type 0} where
       (length-empty T start)
       ∙ simp (append_assoc, empty-more)
 
-  row-last : (start k : ℕ) (xs : List T) (x : T)
+  slots-last : (start k : ℕ) (xs : List T) (x : T)
       → empty_slots start ++ (filled_slots (xs ++ x ∷ []) ++ empty_slots k)
       ≡ (empty_slots start ++ filled_slots xs) ++ (Some x ∷ empty_slots k)
-  row-last start k xs x =
+  slots-last start k xs x =
       simp (append_assoc, map_push)
 
   before-last : (start : ℕ) (xs : List T)
@@ -54,7 +54,7 @@ module _ {T : Type 0} where
       → slot (empty_slots start ++ (filled_slots (xs ++ x ∷ []) ++ empty_slots k))
       (start + length xs) ≡ Some x
   slot-last start k xs x = ap (λ (s : List (Option T)). slot s (start + length xs))
-      (row-last start k xs x)
+      (slots-last start k xs x)
       ∙ get_or_at (empty_slots start ++ filled_slots xs) (Some x) (empty_slots k) None
       (start + length xs) (before-last start xs)
 
@@ -63,7 +63,7 @@ module _ {T : Type 0} where
       (start + length xs) None ≡ empty_slots start
       ++ (filled_slots xs ++ empty_slots (k + 1))
   set-last start k xs x =
-      ap (λ (s : List (Option T)). set s (start + length xs) None) (row-last start k xs x)
+      ap (λ (s : List (Option T)). set s (start + length xs) None) (slots-last start k xs x)
       ∙ (set_at (empty_slots start ++ filled_slots xs) (Some x) (empty_slots k) None
       (start + length xs) (before-last start xs)
       ∙ (append_assoc (empty_slots start) (filled_slots xs) (None ∷ empty_slots k)
@@ -113,7 +113,7 @@ module _ {T A : Type 0} where
       ) in
       record {
         walked = record {
-          row = e ∙ (ap (λ (ys : List T). empty_slots start ++ (filled_slots ys ++ after)) (sym i)
+          slots = e ∙ (ap (λ (ys : List T). empty_slots start ++ (filled_slots ys ++ after)) (sym i)
               ∙ ap (λ (q : ℕ). empty_slots start
               ++ (filled_slots (items_in b.slots) ++ empty_slots (q - end)))
               (sym l));
@@ -131,7 +131,7 @@ module _ {T A : Type 0} where
       let after : List (Option T) = empty_slots (length b.slots - end) in
       omega (
         arith,
-        ap length t.row,
+        ap length t.slots,
         length-append (empty_slots start) (filled_slots xs ++ after),
         length-append (filled_slots xs) after,
         length-empty T start,
@@ -145,7 +145,7 @@ module _ {T A : Type 0} where
       let xs : List T = items_in b.slots in
       let after : List (Option T) = empty_slots (length b.slots - end) in
       let within : i - start < length xs = omega (arith, t.len) in
-      rw (ap (λ (s : List (Option T)). slot s i) t.row
+      rw (ap (λ (s : List (Option T)). slot s i) t.slots
       ∙ (get_or-append_right (empty_slots start) (filled_slots xs ++ after) start i None
       (length-empty T start)
       low ∙ slot-get xs after (i - start) within))
@@ -158,7 +158,7 @@ module _ {T A : Type 0} where
       let xs : List T = items_in b.slots in
       let after : List (Option T) = empty_slots (length b.slots - end) in
       let count : length (filled_slots xs) ≡ end - start = omega (arith, t.len, length-full xs) in
-      full-same ys xs (run ∙ (ap (λ (s : List (Option T)). slice_range s start end) t.row
+      full-same ys xs (run ∙ (ap (λ (s : List (Option T)). slice_range s start end) t.slots
       ∙ (ap (take (end - start))
       (drop_at (empty_slots start) (filled_slots xs ++ after) start (length-empty T start))
       ∙ take_at (filled_slots xs) after (end - start) count)))
@@ -192,8 +192,8 @@ module _ {T A : Type 0} where
         (start + 1) ++ (filled_slots (drop 1 xs) ++ empty_slots gap))
     first e =
         let h = first-of xs gap (omega (arith, t.len))
-        (ap (λ (s : List (Option T)). slot s start) (sym t.row) ∙ e) in
-        (h.0, ap (λ (s : List (Option T)). set s start None) t.row ∙ h.1)
+        (ap (λ (s : List (Option T)). slot s start) (sym t.slots) ∙ e) in
+        (h.0, ap (λ (s : List (Option T)). set s start None) t.slots ∙ h.1)
 
     pub first-item : slot b.slots start ≡ Some v → xs ≡ v ∷ drop 1 xs
     first-item e = (first e).0
@@ -216,16 +216,16 @@ module _ {T A : Type 0} where
     place : start + length most ≡ end - 1
     place = omega (arith, t.len, length-take-le (end - 1 - start) xs (omega (arith, t.len)))
 
-    row : b.slots ≡ empty_slots start
+    slots : b.slots ≡ empty_slots start
         ++ (filled_slots (most ++ get_or xs (end - 1 - start) v ∷ []) ++ empty_slots gap)
-    row = t.row ∙ ap (λ (ys : List T). empty_slots start ++ (filled_slots ys ++ empty_slots gap))
+    slots = t.slots ∙ ap (λ (ys : List T). empty_slots start ++ (filled_slots ys ++ empty_slots gap))
         whole
 
     pub last-item : slot b.slots (end - 1) ≡ Some v → xs ≡ most ++ v ∷ []
     last-item e =
         let is : Some (get_or xs (end - 1 - start) v) ≡ Some v =
         sym (slot-last start gap most (get_or xs (end - 1 - start) v))
-        ∙ (ap (slot _) place ∙ (ap (λ (s : List (Option T)). slot s (end - 1)) (sym row) ∙ e))
+        ∙ (ap (slot _) place ∙ (ap (λ (s : List (Option T)). slot s (end - 1)) (sym slots) ∙ e))
         in
         let same : get_or xs (end - 1 - start) v ≡ v = cc in
         whole ∙ ap (λ (x : T). most ++ x ∷ []) same
@@ -236,7 +236,7 @@ module _ {T A : Type 0} where
         let more : gap + 1 ≡ length b.slots - (end - 1) =
         omega (arith, walked-room b a start end t) in
         walking b' most start (end - 1)
-        (ap (λ v. v.slots) w ∙ ((λ i. set (row i) (sym place i) None)
+        (ap (λ v. v.slots) w ∙ ((λ i. set (slots i) (sym place i) None)
         ∙ (set-last start gap most _
         ∙ ap (λ (n : ℕ). empty_slots start ++ (filled_slots most ++ empty_slots n)) more)))
         place (omega (arith, walked-room b a start end t))
@@ -251,7 +251,7 @@ module _ {T A : Type 0} where
       let xs : List T = items_in b.slots in
       let gap : ℕ = length b.slots - end in
       walking b' (refill (length xs) xs ws) start end
-      (ap (λ v. v.slots) w ∙ (ap (λ (r : List (Option T)). overwrite_items r start ws) t.row
+      (ap (λ v. v.slots) w ∙ (ap (λ (r : List (Option T)). overwrite_items r start ws) t.slots
       ∙ (over-after start (filled_slots xs ++ empty_slots gap) ws
       ∙ ap (λ (r : List (Option T)). empty_slots start ++ r) (over-front xs gap ws))))
       (omega (arith, t.len, length_refill (length xs) xs ws refl)) (walked-room b a start end t)
@@ -270,21 +270,21 @@ module _ {T A : Type 0} where
       let same : start ≡ end = omega (arith, t.len) in
       let all : start + (length b.slots - end) ≡ length b.slots =
       omega (arith, walked-room b a start end t) in
-      t.row ∙ (ap (λ (ys : List T). empty_slots start
+      t.slots ∙ (ap (λ (ys : List T). empty_slots start
       ++ (filled_slots ys ++ empty_slots (length b.slots - end)))
       (nil_from_length (items_in b.slots) none)
       ∙ (replicate-append-replicate start (length b.slots - end) None
       ∙ ap (λ (n : ℕ). empty_slots n) all))
 
 module _ (T A : Type 0) where
-  pub into_iter_in_order : IntoIterYieldsInOrder T A
-  into_iter_in_order p s =
+  pub into-iter-in-order : IntoIterYieldsInOrder T A
+  into-iter-in-order p s =
       as_is p (into_iter_items p.from)
       (from_front (YieldsFirst into_iter_items) (λ x. x) into_iter_items (λ s t h. ap length h.0)
       (λ s x t h. h) p s)
 
-  pub into_iter_in_reverse : IntoIterYieldsInReverse T A
-  into_iter_in_reverse p s =
+  pub into-iter-in-reverse : IntoIterYieldsInReverse T A
+  into-iter-in-reverse p s =
       as_is_back p (into_iter_items p.from)
       (from_back (YieldsLast into_iter_items) (λ x. x) into_iter_items (λ s t h. ap length h.0)
       (λ s x t h. h) p s)

@@ -12,9 +12,9 @@ use Rattle.thin_vec.specs.declared.edits.drain.Drain.{Drain}
 use Rattle.thin_vec.specs.declared.edits.holder.IntoInner.{Ghosts as IntoInnerGhosts}
 
 module _ {T A G H : Type 0} {g : Ghosts G} {h : IntoInnerGhosts H (OpenView T A)} where
-  drain_keeps_more : (a b c : Drain T A G H g h) → DrainKeeps a b
+  drain-keeps-more : (a b c : Drain T A G H g h) → DrainKeeps a b
       → DrainKeeps b c → DrainKeeps a c
-  drain_keeps_more a b c p q =
+  drain-keeps-more a b c p q =
       record {
         lender = q.lender ∙ p.lender;
         meanwhile = q.meanwhile ∙ p.meanwhile;
@@ -24,16 +24,17 @@ module _ {T A G H : Type 0} {g : Ghosts G} {h : IntoInnerGhosts H (OpenView T A)
   same : (d : Drain T A G H g h) → DrainKeeps d d
   same d = record { lender = refl; meanwhile = refl; after_drop = refl }
 
-  drain_keeps_yielding : (d : Drain T A G H g h) (items : List T) (later : Drain T A G H g h)
+  drain-keeps-yielding : (d : Drain T A G H g h) (items : List T) (later : Drain T A G H g h)
       → Yields DrainSteps d items later → DrainKeeps d later
-  drain_keeps_yielding d [] later e = subst (λ t. DrainKeeps d t) e (same d)
-  drain_keeps_yielding d (x ∷ xs) later (m, one, e) =
-      drain_keeps_more d m later one.keeps (drain_keeps_yielding m xs later e)
+  drain-keeps-yielding d [] later e = subst (λ t. DrainKeeps d t) e (same d)
+  drain-keeps-yielding d (x ∷ xs) later (m, one, e) =
+      drain-keeps-more d m later one.keeps (drain-keeps-yielding m xs later e)
 
+  -- Calls to `next` on a `Drain`, up to the first `None`, satisfy `DrainKeepsAlong`.
   pub drain_keeps_along : (d : Drain T A G H g h) → DrainKeepsAlong d
-  drain_keeps_along d items later (inl e) = drain_keeps_yielding d items later e
+  drain_keeps_along d items later (inl e) = drain-keeps-yielding d items later e
   drain_keeps_along d items later (inr (m, e, last)) =
-      drain_keeps_more d m later (drain_keeps_yielding d items m e) last.keeps
+      drain-keeps-more d m later (drain-keeps-yielding d items m e) last.keeps
 
   -- `DrainStepsEither old item new` holds if a call to `next` or to `next_back` returned `item` and
   -- changed the `Drain` from `old` to `new`.
@@ -66,7 +67,7 @@ module _ {T A G H : Type 0} {g : Ghosts G} {h : IntoInnerGhosts H (OpenView T A)
   drain_leaves d (x ∷ xs) later (m, inl one, e) =
       let h = drain_leaves m xs later e in
       record {
-        keeps = drain_keeps_more d m later one.keeps h.keeps;
+        keeps = drain-keeps-more d m later one.keeps h.keeps;
         before = x ∷ h.before;
         after = h.after;
         rest = one.gave ∙ ap (λ l. x ∷ l) h.rest;
@@ -75,7 +76,7 @@ module _ {T A G H : Type 0} {g : Ghosts G} {h : IntoInnerGhosts H (OpenView T A)
   drain_leaves d (x ∷ xs) later (m, inr one, e) =
       let h = drain_leaves m xs later e in
       record {
-        keeps = drain_keeps_more d m later one.keeps h.keeps;
+        keeps = drain-keeps-more d m later one.keeps h.keeps;
         before = h.before;
         after = h.after ++ x ∷ [];
         rest = one.gave
@@ -85,6 +86,7 @@ module _ {T A G H : Type 0} {g : Ghosts G} {h : IntoInnerGhosts H (OpenView T A)
         count = omega (arith, h.count, length_push h.after x);
       }
 
+  -- Calls to `next` yield the items of the range in order.
   pub drains_in_order : YieldsInOrder (DrainSteps {T = T} {A = A} {G = G} {H = H} {g = g} {h = h})
       drain_rest
   drains_in_order p s =
@@ -92,6 +94,7 @@ module _ {T A G H : Type 0} {g : Ghosts G} {h : IntoInnerGhosts H (OpenView T A)
       (from_front DrainSteps (λ x. x) drain_rest (λ a b n. ap length n.gave.0)
       (λ a x b n. n.gave) p s)
 
+  -- Calls to `next_back` yield the items of the range in reverse order.
   pub drains_in_reverse : YieldsInReverse
       (DrainStepsBack {T = T} {A = A} {G = G} {H = H} {g = g} {h = h})
       drain_rest

@@ -245,31 +245,31 @@ module _ {T F A G H : Type 0} {g : Ghosts G} {h : IntoInnerGhosts H (ExtractStat
           ∙ closed-none (b.gap_before == 0) (length s.kept) (length n.middle) (length b.middle)
           (length b.tail) b.cost n.cost s.cost (omega (arith, s.count, none))
 
-  pub extract_keeps_along : (d : ExtractIf T F A G H g h) → ExtractKeepsAlong R d
-  extract_keeps_along d [] later e = subst (λ t. ExtractLeaves R d [] t) e (leaves-none d)
-  extract_keeps_along d (x ∷ xs) later (m, one, e) =
-      leaves-first d m later (Some x) xs one (extract_keeps_along m xs later e)
+  pub extract-keeps-along : (d : ExtractIf T F A G H g h) → ExtractKeepsAlong R d
+  extract-keeps-along d [] later e = subst (λ t. ExtractLeaves R d [] t) e (leaves-none d)
+  extract-keeps-along d (x ∷ xs) later (m, one, e) =
+      leaves-first d m later (Some x) xs one (extract-keeps-along m xs later e)
 
-  pub extracts_to_end : (d : ExtractIf T F A G H g h) → ExtractsToEnd R d
-  extracts_to_end d [] last (m, e, one) =
+  pub extracts-to-end : (d : ExtractIf T F A G H g h) → ExtractsToEnd R d
+  extracts-to-end d [] last (m, e, one) =
       let end = subst (λ t. ExtractSteps R t None last) (sym e) one in
       let s = end.extracts in (
         leaves-first d last last None [] end (leaves-none last),
         (picked-turn R (extract_closure d) (extract_rest d) None (extract_closure last) s.kept
             (extract_rest last) s.asked).3 refl,
       )
-  extracts_to_end d (x ∷ xs) last (m, (j, one, e), end) =
-      let on = extracts_to_end j xs last (m, e, end) in
+  extracts-to-end d (x ∷ xs) last (m, (j, one, e), end) =
+      let on = extracts-to-end j xs last (m, e, end) in
       (leaves-first d j last (Some x) xs one on.0, on.1)
 
   -- The list `v` is the one that `d` leaves if it is dropped before the first call to `next`.
-  pub extracts_range : (v : ListView T A) (start end : ℕ) (d : ExtractIf T F A G H g h)
+  pub extracts-range : (v : ListView T A) (start end : ℕ) (d : ExtractIf T F A G H g h)
       → (extract_block d).front ≡ take start v.items → extract_rest d ≡ slice_range v.items start end
       → (extract_block d).tail ≡ drop end v.items → (extract_block d).gap_before ≡ 0
       → list_after_extract_if d ≡ v → ExtractsRange R (extract_closure d) v start end d
-  extracts_range v start end d front rest tail gap is yielded last e =
+  extracts-range v start end d front rest tail gap is yielded last e =
       let b = extract_block d in
-      let all = extracts_to_end d yielded last e in let l = all.0 in let none = all.1 in
+      let all = extracts-to-end d yielded last e in let l = all.0 in let none = all.1 in
       let tested : l.tested ≡ slice_range v.items start end =
       sym (append-nil l.tested) ∙ (ap (λ r. l.tested ++ r) (sym none) ∙ (sym l.rest ∙ rest)) in
       let paid : b.cost ≡ v.cost =

@@ -22,9 +22,11 @@ use Rattle.thin_vec.specs.OpenView.{OpenView, cost_closed, items_of}
 use Rattle.thin_vec.specs.ThinVec.{ListView, capacity_after_reserve, cost_after_resize}
 use Rattle.thin_vec.specs.declared.errors.SpliceRefused.{SpliceRefused}
 use Rattle.thin_vec.proofs.list.ExtendLemmas.{yields-join}
-use Rattle.thin_vec.proofs.PushesLemmas.{grown-le, growth-once, growth-same, paid-none, pushes-costs}
+use Rattle.thin_vec.proofs.GrowthLemmas.{grown-le}
+use Rattle.thin_vec.proofs.FinishCostLemmas.{growth-once, growth-same}
+use Rattle.thin_vec.proofs.PushesLemmas.{paid-none, pushes-costs}
 use Rattle.thin_vec.proofs.PutLemmas.{filled-fits}
-use Rattle.thin_vec.proofs.ThinVecLemmas.{cost_after_resize-same}
+use Rattle.thin_vec.proofs.GrowthLemmas.{cost_after_resize-same}
 use Rattle.thin_vec.proofs.edits.SpliceLemmas.{between-length, between-more, closed-moves, drains-more, run-moves, stopped-more, taken-join, taken-spare}
 
 module _ {T A : Type 0} where

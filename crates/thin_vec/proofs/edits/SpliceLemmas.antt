@@ -24,10 +24,10 @@ use Rattle.thin_vec.specs.List.Capacity.{FailsForRoom}
 use Rattle.thin_vec.specs.ThinVec.{HasRoomFor, ListView, capacity_after_reserve, cost_after_resize}
 use Rattle.thin_vec.specs.declared.errors.SpliceRefused.{SpliceRefused}
 use Rattle.thin_vec.proofs.list.ExtendLemmas.{yields-join}
-use Rattle.thin_vec.proofs.PushesLemmas.{grown-le}
+use Rattle.thin_vec.proofs.GrowthLemmas.{grown-le}
 use Rattle.thin_vec.proofs.RetainLemmas.{moving-more, moving-none}
 use Rattle.thin_vec.proofs.list.ReservesLemmas.{cheap-kept}
-use Rattle.thin_vec.proofs.ThinVecLemmas.{cap-kept, cost_after_resize-same}
+use Rattle.thin_vec.proofs.GrowthLemmas.{cap-kept, cost_after_resize-same}
 
 -- Closing `w` takes one move for each tail item, and none if `w` has no gap.
 pub closed-moves : {T A : Type 0} (v w : OpenView T A) (n : ℕ)

@@ -9,7 +9,7 @@ use Rattle.thin_block.proofs.BlockLemmas.{slots-are}
 use Rattle.thin_block.proofs.SlotsLemmas.{written-at, run-at}
 use Rattle.thin_vec.specs.ThinVec.{IsListBlock}
 use Rattle.thin_vec.proofs.list.InsertRemoveLemmas.{full-append}
-use Rattle.thin_vec.proofs.ListLemmas.{IsWritten, RestoresInvariant, length-full, restores-front, thin-room}
+use Rattle.thin_vec.proofs.ListBlockLemmas.{IsWritten, RestoresInvariant, length-full, restores-front, thin-room}
 
 module _ {T : Type 0} where
   pub front-more : (xs ys : List T) (c : ℕ) → length xs + length ys ≤ c
@@ -71,7 +71,7 @@ module _ {T A : Type 0} where
       let ys : List T = items_in b.slots in
       let end : n ≡ length ys = len ∙ t.packed.len in
       restores-front t b' (ys ++ xs) (length b.slots) w
-      ((λ m. write_slots (end m) (filled_slots xs) (t.packed.row m))
+      ((λ m. write_slots (end m) (filled_slots xs) (t.packed.slots m))
       ∙ front-more ys xs (length b.slots) (omega (arith, room, end)))
       (omega (arith, new, end, length-append ys xs)) (omega (arith, room, end, length-append ys xs))
 
@@ -86,7 +86,7 @@ module _ {T A : Type 0} where
         let more : length (drop i ys) ≡ k = omega (arith, all, length-drop i ys) in
         let same : slot_range i k o.slots ≡ filled_slots (drop i ys) =
         ap (λ (r : List (Option T)). slot_range i k r)
-        u.packed.row ∙ front-run ys (length o.slots) i k order (thin-room o p u) all in
+        u.packed.slots ∙ front-run ys (length o.slots) i k order (thin-room o p u) all in
         restores-more t b' (drop i ys) n len (omega (arith, room, more)) (omega (arith, more))
         (slots-are w (ap (λ (r : List (Option T)). write_slots n r b.slots) same))
 
@@ -98,7 +98,7 @@ module _ {T A : Type 0} where
       let ys : List T = items_in o.slots in
       let few : length (take i ys) ≡ i = length-take-le i ys order in
       restores-front u o' (take i ys) (length o.slots) w
-      (ap (λ (r : List (Option T)). clear_slots i k r) u.packed.row
+      (ap (λ (r : List (Option T)). clear_slots i k r) u.packed.slots
       ∙ front-cut ys (length o.slots) i k order (thin-room o p u)
       (omega (arith, count, u.packed.len)))
       (sym few) (omega (arith, few, thin-room o p u, order))

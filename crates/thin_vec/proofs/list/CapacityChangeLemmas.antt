@@ -9,7 +9,7 @@ use lib.ListN.{replicate}
 use Rattle.thin_block.specs.Slots.{empty_slots, items_in, packed_slots}
 use Rattle.thin_block.specs.declared.block.Block.{Block}
 use Rattle.thin_vec.specs.ThinVec.{IsListBlock}
-use Rattle.thin_vec.proofs.ListLemmas.{RestoresInvariant, settled, length-front, thin-room, front-grow}
+use Rattle.thin_vec.proofs.ListBlockLemmas.{RestoresInvariant, settled, length-front, thin-room, front-grow}
 
 module _ {T : Type 0} where
   pub front-none : (c : ℕ) → empty_slots {T = T} c ≡ packed_slots [] c
@@ -35,7 +35,7 @@ module _ {T A : Type 0} {b : Block T A} {a : A} (t : IsListBlock b a) where
   restores-tried (Ok _) b' c larger w _ =
       let xs : List T = items_in b.slots in
       let after = restores-remade b' c w
-      (ap (λ (r : List (Option T)). r ++ empty_slots (c - length b.slots)) t.packed.row
+      (ap (λ (r : List (Option T)). r ++ empty_slots (c - length b.slots)) t.packed.slots
       ∙ front-grow xs (length b.slots) c (thin-room b a t) (omega arith))
       (omega (arith, thin-room b a t)) in
       (record { thin = after.thin; items = after.items; cap = refl }, omega (arith, after.cap))
@@ -54,7 +54,7 @@ module _ {T A : Type 0} {b : Block T A} {a : A} (t : IsListBlock b a) where
       let spare : List (Option T) = replicate (length b.slots - k) None in
       restores-remade b' k w
       (ap (λ (r : List (Option T)). take k r)
-      (t.packed.row ∙ sym (front-grow xs k (length b.slots) room less))
+      (t.packed.slots ∙ sym (front-grow xs k (length b.slots) room less))
       ∙ (ap (λ (m : ℕ). take m (packed_slots xs k ++ spare)) (sym (length-front xs k room))
       ∙ take-append_seam (packed_slots xs k) spare)) room
 

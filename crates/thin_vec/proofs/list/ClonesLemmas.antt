@@ -20,7 +20,7 @@ use Rattle.thin_block.proofs.SlotsLemmas.{written-one}
 use Rattle.thin_block.specs.Cost.{Cost, add_moves}
 use Rattle.thin_vec.specs.List.Clones.{AppendsRepeats, FailsAtClone, LeftByFailedClone, WritesClones}
 use Rattle.thin_vec.specs.ThinVec.{IsNew, ListView, capacity_after_reserve, cost_after_resize}
-use Rattle.thin_vec.proofs.ListLemmas.{length-full}
+use Rattle.thin_vec.proofs.ListBlockLemmas.{length-full}
 
 module _ {T : Type 0} {clones : T → T → Type 0} {sources : List T} {n i : ℕ}
     {s s' : List (Option T)} (lays : WritesClones clones sources n i s s') where

@@ -23,7 +23,7 @@ use Rattle.thin_vec.specs.List.Extend.{YieldsAndCanContinue}
 use Rattle.thin_vec.specs.ThinVec.{IsNew, ListView, capacity_after_reserve_exact}
 use Rattle.thin_vec.specs.declared.errors.ExtendRefused.{ExtendRefused}
 use Rattle.thin_vec.proofs.RetainLemmas.{moving-more, moving-none}
-use Rattle.thin_vec.proofs.ListLemmas.{length-full}
+use Rattle.thin_vec.proofs.ListBlockLemmas.{length-full}
 
 module _ {S X : Type 0} (steps : S → Option X → S → Type 0) where
   pub yields-more : (s t u : S) (xs : List X) (x : X) → Yields steps s xs t → steps t (Some x) u
@@ -42,33 +42,33 @@ module _ {S X : Type 0} (steps : S → Option X → S → Type 0) where
   yields-first s u (x ∷ xs) ys e =
       let more = yields-first e.0 u xs ys e.2 in (more.0, (e.0, e.1, more.1))
 
-  pub run_of : (s : S) (P : List X → Type 0) → (xs : List X) × Drains steps s xs × P xs
+  pub run-of : (s : S) (P : List X → Type 0) → (xs : List X) × Drains steps s xs × P xs
       → WholeRun steps s (λ p. P p.items)
-  run_of s P all = (run steps s all.0 true (to_end steps s all.0 all.1), refl, refl, all.2)
+  run-of s P all = (run steps s all.0 true (to_end steps s all.0 all.1), refl, refl, all.2)
 
-  pub run_of_ok : {E : Type 0} (s : S) (P : List X → Type 0) (r : Result (Unit {0}) E)
+  pub run-of-ok : {E : Type 0} (s : S) (P : List X → Type 0) (r : Result (Unit {0}) E)
       → OnOk r ((xs : List X) × Drains steps s xs × P xs)
       → OnOk r (WholeRun steps s (λ p. P p.items))
-  run_of_ok s P (Ok _) all = run_of s P all
-  run_of_ok s P (Err _) all = tt
+  run-of-ok s P (Ok _) all = run-of s P all
+  run-of-ok s P (Err _) all = tt
 
 module _ {S X : Type 0} (steps : S → Option X → S → Type 0) (s : S) where
-  pub run_given : (xs : List X) (o : Option X) (t : S) (P : List X → Type 0)
+  pub run-given : (xs : List X) (o : Option X) (t : S) (P : List X → Type 0)
       → Yields steps s (xs ++ option_to_list o) t → P (xs ++ option_to_list o)
       → SomeRun steps s (λ p. P p.items)
-  run_given xs o t P gave h =
+  run-given xs o t P gave h =
       (run steps s (xs ++ option_to_list o) false (t, gave, λ e. absurd (false≢true e)), refl, h)
 
   -- `can` says when `next` may be called again, and `remaining` bounds how many items are left.
-  pub run_given_err : {E : Type 0} (can : S → Type 0) (remaining : S → Count)
+  pub run-given-err : {E : Type 0} (can : S → Type 0) (remaining : S → Count)
       (hand : E → Option X) (rest : E → S) (P : List X → Type 0) (r : Result (Unit {0}) E)
       → IfErr r (λ e. (xs : List X) × P xs
       × YieldsAndCanContinue steps can remaining s (xs ++ option_to_list (hand e)) (rest e))
       → IfErr r (λ e. SomeRun steps s
       (λ p. (xs : List X) × P xs × (p.items ≡ xs ++ option_to_list (hand e))))
-  run_given_err can remaining hand rest P (Ok _) all = tt
-  run_given_err can remaining hand rest P (Err e) all =
-      run_given all.0 (hand e) (rest e)
+  run-given-err can remaining hand rest P (Ok _) all = tt
+  run-given-err can remaining hand rest P (Err e) all =
+      run-given all.0 (hand e) (rest e)
       (λ l. (xs : List X) × P xs × (l ≡ xs ++ option_to_list (hand e)))
       all.2.gave (all.0, all.1, refl)
 

@@ -11,9 +11,9 @@ use Rattle.thin_block.specs.Cost.{Cost}
 use Rattle.thin_block.specs.Slots.{filled_slots, empty_slots, slot, items_in, packed_slots, move_slots}
 use Rattle.thin_block.specs.declared.block.Block.{Block}
 use Rattle.thin_vec.specs.ThinVec.{IsListBlock}
-use Rattle.thin_vec.proofs.ListLemmas.{IsWritten, RestoresInvariant, restores-front, front-pop, last-item, length-full, restores-pop, thin-filled, thin-room, full-take}
+use Rattle.thin_vec.proofs.ListBlockLemmas.{IsWritten, RestoresInvariant, restores-front, front-pop, last-item, length-full, restores-pop, thin-filled, thin-room, full-take}
 use Rattle.thin_block.proofs.BlockLemmas.{slots-are}
-use Rattle.thin_block.proofs.SlotsLemmas.{same_or_not, the_item, moved_left, moved_right}
+use Rattle.thin_block.proofs.SlotsLemmas.{same-or-not, the-item, moved-left, moved-right}
 use lib.Seq.{set-set, take-set-le}
 use mathlib.Core.Logic.{⊎_elim}
 
@@ -33,18 +33,18 @@ module _ {T : Type 0} where
       let m : 1 + (c - length xs) ≡ c - length (remove xs i) =
       omega (arith, length-remove xs i h) in
       ap (λ (s : List (Option T)). move_slots j i k s) (full-take xs r i x h)
-      ∙ (moved_left j i k 1 (filled_slots a) (filled_slots b) r p e q
+      ∙ (moved-left j i k 1 (filled_slots a) (filled_slots b) r p e q
       ∙ (sym (append_assoc (filled_slots a) (filled_slots b) (None ∷ r))
       ∙ (ap (λ (s : List (Option T)). s ++ (None ∷ r)) (sym (map-append (λ (y : T). Some y) a b))
       ∙ ap (λ (s : List (Option T)). filled_slots (remove xs i) ++ s)
       (replicate-append-replicate 1 (c - length xs) None
       ∙ ap (λ (z : ℕ). replicate z None) m))))
 
-  -- In this module, a row of `c` slots begins with the items `xs`. The `k` items from index `i`
-  -- onward are moved up by one slot, to make room for a new item at index `i`.
+  -- In this module, `c` slots begin with the items `xs`. The `k` items from index `i` onward are
+  -- moved up by one slot, to make room for a new item at index `i`.
   module _ (xs : List T) (c i : ℕ) {j k : ℕ} (h : i ≤ length xs) (l : length xs < c) (e : j ≡ i + 1)
       (n : k ≡ length xs - i) where
-    -- `after` is the row after slot `i` once the items from index `i` onward have been moved up.
+    -- `after` are the slots after slot `i` once the items from index `i` onward have been moved up.
     after : List (Option T)
     after = filled_slots (drop i xs) ++ replicate (c - length xs - 1) None
 
@@ -66,7 +66,7 @@ module _ {T : Type 0} where
         ∙ (append_assoc (filled_slots a) (filled_slots b) (replicate (c - length xs) None)
         ∙ ap (λ (z : ℕ). filled_slots a ++ (filled_slots b ++ replicate z None)) w)) in
         ap (λ (ys : List (Option T)). move_slots i j k ys) s
-        ∙ moved_right i j k 1 (filled_slots a) (filled_slots b) r before e q
+        ∙ moved-right i j k 1 (filled_slots a) (filled_slots b) r before e q
 
     pub front-insert : (v : T)
         → set (move_slots i j k (packed_slots xs c)) i (Some v) ≡ packed_slots (insert xs i v) c
@@ -94,7 +94,7 @@ module _ {T A : Type 0} {b : Block T A} {a : A} (t : IsListBlock b a) where
   restores-remove b' i {j} {k} h e n len w =
       let xs : List T = items_in b.slots in let c : ℕ = length b.slots in
       restores-front t b' (remove xs i) c w
-      (ap (λ (r : List (Option T)). move_slots j i k (set r i None)) t.packed.row
+      (ap (λ (r : List (Option T)). move_slots j i k (set r i None)) t.packed.slots
       ∙ front-remove xs c i h (thin-room b a t) e (omega (arith, n, t.packed.len)))
       (omega (arith, len, t.packed.len, length-remove xs i h))
       (omega (arith, thin-room b a t, length-remove xs i h))
@@ -106,7 +106,7 @@ module _ {T A : Type 0} {b : Block T A} {a : A} (t : IsListBlock b a) where
   restores-insert b' i v {j} {k} h o e n len w =
       let xs : List T = items_in b.slots in let c : ℕ = length b.slots in
       restores-front t b' (insert xs i v) c w
-      (ap (λ (r : List (Option T)). set (move_slots i j k r) i (Some v)) t.packed.row
+      (ap (λ (r : List (Option T)). set (move_slots i j k r) i (Some v)) t.packed.slots
       ∙ front-insert xs c i h (omega (arith, o, t.packed.len)) e (omega (arith, n, t.packed.len)) v)
       (omega (arith, len, t.packed.len, length-insert xs i v h))
       (omega (arith, o, t.packed.len, length-insert xs i v h))
@@ -114,14 +114,14 @@ module _ {T A : Type 0} {b : Block T A} {a : A} (t : IsListBlock b a) where
   pub thin-gap : (i : ℕ) {j k : ℕ} → i ≤ length (items_in b.slots) → b.len < length b.slots
       → j ≡ i + 1 → k ≡ b.len - i → slot (move_slots i j k b.slots) i ≡ None
   thin-gap i {j} {k} h o e n =
-      ap (λ (r : List (Option T)). slot (move_slots i j k r) i) t.packed.row
+      ap (λ (r : List (Option T)). slot (move_slots i j k r) i) t.packed.slots
       ∙ front-gap (items_in b.slots) (length b.slots) i h (omega (arith, o, t.packed.len)) e
       (omega (arith, n, t.packed.len))
 
 -- The following lemmas are about the removal of items.
 
 module _ {T : Type 0} where
-  -- `emptying xs k i c` is a row of `c` slots that begins with the items `xs`, but whose slots
+  -- `emptying xs k i c` is a list of `c` slots that begins with the items `xs`, but whose slots
   -- `k..i` are empty. All slots after the items are empty, too.
   abbrev pub emptying : List T → ℕ → ℕ → ℕ → List (Option T)
   emptying xs k i c =
@@ -239,17 +239,17 @@ module _ {T A : Type 0} where
         → slot b.slots last ≡ Some m
         → {k : Cost} → IsWritten b b' (set (set (set b.slots i None) last None) i (Some m)) last k
         → RestoresInvariant b' a (swap_remove (items_in b.slots) i v) (length b.slots)
-    restores-swap_remove v {m} lt n held w =
+    restores-swap_remove v {m} lt n slot_is w =
         let xs : List T = items_in b.slots in
         let c : ℕ = length b.slots in
-        let at_end = last-item b a m last t n held in
+        let at_end = last-item b a m last t n slot_is in
         let ys : List T = take last xs in
         let long : length ys ≡ last = length-take-le last xs (omega arith) in
         let room : length (ys ++ m ∷ []) ≤ c = omega (arith, thin-room b a t, ap length at_end) in
         let slots : set (set (set b.slots i None) last None) i (Some m) ≡ set
         (set (set (packed_slots (ys ++ m ∷ []) c) i None) (length ys) None) i (Some m) =
         ap (λ (s : List (Option T)). set (set (set s i None) last None) i (Some m))
-        (t.packed.row ∙ ap (λ (l : List T). packed_slots l c) at_end)
+        (t.packed.slots ∙ ap (λ (l : List T). packed_slots l c) at_end)
         ∙ ap (λ (k : ℕ). set (set (set (packed_slots (ys ++ m ∷ []) c) i None) k None) i (Some m))
         (sym long) in
         let cut : length (swap_remove (ys ++ m ∷ []) i v) ≡ last =
@@ -290,11 +290,11 @@ module _ {T A : Type 0} where
         ∙ take-set-le last xs i (get_or xs last v) (omega (arith, same))) in
         subst (λ (ys : List T). RestoresInvariant b' a ys c) is popped)
         (λ (apart : i ≡ last → ⊥).
-        let m = the_item (slot b.slots last) (thin-filled b a last t low) in
+        let m = the-item (slot b.slots last) (thin-filled b a last t low) in
         restores-swap_remove v {m = m.0} (omega (arith, le, apart)) n m.1
         (slots-are w (ap (λ (o : Option T). set (set b.slots i o) last None) m.1
         ∙ (set_comm b.slots i last (Some m.0) None apart
         ∙ sym (ap (λ (r : List (Option T)). set r i (Some m.0))
         (set_comm b.slots i last None None apart)
         ∙ set-set (set b.slots last None) i None (Some m.0))))))
-        (same_or_not i last)
+        (same-or-not i last)

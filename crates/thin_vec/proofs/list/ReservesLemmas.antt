@@ -16,8 +16,8 @@ use Rattle.thin_block.proofs.ResultLemmas.{err-same, none-some, ok-err}
 use Rattle.thin_vec.specs.Cheap.{IsCheap}
 use Rattle.thin_vec.specs.List.Capacity.{FailsForRoom, OverflowsIff, OverflowsIffTooLarge, PreservesList}
 use Rattle.thin_vec.specs.ThinVec.{HasRoomFor, IsListBlock, IsBounded, ListView, capacity_after_reserve, list_view}
-use Rattle.thin_vec.proofs.ListLemmas.{RestoresInvariant}
-use Rattle.thin_vec.proofs.ThinVecLemmas.{within-kept}
+use Rattle.thin_vec.proofs.ListBlockLemmas.{RestoresInvariant}
+use Rattle.thin_vec.proofs.BoundsLemmas.{bounds-kept}
 
 pub tells-ok : {X : Type 0} (x : X) (named : Option ℕ) (n : ℕ) → named ≡ Some n
     → OverflowsIff named (Ok x)
@@ -101,7 +101,7 @@ module _ {T A : Type 0} (R : RattleType) (v : ListView T A) where
         ap (λ (c : Cost). c.blocks) cost ∙ (blocks ∙ ap (λ (z : ListView T A). z.cost.blocks) is),
         ap (λ (c : Cost). c.grown) cost ∙ (grown ∙ ap (λ (z : ListView T A). z.cost.grown) is),
       )
-      (within-kept R b a b' v xs thin is fits after)
+      (bounds-kept R b a b' v xs thin is fits after)
 
   module _ (rule : GrowthRule) where
     pub lacks-room : {X : Type 0} (k : ℕ) (cause : ThinVecError) → (HasRoomFor v k → ⊥)

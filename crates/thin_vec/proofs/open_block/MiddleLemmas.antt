@@ -7,14 +7,14 @@ use Rattle.thin_block.specs.Block.{BlockView, block_view}
 use Rattle.thin_block.specs.Cost.{Cost}
 use Rattle.thin_block.specs.Slots.{empty_slots, filled_slots, move_slots, slot}
 use Rattle.thin_block.specs.declared.block.Block.{Block}
-use Rattle.thin_block.proofs.SlotsLemmas.{moved_left}
+use Rattle.thin_block.proofs.SlotsLemmas.{moved-left}
 use Rattle.thin_vec.specs.OpenBlock.{IsOpen, open_view}
 use Rattle.thin_vec.specs.OpenView.{OpenView, tail_end, slots_of}
 use Rattle.thin_vec.specs.declared.open_block.OpenBlock.TheInside.{Inside}
 use Rattle.thin_vec.proofs.list.InsertRemoveLemmas.{full-append}
 use Rattle.thin_block.proofs.ResultLemmas.{some-same}
-use Rattle.thin_vec.proofs.OpenBlockLemmas.{Found, at_middle, by_middle, found, past_middle, to_middle}
-use Rattle.thin_vec.proofs.ListLemmas.{length-full}
+use Rattle.thin_vec.proofs.OpenBlockLemmas.{Found, at-middle, by-middle, found, past_middle, to_middle}
+use Rattle.thin_vec.proofs.ListBlockLemmas.{length-full}
 
 pub split-at : {X : Type 0} (xs : List X) (k : ℕ) → k < length xs → (pre : List X) × (x : X)
     × (post : List X) × (length pre ≡ k) × (xs ≡ pre ++ x ∷ post)
@@ -26,10 +26,10 @@ split-at (x ∷ xs) (suc k) low =
     (x ∷ p.0, p.1, p.2, ap suc p.3, ap (λ l. x ∷ l) p.4)
 
 module _ {T : Type 0} where
-  pub row-at : (a : List (Option T)) (pre : List T) (x : T) (post : List T) (z : List (Option T))
+  pub slots-at : (a : List (Option T)) (pre : List T) (x : T) (post : List T) (z : List (Option T))
       → a ++ (filled_slots (pre ++ x ∷ post) ++ z)
       ≡ (a ++ filled_slots pre) ++ (Some x ∷ (filled_slots post ++ z))
-  row-at a pre x post z = simp (append_assoc, full-append)
+  slots-at a pre x post z = simp (append_assoc, full-append)
 
 module _ {T A : Type 0} where
   pub same-past : (v w : OpenView T A) → w.gap_after ≡ v.gap_after → w.tail ≡ v.tail
@@ -66,16 +66,16 @@ module _ {T A : Type 0} where
         let p = split-at v.middle k low in
         let pre : List T = p.0 in
         let post : List T = p.2 in
-        let row : h.block.slots
+        let slots : h.block.slots
         ≡ (to_middle v ++ filled_slots pre) ++ (Some p.1 ∷ (filled_slots post ++ past_middle v))
         =
-        by_middle h v o ∙ (ap (λ (r : List T). to_middle v ++ (filled_slots r ++ past_middle v)) p.4
-        ∙ row-at (to_middle v) pre p.1 post (past_middle v)) in
+        by-middle h v o ∙ (ap (λ (r : List T). to_middle v ++ (filled_slots r ++ past_middle v)) p.4
+        ∙ slots-at (to_middle v) pre p.1 post (past_middle v)) in
         let here : length (to_middle v ++ filled_slots pre) ≡ h.middle_start + k =
         omega (
           arith,
           length-append (to_middle v) (filled_slots pre),
-          at_middle h v o,
+          at-middle h v o,
           length-full pre,
         )
         in
@@ -83,7 +83,7 @@ module _ {T A : Type 0} where
         some-same (sym (get_or_at (to_middle v ++ filled_slots pre) (Some p.1)
         (filled_slots post ++ past_middle v) None
         (h.middle_start + k) here) ∙ (ap (λ (r : List (Option T)). slot r (h.middle_start + k))
-        (sym row) ∙ is)) in
+        (sym slots) ∙ is)) in
         let count : length (pre ++ y ∷ post) ≡ length v.middle =
         omega (
           arith,
@@ -95,7 +95,7 @@ module _ {T A : Type 0} where
         let left : v.capacity - tail_end v ≡ w.capacity - tail_end w = omega (arith, count) in
         let after : b.slots ≡ slots_of w =
         ap (λ (z : BlockView T A). z.slots) now
-        ∙ (ap (λ (r : List (Option T)). set r (h.middle_start + k) (Some y)) row
+        ∙ (ap (λ (r : List (Option T)). set r (h.middle_start + k) (Some y)) slots
         ∙ (set_at (to_middle v ++ filled_slots pre) (Some p.1) (filled_slots post ++ past_middle v)
         (Some y) (h.middle_start + k) here
         ∙ rw left (simp (append_assoc, full-append)))) in
@@ -106,7 +106,7 @@ module _ {T A : Type 0} where
           was = p.4 ∙ ap (λ (z : T). pre ++ z ∷ post) same;
           count = count;
           shown = found written w (record {
-            row = after;
+            slots = after;
             front = o.front;
             gap_before = o.gap_before;
             middle = omega (arith, o.middle, count);
@@ -148,7 +148,7 @@ module _ {T A : Type 0} where
         now ∙ rw left (simp (append_assoc, full-append)) in
         found (moved_run b) w
         (record {
-          row = after;
+          slots = after;
           front = omega (arith, o.front, more);
           gap_before = omega (arith, o.gap_before);
           middle = omega (arith, o.middle, middle);
@@ -167,7 +167,7 @@ module _ {T A : Type 0} where
     parted : h.block.slots ≡ filled_slots u.front
         ++ (empty_slots u.gap_before
         ++ (filled_slots (take k u.middle) ++ (filled_slots (drop k u.middle) ++ past_middle u)))
-    parted = o.row ∙ ap
+    parted = o.slots ∙ ap
         (λ (r : List (Option T)). filled_slots u.front ++ (empty_slots u.gap_before ++ r)) cut
 
     pub pass-step : u.gap_before ≡ 0 → Found (moved_run h.block) (moved_run-view h.block)
@@ -184,7 +184,7 @@ module _ {T A : Type 0} where
         moved_run-shows b
         (ap (λ (z : BlockView T A). z.slots) now
         ∙ (ap (move_slots h.middle_start h.front_end k) parted
-        ∙ moved_left h.middle_start h.front_end k u.gap_before (filled_slots u.front)
+        ∙ moved-left h.middle_start h.front_end k u.gap_before (filled_slots u.front)
         (filled_slots (take k u.middle))
         (filled_slots (drop k u.middle) ++ past_middle u) (sym (length-full u.front ∙ o.front))
         (sym o.gap_before) (sym few))) (ap (λ (z : BlockView T A). z.alloc) now)

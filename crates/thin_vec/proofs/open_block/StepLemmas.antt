@@ -9,14 +9,14 @@ use Rattle.thin_block.specs.Block.{block_view}
 use Rattle.thin_block.specs.Cost.{add_moves}
 use Rattle.thin_block.specs.Slots.{empty_slots, packed_slots, filled_slots, items_in, write_slots, move_slots, slot}
 use Rattle.thin_block.specs.declared.block.Block.{Block}
-use Rattle.thin_block.proofs.SlotsLemmas.{written-at, moved_left, moved_right}
+use Rattle.thin_block.proofs.SlotsLemmas.{written-at, moved-left, moved-right}
 use Rattle.thin_vec.specs.OpenBlock.{IsOpen, open_view}
 use Rattle.thin_vec.specs.OpenView.{OpenView, items_of, tail_end}
 use Rattle.thin_vec.specs.ThinVec.{IsListBlock}
 use Rattle.thin_vec.specs.declared.open_block.OpenBlock.TheInside.{Inside}
 use Rattle.thin_vec.proofs.list.InsertRemoveLemmas.{full-append}
-use Rattle.thin_vec.proofs.ListLemmas.{length-empty, length-full, thin-room}
-use Rattle.thin_vec.proofs.OpenBlockLemmas.{Found, at_middle, at_tail, by_tail, empty-more, found, past_middle, past_tail, reached, slot-in-empty, slot-in-full, to_tail}
+use Rattle.thin_vec.proofs.ListBlockLemmas.{length-empty, length-full, thin-room}
+use Rattle.thin_vec.proofs.OpenBlockLemmas.{Found, at-middle, at-tail, by-tail, empty-more, found, past_middle, past_tail, reached, slot-in-empty, slot-in-full, to_tail}
 
 pub set-written : {T : Type 0} (s : List (Option T)) (i : ℕ) (y : Option T) → i < length s
     → set s i y ≡ write_slots i (y ∷ []) s
@@ -41,7 +41,7 @@ module _ {T A : Type 0} where
         let past : w.capacity - tail_end w ≡ w.capacity - tail_end joined-view =
         omega (arith, ap length none) in
         found joined joined-view (record {
-          row = o.row ∙ rw (past, none) (simp (append_assoc, empty-more));
+          slots = o.slots ∙ rw (past, none) (simp (append_assoc, empty-more));
           front = o.front;
           gap_before = omega (arith, o.gap_before, o.middle, o.gap_after, ap length none);
           middle = omega arith;
@@ -56,7 +56,7 @@ module _ {T A : Type 0} where
     side-by-side : (open_view h).gap_after ≡ 0 → h.block.slots ≡ filled_slots (open_view h).front
         ++ (empty_slots (open_view h).gap_before
         ++ (filled_slots all-after ++ past_tail (open_view h)))
-    side-by-side none = o.row ∙ rw none (simp (append_assoc, full-append))
+    side-by-side none = o.slots ∙ rw none (simp (append_assoc, full-append))
 
     count-after : (open_view h).gap_after ≡ 0 → length all-after ≡ h.tail_end - h.middle_start
     count-after none =
@@ -67,7 +67,7 @@ module _ {T A : Type 0} where
     after-filled none j low high =
         let w : OpenView T A = open_view h in
         let pre : List (Option T) = filled_slots w.front ++ empty_slots w.gap_before in
-        let start : length pre ≡ h.middle_start = at_middle h w o in
+        let start : length pre ≡ h.middle_start = at-middle h w o in
         rw (ap (λ (r : List (Option T)). slot r j)
         (side-by-side none
         ∙ sym (append_assoc (filled_slots w.front) (empty_slots w.gap_before)
@@ -78,25 +78,25 @@ module _ {T A : Type 0} where
     count-all : length (items_of (open_view h)) ≡ h.front_end + length all-after
     count-all = omega (arith, length-append (open_view h).front all-after, o.front)
 
-    pub close-row : (open_view h).gap_after ≡ 0
+    pub close-slots : (open_view h).gap_after ≡ 0
         → move_slots h.middle_start h.front_end (h.tail_end - h.middle_start) h.block.slots
         ≡ packed_slots
         (items_of (open_view h)) (length h.block.slots)
-    close-row none =
+    close-slots none =
         let w : OpenView T A = open_view h in
         let left : w.gap_before + (w.capacity - tail_end w) ≡ w.capacity - length (items_of w) =
         omega (arith, count-all, reached h w o, count-after none) in
         ap (move_slots h.middle_start h.front_end (h.tail_end - h.middle_start)) (side-by-side none)
-        ∙ (moved_left h.middle_start h.front_end (h.tail_end - h.middle_start) w.gap_before
+        ∙ (moved-left h.middle_start h.front_end (h.tail_end - h.middle_start) w.gap_before
         (filled_slots w.front)
         (filled_slots all-after)
         (past_tail w) (sym (length-full w.front ∙ o.front)) (sym o.gap_before)
         (omega (arith, length-full all-after, count-after none))
         ∙ rw (sym left) (simp (append_assoc, full-append, empty-more)))
 
-    pub closed-row : (open_view h).gap_after ≡ 0 → h.front_end ≡ h.middle_start
+    pub closed-slots : (open_view h).gap_after ≡ 0 → h.front_end ≡ h.middle_start
         → h.block.slots ≡ packed_slots (items_of (open_view h)) (length h.block.slots)
-    closed-row none here =
+    closed-slots none here =
         let w : OpenView T A = open_view h in
         let no : w.gap_before ≡ 0 = omega (arith, o.gap_before) in
         let left : w.capacity - tail_end w ≡ w.capacity - length (items_of w) =
@@ -146,7 +146,7 @@ module _ {T A : Type 0} where
         omega (arith, lf, lr, lz) in
         found (opened len) opened-view
         (record {
-          row = t.packed.row
+          slots = t.packed.slots
               ∙ (ap (λ l. filled_slots l ++ empty_slots (length b.slots - length xs)) cut
               ∙ rw past (simp (append_assoc, full-append)));
           front = lf;
@@ -188,8 +188,8 @@ module _ {T A : Type 0} where
         ++ (empty_slots (h.middle_start - end) ++ left) =
         ap (λ (k : ℕ). empty_slots k ++ left) (sym parts) ∙ simp (append_assoc, empty-more) in
         found (record h { block = b; front_end = end }) w (record {
-          row = now ∙ (ap (write_slots h.front_end (filled_slots xs))
-              (o.row ∙ ap (λ (r : List (Option T)). filled_slots v.front ++ r) split)
+          slots = now ∙ (ap (write_slots h.front_end (filled_slots xs))
+              (o.slots ∙ ap (λ (r : List (Option T)). filled_slots v.front ++ r) split)
               ∙ (written-at h.front_end (filled_slots v.front) (filled_slots xs)
               (empty_slots (length xs)) (empty_slots (h.middle_start - end) ++ left)
               (sym (length-full v.front ∙ o.front)) long
@@ -254,7 +254,7 @@ module _ {T A : Type 0} where
         let v : OpenView T A = open_view h in
         let all : count + (v.capacity - tail_end v - count) ≡ v.capacity - tail_end v =
         omega (arith, room, reached h v o) in
-        by_tail h v o ∙ ap (λ (r : List (Option T)). to_tail v ++ (filled_slots v.tail ++ r))
+        by-tail h v o ∙ ap (λ (r : List (Option T)). to_tail v ++ (filled_slots v.tail ++ r))
         (ap (λ (k : ℕ). empty_slots k) (sym all)
         ∙ sym (replicate-append-replicate count (v.capacity - tail_end v - count) None))
 
@@ -267,7 +267,7 @@ module _ {T A : Type 0} where
         omega (
           arith,
           length-append (to_tail v) (filled_slots v.tail),
-          at_tail h v o,
+          at-tail h v o,
           length-full v.tail,
         ) in
         ap (λ (r : List (Option T)). slot r j)
@@ -285,10 +285,10 @@ module _ {T A : Type 0} where
         let past : v.capacity - tail_end v - count ≡ v.capacity - tail_end widened-view =
         omega (arith, room, reached h v o) in
         found widened widened-view (record {
-          row = now
+          slots = now
               ∙ (ap (move_slots h.tail_start (h.tail_start + count) (h.tail_end - h.tail_start)) spare
-              ∙ (moved_right h.tail_start (h.tail_start + count) (h.tail_end - h.tail_start) count
-              (to_tail v) (filled_slots v.tail) end (sym (at_tail h v o)) refl (sym k)
+              ∙ (moved-right h.tail_start (h.tail_start + count) (h.tail_end - h.tail_start) count
+              (to_tail v) (filled_slots v.tail) end (sym (at-tail h v o)) refl (sym k)
               ∙ rw (← past) (simp (append_assoc, empty-more))));
           front = o.front;
           gap_before = o.gap_before;

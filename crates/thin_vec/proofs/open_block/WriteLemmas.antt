@@ -15,8 +15,8 @@ use Rattle.thin_vec.specs.declared.open_block.OpenBlock.TheInside.{Inside}
 use Rattle.thin_vec.proofs.RetainLemmas.{cons-head, cons-not-nil, cons-tail, same-parts, single}
 use Rattle.thin_block.proofs.ResultLemmas.{some-same}
 use Rattle.thin_vec.proofs.OpenBlockLemmas.{Found, found, last-of, past_middle, slot-in-full}
-use Rattle.thin_vec.proofs.ListLemmas.{length-full}
-use Rattle.thin_vec.proofs.open_block.MiddleLemmas.{row-at, same-past, write-step, written}
+use Rattle.thin_vec.proofs.ListBlockLemmas.{length-full}
+use Rattle.thin_vec.proofs.open_block.MiddleLemmas.{slots-at, same-past, write-step, written}
 
 module _ {T : Type 0} where
   -- The following lemmas are about two items in neighboring slots.
@@ -26,19 +26,19 @@ module _ {T : Type 0} where
   over-none (None ∷ s) = refl
   over-none (Some x ∷ s) = refl
 
-  -- `Neighbours s i k x k' x'` states that the slots `i` and `i + 1` of the row `s` hold the items
-  -- `k` and `x`. It also states that writing the new items `k'` and `x'` into these two slots at
-  -- once has the same result as writing them one after the other.
-  pub record Neighbours (s : List (Option T)) (i : ℕ) (k x k' x' : T) : Type 0 where
+  -- `Neighbors s i k x k' x'` states that the slots `i` and `i + 1` of `s` hold the items `k` and
+  -- `x`. It also states that writing the new items `k'` and `x'` into these two slots at once has
+  -- the same result as writing them one after the other.
+  pub record Neighbors (s : List (Option T)) (i : ℕ) (k x k' x' : T) : Type 0 where
     pub first : slot s i ≡ Some k
     pub second : slot s (suc i) ≡ Some x
     pub now : overwrite_items s i (k' ∷ x' ∷ []) ≡ set (set s i (Some k')) (suc i) (Some x')
 
-  pub neighbours : (s : List (Option T)) (i : ℕ) (k x k' x' : T) → Some k ∷ Some x ∷ [] ≡ take 2
-      (drop i s) → Neighbours s i k x k' x'
-  neighbours [] zero k x k' x' e = absurd (cons-not-nil e)
-  neighbours (p ∷ []) zero k x k' x' e = absurd (cons-not-nil (cons-tail e))
-  neighbours (p ∷ q ∷ s) zero k x k' x' e =
+  pub neighbors : (s : List (Option T)) (i : ℕ) (k x k' x' : T) → Some k ∷ Some x ∷ [] ≡ take 2
+      (drop i s) → Neighbors s i k x k' x'
+  neighbors [] zero k x k' x' e = absurd (cons-not-nil e)
+  neighbors (p ∷ []) zero k x k' x' e = absurd (cons-not-nil (cons-tail e))
+  neighbors (p ∷ q ∷ s) zero k x k' x' e =
       let one : Some k ≡ p = cons-head e in
       let two : Some x ≡ q = cons-head (cons-tail e) in
       record {
@@ -47,9 +47,9 @@ module _ {T : Type 0} where
         now = (λ i. overwrite_items (sym one i ∷ sym two i ∷ s) 0 (k' ∷ x' ∷ []))
             ∙ ap (λ (r : List (Option T)). Some k' ∷ Some x' ∷ r) (over-none s);
       }
-  neighbours [] (suc i) k x k' x' e = absurd (cons-not-nil e)
-  neighbours (p ∷ s) (suc i) k x k' x' e =
-      let h = neighbours s i k x k' x' e in
+  neighbors [] (suc i) k x k' x' e = absurd (cons-not-nil e)
+  neighbors (p ∷ s) (suc i) k x k' x' e =
+      let h = neighbors s i k x k' x' e in
       record { first = h.first; second = h.second; now = ap (λ (r : List (Option T)). p ∷ r) h.now }
 
   -- In this module, the slice `all` contains the two items in the slots `i` and `i + 1`. It is
@@ -58,7 +58,7 @@ module _ {T : Type 0} where
       (lent : filled_slots all ≡ slice_range s i (i + 2)) (cut : all ≡ a ++ b)
       (one : length a ≡ 1) where
     pub parts-of : {k x : T} (k' x' : T) → k ≡ get_or a 0 k → x ≡ get_or b 0 x
-        → Neighbours s i k x k' x'
+        → Neighbors s i k x k' x'
         × (overwrite_items s i (set a 0 k' ++ set b 0 x') ≡ set (set s i (Some k')) (suc i)
         (Some x'))
     parts-of {k} {x} k' x' is isn =
@@ -79,7 +79,7 @@ module _ {T : Type 0} where
         let first : k ≡ p.0 = is ∙ ap (λ (l : List T). get_or l 0 k) p.1 in
         let second : x ≡ q.0 = isn ∙ ap (λ (l : List T). get_or l 0 x) q.1 in
         let both : all ≡ p.0 ∷ q.0 ∷ [] = cut ∙ (λ j. p.1 j ++ q.1 j) in
-        let h = neighbours s i k x k' x' ((λ j. Some (first j) ∷ Some (second j) ∷ [])
+        let h = neighbors s i k x k' x' ((λ j. Some (first j) ∷ Some (second j) ∷ [])
         ∙ (sym (ap filled_slots both) ∙ lent')) in
         (h, (λ j. overwrite_items s i (set (p.1 j) 0 k' ++ set (q.1 j) 0 x')) ∙ h.now)
 
@@ -160,22 +160,22 @@ module _ {T A : Type 0} where
       let pre : List T = p.0 in
       let z : List (Option T) =
       empty_slots v.gap_before ++ (filled_slots v.middle ++ past_middle v) in
-      let row : h.block.slots ≡ filled_slots pre ++ (Some p.1 ∷ z) = o.row
-      ∙ (ap (λ (l : List T). filled_slots l ++ z) p.2 ∙ row-at [] pre p.1 [] z) in
+      let slots : h.block.slots ≡ filled_slots pre ++ (Some p.1 ∷ z) = o.slots
+      ∙ (ap (λ (l : List T). filled_slots l ++ z) p.2 ∙ slots-at [] pre p.1 [] z) in
       let here : length (filled_slots pre) ≡ h.front_end - 1 =
       omega (arith, length-full pre, o.front, ap length p.2, length_push pre p.1) in
       let same : p.1 ≡ x = some-same
       (sym (get_or_at (filled_slots pre) (Some p.1) z None (h.front_end - 1) here)
-      ∙ (ap (λ (r : List (Option T)). slot r (h.front_end - 1)) (sym row) ∙ is)) in
+      ∙ (ap (λ (r : List (Option T)). slot r (h.front_end - 1)) (sym slots) ∙ is)) in
       let w : OpenView T A = record v { front = pre ++ y ∷ [] } in
       let count : length (pre ++ y ∷ []) ≡ length v.front =
       omega (arith, length_push pre y, ap length p.2, length_push pre p.1) in
       let left : v.capacity - tail_end v ≡ w.capacity - tail_end w = omega (arith, count) in
       let after : b.slots ≡ slots_of w =
       ap (λ (z : BlockView T A). z.slots) now
-      ∙ (ap (λ (r : List (Option T)). set r (h.front_end - 1) (Some y)) row
+      ∙ (ap (λ (r : List (Option T)). set r (h.front_end - 1) (Some y)) slots
       ∙ (set_at (filled_slots pre) (Some p.1) z (Some y) (h.front_end - 1) here
-      ∙ (sym (row-at [] pre y [] z)
+      ∙ (sym (slots-at [] pre y [] z)
       ∙ ap (λ (r : List (Option T)). filled_slots (pre ++ y ∷ [])
       ++ (empty_slots v.gap_before ++ (filled_slots v.middle ++ r)))
       (same-past v w refl refl left)))) in
@@ -183,7 +183,7 @@ module _ {T A : Type 0} where
         pre = pre;
         was = p.2 ∙ ap (λ (q : T). pre ++ q ∷ []) same;
         shown = found (record h { block = b }) w (record {
-          row = after;
+          slots = after;
           front = count ∙ o.front;
           gap_before = o.gap_before;
           middle = o.middle;
@@ -197,7 +197,7 @@ module _ {T A : Type 0} where
       → IsSome (slot h.block.slots (h.front_end - 1))
   last-filled h o some =
       let v : OpenView T A = open_view h in
-      rw (ap (λ (r : List (Option T)). slot r (h.front_end - 1)) o.row)
+      rw (ap (λ (r : List (Option T)). slot r (h.front_end - 1)) o.slots)
       (slot-in-full [] v.front (empty_slots v.gap_before
       ++ (filled_slots v.middle ++ past_middle v))
       (h.front_end - 1)

@@ -12,7 +12,7 @@ module _ {T A : Type 0} where
   -- `IsIntoIterBlock b a start end` describes the block `b` of an iterator: exactly the slots
   -- `start..end` hold items, and the memory of `b`, if it has any, came from the allocator `a`.
   pub record IsIntoIterBlock (b : Block T A) (a : A) (start end : ℕ) : Type 0 where
-    pub row : b.slots
+    pub slots : b.slots
         ≡ empty_slots start
         ++ (filled_slots (items_in b.slots) ++ empty_slots (length b.slots - end))
     pub len : start + length (items_in b.slots) ≡ end

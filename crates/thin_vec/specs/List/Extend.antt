@@ -116,7 +116,7 @@ module _ {T A : Type 0} where
   -- changed the list from `v` to `w`. Each added item costs one move, and moving the items that
   -- were already in `v` costs at most `n` moves in total. The fields add on both sides of `≤`
   -- rather than subtract, because a subtraction on `ℕ` ends at 0. No contract of this crate says
-  -- this: lemmas of `PushesLemmas` derive it.
+  -- this: lemmas of `ExtendCostLemmas` and `FinishCostLemmas` derive it.
   pub record CostsInserting (n : ℕ) (v w : ListView T A) : Type 0 where
     -- There were at least as many moves as added items.
     pub least : v.cost.moves + length w.items ≤ w.cost.moves + length v.items

@@ -119,7 +119,7 @@ impl PartialEq for Key {
     }
 }
 
-// Two calls make the keys of two neighbours, first that of the later item, and then the keys are
+// Two calls make the keys of two neighbors, first that of the later item, and then the keys are
 // compared once. The key of a kept item is 0, and the later item is removed if its key is 0.
 fn dedup_by_key<T: Numbered, G: Growth, R: Abort>(rt: &R, case: &mut Case<T, G>) -> Answer {
     let at = case.at;
@@ -127,7 +127,12 @@ fn dedup_by_key<T: Numbered, G: Growth, R: Abort>(rt: &R, case: &mut Case<T, G>)
     let counter = calls.clone().expect(rt, "memory");
     case.begin("dedup_by_key");
     dedup_counted(&mut case.list, (at.length, at.argument), counter);
-    assert_calls(rt, at, &calls, (at.length as u64).saturating_sub(1).saturating_mul(3));
+    assert_calls(
+        rt,
+        at,
+        &calls,
+        (at.length as u64).saturating_sub(1).saturating_mul(3),
+    );
     Ok(Due::NOTHING)
 }
 
@@ -140,7 +145,10 @@ fn dedup_counted<T: Numbered, A: Allocator, G: Growth>(
     list.dedup_by_key(move |_item| {
         let call = next_call(&counter);
         let keeps = At::new(chosen.0, 0, chosen.1).keeps(call / 3);
-        Key { number: u64::from(call % 3 == 0 && keeps), counter: counter.clone().ok() }
+        Key {
+            number: u64::from(call % 3 == 0 && keeps),
+            counter: counter.clone().ok(),
+        }
     });
 }
 

@@ -86,8 +86,8 @@ module _ (E : El) (Y : Al) (k : ℕ) where
 -- `Tokens` are the lifetime tokens of `A` and `K`, and `Post` has to hold at the return.
 module _ (E : El) (Y : Al) (k : ℕ) {M : Type 1} {𝓤 : Ura M} (𝓛 : Logic 𝓤) (C : Calls 𝓤 𝓛.H)
     (Λ : Loops 𝓤 𝓛.H) (κ κT : Lft) (q qT : Share) (Tokens : Item 𝓤) (Post : Val → SProp 𝓤)
-    (h : Y.row.Denot) (b o len held wanted : ℕ) (items : List (el_x E))
-    (fits : FitsGap (R E) k len held wanted items) where
+    (h : Y.row.Denot) (b o len current wanted : ℕ) (items : List (el_x E))
+    (fits : FitsGap (R E) k len current wanted items) where
   open 𝓛 use {H}
 
   abbrev tok : Ty → Ptr → Fml
@@ -121,15 +121,15 @@ module _ (E : El) (Y : Al) (k : ℕ) {M : Type 1} {𝓤 : Ura M} (𝓛 : Logic �
   -- `Turned r` is the allocation after the allocator has returned `r`: an array, which begins with
   -- the last values. `Left r` is what the function leaves if it returns `r`.
   abbrev Turned : Answer.Denot → Fml
-  Turned = resized_if_ok tok (R E) (block_ptr b o) len held wanted turned
+  Turned = resized_if_ok tok (R E) (block_ptr b o) len current wanted turned
 
   abbrev Left : Answer.Denot → Fml
-  Left = gapped_if_ok tok (R E) (block_ptr b o) k len held wanted items
+  Left = gapped_if_ok tok (R E) (block_ptr b o) k len current wanted items
 
   short : len * sz E < 2 ^ 64
-  short = let room : k + len ≤ held = fits.room in
+  short = let room : k + len ≤ current = fits.room in
       let near : len * sz E < 2 ^ 63 =
-      times_below len held (sz E) (2 ^ 63) (omega arith) fits.fits in
+      times_below len current (sz E) (2 ^ 63) (omega arith) fits.fits in
       omega arith
 
   abbrev Ends : Bool → ℕ → ℕ → Type 1
@@ -192,7 +192,7 @@ module _ (E : El) (Y : Al) (k : ℕ) {M : Type 1} {𝓤 : Ura M} (𝓛 : Logic �
         exec ! C Λ En (after 10 (inner E Y k)) Result $
         forget_but ! En (17 ∷ []) refl $ returned true b' o')
 
-    -- Stage 5 after failure. The allocation is still the old one, for `held` values, and begins
+    -- Stage 5 after failure. The allocation is still the old one, for `current` values, and begins
     -- with the last values. They go back to the end of the values, so that only the gap has
     -- changed.
     refused : Sq 𝓛 (Own (Turned (result_of false 0 0)) ((8, answer_val false 0 0) ∷ known))
@@ -200,11 +200,11 @@ module _ (E : El) (Y : Al) (k : ℕ) {M : Type 1} {𝓤 : Ura M} (𝓛 : Logic �
     refused =
         sets ! (of_opd ! (get_in ! (vrt ! refl (fld ! refl (stop !)))
         (in_variant ! 1 0 refl refl (whole !)))) refl (tt, tt) $
-        use1 𝓛 (‵ (Last b o) ⊛ ‵ (Gap b (past o)) ⊛ ‵ (Rest b o held fits.room))
-        (after_out 𝓛 E tok b o k len held items fits.count fits.enough fits.room) $ split3 ! $
+        use1 𝓛 (‵ (Last b o) ⊛ ‵ (Gap b (past o)) ⊛ ‵ (Rest b o current fits.room))
+        (after_out 𝓛 E tok b o k len current items fits.count fits.enough fits.room) $ split3 ! $
         moves_array E k ! b o (past o) back (λ v. refl) (λ v. refl) (λ v good. good.0) (λ v.
-        use3 𝓛 (‵ (Gapped b o held))
-        (before_in 𝓛 E tok b o k len held items fits.count fits.enough fits.room) $
+        use3 𝓛 (‵ (Gapped b o current))
+        (before_in 𝓛 E tok b o k len current items fits.count fits.enough fits.room) $
         sets_last ! (agg ! (and_then ! (lit ! tt) (and_then ! (get ! refl) (no_more !)))) refl
         (Answer-typed false 0 0) $
         exec ! C Λ En (after 10 (inner E Y k)) Result $
@@ -238,32 +238,32 @@ module _ (E : El) (Y : Al) (k : ℕ) {M : Type 1} {𝓤 : Ura M} (𝓛 : Logic �
         (shrinks : Triple 𝓤 (C (resize_key Y E.row 3))
         (Resizes Y E.row (Shrinks E.row) 𝓛 at_mem run))
         (p : ℕ × ℕ) (live : κ ⊑ Y.row.lives) (leT : κT ⊑ E.row.lives) (fl : len < 2 ^ 64)
-        (fh : held < 2 ^ 64) (fw : wanted < 2 ^ 64) where
+        (fh : current < 2 ^ 64) (fw : wanted < 2 ^ 64) where
       -- `args` are the values of the parameters.
       abbrev args : List (ℕ × Val)
-      args = (1, vptr p.0 p.1) ∷ (2, vptr b o) ∷ (3, vint w64 len) ∷ (4, vint w64 held)
+      args = (1, vptr p.0 p.1) ∷ (2, vptr b o) ∷ (3, vint w64 len) ∷ (4, vint w64 current)
           ∷ (5, vint w64 wanted) ∷ []
 
-      -- Stage 3. The allocation for `held` values is one array, and the function owns what the
+      -- Stage 3. The allocation for `current` values is one array, and the function owns what the
       -- allocator's method takes: this array, the shared reference to the allocator, and two
       -- tokens.
-      calls : Sq 𝓛 (‵ (block_with_items tok (R E) (block_ptr b o) len held turned)
+      calls : Sq 𝓛 (‵ (block_with_items tok (R E) (block_ptr b o) len current turned)
           ∷ ‵ (seen Y κ p h) ∷ ‵ (flft κ q) ∷ ‵ (flft κT qT) ∷ Tokens
           ∷ holding 𝓛 En ((6, vptr b o) ∷ (7, vptr b (past o)) ∷ args))
           (runs C Λ En (after 6 (inner E Y k)) Result)
       calls =
-          let room : k + len ≤ held = fits.room in
+          let room : k + len ≤ current = fits.room in
           let new_room : k + len ≤ wanted = fits.new_room in
           sets ! (bin ! (get ! refl) (get ! refl) tt) refl (tt, tt) $ first ! $
           branches ! (get ! refl)
-          (λ less. let more : held < wanted = ltb→lt held wanted less in
-          asks E Y (Grows E.row) 𝓛 at_mem run κ κT q qT p h b o len held wanted turned ! framed
+          (λ less. let more : current < wanted = ltb→lt current wanted less in
+          asks E Y (Grows E.row) 𝓛 at_mem run κ κT q qT p h b o len current wanted turned ! framed
           grows live leT (omega arith, omega arith, fits.new_fits) fl fh fw
           (and_then ! (get ! refl) (and_then ! (get ! refl) (and_then ! (get ! refl)
           (and_then ! (get ! refl) (and_then ! (get ! refl) (no_more !)))))) (λ u.
           forget_but ! En (3 ∷ 6 ∷ 7 ∷ []) refl $ settled u))
-          (λ other. let less : wanted ≤ held = nltb→le held wanted other in
-          asks E Y (Shrinks E.row) 𝓛 at_mem run κ κT q qT p h b o len held wanted turned ! framed
+          (λ other. let less : wanted ≤ current = nltb→le current wanted other in
+          asks E Y (Shrinks E.row) 𝓛 at_mem run κ κT q qT p h b o len current wanted turned ! framed
           shrinks live leT (omega arith, omega arith, fits.fits) fl fh fw
           (and_then ! (get ! refl) (and_then ! (get ! refl) (and_then ! (get ! refl)
           (and_then ! (get ! refl) (and_then ! (get ! refl) (no_more !)))))) (λ u.
@@ -271,16 +271,16 @@ module _ (E : El) (Y : Al) (k : ℕ) {M : Type 1} {𝓤 : Ura M} (𝓛 : Logic �
 
       -- Stage 2. The gap is before the values, as in the contract. The last values and the gap are
       -- taken out of the allocation, and change places.
-      fills_gap : Sq 𝓛 (‵ (Gapped b o held) ∷ ‵ (seen Y κ p h) ∷ ‵ (flft κ q) ∷ ‵ (flft κT qT)
+      fills_gap : Sq 𝓛 (‵ (Gapped b o current) ∷ ‵ (seen Y κ p h) ∷ ‵ (flft κ q) ∷ ‵ (flft κT qT)
           ∷ Tokens ∷ holding 𝓛 En args) (runs C Λ En (fn' E Y k).body (at_ret En Post))
       fills_gap =
           first ! $ blocks ! $ sets ! (of_opd ! (get ! refl)) refl (tt, tt) $
           moves_on E ! b o len short refl (tt, tt) $ sets ! (of_opd ! (get ! refl)) refl (tt, tt) $
-          use1 𝓛 (‵ (Last b (past o)) ⊛ ‵ (Gap b o) ⊛ ‵ (Rest b o held fits.room))
-          (before_out 𝓛 E tok b o k len held items fits.count fits.enough fits.room) $ split3 ! $
+          use1 𝓛 (‵ (Last b (past o)) ⊛ ‵ (Gap b o) ⊛ ‵ (Rest b o current fits.room))
+          (before_out 𝓛 E tok b o k len current items fits.count fits.enough fits.room) $ split3 ! $
           moves_array E k ! b (past o) o back (λ v. refl) (λ v. refl) (λ v good. good.0) (λ v.
-          use3 𝓛 (‵ (block_with_items tok (R E) (block_ptr b o) len held turned))
-          (after_in 𝓛 E tok b o k len held items fits.count fits.enough fits.room) $
+          use3 𝓛 (‵ (block_with_items tok (R E) (block_ptr b o) len current turned))
+          (after_in 𝓛 E tok b o k len current items fits.count fits.enough fits.room) $
           forget_but ! En (1 ∷ 2 ∷ 3 ∷ 4 ∷ 5 ∷ 6 ∷ 7 ∷ []) refl $ calls)
 
 -- Stage 1. The function owns the allocation, the shared reference to the allocator, and the
@@ -297,7 +297,7 @@ resize_array_spec 𝓤 𝓛 𝓜 𝓡 wired T A k LT LA fits_k g d dd met md =
     (#self (args_at E Y k)) (fn' E Y k)
     (compiled.unfolded 𝓤 𝓛.H 𝓜 𝓡 wired (T, (A, (number k, tt))) d dd) (λ z are.
     let Post : Val → SProp 𝓤 = (walk_of 𝓛 En₀ hs c).post z in
-    let (alloc, (start, (len, (held, (wanted, _))))) = z.0.3 in
+    let (alloc, (start, (len, (current, (wanted, _))))) = z.0.3 in
     let ((is₀, _), (is₁, ((is₂, fl), ((is₃, fh), ((is₄, fw), _))))) = are in
     let (κ, (κT, (κA, (κK, _)))) = z.0.0 in
     let (q, (qT, _)) = z.0.1 in
@@ -309,7 +309,7 @@ resize_array_spec 𝓤 𝓛 𝓜 𝓡 wired T A k LT LA fits_k g d dd met md =
     let (_, (_, κs)) = z.0.0 in
     let (_, (_, qs)) = z.0.1 in
     let Tokens : Item 𝓤 = raw (toks 𝓛 2 κs qs) in
-    let left : Ptr → Answer.Denot → Fml = λ a. gapped_if_ok tok Rt a k len held wanted items in
+    let left : Ptr → Answer.Denot → Fml = λ a. gapped_if_ok tok Rt a k len current wanted items in
     let ends : (b o : ℕ) → start ≡ block_ptr b o → (y : Bool) (b' o' : ℕ)
     → Sq 𝓛 (‵ (left (block_ptr b o) (result_of y b' o')) ∷ ‵ (flft κ q) ∷ ‵ (flft κT qT) ∷ Tokens
     ∷ []) (prop (Post (answer_val y b' o'))) = λ b o at y b' o'.
@@ -321,20 +321,20 @@ resize_array_spec 𝓤 𝓛 𝓜 𝓡 wired T A k LT LA fits_k g d dd met md =
     done ! in
     arrives (slot_at 0 ps) (others ps) 𝓛 z.0 ((c z.0.0 z.0.3).requires z.1) (move ! (4 ∷ []) $
     use1 𝓛 (raw (fact 𝓤 (κT ⊑ T.lives)) ⊛ raw (fact 𝓤 (κA ⊑ A.lives)) ⊛
-    raw (fact 𝓤 (κK ⊑ [])) ⊛ raw (fact 𝓤 (FitsGap Rt k len held wanted items)) ⊛ ‵
-    (gapped_items tok Rt start k len held items)) (id⊢ 𝓤 _) $ split ! $ heard ! _ (λ leT.
+    raw (fact 𝓤 (κK ⊑ [])) ⊛ raw (fact 𝓤 (FitsGap Rt k len current wanted items)) ⊛ ‵
+    (gapped_items tok Rt start k len current items)) (id⊢ 𝓤 _) $ split ! $ heard ! _ (λ leT.
     split ! $ heard ! _ (λ leA. split ! $ heard ! _ (λ leK. split ! $ heard ! _ (λ fits.
     let live : κ ⊑ A.lives = ⊑_trans κ κA A.lives z.0.2.0 leA in
-    in_a_block ! start (λ a. gapped_items tok Rt a k len held items) (id⊢ 𝓤 _) (λ b o at.
+    in_a_block ! start (λ a. gapped_items tok Rt a k len current items) (id⊢ 𝓤 _) (λ b o at.
     move ! (1 ∷ []) $ fsplit ! $ drop ! $ keep ! (1 ∷ 0 ∷ 2 ∷ 3 ∷ []) $ move ! (3 ∷ []) $
     token_out ! 2 z.0.0.1 z.0.1.1 $ move ! (2 ∷ 3 ∷ 4 ∷ 0 ∷ []) $
     -- The context is now: the allocation; the shared reference to the allocator; the lifetime
     -- tokens of this reference and of `T`; the other lifetime tokens.
-    enters ! (fn' E Y k) (vptr p.0 p.1 ∷ vptr b o ∷ vint w64 len ∷ vint w64 held ∷ vint w64 wanted
+    enters ! (fn' E Y k) (vptr p.0 p.1 ∷ vptr b o ∷ vint w64 len ∷ vint w64 current ∷ vint w64 wanted
     ∷ [])
     (λ i. is₀ i ++ ((is₁ ∙ ap (λ (a : Ptr). ptr_val a ∷ []) at) i ++ (is₂ i ++ (is₃ i
     ++ (is₄ i ++ []))))) $
     alloc_all ! (λ l. pass_all ! refl ((tt, tt), ((tt, tt), (word fl, (word fh, (word fw, tt))))) $
-    fills_gap E Y k 𝓛 C Λ κ κT q qT Tokens Post h b o len held wanted items fits (ends b o at) l
+    fills_gap E Y k 𝓛 C Λ κ κT q qT Tokens Post h b o len current wanted items fits (ends b o at) l
     𝓜.mem 𝓡.returns (fm 𝓛 𝓜 𝓡) (met.grow dd T LT) (met.shrink dd T LT) p live leT fl fh
     fw))))))))

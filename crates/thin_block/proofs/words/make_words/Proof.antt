@@ -60,10 +60,10 @@ use Rattle.std.proofs.raw_atomic.Walks.{proved}
 use Rattle.std.specs.Mem.{type_size}
 use Rattle.thin_block.specs.Ownership.{slots_own, word_of}
 use Rattle.thin_block.specs.Slots.{filled_slots}
-use Rattle.thin_block.specs.Words.{word, runs_at, runs_from, words_from}
+use Rattle.thin_block.specs.Words.{word, chunks_at, chunks_from, words_from}
 use Rattle.thin_block.specs.contracts.words.make_words as F
 use Rattle.thin_block.specs.contracts.words.make_words.Key.{name as #self}
-use Rattle.thin_block.proofs.words.OneWord.{run_row, word_val, word_fits, word_made}
+use Rattle.thin_block.proofs.words.OneWord.{chunk_type, word_val, word_fits, word_made}
 use Rattle.thin_block.proofs.words.WordsMemory.{word_row, number_of_items}
 use Rattle.thin_block.proofs.words.make_words.Code as code
 use Rattle.thin_block.proofs.words.make_words.Statement as stated
@@ -86,15 +86,15 @@ module _ (E : El) (m : ℕ) where
   abbrev stayed : Stays ended.signature.params ended.kept
   stayed = (stay_dropped _ yes, (stay_dropped _ yes, tt))
 
-  -- `Runs` is the type of lists of words in which each word is given as the list of its items.
-  abbrev Runs : Type 0
-  Runs = List (List (el_x E))
+  -- `Chunks` is the type of lists of words in which each word is given as the list of its items.
+  abbrev Chunks : Type 0
+  Chunks = List (List (el_x E))
 
   abbrev N : RattleType
   N = number_of_items m
 
 module _ (E : El) (m : ℕ) {M : Type 1} {𝓤 : Ura M} (𝓛 : Logic 𝓤) (𝓣 : Tables 𝓤 𝓛.H)
-    (κ κ' : Lft) (q q' : Share) (Post : Val → SProp 𝓤) (n : ℕ) (g : Runs E m) where
+    (κ κ' : Lft) (q q' : Share) (Post : Val → SProp 𝓤) (n : ℕ) (g : Chunks E m) where
   open 𝓛 use {H, A}
 
   abbrev σ : Ty
@@ -115,15 +115,15 @@ module _ (E : El) (m : ℕ) {M : Type 1} {𝓤 : Ura M} (𝓛 : Logic 𝓤) (�
 
   -- `Goes p` states that the function may be called with the items at `p`.
   abbrev Goes : Ptr → Type 1
-  Goes p = Sq 𝓛 (‵ (runs_from (R E) (N E m) g p) ∷ Tokens ∷ [])
+  Goes p = Sq 𝓛 (‵ (chunks_from (R E) (N E m) g p) ∷ Tokens ∷ [])
       (prop (WpFn 𝓤 H 𝓣.C 𝓣.Λ (fn' E m) (ptr_val p ∷ vint w64 n ∷ []) Post))
 
   module _ (b o : ℕ) (fn : n < 2 ^ 64) (fb : n * s < 2 ^ 64)
       (dense : type_size (word_row E.row m) ≡ s) (exits : Exits (block_ptr b o)) where
-    abbrev Rest : Runs E m → ℕ → Fml
-    Rest xss at = runs_at (R E) (N E m) xss b at
+    abbrev Rest : Chunks E m → ℕ → Fml
+    Rest xss at = chunks_at (R E) (N E m) xss b at
 
-    abbrev Made : Runs E m → ℕ → Fml
+    abbrev Made : Chunks E m → ℕ → Fml
     Made xss at = slots_own (word_row E.row m) (filled_slots (map (word (R E) (N E m)) xss)) b at
 
     abbrev To : Fml
@@ -131,13 +131,13 @@ module _ (E : El) (m : ℕ) {M : Type 1} {𝓤 : Ura M} (𝓛 : Logic 𝓤) (�
 
     -- `Then xss at` is the right to join the words from the offset `at` onward, which hold the
     -- items `xss`, with all words before them.
-    abbrev Then : Runs E m → ℕ → SProp 𝓤
+    abbrev Then : Chunks E m → ℕ → SProp 𝓤
     Then xss at = wand 𝓤 (sem 𝓛 (Made xss at)) (sem 𝓛 To)
 
     -- A state of the loop: the number `i` of words that have been made, the items `xss` of the
     -- other words, and a proof that these are all `n` words.
     abbrev Left : Type 0
-    Left = (i : ℕ) × ((xss : Runs E m) × (i + length xss ≡ n))
+    Left = (i : ℕ) × ((xss : Chunks E m) × (i + length xss ≡ n))
 
     abbrev Nearer : Left → Left → Type 0
     Nearer t u = n - t.0 < n - u.0
@@ -153,7 +153,7 @@ module _ (E : El) (m : ℕ) {M : Type 1} {𝓤 : Ura M} (𝓛 : Logic 𝓤) (�
 
     -- The right `Then` for the later words follows from this right for one word more, and this
     -- word.
-    onward : (i : ℕ) (xs : List (el_x E)) (xss : Runs E m)
+    onward : (i : ℕ) (xs : List (el_x E)) (xss : Chunks E m)
         → ent 𝓤 (sep 𝓤
         (sem 𝓛 (part_at (word_row E.row m) full_share (word (R E) (N E m) xs) b (here i)))
         (Then (xs ∷ xss) (here i))) (Then xss (here (suc i)))
@@ -192,10 +192,10 @@ module _ (E : El) (m : ℕ) {M : Type 1} {𝓤 : Ura M} (𝓛 : Logic 𝓤) (�
 
       -- Stage 6. The function owns the bytes of the new word, what its items own, the items of the
       -- later words, and the right `Then` for this word and the later ones.
-      ends_turn : (i : ℕ) (xs : List (el_x E)) (xss : Runs E m) (e : i + length (xs ∷ xss) ≡ n)
+      ends_turn : (i : ℕ) (xs : List (el_x E)) (xss : Chunks E m) (e : i + length (xs ∷ xss) ≡ n)
           (v : Val) → Turn (i, (xs ∷ xss, e))
           (‵ (fat full_share (layout (word_row E.row m)) b (here i) (word_val v))
-          ∷ ‵ ((run_row E m).own_val xs (v ∷ [])) ∷ ‵ (Rest xss (here i + size (word_of τ' m)))
+          ∷ ‵ ((chunk_type E m).own_val xs (v ∷ [])) ∷ ‵ (Rest xss (here i + size (word_of τ' m)))
           ∷ raw (Then (xs ∷ xss) (here i)) ∷ Tokens ∷ holding 𝓛 En (known i)) 3
       unfolding after_turn
       ends_turn i xs xss e v =
@@ -217,7 +217,7 @@ module _ (E : El) (m : ℕ) {M : Type 1} {𝓤 : Ura M} (𝓛 : Logic 𝓤) (�
       -- Stage 5. The function owns what it owns at the beginning of the turn: the items of the next
       -- word and of the later ones, and the right `Then` for them. The items are read as an array,
       -- whose bytes become memory for the word.
-      makes_one : (i : ℕ) (xs : List (el_x E)) (xss : Runs E m) (e : i + length (xs ∷ xss) ≡ n)
+      makes_one : (i : ℕ) (xs : List (el_x E)) (xss : Chunks E m) (e : i + length (xs ∷ xss) ≡ n)
           → Turn (i, (xs ∷ xss, e)) (Now (i, (xs ∷ xss, e))) 2
       unfolding after_turn
       makes_one i xs xss e =
@@ -232,9 +232,9 @@ module _ (E : El) (m : ℕ) {M : Type 1} {𝓤 : Ura M} (𝓛 : Logic 𝓤) (�
           -- The context is now: the items of the next word; the right to convert their memory into
           -- memory for the word; the items of the later words; the right `Then`; the tokens.
           use1 𝓛 (exists (λ (v : Val). ‵ (fat full_share σ b at v) ⊛ ‵
-          ((run_row E m).own_val xs (v ∷ [])))) (part_out 𝓛 (run_row E m) refl full_share xs b at) $
+          ((chunk_type E m).own_val xs (v ∷ [])))) (part_out 𝓛 (chunk_type E m) refl full_share xs b at) $
           pick ! (λ v. split ! $ move ! (1 ∷ []) $
-          peeks ! (run_row E m) (Is (run_row E m)) (shows 𝓛 (run_row E m)) xs (v ∷ []) (λ is_v.
+          peeks ! (chunk_type E m) (Is (chunk_type E m)) (shows 𝓛 (chunk_type E m)) xs (v ∷ []) (λ is_v.
           let good = (((array_at_laws 1 (R E) (param_laws 0 E.row E.laws) m).lawful 𝓛).typed xs
           (v ∷ []) is_v).0 in
           let good' = word_fits E m v good in
@@ -257,7 +257,7 @@ module _ (E : El) (m : ℕ) {M : Type 1} {𝓤 : Ura M} (𝓛 : Logic 𝓤) (�
 
       -- Stage 4. The function owns the items of the words that are not made yet, and the right
       -- `Then` for these words. Without any, this right gives all words, and the function returns.
-      turns_at : (i : ℕ) (xss : Runs E m) (e : i + length xss ≡ n)
+      turns_at : (i : ℕ) (xss : Chunks E m) (e : i + length xss ≡ n)
           → Turn (i, (xss, e)) (Now (i, (xss, e))) 0
       unfolding after_turn
       turns_at i [] e =
@@ -329,7 +329,7 @@ make_words_spec 𝓤 𝓛 𝓜 𝓡 wired X m L fits_m =
     qed 𝓛 ((Tokens E m 𝓛 𝓣 κ κ' q q' (W.post y) n g ⊛ ‵
     (owns (RawPtr ∷ usize ∷ []) (p, (n, tt)) y.0.4))
     ∷ (raw (fact 𝓤 (κ ⊑ E.row.lives)) ⊛ raw (fact 𝓤 (κ' ⊑ [])) ⊛ raw (fact 𝓤 Counted) ⊛
-    raw (fact 𝓤 Dense) ⊛ raw (fact 𝓤 Short) ⊛ ‵ (runs_from (R E) (N E m) g p)) ∷ []) ∵
+    raw (fact 𝓤 Dense) ⊛ raw (fact 𝓤 Short) ⊛ ‵ (chunks_from (R E) (N E m) g p)) ∷ []) ∵
     split ! $ move ! (1 ∷ []) $ drop ! $ move ! (1 ∷ []) $ split ! $ drop ! $ split ! $ drop ! $
     split ! $ heard ! Counted (λ count. split ! $ heard ! Dense (λ dense. split ! $
     heard ! Short (λ fb. from_ptr E m 𝓛 𝓣 κ κ' q q' (W.post y) n g p are.1.0.1 fb dense count

@@ -9,7 +9,7 @@ use denote.Param.{param}
 use denote.RattleType.{RattleType}
 use Rattle.thin_block.specs.Capacity.{Fits}
 use Rattle.thin_block.specs.Growth.{checked_capacity}
-use Rattle.thin_block.proofs.CapacityLemmas.{fits-small, fitting_none}
+use Rattle.thin_block.proofs.CapacityLemmas.{fits-small, fitting-none}
 use Rattle.thin_testing.specs.Multiples.{multiple}
 use Rattle.thin_testing.proofs.multiples.next_multiple.Goals as goal
 
@@ -21,8 +21,8 @@ module _ (R : RattleType) where
   past : (n m : ℕ) → 2 ^ 63 ≤ n → 2 ^ 63 ≤ m → checked_capacity (type_size R) (type_align R) n
       ≡ checked_capacity (type_size R) (type_align R) m
   past n m large larger =
-      fitting_none R n (λ fit. absurd (omega (arith, large, fits-small R n fit)))
-      ∙ sym (fitting_none R m (λ fit. absurd (omega (arith, larger, fits-small R m fit))))
+      fitting-none R n (λ fit. absurd (omega (arith, large, fits-small R n fit)))
+      ∙ sym (fitting-none R m (λ fit. absurd (omega (arith, larger, fits-small R m fit))))
 
   module _ (times c w next : ℕ) (is : next ≡ max w (min (c * times) (2 ^ 64 - 1))) where
     same : checked_capacity (type_size R) (type_align R) next
@@ -53,6 +53,6 @@ returns-else-fits g c =
     let never : Fits R c.max-next.result → ⊥ =
     λ fit. false≢true (sym c.if-fits.false ∙ c.fits.ensures.value.1 fit) in
     record {
-      value = sym (fitting_none R c.max-next.result never)
+      value = sym (fitting-none R c.max-next.result never)
           ∙ same R c.args.times c.args.cap c.args.want c.max-next.result next;
     }

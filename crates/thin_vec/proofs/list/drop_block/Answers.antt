@@ -3,7 +3,7 @@ use Rattle.thin_block.proofs.BlockLemmas.{slots-are}
 use Rattle.std.proofs.Common.{◌≡◌, ◌≤◌, ◌-◌, ap, ◌∙◌, length, arith, None}
 use lib.ListN.{set}
 use Rattle.thin_block.specs.Slots.{empty_slots, items_in}
-use Rattle.thin_vec.proofs.ListLemmas.{empty-alone}
+use Rattle.thin_vec.proofs.ListBlockLemmas.{empty-alone}
 use Rattle.thin_vec.proofs.list.InsertRemoveLemmas.{emptying, emptying-filled, emptying-take, emptying-all}
 use Rattle.thin_vec.proofs.list.drop_block.Goals as goal
 

@@ -8,7 +8,7 @@ use Rattle.std.specs.Fn.{Called}
 use Rattle.thin_block.specs.Slots.{filled_slots, slot}
 use Rattle.thin_block.proofs.SlotsLemmas.{slot-written}
 use Rattle.thin_vec.proofs.list.ExtendLemmas.{written-more, put-more, put-none}
-use Rattle.thin_vec.proofs.ListLemmas.{length-full}
+use Rattle.thin_vec.proofs.ListBlockLemmas.{length-full}
 use Rattle.thin_vec.proofs.put.put_results.Goals as goal
 
 pub loop-i-init : goal.loop-i-init

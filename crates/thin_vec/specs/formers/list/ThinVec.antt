@@ -72,7 +72,7 @@ fields Z Q =
     via (pair (block.the_former this Z) (const Z)) (λ X. Inside X Z Q) (λ X a. (a.block, a.alloc))
     (λ X v. record { block = v.0; alloc = v.1; growth = record {} }) (λ X a. refl) (λ X v. refl)
 
--- These lemmas are about applying a function `h` to each item in a row of slots. Empty slots stay
+-- These lemmas are about applying a function `h` to each item in a list of slots. Empty slots stay
 -- empty.
 module _ {X Y : Type 0} (h : X → Y) where
   items_in-map : (s : List (Option X)) → items_in (map (on_slot h) s) ≡ map h (items_in s)
@@ -94,16 +94,16 @@ module _ {X Y : Type 0} (h : X → Y) where
 
   packed_to : (s : List (Option X)) (n : ℕ) → IsPacked s n → IsPacked (map (on_slot h) s) n
   packed_to s n p = record {
-    row = from_shape (map (on_slot h) s) _
-        (is_some-map s ∙ (to_shape s _ p.row ∙ sym (λ i. shape (count-map s i) (left-map s i))));
+    slots = from_shape (map (on_slot h) s) _
+        (is_some-map s ∙ (to_shape s _ p.slots ∙ sym (λ i. shape (count-map s i) (left-map s i))));
     len = p.len ∙ sym (count-map s);
   }
 
   packed_from : (s : List (Option X)) (n : ℕ) → IsPacked (map (on_slot h) s) n → IsPacked s n
   packed_from s n p = record {
-    row = from_shape s _
+    slots = from_shape s _
         (sym (is_some-map s)
-        ∙ (to_shape (map (on_slot h) s) _ p.row ∙ (λ i. shape (count-map s i) (left-map s i))));
+        ∙ (to_shape (map (on_slot h) s) _ p.slots ∙ (λ i. shape (count-map s i) (left-map s i))));
     len = p.len ∙ count-map s;
   }
 
@@ -130,7 +130,7 @@ module _ (Z Q : RattleType) (G : AllocatorGhosts Z.Denot) (K : GrowthGhosts Q.De
       (a : Z.Denot) → IsProp (IsListBlock b a)
   IsListBlock-prop code b a p q = λ i. record {
     packed = record {
-      row = Coded-set (coded_list (coded_option code)) _ _ p.packed.row q.packed.row i;
+      slots = Coded-set (coded_list (coded_option code)) _ _ p.packed.slots q.packed.slots i;
       len = ℕ_set _ _ p.packed.len q.packed.len i;
     };
     from = Π_prop (λ x. Π_prop (λ _. Coded-set Z.coded _ _)) p.from q.from i;

@@ -83,14 +83,14 @@ resize_padded_spec 𝓤 𝓛 𝓜 𝓡 wired T A LT LA g d dd met md =
     let (_, (κ, (κT, (κA, _)))) = z.0.0 in
     let (_, (q, (qT, (qA, _)))) = z.0.1 in
     let (_, (_, (out, _))) = z.0.2 in
-    let (r, (a, (len, (old, (cap, (held, (wanted, (front, _)))))))) = z.0.3 in
+    let (r, (a, (len, (old, (cap, (current, (wanted, (front, _)))))))) = z.0.3 in
     let ((is₀, _), ((is₁, _), ((is₂, fl), ((is₃, fo), are')))) = are in
     let ((is₄, fc), ((is₅, fh), ((is₆, fw), ((is₇, ff), _)))) = are' in
     let x = r.now in let h = a.now in let handle_at = a.ref_ptr in
     let Tokens : Item 𝓤 = ‵ (flft κ q) ⊛ ‵ (flft κT qT) ⊛ ‵ (flft κA qA) ⊛ ‵ ftrue in
     starts E Y 𝓛 ss z.0 ((c z.0.0 z.0.3).requires z.1) (move ! (5 ∷ []) $
     heard_each ! (_ ∷ _ ∷ _ ∷ _ ∷ _ ∷ _ ∷ _ ∷ _ ∷ _ ∷ _ ∷ _ ∷ _ ∷ _ ∷ _ ∷ [])
-    (λ leT leA from pad pad' packed len_is old_is enough small any held_is wanted_is front_is.
+    (λ leT leA from pad pad' packed len_is old_is enough small any current_is wanted_is front_is.
     let items : List T.Denot = items_in x.slots in
     let all : len ≡ length items = len_is ∙ packed.len in
     let le : x.len ≤ length x.slots = packed-le x.slots x.len packed in
@@ -106,7 +106,7 @@ resize_padded_spec 𝓤 𝓛 𝓜 𝓡 wired T A LT LA g d dd met md =
     -- The context is now: the borrow of the block (3 entries); the shared reference to the
     -- allocator; the lifetime tokens of this reference, of `T` and of `A`; the other tokens.
     enters ! fn (ptr_of r ∷ vptr handle_at.0 handle_at.1 ∷ vint w64 len ∷ vint w64 old ∷ vint w64
-    cap ∷ vint w64 held ∷ vint w64 wanted ∷ vint w64 front ∷ [])
+    cap ∷ vint w64 current ∷ vint w64 wanted ∷ vint w64 front ∷ [])
     (λ i. is₀ i
     ++ (is₁ i ++ (is₂ i ++ (is₃ i ++ (is₄ i ++ (is₅ i ++ (is₆ i ++ (is₇ i ++ [])))))))) $
     let w₂ = word fl in let w₃ = word fo in let w₄ = word fc in let w₅ = word fh in
@@ -161,14 +161,14 @@ resize_padded_spec 𝓤 𝓛 𝓜 𝓡 wired T A LT LA g d dd met md =
     let qR : Share = Shares.right qT in
     -- `left u` is the array after `resize_array` has returned `u`.
     let left = leaves E Y 1 𝓛 𝓜.mem 𝓡.returns κ κT κA κT q qL qA qR out handle_at h b start
-    len held wanted items in
-    let sizes : FitsGap Rt 1 len held wanted items =
+    len current wanted items in
+    let sizes : FitsGap Rt 1 len current wanted items =
     record {
       count = sym all;
       enough = omega arith;
       room = omega arith;
       new_room = omega arith;
-      fits = subst (λ (n : ℕ). n * s < 2 ^ 63) (sym held_is) wide.short;
+      fits = subst (λ (n : ℕ). n * s < 2 ^ 63) (sym current_is) wide.short;
       new_fits = subst (λ (n : ℕ). n * s < 2 ^ 63) (sym wanted_is) wide'.short;
     } in
     -- `known` are the values of the parameters and of `at`, `end` and `start`, and `kept` are those
@@ -176,7 +176,7 @@ resize_padded_spec 𝓤 𝓛 𝓜 𝓡 wired T A LT LA g d dd met md =
     let kept : List (ℕ × Val) = (1, ptr_of r) ∷ (3, vint w64 len) ∷ (4, vint w64 old)
     ∷ (5, vint w64 cap) ∷ (8, vint w64 front) ∷ (9, vptr b o) ∷ (10, vptr b end)
     ∷ (11, vptr b start) ∷ [] in
-    let known : List (ℕ × Val) = (2, vptr handle_at.0 handle_at.1) ∷ (6, vint w64 held)
+    let known : List (ℕ × Val) = (2, vptr handle_at.0 handle_at.1) ∷ (6, vint w64 current)
     ∷ (7, vint w64 wanted) ∷ kept in
     -- Stage 4 after success. The function owns the new array of `wanted` items, whose gap is one
     -- item, and the borrow of the block is open. The code writes the header into the gap, and the
@@ -226,7 +226,7 @@ resize_padded_spec 𝓤 𝓛 𝓜 𝓡 wired T A LT LA g d dd met md =
     (tt, (tt, (tt, (tt, (tt, (tt, (tt, (tt, tt))))))))) $
     says_all ! (_ ∷ _ ∷ [])
     (resized_view E Y x h cap packed more some few cost (block_ptr b' header'), tt) $ done !) in
-    -- Stage 4 after failure. The function owns the old array of `held` items, whose gap is one
+    -- Stage 4 after failure. The function owns the old array of `current` items, whose gap is one
     -- item. The code writes the old header and the old address again, and the block is as it was.
     let refused : Sq 𝓛 (‵ (left (Err (record {})))
     ∷ Opens (Tokens ∷ holding 𝓛 En ((21, answer_val false 0 0) ∷ kept)))
@@ -235,8 +235,8 @@ resize_padded_spec 𝓤 𝓛 𝓜 𝓡 wired T A LT LA g d dd met md =
     (in_variant ! 1 0 refl refl (whole !)))) refl (tt, tt) $
     use1 𝓛 (‵ (froom (ty_int w64) b o) ⊛ ‵ (froom (ty_int w64) b (8 + o)) ⊛ ‵
     (froom ty_ptr b end) ⊛ ‵ (slots_own Rt (filled_slots items ++ empty_slots j) b (o + 16)) ⊛ ‵
-    (Kept 𝓛 E b old pad tok start o place len j held items slots_are (sym all) held_is))
-    (array_out 𝓛 E b old pad tok start o place len j held items slots_are (sym all) held_is) $
+    (Kept 𝓛 E b old pad tok start o place len j current items slots_are (sym all) current_is))
+    (array_out 𝓛 E b old pad tok start o place len j current items slots_are (sym all) current_is) $
     split3 ! $ move ! (2 ∷ []) $ split3 ! $ move ! (3 ∷ 4 ∷ 0 ∷ []) $
     -- The context is now as after success, with the old address and the old capacity.
     assigns ! (of_opd ! (get ! refl)) (through ! refl (stop !)) (init ! 0 refl (word fo)) $
@@ -256,17 +256,17 @@ resize_padded_spec 𝓤 𝓛 𝓜 𝓡 wired T A LT LA g d dd met md =
     (x, (tt, (tt, (tt, (tt, (tt, (tt, (tt, tt))))))))
     (tt, (tt, (tt, (tt, (tt, (tt, (tt, (tt, tt))))))))) $
     says_all ! (_ ∷ _ ∷ []) (tt, refl) $ done !) in
-    -- Stage 3. The function owns an array of `held` items, whose gap is one item; the open borrow;
-    -- the shared reference to the allocator; the lifetime tokens of this reference, of `T` and of
-    -- `A`. The token of `T` is split, and its second part is the token of the const argument `K` of
-    -- `resize_array`. Afterwards, the two parts are joined.
-    let resizes_array : Sq 𝓛 (‵ (gapped_items tok Rt (block_ptr b start) 1 len held items)
+    -- Stage 3. The function owns an array of `current` items, whose gap is one item; the open
+    -- borrow; the shared reference to the allocator; the lifetime tokens of this reference, of `T`
+    -- and of `A`. The token of `T` is split, and its second part is the token of the const argument
+    -- `K` of `resize_array`. Afterwards, the two parts are joined.
+    let resizes_array : Sq 𝓛 (‵ (gapped_items tok Rt (block_ptr b start) 1 len current items)
     ∷ Opens (‵ (seen Y κ handle_at h) ∷ ‵ (flft κ q) ∷ ‵ (flft κT qT) ∷ ‵ (flft κA qA) ∷ ‵ ftrue
     ∷ holding 𝓛 En known))
     (runs C Λ En (after 6 inner) Last) =
     move ! (7 ∷ []) $ use1 𝓛 (‵ (flft κT qL) ⊛ ‵ (flft κT qR)) (𝓛.lfts.lft_split κT qT) $ split ! $
     move ! (2 ∷ 7 ∷ 8 ∷ 0 ∷ 9 ∷ 1 ∷ []) $
-    resizes E Y 1 𝓛 𝓜.mem 𝓡.returns κ κT κA κT q qL qA qR out handle_at h b start len held wanted
+    resizes E Y 1 𝓛 𝓜.mem 𝓡.returns κ κT κA κT q qL qA qR out handle_at h b start len current wanted
     items ! (fm 𝓛 𝓜 𝓡)
     (resize_array_met.met 𝓤 𝓛 𝓜 𝓡
     (compiled.calls-thin_block::in_place::resize_array 𝓡.env wired) T A 1 LT LA
@@ -293,7 +293,7 @@ resize_padded_spec 𝓤 𝓛 𝓜 𝓡 wired T A LT LA g d dd met md =
     sets ! (of_opd ! (load ! (through ! refl (stop !)) (look ! 0 refl))) refl (tt, tt) $
     use1 𝓛 (‵ (froom ty_ptr b end)) (𝓛.laws.at_room ty_ptr b end (vptr b start)) $
     move ! (2 ∷ 0 ∷ 3 ∷ 1 ∷ []) $ group ! 4 $
-    use1 𝓛 (‵ (gapped_items tok Rt (block_ptr b start) 1 len held items))
-    (array_in 𝓛 E b old pad tok start o place len j held items slots_are (sym all) held_is) $
+    use1 𝓛 (‵ (gapped_items tok Rt (block_ptr b start) 1 len current items))
+    (array_in 𝓛 E b old pad tok start o place len j current items slots_are (sym all) current_is) $
     forget_but ! En (1 ∷ 2 ∷ 3 ∷ 4 ∷ 5 ∷ 6 ∷ 7 ∷ 8 ∷ 9 ∷ 10 ∷ 11 ∷ []) refl $
     resizes_array)))))))

@@ -52,7 +52,7 @@ use Rattle.thin_block.specs.InPlace.{gapped_items, FitsGap}
 use Rattle.thin_block.specs.Ownership.{fits_block, slots_own, header_owns, dealloc_right}
 use Rattle.thin_block.specs.Ownership.{slots_wand}
 use Rattle.thin_block.specs.Slots.{items_in, filled_slots, empty_slots}
-use Rattle.thin_block.specs.Words.{runs_at}
+use Rattle.thin_block.specs.Words.{chunks_at}
 use Rattle.thin_block.specs.contracts.block.Block.resize_words.{ended, clauses}
 use Rattle.thin_block.specs.contracts.block.Block.resize_words.Key.{name as #self}
 use Rattle.thin_block.proofs.Addresses.{its_ptr}
@@ -99,7 +99,7 @@ resize_words_spec 𝓤 𝓛 𝓜 𝓡 wired T A m k LT LA fits_m fits_k g d dd m
     let (_, (κ, (κT, (κA, (κM, (κK, _)))))) = z.0.0 in
     let (_, (q, (qT, (qA, (qM, (qK, _)))))) = z.0.1 in
     let (_, (_, (out, _))) = z.0.2 in
-    let (r, (a, (len, (old, (cap, (count, (held, (wanted, _)))))))) = z.0.3 in
+    let (r, (a, (len, (old, (cap, (count, (current, (wanted, _)))))))) = z.0.3 in
     let ((is₀, _), ((is₁, _), ((is₂, fl), ((is₃, fo), are')))) = are in
     let ((is₄, fc), ((is₅, fn_), ((is₆, fh), ((is₇, fw), _)))) = are' in
     let x = r.now in let h = a.now in let handle_at = a.ref_ptr in
@@ -107,7 +107,7 @@ resize_words_spec 𝓤 𝓛 𝓜 𝓡 wired T A m k LT LA fits_m fits_k g d dd m
     (flft κK qK) ⊛ ‵ ftrue in
     starts E Y 𝓛 ss z.0 ((c z.0.0 z.0.3).requires z.1) (move ! (5 ∷ []) $
     heard_each ! (_ ∷ _ ∷ _ ∷ _ ∷ _ ∷ _ ∷ _ ∷ _ ∷ _ ∷ _ ∷ _ ∷ _ ∷ _ ∷ _ ∷ _ ∷ [])
-    (λ leT leA leM leK from in_words packed len_is old_is enough small count_is held_is wanted_is
+    (λ leT leA leM leK from in_words packed len_is old_is enough small count_is current_is wanted_is
     room.
     let leL : κT ⊑ T.lives ++ [] = ⊑_meet κT T.lives [] leT (⊑_static κT) in
     let leW : κT ⊑ W.row.lives = ⊑_meet κT (T.lives ++ []) (T.lives ++ []) leL leL in
@@ -123,7 +123,7 @@ resize_words_spec 𝓤 𝓛 𝓜 𝓡 wired T A m k LT LA fits_m fits_k g d dd m
     let j : ℕ = length x.slots - x.len in
     let j' : ℕ = cap - x.len in
     let w : ℕ = div_ceil old m in
-    let v : ℕ = held - (k + count) in
+    let v : ℕ = current - (k + count) in
     let count_fits : count ≤ w = hd.counts.holds count old (omega arith) in
     let count_fits' : count ≤ div_ceil cap m = hd.counts.holds count cap (omega arith) in
     let fill : w ≡ v + count = omega arith in
@@ -139,7 +139,7 @@ resize_words_spec 𝓤 𝓛 𝓜 𝓡 wired T A m k LT LA fits_m fits_k g d dd m
     -- The context is now: the borrow of the block (3 entries); the shared reference to the
     -- allocator; the lifetime tokens of this reference, of `T`, `A`, `M` and `K`; the other tokens.
     enters ! fn (ptr_of r ∷ vptr handle_at.0 handle_at.1 ∷ vint w64 len ∷ vint w64 old ∷ vint w64
-    cap ∷ vint w64 count ∷ vint w64 held ∷ vint w64 wanted ∷ [])
+    cap ∷ vint w64 count ∷ vint w64 current ∷ vint w64 wanted ∷ [])
     (λ i. is₀ i
     ++ (is₁ i ++ (is₂ i ++ (is₃ i ++ (is₄ i ++ (is₅ i ++ (is₆ i ++ (is₇ i ++ [])))))))) $
     let w₂ = word fl in let w₃ = word fo in let w₄ = word fc in let w₅ = word fn_ in
@@ -158,13 +158,13 @@ resize_words_spec 𝓤 𝓛 𝓜 𝓡 wired T A m k LT LA fits_m fits_k g d dd m
     let fits_old : fits_block Rt old ≡ true =
     subst (λ (n : ℕ). fits_block Rt n ≡ true) (sym old_is) fits in
     let told_old = fits_tells Rt old fits_old in
-    let sizes : FitsGap (R X) k count held wanted ws =
+    let sizes : FitsGap (R X) k count current wanted ws =
     record {
       count = words_long T m count items;
       enough = room;
       room = omega arith;
       new_room = omega arith;
-      fits = words_short old held hd held_is told_old.short;
+      fits = words_short old current hd current_is told_old.short;
       new_fits = words_short cap wanted hd wanted_is told_cap.short;
     } in
     -- `inner` is the block of the body. Its statement 2 calls `make_words`, statement 4 calls
@@ -181,13 +181,13 @@ resize_words_spec 𝓤 𝓛 𝓜 𝓡 wired T A m k LT LA fits_m fits_k g d dd m
     let Opened : List (Item 𝓤) → List (Item 𝓤) =
     λ Γ. Open E Y z.0.0.0 z.0.1.0 r b o coded coded Γ in
     let left = leaves X Y k 𝓛 𝓜.mem 𝓡.returns κ κT κA κK q qT qA qK out handle_at h b o count
-    held wanted ws in
+    current wanted ws in
     -- `known` are the values of the parameters and of `at`, and `kept` are those that the arms
     -- need.
     let kept : List (ℕ × Val) = (1, ptr_of r) ∷ (3, vint w64 len) ∷ (4, vint w64 old)
     ∷ (5, vint w64 cap) ∷ (9, vptr b o) ∷ [] in
     let known : List (ℕ × Val) = (2, vptr handle_at.0 handle_at.1) ∷ (6, vint w64 count)
-    ∷ (7, vint w64 held) ∷ (8, vint w64 wanted) ∷ kept in
+    ∷ (7, vint w64 current) ∷ (8, vint w64 wanted) ∷ kept in
     -- Stage 6. The borrow is closed around the block `y`, and the result `v` of the `match` is in
     -- the local variable 19.
     let returned : (y : (Br E Y).Denot) (v : Val) → Holds (has_ty (spot_of 𝓤 H En 0).0 v) × WT v
@@ -235,20 +235,20 @@ resize_words_spec 𝓤 𝓛 𝓜 𝓡 wired T A m k LT LA fits_m fits_k g d dd m
     (tt, (tt, (tt, (tt, (tt, (tt, (tt, (tt, tt))))))))) $
     says_all ! (_ ∷ _ ∷ [])
     (resized_view E Y x h cap packed more some few cost (block_ptr b' o'), tt) $ done !) in
-    -- Stage 5 after failure. The function owns the old array of `held` words, with all items. The
-    -- code writes the old header again, and the block is as it was.
+    -- Stage 5 after failure. The function owns the old array of `current` words, with all items.
+    -- The code writes the old header again, and the block is as it was.
     let refused : Sq 𝓛 (‵ (left (Err (record {})))
     ∷ Opened (Tokens ∷ holding 𝓛 En ((18, answer_val false 0 0) ∷ kept)))
     (runs C Λ En (arm_body 1 both) Matched) =
     sets ! (of_opd ! (get_in ! (vrt ! refl (fld ! refl (stop !)))
     (in_variant ! 1 0 refl refl (whole !)))) refl (tt, tt) $
     use1 𝓛 (‵ (froom (ty_int w64) b o) ⊛ ‵ (froom (ty_int w64) b (8 + o)) ⊛ ‵
-    (Kept 𝓛 T LT b m k in_words o tok len old held held_is) ⊛ ‵
+    (Kept 𝓛 T LT b m k in_words o tok len old current current_is) ⊛ ‵
     (slots_own Rt (filled_slots items ++ empty_slots j) b (o + 16)))
-    (words_apart 𝓛 T LT b m k in_words o tok len old held held_is items count j whole_words
+    (words_apart 𝓛 T LT b m k in_words o tok len old current current_is items count j whole_words
     slots_are sizes.room) $ split3 ! $ move ! (2 ∷ []) $ split ! $
     use1 𝓛 (‵ (dealloc_right tok Rt old b o))
-    (right_in 𝓛 T LT b m k in_words o tok len old held held_is) $ move ! (2 ∷ 3 ∷ []) $
+    (right_in 𝓛 T LT b m k in_words o tok len old current current_is) $ move ! (2 ∷ 3 ∷ []) $
     -- The context is now as after success, with the old address and the old capacity.
     assigns ! (of_opd ! (get ! refl)) (through ! refl (stop !)) (init ! 0 refl (word fo)) $
     sets ! (bin ! (get ! refl) (lit ! tt) tt) refl (tt, tt) $
@@ -263,15 +263,15 @@ resize_words_spec 𝓤 𝓛 𝓜 𝓡 wired T A m k LT LA fits_m fits_k g d dd m
     (x, (tt, (tt, (tt, (tt, (tt, (tt, (tt, tt))))))))
     (tt, (tt, (tt, (tt, (tt, (tt, (tt, (tt, tt))))))))) $
     says_all ! (_ ∷ _ ∷ []) (tt, refl) $ done !) in
-    -- Stage 4. The function owns an array of `held` words, with memory for the header before the
+    -- Stage 4. The function owns an array of `current` words, with memory for the header before the
     -- words, the shared reference to the allocator, and the lifetime tokens of this reference and
     -- of `T`, `A`, `K` and `M`. It calls `resize_array`, stores the result, and chooses the arm.
-    let resizes_words : Sq 𝓛 (‵ (gapped_items tok (R X) (block_ptr b o) k count held ws)
+    let resizes_words : Sq 𝓛 (‵ (gapped_items tok (R X) (block_ptr b o) k count current ws)
     ∷ ‵ (seen Y κ handle_at h) ∷ ‵ (flft κ q) ∷ ‵ (flft κT qT) ∷ ‵ (flft κA qA) ∷ ‵ (flft κK qK)
     ∷ ‵ (flft κM qM) ∷ ‵ ftrue ∷ Opened (holding 𝓛 En known))
     (runs C Λ En (after 3 inner) Last) =
     sets ! (of_opd ! (get ! refl)) refl (tt, tt) $
-    resizes X Y k 𝓛 𝓜.mem 𝓡.returns κ κT κA κK q qT qA qK out handle_at h b o count held wanted ws
+    resizes X Y k 𝓛 𝓜.mem 𝓡.returns κ κT κA κK q qT qA qK out handle_at h b o count current wanted ws
     ! (fm 𝓛 𝓜 𝓡)
     (resize_array_met.met 𝓤 𝓛 𝓜 𝓡
     (compiled.calls-thin_block::in_place::resize_array 𝓡.env wired) X.row A k X.laws
@@ -290,12 +290,12 @@ resize_words_spec 𝓤 𝓛 𝓜 𝓡 wired T A m k LT LA fits_m fits_k g d dd m
     exec ! C Λ En (arm_body 1 both) Matched $
     forget_but ! En (1 ∷ 3 ∷ 4 ∷ 5 ∷ 9 ∷ 18 ∷ []) refl $ refused)) in
     -- Stage 3. The function owns the items, in `count` arrays of `m` items; the empty slots as
-    -- words; memory for the header; the right to free the block as `held` words; the open borrow;
-    -- the shared reference to the allocator; the lifetime tokens of this reference and of `T`, `A`,
-    -- `M` and `K`. `make_words` makes a word of each array of items.
-    let makes_words : Sq 𝓛 (‵ (runs_at Rt (param 1 Mr) xss b (o + 16))
+    -- words; memory for the header; the right to free the block as `current` words; the open
+    -- borrow; the shared reference to the allocator; the lifetime tokens of this reference and of
+    -- `T`, `A`, `M` and `K`. `make_words` makes a word of each array of items.
+    let makes_words : Sq 𝓛 (‵ (chunks_at Rt (param 1 Mr) xss b (o + 16))
     ∷ ‵ (slots_own Rw (empty_slots v) b (count * s + (o + 16))) ∷ ‵ (froom (array_of Rw k) b o)
-    ∷ ‵ (tok (array_of Rw held) (block_ptr b o))
+    ∷ ‵ (tok (array_of Rw current) (block_ptr b o))
     ∷ Opened (‵ (seen Y κ handle_at h) ∷ ‵ (flft κ q) ∷ ‵ (flft κT qT) ∷ ‵ (flft κA qA)
     ∷ ‵ (flft κM qM) ∷ ‵ (flft κK qK) ∷ ‵ ftrue ∷ holding 𝓛 En known))
     (runs C Λ En inner Last) =
@@ -326,11 +326,11 @@ resize_words_spec 𝓤 𝓛 𝓜 𝓡 wired T A m k LT LA fits_m fits_k g d dd m
     refl $
     rewrite ! 0 (λ (n : ℕ). ‵ (header_owns tok Rt x.len n b o)) (sym old_is) refl $
     use1 𝓛 (‵ (froom (array_of Rw k) b o) ⊛ ‵ (slots_wand (bare (layout T)) m w old b (o + 16)) ⊛ ‵
-    (tok (array_of Rw held) (block_ptr b o)))
-    (header_apart 𝓛 T LT b m k in_words o tok x.len old held held_is) $ split3 ! $
+    (tok (array_of Rw current) (block_ptr b o)))
+    (header_apart 𝓛 T LT b m k in_words o tok x.len old current current_is) $ split3 ! $
     move ! (3 ∷ 1 ∷ []) $
     rewrite ! 0 (λ (l : List (Option T.Denot)). ‵ (slots_own Rt l b (o + 16))) row refl $
-    use2 𝓛 (‵ (runs_at Rt (param 1 Mr) xss b (o + 16)) ⊛ ‵
+    use2 𝓛 (‵ (chunks_at Rt (param 1 Mr) xss b (o + 16)) ⊛ ‵
     (slots_own Rw (empty_slots v) b (count * s + (o + 16))))
     (words_in 𝓛 T LT m k b hd items count j v w old (o + 16) whole_words slots_are fill
     (hd.counts.covers old)) $ split ! $ makes_words)))))

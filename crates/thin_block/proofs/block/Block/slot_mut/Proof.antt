@@ -28,7 +28,7 @@ use Rattle.thin_block.proofs.HeaderMemory.{args, Br}
 use Rattle.thin_block.proofs.MethodSignatures.{blank, item, source, others, dropped, all_go, begins}
 use Rattle.thin_block.proofs.MethodSignatures.{enters, ptr_of, opens_self, continues, word}
 use Rattle.thin_block.proofs.SlotMemory.{sz, besides}
-use Rattle.thin_block.proofs.SlotsLemmas.{the_item, filled-within}
+use Rattle.thin_block.proofs.SlotsLemmas.{the-item, filled-within}
 use Rattle.thin_block.proofs.block.Block.slot_mut.Code as compiled
 use Rattle.thin_block.proofs.block.Block.slot_mut.Statement.{statement}
 
@@ -42,7 +42,7 @@ slot_mut_spec 𝓤 𝓛 𝓜 𝓡 wired T A LT LA g d dd met md =
     let r = z.0.3.0 in let x = r.now in let i : ℕ = z.0.3.1.0 in
     let γ : GName = r.ghost_name in let κ : Lft = z.0.0.0 in let q : Share = z.0.1.0 in
     begins E Y 𝓛 (others ps) z.0 (_ ∷ _ ∷ _ ∷ []) (λ _ _ filled.
-    let item = the_item (get_or x.slots i None) filled in
+    let item = the-item (get_or x.slots i None) filled in
     let value : T.Denot = item.0 in
     let within : i < length x.slots = filled-within x.slots i filled in
     enters ! fn (ptr_of r ∷ vint w64 i ∷ []) (λ k. are.0.0 k ++ (are.1.0.0 k ++ [])) $

@@ -30,7 +30,7 @@ use Rattle.thin_block.proofs.MethodSignatures.{item, source, others, block_stays
 use Rattle.thin_block.proofs.MethodSignatures.{enters, closes_over, leaves_with, ptr_of, opens_self}
 use Rattle.thin_block.proofs.MethodSignatures.{continues, word}
 use Rattle.thin_block.proofs.SlotMemory.{two_slots, sz, slot_in}
-use Rattle.thin_block.proofs.SlotsLemmas.{same_or_not, the_item, filled-within}
+use Rattle.thin_block.proofs.SlotsLemmas.{same-or-not, the-item, filled-within}
 use Rattle.thin_block.proofs.WalkPrelude.{says_all}
 use Rattle.thin_block.proofs.block.Block.swap_take.Code as compiled
 use Rattle.thin_block.proofs.block.Block.swap_take.Statement.{statement}
@@ -45,8 +45,8 @@ swap_take_spec 𝓤 𝓛 𝓜 𝓡 wired T A LT LA g d dd met md =
     let (r, (i, (j, _))) = z.0.3 in let x = r.now in
     let ((is₀, _), ((is₁, fi), ((is₂, fj), _))) = are in
     begins E Y 𝓛 ss z.0 (_ ∷ _ ∷ _ ∷ _ ∷ []) (λ _ _ first_filled second_filled.
-    let one = the_item (slot x.slots i) first_filled in
-    let two = the_item (slot x.slots j) second_filled in
+    let one = the-item (slot x.slots i) first_filled in
+    let two = the-item (slot x.slots j) second_filled in
     let low : i < length x.slots = filled-within x.slots i first_filled in
     let low' : j < length x.slots = filled-within x.slots j second_filled in
     enters ! fn (ptr_of r ∷ vint w64 i ∷ vint w64 j ∷ [])
@@ -64,7 +64,7 @@ swap_take_spec 𝓤 𝓛 𝓜 𝓡 wired T A LT LA g d dd met md =
     ∙ length-set x.slots i (slot x.slots j) in
     let y : (Br E Y).Denot = record (with_slots x after_it long)
     { cost = add_moves (if i == j then 0 else 1) x.cost } in
-    elim (same_or_not i j) [
+    elim (same-or-not i j) [
       | inr apart ↦
           let p = two_slots E 𝓛 b (o + 16) x.slots i j apart low low' in
           takes_two E ! b (o + 16) x.slots i j p (one.1, two.1) (λ v v' good good'.

@@ -21,7 +21,7 @@ use Rattle.thin_block.proofs.MethodSignatures.{item, source, others, block_stays
 use Rattle.thin_block.proofs.MethodSignatures.{enters, closes_over, leaves_with, ptr_of, opens_self}
 use Rattle.thin_block.proofs.MethodSignatures.{continues, word}
 use Rattle.thin_block.proofs.SlotMemory.{sz, slot_in}
-use Rattle.thin_block.proofs.SlotsLemmas.{the_item, filled-within}
+use Rattle.thin_block.proofs.SlotsLemmas.{the-item, filled-within}
 use Rattle.thin_block.proofs.WalkPrelude.{says_all}
 use Rattle.thin_block.proofs.block.Block.take.Code as compiled
 use Rattle.thin_block.proofs.block.Block.take.Statement.{statement}
@@ -35,7 +35,7 @@ take_spec 𝓤 𝓛 𝓜 𝓡 wired T A LT LA g d dd met md =
     (#self (args E Y)) fn (compiled.unfolded 𝓤 𝓛.H 𝓜 𝓡 wired (T, (A, tt)) d dd) (λ z are.
     let r = z.0.3.0 in let x = r.now in let i : ℕ = z.0.3.1.0 in
     begins E Y 𝓛 ss z.0 (_ ∷ _ ∷ _ ∷ []) (λ _ _ filled.
-    let item = the_item (get_or x.slots i None) filled in
+    let item = the-item (get_or x.slots i None) filled in
     let within : i < length x.slots = filled-within x.slots i filled in
     enters ! fn (ptr_of r ∷ vint w64 i ∷ []) (λ k. are.0.0 k ++ (are.1.0.0 k ++ [])) $
     alloc_all ! (λ l. pass_all ! refl ((tt, tt), (word are.1.0.1, tt)) $

@@ -3,8 +3,8 @@ use Rattle.std.proofs.Common.{◌-◌, ◌++◌, ◌∙◌, ap, arith, drop, len
 use Rattle.thin_block.proofs.BlockLemmas.{then-len}
 use Rattle.thin_block.specs.Slots.{items_in}
 use Rattle.thin_vec.proofs.list.AppendSplitLemmas.{restores-cut, restores-joined}
-use Rattle.thin_vec.proofs.ListLemmas.{RestoresInvariant, thin-filled, list_view-keeps}
-use Rattle.thin_vec.proofs.ThinVecLemmas.{within-kept}
+use Rattle.thin_vec.proofs.ListBlockLemmas.{RestoresInvariant, thin-filled, list_view-keeps}
+use Rattle.thin_vec.proofs.BoundsLemmas.{bounds-kept}
 use Rattle.thin_vec.proofs.list.ThinVec.append_from.Goals as goal
 
 pub move_run_to-requires-clause-filled : goal.move_run_to-requires-clause-filled
@@ -45,11 +45,11 @@ invariant_of-other g c = (cut g c).thin
 
 pub returns-clause-bounds : goal.returns-clause-bounds
 returns-clause-bounds g c =
-    within-kept _ _ _ _ _ _ c.self.invariant c.self.view_is c.len-len.ensures.bounds (joined g c)
+    bounds-kept _ _ _ _ _ _ c.self.invariant c.self.view_is c.len-len.ensures.bounds (joined g c)
 
 pub returns-clause-other_bounds : goal.returns-clause-other_bounds
 returns-clause-other_bounds g c =
-    within-kept _ _ _ _ _ _ c.other.invariant c.other.view_is c.len.ensures.bounds (cut g c)
+    bounds-kept _ _ _ _ _ _ c.other.invariant c.other.view_is c.len.ensures.bounds (cut g c)
 
 pub returns-clause-changes : goal.returns-clause-changes
 returns-clause-changes g c =

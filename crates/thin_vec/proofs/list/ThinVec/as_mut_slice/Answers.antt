@@ -3,8 +3,8 @@ use Rattle.std.proofs.Common.{ap, arith, length, refl, ◌≡◌, ◌∙◌}
 use Rattle.thin_block.specs.Lends.{set_slots as block_with_items}
 use Rattle.thin_vec.specs.Lends.{with_items}
 use Rattle.thin_vec.proofs.LendsLemmas.{restores-over, view-with_items}
-use Rattle.thin_vec.proofs.ListLemmas.{thin-filled, thin-run}
-use Rattle.thin_vec.proofs.ThinVecLemmas.{within-of}
+use Rattle.thin_vec.proofs.ListBlockLemmas.{thin-filled, thin-run}
+use Rattle.thin_vec.proofs.BoundsLemmas.{bounds-of}
 use Rattle.thin_vec.proofs.list.ThinVec.as_mut_slice.Goals as goal
 
 pub slice_mut-requires-clause-filled : goal.slice_mut-requires-clause-filled
@@ -34,6 +34,6 @@ returns g c = (
     writes_back = tt;
     value = lent g c;
     len = ap length (lent g c);
-    bounds_before = within-of _ _ _ _ c.self.invariant c.self.view_is c.len-len.ensures.bounds;
+    bounds_before = bounds-of _ _ _ _ c.self.invariant c.self.view_is c.len-len.ensures.bounds;
   },
 )

@@ -1,7 +1,7 @@
 -- The first `len` slots, which `as_slice` returns, hold exactly the items of the list.
 use Rattle.std.proofs.Common.{ap, arith, length, ◌∙◌}
-use Rattle.thin_vec.proofs.ListLemmas.{thin-filled, thin-run}
-use Rattle.thin_vec.proofs.ThinVecLemmas.{within-of}
+use Rattle.thin_vec.proofs.ListBlockLemmas.{thin-filled, thin-run}
+use Rattle.thin_vec.proofs.BoundsLemmas.{bounds-of}
 use Rattle.thin_vec.proofs.list.ThinVec.as_slice.Goals as goal
 
 pub slice-requires-clause-filled : goal.slice-requires-clause-filled
@@ -17,5 +17,5 @@ returns g c =
     record {
       value = value;
       len = ap length value;
-      bounds = within-of _ _ _ _ c.self.invariant c.self.view_is c.len.ensures.bounds;
+      bounds = bounds-of _ _ _ _ c.self.invariant c.self.view_is c.len.ensures.bounds;
     }

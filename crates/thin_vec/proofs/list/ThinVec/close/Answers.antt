@@ -1,7 +1,7 @@
--- `close_gap` removes the gap, and `close` puts the block back into the list.
+-- `into_packed` removes the gap, and `close` puts the block back into the list.
 use Rattle.std.proofs.Common.{ap, sym, ◌∙◌, rules}
 use Rattle.thin_vec.specs.OpenView.{items_of}
-use Rattle.thin_vec.proofs.ListLemmas.{RestoresInvariant, settled, thin-room, list_view-becomes}
+use Rattle.thin_vec.proofs.ListBlockLemmas.{RestoresInvariant, settled, thin-room, list_view-becomes}
 use Rattle.thin_vec.proofs.list.ThinVec.close.Goals as goal
 
 facts : (g : _) (c : goal.After-release g)
@@ -11,10 +11,10 @@ facts g c =
     let is = c.replace-none.ensures.after in
     settled c.replace-none.new.dest c.self.inside.alloc (items_of c.args.block)
     c.args.block.capacity
-    (ap (λ b. b.slots) is ∙ c.close_gap.ensures.slots)
-    (ap (λ b. b.len) is ∙ c.close_gap.ensures.len) c.close_gap.ensures.in_bounds
+    (ap (λ b. b.slots) is ∙ c.into_packed.ensures.slots)
+    (ap (λ b. b.len) is ∙ c.into_packed.ensures.len) c.into_packed.ensures.in_bounds
     (λ x e. c.requires.same_allocator x
-    (sym c.close_gap.ensures.alloc ∙ (sym (ap (λ b. b.alloc) is) ∙ e))
+    (sym c.into_packed.ensures.alloc ∙ (sym (ap (λ b. b.alloc) is) ∙ e))
     ∙ sym (ap (λ v. v.alloc) c.self.view_is))
 
 pub invariant_of-self : goal.invariant_of-self

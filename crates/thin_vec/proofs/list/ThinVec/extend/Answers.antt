@@ -8,8 +8,8 @@ use Rattle.std.specs.Prelude.{IfErr, OnOk}
 use denote.Param.{param}
 use Rattle.std.proofs.lemmas.Bool.{false≢true}
 use Rattle.thin_vec.specs.List.Capacity.{FailsForRoom}
-use Rattle.thin_vec.proofs.list.ExtendLemmas.{fails-in-hand, full-in-hand, placed-longer, run_of_ok, run_given, run_given_err}
-use Rattle.thin_vec.proofs.PushesLemmas.{extended-costs, extended-from, extended-none}
+use Rattle.thin_vec.proofs.list.ExtendLemmas.{fails-in-hand, full-in-hand, placed-longer, run-of-ok, run-given, run-given-err}
+use Rattle.thin_vec.proofs.ExtendCostLemmas.{extended-costs, extended-from, extended-none}
 use Rattle.std.specs.Iterator.{Drains}
 use Rattle.thin_vec.specs.List.Extend.{IsAfterExtend, IsAfterPushes, YieldsAndCanContinue}
 use Rattle.thin_vec.proofs.list.ReservesLemmas.{lacks-room}
@@ -105,7 +105,7 @@ returns-in-Ok-clause-runs g c =
     let steps = g.I.Iterator.next_gives in let w = c.extend_unhinted.new.self in
     subst (λ old. OnOk c.extend_unhinted.result
     (WholeRun steps c.args.iter (λ p. w.items ≡ old ++ p.items))) c.reserve.ensures.items
-    (run_of_ok steps c.args.iter (λ xs. w.items ≡ c.reserve.new.self.items ++ xs)
+    (run-of-ok steps c.args.iter (λ xs. w.items ≡ c.reserve.new.self.items ++ xs)
     c.extend_unhinted.result c.extend_unhinted.ensures.items)
 
 pub returns-in-Ok-clause-err_runs : goal.returns-in-Ok-clause-err_runs
@@ -115,14 +115,14 @@ returns-in-Ok-clause-err_runs g c =
     (λ error. SomeRun steps c.args.iter
     (λ p. (xs : List g.row.T.Denot) × (w.items ≡ old ++ xs)
     × (p.items ≡ xs ++ option_to_list error.in_hand)))) c.reserve.ensures.items
-    (run_given_err steps c.args.iter g.I.Iterator.can_next g.I.Iterator.remaining
+    (run-given-err steps c.args.iter g.I.Iterator.can_next g.I.Iterator.remaining
     (λ error. error.in_hand) (λ error. error.rest)
     (λ xs. w.items ≡ c.reserve.new.self.items ++ xs) c.extend_unhinted.result
     c.extend_unhinted.ensures.placed)
 
 pub returns-in-Err-clause-err_runs : goal.returns-in-Err-clause-err_runs
 returns-in-Err-clause-err_runs g c =
-    run_given g.I.Iterator.next_gives c.args.iter [] None c.args.iter
+    run-given g.I.Iterator.next_gives c.args.iter [] None c.args.iter
     (λ l. (xs : List g.row.T.Denot) × (c.reserve.new.self.items ≡ c.args.self.now.items ++ xs)
     × (l ≡ xs ++ [])) refl
     ([], c.reserve.ensures.items ∙ sym (append-nil c.args.self.now.items), refl)

@@ -4,8 +4,8 @@ use Rattle.std.proofs.Common.{◌++◌, ◌∙◌, ap, arith, length, refl}
 use Rattle.thin_block.proofs.BlockLemmas.{then-len}
 use Rattle.thin_block.specs.Slots.{items_in}
 use Rattle.thin_vec.proofs.list.AppendSplitLemmas.{restores-more}
-use Rattle.thin_vec.proofs.ListLemmas.{RestoresInvariant}
-use Rattle.thin_vec.proofs.ThinVecLemmas.{within-of}
+use Rattle.thin_vec.proofs.ListBlockLemmas.{RestoresInvariant}
+use Rattle.thin_vec.proofs.BoundsLemmas.{bounds-of}
 use Rattle.thin_vec.proofs.list.ReservesLemmas.{keeps-settled}
 use Rattle.thin_vec.proofs.list.ThinVec.extend_from_copies_reserved.Goals as goal
 
@@ -37,7 +37,7 @@ returns-clause-preserved g c =
 
 pub returns-then-is_empty-clause-preserved : goal.returns-then-is_empty-clause-preserved
 returns-then-is_empty-clause-preserved g c =
-    let same = within-of _ _ _ _ c.self.invariant c.self.view_is c.len-len.ensures.bounds in
+    let same = bounds-of _ _ _ _ c.self.invariant c.self.view_is c.len-len.ensures.bounds in
     record {
       alloc = refl;
       never_less = omega arith;

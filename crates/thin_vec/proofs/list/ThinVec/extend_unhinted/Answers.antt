@@ -41,9 +41,9 @@ longer g c =
 after : (g : _) (c : After-fill_spare-left g) → IsAfterPushes g.G.Growth.rule (param 0 g.row.T)
     c.args.self.now c.fill_spare-left.new.self
 after g c =
-    let v = c.args.self.now in let held = c.loop-rest.invariant in
+    let v = c.args.self.now in let invariant = c.loop-rest.invariant in
     after-filled g.G.Growth.rule (param 0 g.row.T) v c.loop-rest.self c.fill_spare-left.new.self
-    held.after (omega (arith, ap length held.placed.1, length-append v.items held.placed.0))
+    invariant.after (omega (arith, ap length invariant.placed.1, length-append v.items invariant.placed.0))
     (omega (arith, longer g c)) c.fill_spare-left.ensures.bounds.1.room
     (ap (λ z. z.capacity) (changed g c)) (ap (λ z. z.cost) (changed g c))
 
@@ -152,9 +152,9 @@ pub loop-rest-preserved : goal.loop-rest-preserved
 loop-rest-preserved g c =
     let here = goal.at.loop-rest-preserved g c in let filled = here.After-fill_spare-left in
     let rule = g.G.Growth.rule in let T = param 0 g.row.T in
-    let held = c.loop-rest.invariant in
+    let invariant = c.loop-rest.invariant in
     let by = c.fill_spare-left.ensures.filled_by.0 in
-    let xs = held.placed.0 ++ by.items in
+    let xs = invariant.placed.0 ++ by.items in
     let goes = c.in-Some.ensures.goes.on (by.asked c.if-ended.false).1 in
     let nearer = by.nearer c.if-ended.false in
     let v = c.args.self.now in let u = c.loop-rest.self in
@@ -175,28 +175,28 @@ loop-rest-preserved g c =
             c.next.new.self xs c.in-Some.item (yielded g here.Else-ended)
             c.in-Some.ensures.steps,
       );
-      nearer = omega (arith, held.nearer, nearer, goes.2, more, long);
-      never_less = omega (arith, held.never_less, put.preserved.never_less, kept);
-      had_room = λ fit. let same = held.had_room fit in
-          put.had_room (omega (arith, fit, held.nearer, nearer, goes.2, more, same, kept))
+      nearer = omega (arith, invariant.nearer, nearer, goes.2, more, long);
+      never_less = omega (arith, invariant.never_less, put.preserved.never_less, kept);
+      had_room = λ fit. let same = invariant.had_room fit in
+          put.had_room (omega (arith, fit, invariant.nearer, nearer, goes.2, more, same, kept))
           ∙ (kept ∙ same);
       after = after-pushed rule T v w z (after g filled) all
-          (omega (arith, ap length held.placed.1, length-append v.items held.placed.0, more)) long
+          (omega (arith, ap length invariant.placed.1, length-append v.items invariant.placed.0, more)) long
           (omega (arith, all, long, put.preserved.within.1.room)) put.capacity put.cost;
-      alloc = put.preserved.alloc ∙ (ap (λ y. y.alloc) (changed g filled) ∙ held.alloc);
-      cheap = λ first. put.preserved.cheap (c.fill_spare-left.ensures.cheap (held.cheap first));
+      alloc = put.preserved.alloc ∙ (ap (λ y. y.alloc) (changed g filled) ∙ invariant.alloc);
+      cheap = λ first. put.preserved.cheap (c.fill_spare-left.ensures.cheap (invariant.cheap first));
     }
 
 pub returns-in-Err-clause-succeeds : goal.returns-in-Err-clause-succeeds
 returns-in-Err-clause-succeeds g c = λ fit.
     let filled = (goal.at.returns-in-Err-clause-succeeds g c).After-fill_spare-left in
-    let held = c.loop-rest.invariant in
+    let invariant = c.loop-rest.invariant in
     let by = c.fill_spare-left.ensures.filled_by.0 in
     let goes = c.in-Some.ensures.goes.on (by.asked c.if-ended.false).1 in
     c.in-Err.ensures.succeeds
     (omega (
       arith,
-      held.never_less,
+      invariant.never_less,
       by.nearer c.if-ended.false,
       longer g filled,
       ap (λ z. z.capacity) (changed g filled),
@@ -210,11 +210,11 @@ returns-in-Err-clause-cause g c =
 kept : (g : _) (c : After-fill_spare-left g) → PreservesList (param 0 g.row.T) c.args.self.now
     c.fill_spare-left.new.self
 kept g c =
-    let held = c.loop-rest.invariant in
+    let invariant = c.loop-rest.invariant in
     record {
-      alloc = ap (λ z. z.alloc) (changed g c) ∙ held.alloc;
-      never_less = omega (arith, held.never_less, ap (λ z. z.capacity) (changed g c));
-      cheap = λ first. c.fill_spare-left.ensures.cheap (held.cheap first);
+      alloc = ap (λ z. z.alloc) (changed g c) ∙ invariant.alloc;
+      never_less = omega (arith, invariant.never_less, ap (λ z. z.capacity) (changed g c));
+      cheap = λ first. c.fill_spare-left.ensures.cheap (invariant.cheap first);
       within = (c.requires.bounds, c.fill_spare-left.ensures.bounds.1);
     }
 

@@ -3,7 +3,7 @@
 use Rattle.std.proofs.Common.{◌≡◌, ◌+◌, ◌++◌, ◌∙◌, ap, length}
 use Rattle.std.specs.Prelude.{◌==◌, if◌then◌else◌}
 use Rattle.thin_block.specs.Cost.{add_moves}
-use Rattle.thin_vec.proofs.edits.ExtractIfLemmas.{extract_keeps_along, extracts_range, extracts_to_end, in-parts}
+use Rattle.thin_vec.proofs.edits.ExtractIfLemmas.{extract-keeps-along, extracts-range, extracts-to-end, in-parts}
 use Rattle.thin_vec.proofs.list.ThinVec.extract_if.Goals as goal
 
 pub returns-clause-after_drop : goal.returns-clause-after_drop
@@ -28,13 +28,13 @@ returns-clause-after_drop g c =
     }
 
 pub returns-clause-next_keeps : goal.returns-clause-next_keeps
-returns-clause-next_keeps g c = extract_keeps_along _ _
+returns-clause-next_keeps g c = extract-keeps-along _ _
 
 pub returns-clause-walk : goal.returns-clause-walk
-returns-clause-walk g c = extracts_to_end _ _
+returns-clause-walk g c = extracts-to-end _ _
 
 pub returns-clause-walked : goal.returns-clause-walked
 returns-clause-walked g c =
     let e = c.open-block.ensures in
-    extracts_range _ c.args.self.now c.args.start c.args.end _ e.front e.middle e.tail e.gap_before
+    extracts-range _ c.args.self.now c.args.start c.args.end _ e.front e.middle e.tail e.gap_before
     (returns-clause-after_drop g c)

@@ -6,9 +6,9 @@ use Rattle.thin_block.specs.Block.{block_view}
 use Rattle.thin_block.specs.Cost.{add_moves}
 use Rattle.thin_block.specs.Slots.{filled_slots, items_in, write_slots}
 use Rattle.thin_vec.proofs.list.AppendSplitLemmas.{restores-more}
-use Rattle.thin_vec.proofs.ListLemmas.{RestoresInvariant, thin-room, list_view-keeps}
+use Rattle.thin_vec.proofs.ListBlockLemmas.{RestoresInvariant, thin-room, list_view-keeps}
 use Rattle.thin_vec.proofs.PutLemmas.{filled-fits, filled-room}
-use Rattle.thin_vec.proofs.ThinVecLemmas.{within-kept}
+use Rattle.thin_vec.proofs.BoundsLemmas.{bounds-kept}
 use Rattle.thin_vec.proofs.list.ThinVec.fill_spare.Goals as goal
 
 stored : (g : _) (c : goal.After-set_len g) → block_view c.replace_unallocated.new.self
@@ -78,7 +78,7 @@ returns-clause-filled_by g c =
 
 pub returns-clause-bounds : goal.returns-clause-bounds
 returns-clause-bounds g c =
-    within-kept _ _ _ _ _ _ c.self.invariant c.self.view_is c.len-len.ensures.bounds (facts g c)
+    bounds-kept _ _ _ _ _ _ c.self.invariant c.self.view_is c.len-len.ensures.bounds (facts g c)
 
 pub returns-clause-cheap : goal.returns-clause-cheap
 returns-clause-cheap g c = grind (arith, common_steps)

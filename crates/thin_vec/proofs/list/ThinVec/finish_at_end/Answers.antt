@@ -8,7 +8,7 @@ use Rattle.thin_vec.specs.Edits.Finish.{AddsFromIter, without_middle}
 use Rattle.thin_vec.specs.List.Extend.{IsAfterExtend}
 use Rattle.thin_vec.specs.ThinVec.{HasRoomFor}
 use Rattle.thin_vec.proofs.edits.SpliceLemmas.{after-items, closed-left, stop-at-end, stopped-now}
-use Rattle.thin_vec.proofs.PushesLemmas.{extended-costs}
+use Rattle.thin_vec.proofs.ExtendCostLemmas.{extended-costs}
 use Rattle.thin_vec.proofs.list.ExtendLemmas.{placed-longer}
 use Rattle.thin_vec.proofs.edits.FinishLemmas.{finished-ok}
 use Rattle.thin_vec.specs.declared.errors.SpliceRefused.{SpliceRefused}

@@ -9,7 +9,7 @@ use Rattle.thin_vec.specs.List.Capacity.{FailsForRoom}
 use Rattle.thin_vec.specs.List.Extend.{YieldsAndCanContinue}
 use Rattle.thin_vec.specs.Put.{YieldsThenMayEnd}
 use Rattle.thin_block.proofs.CapacityLemmas.{ruled-same}
-use Rattle.thin_vec.proofs.PushesLemmas.{growth-once, growth-same, spliced-none}
+use Rattle.thin_vec.proofs.FinishCostLemmas.{growth-once, growth-same, spliced-none}
 use Rattle.thin_vec.proofs.PutLemmas.{filled-fits}
 use Rattle.thin_vec.specs.Edits.Splice.{IsAfterSplice, cost_after_growth}
 use Rattle.thin_block.specs.Cost.{add_moves}

@@ -4,8 +4,8 @@ use denote.Param.{param}
 use Rattle.thin_block.specs.Slots.{items_in}
 use Rattle.thin_block.proofs.CapacityLemmas.{fits-less}
 use Rattle.thin_vec.proofs.list.CapacityChangeLemmas.{restores-tried}
-use Rattle.thin_vec.proofs.ListLemmas.{RestoresInvariant, list_view-becomes}
-use Rattle.thin_vec.proofs.ThinVecLemmas.{within-settled}
+use Rattle.thin_vec.proofs.ListBlockLemmas.{RestoresInvariant, list_view-becomes}
+use Rattle.thin_vec.proofs.BoundsLemmas.{bounds-settled}
 use Rattle.thin_vec.proofs.list.ThinVec.grow_to.Goals as goal
 
 tried : (g : _) (c : goal.After-grow g)
@@ -26,7 +26,7 @@ invariant_of-self g c = (facts g c).thin
 
 pub returns-clause-bounds : goal.returns-clause-bounds
 returns-clause-bounds g c =
-    within-settled _ _ _ _ _ (fits-less (param 0 g.row.T) _ _ c.requires.fits (tried g c).1)
+    bounds-settled _ _ _ _ _ (fits-less (param 0 g.row.T) _ _ c.requires.fits (tried g c).1)
     (facts g c)
 
 pub returns-clause-changes : goal.returns-clause-changes

@@ -12,7 +12,8 @@ use Rattle.std.specs.Align.{type_align}
 use Rattle.std.specs.Mem.{type_size}
 use Rattle.thin_block.specs.Growth.{grown_capacity}
 use Rattle.thin_vec.specs.ThinVec.{capacity_after_reserve, cost_after_resize}
-use Rattle.thin_vec.proofs.PushesLemmas.{grown-none, resized-none}
+use Rattle.thin_vec.proofs.GrowthLemmas.{grown-none}
+use Rattle.thin_vec.proofs.FinishCostLemmas.{resized-none}
 use Rattle.thin_vec.proofs.edits.SpliceLemmas.{closed-moves, drawn-end, drawn-next, inserted-long, run-moves, stop-at-held, taken-join, taken-none, taken-reserved, taken-spare}
 use Rattle.thin_block.proofs.ResultLemmas.{err-same, none-some}
 use Rattle.thin_vec.proofs.list.ThinVec.insert_held.Goals.{After-close, After-len-count}

@@ -9,7 +9,7 @@ use Rattle.thin_vec.proofs.edits.SpliceLemmas.{run-moves, taken-join, taken-none
 use Rattle.thin_block.specs.Cost.{add_moves}
 use Rattle.thin_vec.proofs.PutLemmas.{filled-fits, filled-room}
 use Rattle.thin_vec.specs.ThinVec.{cost_after_resize}
-use Rattle.thin_vec.proofs.PushesLemmas.{tail-moves}
+use Rattle.thin_vec.proofs.FinishCostLemmas.{tail-moves}
 use Rattle.thin_vec.proofs.list.ReservesLemmas.{lacks-room}
 use Rattle.thin_vec.proofs.edits.FinishLemmas.{FillsGap, IsWide, gap-filled, wide-taken}
 use Rattle.thin_vec.proofs.list.ThinVec.insert_hinted.Goals.{After-close}

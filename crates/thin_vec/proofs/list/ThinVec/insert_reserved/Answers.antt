@@ -2,7 +2,7 @@
 use Rattle.std.proofs.Common.{Some, ◌+◌, ◌-◌, ap, ◌∙◌, length, arith, refl}
 use lib.ListN.{set}
 use Rattle.std.specs.Prelude.{insert}
-use Rattle.thin_vec.proofs.ListLemmas.{RestoresInvariant, thin-filled}
+use Rattle.thin_vec.proofs.ListBlockLemmas.{RestoresInvariant, thin-filled}
 use Rattle.thin_block.specs.Block.{BlockView}
 use Rattle.thin_block.specs.Cost.{add_moves}
 use Rattle.thin_block.specs.Slots.{items_in, slot}

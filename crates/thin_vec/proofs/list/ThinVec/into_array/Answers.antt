@@ -7,7 +7,7 @@ use Rattle.thin_block.specs.Slots.{IsPacked, packed_slots, items_in}
 use Rattle.thin_block.specs.declared.block.Block.{Block}
 use Rattle.thin_block.proofs.CapacityLemmas.{fits-bytes}
 use Rattle.thin_block.proofs.SlotsLemmas.{packed-emptied, packed-filled, packed-le, packed-run}
-use Rattle.thin_vec.proofs.ListLemmas.{empty-alone, full-same, settled, thin-packed}
+use Rattle.thin_vec.proofs.ListBlockLemmas.{empty-alone, full-same, settled, thin-packed}
 use Rattle.thin_vec.proofs.list.ThinVec.into_array.Goals as goal
 
 filled : {T A : Type 0} (b : Block T A) (a : A) (xs : List T) (c n : ℕ)

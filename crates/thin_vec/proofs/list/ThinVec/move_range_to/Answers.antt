@@ -1,7 +1,7 @@
 -- The items of the range are the middle run of one open block, and move into the gap of the other.
 use Rattle.std.proofs.Common.{◌∙◌, ap, arith, length, slice_range}
 use Rattle.std.proofs.lemmas.List.{length-drop, length-take-le}
-use Rattle.thin_vec.proofs.ThinVecLemmas.{within-like}
+use Rattle.thin_vec.proofs.BoundsLemmas.{bounds-like}
 use Rattle.thin_vec.proofs.edits.SwapRangeLemmas.{closed-in, closed-out, empty-range, length-range}
 use Rattle.thin_vec.proofs.list.ThinVec.move_range_to.Goals as goal
 
@@ -68,7 +68,7 @@ returns-clause-bounds g c =
     let before = c.open-from.ensures.bounds_before in
     let same = ap (λ v. v.capacity) (returns-clause-changes g c) in (
       before,
-      within-like _ _ c.args.self.now before same (omega (arith, c.close-2.ensures.room, same)),
+      bounds-like _ _ c.args.self.now before same (omega (arith, c.close-2.ensures.room, same)),
     )
 
 pub returns-clause-other_bounds : goal.returns-clause-other_bounds
@@ -76,5 +76,5 @@ returns-clause-other_bounds g c =
     let before = c.open-to.ensures.bounds_before in
     let same = ap (λ v. v.capacity) (returns-clause-other_changes g c) in (
       before,
-      within-like _ _ c.args.other.now before same (omega (arith, c.close.ensures.room, same)),
+      bounds-like _ _ c.args.other.now before same (omega (arith, c.close.ensures.room, same)),
     )

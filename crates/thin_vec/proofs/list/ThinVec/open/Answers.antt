@@ -3,9 +3,9 @@ use Rattle.std.proofs.Common.{◌≡◌, ◌≤◌, ap, sym, ◌∙◌, subst, a
 use Rattle.std.specs.Prelude.{slice_range}
 use Rattle.thin_block.specs.Slots.{items_in}
 use Rattle.thin_vec.specs.ThinVec.{IsListBlock}
-use Rattle.thin_vec.proofs.ListLemmas.{list_view-becomes}
+use Rattle.thin_vec.proofs.ListBlockLemmas.{list_view-becomes}
 use Rattle.thin_vec.proofs.OpenBlockLemmas.{Found}
-use Rattle.thin_vec.proofs.ThinVecLemmas.{within-of}
+use Rattle.thin_vec.proofs.BoundsLemmas.{bounds-of}
 use Rattle.thin_vec.proofs.open_block.StepLemmas.{open-step, opened, opened-view}
 use Rattle.thin_vec.proofs.list.ThinVec.open.Goals as goal
 
@@ -59,4 +59,4 @@ returns-clause-changes g c =
 
 pub returns-clause-bounds_before : goal.returns-clause-bounds_before
 returns-clause-bounds_before g c =
-    within-of _ _ _ _ c.self.invariant c.self.view_is c.len-len.ensures.bounds
+    bounds-of _ _ _ _ c.self.invariant c.self.view_is c.len-len.ensures.bounds

@@ -1,6 +1,6 @@
 -- `pop_last` empties the last filled slot, which holds the last item.
 use Rattle.std.proofs.Common.{◌≡◌, ◌+◌, ◌++◌, ◌∷◌, [], sym, ap, ◌∙◌, length, take, arith, ◌-◌, refl, rules}
-use Rattle.thin_vec.proofs.ListLemmas.{RestoresInvariant, last-item, restores-pop, thin-filled, list_view-keeps}
+use Rattle.thin_vec.proofs.ListBlockLemmas.{RestoresInvariant, last-item, restores-pop, thin-filled, list_view-keeps}
 use Rattle.thin_block.specs.Slots.{items_in}
 use Rattle.thin_block.proofs.BlockLemmas.{then-len}
 use Rattle.thin_vec.proofs.list.ThinVec.pop_last.Goals as goal

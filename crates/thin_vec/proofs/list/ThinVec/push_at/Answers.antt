@@ -3,7 +3,7 @@ use Rattle.std.proofs.Common.{◌≡◌, ◌++◌, ◌∷◌, [], ap, ◌∙◌,
 use Rattle.std.proofs.lemmas.List.{length_push}
 use Rattle.thin_block.specs.Capacity.{Fits}
 use Rattle.thin_block.specs.Slots.{items_in}
-use Rattle.thin_vec.proofs.ListLemmas.{RestoresInvariant, restores-push}
+use Rattle.thin_vec.proofs.ListBlockLemmas.{RestoresInvariant, restores-push}
 use Rattle.thin_vec.proofs.list.ReservesLemmas.{keeps-settled}
 use denote.Param.{param}
 use Rattle.thin_vec.proofs.list.ThinVec.push_at.Goals as goal

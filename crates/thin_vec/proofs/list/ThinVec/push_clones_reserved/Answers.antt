@@ -4,8 +4,8 @@ use Rattle.thin_block.proofs.BlockLemmas.{slots-are, then-len}
 use Rattle.thin_block.specs.Slots.{items_in}
 use Rattle.thin_vec.proofs.list.ClonesLemmas.{length-copies}
 use Rattle.thin_vec.proofs.list.AppendSplitLemmas.{restores-more}
-use Rattle.thin_vec.proofs.ListLemmas.{RestoresInvariant, list_view-keeps}
-use Rattle.thin_vec.proofs.ThinVecLemmas.{within-kept}
+use Rattle.thin_vec.proofs.ListBlockLemmas.{RestoresInvariant, list_view-keeps}
+use Rattle.thin_vec.proofs.BoundsLemmas.{bounds-kept}
 use Rattle.thin_vec.proofs.list.ThinVec.push_clones_reserved.Goals as goal
 
 facts : (g : _) (c : goal.After-set_len g)
@@ -32,7 +32,7 @@ returns-clause-items g c =
 
 pub returns-clause-bounds : goal.returns-clause-bounds
 returns-clause-bounds g c =
-    within-kept _ _ _ _ _ _ c.self.invariant c.self.view_is c.len-len.ensures.bounds (facts g c)
+    bounds-kept _ _ _ _ _ _ c.self.invariant c.self.view_is c.len-len.ensures.bounds (facts g c)
 
 pub returns-clause-changes : goal.returns-clause-changes
 returns-clause-changes g c =

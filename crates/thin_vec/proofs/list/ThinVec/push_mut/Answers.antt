@@ -3,7 +3,7 @@ use Rattle.std.proofs.Common.{[], ap, arith, get_or, refl, sym, ◌∙◌}
 use Rattle.std.proofs.lemmas.List.{get_or_at, set_at}
 use Rattle.std.proofs.lemmas.Option.{none-some}
 use lib.ListN.{length-set, set}
-use Rattle.thin_vec.proofs.ThinVecLemmas.{within-like}
+use Rattle.thin_vec.proofs.BoundsLemmas.{bounds-like}
 use Rattle.thin_vec.proofs.list.ThinVec.push_mut.Goals as goal
 
 pub returns : goal.returns
@@ -29,7 +29,7 @@ returns g c =
             cheap = kept.cheap;
             within = (
               kept.within.0,
-              within-like _ _ new kept.within.1 refl
+              bounds-like _ _ new kept.within.1 refl
                   (omega (arith, length-set new.items i w, kept.within.1.room)),
             );
           };

@@ -1,7 +1,7 @@
 -- `remove` takes the item out of its slot, and moves all later items down by one slot.
 use Rattle.std.proofs.Common.{◌+◌, ◌-◌, ap, ◌∙◌, length, arith, refl, sym}
 use Rattle.std.specs.Prelude.{remove}
-use Rattle.thin_vec.proofs.ListLemmas.{RestoresInvariant, thin-filled, thin-get, kept-filled}
+use Rattle.thin_vec.proofs.ListBlockLemmas.{RestoresInvariant, thin-filled, thin-get, kept-filled}
 use Rattle.thin_block.proofs.BlockLemmas.{then-len}
 use Rattle.thin_block.specs.Block.{BlockView}
 use Rattle.thin_block.specs.Cost.{add_moves}

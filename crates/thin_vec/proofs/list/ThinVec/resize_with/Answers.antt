@@ -8,7 +8,7 @@ use Rattle.thin_block.proofs.BlockLemmas.{slots-are, then-len}
 use Rattle.thin_block.specs.Capacity.{Fits}
 use Rattle.thin_block.specs.Slots.{items_in}
 use Rattle.thin_vec.proofs.list.AppendSplitLemmas.{restores-more}
-use Rattle.thin_vec.proofs.ListLemmas.{RestoresInvariant}
+use Rattle.thin_vec.proofs.ListBlockLemmas.{RestoresInvariant}
 use Rattle.thin_vec.proofs.list.ReservesLemmas.{capacity-kept, keeps-join, keeps-settled, tells-ok}
 use Rattle.thin_vec.proofs.list.ThinVec.resize_with.Goals.{After-set_len}
 use Rattle.thin_vec.proofs.list.ThinVec.resize_with.Goals as goal

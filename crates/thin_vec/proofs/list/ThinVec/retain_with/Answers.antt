@@ -3,14 +3,14 @@ use Rattle.std.proofs.Common.{◌≡◌, ◌++◌, ◌∙◌, ap, arith, rules, 
 use Rattle.std.proofs.lemmas.Grind.{common_steps}
 use Rattle.std.proofs.lemmas.List.{append-nil}
 use Rattle.thin_vec.proofs.RetainLemmas.{retained-results}
-use Rattle.thin_vec.proofs.ThinVecLemmas.{within-like}
+use Rattle.thin_vec.proofs.BoundsLemmas.{bounds-like}
 use Rattle.thin_vec.proofs.list.ThinVec.retain_with.Goals as goal
 
 pub returns-clause-bounds : goal.returns-clause-bounds
 returns-clause-bounds g c =
     let same : c.close.new.self.capacity ≡ c.args.self.now.capacity = search rules in (
       c.len-len.ensures.bounds,
-      within-like _ c.close.new.self c.args.self.now
+      bounds-like _ c.close.new.self c.args.self.now
           c.len-len.ensures.bounds same (omega (arith, c.close.ensures.room, same)),
     )
 

@@ -3,8 +3,8 @@ use Rattle.std.proofs.Common.{ap, ◌∙◌, arith, length}
 use denote.Param.{param}
 use Rattle.thin_block.proofs.CapacityLemmas.{fits-less}
 use Rattle.thin_block.specs.Slots.{items_in}
-use Rattle.thin_vec.proofs.ListLemmas.{RestoresInvariant}
-use Rattle.thin_vec.proofs.ThinVecLemmas.{within-none, within-settled}
+use Rattle.thin_vec.proofs.ListBlockLemmas.{RestoresInvariant}
+use Rattle.thin_vec.proofs.BoundsLemmas.{bounds-none, bounds-settled}
 use Rattle.thin_vec.proofs.list.CapacityChangeLemmas.{restores-shrink}
 use Rattle.thin_vec.proofs.list.ThinVec.shrink_to.Goals as goal
 
@@ -24,13 +24,13 @@ returns-clause-items g c = (facts g c).items ∙ ap (λ v. v.items) c.self.view_
 
 pub returns-then-wanted-eq0-clause-bounds : goal.returns-then-wanted-eq0-clause-bounds
 returns-then-wanted-eq0-clause-bounds g c =
-    (c.len.ensures.bounds, within-none _ _ (search (arith, ◌∙◌)) (search (arith, ◌∙◌)))
+    (c.len.ensures.bounds, bounds-none _ _ (search (arith, ◌∙◌)) (search (arith, ◌∙◌)))
 
 pub returns-clause-bounds : goal.returns-clause-bounds
 returns-clause-bounds g c =
     let before = c.len.ensures.bounds in (
       before,
-      within-settled _ _ _ _ _
+      bounds-settled _ _ _ _ _
           (fits-less (param 0 g.row.T) _ _ before.fits
           (omega (arith, c.if-wanted-capacity.false, c.capacity.ensures.value))) (facts g c),
     )

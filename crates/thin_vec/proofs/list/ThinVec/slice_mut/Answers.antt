@@ -5,7 +5,7 @@ use Rattle.thin_block.specs.Lends.{set_slots as block_with_items}
 use Rattle.thin_block.specs.Slots.{items_in}
 use Rattle.thin_vec.specs.Lends.{with_items_from}
 use Rattle.thin_vec.proofs.LendsLemmas.{restores-from, thin-range, view-with_items_from}
-use Rattle.thin_vec.proofs.ListLemmas.{thin-filled, thin-room}
+use Rattle.thin_vec.proofs.ListBlockLemmas.{thin-filled, thin-room}
 use Rattle.thin_vec.proofs.list.ClonesLemmas.{length-range}
 use Rattle.thin_vec.proofs.list.ThinVec.slice_mut.Goals as goal
 

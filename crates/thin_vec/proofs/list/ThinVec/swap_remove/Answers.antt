@@ -4,7 +4,7 @@ use Rattle.std.specs.List.{slice_get, swap_remove}
 use Rattle.thin_block.proofs.BlockLemmas.{then-len}
 use Rattle.thin_block.specs.Slots.{items_in}
 use Rattle.thin_vec.proofs.list.InsertRemoveLemmas.{restores-replaced}
-use Rattle.thin_vec.proofs.ListLemmas.{RestoresInvariant, thin-filled, thin-get}
+use Rattle.thin_vec.proofs.ListBlockLemmas.{RestoresInvariant, thin-filled, thin-get}
 use Rattle.thin_vec.proofs.list.ReservesLemmas.{keeps-settled}
 use Rattle.std.proofs.lemmas.Option.{get_or_from_slice_get}
 use Rattle.thin_vec.proofs.list.ThinVec.swap_remove.Goals as goal

@@ -3,19 +3,19 @@ use Rattle.std.proofs.Common.{◌≡◌, ◌≤◌, sym, ap, ◌∙◌, length, 
 use lib.ListN.{set}
 use Rattle.thin_block.specs.Slots.{packed_slots, items_in}
 use Rattle.thin_vec.proofs.list.InsertRemoveLemmas.{emptying, emptying-none, emptying-filled, emptying-take, emptying-all}
-use Rattle.thin_vec.proofs.ListLemmas.{RestoresInvariant, settled, thin-room}
+use Rattle.thin_vec.proofs.ListBlockLemmas.{RestoresInvariant, settled, thin-room}
 use Rattle.std.proofs.lemmas.List.{length-take, length-take-le}
-use Rattle.thin_vec.proofs.ThinVecLemmas.{within-like, within-of}
+use Rattle.thin_vec.proofs.BoundsLemmas.{bounds-like, bounds-of}
 use Rattle.thin_vec.proofs.list.ThinVec.truncate.Goals as goal
 
 pub loop-i-init : goal.loop-i-init
 loop-i-init g c =
-    let row = ap (λ v. packed_slots v.items v.capacity) c.self.view_is in
+    let same_slots = ap (λ v. packed_slots v.items v.capacity) c.self.view_is in
     let stored = c.store_len.ensures.changes in
     record {
       slots = ap (λ v. v.slots) stored
-          ∙ (c.self.invariant.packed.row
-          ∙ (row ∙ sym (emptying-none c.args.self.now.items c.args.len c.args.self.now.capacity)));
+          ∙ (c.self.invariant.packed.slots
+          ∙ (same_slots ∙ sym (emptying-none c.args.self.now.items c.args.len c.args.self.now.capacity)));
       len = ap (λ v. v.len) stored;
       from = λ x e. c.self.invariant.from x (sym (ap (λ v. v.alloc) stored) ∙ e);
       alloc = ap (λ v. v.alloc) c.self.view_is;
@@ -82,14 +82,14 @@ returns-clause-items g c = (facts g c).items
 
 pub returns-then-len-old-clause-bounds : goal.returns-then-len-old-clause-bounds
 returns-then-len-old-clause-bounds g c =
-    let same = within-of _ _ _ _ c.self.invariant c.self.view_is c.len-old.ensures.bounds in
+    let same = bounds-of _ _ _ _ c.self.invariant c.self.view_is c.len-old.ensures.bounds in
     (same, same)
 
 pub returns-clause-bounds : goal.returns-clause-bounds
 returns-clause-bounds g c =
-    let before = within-of _ _ _ _ c.self.invariant c.self.view_is c.len-old.ensures.bounds in (
+    let before = bounds-of _ _ _ _ c.self.invariant c.self.view_is c.len-old.ensures.bounds in (
       before,
-      within-like _ _ _ before (facts g c).cap
+      bounds-like _ _ _ before (facts g c).cap
           (omega (
             arith,
             ap length (facts g c).items,

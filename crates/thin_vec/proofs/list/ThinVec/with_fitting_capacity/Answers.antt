@@ -1,8 +1,8 @@
 -- A newly allocated block holds no items.
 use Rattle.std.proofs.Common.{[], ap, arith, length, refl}
 use Rattle.std.proofs.lemmas.Grind.{common_steps}
-use Rattle.thin_vec.proofs.ListLemmas.{RestoresInvariant}
-use Rattle.thin_vec.proofs.ThinVecLemmas.{within-settled}
+use Rattle.thin_vec.proofs.ListBlockLemmas.{RestoresInvariant}
+use Rattle.thin_vec.proofs.BoundsLemmas.{bounds-settled}
 use Rattle.thin_vec.proofs.list.ThinVec.with_fitting_capacity.Goals.{In_ok-block}
 use Rattle.thin_vec.proofs.list.CapacityChangeLemmas.{restores-new}
 use Rattle.thin_vec.proofs.list.ThinVec.with_fitting_capacity.Goals as goal
@@ -25,5 +25,5 @@ pub returns-clause-fresh : goal.returns-clause-fresh
 returns-clause-fresh g c = record {
   alloc = refl;
   cheap = grind (arith, common_steps);
-  within = within-settled _ _ _ _ _ c.requires.fits (facts g c);
+  within = bounds-settled _ _ _ _ _ c.requires.fits (facts g c);
 }

@@ -6,7 +6,7 @@ use Rattle.thin_block.specs.Slots.{filled_slots, items_in, write_slots, slot_ran
 use Rattle.std.proofs.Common.{◌≡◌, ◌+◌, ◌-◌, ◌++◌, ◌∙◌, List, Option, ap, arith, length, take, rules}
 use Rattle.thin_vec.proofs.OpenBlockLemmas.{Found}
 use Rattle.thin_vec.proofs.open_block.StepLemmas.{fill-view}
-use Rattle.thin_vec.proofs.ListLemmas.{RestoresInvariant, thin-filled, thin-room, list_view-keeps}
+use Rattle.thin_vec.proofs.ListBlockLemmas.{RestoresInvariant, thin-filled, thin-room, list_view-keeps}
 use Rattle.thin_vec.proofs.list.AppendSplitLemmas.{front-run, restores-cut}
 use Rattle.thin_vec.proofs.open_block.OpenBlock.fill_from_list.Goals as goal
 
@@ -36,16 +36,16 @@ facts g c =
     let o = c.other.inside.block in
     let h = c.self.inside in
     let items : items_in o.slots ≡ c.args.other.now.items = ap (λ v. v.items) c.other.view_is in
-    let row : slot_range 0 c.len-count.result o.slots ≡ filled_slots c.args.other.now.items =
+    let full : slot_range 0 c.len-count.result o.slots ≡ filled_slots c.args.other.now.items =
     ap (λ (r : List (Option g.row.T.Denot)). slot_range 0 c.len-count.result r)
-    c.other.invariant.packed.row
+    c.other.invariant.packed.slots
     ∙ (front-run (items_in o.slots) (length o.slots) 0 c.len-count.result (omega arith)
     (thin-room o c.other.inside.alloc c.other.invariant) (omega (arith, count g c))
     ∙ ap filled_slots items) in
     fill-view h c.self.invariant c.self.view_is c.move_run_to.new.other c.args.other.now.items _
     (ap (λ n. h.front_end + n) (same g c)) c.requires.room
     (c.move_run_to.ensures.other_changes ∙ (λ i. record (block_view h.block) {
-      slots = write_slots h.front_end (row i) h.block.slots;
+      slots = write_slots h.front_end (full i) h.block.slots;
       cost = add_moves (same g c i) h.block.cost;
     }))
 

@@ -2,10 +2,10 @@
 use Rattle.std.proofs.Common.{◌≡◌, [], ◌++◌, ◌∙◌, ap, arith, length, sym, rules}
 use Rattle.thin_block.proofs.BlockLemmas.{then-len}
 use Rattle.thin_block.specs.Slots.{items_in}
-use Rattle.thin_vec.proofs.ListLemmas.{RestoresInvariant, list_view-keeps}
+use Rattle.thin_vec.proofs.ListBlockLemmas.{RestoresInvariant, list_view-keeps}
 use Rattle.thin_vec.proofs.list.AppendSplitLemmas.{restores-more}
 use Rattle.thin_vec.proofs.convert.from.ThinVec+T+A.extend_from_vec_reserved.Goals as goal
-use Rattle.thin_vec.proofs.ThinVecLemmas.{within-stays}
+use Rattle.thin_vec.proofs.BoundsLemmas.{bounds-stays}
 
 none : (g : _) (c : goal.After-set_len g) → items_in c.self.inside.block.slots ≡ []
 none g c = ap (λ v. v.items) c.self.view_is ∙ c.requires.is_empty
@@ -25,7 +25,7 @@ invariant_of-self g c = (facts g c).thin
 
 pub returns-clause-bounds : goal.returns-clause-bounds
 returns-clause-bounds g c =
-    within-stays _ c.self.inside.block c.self.inside.alloc c.set_len.new.self _ _ c.requires.bounds
+    bounds-stays _ c.self.inside.block c.self.inside.alloc c.set_len.new.self _ _ c.requires.bounds
     c.self.view_is (facts g c)
 
 pub returns-clause-changes : goal.returns-clause-changes

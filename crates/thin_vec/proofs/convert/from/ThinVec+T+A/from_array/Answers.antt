@@ -4,8 +4,8 @@ use Rattle.std.proofs.Common.{◌++◌, ap, arith, length, sym, ◌∙◌}
 use Rattle.thin_block.proofs.BlockLemmas.{then-len}
 use Rattle.thin_block.specs.Slots.{items_in}
 use Rattle.thin_vec.proofs.list.AppendSplitLemmas.{restores-more}
-use Rattle.thin_vec.proofs.ListLemmas.{RestoresInvariant}
-use Rattle.thin_vec.proofs.ThinVecLemmas.{within-stays}
+use Rattle.thin_vec.proofs.ListBlockLemmas.{RestoresInvariant}
+use Rattle.thin_vec.proofs.BoundsLemmas.{bounds-stays}
 use Rattle.thin_vec.proofs.convert.from.ThinVec+T+A.from_array.Goals as goal
 
 facts : (g : _) (c : goal.After-set_len g)
@@ -33,6 +33,6 @@ pub returns-in-Ok-clause-fresh : goal.returns-in-Ok-clause-fresh
 returns-in-Ok-clause-fresh g c = record {
   alloc = search (arith, ◌∙◌);
   cheap = search (arith, ◌∙◌);
-  within = within-stays _ c.list.inside.block c.list.inside.alloc
+  within = bounds-stays _ c.list.inside.block c.list.inside.alloc
       c.set_len.new.self _ _ c.in-Ok.ensures.fresh.within c.list.view_is (facts g c);
 }

@@ -2,7 +2,7 @@
 use Rattle.std.proofs.Common.{◌+◌, ◌<◌, ◌∷◌, ap, sym, ◌∙◌, arith, drop, length, refl, rules}
 use Rattle.thin_block.specs.Slots.{items_in}
 use Rattle.thin_vec.proofs.convert.IntoIterLemmas.{Walking, first-item, restores-first, walked-filled}
-use Rattle.thin_vec.proofs.ListLemmas.{list_view-keeps}
+use Rattle.thin_vec.proofs.ListBlockLemmas.{list_view-keeps}
 use Rattle.thin_vec.proofs.convert.into_iter.IntoIter.take_first.Goals as goal
 
 some : (g : _) (c : goal.After-take g) → c.self.inside.start < c.self.inside.end

@@ -5,9 +5,9 @@ use Rattle.thin_vec.specs.Edits.Finish.{FinishesSplice}
 use Rattle.thin_vec.specs.OpenView.{tail_end}
 use Rattle.thin_vec.specs.Edits.Splice.{list_without_range, splice_front, splice_iter, splice_list, splice_tail}
 use Rattle.thin_block.proofs.CapacityLemmas.{fits-less}
-use Rattle.thin_vec.proofs.PushesLemmas.{finished-costs}
+use Rattle.thin_vec.proofs.FinishCostLemmas.{finished-costs}
 use Rattle.thin_vec.proofs.edits.FinishLemmas.{finished-moves}
-use Rattle.thin_vec.proofs.list.ExtendLemmas.{run_of_ok}
+use Rattle.thin_vec.proofs.list.ExtendLemmas.{run-of-ok}
 use Rattle.thin_vec.proofs.edits.splice.Splice.finish.Goals.{else-has_tail, then-has_tail}
 use Rattle.thin_vec.proofs.edits.splice.Splice.finish.Goals as goal
 
@@ -50,7 +50,7 @@ returns g c =
     ) in
     record {
       items = f.items;
-      runs = run_of_ok steps s
+      runs = run-of-ok steps s
           (λ xs. w.items ≡ (splice_front c.args.self ++ xs) ++ splice_tail c.args.self) r f.items;
       succeeds = f.succeeds;
       succeeds_at_end = f.succeeds_at_end;

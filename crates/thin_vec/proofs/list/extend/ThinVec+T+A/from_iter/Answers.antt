@@ -6,8 +6,9 @@ use Rattle.std.proofs.lemmas.Bool.{cases_lt, false≢true}
 use denote.Param.{param}
 use Rattle.thin_block.proofs.ResultLemmas.{err-same}
 use Rattle.thin_block.specs.Growth.{doubling}
-use Rattle.thin_vec.proofs.list.ExtendLemmas.{exact-new, match-some, run_given, run_of}
-use Rattle.thin_vec.proofs.PushesLemmas.{after-none, collected-from, exact-is}
+use Rattle.thin_vec.proofs.list.ExtendLemmas.{exact-new, match-some, run-given, run-of}
+use Rattle.thin_vec.proofs.PushesLemmas.{after-none}
+use Rattle.thin_vec.proofs.ExtendCostLemmas.{collected-from, exact-is}
 use Rattle.thin_block.specs.Cost.{add_realloc}
 use Rattle.thin_vec.specs.ThinVec.{cost_after_resize, cost_of_new}
 use Rattle.thin_vec.specs.List.Extend.{IsAfterCollect, IsAfterPushes, IsCollectedList}
@@ -141,7 +142,7 @@ returns-in-Err-extend_unhinted-clause-placed g c =
 pub returns-in-Ok-extend_unhinted-clause-runs : goal.returns-in-Ok-extend_unhinted-clause-runs
 returns-in-Ok-extend_unhinted-clause-runs g c =
     let filled = c.in-Ok-extend_unhinted.ensures.items in
-    run_of g.I.Iterator.next_gives c.args.iter (λ xs. c.extend_unhinted.new.self.items ≡ xs) (
+    run-of g.I.Iterator.next_gives c.args.iter (λ xs. c.extend_unhinted.new.self.items ≡ xs) (
       filled.0,
       filled.1,
       filled.2 ∙ ap (λ old. old ++ filled.0)
@@ -152,7 +153,7 @@ pub returns-in-Err-clause-err_runs : goal.returns-in-Err-clause-err_runs
 returns-in-Err-clause-err_runs g c =
     let none = c.reserve_exact.ensures.items
     ∙ c.new-list.ensures.new.items in
-    run_given g.I.Iterator.next_gives c.args.iter [] None c.args.iter
+    run-given g.I.Iterator.next_gives c.args.iter [] None c.args.iter
     (λ l. l ≡ c.reserve_exact.new.self.items ++ []) refl
     (ap (λ l. l ++ []) (sym none))
 
@@ -163,7 +164,7 @@ returns-in-Err-extend_unhinted-clause-err_runs g c =
     let items = placed.1 ∙ ap (λ old. old ++ placed.0)
     (c.reserve_exact.ensures.items ∙ c.new-list.ensures.new.items) in
     let hand = c.in-Err-extend_unhinted.refused.in_hand in
-    run_given g.I.Iterator.next_gives c.args.iter placed.0 hand
+    run-given g.I.Iterator.next_gives c.args.iter placed.0 hand
     c.in-Err-extend_unhinted.refused.rest
     (λ l. l ≡ c.extend_unhinted.new.self.items ++ option_to_list hand) placed.2.gave
     (ap (λ l. l ++ option_to_list hand) (sym items))

@@ -6,7 +6,7 @@ use Rattle.thin_block.specs.Lends.{set_slot as block_with_item}
 use Rattle.thin_block.specs.Slots.{items_in}
 use Rattle.thin_vec.specs.Lends.{with_item}
 use Rattle.thin_vec.proofs.LendsLemmas.{restores-set, view-with_item}
-use Rattle.thin_vec.proofs.ListLemmas.{thin-filled, thin-get}
+use Rattle.thin_vec.proofs.ListBlockLemmas.{thin-filled, thin-get}
 use Rattle.thin_vec.proofs.list.index.ThinVecIndexMutUsize.index_mut.Goals as goal
 
 pub slot_mut-requires : goal.slot_mut-requires
