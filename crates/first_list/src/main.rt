@@ -9,7 +9,7 @@ use thin_vec::{ThinVec, ThinVecError, thin_vec};
 
 /// Returns the list 3, 4, 5. Fails if the allocator has no memory.
 fn first_list<A: Allocator>(alloc: A) -> Result<ThinVec<u32, A>, ThinVecError>
-    ensures items { IfOk result (λ list. list.items ≡ 3 ∷ 4 ∷ 5 ∷ []) }
+    ensures three_items { IfOk result (λ list. list.items ≡ 3 ∷ 4 ∷ 5 ∷ []) }
 {
     let mut list = thin_vec![alloc => 3, 4]?;
     list.push(5)?;
