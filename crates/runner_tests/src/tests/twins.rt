@@ -155,7 +155,7 @@ impl Twins {
                 .is_ok(),
             _ => self.list.swap_range(start, end, &mut other).is_ok(),
         };
-        let removed = self.vec.splice(start..end, items)?;
+        let removed: Vec<u64> = self.vec.splice(start..end, items)?.collect(alloc)?;
         Ok(replaced && (call < 10 || other.as_slice() == removed.as_slice()))
     }
 
